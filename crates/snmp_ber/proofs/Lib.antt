@@ -1,0 +1,6 @@
+pub mod Elements
+pub mod Places
+pub mod Integers
+pub mod Spellings
+pub mod Oids
+pub mod Uniques

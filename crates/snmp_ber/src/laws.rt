@@ -1,0 +1,25 @@
+//! Laws of the spellings, for callers that reason about whole texts.
+
+ghost use Rattle.std.specs.Prelude.{◌≡◌, ◌<◌, ◌≤◌, ◌≤ℤ◌, ◌^◌, ℕ, ℤ, pos, negsuc, List, ◌++◌, length};
+ghost use Rattle.snmp_ber.specs.Octets.{AreOctets};
+ghost use Rattle.snmp_ber.specs.Number.{IsInteger32};
+ghost use Rattle.snmp_ber.specs.Element.{IsTag, IsElement};
+ghost use Rattle.snmp_ber.specs.Spelling.{element, integer};
+
+/// No spelling of an element begins another's, so a text begins with one element at most. The canonical spelling is a
+/// spelling, and none is shorter (X.690, sections 8.1.3 and 10.1).
+pub fn one_element()
+    ensures one { (a b x y : List ℕ) (tag other_tag : ℕ) (content other_content : List ℕ)
+        → IsElement tag content a → IsElement other_tag other_content b → a ++ x ≡ b ++ y
+        → (tag ≡ other_tag) × (content ≡ other_content) × (a ≡ b) × (x ≡ y) }
+    ensures canonical { (tag : ℕ) (content : List ℕ) → IsTag tag → length content < 2 ^ 32 → IsElement tag content (element tag content) }
+    ensures shortest { (tag : ℕ) (content text : List ℕ) → AreOctets text → IsElement tag content text → length (element tag content) ≤ length text }
+{}
+
+/// The numbers of 32 bits with sign are those that two's complement spells in at most 4 octets and no fewer than needed,
+/// and each has one such content (X.690, section 8.3).
+pub fn one_integer()
+    ensures spelled { (z : ℤ) → negsuc 2147483647 ≤ℤ z → z ≤ℤ pos 2147483647 → IsInteger32 z (integer z) }
+    ensures range { (z : ℤ) (content : List ℕ) → AreOctets content → IsInteger32 z content → (negsuc 2147483647 ≤ℤ z) × (z ≤ℤ pos 2147483647) }
+    ensures one { (z : ℤ) (a b : List ℕ) → AreOctets a → AreOctets b → IsInteger32 z a → IsInteger32 z b → a ≡ b }
+{}

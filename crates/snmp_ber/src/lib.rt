@@ -1,0 +1,22 @@
+//! The part of the Basic Encoding Rules that SNMP uses (X.690; RFC 3417, section 8), and SNMP's security levels.
+//!
+//! Elements, INTEGERs and OBJECT IDENTIFIERs are read from slices, without memory, and appended to a `Vec` in their
+//! shortest spelling.
+#![tactic(auto)]
+
+mod element;
+mod fault;
+mod laws;
+mod level;
+mod number;
+mod oid;
+
+pub use element::{Tlv, head_len, put_head, put_tlv, read_tlv};
+pub use fault::BerFault;
+pub use laws::{one_element, one_integer};
+pub use level::Level;
+pub use number::{int_content, put_int, read_int};
+pub use oid::{Oid, read_oid};
+
+#[cfg(test)]
+mod tests;

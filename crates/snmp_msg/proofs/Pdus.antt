@@ -1,0 +1,234 @@
+-- PDUs: what is read is spelled so, and what is spelled so is read.
+use Rattle.std.proofs.Common.{◌≡◌, ◌≢◌, ℕ, ◌+◌, ◌≤◌, ◌<◌, Bool, true, false, cond, eqb, ltb, leb, List, [], ◌++◌, length, Option, Some, None, refl, sym, ap, subst, ◌∙◌, append_assoc, arith, rules, ℤ, pos, negsuc, ◌≤ℤ◌}
+use Rattle.std.specs.Prelude.{◌&&◌, not, nat_le, ◌==◌}
+use Rattle.std.proofs.lemmas.Bool.{ltb-false, le-ltb}
+use Rattle.std.proofs.lemmas.List.{append-nil, length-append, nil_from_length}
+use Rattle.snmp_ber.specs.Octets.{AreOctets}
+use Rattle.snmp_ber.specs.Number.{IsInteger32}
+use Rattle.snmp_ber.specs.Element.{IsElement, Begins}
+use Rattle.snmp_ber.specs.Spelling.{element, integer}
+use Rattle.snmp_ber.specs.Reading.{Front, front_of, integer32_of}
+use Rattle.snmp_ber.proofs.Elements.{guard_some, front_of-is, front_of-begun}
+use Rattle.snmp_ber.proofs.Integers.{integer32_of-is, integer32_of-again}
+use Rattle.snmp_ber.proofs.Spellings.{element-is, integer32-is}
+use Rattle.snmp_ber.specs.Element.{IsTag}
+use Rattle.std.proofs.Common.{bit_and, ◌%◌}
+use Rattle.std.proofs.lemmas.Nat.{and_mask}
+use Rattle.snmp_ber.proofs.Uniques.{shortest_within}
+use Rattle.snmp_ber.specs.Spelling.{shortest_length}
+use Rattle.snmp_msg.specs.Steps.{◌>>=◌, when_ended}
+use Rattle.snmp_msg.specs.Reading.{element_in}
+use Rattle.snmp_msg.specs.Pdu.{IsPduTag, IsSigned, PduParts, PduText, PduFits, signed, pdu_content_text, pdu_text, signed_in, with_list, pdu_content_in, with_pdu_tag, pdu_in}
+use Rattle.snmp_msg.proofs.Steps.{after_some, same_some, guard_then, TakesElement, element_in-is, element_in-again, begins_from_element}
+use Rattle.snmp_msg.proofs.Headers.{ended}
+use Rattle.snmp_msg.proofs.Scopeds.{whole_element}
+use Rattle.snmp_msg.proofs.Writes.{element_length}
+
+signed_last : (octets : List ℕ) (x : ℤ × List ℕ) (f : Front) (z : ℤ) → element_in 2 octets ≡ Some f → integer32_of f.content ≡ Some z → ◌≡◌ {A = Option (ℤ × List ℕ)} (Some (z, f.rest)) (Some x) → (text : List ℕ) × IsSigned x.0 text × (octets ≡ text ++ x.1)
+signed_last octets x f z e1 e2 e3 =
+    let t = element_in-is 2 octets f e1 in
+    let text = t.head ++ f.content in
+    let made : ℤ × List ℕ = (z, f.rest) in
+    let spelled : IsSigned z text = record { content = f.content; is_element = (t.head, t.is_head, refl); is_integer = integer32_of-is f.content z e2 } in
+    let parts : octets ≡ text ++ f.rest = t.parts ∙ sym (append_assoc t.head f.content f.rest) in
+    subst (λ (y : ℤ × List ℕ). (s : List ℕ) × IsSigned y.0 s × (octets ≡ s ++ y.1)) (same_some made x e3) (text, spelled, parts)
+
+pub signed_in-is : (octets : List ℕ) (x : ℤ × List ℕ) → signed_in octets ≡ Some x → (text : List ℕ) × IsSigned x.0 text × (octets ≡ text ++ x.1)
+unfolding signed_in
+signed_in-is octets x e =
+    after_some (element_in 2 octets) _ x e (λ f e1 k1.
+    after_some (integer32_of f.content) _ x k1 (λ z e2 e3.
+    signed_last octets x f z e1 e2 e3))
+
+pub signed_in-again : (n : ℤ) (text rest : List ℕ) → IsSigned n text → signed_in (text ++ rest) ≡ Some (n, rest)
+unfolding signed_in
+signed_in-again n text rest h =
+    let read = element_in-again (text ++ rest) 2 h.is_element.0 h.content rest (begins_from_element 2 h.content text rest h.is_element) in
+    rw (read, integer32_of-again h.content n h.is_integer) refl
+
+-- the content of a PDU with these parts
+pub record IsPduContent (content : List ℕ) (p : PduParts) : Type 0 where
+  pub id : List ℕ
+  pub is_id : IsSigned p.id id
+  pub second : List ℕ
+  pub is_second : IsSigned p.second second
+  pub third : List ℕ
+  pub is_third : IsSigned p.third third
+  pub list : List ℕ
+  pub is_list : IsElement 48 p.list list
+  pub no_binding : p.list ≡ []
+  pub joined : content ≡ id ++ (second ++ (third ++ list))
+
+made : ℕ → ℤ → ℤ → ℤ → List ℕ → PduParts
+made tag id second third list = record { tag = tag; id = id; second = second; third = third; list = list }
+
+pdu_content_last : (tag : ℕ) (content : List ℕ) (p : PduParts) (id second third : ℤ × List ℕ) (list : Front)
+    → signed_in content ≡ Some id → signed_in id.1 ≡ Some second → signed_in second.1 ≡ Some third → element_in 48 third.1 ≡ Some list → with_list tag id.0 second.0 third.0 list ≡ Some p → IsPduContent content p × (p.tag ≡ tag)
+unfolding made
+pdu_content_last tag content p id second third list e1 e2 e3 e4 e5 =
+    let g = guard_some (ltb 0 (length list.content)) _ p e5 in
+    let g2 = guard_some (ltb 0 (length list.rest)) (Some (made tag id.0 second.0 third.0 list.content)) p g.1 in
+    let t1 = signed_in-is content id e1 in
+    let t2 = signed_in-is id.1 second e2 in
+    let t3 = signed_in-is second.1 third e3 in
+    let t4 = element_in-is 48 third.1 list e4 in
+    let list_text = t4.head ++ list.content in
+    let parts4 : third.1 ≡ list_text = t4.parts ∙ ap (λ (r : List ℕ). t4.head ++ (list.content ++ r)) (ended list.rest g2.0) ∙ ap (λ (r : List ℕ). t4.head ++ r) (append-nil list.content) in
+    let parts3 : second.1 ≡ t3.0 ++ list_text = t3.2 ∙ ap (λ (r : List ℕ). t3.0 ++ r) parts4 in
+    let parts2 : id.1 ≡ t2.0 ++ (t3.0 ++ list_text) = t2.2 ∙ ap (λ (r : List ℕ). t2.0 ++ r) parts3 in
+    let spelled : IsPduContent content (made tag id.0 second.0 third.0 list.content) = record {
+      id = t1.0;
+      is_id = t1.1;
+      second = t2.0;
+      is_second = t2.1;
+      third = t3.0;
+      is_third = t3.1;
+      list = list_text;
+      is_list = (t4.head, t4.is_head, refl);
+      no_binding = ended list.content g.0;
+      joined = t1.2 ∙ ap (λ (r : List ℕ). t1.0 ++ r) parts2;
+    } in
+    subst (λ (q : PduParts). IsPduContent content q × (q.tag ≡ tag)) (same_some (made tag id.0 second.0 third.0 list.content) p g2.1) (spelled, refl)
+
+pub pdu_content_in-is : (tag : ℕ) (content : List ℕ) (p : PduParts) → pdu_content_in tag content ≡ Some p → IsPduContent content p × (p.tag ≡ tag)
+unfolding pdu_content_in
+pdu_content_in-is tag content p e =
+    after_some (signed_in content) _ p e (λ id e1 k1.
+    after_some (signed_in id.1) _ p k1 (λ second e2 k2.
+    after_some (signed_in second.1) _ p k2 (λ third e3 k3.
+    after_some (element_in 48 third.1) _ p k3 (λ list e4 e5.
+    pdu_content_last tag content p id second third list e1 e2 e3 e4 e5))))
+
+pub pdu_content_in-again : (content : List ℕ) (p : PduParts) → IsPduContent content p → pdu_content_in p.tag content ≡ Some p
+unfolding pdu_content_in
+pdu_content_in-again content p t =
+    let r1 = signed_in-again p.id t.id (t.second ++ (t.third ++ t.list)) t.is_id in
+    let r2 = signed_in-again p.second t.second (t.third ++ t.list) t.is_second in
+    let r3 = signed_in-again p.third t.third t.list t.is_third in
+    let begun : Begins t.list 48 t.is_list.0 p.list [] = record { is_head = t.is_list.1; parts = t.is_list.2 ∙ ap (λ (r : List ℕ). t.is_list.0 ++ r) (sym (append-nil p.list)) } in
+    let r4 = element_in-again t.list 48 t.is_list.0 p.list [] begun in
+    let empty : ltb 0 (length p.list) ≡ false = le-ltb 0 (length p.list) (omega (arith, ap length t.no_binding)) in
+    ap (pdu_content_in p.tag) t.joined ∙ rw (r1, r2, r3, r4, empty) refl
+
+pdu_tag-is : (tag : ℕ) → (nat_le 160 tag && nat_le tag 168 && not (tag == 164)) ≡ true → IsPduTag tag
+pdu_tag-is tag e = search rules
+
+pdu_tag-again : (tag : ℕ) → IsPduTag tag → (nat_le 160 tag && nat_le tag 168 && not (tag == 164)) ≡ true
+pdu_tag-again tag h = search rules
+
+pdu_last : (z : List ℕ) (p q : PduParts) (any f : Front) → front_of z ≡ Some any → with_pdu_tag any ≡ Some f → pdu_content_in f.tag f.content ≡ Some q → when_ended f.rest q ≡ Some p → PduText z p
+pdu_last z p q any f e1 e2 e3 e4 =
+    let g = guard_then (nat_le 160 any.tag && nat_le any.tag 168 && not (any.tag == 164)) any f e2 in
+    let allowed = pdu_tag-is any.tag g.0 in
+    let g2 = guard_some (ltb 0 (length f.rest)) (Some q) p e4 in
+    let none = ended f.rest g2.0 in
+    let t = pdu_content_in-is f.tag f.content q e3 in
+    let is_whole : IsElement f.tag f.content z = whole_element z f (e1 ∙ ap (λ (x : Front). Some x) g.1) none in
+    let made_text : PduText z q = record {
+      tag_allowed = subst IsPduTag (ap (λ (x : Front). x.tag) g.1 ∙ sym t.1) allowed;
+      id = t.0.id;
+      is_id = t.0.is_id;
+      second = t.0.second;
+      is_second = t.0.is_second;
+      third = t.0.third;
+      is_third = t.0.is_third;
+      list = t.0.list;
+      is_list = t.0.is_list;
+      no_binding = t.0.no_binding;
+      content = f.content;
+      is_whole = subst (λ (n : ℕ). IsElement n f.content z) (sym t.1) is_whole;
+      joined = t.0.joined;
+    } in
+    subst (λ (x : PduParts). PduText z x) (same_some q p g2.1) made_text
+
+pub pdu_in-is : (z : List ℕ) (p : PduParts) → pdu_in z ≡ Some p → PduText z p
+unfolding pdu_in
+pdu_in-is z p e =
+    after_some (front_of z) _ p e (λ any e1 k1.
+    after_some (with_pdu_tag any) _ p k1 (λ f e2 k2.
+    after_some (pdu_content_in f.tag f.content) _ p k2 (λ q e3 e4.
+    pdu_last z p q any f e1 e2 e3 e4)))
+
+pub pdu_in-again : (z : List ℕ) (p : PduParts) → PduText z p → pdu_in z ≡ Some p
+unfolding pdu_in
+pdu_in-again z p t =
+    let begun : Begins z p.tag t.is_whole.0 t.content [] = record { is_head = t.is_whole.1; parts = t.is_whole.2 ∙ ap (λ (r : List ℕ). t.is_whole.0 ++ r) (sym (append-nil t.content)) } in
+    let r1 = front_of-begun z p.tag t.is_whole.0 t.content [] begun in
+    let allowed = pdu_tag-again p.tag t.tag_allowed in
+    let inner : IsPduContent t.content p = record {
+      id = t.id;
+      is_id = t.is_id;
+      second = t.second;
+      is_second = t.is_second;
+      third = t.third;
+      is_third = t.is_third;
+      list = t.list;
+      is_list = t.is_list;
+      no_binding = t.no_binding;
+      joined = t.joined;
+    } in
+    rw (r1, allowed, pdu_content_in-again t.content p inner) refl
+
+-- A text is one PDU at most.
+pub one_pdu : (z : List ℕ) (p q : PduParts) → PduText z p → PduText z q → p ≡ q
+one_pdu z p q a b = same_some p q (sym (pdu_in-again z p a) ∙ pdu_in-again z q b)
+
+none_some : (o : Option PduParts) (p : PduParts) → o ≡ None → o ≡ Some p → ⊥
+none_some o p e h = cc
+
+pub no_pdu : (z : List ℕ) → pdu_in z ≡ None → (p : PduParts) → PduText z p → ⊥
+no_pdu z e p t = none_some (pdu_in z) p e (pdu_in-again z p t)
+
+-- ---- the canonical spelling
+
+pub pdu_content_text-length : (p : PduParts) → length (pdu_content_text p) ≡ length (signed p.id) + length (signed p.second) + length (signed p.third) + length (element 48 p.list)
+unfolding pdu_content_text
+pdu_content_text-length p =
+    omega (arith, length-append (signed p.id) (signed p.second ++ (signed p.third ++ element 48 p.list)), length-append (signed p.second) (signed p.third ++ element 48 p.list), length-append (signed p.third) (element 48 p.list))
+
+tag_from : (tag : ℕ) → IsPduTag tag → IsTag tag
+tag_from tag h = λ e. let low : bit_and tag 31 ≡ tag % 32 = and_mask tag 5 in omega arith
+
+pub signed-is : (z : ℤ) → (negsuc 2147483647 ≤ℤ z) × (z ≤ℤ pos 2147483647) → IsSigned z (signed z)
+signed-is z range =
+    let is_integer = integer32-is z range.0 range.1 in
+    record {
+      content = integer z;
+      is_element = element-is 2 (integer z) (λ e. absurd cc) (omega (arith, is_integer.size));
+      is_integer = is_integer;
+    }
+
+pub signed-short : (z : ℤ) → (negsuc 2147483647 ≤ℤ z) × (z ≤ℤ pos 2147483647) → length (signed z) ≤ 11
+signed-short z range =
+    let is_integer = integer32-is z range.0 range.1 in
+    let size = length (integer z) in
+    omega (arith, is_integer.size, length-append (shortest_length size) (integer z), shortest_within size 4 (omega arith) (omega arith) (omega (arith, is_integer.size)))
+
+content_joined : (p : PduParts) → pdu_content_text p ≡ signed p.id ++ (signed p.second ++ (signed p.third ++ element 48 p.list))
+unfolding pdu_content_text
+content_joined p = refl
+
+-- What is written is a PDU with these parts.
+pub pdu_text-is : (p : PduParts) → PduFits p → PduText (pdu_text p) p
+unfolding pdu_text
+pdu_text-is p fits =
+    let content = pdu_content_text p in
+    let none : length p.list ≡ 0 = ap length fits.no_binding in
+    let list_size : length (element 48 p.list) ≤ 6 = omega (arith, length-append (shortest_length (length p.list)) p.list, shortest_within (length p.list) 4 (omega arith) (omega arith) (omega arith)) in
+    let size = pdu_content_text-length p in
+    let short : length content < 4294967296 = omega (arith, signed-short p.id fits.id, signed-short p.second fits.second, signed-short p.third fits.third) in
+    record {
+      tag_allowed = fits.tag_allowed;
+      id = signed p.id;
+      is_id = signed-is p.id fits.id;
+      second = signed p.second;
+      is_second = signed-is p.second fits.second;
+      third = signed p.third;
+      is_third = signed-is p.third fits.third;
+      list = element 48 p.list;
+      is_list = element-is 48 p.list (λ e. absurd cc) (omega arith);
+      no_binding = fits.no_binding;
+      content = content;
+      is_whole = element-is p.tag content (tag_from p.tag fits.tag_allowed) short;
+      joined = content_joined p;
+    }

@@ -1,0 +1,115 @@
+-- The layout of a PDU (RFC 3416, section 3).
+use Rattle.std.specs.Prelude.{◌≡◌, ◌≢◌, ℕ, ℤ, pos, negsuc, ◌≤◌, ◌≤ℤ◌, ◌&&◌, not, nat_le, nat_lt, ◌==◌, if◌then◌else◌, List, [], ◌++◌, length, Option, Some, None}
+use Rattle.snmp_ber.specs.Number.{IsInteger32}
+use Rattle.snmp_ber.specs.Element.{IsElement}
+use Rattle.snmp_ber.specs.Reading.{Front, front_of, integer32_of}
+use Rattle.snmp_ber.specs.Spelling.{element, integer}
+use Rattle.snmp_msg.specs.Steps.{◌>>=◌, when_ended}
+use Rattle.snmp_msg.specs.Reading.{element_in}
+use Rattle.snmp_msg.specs.declared.pdu.Pdu.{Pdu}
+
+-- The tag of a GetRequest, GetNextRequest, Response, SetRequest, GetBulkRequest, InformRequest, SNMPv2-Trap or Report.
+pub record IsPduTag (tag : ℕ) : Type 0 where
+  pub least : 160 ≤ tag
+  pub most : tag ≤ 168
+  pub used : tag ≢ 164
+
+-- The text is the INTEGER of a number of 32 bits with sign.
+pub record IsSigned (n : ℤ) (text : List ℕ) : Type 0 where
+  pub content : List ℕ
+  pub is_element : IsElement 2 content text
+  pub is_integer : IsInteger32 n content
+
+-- What a PDU says.
+pub record PduParts : Type 0 where
+  pub tag : ℕ
+  -- request-id
+  pub id : ℤ
+  -- error-status, or non-repeaters
+  pub second : ℤ
+  -- error-index, or max-repetitions
+  pub third : ℤ
+  -- the content of variable-bindings
+  pub list : List ℕ
+
+-- The text is exactly one PDU with these parts: an element whose content is the texts of its four elements joined.
+pub record PduText (z : List ℕ) (p : PduParts) : Type 0 where
+  pub tag_allowed : IsPduTag p.tag
+  pub id : List ℕ
+  pub is_id : IsSigned p.id id
+  pub second : List ℕ
+  pub is_second : IsSigned p.second second
+  pub third : List ℕ
+  pub is_third : IsSigned p.third third
+  pub list : List ℕ
+  pub is_list : IsElement 48 p.list list
+  pub no_binding : p.list ≡ []
+  pub content : List ℕ
+  pub is_whole : IsElement p.tag content z
+  pub joined : content ≡ id ++ (second ++ (third ++ list))
+
+-- ---- the one reading
+
+-- an INTEGER of 32 bits with sign, and the octets after it
+unfoldable pub signed_in : List ℕ → Option (ℤ × List ℕ)
+signed_in octets = do
+  f ← element_in 2 octets
+  z ← integer32_of f.content
+  Some (z, f.rest)
+
+abbrev pub with_list : ℕ → ℤ → ℤ → ℤ → Front → Option PduParts
+with_list tag id second third f =
+    if nat_lt 0 (length f.content) then None
+    else if nat_lt 0 (length f.rest) then None
+    else Some (record { tag = tag; id = id; second = second; third = third; list = f.content })
+
+-- the content of a PDU with this tag
+unfoldable pub pdu_content_in : ℕ → List ℕ → Option PduParts
+pdu_content_in tag content = do
+  id ← signed_in content
+  second ← signed_in id.1
+  third ← signed_in second.1
+  list ← element_in 48 third.1
+  with_list tag id.0 second.0 third.0 list
+
+abbrev pub with_pdu_tag : Front → Option Front
+with_pdu_tag f = if nat_le 160 f.tag && nat_le f.tag 168 && not (f.tag == 164) then Some f else None
+
+unfoldable pub pdu_in : List ℕ → Option PduParts
+pdu_in octets = do
+  any ← front_of octets
+  f ← with_pdu_tag any
+  p ← pdu_content_in f.tag f.content
+  when_ended f.rest p
+
+abbrev pub pdu_of : Pdu → PduParts
+pdu_of p = record {
+  tag = p.tag;
+  id = p.id;
+  second = p.second;
+  third = p.third;
+  list = p.list.now;
+}
+
+-- ---- the canonical spelling
+
+-- the ranges of a PDU's fields
+pub record PduFits (p : PduParts) : Type 0 where
+  pub tag_allowed : IsPduTag p.tag
+  pub id : (negsuc 2147483647 ≤ℤ p.id) × (p.id ≤ℤ pos 2147483647)
+  pub second : (negsuc 2147483647 ≤ℤ p.second) × (p.second ≤ℤ pos 2147483647)
+  pub third : (negsuc 2147483647 ≤ℤ p.third) × (p.third ≤ℤ pos 2147483647)
+  pub no_binding : p.list ≡ []
+
+-- a PDU with no variable bindings
+abbrev pub empty_pdu : ℕ → ℤ → ℤ → ℤ → PduParts
+empty_pdu tag id second third = record { tag = tag; id = id; second = second; third = third; list = [] }
+
+abbrev pub signed : ℤ → List ℕ
+signed z = element 2 (integer z)
+
+unfoldable pub pdu_content_text : PduParts → List ℕ
+pdu_content_text p = signed p.id ++ (signed p.second ++ (signed p.third ++ element 48 p.list))
+
+unfoldable pub pdu_text : PduParts → List ℕ
+pdu_text p = element p.tag (pdu_content_text p)

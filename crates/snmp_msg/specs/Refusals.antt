@@ -1,0 +1,73 @@
+-- Why octets are refused: for each call the faults that it answers, each with its cause.
+use Rattle.std.specs.Prelude.{◌≡◌, ◌<◌, ◌⊎◌, ℕ, List, length}
+use Rattle.snmp_msg.specs.declared.fault.MsgFault.{MsgFault}
+use Rattle.snmp_msg.specs.declared.fault.MsgFault.TheVariants as faults
+use Rattle.snmp_msg.specs.declared.fault.WriteFault.{WriteFault}
+use Rattle.snmp_msg.specs.declared.fault.WriteFault.TheVariants as writes
+use Rattle.snmp_msg.specs.declared.fault.CanonFault.{CanonFault}
+use Rattle.snmp_msg.specs.declared.fault.CanonFault.TheVariants as canons
+use Rattle.snmp_msg.specs.Layout.{Parts, Outer, WrongVersion}
+use Rattle.snmp_msg.specs.Security.{Fields, SecText}
+use Rattle.snmp_msg.specs.Scoped.{Contexts, HasScoped, HasSealed, ScopedFront}
+use Rattle.snmp_msg.specs.Pdu.{PduParts, PduText}
+
+-- The fault is why the text has no outer layout.
+abbrev pub RefusesOuter : List ℕ → MsgFault → Type 0
+RefusesOuter w faults.BadVersion = WrongVersion w
+RefusesOuter w (faults.NotMessage at) = (WrongVersion w → ⊥) × ((m : Parts) → Outer w m → ⊥)
+RefusesOuter w (faults.NotSecurity at) = ⊥
+RefusesOuter w (faults.NotScoped at) = ⊥
+RefusesOuter w (faults.NotPdu at) = ⊥
+
+-- The fault is why the message has no UsmSecurityParameters.
+abbrev pub RefusesSecurity : Parts → MsgFault → Type 0
+RefusesSecurity m (faults.NotSecurity place) = (s : Fields) → SecText m.security_at m.security s → ⊥
+RefusesSecurity m (faults.NotMessage place) = ⊥
+RefusesSecurity m faults.BadVersion = ⊥
+RefusesSecurity m (faults.NotScoped place) = ⊥
+RefusesSecurity m (faults.NotPdu place) = ⊥
+
+-- The fault is why msgData is neither sealed octets nor a ScopedPDU, as the priv flag says.
+abbrev pub RefusesScoped : List ℕ → Parts → MsgFault → Type 0
+RefusesScoped w m (faults.NotScoped at) = (HasSealed m → ⊥) × ((s : Contexts) → HasScoped w m s → ⊥)
+RefusesScoped w m (faults.NotMessage at) = ⊥
+RefusesScoped w m faults.BadVersion = ⊥
+RefusesScoped w m (faults.NotSecurity at) = ⊥
+RefusesScoped w m (faults.NotPdu at) = ⊥
+
+-- The fault is why the octets don't begin with a ScopedPDU.
+abbrev pub RefusesFront : List ℕ → MsgFault → Type 0
+RefusesFront z (faults.NotScoped at) = (s : Contexts) → ScopedFront z s → ⊥
+RefusesFront z (faults.NotMessage at) = ⊥
+RefusesFront z faults.BadVersion = ⊥
+RefusesFront z (faults.NotSecurity at) = ⊥
+RefusesFront z (faults.NotPdu at) = ⊥
+
+-- The fault is why the text isn't a PDU.
+abbrev pub RefusesPdu : List ℕ → MsgFault → Type 0
+RefusesPdu z (faults.NotPdu at) = (p : PduParts) → PduText z p → ⊥
+RefusesPdu z (faults.NotMessage at) = ⊥
+RefusesPdu z faults.BadVersion = ⊥
+RefusesPdu z (faults.NotSecurity at) = ⊥
+RefusesPdu z (faults.NotScoped at) = ⊥
+
+-- msgData is what the priv flag says
+abbrev pub AgreesWithPriv : List ℕ → Parts → Type 0
+AgreesWithPriv w m = HasSealed m ⊎ ((s : Contexts) × HasScoped w m s)
+
+-- The fault is the first of a message's layers, in the order message, msgData, msgSecurityParameters and PDU.
+abbrev pub RefusesWhole : List ℕ → MsgFault → Type 0
+RefusesWhole w faults.BadVersion = WrongVersion w
+RefusesWhole w (faults.NotMessage at) = (WrongVersion w → ⊥) × ((m : Parts) → Outer w m → ⊥)
+RefusesWhole w (faults.NotScoped at) = (m : Parts) × Outer w m × (HasSealed m → ⊥) × ((s : Contexts) → HasScoped w m s → ⊥)
+RefusesWhole w (faults.NotSecurity at) = (m : Parts) × Outer w m × AgreesWithPriv w m × ((s : Fields) → SecText m.security_at m.security s → ⊥)
+RefusesWhole w (faults.NotPdu at) = (m : Parts) × (f : Fields) × (s : Contexts) × Outer w m × SecText m.security_at m.security f × HasScoped w m s × ((p : PduParts) → PduText s.pdu p → ⊥)
+
+-- ---- faults of one call as those of another
+
+abbrev pub canon_fault : WriteFault → CanonFault
+canon_fault writes.TooLarge = canons.TooLarge
+canon_fault writes.OutOfMemory = canons.OutOfMemory
+
+abbrev pub msg_canon_fault : MsgFault → CanonFault
+msg_canon_fault fault = canons.Msg fault

@@ -1,0 +1,22 @@
+//! SNMPv3 messages (RFC 3412, section 6; RFC 3414, section 2.4; RFC 3416, section 3), read and written.
+//!
+//! Each layer of a message is read from slices of the datagram, without memory, and written in its canonical spelling, in
+//! which every length is the shortest.
+#![tactic(auto)]
+
+mod fault;
+mod header;
+mod laws;
+mod message;
+mod pdu;
+mod scoped;
+mod security;
+mod step;
+
+pub use fault::{CanonFault, MsgFault, WriteFault};
+pub use header::Header;
+pub use laws::{field_filled, longer_whole, one_cut, one_message, written_again};
+pub use message::{Data, LARGEST, Message, read_message, write_message};
+pub use pdu::{Pdu, read_pdu, write_pdu};
+pub use scoped::{Scoped, read_scoped, read_scoped_front, write_scoped};
+pub use security::{Security, read_security, write_security};
