@@ -8,3 +8,4 @@ pub mod Scopeds
 pub mod Filled
 pub mod Pdus
 pub mod Appends
+pub mod Canonicals

@@ -18,27 +18,27 @@ use Rattle.snmp_ber.proofs.Uniques.{shortest_within}
 use Rattle.snmp_ber.specs.Spelling.{shortest_length}
 use Rattle.snmp_msg.specs.Steps.{◌>>=◌, when_ended}
 use Rattle.snmp_msg.specs.Reading.{element_in}
-use Rattle.snmp_msg.specs.Pdu.{IsPduTag, IsSigned, PduParts, PduText, PduFits, signed, pdu_content_text, pdu_text, signed_in, with_list, pdu_content_in, with_pdu_tag, pdu_in}
+use Rattle.snmp_msg.specs.Pdu.{IsPduTag, IsInRange, IsSigned, AreInRange, PduParts, PduText, PduFits, signed, pdu_content_text, pdu_text, signed_in, with_list, pdu_content_in, with_pdu_tag, pdu_in}
 use Rattle.snmp_msg.proofs.Steps.{after_some, same_some, guard_then, TakesElement, element_in-is, element_in-again, begins_from_element}
 use Rattle.snmp_msg.proofs.Headers.{ended}
 use Rattle.snmp_msg.proofs.Scopeds.{whole_element}
 use Rattle.snmp_msg.proofs.Writes.{element_length}
 
-signed_last : (octets : List ℕ) (x : ℤ × List ℕ) (f : Front) (z : ℤ) → element_in 2 octets ≡ Some f → integer32_of f.content ≡ Some z → ◌≡◌ {A = Option (ℤ × List ℕ)} (Some (z, f.rest)) (Some x) → (text : List ℕ) × IsSigned x.0 text × (octets ≡ text ++ x.1)
-signed_last octets x f z e1 e2 e3 =
+signed_last : (octets : List ℕ) (x : ℤ × List ℕ) (f : Front) (z : ℤ) → IsInRange x.0 → element_in 2 octets ≡ Some f → integer32_of f.content ≡ Some z → ◌≡◌ {A = Option (ℤ × List ℕ)} (Some (z, f.rest)) (Some x) → (text : List ℕ) × IsSigned x.0 text × (octets ≡ text ++ x.1)
+signed_last octets x f z range e1 e2 e3 =
     let t = element_in-is 2 octets f e1 in
     let text = t.head ++ f.content in
     let made : ℤ × List ℕ = (z, f.rest) in
-    let spelled : IsSigned z text = record { content = f.content; is_element = (t.head, t.is_head, refl); is_integer = integer32_of-is f.content z e2 } in
+    let spelled : IsSigned z text = record { content = f.content; is_element = (t.head, t.is_head, refl); is_integer = integer32_of-is f.content z e2; range = subst (λ (y : ℤ × List ℕ). IsInRange y.0) (sym (same_some made x e3)) range } in
     let parts : octets ≡ text ++ f.rest = t.parts ∙ sym (append_assoc t.head f.content f.rest) in
     subst (λ (y : ℤ × List ℕ). (s : List ℕ) × IsSigned y.0 s × (octets ≡ s ++ y.1)) (same_some made x e3) (text, spelled, parts)
 
-pub signed_in-is : (octets : List ℕ) (x : ℤ × List ℕ) → signed_in octets ≡ Some x → (text : List ℕ) × IsSigned x.0 text × (octets ≡ text ++ x.1)
+pub signed_in-is : (octets : List ℕ) (x : ℤ × List ℕ) → IsInRange x.0 → signed_in octets ≡ Some x → (text : List ℕ) × IsSigned x.0 text × (octets ≡ text ++ x.1)
 unfolding signed_in
-signed_in-is octets x e =
+signed_in-is octets x range e =
     after_some (element_in 2 octets) _ x e (λ f e1 k1.
     after_some (integer32_of f.content) _ x k1 (λ z e2 e3.
-    signed_last octets x f z e1 e2 e3))
+    signed_last octets x f z range e1 e2 e3))
 
 pub signed_in-again : (n : ℤ) (text rest : List ℕ) → IsSigned n text → signed_in (text ++ rest) ≡ Some (n, rest)
 unfolding signed_in
@@ -63,14 +63,16 @@ made : ℕ → ℤ → ℤ → ℤ → List ℕ → PduParts
 made tag id second third list = record { tag = tag; id = id; second = second; third = third; list = list }
 
 pdu_content_last : (tag : ℕ) (content : List ℕ) (p : PduParts) (id second third : ℤ × List ℕ) (list : Front)
-    → signed_in content ≡ Some id → signed_in id.1 ≡ Some second → signed_in second.1 ≡ Some third → element_in 48 third.1 ≡ Some list → with_list tag id.0 second.0 third.0 list ≡ Some p → IsPduContent content p × (p.tag ≡ tag)
+    → AreInRange p → signed_in content ≡ Some id → signed_in id.1 ≡ Some second → signed_in second.1 ≡ Some third → element_in 48 third.1 ≡ Some list → with_list tag id.0 second.0 third.0 list ≡ Some p → IsPduContent content p × (p.tag ≡ tag)
 unfolding made
-pdu_content_last tag content p id second third list e1 e2 e3 e4 e5 =
+pdu_content_last tag content p id second third list numbers e1 e2 e3 e4 e5 =
     let g = guard_some (ltb 0 (length list.content)) _ p e5 in
     let g2 = guard_some (ltb 0 (length list.rest)) (Some (made tag id.0 second.0 third.0 list.content)) p g.1 in
-    let t1 = signed_in-is content id e1 in
-    let t2 = signed_in-is id.1 second e2 in
-    let t3 = signed_in-is second.1 third e3 in
+    let same = same_some (made tag id.0 second.0 third.0 list.content) p g2.1 in
+    let in_range : AreInRange (made tag id.0 second.0 third.0 list.content) = subst AreInRange (sym same) numbers in
+    let t1 = signed_in-is content id in_range.id e1 in
+    let t2 = signed_in-is id.1 second in_range.second e2 in
+    let t3 = signed_in-is second.1 third in_range.third e3 in
     let t4 = element_in-is 48 third.1 list e4 in
     let list_text = t4.head ++ list.content in
     let parts4 : third.1 ≡ list_text = t4.parts ∙ ap (λ (r : List ℕ). t4.head ++ (list.content ++ r)) (ended list.rest g2.0) ∙ ap (λ (r : List ℕ). t4.head ++ r) (append-nil list.content) in
@@ -88,16 +90,16 @@ pdu_content_last tag content p id second third list e1 e2 e3 e4 e5 =
       no_binding = ended list.content g.0;
       joined = t1.2 ∙ ap (λ (r : List ℕ). t1.0 ++ r) parts2;
     } in
-    subst (λ (q : PduParts). IsPduContent content q × (q.tag ≡ tag)) (same_some (made tag id.0 second.0 third.0 list.content) p g2.1) (spelled, refl)
+    subst (λ (q : PduParts). IsPduContent content q × (q.tag ≡ tag)) same (spelled, refl)
 
-pub pdu_content_in-is : (tag : ℕ) (content : List ℕ) (p : PduParts) → pdu_content_in tag content ≡ Some p → IsPduContent content p × (p.tag ≡ tag)
+pub pdu_content_in-is : (tag : ℕ) (content : List ℕ) (p : PduParts) → AreInRange p → pdu_content_in tag content ≡ Some p → IsPduContent content p × (p.tag ≡ tag)
 unfolding pdu_content_in
-pdu_content_in-is tag content p e =
+pdu_content_in-is tag content p numbers e =
     after_some (signed_in content) _ p e (λ id e1 k1.
     after_some (signed_in id.1) _ p k1 (λ second e2 k2.
     after_some (signed_in second.1) _ p k2 (λ third e3 k3.
     after_some (element_in 48 third.1) _ p k3 (λ list e4 e5.
-    pdu_content_last tag content p id second third list e1 e2 e3 e4 e5))))
+    pdu_content_last tag content p id second third list numbers e1 e2 e3 e4 e5))))
 
 pub pdu_content_in-again : (content : List ℕ) (p : PduParts) → IsPduContent content p → pdu_content_in p.tag content ≡ Some p
 unfolding pdu_content_in
@@ -116,13 +118,14 @@ pdu_tag-is tag e = search rules
 pdu_tag-again : (tag : ℕ) → IsPduTag tag → (nat_le 160 tag && nat_le tag 168 && not (tag == 164)) ≡ true
 pdu_tag-again tag h = search rules
 
-pdu_last : (z : List ℕ) (p q : PduParts) (any f : Front) → front_of z ≡ Some any → with_pdu_tag any ≡ Some f → pdu_content_in f.tag f.content ≡ Some q → when_ended f.rest q ≡ Some p → PduText z p
-pdu_last z p q any f e1 e2 e3 e4 =
+pdu_last : (z : List ℕ) (p q : PduParts) (any f : Front) → AreInRange p → front_of z ≡ Some any → with_pdu_tag any ≡ Some f → pdu_content_in f.tag f.content ≡ Some q → when_ended f.rest q ≡ Some p → PduText z p
+pdu_last z p q any f numbers e1 e2 e3 e4 =
     let g = guard_then (nat_le 160 any.tag && nat_le any.tag 168 && not (any.tag == 164)) any f e2 in
     let allowed = pdu_tag-is any.tag g.0 in
     let g2 = guard_some (ltb 0 (length f.rest)) (Some q) p e4 in
     let none = ended f.rest g2.0 in
-    let t = pdu_content_in-is f.tag f.content q e3 in
+    let in_range : AreInRange q = subst AreInRange (sym (same_some q p g2.1)) numbers in
+    let t = pdu_content_in-is f.tag f.content q in_range e3 in
     let is_whole : IsElement f.tag f.content z = whole_element z f (e1 ∙ ap (λ (x : Front). Some x) g.1) none in
     let made_text : PduText z q = record {
       tag_allowed = subst IsPduTag (ap (λ (x : Front). x.tag) g.1 ∙ sym t.1) allowed;
@@ -141,13 +144,13 @@ pdu_last z p q any f e1 e2 e3 e4 =
     } in
     subst (λ (x : PduParts). PduText z x) (same_some q p g2.1) made_text
 
-pub pdu_in-is : (z : List ℕ) (p : PduParts) → pdu_in z ≡ Some p → PduText z p
+pub pdu_in-is : (z : List ℕ) (p : PduParts) → AreInRange p → pdu_in z ≡ Some p → PduText z p
 unfolding pdu_in
-pdu_in-is z p e =
+pdu_in-is z p numbers e =
     after_some (front_of z) _ p e (λ any e1 k1.
     after_some (with_pdu_tag any) _ p k1 (λ f e2 k2.
     after_some (pdu_content_in f.tag f.content) _ p k2 (λ q e3 e4.
-    pdu_last z p q any f e1 e2 e3 e4)))
+    pdu_last z p q any f numbers e1 e2 e3 e4)))
 
 pub pdu_in-again : (z : List ℕ) (p : PduParts) → PduText z p → pdu_in z ≡ Some p
 unfolding pdu_in
@@ -189,16 +192,17 @@ pdu_content_text-length p =
 tag_from : (tag : ℕ) → IsPduTag tag → IsTag tag
 tag_from tag h = λ e. let low : bit_and tag 31 ≡ tag % 32 = and_mask tag 5 in omega arith
 
-pub signed-is : (z : ℤ) → (negsuc 2147483647 ≤ℤ z) × (z ≤ℤ pos 2147483647) → IsSigned z (signed z)
+pub signed-is : (z : ℤ) → IsInRange z → IsSigned z (signed z)
 signed-is z range =
     let is_integer = integer32-is z range.0 range.1 in
     record {
       content = integer z;
       is_element = element-is 2 (integer z) (λ e. absurd cc) (omega (arith, is_integer.size));
       is_integer = is_integer;
+      range = range;
     }
 
-pub signed-short : (z : ℤ) → (negsuc 2147483647 ≤ℤ z) × (z ≤ℤ pos 2147483647) → length (signed z) ≤ 11
+pub signed-short : (z : ℤ) → IsInRange z → length (signed z) ≤ 11
 signed-short z range =
     let is_integer = integer32-is z range.0 range.1 in
     let size = length (integer z) in
@@ -216,15 +220,15 @@ pdu_text-is p fits =
     let none : length p.list ≡ 0 = ap length fits.no_binding in
     let list_size : length (element 48 p.list) ≤ 6 = omega (arith, length-append (shortest_length (length p.list)) p.list, shortest_within (length p.list) 4 (omega arith) (omega arith) (omega arith)) in
     let size = pdu_content_text-length p in
-    let short : length content < 4294967296 = omega (arith, signed-short p.id fits.id, signed-short p.second fits.second, signed-short p.third fits.third) in
+    let short : length content < 4294967296 = omega (arith, signed-short p.id fits.numbers.id, signed-short p.second fits.numbers.second, signed-short p.third fits.numbers.third) in
     record {
       tag_allowed = fits.tag_allowed;
       id = signed p.id;
-      is_id = signed-is p.id fits.id;
+      is_id = signed-is p.id fits.numbers.id;
       second = signed p.second;
-      is_second = signed-is p.second fits.second;
+      is_second = signed-is p.second fits.numbers.second;
       third = signed p.third;
-      is_third = signed-is p.third fits.third;
+      is_third = signed-is p.third fits.numbers.third;
       list = element 48 p.list;
       is_list = element-is 48 p.list (λ e. absurd cc) (omega arith);
       no_binding = fits.no_binding;
@@ -232,3 +236,6 @@ pdu_text-is p fits =
       is_whole = element-is p.tag content (tag_from p.tag fits.tag_allowed) short;
       joined = content_joined p;
     }
+
+pub pdu_fits : (z : List ℕ) (p : PduParts) → PduText z p → PduFits p
+pdu_fits z p t = record { tag_allowed = t.tag_allowed; numbers = record { id = t.is_id.range; second = t.is_second.range; third = t.is_third.range }; no_binding = t.no_binding }

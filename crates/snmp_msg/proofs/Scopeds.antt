@@ -11,7 +11,7 @@ use Rattle.snmp_ber.specs.Spelling.{head_of, head_size, element}
 use Rattle.snmp_ber.proofs.Spellings.{head_of-is, element-is}
 use Rattle.snmp_msg.proofs.Writes.{element-length}
 use Rattle.snmp_ber.proofs.Places.{range_rest}
-use Rattle.snmp_msg.specs.Scoped.{Contexts, ScopedContent, ScopedText, HasScoped, ScopedFront, IsOneElement, contexts_text, scoped_text, contexts_placed, with_pdu, contexts_in, scoped_front_in}
+use Rattle.snmp_msg.specs.Scoped.{Contexts, ScopedContent, ScopedText, HasScoped, ScopedFront, IsOneElement, contexts_size, contexts_text, scoped_text, contexts_placed, with_pdu, contexts_in, scoped_front_in}
 use Rattle.snmp_msg.proofs.Steps.{after_some, same_some, TakesElement, element_in-is, element_in-again, begins_from_element}
 use Rattle.snmp_msg.proofs.Headers.{ended}
 use Rattle.snmp_msg.proofs.Cuts.{piece_at}
@@ -166,10 +166,14 @@ one_scoped at content s t a b = same_some s t (sym (contexts_in-again at content
 
 -- ---- the canonical spelling
 
-pub contexts_text-length : (engine name pdu : List ℕ) → length (contexts_text engine name pdu) ≡ (head_size (length engine) + length engine) + ((head_size (length name) + length name) + length pdu)
+pub contexts_text-length : (engine name pdu : List ℕ) → length (contexts_text engine name pdu) ≡ contexts_size (length engine) (length name) (length pdu)
 unfolding contexts_text
 contexts_text-length engine name pdu =
     omega (arith, length-append (element 4 engine) (element 4 name ++ pdu), length-append (element 4 name) pdu, element-length 4 engine, element-length 4 name)
+
+pub contexts_joined : (engine name pdu : List ℕ) → contexts_text engine name pdu ≡ (element 4 engine ++ element 4 name) ++ pdu
+unfolding contexts_text
+contexts_joined engine name pdu = sym (append_assoc (element 4 engine) (element 4 name) pdu)
 
 pub scoped_text-size : (engine name pdu : List ℕ) → let size = length (contexts_text engine name pdu) in length (scoped_text engine name pdu) ≡ head_size size + size
 unfolding scoped_text

@@ -7,4 +7,5 @@ pub mod Spelling
 pub mod Security
 pub mod Scoped
 pub mod Pdu
+pub mod Canonical
 pub mod Refusals

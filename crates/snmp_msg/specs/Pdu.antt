@@ -14,11 +14,16 @@ pub record IsPduTag (tag : ℕ) : Type 0 where
   pub most : tag ≤ 168
   pub used : tag ≢ 164
 
+-- A number of 32 bits with sign.
+abbrev pub IsInRange : ℤ → Type 0
+IsInRange n = (negsuc 2147483647 ≤ℤ n) × (n ≤ℤ pos 2147483647)
+
 -- The text is the INTEGER of a number of 32 bits with sign.
 pub record IsSigned (n : ℤ) (text : List ℕ) : Type 0 where
   pub content : List ℕ
   pub is_element : IsElement 2 content text
   pub is_integer : IsInteger32 n content
+  pub range : IsInRange n
 
 -- What a PDU says.
 pub record PduParts : Type 0 where
@@ -47,6 +52,12 @@ pub record PduText (z : List ℕ) (p : PduParts) : Type 0 where
   pub content : List ℕ
   pub is_whole : IsElement p.tag content z
   pub joined : content ≡ id ++ (second ++ (third ++ list))
+
+-- the numbers of a PDU are of 32 bits with sign
+pub record AreInRange (p : PduParts) : Type 0 where
+  pub id : IsInRange p.id
+  pub second : IsInRange p.second
+  pub third : IsInRange p.third
 
 -- ---- the one reading
 
@@ -96,9 +107,7 @@ pdu_of p = record {
 -- the ranges of a PDU's fields
 pub record PduFits (p : PduParts) : Type 0 where
   pub tag_allowed : IsPduTag p.tag
-  pub id : (negsuc 2147483647 ≤ℤ p.id) × (p.id ≤ℤ pos 2147483647)
-  pub second : (negsuc 2147483647 ≤ℤ p.second) × (p.second ≤ℤ pos 2147483647)
-  pub third : (negsuc 2147483647 ≤ℤ p.third) × (p.third ≤ℤ pos 2147483647)
+  pub numbers : AreInRange p
   pub no_binding : p.list ≡ []
 
 -- a PDU with no variable bindings

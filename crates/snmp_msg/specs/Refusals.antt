@@ -10,6 +10,7 @@ use Rattle.snmp_msg.specs.Layout.{Parts, Outer, WrongVersion}
 use Rattle.snmp_msg.specs.Security.{Fields, SecText}
 use Rattle.snmp_msg.specs.Scoped.{Contexts, HasScoped, HasSealed, ScopedFront}
 use Rattle.snmp_msg.specs.Pdu.{PduParts, PduText}
+use Rattle.snmp_msg.specs.Canonical.{IsCanonical}
 
 -- The fault is why the text has no outer layout.
 abbrev pub RefusesOuter : List ℕ → MsgFault → Type 0
@@ -62,6 +63,12 @@ RefusesWhole w (faults.NotMessage at) = (WrongVersion w → ⊥) × ((m : Parts)
 RefusesWhole w (faults.NotScoped at) = (m : Parts) × Outer w m × (HasSealed m → ⊥) × ((s : Contexts) → HasScoped w m s → ⊥)
 RefusesWhole w (faults.NotSecurity at) = (m : Parts) × Outer w m × AgreesWithPriv w m × ((s : Fields) → SecText m.security_at m.security s → ⊥)
 RefusesWhole w (faults.NotPdu at) = (m : Parts) × (f : Fields) × (s : Contexts) × Outer w m × SecText m.security_at m.security f × HasScoped w m s × ((p : PduParts) → PduText s.pdu p → ⊥)
+
+-- The fault is why there is no canonical spelling: want of memory comes only where there is one.
+abbrev pub RefusesCanonical : List ℕ → CanonFault → Type 0
+RefusesCanonical w (canons.Msg fault) = RefusesWhole w fault
+RefusesCanonical w canons.TooLarge = (c : List ℕ) × IsCanonical w c × (65507 < length c)
+RefusesCanonical w canons.OutOfMemory = (c : List ℕ) × IsCanonical w c
 
 -- ---- faults of one call as those of another
 

@@ -2,7 +2,7 @@
 use Rattle.std.specs.Prelude.{◌≡◌, ℕ, ◌+◌, ◌-◌, nat_lt, if◌then◌else◌, List, ◌++◌, length, Option, Some, None, true, false}
 use Rattle.snmp_ber.specs.Element.{IsHead, IsElement}
 use Rattle.snmp_ber.specs.Reading.{Front, front_of}
-use Rattle.snmp_ber.specs.Spelling.{element}
+use Rattle.snmp_ber.specs.Spelling.{head_size, element}
 use Rattle.snmp_msg.specs.Steps.{◌>>=◌}
 use Rattle.snmp_msg.specs.Layout.{Parts, Outer}
 use Rattle.snmp_msg.specs.Reading.{element_in}
@@ -88,6 +88,10 @@ IsOneElement text = (tag : ℕ) × (content : List ℕ) × IsElement tag content
 
 unfoldable pub contexts_text : List ℕ → List ℕ → List ℕ → List ℕ
 contexts_text engine name pdu = element 4 engine ++ (element 4 name ++ pdu)
+
+-- how many octets that is, where the parts have these sizes
+abbrev pub contexts_size : ℕ → ℕ → ℕ → ℕ
+contexts_size engine_size name_size pdu_size = (head_size engine_size + engine_size) + (head_size name_size + name_size) + pdu_size
 
 unfoldable pub scoped_text : List ℕ → List ℕ → List ℕ → List ℕ
 scoped_text engine name pdu = element 48 (contexts_text engine name pdu)

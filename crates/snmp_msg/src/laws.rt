@@ -1,10 +1,14 @@
-//! Laws of the layouts.
+//! Laws of the layouts, for callers that reason about whole datagrams. Each function does nothing: its contract is the law.
 
 ghost use Rattle.std.specs.Prelude.{◌≡◌, ◌+◌, ◌≤◌, ◌⊎◌, ℕ, List, ◌++◌, take, drop, length, slice_range};
+ghost use Rattle.snmp_ber.specs.Spelling.{head_size};
 ghost use Rattle.snmp_msg.specs.declared.header.Header.{Header};
 ghost use Rattle.snmp_msg.specs.Layout.{Parts, Outer, WrongVersion};
-ghost use Rattle.snmp_msg.specs.Security.{Fields, FieldsFit, SecText, IsCut, security_text, with_auth};
+ghost use Rattle.snmp_msg.specs.Security.{Fields, FieldsFit, SecText, IsCut, security_text, placed, with_auth};
+ghost use Rattle.snmp_msg.specs.Scoped.{Contexts, HasScoped, HasSealed, ScopedText, ScopedFront, IsOneElement, contexts_text, scoped_text, contexts_placed};
+ghost use Rattle.snmp_msg.specs.Pdu.{PduParts, PduText, PduFits, pdu_text};
 ghost use Rattle.snmp_msg.specs.Spelling.{HeaderFits, message_text, written};
+ghost use Rattle.snmp_msg.specs.Canonical.{Whole, Says, IsCanonical};
 
 /// A datagram is at most one message, and then it has no other version.
 pub fn one_message()
@@ -12,7 +16,7 @@ pub fn one_message()
     ensures version { (w : List ℕ) (m : Parts) → Outer w m → WrongVersion w → ⊥ }
 {}
 
-/// Security parameters say one thing, and are cut in one way.
+/// Security parameters say one thing, and a datagram is cut round msgAuthenticationParameters in one way.
 pub fn one_cut()
     ensures one { (at : ℕ) (x : List ℕ) (s t : Fields) → SecText at x s → SecText at x t → s ≡ t }
     ensures cut { (w : List ℕ) (m : Parts) (s : Fields) → Outer w m → SecText m.security_at m.security s
@@ -21,14 +25,38 @@ pub fn one_cut()
         → (front ≡ take s.auth_at w) × (slice_range w s.auth_at (s.auth_at + length s.auth) ≡ s.auth) × (back ≡ drop (s.auth_at + length s.auth) w) }
 {}
 
-/// What is written is read again.
-pub fn written_again()
-    ensures { (h : Header) (security : List ℕ) (tag : ℕ) (content : List ℕ) → HeaderFits h → (tag ≡ 48) ⊎ (tag ≡ 4)
-        → length (message_text h security tag content) ≤ 65507 → Outer (message_text h security tag content) (written h security tag content) }
+/// msgData is sealed or one ScopedPDU, octets begin with one ScopedPDU at most, and a text is one PDU at most.
+pub fn one_content()
+    ensures kind { (w : List ℕ) (m : Parts) (s : Contexts) → HasSealed m → HasScoped w m s → ⊥ }
+    ensures scoped { (w : List ℕ) (m : Parts) (s t : Contexts) → HasScoped w m s → HasScoped w m t → s ≡ t }
+    ensures front { (z : List ℕ) (s t : Contexts) → ScopedFront z s → ScopedFront z t → s ≡ t }
+    ensures pdu { (z : List ℕ) (p q : PduParts) → PduText z p → PduText z q → p ≡ q }
 {}
 
-/// Where the field of msgAuthenticationParameters of a message that was written is filled with as many octets, what
-/// comes out is that message written with these octets.
+/// A message says one thing in all its layers.
+pub fn one_whole()
+    ensures { (w : List ℕ) (m n : Whole) → Says w m → Says w n → m ≡ n }
+{}
+
+/// What is written is read again: each value that fits has the layout that it is written in.
+pub fn written_again()
+    ensures message { (h : Header) (security : List ℕ) (tag : ℕ) (content : List ℕ) → HeaderFits h → (tag ≡ 48) ⊎ (tag ≡ 4)
+        → length (message_text h security tag content) ≤ 65507 → Outer (message_text h security tag content) (written h security tag content) }
+    ensures security { (at : ℕ) (s : Fields) → FieldsFit s → length (security_text s) ≤ 65507 → SecText at (security_text s) (placed at s) }
+    ensures scoped { (engine name pdu : List ℕ) → IsOneElement pdu → length (scoped_text engine name pdu) ≤ 65507
+        → ScopedText 0 (scoped_text engine name pdu) (contexts_placed (head_size (length (contexts_text engine name pdu))) engine name pdu) }
+    ensures pdu { (p : PduParts) → PduFits p → PduText (pdu_text p) p }
+{}
+
+/// A message has one canonical spelling, which is its own: spelling it again changes nothing.
+pub fn canonical_again()
+    ensures one { (w a b : List ℕ) → IsCanonical w a → IsCanonical w b → a ≡ b }
+    ensures again { (w c : List ℕ) → IsCanonical w c → length c ≤ 65507 → IsCanonical c c }
+    ensures fixed { (w c d : List ℕ) → IsCanonical w c → length c ≤ 65507 → IsCanonical c d → d ≡ c }
+{}
+
+/// Where the field of msgAuthenticationParameters of a message that was written is filled with as many octets, what comes
+/// out is that message written with these octets.
 pub fn field_filled()
     ensures filled { (h : Header) (s t : Fields) (tag : ℕ) (content auth front back : List ℕ) (m : Parts) → HeaderFits h → FieldsFit s → (tag ≡ 48) ⊎ (tag ≡ 4)
         → length (message_text h (security_text s) tag content) ≤ 65507 → length auth ≡ length s.auth
@@ -38,7 +66,7 @@ pub fn field_filled()
         → length (message_text h (security_text (with_auth auth s)) tag content) ≡ length (message_text h (security_text s) tag content) }
 {}
 
-/// A message is longer than its parts.
+/// A message is at least as long as its security parameters, and as its content.
 pub fn longer_whole()
     ensures { (h : Header) (security : List ℕ) (tag : ℕ) (content : List ℕ) → (length security ≤ length (message_text h security tag content)) × (length content ≤ length (message_text h security tag content)) }
 {}

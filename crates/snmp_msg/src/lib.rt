@@ -9,14 +9,21 @@ mod header;
 mod laws;
 mod message;
 mod pdu;
+mod pieces;
 mod scoped;
 mod security;
 mod step;
+mod whole;
 
 pub use fault::{CanonFault, MsgFault, WriteFault};
 pub use header::Header;
-pub use laws::{field_filled, longer_whole, one_cut, one_message, written_again};
+pub use laws::{
+    canonical_again, field_filled, longer_whole, one_content, one_cut, one_message, one_whole,
+    written_again,
+};
 pub use message::{Data, LARGEST, Message, read_message, write_message};
 pub use pdu::{Pdu, read_pdu, write_pdu};
+pub use pieces::cut;
 pub use scoped::{Scoped, read_scoped, read_scoped_front, write_scoped};
-pub use security::{Security, read_security, write_security};
+pub use security::{Cut, Security, read_security, write_security};
+pub use whole::canonical;

@@ -5,7 +5,7 @@ ghost use Rattle.std.specs.Result.{result_ok};
 ghost use Rattle.snmp_ber.specs.Spelling.{element, head_size};
 ghost use Rattle.snmp_msg.specs.Layout.{Outer};
 ghost use Rattle.snmp_msg.specs.Message.{parts};
-ghost use Rattle.snmp_msg.specs.Scoped.{Contexts, ScopedText, HasScoped, HasSealed, ScopedFront, contexts_in, contexts_of, scoped_front_in, IsOneElement, contexts_text, scoped_text, contexts_placed};
+ghost use Rattle.snmp_msg.specs.Scoped.{Contexts, ScopedText, HasScoped, HasSealed, ScopedFront, contexts_in, contexts_of, scoped_front_in, IsOneElement, contexts_size, contexts_text, scoped_text, contexts_placed};
 ghost use Rattle.snmp_msg.specs.Refusals.{RefusesScoped, RefusesFront};
 
 use crate::fault::{MsgFault, WriteFault};
@@ -102,29 +102,25 @@ pub fn read_scoped_front(plaintext: &[u8]) -> Result<Scoped<'_>, MsgFault>
     }
 }
 
-/// How many octets `put_contexts` appends.
-#[tactic(auto, unfolding(crate::specs::Scoped::contexts_text))]
-fn contexts_len(engine: &[u8], name: &[u8], pdu: &[u8]) -> usize
+/// How many octets the content of a ScopedPDU has whose data has `pdu_len` octets.
+pub(crate) fn contexts_len(engine: &[u8], name: &[u8], pdu_len: usize) -> usize
     requires engine { length engine.now ≤ LARGEST }
     requires name { length name.now ≤ LARGEST }
-    requires pdu { length pdu.now ≤ LARGEST }
-    ensures size { result ≡ length (contexts_text engine.now name.now pdu.now) }
+    requires pdu { pdu_len ≤ LARGEST }
+    ensures size { result ≡ contexts_size (length engine.now) (length name.now) pdu_len }
     ensures most { result ≤ 200000 }
 {
-    element_len(engine.len()) + element_len(name.len()) + pdu.len()
+    element_len(engine.len()) + element_len(name.len()) + pdu_len
 }
 
-/// Appends the content of a ScopedPDU.
-#[tactic(auto, unfolding(crate::specs::Scoped::contexts_text))]
-fn put_contexts(out: &mut Vec<u8>, engine: &[u8], name: &[u8], pdu: &[u8]) -> Result<(), AllocError>
+/// Appends contextEngineID and contextName.
+pub(crate) fn put_contexts(out: &mut Vec<u8>, engine: &[u8], name: &[u8]) -> Result<(), AllocError>
     requires engine { length engine.now ≤ LARGEST }
     requires name { length name.now ≤ LARGEST }
-    ensures ok { OnOk result (out.new.items ≡ out.old.items ++ contexts_text engine.now name.now pdu.now) }
+    ensures ok { OnOk result (out.new.items ≡ out.old.items ++ (element 4 engine.now ++ element 4 name.now)) }
 {
     put_tlv(out, OCTET_STRING, engine)?;
-    put_tlv(out, OCTET_STRING, name)?;
-    out.extend_from_slice(pdu)?;
-    Ok(())
+    put_tlv(out, OCTET_STRING, name)
 }
 
 /// Writes the ScopedPDU into `size` octets of memory.
@@ -142,8 +138,9 @@ fn spell_scoped(
     ensures { IfOk result (λ v. v.items ≡ scoped_text engine.now name.now pdu.now) }
 {
     let mut out = Vec::with_capacity(alloc, size)?;
-    put_head(&mut out, SEQUENCE, contexts_len(engine, name, pdu))?;
-    put_contexts(&mut out, engine, name, pdu)?;
+    put_head(&mut out, SEQUENCE, contexts_len(engine, name, pdu.len()))?;
+    put_contexts(&mut out, engine, name)?;
+    out.extend_from_slice(pdu)?;
     Ok(out)
 }
 
@@ -167,7 +164,7 @@ pub fn write_scoped(
     if engine.len().max(name.len()).max(pdu.len()) > LARGEST {
         return Err(WriteFault::TooLarge);
     }
-    let size = element_len(contexts_len(engine, name, pdu));
+    let size = element_len(contexts_len(engine, name, pdu.len()));
     if size > LARGEST {
         return Err(WriteFault::TooLarge);
     }

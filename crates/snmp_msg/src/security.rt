@@ -96,12 +96,24 @@ pub fn read_security<'a>(
     ensures cut { IfOk result (λ s. IsCut datagram.now (parts message.now) (fields_of s)
         (take s.auth_at datagram.now) (drop (s.auth_at + length s.auth.now) datagram.now)) }
     ensures within { IfOk result (λ s. s.auth_at + length s.auth.now ≤ length datagram.now) }
+    ensures field { IfOk result (λ s. slice_range datagram.now s.auth_at (s.auth_at + length s.auth.now) ≡ s.auth.now) }
 {
     let at = message.security_at;
     match read_parameters(datagram, at, at + message.security.len()) {
         Ok(security) => Ok(security),
         Err(fault) => Err(MsgFault::NotSecurity { at: fault.at }),
     }
+}
+
+/// A datagram in the three pieces that the message authentication code is computed from (RFC 3414, section 6.3.2).
+#[derive(Clone, Copy, Debug, PartialEq, Eq)]
+pub struct Cut<'a> {
+    /// What stands before the content of msgAuthenticationParameters.
+    pub front: &'a [u8],
+    /// The content of msgAuthenticationParameters.
+    pub field: &'a [u8],
+    /// What stands after it.
+    pub back: &'a [u8],
 }
 
 /// Each field is short enough for a datagram.

@@ -9,9 +9,9 @@ pub returns : goal.returns
 unfolding pdu_content_text
 returns c =
     let p = c.args.pdu.now in
-    let f1 : FitsSigned w32 p.id = omega (arith, ints, c.requires.id.0, c.requires.id.1) in
-    let f2 : FitsSigned w32 p.second = omega (arith, ints, c.requires.second.0, c.requires.second.1) in
-    let f3 : FitsSigned w32 p.third = omega (arith, ints, c.requires.third.0, c.requires.third.1) in
+    let f1 : FitsSigned w32 p.id = omega (arith, ints, c.requires.numbers.id.0, c.requires.numbers.id.1) in
+    let f2 : FitsSigned w32 p.second = omega (arith, ints, c.requires.numbers.second.0, c.requires.numbers.second.1) in
+    let f3 : FitsSigned w32 p.third = omega (arith, ints, c.requires.numbers.third.0, c.requires.numbers.third.1) in
     let first : c.put_int.new.out.items ≡ c.args.out.now.items ++ signed p.id = rw (to_z-of_z w32 p.id f1) at c.in_ok-put_int.ensures.ok in
     let second : c.put_int-2.new.out.items ≡ c.put_int.new.out.items ++ signed p.second = rw (to_z-of_z w32 p.second f2) at c.in_ok-put_int-2.ensures.ok in
     let third : c.put_int-3.new.out.items ≡ c.put_int-2.new.out.items ++ signed p.third = rw (to_z-of_z w32 p.third f3) at c.in_ok-put_int-3.ensures.ok in

@@ -9,9 +9,11 @@ returns-clause-spelled c =
     let p = empty_pdu c.args.tag c.args.id c.args.second c.args.third in
     let fits : PduFits p = record {
       tag_allowed = c.requires;
-      id = (omega (arith, ints), omega (arith, ints));
-      second = (omega (arith, ints), omega (arith, ints));
-      third = (omega (arith, ints), omega (arith, ints));
+      numbers = record {
+        id = (omega (arith, ints), omega (arith, ints));
+        second = (omega (arith, ints), omega (arith, ints));
+        third = (omega (arith, ints), omega (arith, ints));
+      };
       no_binding = search rules;
     } in
     let is : c.put_pdu.new.out.items ≡ pdu_text p = search rules in

@@ -49,3 +49,10 @@ returns-in-Err-clause-none c = λ n s o t.
     let m = parts c.args.message.now in
     let same = one_outer c.args.datagram.now n m o c.requires in
     no_security c s (subst (λ (k : Parts). SecText k.security_at k.security s) same t)
+
+pub returns-in-Ok-clause-field : goal.returns-in-Ok-clause-field
+returns-in-Ok-clause-field c =
+    let w = c.args.datagram.now in
+    let m = parts c.args.message.now in
+    let s = fields_of c.in-Ok.security in
+    (cut_places w m s (take s.auth_at w) (drop (s.auth_at + length s.auth) w) (returns-in-Ok-clause-cut c)).1

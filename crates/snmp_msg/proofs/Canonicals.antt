@@ -1,0 +1,194 @@
+-- A message with all its layers: which fault comes first, and the laws of its canonical spelling.
+use Rattle.std.proofs.Common.{◌≡◌, ◌⊎◌, ℕ, ◌+◌, ◌-◌, ◌≤◌, ◌<◌, true, false, List, ◌++◌, length, Option, Some, None, Result, Ok, Err, refl, sym, ap, subst, ◌∙◌, append_assoc, arith, inl, inr}
+use Rattle.std.specs.Prelude.{slice_range, MatchResult, MatchOption, IsErrAnd}
+use Rattle.std.proofs.lemmas.Bool.{cases_lt}
+use Rattle.std.proofs.lemmas.List.{length-append}
+use Rattle.snmp_ber.specs.Spelling.{head_of, head_size, element}
+use Rattle.snmp_msg.specs.declared.header.Header.{Header}
+use Rattle.snmp_msg.specs.declared.scoped.Scoped.{Scoped}
+use Rattle.snmp_msg.specs.declared.fault.MsgFault.{MsgFault}
+use Rattle.snmp_msg.specs.declared.fault.MsgFault.TheVariants as faults
+use Rattle.snmp_msg.specs.declared.fault.WriteFault.{WriteFault}
+use Rattle.snmp_msg.specs.declared.fault.WriteFault.TheVariants as writes
+use Rattle.snmp_msg.specs.Layout.{Parts, Outer, IsGlobal}
+use Rattle.snmp_msg.specs.Security.{Fields, SecText, FieldsFit, IsShort, fields_text, security_text, placed}
+use Rattle.snmp_msg.specs.Scoped.{Contexts, ScopedContent, HasScoped, HasSealed, IsOneElement, contexts_of, contexts_size, contexts_text, contexts_placed}
+use Rattle.snmp_msg.specs.Pdu.{PduParts, PduText, PduFits, pdu_text}
+use Rattle.snmp_msg.specs.Spelling.{HeaderFits, header_text, content_size, message_text, written}
+use Rattle.snmp_msg.specs.Canonical.{DataParts, sealed, plain, Whole, SaysData, Says, data_tag_of, data_content_of, whole_text, IsCanonical, DataFits, WholeFits, IsShortData}
+use Rattle.snmp_msg.specs.Refusals.{RefusesSecurity, RefusesPdu, RefusesWhole, RefusesCanonical, AgreesWithPriv, canon_fault}
+use Rattle.snmp_msg.proofs.Outers.{one_outer}
+use Rattle.snmp_msg.proofs.Securities.{one_security}
+use Rattle.snmp_msg.proofs.Scopeds.{one_scoped, contexts_text-length, contexts_text-is, data_stands}
+use Rattle.snmp_msg.proofs.Pdus.{one_pdu, pdu_fits, pdu_text-is}
+use Rattle.snmp_msg.proofs.Filled.{fields_text-longer, security_text-is}
+use Rattle.snmp_msg.proofs.Writes.{measured_message, message_text-longer, message_text-is}
+
+-- ---- faults
+
+-- a refusal that `?` passed on
+pub refused_as : {A B : Type 0} (r : Result A B) (Q : A → Type 0) (P : B → Type 0) (f : B) → IsErrAnd r (λ e. e ≡ f) → P f → MatchResult r Q P
+refused_as (Ok x) Q P f h p = absurd h
+refused_as (Err e) Q P f h p = subst P (sym h) p
+
+pub agrees_from : (w : List ℕ) (m : Parts) (o : Option Scoped) → MatchOption o (HasSealed m) (λ s. HasScoped w m (contexts_of s)) → AgreesWithPriv w m
+agrees_from w m None h = inl h
+agrees_from w m (Some s) h = inr (contexts_of s, h)
+
+pub security_refused : (w : List ℕ) (m : Parts) (f : MsgFault) → Outer w m → AgreesWithPriv w m → RefusesSecurity m f → RefusesWhole w f
+security_refused w m (faults.NotSecurity at) o agrees none = (m, o, agrees, none)
+security_refused w m (faults.NotMessage at) o agrees none = absurd none
+security_refused w m faults.BadVersion o agrees none = absurd none
+security_refused w m (faults.NotScoped at) o agrees none = absurd none
+security_refused w m (faults.NotPdu at) o agrees none = absurd none
+
+pub pdu_refused : (w text : List ℕ) (m : Parts) (f : Fields) (s : Contexts) (fault : MsgFault) → Outer w m → SecText m.security_at m.security f → HasScoped w m s → s.pdu ≡ text → RefusesPdu text fault → RefusesWhole w fault
+pdu_refused w text m f s (faults.NotPdu at) o x h same none = (m, f, s, o, x, h, λ p t. none p (subst (λ (z : List ℕ). PduText z p) same t))
+pdu_refused w text m f s (faults.NotMessage at) o x h same none = absurd none
+pdu_refused w text m f s faults.BadVersion o x h same none = absurd none
+pdu_refused w text m f s (faults.NotScoped at) o x h same none = absurd none
+pdu_refused w text m f s (faults.NotSecurity at) o x h same none = absurd none
+
+pub write_refused : (w : List ℕ) (m : Whole) (f : WriteFault) → Says w m → (f ≡ writes.TooLarge → 65507 < length (whole_text m)) → RefusesCanonical w (canon_fault f)
+write_refused w m writes.TooLarge says large = (whole_text m, record { message = m; says = says; spelled = refl }, large refl)
+write_refused w m writes.OutOfMemory says large = (whole_text m, record { message = m; says = says; spelled = refl })
+
+-- ---- sizes
+
+pub whole_text-longer : (m : Whole) → (length (security_text m.security) ≤ length (whole_text m)) × (length (data_content_of m.contents) ≤ length (whole_text m))
+unfolding whole_text
+whole_text-longer m = message_text-longer m.header (security_text m.security) (data_tag_of m.contents) (data_content_of m.contents)
+
+-- a message that fits a datagram has fields that fit one
+pub short_security : (m : Whole) → length (whole_text m) ≤ 65507 → IsShort m.security
+short_security m size =
+    let longer = whole_text-longer m in
+    let fields = fields_text-longer m.security in
+    record { engine = omega (arith, fields.0); auth = omega (arith, fields.1); salt = omega (arith, fields.2) }
+
+short_data_of : (d : DataParts) → length (data_content_of d) ≤ 65507 → IsShortData d
+short_data_of (sealed octets) size = size
+short_data_of (plain engine name p) size = let inner = contexts_text-length engine name (pdu_text p) in (omega arith, omega arith)
+
+pub short_data : (m : Whole) → length (whole_text m) ≤ 65507 → IsShortData m.contents
+short_data m size = let longer = whole_text-longer m in short_data_of m.contents (omega arith)
+
+-- a size that was computed is that of the text
+pub measured_whole : (m : Whole) (size security_size data_size : ℕ) → security_size ≡ length (security_text m.security) → data_size ≡ length (data_content_of m.contents)
+    → (let inner = content_size m.header security_size data_size in size ≡ head_size inner + inner) → length (whole_text m) ≡ size
+unfolding whole_text
+measured_whole m size security_size data_size security_is data_is measured =
+    let at_security = ap (λ (n : ℕ). head_size (content_size m.header n data_size) + content_size m.header n data_size) security_is in
+    measured_message m.header (security_text m.security) (data_tag_of m.contents) (data_content_of m.contents) size data_size (measured ∙ at_security) data_is
+
+-- ---- one canonical spelling
+
+pub not_both : (w : List ℕ) (m : Parts) (s : Contexts) → HasSealed m → HasScoped w m s → ⊥
+not_both w m s h k = let e : true ≡ false = sym h.0 ∙ k.0 in absurd cc
+
+pub same_scoped : (w : List ℕ) (m : Parts) (s t : Contexts) → HasScoped w m s → HasScoped w m t → s ≡ t
+same_scoped w m s t a b = one_scoped (length w - length m.data_content) m.data_content s t a.2 b.2
+
+same_plain : (w : List ℕ) (m : Parts) (a b c d : List ℕ) (p q : PduParts) → SaysData w m (plain a b p) → SaysData w m (plain c d q) → plain a b p ≡ plain c d q
+same_plain w m a b c d p q h k =
+    let same = one_scoped (length w - length m.data_content) m.data_content h.0 k.0 h.1.2 k.1.2 in
+    let pdu : PduText h.0.pdu q = subst (λ (s : Contexts). PduText s.pdu q) (sym same) k.2 in
+    let engines : a ≡ c = h.3 ∙ ap (λ (s : Contexts). s.engine) same ∙ sym k.3 in
+    let names : b ≡ d = h.4 ∙ ap (λ (s : Contexts). s.name) same ∙ sym k.4 in
+    rw (engines, names, one_pdu h.0.pdu p q h.2 pdu) refl
+
+same_data : (w : List ℕ) (m : Parts) (d e : DataParts) → SaysData w m d → SaysData w m e → d ≡ e
+same_data w m (sealed a) (sealed b) h k = ap sealed (h.1 ∙ sym k.1)
+same_data w m (sealed a) (plain engine name p) h k = absurd (not_both w m k.0 h.0 k.1)
+same_data w m (plain engine name p) (sealed b) h k = absurd (not_both w m h.0 k.0 h.1)
+same_data w m (plain engine name p) (plain engine1 name1 q) h k = same_plain w m engine name engine1 name1 p q h k
+
+whole : Header → Fields → DataParts → Whole
+whole h s d = record { header = h; security = s; contents = d }
+
+same_whole : (h g : Header) (s t : Fields) (d e : DataParts) → h ≡ g → s ≡ t → d ≡ e → whole h s d ≡ whole g t e
+same_whole h g s t d e a b c = rw (a, b, c) refl
+
+pub one_whole : (w : List ℕ) (m n : Whole) → Says w m → Says w n → m ≡ n
+unfolding whole
+one_whole w m n a b =
+    let same = one_outer w b.message a.message b.outer a.outer in
+    let security : SecText a.message.security_at a.message.security n.security = subst (λ (p : Parts). SecText p.security_at p.security n.security) same b.security in
+    let contents : SaysData w a.message n.contents = subst (λ (p : Parts). SaysData w p n.contents) same b.contents in
+    let header : m.header ≡ n.header = a.header ∙ sym (ap (λ (p : Parts). p.header) same) ∙ sym b.header in
+    same_whole m.header n.header m.security n.security m.contents n.contents header (one_security a.message.security_at a.message.security m.security n.security a.security security) (same_data w a.message m.contents n.contents a.contents contents)
+
+pub one_canonical : (w a b : List ℕ) → IsCanonical w a → IsCanonical w b → a ≡ b
+one_canonical w a b x y = x.spelled ∙ ap whole_text (one_whole w x.message y.message x.says y.says) ∙ sym y.spelled
+
+-- ---- a canonical spelling is its own
+
+pub header_fits : (h : Header) (content : List ℕ) → IsGlobal h content → HeaderFits h
+header_fits h content g = record { id = g.is_id.at_most; least_size = g.is_max_size.at_least; most_size = g.is_max_size.at_most; least_model = g.is_model.at_least; most_model = g.is_model.at_most }
+
+pub fields_fit : (at : ℕ) (x : List ℕ) (s : Fields) → SecText at x s → FieldsFit s
+fields_fit at x s t = record { boots = t.is_boots.at_most; time = t.is_time.at_most; user = t.user_allowed }
+
+data_fits : (w : List ℕ) (m : Parts) (d : DataParts) → SaysData w m d → DataFits d
+data_fits w m (sealed octets) h = tt
+data_fits w m (plain engine name p) h = pdu_fits h.0.pdu p h.2
+
+pub whole_fits : (w : List ℕ) (m : Whole) → Says w m → WholeFits m
+whole_fits w m h = record {
+  header = subst HeaderFits (sym h.header) (header_fits h.message.header h.outer.global_content h.outer.says);
+  security = fields_fit h.message.security_at h.message.security m.security h.security;
+  contents = data_fits w h.message m.contents h.contents;
+}
+
+-- the same message, with the place where its security parameters stand in its canonical spelling
+pub spelled_again : Whole → Whole
+spelled_again m =
+    let p = written m.header (security_text m.security) (data_tag_of m.contents) (data_content_of m.contents) in
+    record m { security = placed p.security_at m.security }
+
+same_text : (m : Whole) → whole_text (spelled_again m) ≡ whole_text m
+unfolding spelled_again whole_text security_text fields_text
+same_text m = refl
+
+tag_allowed : (d : DataParts) → (data_tag_of d ≡ 48) ⊎ (data_tag_of d ≡ 4)
+tag_allowed (sealed octets) = inr refl
+tag_allowed (plain engine name p) = inl refl
+
+one_element_of : (p : PduParts) → PduFits p → IsOneElement (pdu_text p)
+one_element_of p fits = let t = pdu_text-is p fits in (p.tag, t.content, t.is_whole)
+
+contents_again : (c : List ℕ) (w : List ℕ) (m n : Parts) (d : DataParts) → SaysData w m d → DataFits d → n.header ≡ m.header → n.data_tag ≡ data_tag_of d → n.data_content ≡ data_content_of d → length (data_content_of d) ≤ 65507 → SaysData c n d
+contents_again c w m n (sealed octets) h fits header tag content size = ((ap (λ (x : Header). x.privacy) header ∙ h.0.0, tag), sym content)
+contents_again c w m n (plain engine name p) h fits header tag content size =
+    let at = length c - length n.data_content in
+    let short = short_data_of (plain engine name p) size in
+    let t = contexts_text-is at engine name (pdu_text p) (one_element_of p fits) short.0 short.1 in (
+      contexts_placed at engine name (pdu_text p),
+      (ap (λ (x : Header). x.privacy) header ∙ h.1.0, tag, subst (λ (z : List ℕ). ScopedContent at z (contexts_placed at engine name (pdu_text p))) (sym content) t),
+      pdu_text-is p fits,
+      refl,
+      refl,
+    )
+
+pub says_again : (w : List ℕ) (m : Whole) → Says w m → length (whole_text m) ≤ 65507 → Says (whole_text m) (spelled_again m)
+unfolding spelled_again whole_text
+says_again w m h size =
+    let fits = whole_fits w m h in
+    let longer = whole_text-longer m in
+    let security = security_text m.security in
+    let tag = data_tag_of m.contents in
+    let content = data_content_of m.contents in
+    let p = written m.header security tag content in
+    record {
+      message = p;
+      outer = message_text-is m.header security tag content fits.header (tag_allowed m.contents) size;
+      header = refl;
+      security = security_text-is p.security_at m.security fits.security (omega arith);
+      contents = contents_again (message_text m.header security tag content) w h.message p m.contents h.contents fits.contents h.header refl refl (omega arith);
+    }
+
+pub canonical_again : (w c : List ℕ) → IsCanonical w c → length c ≤ 65507 → IsCanonical c c
+canonical_again w c h size =
+    let m = h.message in
+    let short : length (whole_text m) ≤ 65507 = omega (arith, ap length h.spelled) in
+    subst (λ (x : List ℕ). IsCanonical x x) (sym h.spelled) (record { message = spelled_again m; says = says_again w m h.says short; spelled = sym (same_text m) })

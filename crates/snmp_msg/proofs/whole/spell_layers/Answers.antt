@@ -1,0 +1,25 @@
+use Rattle.std.proofs.Common.{◌≡◌, ℕ, List, [], ◌++◌, length, ap, sym, ◌∙◌, rules}
+use Rattle.snmp_ber.specs.Spelling.{element}
+use Rattle.snmp_msg.specs.Security.{fields_of, security_text}
+use Rattle.snmp_msg.specs.Spelling.{front_text, content_size}
+use Rattle.snmp_msg.specs.Canonical.{data_parts, data_tag_of, data_content_of, whole_text}
+use Rattle.snmp_msg.proofs.Appends.{three_appended}
+use Rattle.snmp_msg.proofs.Writes.{message_text-front}
+use Rattle.snmp_msg.proofs.whole.spell_layers.Goals as goal
+
+pub returns : goal.returns
+unfolding whole_text
+returns c =
+    let h = c.args.layers.now.header in
+    let security = security_text (fields_of c.args.layers.now.security) in
+    let d = data_parts c.args.layers.now.contents in
+    let content = data_content_of d in
+    let security_is : c.security_len-security_len.result ≡ length security = c.security_len-security_len.ensures.size in
+    let data_is : c.data_len-data_len.result ≡ length content = c.data_len-data_len.ensures.size in
+    let front = front_text h (content_size h (length security) (length content)) (length security) in
+    let empty : c.in_ok-out.out.items ≡ [] = search rules in
+    let first : c.put_front.new.out.items ≡ c.in_ok-out.out.items ++ front = rw (security_is, data_is) at c.in_ok-put_front.ensures.ok in
+    let second : c.put_security.new.out.items ≡ c.put_front.new.out.items ++ security = c.in_ok-put_security.ensures.ok in
+    let third : c.put_data.new.out.items ≡ c.put_security.new.out.items ++ element (data_tag_of d) content = c.in_ok-put_data.ensures.ok in
+    let all = three_appended c.in_ok-out.out.items c.put_front.new.out.items c.put_security.new.out.items c.put_data.new.out.items front security (element (data_tag_of d) content) first second third in
+    all ∙ ap (λ (t : List ℕ). t ++ (front ++ (security ++ element (data_tag_of d) content))) empty ∙ sym (message_text-front h security (data_tag_of d) content)

@@ -1,0 +1,83 @@
+-- A message with all its layers, and its canonical spelling.
+use Rattle.std.specs.Prelude.{◌≡◌, ℕ, ◌≤◌, List, length}
+use Rattle.snmp_msg.specs.declared.header.Header.{Header}
+use Rattle.snmp_msg.specs.declared.whole.Layers.{Layers}
+use Rattle.snmp_msg.specs.declared.whole.Layer.{Layer}
+use Rattle.snmp_msg.specs.declared.whole.Layer.TheVariants as layers
+use Rattle.snmp_msg.specs.Layout.{Parts, Outer}
+use Rattle.snmp_msg.specs.Security.{Fields, SecText, FieldsFit, fields_of, security_text}
+use Rattle.snmp_msg.specs.Scoped.{Contexts, HasScoped, HasSealed, contexts_text}
+use Rattle.snmp_msg.specs.Pdu.{PduParts, PduText, PduFits, pdu_of, pdu_text}
+use Rattle.snmp_msg.specs.Spelling.{HeaderFits, message_text}
+
+-- What msgData says: sealed octets, or the contexts and the PDU.
+pub data DataParts : Type 0 where
+  sealed : List ℕ → DataParts
+  plain : List ℕ → List ℕ → PduParts → DataParts
+
+-- What a message says in all its layers.
+pub record Whole : Type 0 where
+  pub header : Header
+  pub security : Fields
+  pub contents : DataParts
+
+-- The msgData of the message says this, and is sealed where the priv flag is set.
+abbrev pub SaysData : List ℕ → Parts → DataParts → Type 0
+SaysData w m (sealed octets) = HasSealed m × (octets ≡ m.data_content)
+SaysData w m (plain engine name p) = (s : Contexts) × HasScoped w m s × PduText s.pdu p × (engine ≡ s.engine) × (name ≡ s.name)
+
+-- The text is a message with these layers (RFC 3412, section 6; RFC 3414, section 2.4; RFC 3416, section 3).
+pub record Says (w : List ℕ) (m : Whole) : Type 0 where
+  pub message : Parts
+  pub outer : Outer w message
+  pub header : m.header ≡ message.header
+  pub security : SecText message.security_at message.security m.security
+  pub contents : SaysData w message m.contents
+
+abbrev pub data_tag_of : DataParts → ℕ
+data_tag_of (sealed octets) = 4
+data_tag_of (plain engine name p) = 48
+
+abbrev pub data_content_of : DataParts → List ℕ
+data_content_of (sealed octets) = octets
+data_content_of (plain engine name p) = contexts_text engine name (pdu_text p)
+
+-- every length the shortest, the ignored flag bits 0, and all fields as they are
+unfoldable pub whole_text : Whole → List ℕ
+whole_text m = message_text m.header (security_text m.security) (data_tag_of m.contents) (data_content_of m.contents)
+
+-- The second text is the canonical spelling of the message that the first is.
+pub record IsCanonical (w c : List ℕ) : Type 0 where
+  pub message : Whole
+  pub says : Says w message
+  pub spelled : c ≡ whole_text message
+
+-- ---- what can be written
+
+abbrev pub DataFits : DataParts → Type 0
+DataFits (sealed octets) = Unit {0}
+DataFits (plain engine name p) = PduFits p
+
+-- the ranges of the fields
+pub record WholeFits (m : Whole) : Type 0 where
+  pub header : HeaderFits m.header
+  pub security : FieldsFit m.security
+  pub contents : DataFits m.contents
+
+-- msgData can stand in a datagram
+abbrev pub IsShortData : DataParts → Type 0
+IsShortData (sealed octets) = length octets ≤ 65507
+IsShortData (plain engine name p) = (length engine ≤ 65507) × (length name ≤ 65507)
+
+-- ---- what the values of the code say
+
+abbrev pub data_parts : Layer → DataParts
+data_parts (layers.Sealed octets) = sealed octets.now
+data_parts (layers.Plain engine name p) = plain engine.now name.now (pdu_of p)
+
+abbrev pub whole_of : Layers → Whole
+whole_of m = record {
+  header = m.header;
+  security = fields_of m.security;
+  contents = data_parts m.contents;
+}
