@@ -27,3 +27,6 @@ pub use pieces::cut;
 pub use scoped::{Scoped, read_scoped, read_scoped_front, write_scoped};
 pub use security::{Cut, Security, read_security, write_security};
 pub use whole::canonical;
+
+#[cfg(test)]
+mod tests;

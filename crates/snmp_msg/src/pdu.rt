@@ -4,6 +4,7 @@ ghost use Rattle.std.specs.Prelude.{◌≡◌, [], ◌+◌, ◌<◌, ◌≤◌, 
 ghost use Rattle.std.specs.Result.{result_ok};
 ghost use Rattle.snmp_ber.specs.Spelling.{element, integer};
 ghost use Rattle.snmp_msg.specs.Pdu.{IsPduTag, PduParts, PduText, PduFits, pdu_in, pdu_content_in, pdu_of, empty_pdu, pdu_content_text, pdu_text};
+ghost use Rattle.snmp_msg.specs.Scoped.{IsOneElement};
 ghost use Rattle.snmp_msg.specs.Refusals.{RefusesPdu};
 
 use crate::fault::{MsgFault, WriteFault};
@@ -153,6 +154,7 @@ pub fn write_pdu(
     requires { IsPduTag tag }
     ensures ok { IfOk result (λ v. v.items ≡ pdu_text (empty_pdu tag id second third)) }
     ensures spelled { IfOk result (λ v. PduText v.items (empty_pdu tag id second third)) }
+    ensures element { IfOk result (λ v. IsOneElement v.items) }
     ensures memory { OnErr result (IsErrOf result WriteFault.OutOfMemory) }
 {
     let pdu = Pdu {

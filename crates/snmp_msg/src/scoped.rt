@@ -64,6 +64,7 @@ pub fn read_scoped<'a>(
     ensures none { OnErr result ((HasSealed (parts message.now) → ⊥) × ((s : Contexts) → HasScoped datagram.now (parts message.now) s → ⊥)) }
     ensures within { IfOk result (λ found. IfSome found (λ s. s.data_at + length s.pdu.now ≡ length datagram.now)) }
     ensures place { IfOk result (λ found. IfSome found (λ s. s.pdu.now ≡ slice_range datagram.now s.data_at (length datagram.now))) }
+    ensures element { IfOk result (λ found. IfSome found (λ s. IsOneElement s.pdu.now)) }
 {
     match (message.header.privacy, message.body) {
         (true, Data::Sealed(_)) => Ok(None),
@@ -95,6 +96,7 @@ fn read_front(plaintext: &[u8]) -> Result<Scoped<'_>, BerFault>
 pub fn read_scoped_front(plaintext: &[u8]) -> Result<Scoped<'_>, MsgFault>
     ensures exact { MatchResult result (λ s. ScopedFront plaintext.now (contexts_of s)) (RefusesFront plaintext.now) }
     ensures none { OnErr result ((s : Contexts) → ScopedFront plaintext.now s → ⊥) }
+    ensures element { IfOk result (λ s. IsOneElement s.pdu.now) }
 {
     match read_front(plaintext) {
         Ok(scoped) => Ok(scoped),

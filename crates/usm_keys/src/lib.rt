@@ -1,13 +1,20 @@
-// A library with one function.
+//! Keys and message authentication codes of the user-based security model for SNMPv3 (RFC 3414): from a
+//! password to a key, from a key to an engine's own key, and the code of a message, with MD5 and with SHA-1.
+//! Nothing here takes memory.
 #![tactic(auto)]
 
-ghost use Rattle.std.specs.Prelude.{◌≡◌};
-ghost use Rattle.usm_keys.specs.Echo.{echo_of};
+pub use auth::Auth;
+pub use derivation::{ShortPassword, localise, password_key};
+pub use hash::AuthHash;
+pub use key::Key;
+pub use message_mac::mac;
 
-// The `ensures` clause is the contract: what `echo` returns is `echo_of` of its argument, a definition
-// in `specs/Echo.antt`, which a caller's clause can cite too.
-pub fn echo(x: usize) -> usize
-    ensures { result ≡ echo_of x }
-{
-    x
-}
+mod auth;
+mod derivation;
+mod hash;
+mod hasher;
+mod hashes;
+mod key;
+mod message_mac;
+#[cfg(test)]
+mod tests;

@@ -18,3 +18,6 @@ returns-clause-spelled c =
     } in
     let is : c.put_pdu.new.out.items ≡ pdu_text p = search rules in
     subst (λ (z : List ℕ). PduText z p) (sym is) (pdu_text-is p fits)
+
+pub returns-clause-element : goal.returns-clause-element
+returns-clause-element c = let t = returns-clause-spelled c in (c.args.tag, t.content, t.is_whole)

@@ -32,3 +32,6 @@ returns-in-Err-clause-exact c = (
 
 pub returns-in-Err-clause-none : goal.returns-in-Err-clause-none
 returns-in-Err-clause-none c = returns-in-Err-clause-exact c
+
+pub returns-in-Ok-clause-element : goal.returns-in-Ok-clause-element
+returns-in-Ok-clause-element c = let t = (has_scoped c).2 in (t.pdu_tag, t.pdu_content, t.is_pdu)

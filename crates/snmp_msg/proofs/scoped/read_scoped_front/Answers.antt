@@ -11,3 +11,6 @@ returns-in-Err-clause-exact c = no_front c.args.plaintext.now (sym c.in-Err.ensu
 
 pub returns-in-Err-clause-none : goal.returns-in-Err-clause-none
 returns-in-Err-clause-none c = no_front c.args.plaintext.now (sym c.in-Err.ensures)
+
+pub returns-in-Ok-clause-element : goal.returns-in-Ok-clause-element
+returns-in-Ok-clause-element c = let t = (returns-in-Ok-clause-exact c).3.says in (t.pdu_tag, t.pdu_content, t.is_pdu)

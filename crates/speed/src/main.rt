@@ -1,0 +1,27 @@
+//! Does one operation of the library again and again, for `bench/compare` to time.
+//!
+//! `speed OPERATION OCTETS TIMES` does the operation TIMES times, first on a text of OCTETS octets `a`, and
+//! then each time on that text with the last result over its first octets, so that no time can be left out.
+//! It prints the last result in lower-case hex.
+#![tactic(auto)]
+
+mod operation;
+
+use anyhow::{Context, Result, bail};
+use operation::Operation;
+use std::env;
+
+fn main(rt: HostRuntime) -> Result<()> {
+    let alloc = rt.alloc();
+    let words: Vec<String> = env::args(&rt)?.collect(alloc)?;
+    let [_, operation, octets, times] = words.as_slice() else {
+        bail!("usage: speed OPERATION OCTETS TIMES");
+    };
+    let operation: Operation = operation.as_str().parse()?;
+    let octets: usize = octets.as_str().parse().context("OCTETS")?;
+    let times: u64 = times.as_str().parse().context("TIMES")?;
+    let mut text = vec![in alloc; b'a'; octets]?;
+    let result = operation.repeat(&mut text, times)?;
+    println!(rt; "{}", hex::encode(alloc, result.as_slice())?)?;
+    Ok(())
+}
