@@ -1,13 +1,23 @@
-// A library with one function.
+//! What an SNMP engine knows of the clocks of others (RFC 3414 section 2.3): for each engine the greatest pair of boots
+//! and time that was received, joined in any order, saved as text and read again; and the time windows.
 #![tactic(auto)]
 
-ghost use Rattle.std.specs.Prelude.{◌≡◌};
-ghost use Rattle.engine_clock.specs.Echo.{echo_of};
+mod clocks;
+mod engine_id;
+mod join;
+pub mod laws;
+mod mark;
+mod pair;
+mod reading;
+mod saved;
+mod window;
 
-// The `ensures` clause is the contract: what `echo` returns is `echo_of` of its argument, a definition
-// in `specs/Echo.antt`, which a caller's clause can cite too.
-pub fn echo(x: usize) -> usize
-    ensures { result ≡ echo_of x }
-{
-    x
-}
+pub use clocks::Clocks;
+pub use engine_id::EngineId;
+pub use join::Join;
+pub use pair::Pair;
+pub use saved::ClockFault;
+pub use window::{in_window_agent, in_window_manager};
+
+#[cfg(test)]
+mod tests;

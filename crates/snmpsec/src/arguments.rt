@@ -14,9 +14,13 @@ fn command<'a>(alloc: Global) -> Result<Command<'a>, AllocError> {
     let show = Command::new(alloc, "show")
         .about("Read a message and write it again")
         .arg(word(alloc, "HEX"))?;
+    let merge_clocks = Command::new(alloc, "merge-clocks")
+        .about("Join saved clocks")
+        .arg(word(alloc, "FILE").num_args(1..).action(ArgAction::Append))?;
     Command::new(alloc, "snmpsec")
         .subcommand_required(true)
-        .subcommand(show)
+        .subcommand(show)?
+        .subcommand(merge_clocks)
 }
 
 /// Reads the words of a command line, the program's name first. A request for help is an error too.

@@ -1,6 +1,8 @@
 //! From the command line to what is written.
 
 use crate::arguments;
+use crate::files::{FileFault, read_file};
+use crate::merge::merge_text;
 use crate::output::Output;
 use crate::show::show_text;
 use crate::transfer::write_whole;
@@ -8,7 +10,7 @@ use clap::ArgMatches;
 use clap::error::ErrorKind;
 use std::alloc::{AllocError, Global};
 use std::io::Write;
-use std::rt::Env;
+use std::rt::{Env, Files};
 use std::{env, io};
 
 const OUT_OF_MEMORY: &[u8] = b"snmpsec: out of memory\n";
@@ -16,7 +18,11 @@ const OUT_OF_MEMORY: &[u8] = b"snmpsec: out of memory\n";
 const CANNOT_WRITE: &[u8] = b"snmpsec: cannot write\n";
 
 /// Runs the program over its arguments, and answers its status.
-pub fn run<R: Env + AllocGlobal, O: Write, E: Write>(rt: &R, out: &mut O, err: &mut E) -> u8 {
+pub fn run<R: Files + Env + AllocGlobal, O: Write, E: Write>(
+    rt: &R,
+    out: &mut O,
+    err: &mut E,
+) -> u8 {
     match answer(rt) {
         Ok(output) => print(&output, out, err),
         Err(_) => {
@@ -39,7 +45,7 @@ fn print<O: Write, E: Write>(output: &Output, out: &mut O, err: &mut E) -> u8 {
 }
 
 /// What the program prints.
-fn answer<R: Env + AllocGlobal>(rt: &R) -> Result<Output, AllocError> {
+fn answer<R: Files + Env + AllocGlobal>(rt: &R) -> Result<Output, AllocError> {
     let alloc = rt.alloc();
     let words = match env::args(rt) {
         Ok(words) => words,
@@ -48,7 +54,7 @@ fn answer<R: Env + AllocGlobal>(rt: &R) -> Result<Output, AllocError> {
     };
     let words: Vec<String> = words.collect(alloc)?;
     match arguments::parse(alloc, words.as_slice()) {
-        Ok(matches) => command(alloc, &matches),
+        Ok(matches) => command(rt, &matches),
         Err(fault) => usage(alloc, &fault),
     }
 }
@@ -67,10 +73,28 @@ fn usage(alloc: Global, fault: &clap::Error) -> Result<Output, AllocError> {
 }
 
 /// What the command that was given prints.
-fn command(alloc: Global, matches: &ArgMatches<'_>) -> Result<Output, AllocError> {
-    let digits = match matches.subcommand() {
-        Some((_, words)) => words.get_str("HEX").unwrap_or(""),
-        None => "",
-    };
-    show_text(alloc, digits)
+fn command<R: Files + AllocGlobal>(rt: &R, matches: &ArgMatches<'_>) -> Result<Output, AllocError> {
+    match matches.subcommand() {
+        Some(("merge-clocks", words)) => merge_files(rt, words.get_strs("FILE").unwrap_or(&[])),
+        Some((_, words)) => show_text(rt.alloc(), words.get_str("HEX").unwrap_or("")),
+        None => show_text(rt.alloc(), ""),
+    }
+}
+
+/// Reads the files whole, in the order of their names, and then merges them.
+fn merge_files<R: Files + AllocGlobal>(rt: &R, names: &[&str]) -> Result<Output, AllocError> {
+    let alloc = rt.alloc();
+    let mut files: Vec<(String, Vec<u8>)> = Vec::new(alloc);
+    for name in names {
+        match read_file(rt, name) {
+            Ok(octets) => files.push((name.to_string(alloc)?, octets))?,
+            Err(FileFault::OutOfMemory) => return Err(AllocError),
+            Err(FileFault::CannotRead) => return cannot_read(alloc, name),
+        }
+    }
+    merge_text(alloc, &files)
+}
+
+fn cannot_read(alloc: Global, name: &str) -> Result<Output, AllocError> {
+    Output::complaint(alloc, format!(in alloc; "cannot read {name}")?.as_str())
 }

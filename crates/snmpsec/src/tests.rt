@@ -1,4 +1,7 @@
-//! What is printed, and its status.
+//! What is printed, and its status; what is read and written.
+
+mod merged;
+mod streams;
 
 use super::*;
 use crate::show::show_text;

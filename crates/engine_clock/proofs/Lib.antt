@@ -1,0 +1,13 @@
+pub mod Held
+pub mod Absorbing
+pub mod Cuts
+pub mod Lines
+pub mod HexDigits
+pub mod Decimals
+pub mod Entries
+pub mod Listings
+pub mod SavedTexts
+pub mod Greatest
+pub mod SamePairs
+pub mod MapJoins
+pub mod Merging
