@@ -2,6 +2,7 @@
 use arrayvec::ArrayVec;
 use std::str::FromStr;
 use thiserror::Error;
+use usm_aes::{cfb_seal, expand, iv};
 use usm_keys::{Auth, Key, ShortPassword, mac, password_key};
 
 /// The key of the message authentication codes.
@@ -14,11 +15,14 @@ pub enum Operation {
     PasswordKey(Auth),
     /// `mac-md5`, `mac-sha1`: the text's message authentication code under 32 octets 0B.
     Mac(Auth),
+    /// `cfb-seal`: the text sealed in place under the key 00 to 0F, with boots 7, time 1000 and the salt 00 to 07. The result
+    /// is its last 16 octets, or all of a shorter one.
+    CfbSeal,
 }
 
 /// No operation has this name.
 #[derive(Clone, Copy, PartialEq, Eq, Debug, Error)]
-#[error("OPERATION is password-key-md5, password-key-sha1, mac-md5 or mac-sha1")]
+#[error("OPERATION is password-key-md5, password-key-sha1, mac-md5, mac-sha1 or cfb-seal")]
 pub struct UnknownOperation;
 
 impl FromStr for Operation {
@@ -30,6 +34,7 @@ impl FromStr for Operation {
             "password-key-sha1" => Ok(Operation::PasswordKey(Auth::Sha1)),
             "mac-md5" => Ok(Operation::Mac(Auth::Md5)),
             "mac-sha1" => Ok(Operation::Mac(Auth::Sha1)),
+            "cfb-seal" => Ok(Operation::CfbSeal),
             _ => Err(UnknownOperation),
         }
     }
@@ -48,7 +53,7 @@ impl Operation {
     }
 
     /// The operation's result on the text.
-    fn once(self, text: &[u8]) -> Result<ArrayVec<u8, 32>, ShortPassword> {
+    fn once(self, text: &mut [u8]) -> Result<ArrayVec<u8, 32>, ShortPassword> {
         match self {
             Operation::PasswordKey(auth) => {
                 let key = password_key(auth, text)?;
@@ -60,8 +65,19 @@ impl Operation {
                 let key = Key::of(auth, &MAC_KEY).unwrap();
                 Ok(mac(&key, text, 0, &[]))
             }
+            Operation::CfbSeal => Ok(sealed_end(text)),
         }
     }
+}
+
+/// Seals the text in place, and answers the end of what it is then.
+fn sealed_end(text: &mut [u8]) -> ArrayVec<u8, 32> {
+    let schedule = expand(&[0, 1, 2, 3, 4, 5, 6, 7, 8, 9, 10, 11, 12, 13, 14, 15]);
+    cfb_seal(&schedule, iv(7, 1000, &[0, 1, 2, 3, 4, 5, 6, 7]), text);
+    let mut end = ArrayVec::new();
+    end.try_extend_from_slice(&text[text.len() - text.len().min(16)..])
+        .unwrap();
+    end
 }
 
 /// Writes the octets given, or as many as there is room for, over the first octets of the text.
