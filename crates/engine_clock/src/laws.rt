@@ -1,6 +1,6 @@
 //! Laws over the definitions alone. Each is the contract of a function that does nothing: a proof that calls it may cite
 //! its law.
-ghost use Rattle.std.specs.Prelude.{◌≡◌, ◌⊎◌, ℕ, false, Bool, IsTrue, List, [], ◌∷◌, ◌++◌, Option, Some, None, Contains};
+ghost use Rattle.std.specs.Prelude.{◌≡◌, ◌⊎◌, ℕ, Bool, IsTrue, List, [], ◌∷◌, ◌++◌, Option, Some, None, Contains};
 ghost use Rattle.std.specs.Option.{option_cmp};
 ghost use Rattle.std.specs.FinMap as map;
 ghost use Rattle.engine_clock.specs.Pairs.{BootsAndTime, IsGreatestOf};
