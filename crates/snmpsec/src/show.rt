@@ -1,20 +1,37 @@
 //! `snmpsec show`: what a message says, a field a line, and its canonical spelling.
 
-ghost use Rattle.std.specs.Prelude.{◌≡◌, ◌≢◌, ◌++◌, ◌≤◌, [], ℕ, length, IfOk, IfSome, Ok, List, codes, string_bytes};
-ghost use Rattle.hex.specs.Hex.{decode_of, encode_lower};
-ghost use Rattle.snmpsec.specs.Show.{EndsCanonical};
+ghost use Rattle.std.specs.Prelude.{◌≡◌, ◌≢◌, ◌≤◌, ℕ, List, Ok, IfOk, OnOk, IsNone, MatchOption, MatchResult, string_bytes};
+ghost use Rattle.hex.specs.Hex.{decode_of};
+ghost use Rattle.hex.specs.declared.FromHexError.TheVariants as hex_faults;
+ghost use Rattle.snmpsec.specs.Show.{IsUsmMessage, Shows, RefusesShow, IsNoHex};
+ghost use Rattle.snmpsec.specs.Refusals.{refusal_line};
+ghost use Rattle.snmpsec.specs.declared.refusal.Refusal.{Refusal as Refused};
 
 use crate::output::Output;
 use crate::refusal::Refusal;
 use hex::FromHexError;
 use snmp_msg::{
-    Header, Message, Scoped, Security, canonical, read_message, read_pdu, read_scoped,
-    read_security,
+    Header, Pdu, Scoped, Security, canonical, read_message, read_pdu, read_scoped, read_security,
 };
 use std::alloc::{AllocError, Global};
 
 /// The user-based security model (RFC 3411, section 5).
 const USM: u32 = 3;
+
+/// What msgData says.
+#[derive(Clone, Copy)]
+enum Contents<'a> {
+    Sealed(&'a [u8]),
+    Plain(Scoped<'a>, Pdu<'a>),
+}
+
+/// What a message says.
+#[derive(Clone, Copy)]
+struct Shown<'a> {
+    header: Header,
+    security: Security<'a>,
+    contents: Contents<'a>,
+}
 
 /// Appends a line with a name and octets in lower-case hex, or `-` where there is none.
 fn put_octets(
@@ -73,16 +90,16 @@ fn put_security(
     put_octets(alloc, text, "privacy", security.salt)
 }
 
-/// Appends the contexts and the PDU of a ScopedPDU of the datagram.
-fn put_scoped(
+/// Appends msgData: sealed octets, or the contexts and the PDU.
+fn put_contents(
     alloc: Global,
     text: &mut String,
-    datagram: &[u8],
-    scoped: &Scoped<'_>,
-) -> Result<(), Refusal>
-    requires { scoped.now.data_at ≤ length datagram.now }
-{
-    let pdu = read_pdu(datagram, scoped.data_at, datagram.len())?;
+    contents: &Contents<'_>,
+) -> Result<(), AllocError> {
+    let (scoped, pdu) = match contents {
+        Contents::Sealed(octets) => return put_octets(alloc, text, "sealed", octets),
+        Contents::Plain(scoped, pdu) => (scoped, pdu),
+    };
     put_octets(alloc, text, "context-engine", scoped.engine)?;
     put_octets(alloc, text, "context", scoped.name)?;
     write!(
@@ -93,32 +110,49 @@ fn put_scoped(
     Ok(())
 }
 
-/// The lines of the fields.
-fn fields_text(alloc: Global, datagram: &[u8]) -> Result<String, Refusal> {
+/// What a message says, and where it is refused why.
+fn read_shown(datagram: &[u8]) -> Result<Shown<'_>, Refusal>
+    ensures { MatchResult result (λ _. IsUsmMessage datagram.now) (RefusesShow datagram.now) }
+{
     let message = read_message(datagram)?;
-    if message.header.model != USM {
+    let header = message.header;
+    if header.model != USM {
         return Err(Refusal::UnknownModel);
     }
-    if message.header.level().is_none() {
+    let Some(_level) = header.level() else {
         return Err(Refusal::InvalidFlags);
-    }
+    };
     let scoped = read_scoped(datagram, &message)?;
     let security = read_security(datagram, &message)?;
+    let contents = match scoped {
+        None => Contents::Sealed(message.body.content()),
+        Some(scoped) => {
+            let pdu = read_pdu(datagram, scoped.data_at, datagram.len())?;
+            Contents::Plain(scoped, pdu)
+        }
+    };
+    Ok(Shown {
+        header,
+        security,
+        contents,
+    })
+}
+
+/// The lines of the fields.
+fn fields_text(alloc: Global, shown: &Shown<'_>) -> Result<String, AllocError> {
     let mut text = String::new(alloc);
-    put_header(&mut text, &message.header)?;
-    put_security(alloc, &mut text, &security)?;
-    match scoped {
-        Some(scoped) => put_scoped(alloc, &mut text, datagram, &scoped)?,
-        None => put_octets(alloc, &mut text, "sealed", message.body.content())?,
-    }
+    put_header(&mut text, &shown.header)?;
+    put_security(alloc, &mut text, &shown.security)?;
+    put_contents(alloc, &mut text, &shown.contents)?;
     Ok(text)
 }
 
 /// The lines of what the datagram says, and of its canonical spelling.
 fn message_text(alloc: Global, datagram: &[u8]) -> Result<String, Refusal>
-    ensures { IfOk result (λ text. EndsCanonical datagram.now (string_bytes text)) }
+    ensures { MatchResult result (λ text. Shows datagram.now (string_bytes text)) (RefusesShow datagram.now) }
 {
-    let mut text = fields_text(alloc, datagram)?;
+    let shown = read_shown(datagram)?;
+    let mut text = fields_text(alloc, &shown)?;
     let spelling = canonical(alloc, datagram)?;
     let digits = hex::encode(alloc, spelling.as_slice())?;
     text.push_str("canonical ")?;
@@ -129,15 +163,25 @@ fn message_text(alloc: Global, datagram: &[u8]) -> Result<String, Refusal>
 
 /// The octets that one or more pairs of hex digits write, in either case.
 fn datagram_of(alloc: Global, digits: &str) -> Result<Option<Vec<u8>>, AllocError>
-    ensures { IfOk result (λ found. IfSome found (λ octets. decode_of digits.now ≡ Ok octets.items)) }
+    ensures { IfOk result (λ found. MatchOption found (IsNoHex digits.now) (λ octets. decode_of digits.now ≡ Ok octets.items)) }
 {
     if digits.is_empty() {
         return Ok(None);
     }
     match hex::decode(alloc, digits) {
         Ok(octets) => Ok(Some(octets)),
-        Err(FromHexError::OutOfMemory) => Err(AllocError),
-        Err(_) => Ok(None),
+        Err(fault) => no_octets(fault),
+    }
+}
+
+/// No octets, unless it was memory that was missing.
+fn no_octets(fault: FromHexError) -> Result<Option<Vec<u8>>, AllocError>
+    ensures nothing { IfOk result (λ found. IsNone found) }
+    ensures cause { OnOk result (fault ≢ hex_faults.OutOfMemory) }
+{
+    match fault {
+        FromHexError::OutOfMemory => Err(AllocError),
+        _ => Ok(None),
     }
 }
 
@@ -148,17 +192,29 @@ fn datagram_of(alloc: Global, digits: &str) -> Result<Option<Vec<u8>>, AllocErro
 /// (16). A refusal is a line on standard output, with status 1. A word that isn't one or more pairs of hex digits is told on
 /// standard error, with status 2.
 pub fn show_text(alloc: Global, digits: &str) -> Result<Output, AllocError>
-    ensures shown { IfOk result (λ output. output.status ≡ 0 → (datagram : List ℕ) × (decode_of digits.now ≡ Ok datagram) × EndsCanonical datagram output.out.items) }
+    ensures shown { IfOk result (λ output. output.status ≡ 0 → (datagram : List ℕ) × (decode_of digits.now ≡ Ok datagram) × Shows datagram output.out.items) }
+    ensures refused { IfOk result (λ output. output.status ≡ 1 → (datagram : List ℕ) × (refusal : Refused) × (decode_of digits.now ≡ Ok datagram)
+        × RefusesShow datagram refusal × (output.out.items ≡ refusal_line refusal)) }
+    ensures word { IfOk result (λ output. output.status ≡ 2 → IsNoHex digits.now) }
+    ensures status { IfOk result (λ output. output.status ≤ 2) }
 {
     let Some(datagram) = datagram_of(alloc, digits)? else {
         return Output::complaint(alloc, "bad word HEX");
     };
     match message_text(alloc, &datagram) {
         Ok(text) => Ok(Output::out(alloc, text.into_bytes(), 0)),
-        Err(Refusal::OutOfMemory) => Err(AllocError),
-        Err(refusal) => {
-            let line = format!(in alloc; "{refusal}\n")?;
-            Ok(Output::out(alloc, line.into_bytes(), 1))
-        }
+        Err(refusal) => refused(alloc, refusal),
     }
+}
+
+/// The line for a message that isn't shown.
+fn refused(alloc: Global, refusal: Refusal) -> Result<Output, AllocError>
+    ensures line { IfOk result (λ output. output.out.items ≡ refusal_line refusal) }
+    ensures status { IfOk result (λ output. output.status ≡ 1) }
+{
+    if refusal == Refusal::OutOfMemory {
+        return Err(AllocError);
+    }
+    let line = format!(in alloc; "{refusal}\n")?;
+    Ok(Output::out(alloc, line.into_bytes(), 1))
 }
