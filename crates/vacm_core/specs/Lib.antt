@@ -1,0 +1,4 @@
+pub mod Allowed
+pub mod Faults
+pub mod Tables
+pub mod Distinct
