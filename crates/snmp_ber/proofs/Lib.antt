@@ -4,3 +4,5 @@ pub mod Integers
 pub mod Spellings
 pub mod Oids
 pub mod Uniques
+pub mod Dotted
+pub mod Identifiers

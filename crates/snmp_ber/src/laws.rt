@@ -5,6 +5,7 @@ ghost use Rattle.snmp_ber.specs.Octets.{AreOctets};
 ghost use Rattle.snmp_ber.specs.Number.{IsInteger32};
 ghost use Rattle.snmp_ber.specs.Element.{IsTag, IsElement};
 ghost use Rattle.snmp_ber.specs.Spelling.{element, integer};
+ghost use Rattle.snmp_ber.specs.Oid.{AreArcs, IsObjectId, IsIdentifier, identifier};
 
 /// No spelling of an element begins another's, so a text begins with one element at most. The canonical spelling is a
 /// spelling, and none is shorter (X.690, sections 8.1.3 and 10.1).
@@ -22,4 +23,12 @@ pub fn one_integer()
     ensures spelled { (z : ℤ) → negsuc 2147483647 ≤ℤ z → z ≤ℤ pos 2147483647 → IsInteger32 z (integer z) }
     ensures range { (z : ℤ) (content : List ℕ) → AreOctets content → IsInteger32 z content → (negsuc 2147483647 ≤ℤ z) × (z ≤ℤ pos 2147483647) }
     ensures one { (z : ℤ) (a b : List ℕ) → AreOctets a → AreOctets b → IsInteger32 z a → IsInteger32 z b → a ≡ b }
+{}
+
+/// An identifier whose first two arcs a subidentifier can tell has one content, which is its canonical one, and a content
+/// is one identifier's (X.690, section 8.19).
+pub fn one_identifier()
+    ensures spelled { (arcs : List ℕ) → AreArcs arcs → IsObjectId arcs → IsIdentifier arcs (identifier arcs) }
+    ensures content { (arcs a b : List ℕ) → IsIdentifier arcs a → IsIdentifier arcs b → a ≡ b }
+    ensures arcs { (a b content : List ℕ) → IsIdentifier a content → IsIdentifier b content → a ≡ b }
 {}

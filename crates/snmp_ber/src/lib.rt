@@ -6,6 +6,7 @@
 
 mod element;
 mod fault;
+mod identifier;
 mod laws;
 mod level;
 mod number;
@@ -13,10 +14,13 @@ mod oid;
 
 pub use element::{Tlv, head_len, put_head, put_tlv, read_tlv};
 pub use fault::BerFault;
-pub use laws::{one_element, one_integer};
+pub use identifier::{oid_len, put_oid, read_oid};
+pub use laws::{one_element, one_identifier, one_integer};
 pub use level::Level;
 pub use number::{int_content, put_int, read_int};
-pub use oid::{Oid, read_oid};
+pub use oid::Oid;
 
+#[cfg(test)]
+mod identifier_tests;
 #[cfg(test)]
 mod tests;

@@ -91,9 +91,9 @@ fn elements_are_read_in_every_definite_form(rt: HostRuntime) {
 #[test]
 fn a_fault_is_at_the_element(rt: HostRuntime) {
     let octets = [0x04, 0x00, 0x04, 0x05, 0x0A];
-    assert_eq!(rt; read_tlv(&octets, 2, 5), Err(BerFault { at: 2 }));
-    assert_eq!(rt; read_tlv(&octets, 0, 1), Err(BerFault { at: 0 }));
-    assert_eq!(rt; read_tlv(&octets, 5, 5), Err(BerFault { at: 5 }));
+    assert_eq!(rt; read_tlv(&octets, 2, 5).err(), Some(BerFault { at: 2 }));
+    assert_eq!(rt; read_tlv(&octets, 0, 1).err(), Some(BerFault { at: 0 }));
+    assert_eq!(rt; read_tlv(&octets, 5, 5).err(), Some(BerFault { at: 5 }));
 }
 
 #[test]

@@ -1,0 +1,87 @@
+-- Decimals without sign or leading zeros, and the dotted text of arcs.
+use Rattle.std.proofs.Common.{◌≡◌, ◌≢◌, ℕ, zero, suc, ◌+◌, ◌<◌, ◌≤◌, ◌^◌, ◌⊎◌, eqb, false, List, [], ◌∷◌, ◌++◌, length, get_or, take, Option, Some, None, Result, Ok, Err, IfSome, refl, sym, ap, subst, ◌∙◌, append_assoc, arith, decimal, inl, inr, lit<}
+use Rattle.std.specs.Prelude.{map}
+use Rattle.std.specs.List.{AllByRecursion, All, slice_split, join_with_byte, flat_map}
+use Rattle.std.specs.Result.{result_ok}
+use Rattle.std.specs.Str.Parse.{ParsesUnsigned, AllDigits, digits_value}
+use Rattle.std.proofs.lemmas.Str.Parse.{IsNumeralModel, numerals_by_value, tells_digits, parse_plain, not_in_digits}
+use Rattle.std.proofs.lemmas.Fmt.{decimal_digit, first_decimal, decimal-digits_value, parse-decimal, digits_decimal, decimal_injective}
+use Rattle.std.proofs.lemmas.Bool.{cases_eq, ne_eqb}
+use Rattle.std.proofs.lemmas.List.{append-nil}
+use Rattle.std.proofs.lemmas.List.Elements.{All-from_get_or}
+use Rattle.std.proofs.lemmas.List.Splits.{slice_split_at, slice_split_none, join_with_byte-slice_split}
+use Rattle.snmp_ber.specs.Oid.{AreArcs, dotted}
+
+own : IsNumeralModel (AllDigits 10) (digits_value 10)
+own = numerals_by_value (AllDigits 10) tells_digits
+
+-- a sign, or a zero that leads
+abbrev pub BeginsWrongly : List ℕ → Type 0
+BeginsWrongly text = (get_or text 0 0 ≡ 43) ⊎ ((get_or text 0 0 ≡ 48) × (1 < length text))
+
+pub decimal_begins : (n : ℕ) (text : List ℕ) → n < 2 ^ 64 → text ≡ decimal n → BeginsWrongly text → ⊥
+decimal_begins n text h e wrong =
+    elim (cases_eq n 0) [
+      | inl none ↦
+          let digits : text ≡ 48 ∷ [] = e ∙ ap decimal none ∙ decimal_digit 0 (omega arith) in
+          let first : get_or text 0 0 ≡ 48 = ap (λ (t : List ℕ). get_or t 0 0) digits in
+          let long : length text ≡ 1 = ap length digits in
+          elim wrong [ inl plus ↦ omega arith | inr lead ↦ omega (arith, lead.1) ]
+      | inr some ↦
+          let first : 48 < get_or text 0 0 = rw e (first_decimal n (omega arith) h) in
+          elim wrong [ inl plus ↦ omega arith | inr lead ↦ omega (arith, lead.0) ]
+    ]
+
+pub decimal_found : {E : Type 0} (text : List ℕ) (r : Result ℕ E) → ParsesUnsigned 32 10 text r → get_or text 0 0 ≢ 43
+    → (get_or text 0 0 ≡ 48 → length text ≡ 1) → IfSome (result_ok r) (λ n. text ≡ decimal n)
+decimal_found {E} text (Ok n) h plus lead =
+    let read = parse_plain own {E = E} 32 text (Ok n) h plus in
+    sym (decimal-digits_value own text read.0.0 read.0.1 lead (omega (arith, read.0.2))) ∙ ap decimal (sym read.1)
+decimal_found text (Err e) h plus lead = tt
+
+pub decimal_all : {E : Type 0} (text : List ℕ) (r : Result ℕ E) → ParsesUnsigned 32 10 text r
+    → (n : ℕ) → n < 2 ^ 32 → text ≡ decimal n → result_ok r ≡ Some n
+decimal_all text r h n l e = ap result_ok (parse-decimal 32 n text r l (omega arith) e h)
+
+-- ---- dotted texts
+
+no_dot : (n : ℕ) → n < 2 ^ 64 → All (λ (b : ℕ). eqb b 46 ≡ false) (decimal n)
+no_dot n h = All-from_get_or (λ (b : ℕ). eqb b 46 ≡ false) (decimal n) 0 (λ i l. ne_eqb _ _ (not_in_digits own (decimal n) 46 (digits_decimal own n h) (λ r. omega (arith, r.0)) i l))
+
+pub split_dotted : (a : ℕ) (arcs : List ℕ) → AllByRecursion (λ arc. arc < 2 ^ 32) (a ∷ arcs) → slice_split (λ (b : ℕ). eqb b 46) (dotted (a ∷ arcs)) ≡ map decimal (a ∷ arcs)
+split_dotted a [] h = slice_split_none (λ (b : ℕ). eqb b 46) (decimal a) (no_dot a (omega (arith, h.0)))
+split_dotted a (b ∷ arcs) h =
+    slice_split_at (λ (b : ℕ). eqb b 46) (decimal a) 46 (dotted (b ∷ arcs)) (no_dot a (omega (arith, h.0))) refl
+    ∙ ap (λ (pieces : List (List ℕ)). decimal a ∷ pieces) (split_dotted b arcs h.1)
+
+-- the pieces of the dotted text of arcs
+pub dotted_pieces : (text arcs : List ℕ) → AreArcs arcs → text ≡ dotted arcs → slice_split (λ (b : ℕ). eqb b 46) text ≡ map decimal arcs
+dotted_pieces text [] h e = absurd (omega (arith, h.some))
+dotted_pieces text (a ∷ arcs) h e = ap (slice_split (λ (b : ℕ). eqb b 46)) e ∙ split_dotted a arcs h.limit
+
+-- the text whose pieces are decimals is dotted
+pub dotted_from : (text arcs : List ℕ) → slice_split (λ (b : ℕ). eqb b 46) text ≡ map decimal arcs → text ≡ dotted arcs
+dotted_from text arcs e = sym (join_with_byte-slice_split 46 text) ∙ ap (join_with_byte 46) e
+
+pub same_arcs : (xs ys : List ℕ) → AllByRecursion (λ arc. arc < 2 ^ 32) xs → AllByRecursion (λ arc. arc < 2 ^ 32) ys → map decimal xs ≡ map decimal ys → xs ≡ ys
+same_arcs [] [] a b e = refl
+same_arcs [] (y ∷ ys) a b e = absurd cc
+same_arcs (x ∷ xs) [] a b e = absurd cc
+same_arcs (x ∷ xs) (y ∷ ys) a b e =
+    let first : decimal x ≡ decimal y = ap (λ (ps : List (List ℕ)). get_or ps 0 []) e in
+    let others : map decimal xs ≡ map decimal ys = cc in
+    rw (decimal_injective x y (omega (arith, a.0)) (omega (arith, b.0)) first, same_arcs xs ys a.1 b.1 others) refl
+
+-- the decimal of each of the arcs in its place
+pub piece_at : (arcs : List ℕ) (i : ℕ) (d : List ℕ) → AllByRecursion (λ arc. arc < 2 ^ 32) arcs → i < length arcs → (arc : ℕ) × (arc < 2 ^ 32) × (get_or (map decimal arcs) i d ≡ decimal arc)
+piece_at [] i d h l = absurd (omega arith)
+piece_at (a ∷ arcs) zero d h l = (a, h.0, refl)
+piece_at (a ∷ arcs) (suc i) d h l = piece_at arcs i d h.1 (omega arith)
+
+-- the same text, as it is printed
+abbrev pub dot_before : ℕ → List ℕ
+dot_before arc = 46 ∷ decimal arc
+
+pub dotted_printed : (a : ℕ) (arcs : List ℕ) → dotted (a ∷ arcs) ≡ decimal a ++ flat_map dot_before arcs
+dotted_printed a [] = sym (append-nil (decimal a))
+dotted_printed a (b ∷ arcs) = ap (λ (t : List ℕ). decimal a ++ (46 ∷ t)) (dotted_printed b arcs)

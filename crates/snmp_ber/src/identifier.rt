@@ -1,0 +1,189 @@
+//! The content of an OBJECT IDENTIFIER (X.690, section 8.19).
+
+ghost use Rattle.std.specs.Prelude.{◌≡◌, ℕ, ◌+◌, ◌<◌, ◌≤◌, ◌↔◌, ◌++◌, ◌∷◌, List, Some, length, IfSome, OnOk, OnErr, option_map, option_and_then, vec_len, vec_capacity};
+ghost use Rattle.snmp_ber.specs.Oid.{IsObjectId, IsIdentifier, subidentifiers, subidentifiers_in, at_most, identifier_in, group_count, subidentifier, identifier};
+ghost use Rattle.snmp_ber.specs.Spelling.{element, head_size};
+
+use crate::element::{head_len, put_tlv};
+use crate::oid::Oid;
+use arrayvec::ArrayVec;
+use std::alloc::AllocError;
+
+/// The tag of an OBJECT IDENTIFIER.
+const OBJECT_IDENTIFIER: u8 = 0x06;
+
+/// The subidentifiers that the octets are, at most 127.
+fn read_subidentifiers(content: &[u8]) -> Option<ArrayVec<u32, 127>>
+    ensures { option_map (λ v. v.items) result ≡ option_and_then (at_most 127) (subidentifiers_in 0 content.now) }
+{
+    let mut numbers = ArrayVec::new();
+    let mut high: u32 = 0;
+    for octet in content {
+        if high > 0x1ff_ffff {
+            return None;
+        }
+        if *octet < 128 {
+            if numbers.is_full() {
+                return None;
+            }
+            numbers.push(128 * high + u32::from(*octet));
+            high = 0;
+        } else {
+            high = 128 * high + (u32::from(*octet) - 128);
+            if high == 0 {
+                return None;
+            }
+        }
+    }
+    if high == 0 { Some(numbers) } else { None }
+}
+
+/// The arcs, of which the first subidentifier tells two.
+#[tactic(auto, unfolding(crate::specs::Oid::identifier_in))]
+fn read_arcs(content: &[u8]) -> Option<ArrayVec<u32, 128>>
+    ensures value { option_map (λ v. v.items) result ≡ identifier_in content.now }
+    ensures some { IfSome result (λ v. 1 ≤ length v.items) }
+    ensures most { IfSome result (λ v. length v.items ≤ 128) }
+{
+    let numbers = read_subidentifiers(content)?;
+    let [first, others @ ..] = numbers.as_slice() else {
+        return None;
+    };
+    let (top, second) = if *first < 40 {
+        (0, *first)
+    } else if *first < 80 {
+        (1, *first - 40)
+    } else {
+        (2, *first - 80)
+    };
+    let mut arcs = ArrayVec::new();
+    arcs.push(top);
+    arcs.push(second);
+    let Ok(()) = arcs.try_extend_from_slice(others) else {
+        unreachable!();
+    };
+    Some(arcs)
+}
+
+/// The identifier whose content this is. It is `None` where the content isn't one to 127 subidentifiers, each at most
+/// 4,294,967,295 and in the fewest octets.
+pub fn read_oid(content: &[u8]) -> Option<Oid>
+    ensures value { (arcs : List ℕ) → (result ≡ Some arcs) ↔ IsIdentifier arcs content.now }
+    ensures exact { result ≡ identifier_in content.now }
+{
+    let arcs = read_arcs(content)?;
+    Some(Oid::from_arcs(arcs))
+}
+
+/// How many groups of seven bits a number takes.
+fn count_groups(number: u32) -> usize
+    ensures count { result ≡ group_count number }
+    ensures most { result ≤ 5 }
+{
+    if number < 0x80 {
+        1
+    } else if number < 0x4000 {
+        2
+    } else if number < 0x20_0000 {
+        3
+    } else if number < 0x1000_0000 {
+        4
+    } else {
+        5
+    }
+}
+
+/// The groups of seven bits of a number, the high group first, with bit 8 set on all but the last.
+#[tactic(auto, unfolding(crate::specs::Oid::subidentifier))]
+fn groups(number: u32) -> ArrayVec<u8, 5>
+    ensures { result.items ≡ subidentifier number }
+{
+    let octets = [
+        128 + (number / 0x1000_0000) as u8,
+        128 + (number / 0x20_0000 % 128) as u8,
+        128 + (number / 0x4000 % 128) as u8,
+        128 + (number / 128 % 128) as u8,
+        (number % 128) as u8,
+    ];
+    let mut groups = ArrayVec::new();
+    let Ok(()) = groups.try_extend_from_slice(&octets[5 - count_groups(number)..]) else {
+        unreachable!();
+    };
+    groups
+}
+
+/// The first subidentifier, which tells the first two arcs, and the arcs after them.
+fn split_first(oid: &Oid) -> (u32, &[u32])
+    requires { IsObjectId oid.now }
+    ensures numbers { subidentifiers oid.now ≡ result.0 ∷ result.1.now }
+    ensures most { length result.1.now ≤ 126 }
+{
+    let [top, second, others @ ..] = oid.as_slice() else {
+        unreachable!();
+    };
+    (40 * *top + *second, others)
+}
+
+/// Appends the groups of a number.
+fn push_groups(content: &mut ArrayVec<u8, 635>, number: u32)
+    requires { length content.old.items ≤ 630 }
+    ensures { content.new.items ≡ content.old.items ++ subidentifier number }
+{
+    let Ok(()) = content.try_extend_from_slice(&groups(number)) else {
+        unreachable!();
+    };
+}
+
+/// The content of the OBJECT IDENTIFIER of an identifier.
+#[tactic(auto, unfolding(crate::specs::Oid::identifier))]
+fn oid_content(oid: &Oid) -> ArrayVec<u8, 635>
+    requires { IsObjectId oid.now }
+    ensures spelled { result.items ≡ identifier oid.now }
+    ensures most { length result.items ≤ 635 }
+{
+    let (first, others) = split_first(oid);
+    let mut content = ArrayVec::new();
+    push_groups(&mut content, first);
+    for arc in others {
+        push_groups(&mut content, *arc);
+    }
+    content
+}
+
+/// How many octets the content of the OBJECT IDENTIFIER of an identifier has.
+#[tactic(auto, unfolding(crate::specs::Oid::identifier))]
+fn content_len(oid: &Oid) -> usize
+    requires { IsObjectId oid.now }
+    ensures size { result ≡ length (identifier oid.now) }
+    ensures most { result ≤ 635 }
+{
+    let (first, others) = split_first(oid);
+    let mut size = count_groups(first);
+    for arc in others {
+        size += count_groups(*arc);
+    }
+    size
+}
+
+/// How many octets `put_oid` appends.
+pub fn oid_len(oid: &Oid) -> usize
+    requires { IsObjectId oid.now }
+    ensures size { result ≡ length (element 6 (identifier oid.now)) }
+    ensures most { result ≤ 641 }
+{
+    let size = content_len(oid);
+    head_len(size) + size
+}
+
+/// Appends the OBJECT IDENTIFIER of an identifier with `is_object_id`, in its shortest spelling.
+///
+/// The error is want of memory: it comes only where the room that is left is too small, and changes nothing.
+pub fn put_oid(out: &mut Vec<u8>, oid: &Oid) -> Result<(), AllocError>
+    requires { IsObjectId oid.now }
+    ensures ok { OnOk result (out.new.items ≡ out.old.items ++ element 6 (identifier oid.now)) }
+    ensures err { OnErr result (out.new.items ≡ out.old.items) }
+    ensures full { OnErr result (vec_capacity out.old < vec_len out.old + length (element 6 (identifier oid.now))) }
+    ensures size { OnOk result (vec_len out.new ≤ vec_len out.old + 641) }
+{
+    put_tlv(out, OBJECT_IDENTIFIER, &oid_content(oid))
+}
