@@ -123,13 +123,13 @@ pub fn head_len(size: usize) -> usize
     ensures size { result ≡ head_size size }
     ensures most { result ≤ 6 }
 {
-    if size < 0x80 {
+    if size < 128 {
         2
-    } else if size < 0x100 {
+    } else if size < 256 {
         3
-    } else if size < 0x1_0000 {
+    } else if size < 65_536 {
         4
-    } else if size < 0x100_0000 {
+    } else if size < 16_777_216 {
         5
     } else {
         6

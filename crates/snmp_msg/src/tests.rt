@@ -23,6 +23,12 @@ fn discovery() -> &'static [u8]
     &DISCOVERY
 }
 
+/// The discovery request without its last octet.
+fn shortened() -> &'static [u8] {
+    let datagram = discovery();
+    &datagram[0..57]
+}
+
 /// The discovery request with another octet at one place.
 fn changed(alloc: Global, place: usize, octet: u8) -> Result<Vec<u8>, AllocError>
     requires { place < 58 }
@@ -84,7 +90,7 @@ fn a_discovery_holds_a_scoped_pdu(rt: HostRuntime) -> Result<(), Fail> {
 fn a_broken_frame_is_no_message(rt: HostRuntime) -> Result<(), Fail> {
     let alloc = rt.alloc();
     assert_eq!(rt;
-        read_message(&discovery()[..57]),
+        read_message(shortened()),
         Err(MsgFault::NotMessage { at: 0 })
     );
     assert_eq!(rt; read_message(&[]), Err(MsgFault::NotMessage { at: 0 }));

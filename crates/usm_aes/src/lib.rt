@@ -1,13 +1,17 @@
-// A library with one function.
+//! AES-128 (FIPS 197) and its cipher feedback mode as SNMPv3 uses it for privacy (RFC 3826).
+//!
+//! A key is [`expand`]ed once to its [`Schedule`]. [`cfb_seal`] and [`cfb_open`] work in place on
+//! texts of any length, under the [`iv`] of the message. No call takes memory, and none refuses.
 #![tactic(auto)]
 
-ghost use Rattle.std.specs.Prelude.{◌≡◌};
-ghost use Rattle.usm_aes.specs.Echo.{echo_of};
+pub use cipher::encrypt_block;
+pub use feedback::{cfb_open, cfb_seal, iv};
+pub use key_expansion::{Schedule, expand};
 
-// The `ensures` clause is the contract: what `echo` returns is `echo_of` of its argument, a definition
-// in `specs/Echo.antt`, which a caller's clause can cite too.
-pub fn echo(x: usize) -> usize
-    ensures { result ≡ echo_of x }
-{
-    x
-}
+mod cipher;
+mod feedback;
+mod field;
+mod key_expansion;
+pub mod laws;
+#[cfg(test)]
+mod tests;

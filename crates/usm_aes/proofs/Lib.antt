@@ -1,0 +1,10 @@
+pub mod Checks
+pub mod Polynomials
+pub mod Octets
+pub mod Remainders
+pub mod Inverses
+pub mod RoundConstants
+pub mod Rounds
+pub mod Words
+pub mod Sealings
+pub mod InPlace

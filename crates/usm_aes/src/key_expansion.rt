@@ -1,0 +1,98 @@
+ghost use Rattle.std.specs.Prelude.{◌≡◌, ◌<◌, ◌≤◌};
+ghost use Rattle.usm_aes.specs.Aes.{expanded_word, rot_word as rot_word_of, round_constant as round_constant_of, schedule, sub_word as sub_word_of, word as word_of, xor_words as xor_words_of};
+
+use crate::field::substitute;
+use std::marker::Model;
+
+// The words of a schedule: four for each round, and four before the first.
+const WORDS: usize = 44;
+
+// The powers of x from x^0 on: the first octets of the round constants, of which the others are 0.
+static ROUND_CONSTANTS: [u8; 10] = [0x01, 0x02, 0x04, 0x08, 0x10, 0x20, 0x40, 0x80, 0x1B, 0x36];
+
+/// The key schedule (FIPS 197, section 5.2): the 44 words of four octets that a key expands to.
+#[derive(Drop)]
+pub struct Schedule {
+    words: [[u8; 4]; WORDS],
+}
+
+impl Model for Schedule {
+    ghost use Rattle.std.specs.Prelude.{List, ℕ};
+
+    ghost Value = { List (List ℕ) };
+
+    ghost view = { λ s. s.words };
+}
+
+impl Schedule {
+    // The word with number i.
+    pub(crate) fn word(&self, i: usize) -> [u8; 4]
+        requires { i < 44 }
+        ensures { result ≡ word_of self.now i }
+    {
+        self.words[i]
+    }
+}
+
+/// The key expansion (FIPS 197, section 5.2) of a key of 128 bits.
+pub fn expand(key: &[u8; 16]) -> Schedule
+    ensures { result ≡ schedule key.now }
+{
+    let mut words = [[0; 4]; WORDS];
+    words[0] = [key[0], key[1], key[2], key[3]];
+    words[1] = [key[4], key[5], key[6], key[7]];
+    words[2] = [key[8], key[9], key[10], key[11]];
+    words[3] = [key[12], key[13], key[14], key[15]];
+    for i in 4..WORDS {
+        words[i] = expand_word(words[i - 4], words[i - 1], i);
+    }
+    Schedule { words }
+}
+
+// Word i, from the word four before it and the word before it.
+fn expand_word(four_before: [u8; 4], before: [u8; 4], i: usize) -> [u8; 4]
+    requires from_four { 4 ≤ i }
+    requires in_schedule { i < 44 }
+    ensures { result ≡ expanded_word four_before before i }
+{
+    if i % 4 != 0 {
+        return xor_words(four_before, before);
+    }
+    let changed = xor_words(sub_word(rot_word(before)), round_constant(i / 4));
+    xor_words(four_before, changed)
+}
+
+// The constant of a round, counted from 1.
+fn round_constant(round: usize) -> [u8; 4]
+    requires from_one { 1 ≤ round }
+    requires at_most_ten { round ≤ 10 }
+    ensures { result ≡ round_constant_of round }
+{
+    [ROUND_CONSTANTS[round - 1], 0, 0, 0]
+}
+
+// The word turned left by one octet.
+fn rot_word(word: [u8; 4]) -> [u8; 4]
+    ensures { result ≡ rot_word_of word }
+{
+    [word[1], word[2], word[3], word[0]]
+}
+
+// The S-box at each octet of the word.
+fn sub_word(word: [u8; 4]) -> [u8; 4]
+    ensures { result ≡ sub_word_of word }
+{
+    [
+        substitute(word[0]),
+        substitute(word[1]),
+        substitute(word[2]),
+        substitute(word[3]),
+    ]
+}
+
+// The sum of two words.
+fn xor_words(a: [u8; 4], b: [u8; 4]) -> [u8; 4]
+    ensures { result ≡ xor_words_of a b }
+{
+    [a[0] ^ b[0], a[1] ^ b[1], a[2] ^ b[2], a[3] ^ b[3]]
+}
