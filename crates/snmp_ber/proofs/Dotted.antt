@@ -1,5 +1,5 @@
 -- Decimals without sign or leading zeros, and the dotted text of arcs.
-use Rattle.std.proofs.Common.{◌≡◌, ◌≢◌, ℕ, zero, suc, ◌+◌, ◌<◌, ◌≤◌, ◌^◌, ◌⊎◌, eqb, false, List, [], ◌∷◌, ◌++◌, length, get_or, take, Option, Some, None, Result, Ok, Err, IfSome, refl, sym, ap, subst, ◌∙◌, append_assoc, arith, decimal, inl, inr, lit<}
+use Rattle.std.proofs.Common.{◌≡◌, ◌≢◌, ℕ, zero, suc, ◌<◌, ◌^◌, ◌⊎◌, eqb, false, List, [], ◌∷◌, ◌++◌, length, get_or, Some, Result, Ok, Err, IfSome, refl, sym, ap, ◌∙◌, arith, decimal, inl, inr}
 use Rattle.std.specs.Prelude.{map}
 use Rattle.std.specs.List.{AllByRecursion, All, slice_split, join_with_byte, flat_map}
 use Rattle.std.specs.Result.{result_ok}

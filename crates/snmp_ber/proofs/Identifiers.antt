@@ -1,11 +1,11 @@
 -- The canonical content of an identifier: it is one, and it is the only one.
-use Rattle.std.proofs.Common.{◌≡◌, ◌≢◌, ℕ, zero, suc, ◌+◌, ◌-◌, ◌*◌, ◌/◌, ◌%◌, ◌<◌, ◌≤◌, ◌^◌, ltb, List, [], ◌∷◌, ◌++◌, length, take, get_or, Some, None, refl, sym, ap, subst, ◌∙◌, arith, inl, inr}
-use Rattle.std.specs.Prelude.{map, fold, slice_get}
+use Rattle.std.proofs.Common.{◌≡◌, ◌≢◌, ℕ, zero, suc, ◌+◌, ◌*◌, ◌/◌, ◌%◌, ◌<◌, ◌≤◌, ◌^◌, List, [], ◌∷◌, ◌++◌, length, take, get_or, Some, refl, sym, ap, ◌∙◌, arith, inl, inr}
+use Rattle.std.specs.Prelude.{map, slice_get}
 use Rattle.std.specs.List.{AllByRecursion, flat_map}
 use Rattle.std.proofs.lemmas.List.{length-append, length-take-le, flat_map_more, take_more}
 use Rattle.std.proofs.lemmas.Option.{same_Some}
 use Rattle.std.proofs.lemmas.Bool.{cases_lt, le-ltb, lt-ltb}
-use Rattle.snmp_ber.specs.Oid.{base_128, IsSubidentifier, AreSubidentifiers, AreArcs, IsObjectId, IsIdentifier, subidentifiers, group_count, subidentifier, identifier, identifier_in}
+use Rattle.snmp_ber.specs.Oid.{base_128, IsSubidentifier, AreSubidentifiers, AreArcs, IsObjectId, IsIdentifier, subidentifiers, group_count, subidentifier, identifier}
 use Rattle.snmp_ber.proofs.Oids.{identifier_in-again}
 
 -- ---- how many groups a number takes

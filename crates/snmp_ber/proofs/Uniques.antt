@@ -1,12 +1,12 @@
 -- A number has one content in two's complement and the fewest octets.
-use Rattle.std.proofs.Common.{◌≡◌, ℕ, zero, suc, ◌+◌, ◌*◌, ◌-◌, ◌^◌, ◌<◌, ◌≤◌, ltb, List, [], ◌∷◌, ◌++◌, length, get_or, fold, refl, sym, ap, subst, ◌∙◌, arith, inl, inr, ℤ, pos, negsuc, ◌-ℤ◌, ◌≤ℤ◌, FitsSigned, w32}
+use Rattle.std.proofs.Common.{◌≡◌, ℕ, zero, suc, ◌+◌, ◌*◌, ◌-◌, ◌^◌, ◌<◌, ◌≤◌, List, [], ◌∷◌, ◌++◌, length, get_or, fold, refl, sym, ap, subst, ◌∙◌, arith, inl, inr, ℤ, pos, negsuc, ◌≤ℤ◌, FitsSigned, w32}
 use Rattle.std.proofs.lemmas.Int.{ints}
 use Rattle.std.proofs.lemmas.Bool.{cases_lt, le-ltb, lt-ltb}
-use Rattle.snmp_ber.specs.Number.{number, signed_number, IsFewest, IsInteger, IsInteger32}
+use Rattle.snmp_ber.specs.Number.{number, signed_number, IsFewest, IsInteger32}
 use Rattle.std.proofs.lemmas.List.{length-append}
 use Rattle.snmp_ber.specs.Element.{IsLength, IsElement}
 use Rattle.snmp_ber.specs.Spelling.{shortest_length, element, octet_count}
-use Rattle.snmp_ber.proofs.Integers.{signed_number-positive, signed_number-negative, signed_number-low, signed_number-high, signed_number-fits, powers_rise}
+use Rattle.snmp_ber.proofs.Integers.{signed_number-low, signed_number-high, signed_number-fits, powers_rise}
 use Rattle.snmp_ber.specs.Octets.{AreOctets}
 
 -- digits in base 256 are those of their number, where there are as many

@@ -35,7 +35,10 @@ fn read_subidentifiers(content: &[u8]) -> Option<ArrayVec<u32, 127>>
             }
         }
     }
-    if high == 0 { Some(numbers) } else { None }
+    if high > 0 {
+        return None;
+    }
+    Some(numbers)
 }
 
 /// The arcs, of which the first subidentifier tells two.

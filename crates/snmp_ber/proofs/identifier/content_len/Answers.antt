@@ -1,4 +1,4 @@
-use Rattle.std.proofs.Common.{length, ap, ◌∙◌, get_or, arith, sym, refl}
+use Rattle.std.proofs.Common.{length, ap, ◌∙◌, get_or, arith, sym}
 use Rattle.std.proofs.lemmas.List.{append-nil, length-append}
 use Rattle.snmp_ber.specs.Oid.{subidentifier}
 use Rattle.snmp_ber.proofs.Identifiers.{subidentifier-length, subidentifiers_more, subidentifiers_so_far}

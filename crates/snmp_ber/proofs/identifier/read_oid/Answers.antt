@@ -1,4 +1,4 @@
-use Rattle.std.proofs.Common.{◌≡◌, ℕ, List, Some, arith, ap, ◌∙◌}
+use Rattle.std.proofs.Common.{ℕ, List, Some, arith, ap, ◌∙◌}
 use Rattle.snmp_ber.proofs.Oids.{read_exactly}
 use Rattle.snmp_ber.proofs.identifier.read_oid.Goals as goal
 

@@ -1,5 +1,4 @@
-use Rattle.std.proofs.Common.{◌∙◌, decimal, arith}
-use Rattle.std.specs.Str.Parse.{ParsesUnsigned}
+use Rattle.std.proofs.Common.{◌∙◌, arith}
 use Rattle.snmp_ber.proofs.Dotted.{decimal_begins, decimal_found, decimal_all}
 use Rattle.snmp_ber.proofs.oid.read_arc.Goals as goal
 

@@ -1,6 +1,4 @@
-use Rattle.std.proofs.Common.{Bor, ◌≡◌, ◌<◌, ◌≤◌, ℕ, eqb, List, length, get_or, Some, ap, sym, ◌∙◌, decimal, arith, rules, lit<}
-use Rattle.std.specs.Prelude.{map}
-use Rattle.std.specs.List.{slice_split}
+use Rattle.std.proofs.Common.{Bor, ◌≡◌, ◌<◌, ◌≤◌, ℕ, List, length, get_or, Some, ap, sym, ◌∙◌, decimal, arith, rules, lit<}
 use Rattle.std.proofs.lemmas.List.{length-map}
 use Rattle.std.proofs.lemmas.Iterator.Consumers.{YieldsList-turn, YieldsList-end}
 use Rattle.std.proofs.lemmas.Iterator.Splits.{YieldsList-from_str_split}
