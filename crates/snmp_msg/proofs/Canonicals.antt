@@ -1,9 +1,7 @@
 -- A message with all its layers: which fault comes first, and the laws of its canonical spelling.
-use Rattle.std.proofs.Common.{◌≡◌, ◌⊎◌, ℕ, ◌+◌, ◌-◌, ◌≤◌, ◌<◌, true, false, List, ◌++◌, length, Option, Some, None, Result, Ok, Err, refl, sym, ap, subst, ◌∙◌, append_assoc, arith, inl, inr}
-use Rattle.std.specs.Prelude.{slice_range, MatchResult, MatchOption, IsErrAnd}
-use Rattle.std.proofs.lemmas.Bool.{cases_lt}
-use Rattle.std.proofs.lemmas.List.{length-append}
-use Rattle.snmp_ber.specs.Spelling.{head_of, head_size, element}
+use Rattle.std.proofs.Common.{◌≡◌, ◌⊎◌, ℕ, ◌+◌, ◌-◌, ◌≤◌, ◌<◌, true, false, List, length, Option, Some, None, Result, Ok, Err, refl, sym, ap, subst, ◌∙◌, arith, inl, inr}
+use Rattle.std.specs.Prelude.{MatchResult, MatchOption, IsErrAnd}
+use Rattle.snmp_ber.specs.Spelling.{head_size}
 use Rattle.snmp_msg.specs.declared.header.Header.{Header}
 use Rattle.snmp_msg.specs.declared.scoped.Scoped.{Scoped}
 use Rattle.snmp_msg.specs.declared.fault.MsgFault.{MsgFault}
@@ -12,15 +10,15 @@ use Rattle.snmp_msg.specs.declared.fault.WriteFault.{WriteFault}
 use Rattle.snmp_msg.specs.declared.fault.WriteFault.TheVariants as writes
 use Rattle.snmp_msg.specs.Layout.{Parts, Outer, IsGlobal}
 use Rattle.snmp_msg.specs.Security.{Fields, SecText, FieldsFit, IsShort, fields_text, security_text, placed}
-use Rattle.snmp_msg.specs.Scoped.{Contexts, ScopedContent, HasScoped, HasSealed, IsOneElement, contexts_of, contexts_size, contexts_text, contexts_placed}
-use Rattle.snmp_msg.specs.Pdu.{PduParts, PduText, PduFits, pdu_text}
-use Rattle.snmp_msg.specs.Spelling.{HeaderFits, header_text, content_size, message_text, written}
+use Rattle.snmp_msg.specs.Scoped.{Contexts, ScopedContent, HasScoped, HasSealed, IsOneElement, contexts_of, contexts_placed}
+use Rattle.snmp_msg.specs.Pdu.{PduParts, PduText, SaysPdu, pdu_text}
+use Rattle.snmp_msg.specs.Spelling.{HeaderFits, content_size, message_text, written}
 use Rattle.snmp_msg.specs.Canonical.{DataParts, sealed, plain, Whole, SaysData, Says, data_tag_of, data_content_of, whole_text, IsCanonical, DataFits, WholeFits, IsShortData}
 use Rattle.snmp_msg.specs.Refusals.{RefusesSecurity, RefusesPdu, RefusesWhole, RefusesCanonical, AgreesWithPriv, canon_fault}
 use Rattle.snmp_msg.proofs.Outers.{one_outer}
 use Rattle.snmp_msg.proofs.Securities.{one_security}
-use Rattle.snmp_msg.proofs.Scopeds.{one_scoped, contexts_text-length, contexts_text-is, data_stands}
-use Rattle.snmp_msg.proofs.Pdus.{one_pdu, pdu_fits, pdu_text-is}
+use Rattle.snmp_msg.proofs.Scopeds.{one_scoped, contexts_text-length, contexts_text-is}
+use Rattle.snmp_msg.proofs.Pdus.{one_said, said_spelled, says_itself, pdu_text-longer}
 use Rattle.snmp_msg.proofs.Filled.{fields_text-longer, security_text-is}
 use Rattle.snmp_msg.proofs.Writes.{measured_message, message_text-longer, message_text-is}
 
@@ -73,6 +71,12 @@ short_data_of (plain engine name p) size = let inner = contexts_text-length engi
 pub short_data : (m : Whole) → length (whole_text m) ≤ 65507 → IsShortData m.contents
 short_data m size = let longer = whole_text-longer m in short_data_of m.contents (omega arith)
 
+-- a message is at least as long as the list in it
+pub list_in_whole : (engine name : List ℕ) (p : PduParts) → length p.list ≤ length (data_content_of (plain engine name p))
+list_in_whole engine name p =
+    let longer = pdu_text-longer p in
+    omega (arith, contexts_text-length engine name (pdu_text p), longer.0, longer.1)
+
 -- a size that was computed is that of the text
 pub measured_whole : (m : Whole) (size security_size data_size : ℕ) → security_size ≡ length (security_text m.security) → data_size ≡ length (data_content_of m.contents)
     → (let inner = content_size m.header security_size data_size in size ≡ head_size inner + inner) → length (whole_text m) ≡ size
@@ -92,10 +96,10 @@ same_scoped w m s t a b = one_scoped (length w - length m.data_content) m.data_c
 same_plain : (w : List ℕ) (m : Parts) (a b c d : List ℕ) (p q : PduParts) → SaysData w m (plain a b p) → SaysData w m (plain c d q) → plain a b p ≡ plain c d q
 same_plain w m a b c d p q h k =
     let same = one_scoped (length w - length m.data_content) m.data_content h.0 k.0 h.1.2 k.1.2 in
-    let pdu : PduText h.0.pdu q = subst (λ (s : Contexts). PduText s.pdu q) (sym same) k.2 in
+    let pdu : SaysPdu h.0.pdu q = subst (λ (s : Contexts). SaysPdu s.pdu q) (sym same) k.2 in
     let engines : a ≡ c = h.3 ∙ ap (λ (s : Contexts). s.engine) same ∙ sym k.3 in
     let names : b ≡ d = h.4 ∙ ap (λ (s : Contexts). s.name) same ∙ sym k.4 in
-    rw (engines, names, one_pdu h.0.pdu p q h.2 pdu) refl
+    rw (engines, names, one_said h.0.pdu p q h.2 pdu) refl
 
 same_data : (w : List ℕ) (m : Parts) (d e : DataParts) → SaysData w m d → SaysData w m e → d ≡ e
 same_data w m (sealed a) (sealed b) h k = ap sealed (h.1 ∙ sym k.1)
@@ -131,7 +135,7 @@ fields_fit at x s t = record { boots = t.is_boots.at_most; time = t.is_time.at_m
 
 data_fits : (w : List ℕ) (m : Parts) (d : DataParts) → SaysData w m d → DataFits d
 data_fits w m (sealed octets) h = tt
-data_fits w m (plain engine name p) h = pdu_fits h.0.pdu p h.2
+data_fits w m (plain engine name p) h = said_spelled h.0.pdu p h.2
 
 pub whole_fits : (w : List ℕ) (m : Whole) → Says w m → WholeFits m
 whole_fits w m h = record {
@@ -154,18 +158,20 @@ tag_allowed : (d : DataParts) → (data_tag_of d ≡ 48) ⊎ (data_tag_of d ≡ 
 tag_allowed (sealed octets) = inr refl
 tag_allowed (plain engine name p) = inl refl
 
-one_element_of : (p : PduParts) → PduFits p → IsOneElement (pdu_text p)
-one_element_of p fits = let t = pdu_text-is p fits in (p.tag, t.content, t.is_whole)
+one_element_of : (z : List ℕ) (p : PduParts) → SaysPdu z p → IsOneElement z
+one_element_of z p h = let t = h.is_pdu in (h.as_read.tag, t.content, t.is_whole)
 
 contents_again : (c : List ℕ) (w : List ℕ) (m n : Parts) (d : DataParts) → SaysData w m d → DataFits d → n.header ≡ m.header → n.data_tag ≡ data_tag_of d → n.data_content ≡ data_content_of d → length (data_content_of d) ≤ 65507 → SaysData c n d
 contents_again c w m n (sealed octets) h fits header tag content size = ((ap (λ (x : Header). x.privacy) header ∙ h.0.0, tag), sym content)
 contents_again c w m n (plain engine name p) h fits header tag content size =
     let at = length c - length n.data_content in
     let short = short_data_of (plain engine name p) size in
-    let t = contexts_text-is at engine name (pdu_text p) (one_element_of p fits) short.0 short.1 in (
+    let inner = contexts_text-length engine name (pdu_text p) in
+    let pdu = says_itself p fits (omega arith) in
+    let t = contexts_text-is at engine name (pdu_text p) (one_element_of (pdu_text p) p pdu) short.0 short.1 in (
       contexts_placed at engine name (pdu_text p),
       (ap (λ (x : Header). x.privacy) header ∙ h.1.0, tag, subst (λ (z : List ℕ). ScopedContent at z (contexts_placed at engine name (pdu_text p))) (sym content) t),
-      pdu_text-is p fits,
+      pdu,
       refl,
       refl,
     )

@@ -1,10 +1,10 @@
 -- Messages that differ in msgAuthenticationParameters alone.
-use Rattle.std.proofs.Common.{◌≡◌, ◌⊎◌, ℕ, ◌+◌, ◌≤◌, List, ◌++◌, length, take, drop, refl, sym, ap, subst, ◌∙◌, append_assoc, arith, pos}
+use Rattle.std.proofs.Common.{◌≡◌, ◌⊎◌, ℕ, ◌+◌, ◌≤◌, List, ◌++◌, length, take, drop, refl, sym, ap, subst, ◌∙◌, append_assoc, arith}
 use Rattle.std.proofs.lemmas.List.{length-append, take_at, drop_at}
-use Rattle.snmp_ber.specs.Spelling.{head_of, element, shortest_length}
+use Rattle.snmp_ber.specs.Spelling.{head_of, element}
 use Rattle.snmp_ber.proofs.Spellings.{head_of-is, element-is}
 use Rattle.snmp_msg.specs.declared.header.Header.{Header}
-use Rattle.snmp_msg.specs.Layout.{Parts, Outer}
+use Rattle.snmp_msg.specs.Layout.{Parts}
 use Rattle.snmp_msg.specs.Security.{Fields, FieldsFit, SecText, IsCut, fields_text, security_text, placed, with_auth}
 use Rattle.snmp_msg.specs.Spelling.{HeaderFits, number, header_text, content_text, message_text, written}
 use Rattle.snmp_msg.proofs.Writes.{number-is, element_length, message_text-is, message_text-longer}

@@ -9,3 +9,5 @@ pub mod Filled
 pub mod Pdus
 pub mod Appends
 pub mod Canonicals
+pub mod Variables
+pub mod Written

@@ -2,7 +2,7 @@
 use Rattle.std.proofs.Common.{◌≡◌, ℕ, ◌+◌, ◌-◌, ◌≤◌, ltb, List, [], ◌++◌, length, take, drop, Option, Some, None, refl, sym, ap, subst, ◌∙◌, append_assoc, arith}
 use Rattle.std.specs.Prelude.{slice_range, Bool, true, false, ◌↔◌}
 use Rattle.std.proofs.lemmas.List.{append-nil, length-append, drop_at}
-use Rattle.snmp_ber.specs.Element.{IsHead, IsElement, Begins}
+use Rattle.snmp_ber.specs.Element.{IsElement, Begins}
 use Rattle.snmp_ber.specs.Reading.{Front, front_of}
 use Rattle.snmp_ber.proofs.Elements.{guard_some, front_of-is, front_of-begun}
 use Rattle.snmp_msg.specs.Layout.{Parts, Outer}

@@ -1,5 +1,5 @@
 -- A message with all its layers, and its canonical spelling.
-use Rattle.std.specs.Prelude.{◌≡◌, ℕ, ◌≤◌, List, length}
+use Rattle.std.specs.Prelude.{◌≡◌, ℕ, ◌≤◌, List, [], length}
 use Rattle.snmp_msg.specs.declared.header.Header.{Header}
 use Rattle.snmp_msg.specs.declared.whole.Layers.{Layers}
 use Rattle.snmp_msg.specs.declared.whole.Layer.{Layer}
@@ -7,10 +7,11 @@ use Rattle.snmp_msg.specs.declared.whole.Layer.TheVariants as layers
 use Rattle.snmp_msg.specs.Layout.{Parts, Outer}
 use Rattle.snmp_msg.specs.Security.{Fields, SecText, FieldsFit, fields_of, security_text}
 use Rattle.snmp_msg.specs.Scoped.{Contexts, HasScoped, HasSealed, contexts_text}
-use Rattle.snmp_msg.specs.Pdu.{PduParts, PduText, PduFits, pdu_of, pdu_text}
+use Rattle.snmp_msg.specs.Variables.{variables_of, after_variables, variables_text}
+use Rattle.snmp_msg.specs.Pdu.{PduParts, SaysPdu, IsSpelled, pdu_of, pdu_text, respelled}
 use Rattle.snmp_msg.specs.Spelling.{HeaderFits, message_text}
 
--- What msgData says: sealed octets, or the contexts and the PDU.
+-- What msgData says: sealed octets, or the contexts and the PDU, whose list is in its canonical spelling.
 pub data DataParts : Type 0 where
   sealed : List ℕ → DataParts
   plain : List ℕ → List ℕ → PduParts → DataParts
@@ -24,7 +25,7 @@ pub record Whole : Type 0 where
 -- The msgData of the message says this, and is sealed where the priv flag is set.
 abbrev pub SaysData : List ℕ → Parts → DataParts → Type 0
 SaysData w m (sealed octets) = HasSealed m × (octets ≡ m.data_content)
-SaysData w m (plain engine name p) = (s : Contexts) × HasScoped w m s × PduText s.pdu p × (engine ≡ s.engine) × (name ≡ s.name)
+SaysData w m (plain engine name p) = (s : Contexts) × HasScoped w m s × SaysPdu s.pdu p × (engine ≡ s.engine) × (name ≡ s.name)
 
 -- The text is a message with these layers (RFC 3412, section 6; RFC 3414, section 2.4; RFC 3416, section 3).
 pub record Says (w : List ℕ) (m : Whole) : Type 0 where
@@ -56,7 +57,7 @@ pub record IsCanonical (w c : List ℕ) : Type 0 where
 
 abbrev pub DataFits : DataParts → Type 0
 DataFits (sealed octets) = Unit {0}
-DataFits (plain engine name p) = PduFits p
+DataFits (plain engine name p) = IsSpelled p
 
 -- the ranges of the fields
 pub record WholeFits (m : Whole) : Type 0 where
@@ -73,7 +74,7 @@ IsShortData (plain engine name p) = (length engine ≤ 65507) × (length name �
 
 abbrev pub data_parts : Layer → DataParts
 data_parts (layers.Sealed octets) = sealed octets.now
-data_parts (layers.Plain engine name p) = plain engine.now name.now (pdu_of p)
+data_parts (layers.Plain engine name p) = plain engine.now name.now (respelled (pdu_of p))
 
 abbrev pub whole_of : Layers → Whole
 whole_of m = record {
@@ -81,3 +82,13 @@ whole_of m = record {
   security = fields_of m.security;
   contents = data_parts m.contents;
 }
+
+-- the list is one of bindings
+abbrev pub IsReadLayer : Layer → Type 0
+IsReadLayer (layers.Sealed octets) = Unit {0}
+IsReadLayer (layers.Plain engine name p) = after_variables p.list.now ≡ []
+
+-- how many octets the canonical spelling of the list has
+abbrev pub IsListSize : Layer → ℕ → Type 0
+IsListSize (layers.Sealed octets) size = Unit {0}
+IsListSize (layers.Plain engine name p) size = size ≡ length (variables_text (variables_of p.list.now))

@@ -6,6 +6,7 @@ pub mod Level
 pub mod Spelling
 pub mod Security
 pub mod Scoped
+pub mod Variables
 pub mod Pdu
 pub mod Canonical
 pub mod Refusals

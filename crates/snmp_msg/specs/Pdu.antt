@@ -1,11 +1,12 @@
 -- The layout of a PDU (RFC 3416, section 3).
-use Rattle.std.specs.Prelude.{◌≡◌, ◌≢◌, ℕ, ℤ, pos, negsuc, ◌≤◌, ◌≤ℤ◌, ◌&&◌, not, nat_le, nat_lt, ◌==◌, if◌then◌else◌, List, [], ◌++◌, length, Option, Some, None}
+use Rattle.std.specs.Prelude.{◌≡◌, ◌≢◌, ℕ, ℤ, pos, negsuc, ◌+◌, ◌≤◌, ◌≤ℤ◌, ◌&&◌, not, nat_le, nat_lt, ◌==◌, if◌then◌else◌, List, ◌++◌, length, Option, Some, None}
 use Rattle.snmp_ber.specs.Number.{IsInteger32}
 use Rattle.snmp_ber.specs.Element.{IsElement}
 use Rattle.snmp_ber.specs.Reading.{Front, front_of, integer32_of}
-use Rattle.snmp_ber.specs.Spelling.{element, integer}
+use Rattle.snmp_ber.specs.Spelling.{head_of, head_size, element, integer}
 use Rattle.snmp_msg.specs.Steps.{◌>>=◌, when_ended}
 use Rattle.snmp_msg.specs.Reading.{element_in}
+use Rattle.snmp_msg.specs.Variables.{Variable, AreBindings, AllFit, variables_of, after_variables, variables_text}
 use Rattle.snmp_msg.specs.declared.pdu.Pdu.{Pdu}
 
 -- The tag of a GetRequest, GetNextRequest, Response, SetRequest, GetBulkRequest, InformRequest, SNMPv2-Trap or Report.
@@ -37,7 +38,8 @@ pub record PduParts : Type 0 where
   -- the content of variable-bindings
   pub list : List ℕ
 
--- The text is exactly one PDU with these parts: an element whose content is the texts of its four elements joined.
+-- The text is exactly one PDU with these parts: an element whose content is the texts of its four elements joined. The last
+-- of them is a SEQUENCE of bindings.
 pub record PduText (z : List ℕ) (p : PduParts) : Type 0 where
   pub tag_allowed : IsPduTag p.tag
   pub id : List ℕ
@@ -48,7 +50,8 @@ pub record PduText (z : List ℕ) (p : PduParts) : Type 0 where
   pub is_third : IsSigned p.third third
   pub list : List ℕ
   pub is_list : IsElement 48 p.list list
-  pub no_binding : p.list ≡ []
+  pub variables : List Variable
+  pub are_bindings : AreBindings variables p.list
   pub content : List ℕ
   pub is_whole : IsElement p.tag content z
   pub joined : content ≡ id ++ (second ++ (third ++ list))
@@ -70,7 +73,7 @@ signed_in octets = do
 
 abbrev pub with_list : ℕ → ℤ → ℤ → ℤ → Front → Option PduParts
 with_list tag id second third f =
-    if nat_lt 0 (length f.content) then None
+    if nat_lt 0 (length (after_variables f.content)) then None
     else if nat_lt 0 (length f.rest) then None
     else Some (record { tag = tag; id = id; second = second; third = third; list = f.content })
 
@@ -104,15 +107,12 @@ pdu_of p = record {
 
 -- ---- the canonical spelling
 
--- the ranges of a PDU's fields
+-- the ranges of a PDU's fields, and that its list is one of bindings
 pub record PduFits (p : PduParts) : Type 0 where
   pub tag_allowed : IsPduTag p.tag
   pub numbers : AreInRange p
-  pub no_binding : p.list ≡ []
-
--- a PDU with no variable bindings
-abbrev pub empty_pdu : ℕ → ℤ → ℤ → ℤ → PduParts
-empty_pdu tag id second third = record { tag = tag; id = id; second = second; third = third; list = [] }
+  pub variables : List Variable
+  pub are_bindings : AreBindings variables p.list
 
 abbrev pub signed : ℤ → List ℕ
 signed z = element 2 (integer z)
@@ -122,3 +122,37 @@ pdu_content_text p = signed p.id ++ (signed p.second ++ (signed p.third ++ eleme
 
 unfoldable pub pdu_text : PduParts → List ℕ
 pdu_text p = element p.tag (pdu_content_text p)
+
+-- a PDU with these bindings, in their canonical spelling
+abbrev pub pdu_with : ℕ → ℤ → ℤ → ℤ → List Variable → PduParts
+pdu_with tag id second third vs = record { tag = tag; id = id; second = second; third = third; list = variables_text vs }
+
+-- the same PDU with these bindings, in their canonical spelling
+abbrev pub with_variables : PduParts → List Variable → PduParts
+with_variables p vs = record p { list = variables_text vs }
+
+-- The text is a PDU that says this, where the list is in its canonical spelling.
+pub record SaysPdu (z : List ℕ) (p : PduParts) : Type 0 where
+  pub as_read : PduParts
+  pub is_pdu : PduText z as_read
+  pub same : p ≡ with_variables as_read is_pdu.variables
+
+-- The list is the canonical spelling of bindings that fit.
+pub record IsSpelled (p : PduParts) : Type 0 where
+  pub tag_allowed : IsPduTag p.tag
+  pub numbers : AreInRange p
+  pub variables : List Variable
+  pub fit : AllFit variables
+  pub list_is : p.list ≡ variables_text variables
+
+-- the same PDU, with the list in its canonical spelling
+abbrev pub respelled : PduParts → PduParts
+respelled p = with_variables p (variables_of p.list)
+
+-- how many octets the content of a PDU has whose list has so many
+abbrev pub pdu_content_size : PduParts → ℕ → ℕ
+pdu_content_size p list_size = length (signed p.id) + length (signed p.second) + length (signed p.third) + (head_size list_size + list_size)
+
+-- what stands in a PDU before the content of its list, which has so many octets
+unfoldable pub pdu_front_text : PduParts → ℕ → List ℕ
+pdu_front_text p list_size = head_of p.tag (pdu_content_size p list_size) ++ (signed p.id ++ (signed p.second ++ (signed p.third ++ head_of 48 list_size)))

@@ -1,5 +1,5 @@
 -- Why octets are refused: for each call the faults that it answers, each with its cause.
-use Rattle.std.specs.Prelude.{◌≡◌, ◌<◌, ◌⊎◌, ℕ, List, length}
+use Rattle.std.specs.Prelude.{◌<◌, ◌⊎◌, ℕ, List, length}
 use Rattle.snmp_msg.specs.declared.fault.MsgFault.{MsgFault}
 use Rattle.snmp_msg.specs.declared.fault.MsgFault.TheVariants as faults
 use Rattle.snmp_msg.specs.declared.fault.WriteFault.{WriteFault}

@@ -4,7 +4,7 @@ use Rattle.snmp_ber.specs.Element.{IsHead, IsElement}
 use Rattle.snmp_ber.specs.Reading.{Front, front_of}
 use Rattle.snmp_ber.specs.Spelling.{head_size, element}
 use Rattle.snmp_msg.specs.Steps.{◌>>=◌}
-use Rattle.snmp_msg.specs.Layout.{Parts, Outer}
+use Rattle.snmp_msg.specs.Layout.{Parts}
 use Rattle.snmp_msg.specs.Reading.{element_in}
 use Rattle.snmp_msg.specs.declared.scoped.Scoped.{Scoped}
 

@@ -6,6 +6,7 @@ ghost use Rattle.snmp_msg.specs.declared.header.Header.{Header};
 ghost use Rattle.snmp_msg.specs.Layout.{Parts, Outer, WrongVersion};
 ghost use Rattle.snmp_msg.specs.Security.{Fields, FieldsFit, SecText, IsCut, security_text, placed, with_auth};
 ghost use Rattle.snmp_msg.specs.Scoped.{Contexts, HasScoped, HasSealed, ScopedText, ScopedFront, IsOneElement, contexts_text, scoped_text, contexts_placed};
+ghost use Rattle.snmp_msg.specs.Variables.{Variable, AreBindings, AllFit, variables_text};
 ghost use Rattle.snmp_msg.specs.Pdu.{PduParts, PduText, PduFits, pdu_text};
 ghost use Rattle.snmp_msg.specs.Spelling.{HeaderFits, message_text, written};
 ghost use Rattle.snmp_msg.specs.Canonical.{Whole, Says, IsCanonical};
@@ -25,12 +26,14 @@ pub fn one_cut()
         → (front ≡ take s.auth_at w) × (slice_range w s.auth_at (s.auth_at + length s.auth) ≡ s.auth) × (back ≡ drop (s.auth_at + length s.auth) w) }
 {}
 
-/// msgData is sealed or one ScopedPDU, octets begin with one ScopedPDU at most, and a text is one PDU at most.
+/// msgData is sealed or one ScopedPDU, octets begin with one ScopedPDU at most, a text is one PDU at most, and octets are one
+/// list of bindings at most.
 pub fn one_content()
     ensures kind { (w : List ℕ) (m : Parts) (s : Contexts) → HasSealed m → HasScoped w m s → ⊥ }
     ensures scoped { (w : List ℕ) (m : Parts) (s t : Contexts) → HasScoped w m s → HasScoped w m t → s ≡ t }
     ensures front { (z : List ℕ) (s t : Contexts) → ScopedFront z s → ScopedFront z t → s ≡ t }
     ensures pdu { (z : List ℕ) (p q : PduParts) → PduText z p → PduText z q → p ≡ q }
+    ensures list { (octets : List ℕ) (vs ws : List Variable) → AreBindings vs octets → AreBindings ws octets → vs ≡ ws }
 {}
 
 /// A message says one thing in all its layers.
@@ -45,7 +48,8 @@ pub fn written_again()
     ensures security { (at : ℕ) (s : Fields) → FieldsFit s → length (security_text s) ≤ 65507 → SecText at (security_text s) (placed at s) }
     ensures scoped { (engine name pdu : List ℕ) → IsOneElement pdu → length (scoped_text engine name pdu) ≤ 65507
         → ScopedText 0 (scoped_text engine name pdu) (contexts_placed (head_size (length (contexts_text engine name pdu))) engine name pdu) }
-    ensures pdu { (p : PduParts) → PduFits p → PduText (pdu_text p) p }
+    ensures pdu { (p : PduParts) → PduFits p → length (pdu_text p) ≤ 65507 → PduText (pdu_text p) p }
+    ensures list { (vs : List Variable) → AllFit vs → length (variables_text vs) ≤ 65507 → AreBindings vs (variables_text vs) }
 {}
 
 /// A message has one canonical spelling, which is its own: spelling it again changes nothing.

@@ -4,6 +4,7 @@
 //! which every length is the shortest.
 #![tactic(auto)]
 
+mod binding;
 mod fault;
 mod header;
 mod laws;
@@ -15,6 +16,7 @@ mod security;
 mod step;
 mod whole;
 
+pub use binding::{Binding, Bindings};
 pub use fault::{CanonFault, MsgFault, WriteFault};
 pub use header::Header;
 pub use laws::{

@@ -1,15 +1,18 @@
 //! PDUs (RFC 3416, section 3).
 
-ghost use Rattle.std.specs.Prelude.{◌≡◌, [], ◌+◌, ◌<◌, ◌≤◌, ◌++◌, length, slice_range, option_map, IfOk, OnOk, OnErr, IsErrOf, MatchResult, IsTrue, ◌↔◌};
+ghost use Rattle.std.specs.Prelude.{◌≡◌, List, ◌+◌, ◌<◌, ◌≤◌, ◌++◌, length, slice_range, option_map, IfOk, OnOk, OnErr, IsErrOf, MatchResult, IsTrue, ◌↔◌, All, map};
 ghost use Rattle.std.specs.Result.{result_ok};
-ghost use Rattle.snmp_ber.specs.Spelling.{element, integer};
-ghost use Rattle.snmp_msg.specs.Pdu.{IsPduTag, PduParts, PduText, PduFits, pdu_in, pdu_content_in, pdu_of, empty_pdu, pdu_content_text, pdu_text};
+ghost use Rattle.snmp_ber.specs.Spelling.{head_size};
+ghost use Rattle.snmp_msg.specs.Pdu.{IsPduTag, AreInRange, PduParts, PduText, PduFits, pdu_in, pdu_content_in, pdu_of, pdu_with, with_variables, pdu_content_size, pdu_front_text, pdu_text};
+ghost use Rattle.snmp_msg.specs.Variables.{Variable, AreBindings, CanBeWritten, variable_of, variables_of, bindings_left, variables_text};
 ghost use Rattle.snmp_msg.specs.Scoped.{IsOneElement};
 ghost use Rattle.snmp_msg.specs.Refusals.{RefusesPdu};
 
+use crate::binding::{Binding, Bindings, bindings_len, check_bindings, put_bindings};
 use crate::fault::{MsgFault, WriteFault};
+use crate::message::LARGEST;
 use crate::step::{SEQUENCE, element_len, integer_len, read_element, read_signed};
-use snmp_ber::{BerFault, put_head, put_int, put_tlv, read_tlv};
+use snmp_ber::{BerFault, put_head, put_int, read_tlv};
 use std::alloc::{AllocError, Global};
 
 /// What a PDU says.
@@ -26,6 +29,17 @@ pub struct Pdu<'a> {
     pub third: i32,
     /// The content of variable-bindings.
     pub list: &'a [u8],
+}
+
+impl<'a> Pdu<'a> {
+    /// The bindings of the list, in order. They are all of it where the PDU is `read_pdu`'s; of other octets they are those
+    /// that it begins with. No memory is taken.
+    pub fn bindings(&self) -> Bindings<'a>
+        ensures first { bindings_left result ≡ variables_of self.now.list.now }
+        ensures all { (vs : List Variable) → AreBindings vs self.now.list.now → bindings_left result ≡ vs }
+    {
+        Bindings::of(self.list)
+    }
 }
 
 /// The tag of a PDU.
@@ -46,9 +60,7 @@ fn read_pdu_content(bytes: &[u8], tag: u8, at: usize, end: usize) -> Result<Pdu<
     let (second, at) = read_signed(bytes, at, end)?;
     let (third, at) = read_signed(bytes, at, end)?;
     let list = read_element(bytes, at, end, SEQUENCE)?;
-    if !list.content.is_empty() {
-        return Err(BerFault { at: list.body });
-    }
+    check_bindings(bytes, list.body, list.end)?;
     if list.end < end {
         return Err(BerFault { at: list.end });
     }
@@ -95,76 +107,98 @@ pub fn read_pdu(bytes: &[u8], at: usize, end: usize) -> Result<Pdu<'_>, MsgFault
     }
 }
 
-/// How many octets the content that `put_pdu` appends has.
-#[tactic(auto, unfolding(crate::specs::Pdu::pdu_content_text))]
-fn pdu_content_len(pdu: &Pdu<'_>) -> usize
-    requires { PduFits (pdu_of pdu.now) }
-    ensures size { result ≡ length (pdu_content_text (pdu_of pdu.now)) }
-    ensures most { result ≤ 100 }
+/// How many octets the content of a PDU has whose list has `list_len`.
+fn pdu_content_len(pdu: &Pdu<'_>, list_len: usize) -> usize
+    requires { list_len ≤ LARGEST }
+    ensures size { result ≡ pdu_content_size (pdu_of pdu.now) list_len }
+    ensures most { result ≤ 70000 }
 {
-    integer_len(pdu.id)
-        + integer_len(pdu.second)
-        + integer_len(pdu.third)
-        + element_len(pdu.list.len())
+    integer_len(pdu.id) + integer_len(pdu.second) + integer_len(pdu.third) + element_len(list_len)
 }
 
-/// How many octets `put_pdu` appends.
-#[tactic(auto, unfolding(crate::specs::Pdu::pdu_text))]
-pub(crate) fn pdu_len(pdu: &Pdu<'_>) -> usize
-    requires { PduFits (pdu_of pdu.now) }
-    ensures size { result ≡ length (pdu_text (pdu_of pdu.now)) }
-    ensures most { result ≤ 106 }
+/// How many octets a PDU has whose list has `list_len`.
+pub(crate) fn pdu_len(pdu: &Pdu<'_>, list_len: usize) -> usize
+    requires { list_len ≤ LARGEST }
+    ensures size { let size = pdu_content_size (pdu_of pdu.now) list_len in result ≡ head_size size + size }
+    ensures most { result ≤ 70006 }
 {
-    element_len(pdu_content_len(pdu))
+    element_len(pdu_content_len(pdu, list_len))
 }
 
-/// Appends the content of a PDU.
-#[tactic(auto, unfolding(crate::specs::Pdu::pdu_content_text))]
-fn put_pdu_content(out: &mut Vec<u8>, pdu: &Pdu<'_>) -> Result<(), AllocError>
-    requires { PduFits (pdu_of pdu.now) }
-    ensures ok { OnOk result (out.new.items ≡ out.old.items ++ pdu_content_text (pdu_of pdu.now)) }
+/// Appends what stands in a PDU before the content of its list, which has `list_len` octets.
+#[tactic(auto, unfolding(crate::specs::Pdu::pdu_front_text))]
+pub(crate) fn put_pdu_front(
+    out: &mut Vec<u8>,
+    pdu: &Pdu<'_>,
+    list_len: usize,
+) -> Result<(), AllocError>
+    requires { list_len ≤ LARGEST }
+    ensures ok { OnOk result (out.new.items ≡ out.old.items ++ pdu_front_text (pdu_of pdu.now) list_len) }
 {
+    put_head(out, pdu.tag, pdu_content_len(pdu, list_len))?;
     put_int(out, pdu.id)?;
     put_int(out, pdu.second)?;
     put_int(out, pdu.third)?;
-    put_tlv(out, SEQUENCE, pdu.list)?;
+    put_head(out, SEQUENCE, list_len)?;
     Ok(())
 }
 
-/// Appends a PDU, in the shortest spelling.
-#[tactic(auto, unfolding(crate::specs::Pdu::pdu_text))]
-pub(crate) fn put_pdu(out: &mut Vec<u8>, pdu: &Pdu<'_>) -> Result<(), AllocError>
-    requires { PduFits (pdu_of pdu.now) }
-    ensures ok { OnOk result (out.new.items ≡ out.old.items ++ pdu_text (pdu_of pdu.now)) }
+/// Writes a PDU with these bindings, whose list has `list_len` octets then, into `size` octets of memory.
+fn spell_pdu(
+    alloc: Global,
+    front: &Pdu<'_>,
+    bindings: &[Binding<'_>],
+    list_len: usize,
+    size: usize,
+) -> Result<Vec<u8>, AllocError>
+    requires fit { All (λ b. CanBeWritten (variable_of b)) bindings.now }
+    requires list { list_len ≡ length (variables_text (map variable_of bindings.now)) }
+    requires within { list_len ≤ LARGEST }
+    ensures { IfOk result (λ v. v.items ≡ pdu_text (with_variables (pdu_of front.now) (map variable_of bindings.now))) }
 {
-    put_head(out, pdu.tag, pdu_content_len(pdu))?;
-    put_pdu_content(out, pdu)
+    let mut out = Vec::with_capacity(alloc, size)?;
+    put_pdu_front(&mut out, front, list_len)?;
+    put_bindings(&mut out, bindings)?;
+    Ok(out)
 }
 
-/// A PDU with no variable bindings, in the shortest spelling. Its tag is one of those that `Pdu` lists.
+/// A PDU with these bindings, in the shortest spelling. Its tag is one of those that `Pdu` lists, each name is an identifier
+/// with `is_object_id`, and no value's tag has low five bits that are all ones.
 ///
-/// Such a text fits a datagram, so the error is want of memory alone.
+/// The error TooLarge (16) comes exactly where the text would be longer than 65,507 octets, unless there is want of memory,
+/// which is the other error.
 pub fn write_pdu(
     alloc: Global,
     tag: u8,
     id: i32,
     second: i32,
     third: i32,
+    bindings: &[Binding<'_>],
 ) -> Result<Vec<u8>, WriteFault>
-    requires { IsPduTag tag }
-    ensures ok { IfOk result (λ v. v.items ≡ pdu_text (empty_pdu tag id second third)) }
-    ensures spelled { IfOk result (λ v. PduText v.items (empty_pdu tag id second third)) }
+    requires tag { IsPduTag tag }
+    requires fit { All (λ b. CanBeWritten (variable_of b)) bindings.now }
+    ensures ok { IfOk result (λ v. v.items ≡ pdu_text (pdu_with tag id second third (map variable_of bindings.now))) }
+    ensures size { IfOk result (λ v. length v.items ≤ LARGEST) }
+    ensures spelled { IfOk result (λ v. PduText v.items (pdu_with tag id second third (map variable_of bindings.now))) }
+    ensures bindings { IfOk result (λ _. AreBindings (map variable_of bindings.now) (variables_text (map variable_of bindings.now))) }
     ensures element { IfOk result (λ v. IsOneElement v.items) }
-    ensures memory { OnErr result (IsErrOf result WriteFault.OutOfMemory) }
+    ensures too_large { IsErrOf result WriteFault.TooLarge → LARGEST < length (pdu_text (pdu_with tag id second third (map variable_of bindings.now))) }
+    ensures memory { IsErrOf result WriteFault.OutOfMemory → length (pdu_text (pdu_with tag id second third (map variable_of bindings.now))) ≤ LARGEST }
 {
-    let pdu = Pdu {
+    let Some(list_len) = bindings_len(bindings) else {
+        return Err(WriteFault::TooLarge);
+    };
+    let front = Pdu {
         tag,
         id,
         second,
         third,
         list: &[],
     };
-    let mut out = Vec::with_capacity(alloc, pdu_len(&pdu))?;
-    put_pdu(&mut out, &pdu)?;
+    let size = pdu_len(&front, list_len);
+    if size > LARGEST {
+        return Err(WriteFault::TooLarge);
+    }
+    let out = spell_pdu(alloc, &front, bindings, list_len, size)?;
     Ok(out)
 }

@@ -108,9 +108,9 @@ pub fn read_scoped_front(plaintext: &[u8]) -> Result<Scoped<'_>, MsgFault>
 pub(crate) fn contexts_len(engine: &[u8], name: &[u8], pdu_len: usize) -> usize
     requires engine { length engine.now ≤ LARGEST }
     requires name { length name.now ≤ LARGEST }
-    requires pdu { pdu_len ≤ LARGEST }
+    requires pdu { pdu_len ≤ 100000 }
     ensures size { result ≡ contexts_size (length engine.now) (length name.now) pdu_len }
-    ensures most { result ≤ 200000 }
+    ensures most { result ≤ 240000 }
 {
     element_len(engine.len()) + element_len(name.len()) + pdu_len
 }

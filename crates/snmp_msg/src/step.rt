@@ -13,6 +13,8 @@ pub const INTEGER: u8 = 0x02;
 
 pub const OCTET_STRING: u8 = 0x04;
 
+pub const OBJECT_IDENTIFIER: u8 = 0x06;
+
 pub const SEQUENCE: u8 = 0x30;
 
 /// The element at this place, which must have the tag.

@@ -304,8 +304,9 @@ fn a_scoped_pdu_is_written_as_it_was_read(rt: HostRuntime) -> Result<(), Fail> {
     let message = read_message(datagram).ok().ok_or("a message")?;
     let scoped = read_scoped(datagram, &message).ok().ok_or("scoped")?;
     let scoped = scoped.ok_or("plain")?;
-    let first = write_pdu(alloc, 0xA0, 1, 0, 0);
-    check_written(&rt, first, write_pdu(alloc, 0xA0, 1, 0, 0), scoped.pdu);
+    let first = write_pdu(alloc, 0xA0, 1, 0, 0, &[]);
+    let second = write_pdu(alloc, 0xA0, 1, 0, 0, &[]);
+    check_written(&rt, first, second, scoped.pdu);
     let first = write_scoped(alloc, scoped.engine, scoped.name, scoped.pdu);
     let second = write_scoped(alloc, scoped.engine, scoped.name, scoped.pdu);
     check_written(&rt, first, second, &datagram[39..]);

@@ -1,15 +1,18 @@
 //! A message with all its layers, and its canonical spelling.
 
-ghost use Rattle.std.specs.Prelude.{◌≡◌, ◌+◌, ◌<◌, ◌≤◌, ◌++◌, length, IfOk, OnOk, OnErr, IsErrOf, MatchResult, IsTrue, ◌↔◌};
+ghost use Rattle.std.specs.Prelude.{◌≡◌, [], ◌+◌, ◌<◌, ◌≤◌, ◌++◌, length, IfOk, IfSome, IfNone, OnOk, OnErr, IsErrOf, MatchResult, IsTrue, ◌↔◌};
 ghost use Rattle.snmp_ber.specs.Spelling.{head_size, element};
 ghost use Rattle.snmp_msg.specs.Security.{IsShort, fields_of};
-ghost use Rattle.snmp_msg.specs.Canonical.{Says, IsCanonical, WholeFits, DataFits, IsShortData, whole_of, whole_text, data_parts, data_tag_of, data_content_of};
+ghost use Rattle.snmp_msg.specs.Canonical.{Says, IsCanonical, WholeFits, DataFits, IsShortData, IsReadLayer, IsListSize, whole_of, whole_text, data_parts, data_tag_of, data_content_of};
+ghost use Rattle.snmp_msg.specs.Variables.{variables_of, after_variables, variables_text};
+ghost use Rattle.snmp_msg.specs.Pdu.{pdu_of, pdu_text, respelled};
 ghost use Rattle.snmp_msg.specs.Refusals.{RefusesWhole, RefusesCanonical};
 
+use crate::binding::{list_len, put_list};
 use crate::fault::{CanonFault, MsgFault, WriteFault};
 use crate::header::Header;
 use crate::message::{LARGEST, message_len, put_front, read_message};
-use crate::pdu::{Pdu, pdu_len, put_pdu, read_pdu};
+use crate::pdu::{Pdu, pdu_len, put_pdu_front, read_pdu};
 use crate::scoped::{contexts_len, put_contexts, read_scoped};
 use crate::security::{Security, is_short, put_security, read_security, security_len};
 use crate::step::{OCTET_STRING, SEQUENCE};
@@ -37,6 +40,7 @@ pub(crate) struct Layers<'a> {
 fn read_layers(datagram: &[u8]) -> Result<Layers<'_>, MsgFault>
     ensures exact { MatchResult result (λ m. Says datagram.now (whole_of m)) (RefusesWhole datagram.now) }
     ensures fits { IfOk result (λ m. WholeFits (whole_of m)) }
+    ensures list { IfOk result (λ m. IsReadLayer m.contents) }
 {
     let message = read_message(datagram)?;
     let scoped = read_scoped(datagram, &message)?;
@@ -69,57 +73,94 @@ fn is_short_data(contents: &Layer<'_>) -> bool
     }
 }
 
+/// How many octets the bindings of the PDU are written in, or None where they are more than a datagram can have.
+fn written_list_len(contents: &Layer<'_>) -> Option<usize>
+    requires { IsReadLayer contents.now }
+    ensures some { IfSome result (λ size. IsListSize contents.now size) }
+    ensures most { IfSome result (λ size. size ≤ LARGEST) }
+    ensures none { IfNone result (LARGEST < length (data_content_of (data_parts contents.now))) }
+{
+    match contents {
+        Layer::Sealed(_) => Some(0),
+        Layer::Plain(_engine, _name, pdu) => list_len(pdu.list),
+    }
+}
+
 /// How many octets the content of msgData has.
-fn data_len(contents: &Layer<'_>) -> usize
-    requires fits { DataFits (data_parts contents.now) }
+fn data_len(contents: &Layer<'_>, list_len: usize) -> usize
     requires short { IsShortData (data_parts contents.now) }
+    requires list { IsListSize contents.now list_len }
+    requires within { list_len ≤ LARGEST }
     ensures size { result ≡ length (data_content_of (data_parts contents.now)) }
     ensures most { result ≤ 300000 }
 {
     match contents {
         Layer::Sealed(octets) => octets.len(),
-        Layer::Plain(engine, name, pdu) => contexts_len(engine, name, pdu_len(pdu)),
+        Layer::Plain(engine, name, pdu) => contexts_len(engine, name, pdu_len(pdu, list_len)),
     }
 }
 
+/// Appends a PDU, in the shortest spelling.
+fn put_pdu(out: &mut Vec<u8>, pdu: &Pdu<'_>, list_len: usize) -> Result<(), AllocError>
+    requires list { after_variables pdu.now.list.now ≡ [] }
+    requires size { list_len ≡ length (variables_text (variables_of pdu.now.list.now)) }
+    requires within { list_len ≤ LARGEST }
+    ensures ok { OnOk result (out.new.items ≡ out.old.items ++ pdu_text (respelled (pdu_of pdu.now))) }
+{
+    put_pdu_front(out, pdu, list_len)?;
+    put_list(out, pdu.list)?;
+    Ok(())
+}
+
 /// Appends msgData.
-fn put_data(out: &mut Vec<u8>, contents: &Layer<'_>) -> Result<(), AllocError>
-    requires fits { DataFits (data_parts contents.now) }
+fn put_data(out: &mut Vec<u8>, contents: &Layer<'_>, list_len: usize) -> Result<(), AllocError>
     requires short { IsShortData (data_parts contents.now) }
+    requires read { IsReadLayer contents.now }
+    requires list { IsListSize contents.now list_len }
+    requires within { list_len ≤ LARGEST }
     ensures ok { OnOk result (out.new.items ≡ out.old.items ++ element (data_tag_of (data_parts contents.now)) (data_content_of (data_parts contents.now))) }
 {
-    let size = data_len(contents);
+    let size = data_len(contents, list_len);
     match contents {
         Layer::Sealed(octets) => put_tlv(out, OCTET_STRING, octets),
         Layer::Plain(engine, name, pdu) => {
             put_head(out, SEQUENCE, size)?;
             put_contexts(out, engine, name)?;
-            put_pdu(out, pdu)?;
+            put_pdu(out, pdu, list_len)?;
             Ok(())
         }
     }
 }
 
-/// Writes the message into `size` octets of memory.
+/// Writes the message into `size` octets of memory. Its bindings are written in `list_len`.
 #[tactic(auto, unfolding(crate::specs::Canonical::whole_text))]
-fn spell_layers(alloc: Global, layers: &Layers<'_>, size: usize) -> Result<Vec<u8>, AllocError>
+fn spell_layers(
+    alloc: Global,
+    layers: &Layers<'_>,
+    list_len: usize,
+    size: usize,
+) -> Result<Vec<u8>, AllocError>
     requires fits { WholeFits (whole_of layers.now) }
     requires security { IsShort (fields_of layers.now.security) }
     requires contents { IsShortData (data_parts layers.now.contents) }
+    requires read { IsReadLayer layers.now.contents }
+    requires list { IsListSize layers.now.contents list_len }
+    requires within { list_len ≤ LARGEST }
     ensures { IfOk result (λ v. v.items ≡ whole_text (whole_of layers.now)) }
 {
     let security_len = security_len(&layers.security);
-    let data_len = data_len(&layers.contents);
+    let data_len = data_len(&layers.contents, list_len);
     let mut out = Vec::with_capacity(alloc, size)?;
     put_front(&mut out, &layers.header, security_len, data_len)?;
     put_security(&mut out, &layers.security)?;
-    put_data(&mut out, &layers.contents)?;
+    put_data(&mut out, &layers.contents, list_len)?;
     Ok(out)
 }
 
 /// The message, in its canonical spelling.
 fn write_layers(alloc: Global, layers: &Layers<'_>) -> Result<Vec<u8>, WriteFault>
-    requires { WholeFits (whole_of layers.now) }
+    requires fits { WholeFits (whole_of layers.now) }
+    requires read { IsReadLayer layers.now.contents }
     ensures ok { IfOk result (λ v. v.items ≡ whole_text (whole_of layers.now)) }
     ensures size { IfOk result (λ v. length v.items ≤ LARGEST) }
     ensures too_large { IsErrOf result WriteFault.TooLarge → LARGEST < length (whole_text (whole_of layers.now)) }
@@ -130,13 +171,16 @@ fn write_layers(alloc: Global, layers: &Layers<'_>) -> Result<Vec<u8>, WriteFaul
     if !is_short_data(&layers.contents) {
         return Err(WriteFault::TooLarge);
     }
+    let Some(list_len) = written_list_len(&layers.contents) else {
+        return Err(WriteFault::TooLarge);
+    };
     let security_len = security_len(&layers.security);
-    let data_len = data_len(&layers.contents);
+    let data_len = data_len(&layers.contents, list_len);
     let size = message_len(&layers.header, security_len, data_len);
     if size > LARGEST {
         return Err(WriteFault::TooLarge);
     }
-    let out = spell_layers(alloc, layers, size)?;
+    let out = spell_layers(alloc, layers, list_len, size)?;
     Ok(out)
 }
 

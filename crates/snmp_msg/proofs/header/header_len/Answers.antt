@@ -1,4 +1,4 @@
-use Rattle.std.proofs.Common.{◌≡◌, length, arith, pos, to_z, of_z, w32}
+use Rattle.std.proofs.Common.{◌≡◌, length, arith, pos, to_z, w32}
 use Rattle.std.proofs.lemmas.Int.{ints}
 use Rattle.snmp_msg.specs.Spelling.{number}
 use Rattle.snmp_msg.proofs.Writes.{header_text-length}

@@ -1,5 +1,6 @@
 use Rattle.snmp_msg.proofs.Canonicals.{not_both, same_scoped}
 use Rattle.snmp_msg.proofs.Pdus.{one_pdu}
+use Rattle.snmp_msg.proofs.Variables.{one_list}
 use Rattle.snmp_msg.proofs.Scopeds.{one_front}
 use Rattle.snmp_msg.proofs.laws.one_content.Goals as goal
 
@@ -14,3 +15,6 @@ returns-clause-front c = one_front
 
 pub returns-clause-pdu : goal.returns-clause-pdu
 returns-clause-pdu c = one_pdu
+
+pub returns-clause-list : goal.returns-clause-list
+returns-clause-list c = λ octets vs ws h k. one_list vs ws octets h k

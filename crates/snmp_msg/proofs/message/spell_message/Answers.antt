@@ -1,7 +1,7 @@
-use Rattle.std.proofs.Common.{◌≡◌, ℕ, List, [], ◌++◌, length, sym, ap, ◌∙◌, rules}
+use Rattle.std.proofs.Common.{◌≡◌, [], ◌++◌, length, sym, ◌∙◌, rules}
 use Rattle.snmp_ber.specs.Spelling.{element}
 use Rattle.snmp_msg.specs.Message.{tag_of, content_of}
-use Rattle.snmp_msg.specs.Spelling.{message_text, front_text, content_size}
+use Rattle.snmp_msg.specs.Spelling.{front_text, content_size}
 use Rattle.snmp_msg.proofs.Appends.{three_appended}
 use Rattle.snmp_msg.proofs.Writes.{message_text-front}
 use Rattle.snmp_msg.proofs.message.spell_message.Goals as goal

@@ -1,7 +1,7 @@
-use Rattle.std.proofs.Common.{◌≡◌, ◌≤◌, ◌<◌, ℕ, ◌+◌, List, ◌++◌, length, arith, rules, sym, subst, ap, ◌∙◌}
+use Rattle.std.proofs.Common.{ℕ, List, length, arith, sym, subst, ap}
 use Rattle.snmp_msg.specs.Layout.{Outer}
 use Rattle.snmp_msg.specs.Message.{tag_of, content_of}
-use Rattle.snmp_msg.specs.Spelling.{message_text, written}
+use Rattle.snmp_msg.specs.Spelling.{written}
 use Rattle.snmp_msg.proofs.Writes.{message_text-is, message_text-longer, measured_message, tag_of-allowed}
 use Rattle.snmp_msg.proofs.message.write_message.Goals as goal
 

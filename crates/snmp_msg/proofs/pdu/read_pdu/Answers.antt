@@ -1,7 +1,9 @@
 use Rattle.std.proofs.Common.{sym, arith, rules, FitsSigned, w32}
 use Rattle.std.proofs.lemmas.Int.{ints}
 use Rattle.std.specs.Prelude.{slice_range}
-use Rattle.snmp_msg.specs.Pdu.{PduText, AreInRange, pdu_of}
+use Rattle.snmp_msg.specs.Pdu.{AreInRange, pdu_of}
+use Rattle.snmp_ber.proofs.Oids.{octets_from}
+use Rattle.snmp_msg.proofs.Variables.{octets_slice}
 use Rattle.snmp_msg.proofs.Pdus.{pdu_in-is, pdu_fits, no_pdu}
 use Rattle.snmp_msg.proofs.pdu.read_pdu.Goals as goal
 
@@ -17,7 +19,7 @@ numbers c =
     }
 
 pub returns-in-Ok-clause-exact : goal.returns-in-Ok-clause-exact
-returns-in-Ok-clause-exact c = pdu_in-is (slice_range c.args.bytes.now c.args.at c.args.end) (pdu_of c.in-Ok.pdu) (numbers c) (sym c.in-Ok.ensures)
+returns-in-Ok-clause-exact c = pdu_in-is (slice_range c.args.bytes.now c.args.at c.args.end) (pdu_of c.in-Ok.pdu) (numbers c) (octets_slice c.args.bytes.now c.args.at c.args.end (octets_from c.args.bytes.now (λ i. omega (arith, c.type_inv.bytes i)))) (sym c.in-Ok.ensures)
 
 pub returns-in-Ok-clause-fits : goal.returns-in-Ok-clause-fits
 returns-in-Ok-clause-fits c = pdu_fits (slice_range c.args.bytes.now c.args.at c.args.end) (pdu_of c.in-Ok.pdu) (returns-in-Ok-clause-exact c)

@@ -1,7 +1,6 @@
-use Rattle.std.proofs.Common.{◌≡◌, true, false, ap, sym, ◌∙◌, length}
-use Rattle.std.specs.Prelude.{slice_range}
+use Rattle.std.proofs.Common.{◌≡◌, true, false, ap, sym, ◌∙◌}
 use Rattle.snmp_msg.specs.Message.{parts, tag_of, content_of}
-use Rattle.snmp_msg.specs.Scoped.{Contexts, HasScoped, contexts_of}
+use Rattle.snmp_msg.specs.Scoped.{HasScoped, contexts_of}
 use Rattle.snmp_msg.proofs.Scopeds.{scoped_from, scoped_none, pdu_stands}
 use Rattle.snmp_msg.proofs.scoped.read_scoped.Goals as goal
 

@@ -1,6 +1,6 @@
 use Rattle.std.proofs.Common.{◌≡◌, ℕ, List, [], ◌++◌, length, ap, sym, ◌∙◌, rules}
 use Rattle.snmp_ber.specs.Spelling.{head_of, element}
-use Rattle.snmp_msg.specs.Scoped.{contexts_size, contexts_text, scoped_text}
+use Rattle.snmp_msg.specs.Scoped.{contexts_text, scoped_text}
 use Rattle.snmp_msg.proofs.Appends.{three_appended}
 use Rattle.snmp_msg.proofs.Scopeds.{contexts_joined, contexts_text-length}
 use Rattle.snmp_msg.proofs.scoped.spell_scoped.Goals as goal

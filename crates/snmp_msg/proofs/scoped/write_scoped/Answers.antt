@@ -1,4 +1,4 @@
-use Rattle.std.proofs.Common.{◌≡◌, ◌≤◌, ◌<◌, ◌+◌, ℕ, List, length, arith, sym, subst, ap, ◌∙◌}
+use Rattle.std.proofs.Common.{◌≡◌, ◌+◌, ℕ, List, length, arith, sym, subst, ap, ◌∙◌}
 use Rattle.snmp_ber.specs.Spelling.{head_size}
 use Rattle.snmp_msg.specs.Scoped.{ScopedText, contexts_text, scoped_text, contexts_placed}
 use Rattle.snmp_msg.proofs.Scopeds.{contexts_text-length, scoped_text-size, scoped_text-longer, scoped_text-is}

@@ -1,4 +1,4 @@
-use Rattle.std.proofs.Common.{◌≡◌, ◌≤◌, ℕ, List, length, arith, rules, sym, subst, ap, inl, inr}
+use Rattle.std.proofs.Common.{◌≤◌, ℕ, List, length, arith, sym, subst, inl, inr}
 use Rattle.std.proofs.lemmas.Bool.{cases_lt}
 use Rattle.snmp_msg.specs.Security.{SecText, IsShort, fields_of, security_text, placed}
 use Rattle.snmp_msg.proofs.Filled.{fields_text-longer, security_text-is}

@@ -1,4 +1,4 @@
-use Rattle.std.proofs.Common.{◌≡◌, ap, ◌∙◌, Err}
+use Rattle.std.proofs.Common.{ap, Err}
 use Rattle.snmp_msg.specs.Canonical.{whole_of}
 use Rattle.snmp_msg.specs.Refusals.{canon_fault}
 use Rattle.snmp_msg.proofs.Canonicals.{refused_as, write_refused}

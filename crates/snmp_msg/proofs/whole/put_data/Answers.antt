@@ -1,8 +1,7 @@
-use Rattle.std.proofs.Common.{◌≡◌, ℕ, List, ◌++◌, length, ap, sym, ◌∙◌, rules}
+use Rattle.std.proofs.Common.{◌≡◌, ℕ, List, ◌++◌, length, ap, sym, ◌∙◌}
 use Rattle.snmp_ber.specs.Spelling.{head_of, element}
 use Rattle.snmp_msg.specs.Scoped.{contexts_text}
-use Rattle.snmp_msg.specs.Pdu.{pdu_of, pdu_text}
-use Rattle.snmp_msg.specs.Canonical.{data_parts, data_content_of}
+use Rattle.snmp_msg.specs.Pdu.{pdu_of, pdu_text, respelled}
 use Rattle.snmp_msg.proofs.Appends.{three_appended}
 use Rattle.snmp_msg.proofs.Scopeds.{contexts_joined}
 use Rattle.snmp_msg.proofs.whole.put_data.Goals as goal
@@ -11,7 +10,7 @@ pub returns-in_ok-put_pdu-in-Plain : goal.returns-in_ok-put_pdu-in-Plain
 returns-in_ok-put_pdu-in-Plain c =
     let engine = c.in-Plain.engine.now in
     let name = c.in-Plain.name.now in
-    let pdu = pdu_text (pdu_of c.in-Plain.pdu) in
+    let pdu = pdu_text (respelled (pdu_of c.in-Plain.pdu)) in
     let content = contexts_text engine name pdu in
     let size : c.data_len-size.result ≡ length content = rw c.in-Plain.is at c.data_len-size.ensures.size in
     let first : c.put_head.new.out.items ≡ c.args.out.now.items ++ head_of 48 (length content) = rw size at c.in_ok-put_head-in-Plain.ensures.ok in

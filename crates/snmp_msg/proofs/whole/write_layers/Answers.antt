@@ -1,9 +1,9 @@
-use Rattle.std.proofs.Common.{◌≡◌, ◌≤◌, ◌<◌, ℕ, length, arith, ap, inl, inr, ◌∙◌}
+use Rattle.std.proofs.Common.{length, arith, ap, inl, inr}
 use Rattle.std.proofs.lemmas.Bool.{cases_lt}
-use Rattle.snmp_msg.specs.Security.{IsShort, fields_of, security_text}
-use Rattle.snmp_msg.specs.Canonical.{whole_of, whole_text, data_parts, data_tag_of, data_content_of, IsShortData}
+use Rattle.snmp_msg.specs.Security.{IsShort}
+use Rattle.snmp_msg.specs.Canonical.{whole_of, whole_text, IsShortData}
 use Rattle.snmp_msg.proofs.Scopeds.{not_so}
-use Rattle.snmp_msg.proofs.Canonicals.{short_security, short_data, measured_whole}
+use Rattle.snmp_msg.proofs.Canonicals.{short_security, short_data, measured_whole, whole_text-longer}
 use Rattle.snmp_msg.proofs.whole.write_layers.Goals as goal
 
 pub returns-then-not-is_short-clause-too_large : goal.returns-then-not-is_short-clause-too_large
@@ -31,3 +31,8 @@ pub returns-clause-size : goal.returns-clause-size
 returns-clause-size c =
     let size = measured_whole (whole_of c.args.layers.now) c.message_len-size.result c.security_len-security_len.result c.data_len-data_len.result c.security_len-security_len.ensures.size c.data_len-data_len.ensures.size c.message_len-size.ensures.size in
     omega (arith, ap length c.in_ok-out.ensures)
+
+pub returns-in_default-clause-too_large : goal.returns-in_default-clause-too_large
+returns-in_default-clause-too_large c = λ _.
+    let longer = whole_text-longer (whole_of c.args.layers.now) in
+    omega (arith, longer.1, c.in_default.ensures.none)
