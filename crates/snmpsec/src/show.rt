@@ -11,7 +11,8 @@ use crate::output::Output;
 use crate::refusal::Refusal;
 use hex::FromHexError;
 use snmp_msg::{
-    Header, Pdu, Scoped, Security, canonical, read_message, read_pdu, read_scoped, read_security,
+    Binding, Header, Pdu, Scoped, Security, canonical, read_message, read_pdu, read_scoped,
+    read_security,
 };
 use std::alloc::{AllocError, Global};
 
@@ -90,6 +91,16 @@ fn put_security(
     put_octets(alloc, text, "privacy", security.salt)
 }
 
+/// Appends a variable binding: its name, and the tag and the content of its value.
+fn put_binding(
+    alloc: Global,
+    text: &mut String,
+    binding: &Binding<'_>,
+) -> Result<(), AllocError> {
+    let label = format!(in alloc; "binding {} {:02x}", binding.name, binding.tag)?;
+    put_octets(alloc, text, &label, binding.content)
+}
+
 /// Appends msgData: sealed octets, or the contexts and the PDU.
 fn put_contents(
     alloc: Global,
@@ -107,6 +118,9 @@ fn put_contents(
         "pdu {:02x} {} {} {}\n",
         pdu.tag, pdu.id, pdu.second, pdu.third
     )?;
+    for binding in pdu.bindings() {
+        put_binding(alloc, text, &binding)?;
+    }
     Ok(())
 }
 

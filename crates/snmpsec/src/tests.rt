@@ -77,7 +77,7 @@ const REFUSALS: [(&str, &str); 13] = [
 ];
 
 /// A message, and what is printed of it.
-const SHOWN: [(&str, &str); 4] = [
+const SHOWN: [(&str, &str); 5] = [
     // the outer length in more octets than needed
     (
         "30820038020103300e020101020300ffe30401040201030410300e0400020100020100040004000400301104000400a00b0201010201000201003000",
@@ -87,6 +87,11 @@ const SHOWN: [(&str, &str); 4] = [
     (
         "3038020103300E020101020300FFE30401FC0201030410300E0400020100020100040004000400301104000400A00B0201010201000201003000",
         "id 1\nmax-size 65507\nflags reportable\nengine -\nboots 0\ntime 0\nuser -\nauth -\nprivacy -\ncontext-engine -\ncontext -\npdu a0 1 0 0\ncanonical 3038020103300e020101020300ffe30401040201030410300e0400020100020100040004000400301104000400a00b0201010201000201003000\n",
+    ),
+    // a GetRequest of the engine's description
+    (
+        "3061020103300e020102020300ffe3040104020103041f301d040c0000000000000000000000020201000201000403616e6e04000400302b040c0000000000000000000000020400a019020102020100020100300e300c06082b060102010101000500",
+        "id 2\nmax-size 65507\nflags reportable\nengine 000000000000000000000002\nboots 0\ntime 0\nuser 616e6e\nauth -\nprivacy -\ncontext-engine 000000000000000000000002\ncontext -\npdu a0 2 0 0\nbinding 1.3.6.1.2.1.1.1.0 05 -\ncanonical 3061020103300e020102020300ffe3040104020103041f301d040c0000000000000000000000020201000201000403616e6e04000400302b040c0000000000000000000000020400a019020102020100020100300e300c06082b060102010101000500\n",
     ),
     // sealed octets
     (
@@ -164,7 +169,7 @@ fn a_usage_fault_names_what_is_wrong(rt: HostRuntime) -> Result<(), Fail> {
 
 #[test]
 fn a_refused_growth_gives_no_other_text(rt: HostRuntime) -> Result<(), Fail> {
-    let (digits, text) = SHOWN[2];
+    let (digits, text) = SHOWN[3];
     let output = match show_text(rt.alloc(), digits) {
         Ok(output) => output,
         Err(_) => show_text(rt.alloc(), digits)?,
