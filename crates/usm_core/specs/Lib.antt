@@ -1,0 +1,10 @@
+pub mod Users
+pub mod Rows
+pub mod Refusals
+pub mod Table
+pub mod Authentic
+pub mod Verified
+pub mod Answers
+pub mod Sealed
+pub mod Writing
+pub mod Says

@@ -1,0 +1,25 @@
+//! The user-based security model for SNMPv3 (RFC 3414): users with the keys of their passwords, and what they make of a
+//! message that comes in or goes out.
+#![tactic(auto)]
+
+mod digest;
+mod fault;
+mod laws;
+mod layout;
+mod load;
+mod open;
+mod privacy;
+mod seal;
+mod spell;
+mod user;
+mod users;
+mod verify;
+
+pub use fault::UsmFault;
+pub use laws::{one_authentic, sealed_is_authentic, sealed_is_opened, sealed_says};
+pub use load::{UserFault, UserRow};
+pub use open::{Checked, Role};
+pub use users::Users;
+
+#[cfg(test)]
+mod tests;

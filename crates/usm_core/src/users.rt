@@ -1,0 +1,174 @@
+//! The users of an engine.
+
+ghost use Rattle.std.specs.Prelude.{◌≡◌, ◌≢◌, ◌↔◌, ◌⊎◌, ℕ, List, [], map, length, IfOk, IfErr, IfSome, OnOk, IsErrOf};
+ghost use Rattle.snmp_ber.specs.declared.level.Level.TheVariants.{AuthPriv};
+ghost use Rattle.snmp_msg.specs.Message.{tag_of, content_of};
+ghost use Rattle.snmp_msg.specs.Security.{fields_of};
+ghost use Rattle.snmp_msg.specs.Level.{level_of};
+ghost use Rattle.engine_clock.specs.Pairs.{BootsAndTime};
+ghost use Rattle.usm_core.specs.Users.{AreUsers, HasUserAt};
+ghost use Rattle.usm_core.specs.Authentic.{Authentic};
+ghost use Rattle.usm_core.specs.Verified.{Verifies, AllowsEngine};
+ghost use Rattle.usm_core.specs.Answers.{side_of, checked_answer, IsAuthenticatedAs};
+ghost use Rattle.usm_core.specs.Rows.{AreSound, IsTold, user_of};
+ghost use Rattle.usm_core.specs.Refusals.{Supports};
+ghost use Rattle.usm_core.specs.Sealed.{Seals, SendingFits, IsSealable, IsPlaintext};
+ghost use Rattle.usm_core.specs.Writing.{sending, seal_answer};
+ghost use Rattle.usm_core.specs.declared.fault.UsmFault.TheVariants.{UnknownUser, DecryptionError, OutOfMemory};
+
+use crate::fault::UsmFault;
+use crate::load::{UserFault, UserRow, first_fault, users_of};
+use crate::open::{Checked, Role};
+use crate::privacy::open_for;
+use crate::seal::seal_for;
+use crate::spell::Outgoing;
+use crate::user::{User, user_named};
+use crate::verify::{has_engine, verify};
+use engine_clock::Pair;
+use snmp_ber::Level;
+use snmp_msg::{Header, one_cut, one_message};
+use std::alloc::{AllocError, Global};
+use std::marker::Model;
+
+/// Users, each with the keys of its passwords, not yet localised to an engine (RFC 3414, section 2.6). Their names are
+/// distinct.
+#[derive(Drop)]
+pub struct Users {
+    alloc: Global,
+    pub(crate) rows: Vec<User>,
+}
+
+impl Model for Users {
+    ghost use Rattle.usm_core.specs.Users.{Known, AreUsers};
+
+    ghost Value = { Known };
+
+    ghost view = { λ a. record { users = a.rows.items } };
+
+    ghost invariant = { λ a. AreUsers a.rows.items };
+}
+
+impl Users {
+    /// The users of these rows, in their order. Each password is hashed once, at length (RFC 3414, section A.2).
+    ///
+    /// The error is what is wrong with the first row at fault, or OutOfMemory where none is: of one row's faults BadUser
+    /// comes first, then ShortPassword, then DuplicateUser, which is told of the later row.
+    pub fn load(alloc: Global, rows: &[UserRow]) -> Result<Users, UserFault>
+        ensures sound { OnOk result (AreSound rows.now) }
+        ensures users { IfOk result (λ made. made.users ≡ map user_of rows.now) }
+        ensures told { IfErr result (IsTold rows.now) }
+    {
+        if let Some(fault) = first_fault(rows) {
+            return Err(fault);
+        }
+        match users_of(alloc, rows) {
+            Ok(rows) => Ok(Users { alloc, rows }),
+            Err(_) => Err(UserFault::OutOfMemory),
+        }
+    }
+
+    /// The same users.
+    pub fn try_clone(&self) -> Result<Users, AllocError>
+        ensures { IfOk result (λ made. made.users ≡ self.now.users) }
+    {
+        let mut rows = Vec::with_capacity(self.alloc, self.rows.len())?;
+        for user in &self.rows {
+            rows.push(user.copy())?;
+        }
+        Ok(Users {
+            alloc: self.alloc,
+            rows,
+        })
+    }
+
+    /// Whether there is a user of this name with the keys that the level needs. The error is UnknownUser (7) where there is
+    /// no user of the name, the empty one among them, and else UnsupportedLevel (8). It takes no memory.
+    pub fn supports(&self, user: &[u8], level: Level) -> Result<(), UsmFault>
+        ensures answer { Supports self.now.users user.now level result }
+        ensures empty { user.now ≡ [] → result ≡ Err UnknownUser }
+
+        // What is true of all users that were loaded.
+        ensures users { AreUsers self.now.users }
+    {
+        match user_named(&self.rows, user) {
+            Some(user) if user.supports(level) => Ok(()),
+            Some(_) => Err(UsmFault::UnsupportedLevel),
+            None => Err(UsmFault::UnknownUser),
+        }
+    }
+    /// The message that the datagram is, where auth is clear or its digest is right (RFC 3414, section 3.2).
+    ///
+    /// The errors are, the first that applies: NotMessage (1) and BadVersion (2), UnknownModel (17), InvalidFlags (18),
+    /// NotScoped (4), NotSecurity (3), UnknownEngine (6), UnknownUser (7), UnsupportedLevel (8), WrongDigest (9). Neither
+    /// the time window nor the sealed text is looked at. It takes no memory and copies no octet of the datagram.
+    pub fn open_auth<'a>(
+        &mut self,
+        role: Role<'_>,
+        datagram: &'a [u8],
+    ) -> Result<Checked<'a>, UsmFault>
+        ensures rows { Verifies (side_of role.entry) self.old.users datagram.now (checked_answer result) }
+
+        // A message with auth is accepted exactly where the datagram is authentic, and at an agent is of its own engine.
+        ensures authentic { (engine : List ℕ) (pair : BootsAndTime) →
+            (Authentic self.old.users datagram.now engine pair × AllowsEngine (side_of role.entry) engine) ↔ IsAuthenticatedAs (checked_answer result) engine pair }
+        ensures level { IfOk result (λ c. c.level ≡ level_of c.message.header) }
+
+        // This is what `open_priv` asks.
+        ensures private { IfOk result (λ c. c.level ≡ AuthPriv → HasUserAt self.old.users c.security.user.now AuthPriv × (tag_of c.message.body ≡ 4)) }
+        ensures users { self.new.users ≡ self.old.users }
+    {
+        one_message();
+        one_cut();
+        has_engine(role);
+        verify(&self.rows, role, datagram)
+    }
+    /// The plaintext of a message at authPriv that `open_auth` gave (RFC 3826, section 3.1.4). Its memory is asked for once.
+    ///
+    /// The error is DecryptionError (11), exactly where msgPrivacyParameters don't have 8 octets, or OutOfMemory.
+    pub fn open_priv(&mut self, checked: &Checked<'_>) -> Result<Vec<u8>, UsmFault>
+        requires level { HasUserAt self.old.users checked.now.security.user.now AuthPriv }
+        requires sealed { tag_of checked.now.message.body ≡ 4 }
+        ensures opened { IfOk result (λ v. IsPlaintext self.old.users (fields_of checked.now.security) (content_of checked.now.message.body) v.items) }
+        ensures salt { IsErrOf result UsmFault.DecryptionError → length checked.now.security.salt.now ≢ 8 }
+        ensures salt_length { IfOk result (λ _. length checked.now.security.salt.now ≡ 8) }
+        ensures memory { IsErrOf result UsmFault.OutOfMemory → length checked.now.security.salt.now ≡ 8 }
+        ensures fault { IfErr result (λ e. (e ≡ DecryptionError) ⊎ (e ≡ OutOfMemory)) }
+        ensures users { self.new.users ≡ self.old.users }
+    {
+        open_for(self.alloc, &self.rows, checked)
+    }
+
+    /// The text of an outgoing message (RFC 3414, section 3.1): every length the shortest, fields that its level doesn't use
+    /// empty, and the code last, in its place. `scoped` is one whole ScopedPDU element. The engine ID is of any length,
+    /// since a discovery has an empty one.
+    ///
+    /// The errors are InvalidFlags (18), then at levels with authentication UnknownUser (7) and UnsupportedLevel (8), and
+    /// then TooLarge (16), only where the text would be longer than 65,507 octets, or OutOfMemory.
+    pub fn seal(
+        &mut self,
+        header: &Header,
+        engine: &[u8],
+        pair: Pair,
+        user: &[u8],
+        salt: [u8; 8],
+        scoped: &[u8],
+    ) -> Result<Vec<u8>, UsmFault>
+        requires { SendingFits (sending header.now engine.now pair user.now salt scoped.now) }
+        ensures rows { IfSome (seal_answer result) (Seals self.old.users (sending header.now engine.now pair user.now salt scoped.now)) }
+
+        // The refusals before the text come before want of memory.
+        ensures memory { IsErrOf result UsmFault.OutOfMemory → IsSealable self.old.users (sending header.now engine.now pair user.now salt scoped.now) }
+        ensures users { self.new.users ≡ self.old.users }
+    {
+        let outgoing = Outgoing {
+            header: *header,
+            engine,
+            boots: pair.boots,
+            time: pair.time,
+            user,
+            salt,
+            scoped,
+        };
+        seal_for(self.alloc, &self.rows, &outgoing)
+    }
+}

@@ -1,0 +1,82 @@
+//! The refusals of a datagram down to its digest.
+
+ghost use Rattle.std.specs.Prelude.{◌≡◌, ◌≤◌, ◌⊎◌, ◌↔◌, ℕ, List, [], length, IsTrue, IfOk};
+ghost use Rattle.std.specs.Bool.{OnTrue};
+ghost use Rattle.snmp_ber.specs.declared.level.Level.TheVariants.{NoAuthNoPriv};
+ghost use Rattle.snmp_msg.specs.Level.{level_of};
+ghost use Rattle.usm_core.specs.Authentic.{HasEngineLength};
+ghost use Rattle.usm_core.specs.Verified.{Verifies, AllowsEngine, HasEngine, manager};
+ghost use Rattle.usm_core.specs.Answers.{side_of, checked_answer};
+
+use crate::digest::is_digest_right;
+use crate::fault::UsmFault;
+use crate::layout::read_layout;
+use crate::open::{Checked, Role};
+use crate::user::{User, user_named};
+use snmp_ber::Level;
+
+/// The engine's own identifier at an agent, and any of 5 to 32 octets at a manager.
+fn allows_engine(role: Role<'_>, engine: &[u8]) -> bool
+    ensures allows { IsTrue result ↔ AllowsEngine (side_of role.entry) engine.now }
+    ensures length { OnTrue result (HasEngineLength engine.now) }
+{
+    match role {
+        Role::Agent(own) => own.as_slice() == engine,
+        Role::Manager => engine.len() >= 5 && engine.len() <= 32,
+    }
+}
+
+/// At a manager the empty name at noAuthNoPriv, which the report that answers a discovery has.
+fn allows_no_user(role: Role<'_>, name: &[u8], level: Level) -> bool
+    ensures { IsTrue result ↔ ((side_of role.entry ≡ manager) × (name.now ≡ []) × (level ≡ NoAuthNoPriv)) }
+{
+    match (role, level) {
+        (Role::Manager, Level::NoAuthNoPriv) => name.is_empty(),
+        _ => false,
+    }
+}
+
+/// An agent's own identifier has 5 to 32 octets.
+pub(crate) fn has_engine(role: Role<'_>)
+    ensures { HasEngine (side_of role.entry) }
+{
+    if let Role::Agent(own) = role {
+        let _octets = own.as_slice();
+    }
+}
+
+/// The message that the datagram is, where its digest is right or it has none.
+pub(crate) fn verify<'a>(
+    users: &[User],
+    role: Role<'_>,
+    datagram: &'a [u8],
+) -> Result<Checked<'a>, UsmFault>
+    ensures rows { Verifies (side_of role.entry) users.now datagram.now (checked_answer result) }
+    ensures level { IfOk result (λ c. c.level ≡ level_of c.message.header) }
+{
+    let layout = read_layout(datagram)?;
+    let (message, security, level) = (layout.message, layout.security, layout.level);
+    if !allows_engine(role, security.engine) {
+        return Err(UsmFault::UnknownEngine);
+    }
+    match user_named(users, security.user) {
+        Some(user) => {
+            if !user.supports(level) {
+                return Err(UsmFault::UnsupportedLevel);
+            }
+            if !is_digest_right(user, datagram, &message, &security) {
+                return Err(UsmFault::WrongDigest);
+            }
+        }
+        None => {
+            if !allows_no_user(role, security.user, level) {
+                return Err(UsmFault::UnknownUser);
+            }
+        }
+    }
+    Ok(Checked {
+        message,
+        security,
+        level,
+    })
+}
