@@ -1,4 +1,4 @@
-use Rattle.std.proofs.Common.{◌≡◌, ◌++◌, List, ℕ}
+use Rattle.std.proofs.Common.{◌≡◌, ◌++◌}
 use Rattle.std.specs.Prelude.{map}
 use Rattle.snmp_msg.specs.Variables.{Variable, variables_of, bindings_left}
 use Rattle.snmp_msg.proofs.binding_tests.names_of.Given as goal
