@@ -1,8 +1,8 @@
 //! PDUs with bindings: which bindings they have, where faults stand in a list, and growths that are refused.
 
-ghost use Rattle.std.specs.Prelude.{◌≡◌, All, length, IfOk};
+ghost use Rattle.std.specs.Prelude.{◌≡◌, All, List, length, map, IfOk};
 ghost use Rattle.snmp_ber.specs.Element.{IsTag};
-ghost use Rattle.snmp_msg.specs.Variables.{CanBeWritten, variable_of};
+ghost use Rattle.snmp_msg.specs.Variables.{Variable, AreBindings, CanBeWritten, variable_of};
 
 use super::*;
 use snmp_ber::Oid;
@@ -27,6 +27,17 @@ fn get_request() -> &'static [u8]
     &GET_REQUEST
 }
 
+/// The names of a PDU's bindings, in order.
+fn names_of(alloc: Global, pdu: &Pdu<'_>) -> Result<Vec<Oid>, AllocError>
+    ensures { (vs : List Variable) → AreBindings vs pdu.now.list.now → IfOk result (λ v. v.items ≡ map (λ x. x.name) vs) }
+{
+    let mut names = Vec::new(alloc);
+    for binding in pdu.bindings() {
+        names.push(binding.name)?;
+    }
+    Ok(names)
+}
+
 #[test]
 fn a_get_request_has_one_binding(rt: HostRuntime) -> Result<(), Fail> {
     let pdu = read_pdu(get_request(), 72, 99).ok().ok_or("a PDU")?;
@@ -38,6 +49,7 @@ fn a_get_request_has_one_binding(rt: HostRuntime) -> Result<(), Fail> {
         count = count.saturating_add(1);
     }
     assert_eq!(rt; count, 1);
+    assert_eq!(rt; names_of(rt.alloc(), &pdu)?.len(), 1);
     Ok(())
 }
 
