@@ -1,19 +1,18 @@
 -- The rows of sealing.
-use Rattle.std.proofs.Common.{◌≡◌, ◌⊎◌, ℕ, ◌<◌, ◌≤◌, List, [], Bool, true, false, Option, Some, None, length, refl, sym, ap, subst, ◌∙◌, inl, inr}
-use Rattle.std.specs.Prelude.{Result, Ok, Err, IfOk, IfErr, IfSome, IsErrOf, IsSomeAnd, MatchBool, if◌then◌else◌}
+use Rattle.std.proofs.Common.{◌≡◌, ℕ, ◌<◌, List, [], Bool, true, false, Option, Some, None, length, refl, sym, ap, subst, ◌∙◌, inl, inr}
+use Rattle.std.specs.Prelude.{Result, Ok, Err, IfSome, IsErrOf, IsSomeAnd, MatchBool, if◌then◌else◌}
 use Rattle.std.specs.Global.{Vec}
 use Rattle.snmp_ber.specs.Element.{IsElement}
-use Rattle.snmp_ber.specs.declared.level.Level.TheVariants.{NoAuthNoPriv, AuthNoPriv, AuthPriv}
 use Rattle.snmp_msg.specs.Level.{level_of}
 use Rattle.usm_keys.specs.AuthKey.{AuthKey}
 use Rattle.usm_aes.specs.Feedback.{IsSealed, iv_of}
 use Rattle.usm_core.specs.declared.user.User.{User}
 use Rattle.usm_core.specs.declared.fault.UsmFault.{UsmFault}
-use Rattle.usm_core.specs.declared.fault.UsmFault.TheVariants.{TooLarge, OutOfMemory}
-use Rattle.usm_core.specs.Users.{user_named, supports, HasUser, HasUserAt}
+use Rattle.usm_core.specs.declared.fault.UsmFault.TheVariants.{TooLarge}
+use Rattle.usm_core.specs.Users.{user_named, supports}
 use Rattle.usm_core.specs.Table.{holds, fails}
-use Rattle.usm_core.specs.Sealed.{Sending, cipher, spelled_with, digest_of, UserKey, IsSentData, IsSentText, SealedText, Writes, Seals}
-use Rattle.usm_core.specs.Writing.{IsBody, IsKeyedText, IsTooLong, IsWriteFault, WritesKeyed, WritesOpen, seal_answer, privacy_for}
+use Rattle.usm_core.specs.Sealed.{Sending, cipher, spelled_with, digest_of, SealedText, Writes, Seals}
+use Rattle.usm_core.specs.Writing.{IsBody, IsKeyedText, IsTooLong, WritesKeyed, WritesOpen, seal_answer, privacy_for}
 use Rattle.usm_core.proofs.Tables.{some_and, from_some, from_none, true_false}
 
 key_and : (o : Option AuthKey) (key : AuthKey) (P : AuthKey → Type 0) → o ≡ Some key → P key → IsSomeAnd o P
@@ -95,9 +94,9 @@ module _ (users : List User) (m : Sending) (flags : m.header.privacy ≡ true �
   pub keyed_sealed : (result : Result (Vec ℕ) UsmFault) → WritesKeyed key privacy m result → IfSome (seal_answer result) (Seals users m)
   keyed_sealed (Ok v) w = keyed_rows users m flags user found level (Ok v.items) (sealed_text v.items w.ok, w.ok.size)
   keyed_sealed (Err fault) w = elim w.fault [
-      | inl e ↦ subst (λ (f : UsmFault). IfSome (seal_answer (Err f)) (Seals users m)) (sym e) (keyed_rows users m flags user found level (Err 16) (refl, too_long (w.too_large (large fault e))))
-      | inr e ↦ subst (λ (f : UsmFault). IfSome (seal_answer (Err f)) (Seals users m)) (sym e) tt
-    ]
+    | inl e ↦ subst (λ (f : UsmFault). IfSome (seal_answer (Err f)) (Seals users m)) (sym e) (keyed_rows users m flags user found level (Err 16) (refl, too_long (w.too_large (large fault e))))
+    | inr e ↦ subst (λ (f : UsmFault). IfSome (seal_answer (Err f)) (Seals users m)) (sym e) tt
+  ]
 
 pub open_sealed : (users : List User) (m : Sending) (flags : m.header.privacy ≡ true → m.header.auth ≡ true) → m.header.auth ≡ false → m.header.privacy ≡ false → (result : Result (Vec ℕ) UsmFault) → WritesOpen m result → IfSome (seal_answer result) (Seals users m)
 open_sealed users m flags clear plain (Ok v) w =
@@ -105,9 +104,9 @@ open_sealed users m flags clear plain (Ok v) w =
     open_rows users m flags clear (Ok v.items) (sealed, w.size)
 open_sealed users m flags clear plain (Err fault) w =
     let long : IsErrOf {T = Vec ℕ} (Err fault) TooLarge → (text : List ℕ) → SealedText users m text → 65507 < length text = λ e text s.
-        let d = at_false m.header.privacy _ _ plain s.is_data in
-        let t : text ≡ spelled_with m s.tag s.content [] = at_false m.header.auth _ _ clear s.is_text in
-        subst (λ (x : List ℕ). 65507 < length x) (sym (t ∙ ap (λ (k : ℕ). spelled_with m k s.content []) d.0 ∙ ap (λ (x : List ℕ). spelled_with m 48 x []) (w.only s.content d.1))) (w.too_large e) in
+    let d = at_false m.header.privacy _ _ plain s.is_data in
+    let t : text ≡ spelled_with m s.tag s.content [] = at_false m.header.auth _ _ clear s.is_text in
+    subst (λ (x : List ℕ). 65507 < length x) (sym (t ∙ ap (λ (k : ℕ). spelled_with m k s.content []) d.0 ∙ ap (λ (x : List ℕ). spelled_with m 48 x []) (w.only s.content d.1))) (w.too_large e) in
     elim w.fault [
       | inl e ↦ subst (λ (f : UsmFault). IfSome (seal_answer (Err f)) (Seals users m)) (sym e) (open_rows users m flags clear (Err 16) (refl, long (large fault e)))
       | inr e ↦ subst (λ (f : UsmFault). IfSome (seal_answer (Err f)) (Seals users m)) (sym e) tt

@@ -1,6 +1,5 @@
 -- Answers of the code, as the tables of refusals have them.
 use Rattle.std.specs.Prelude.{◌≡◌, ℕ, true, List, Option, Some, None, Result, Ok, Err}
-use Rattle.std.specs.Global.{Vec}
 use Rattle.snmp_msg.specs.declared.fault.MsgFault.{MsgFault}
 use Rattle.snmp_msg.specs.declared.fault.MsgFault.TheVariants as layout
 use Rattle.snmp_msg.specs.declared.fault.WriteFault.{WriteFault}

@@ -59,7 +59,11 @@ fn open_octets(
 {
     let schedule = schedule_of(key, security.engine);
     let mut text = octets.to_vec(alloc)?;
-    cfb_open(&schedule, iv(security.boots, security.time, salt), &mut text);
+    cfb_open(
+        &schedule,
+        iv(security.boots, security.time, salt),
+        &mut text,
+    );
     Ok(text)
 }
 

@@ -24,11 +24,10 @@ returns c =
     let local = c.localise-localised.result in
     let pieces = c.cut-pieces.ensures in
     let coded : c.mac.result.items ≡ mac local.auth local.octets (front ++ zeros ++ back) =
-      c.mac.ensures.code ∙ ap (λ (f : List ℕ). mac local.auth local.octets (f ++ zeros ++ c.cut-pieces.result.back.now)) pieces.front ∙ ap (λ (b : List ℕ). mac local.auth local.octets (front ++ zeros ++ b)) pieces.back in
+    c.mac.ensures.code ∙ ap (λ (f : List ℕ). mac local.auth local.octets (f ++ zeros ++ c.cut-pieces.result.back.now)) pieces.front ∙ ap (λ (b : List ℕ). mac local.auth local.octets (front ++ zeros ++ b)) pieces.back in
     let code : c.as_slice.result.now ≡ mac key.auth (kul (hash_of key.auth) key.octets s.engine) (front ++ zeros ++ back) =
-      c.as_slice.ensures.value ∙ coded ∙ ap (λ (k : AuthKey). mac k.auth k.octets (front ++ zeros ++ back)) c.localise-localised.ensures.key in
-    let size : length s.auth ≡ _ = c.if-size-mac_octets.false ∙ c.mac_octets.ensures.value in
-    (
+    c.as_slice.ensures.value ∙ coded ∙ ap (λ (k : AuthKey). mac k.auth k.octets (front ++ zeros ++ back)) c.localise-localised.ensures.key in
+    let size : length s.auth ≡ _ = c.if-size-mac_octets.false ∙ c.mac_octets.ensures.value in (
       λ right. record {
         front = front;
         back = back;
@@ -37,7 +36,7 @@ returns c =
         code = sym (same_text c.as_slice.result.now s.auth (sym right ∙ c.eq.ensures)) ∙ code;
       },
       λ h.
-      let places = c.one_cut.ensures.places w m s h.front h.back h.cut in
-      let same : s.auth ≡ c.as_slice.result.now = h.code ∙ ap (λ (f : List ℕ). mac key.auth (kul (hash_of key.auth) key.octets s.engine) (f ++ zeros ++ h.back)) places.0 ∙ ap (λ (b : List ℕ). mac key.auth (kul (hash_of key.auth) key.octets s.engine) (front ++ zeros ++ b)) places.2 ∙ sym code in
-      c.eq.ensures ∙ equal c.as_slice.result.now s.auth (sym same),
+          let places = c.one_cut.ensures.places w m s h.front h.back h.cut in
+          let same : s.auth ≡ c.as_slice.result.now = h.code ∙ ap (λ (f : List ℕ). mac key.auth (kul (hash_of key.auth) key.octets s.engine) (f ++ zeros ++ h.back)) places.0 ∙ ap (λ (b : List ℕ). mac key.auth (kul (hash_of key.auth) key.octets s.engine) (front ++ zeros ++ b)) places.2 ∙ sym code in
+          c.eq.ensures ∙ equal c.as_slice.result.now s.auth (sym same),
     )

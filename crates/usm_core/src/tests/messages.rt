@@ -1,0 +1,485 @@
+//! Messages that are opened, refused and sealed. Those that are written out as hex were made by another program, with Python's
+//! hmac and hashlib and its package cryptography.
+
+ghost use Rattle.std.specs.Prelude.{◌≡◌, ◌≤◌, ℕ, List, length, IfOk};
+ghost use Rattle.snmp_ber.specs.Element.{IsElement};
+ghost use Rattle.snmp_msg.specs.Spelling.{HeaderFits};
+
+use super::*;
+use engine_clock::{EngineId, Pair};
+use snmp_ber::Level;
+use snmp_msg::{Header, WriteFault, write_pdu, write_scoped};
+
+/// The scoped PDU of each message: a GetRequest with request-id 2 and no bindings, of the engine's own context.
+fn scoped_pdu(alloc: Global) -> Result<Vec<u8>, WriteFault>
+    ensures { IfOk result (λ v. (content : List ℕ) × IsElement 48 content v.items) }
+{
+    let pdu = write_pdu(alloc, 0xA0, 2, 0, 0)?;
+    let scoped = write_scoped(alloc, &ENGINE, b"", &pdu)?;
+    Ok(scoped)
+}
+
+/// The header of each message, with the auth and priv flags.
+fn header(auth: bool, privacy: bool) -> Header
+    ensures { HeaderFits result }
+{
+    Header {
+        id: 3,
+        max_size: 65_507,
+        auth,
+        privacy,
+        reportable: true,
+        model: 3,
+    }
+}
+
+/// The message to a user, sealed with boots 7, time 1000 and the salt 0001020304050607.
+fn sealed(
+    users: &mut Users,
+    header: &Header,
+    user: &[u8],
+    scoped: &[u8],
+) -> Result<Vec<u8>, UsmFault>
+    requires header { HeaderFits header.now }
+    requires scoped { (content : List ℕ) × IsElement 48 content scoped.now }
+    ensures users { users.new.users ≡ users.old.users }
+{
+    let pair = Pair {
+        boots: 7,
+        time: 1000,
+    };
+    let name = &user[..user.len().min(32)];
+    users.seal(
+        header,
+        &ENGINE,
+        pair,
+        name,
+        [0, 1, 2, 3, 4, 5, 6, 7],
+        scoped,
+    )
+}
+
+/// The scoped PDU that the datagram gives: at noAuthNoPriv and authNoPriv its content alone, as msgData has it.
+fn opened(
+    users: &mut Users,
+    alloc: Global,
+    role: Role<'_>,
+    datagram: &[u8],
+) -> Result<Vec<u8>, UsmFault> {
+    let checked = users.open_auth(role, datagram)?;
+    match checked.level {
+        Level::AuthPriv => users.open_priv(&checked),
+        _ => Ok(checked.message.body.content().to_vec(alloc)?),
+    }
+}
+
+fn digit(c: u8) -> u8 {
+    match c {
+        b'0'..=b'9' => c - b'0',
+        b'a'..=b'f' => c - b'a' + 10,
+        _ => 0,
+    }
+}
+
+/// The octets of a hex text.
+fn octets_of(alloc: Global, hex: &str) -> Result<Vec<u8>, AllocError> {
+    let mut octets = Vec::new(alloc);
+    let mut high = None;
+    for c in hex.bytes() {
+        match high {
+            None => high = Some(digit(c)),
+            Some(first) => {
+                octets.push(first.wrapping_mul(16) | digit(c))?;
+                high = None;
+            }
+        }
+    }
+    Ok(octets)
+}
+
+/// A message with boots 7, time 1000 and the salt 0001020304050607.
+struct Sample {
+    user: &'static [u8],
+    level: Level,
+    text: &'static str,
+}
+
+static SAMPLES: [Sample; 5] = [
+    Sample {
+        user: b"ann",
+        level: Level::AuthNoPriv,
+        text: "3060020103300e020103020300ffe3040105020103042c302a040c000000000000000000000002020107020203e80403616e6e040c4b70b55d71886e656523a4040400301d040c0000000000000000000000020400a00b0201020201000201003000",
+    },
+    Sample {
+        user: b"ann",
+        level: Level::AuthPriv,
+        text: "306a020103300e020103020300ffe304010702010304343032040c000000000000000000000002020107020203e80403616e6e040c234e23bcd2a6c86bb35445fe04080001020304050607041f14306cfde49e840908ec2a30e037517efaa148748e0879a1c4c9a491d2fa5b",
+    },
+    Sample {
+        user: b"bob",
+        level: Level::AuthNoPriv,
+        text: "3060020103300e020103020300ffe3040105020103042c302a040c000000000000000000000002020107020203e80403626f62040c0d12f11b91441c61fc6cf4740400301d040c0000000000000000000000020400a00b0201020201000201003000",
+    },
+    Sample {
+        user: b"bob",
+        level: Level::AuthPriv,
+        text: "306a020103300e020103020300ffe304010702010304343032040c000000000000000000000002020107020203e80403626f62040c26e5dbf45a591252a0da432c04080001020304050607041f011ba14a486a419119f27be8aef28e2922dfa9fadea5a3bb5dd30cc93e0a63",
+    },
+    Sample {
+        user: b"guest",
+        level: Level::NoAuthNoPriv,
+        text: "3056020103300e020103020300ffe304010402010304223020040c000000000000000000000002020107020203e80405677565737404000400301d040c0000000000000000000000020400a00b0201020201000201003000",
+    },
+];
+
+fn samples() -> &'static [Sample] {
+    &SAMPLES
+}
+
+fn engine(octets: &[u8]) -> Result<EngineId, Fail> {
+    Ok(EngineId::of(octets).ok_or("engine")?)
+}
+
+/// Where msgData isn't sealed, the content that the scoped PDU has behind its two octets of head.
+fn data_of(scoped: &[u8], level: Level) -> &[u8] {
+    match level {
+        Level::AuthPriv => scoped,
+        _ => scoped.get(2..).unwrap_or(scoped),
+    }
+}
+
+/// The sample is what is sealed, and it is opened by its agent and by a manager.
+fn assert_sample(
+    rt: &impl Abort,
+    users: &mut Users,
+    alloc: Global,
+    sample: &Sample,
+) -> Result<(), Fail> {
+    let own = engine(&ENGINE)?;
+    let datagram = octets_of(alloc, sample.text)?;
+    let scoped = scoped_pdu(alloc)?;
+    let header = header(
+        sample.level != Level::NoAuthNoPriv,
+        sample.level == Level::AuthPriv,
+    );
+    let text = sealed(users, &header, sample.user, &scoped)?;
+    assert_eq!(rt; text.as_slice(), datagram.as_slice());
+    let data = data_of(&scoped, sample.level);
+    let opened_here = opened(users, alloc, Role::Agent(&own), &datagram)?;
+    assert_eq!(rt; opened_here.as_slice(), data);
+    let opened_there = opened(users, alloc, Role::Manager, &datagram)?;
+    assert_eq!(rt; opened_there.as_slice(), data);
+    Ok(())
+}
+
+#[test]
+fn messages_of_another_program_are_opened_and_sealed(rt: HostRuntime) -> Result<(), Fail> {
+    let mut users = loaded(rt.alloc(), people())?;
+    for sample in samples() {
+        assert_sample(&rt, &mut users, rt.alloc(), sample)?;
+    }
+    Ok(())
+}
+
+#[test]
+fn what_a_message_says_is_given(rt: HostRuntime) -> Result<(), Fail> {
+    let mut users = loaded(rt.alloc(), people())?;
+    for sample in samples() {
+        let datagram = octets_of(rt.alloc(), sample.text)?;
+        let checked = users.open_auth(Role::Manager, &datagram)?;
+        assert_eq!(rt; checked.level, sample.level);
+        assert_eq!(rt; checked.security.user, sample.user);
+        assert_eq!(rt; checked.security.engine, ENGINE.as_slice());
+        assert_eq!(rt; (checked.security.boots, checked.security.time), (7, 1000));
+        assert_eq!(rt; checked.message.header.id, 3);
+    }
+    Ok(())
+}
+
+/// The first sample with other octets at some places, and what an agent of its engine and a manager answer.
+struct Spoiled {
+    octets: &'static [(usize, u8)],
+    agent: UsmFault,
+    manager: UsmFault,
+}
+
+const WRONG_DIGEST: UsmFault = UsmFault::WrongDigest;
+
+static SPOILED: [Spoiled; 17] = [
+    // One fault each: the outer length, the version, the flags, the model, msgSecurityParameters, msgData.
+    Spoiled {
+        octets: &[(1, 0x80)],
+        agent: UsmFault::NotMessage { at: 0 },
+        manager: UsmFault::NotMessage { at: 0 },
+    },
+    Spoiled {
+        octets: &[(4, 1)],
+        agent: UsmFault::BadVersion,
+        manager: UsmFault::BadVersion,
+    },
+    Spoiled {
+        octets: &[(17, 6)],
+        agent: UsmFault::InvalidFlags,
+        manager: UsmFault::InvalidFlags,
+    },
+    Spoiled {
+        octets: &[(20, 2)],
+        agent: UsmFault::UnknownModel,
+        manager: UsmFault::UnknownModel,
+    },
+    Spoiled {
+        octets: &[(23, 0x31)],
+        agent: UsmFault::NotSecurity { at: 23 },
+        manager: UsmFault::NotSecurity { at: 23 },
+    },
+    Spoiled {
+        octets: &[(67, 4)],
+        agent: UsmFault::NotScoped { at: 67 },
+        manager: UsmFault::NotScoped { at: 67 },
+    },
+    // Another engine, another user, a user of a lower level, the last octet of the digest, one of the scoped PDU, and the
+    // flags in which the digest has a part.
+    Spoiled {
+        octets: &[(38, 3)],
+        agent: UsmFault::UnknownEngine,
+        manager: WRONG_DIGEST,
+    },
+    Spoiled {
+        octets: &[(50, b'm')],
+        agent: UsmFault::UnknownUser,
+        manager: UsmFault::UnknownUser,
+    },
+    Spoiled {
+        octets: &[(48, b'e'), (49, b'v'), (50, b'e')],
+        agent: UsmFault::UnsupportedLevel,
+        manager: UsmFault::UnsupportedLevel,
+    },
+    Spoiled {
+        octets: &[(64, 5)],
+        agent: WRONG_DIGEST,
+        manager: WRONG_DIGEST,
+    },
+    Spoiled {
+        octets: &[(17, 1)],
+        agent: WRONG_DIGEST,
+        manager: WRONG_DIGEST,
+    },
+    // Two faults, of which the first in the order is told.
+    Spoiled {
+        octets: &[(4, 1), (1, 0x5F)],
+        agent: UsmFault::BadVersion,
+        manager: UsmFault::BadVersion,
+    },
+    Spoiled {
+        octets: &[(17, 6), (20, 2)],
+        agent: UsmFault::UnknownModel,
+        manager: UsmFault::UnknownModel,
+    },
+    Spoiled {
+        octets: &[(17, 6), (67, 4), (23, 0x31)],
+        agent: UsmFault::InvalidFlags,
+        manager: UsmFault::InvalidFlags,
+    },
+    Spoiled {
+        octets: &[(67, 4), (23, 0x31)],
+        agent: UsmFault::NotScoped { at: 67 },
+        manager: UsmFault::NotScoped { at: 67 },
+    },
+    Spoiled {
+        octets: &[(38, 3), (50, b'm')],
+        agent: UsmFault::UnknownEngine,
+        manager: UsmFault::UnknownUser,
+    },
+    Spoiled {
+        octets: &[(50, b'm'), (64, 5)],
+        agent: UsmFault::UnknownUser,
+        manager: UsmFault::UnknownUser,
+    },
+];
+
+fn spoiled_messages() -> &'static [Spoiled] {
+    &SPOILED
+}
+
+/// The first sample with these octets.
+fn with_octets(alloc: Global, octets: &[(usize, u8)]) -> Result<Vec<u8>, Fail> {
+    let sample = samples().first().ok_or("a sample")?;
+    let mut datagram = octets_of(alloc, sample.text)?;
+    for (place, octet) in octets {
+        if let Some(held) = datagram.get_mut(*place) {
+            *held = *octet;
+        }
+    }
+    Ok(datagram)
+}
+
+#[test]
+fn the_first_fault_is_told(rt: HostRuntime) -> Result<(), Fail> {
+    let mut users = loaded(rt.alloc(), people())?;
+    let own = engine(&ENGINE)?;
+    for (number, spoiled) in spoiled_messages().iter().enumerate() {
+        let datagram = with_octets(rt.alloc(), spoiled.octets)?;
+        let agent = users.open_auth(Role::Agent(&own), &datagram).err();
+        assert_eq!(rt; agent, Some(spoiled.agent), "case {number} at the agent");
+        let manager = users.open_auth(Role::Manager, &datagram).err();
+        assert_eq!(rt;
+            manager,
+            Some(spoiled.manager),
+            "case {number} at the manager"
+        );
+    }
+    Ok(())
+}
+
+/// A message, and what an agent of its engine and a manager answer.
+struct Answered {
+    text: &'static str,
+    agent: Option<UsmFault>,
+    manager: Option<UsmFault>,
+}
+
+static ANSWERED: [Answered; 6] = [
+    // The outer length by 82 and two octets, with the code of these octets, and with that of the shortest spelling.
+    Answered {
+        text: "30820060020103300e020103020300ffe3040105020103042c302a040c000000000000000000000002020107020203e80403616e6e040cf4c7db0bb7710ce26b5d2cde0400301d040c0000000000000000000000020400a00b0201020201000201003000",
+        agent: None,
+        manager: None,
+    },
+    Answered {
+        text: "30820060020103300e020103020300ffe3040105020103042c302a040c000000000000000000000002020107020203e80403616e6e040c4b70b55d71886e656523a4040400301d040c0000000000000000000000020400a00b0201020201000201003000",
+        agent: Some(WRONG_DIGEST),
+        manager: Some(WRONG_DIGEST),
+    },
+    // A field of the first 11 octets of the code of the message with 11 zeros there.
+    Answered {
+        text: "305f020103300e020103020300ffe3040105020103042b3029040c000000000000000000000002020107020203e80403616e6e040b30f69b1caf3e2ba2abfc7c0400301d040c0000000000000000000000020400a00b0201020201000201003000",
+        agent: Some(WRONG_DIGEST),
+        manager: Some(WRONG_DIGEST),
+    },
+    // An engine ID of four octets, and its code.
+    Answered {
+        text: "3058020103300e020103020300ffe304010502010304243022040400000000020107020203e80403616e6e040c689f6d373a32e0d90e75a2450400301d040c0000000000000000000000020400a00b0201020201000201003000",
+        agent: Some(UsmFault::UnknownEngine),
+        manager: Some(UsmFault::UnknownEngine),
+    },
+    // The empty user name, with authentication and without.
+    Answered {
+        text: "305d020103300e020103020300ffe304010502010304293027040c000000000000000000000002020107020203e80400040c7a614a5c864156af5f2522620400301d040c0000000000000000000000020400a00b0201020201000201003000",
+        agent: Some(UsmFault::UnknownUser),
+        manager: Some(UsmFault::UnknownUser),
+    },
+    Answered {
+        text: "3051020103300e020103020300ffe3040104020103041d301b040c000000000000000000000002020107020203e8040004000400301d040c0000000000000000000000020400a00b0201020201000201003000",
+        agent: Some(UsmFault::UnknownUser),
+        manager: None,
+    },
+];
+
+fn answered_messages() -> &'static [Answered] {
+    &ANSWERED
+}
+
+#[test]
+fn the_code_is_that_of_the_octets_received(rt: HostRuntime) -> Result<(), Fail> {
+    let mut users = loaded(rt.alloc(), people())?;
+    let own = engine(&ENGINE)?;
+    for (number, answered) in answered_messages().iter().enumerate() {
+        let datagram = octets_of(rt.alloc(), answered.text)?;
+        let agent = users.open_auth(Role::Agent(&own), &datagram).err();
+        assert_eq!(rt; agent, answered.agent, "case {number} at the agent");
+        let manager = users.open_auth(Role::Manager, &datagram).err();
+        assert_eq!(rt; manager, answered.manager, "case {number} at the manager");
+    }
+    Ok(())
+}
+
+/// With privacy and a salt of 7 octets, and with the code of it.
+const SHORT_SALT: &str =
+    "3052020103300e020103020300ffe304010702010304333031040c000000000000000000000002020107020203e80403616e6e040c50924ed468d6335990d6c67d04070001020304050604080000000000000000";
+
+#[test]
+fn a_salt_has_eight_octets(rt: HostRuntime) -> Result<(), Fail> {
+    let mut users = loaded(rt.alloc(), people())?;
+    let datagram = octets_of(rt.alloc(), SHORT_SALT)?;
+    assert!(rt; users.open_auth(Role::Manager, &datagram).is_ok());
+    let answer = opened(&mut users, rt.alloc(), Role::Manager, &datagram);
+    assert_eq!(rt; answer.err(), Some(UsmFault::DecryptionError));
+    Ok(())
+}
+
+/// No octet of a message with privacy can be xored with this one.
+fn assert_changes_seen(rt: &impl Abort, users: &mut Users, datagram: &mut [u8], change: u8) {
+    for place in 0..datagram.len() {
+        datagram[place] ^= change;
+        assert!(rt;
+            users.open_auth(Role::Manager, datagram).is_err(),
+            "octet {place}"
+        );
+        datagram[place] ^= change;
+    }
+}
+
+#[test]
+fn a_changed_octet_is_seen(rt: HostRuntime) -> Result<(), Fail> {
+    let mut users = loaded(rt.alloc(), people())?;
+    let sample = samples().get(1).ok_or("a sample")?;
+    let mut datagram = octets_of(rt.alloc(), sample.text)?;
+    assert_changes_seen(&rt, &mut users, &mut datagram, 0x01);
+    assert_changes_seen(&rt, &mut users, &mut datagram, 0x80);
+    assert!(rt; users.open_auth(Role::Manager, &datagram).is_ok());
+    Ok(())
+}
+
+/// What sealing answers to a user, with these flags of auth and priv.
+static REFUSED: [(&str, bool, bool, UsmFault); 6] = [
+    ("nobody", false, true, UsmFault::InvalidFlags),
+    ("nobody", true, false, UsmFault::UnknownUser),
+    ("nobody", true, true, UsmFault::UnknownUser),
+    ("", true, false, UsmFault::UnknownUser),
+    ("guest", true, false, UsmFault::UnsupportedLevel),
+    ("reader", true, true, UsmFault::UnsupportedLevel),
+];
+
+fn refused() -> &'static [(&'static str, bool, bool, UsmFault)] {
+    &REFUSED
+}
+
+#[test]
+fn sealing_needs_a_user_of_the_level(rt: HostRuntime) -> Result<(), Fail> {
+    let mut users = loaded(rt.alloc(), people())?;
+    let scoped = scoped_pdu(rt.alloc())?;
+    for (user, auth, privacy, fault) in refused() {
+        let answer = sealed(
+            &mut users,
+            &header(*auth, *privacy),
+            user.as_bytes(),
+            &scoped,
+        );
+        assert_eq!(rt; answer.err(), Some(*fault), "{user} {auth} {privacy}");
+    }
+    // At noAuthNoPriv no user is looked for.
+    assert!(rt; sealed(&mut users, &header(false, false), b"nobody", &scoped).is_ok());
+    Ok(())
+}
+
+// Run with `rt try --test --fail-alloc N` for each N, this shows that a refused growth is answered as want of memory, and that
+// the same call succeeds afterwards.
+#[test]
+fn a_refused_growth_seals_and_opens_nothing(rt: HostRuntime) -> Result<(), Fail> {
+    let mut users = loaded_after_refusal(&rt, rt.alloc(), people())?;
+    let scoped = match scoped_pdu(rt.alloc()) {
+        Err(WriteFault::OutOfMemory) => scoped_pdu(rt.alloc())?,
+        other => other?,
+    };
+    let header = header(true, true);
+    let text = match sealed(&mut users, &header, b"ann", &scoped) {
+        Err(UsmFault::OutOfMemory) => sealed(&mut users, &header, b"ann", &scoped)?,
+        other => other?,
+    };
+    let plain = match opened(&mut users, rt.alloc(), Role::Manager, &text) {
+        Err(UsmFault::OutOfMemory) => opened(&mut users, rt.alloc(), Role::Manager, &text)?,
+        other => other?,
+    };
+    assert_eq!(rt; plain.as_slice(), scoped.as_slice());
+    Ok(())
+}
