@@ -9,11 +9,10 @@ ghost use Rattle.engine_clock.specs.Pairs.{BootsAndTime};
 ghost use Rattle.usm_core.specs.Users.{AreUsers, HasUserAt};
 ghost use Rattle.usm_core.specs.Authentic.{Authentic};
 ghost use Rattle.usm_core.specs.Verified.{Verifies, AllowsEngine};
-ghost use Rattle.usm_core.specs.Answers.{side_of, checked_answer, IsAuthenticatedAs};
+ghost use Rattle.usm_core.specs.Answers.{side_of, checked_answer, seal_answer, IsAuthenticatedAs};
 ghost use Rattle.usm_core.specs.Rows.{AreSound, IsTold, user_of};
 ghost use Rattle.usm_core.specs.Refusals.{Supports};
-ghost use Rattle.usm_core.specs.Sealed.{Seals, SendingFits, IsSealable, IsPlaintext};
-ghost use Rattle.usm_core.specs.Writing.{sending, seal_answer};
+ghost use Rattle.usm_core.specs.Sealed.{sending, Seals, SendingFits, IsSealable, IsPlaintext};
 ghost use Rattle.usm_core.specs.declared.fault.UsmFault.TheVariants.{UnknownUser, DecryptionError, OutOfMemory};
 
 use crate::fault::UsmFault;
@@ -96,6 +95,7 @@ impl Users {
             None => Err(UsmFault::UnknownUser),
         }
     }
+
     /// The message that the datagram is, where auth is clear or its digest is right (RFC 3414, section 3.2).
     ///
     /// The errors are, the first that applies: NotMessage (1) and BadVersion (2), UnknownModel (17), InvalidFlags (18),
@@ -122,6 +122,7 @@ impl Users {
         has_engine(role);
         verify(&self.rows, role, datagram)
     }
+
     /// The plaintext of a message at authPriv that `open_auth` gave (RFC 3826, section 3.1.4). Its memory is asked for once.
     ///
     /// The error is DecryptionError (11), exactly where msgPrivacyParameters don't have 8 octets, or OutOfMemory.
