@@ -1,7 +1,9 @@
 //! What a command prints, and its status.
 
 ghost use Rattle.std.specs.Prelude.{◌≡◌, ◌++◌, [], IfOk, codes};
+ghost use Rattle.snmpsec.specs.ConfigRefusals.{refusal_text};
 
+use crate::config::ConfigRefusal;
 use std::alloc::{AllocError, Global};
 
 /// What a command prints, and the status that the program then ends with.
@@ -41,5 +43,15 @@ impl Output {
             err: line.into_bytes(),
             status: 2,
         })
+    }
+
+    /// The line for a refused configuration, on standard output, and status 1.
+    pub fn refused(alloc: Global, refusal: ConfigRefusal) -> Result<Output, AllocError>
+        ensures out { IfOk result (λ output. output.out.items ≡ refusal_text refusal ++ codes "\n") }
+        ensures err { IfOk result (λ output. output.err.items ≡ []) }
+        ensures status { IfOk result (λ output. output.status ≡ 1) }
+    {
+        let line = format!(in alloc; "{refusal}\n")?;
+        Ok(Output::out(alloc, line.into_bytes(), 1))
     }
 }

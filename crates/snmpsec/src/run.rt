@@ -1,6 +1,7 @@
 //! From the command line to what is written.
 
 use crate::arguments;
+use crate::check::check_text;
 use crate::files::{FileFault, read_file};
 use crate::merge::merge_text;
 use crate::output::Output;
@@ -75,10 +76,39 @@ fn usage(alloc: Global, fault: &clap::Error) -> Result<Output, AllocError> {
 /// What the command that was given prints.
 fn command<R: Files + AllocGlobal>(rt: &R, matches: &ArgMatches<'_>) -> Result<Output, AllocError> {
     match matches.subcommand() {
+        Some(("check-access", words)) => check_access(rt, words),
         Some(("merge-clocks", words)) => merge_files(rt, words.get_strs("FILE").unwrap_or(&[])),
-        Some((_, words)) => show_text(rt.alloc(), words.get_str("HEX").unwrap_or("")),
+        Some((_, words)) => show_text(rt.alloc(), given(words, "HEX")),
         None => show_text(rt.alloc(), ""),
     }
+}
+
+/// The word of an argument that the parser requires.
+fn given<'a>(words: &ArgMatches<'a>, name: &str) -> &'a str {
+    words.get_str(name).unwrap_or("")
+}
+
+/// Reads the configuration whole, before it looks at another word, and then asks it.
+fn check_access<R: Files + AllocGlobal>(
+    rt: &R,
+    words: &ArgMatches<'_>,
+) -> Result<Output, AllocError> {
+    let alloc = rt.alloc();
+    let name = given(words, "CONFIG");
+    let config = match read_file(rt, name) {
+        Ok(config) => config,
+        Err(FileFault::OutOfMemory) => return Err(AllocError),
+        Err(FileFault::CannotRead) => return cannot_read(alloc, name),
+    };
+    let question = [
+        given(words, "MODEL"),
+        given(words, "NAME"),
+        given(words, "LEVEL"),
+        given(words, "VIEW"),
+        given(words, "CONTEXT"),
+        given(words, "OID"),
+    ];
+    check_text(alloc, &config, &question)
 }
 
 /// Reads the files whole, in the order of their names, and then merges them.

@@ -1,5 +1,6 @@
 //! What is printed, and its status; what is read and written.
 
+mod access;
 mod merged;
 mod streams;
 

@@ -1,0 +1,43 @@
+-- What is printed for a question that was answered.
+use Rattle.std.proofs.Common.{◌≡◌, ℕ, zero, suc, List, [], ◌∷◌, ◌++◌, get_or, Result, Ok, Err, refl, ap, inl, inr, arith}
+use Rattle.std.specs.Prelude.{map, IfOk, codes}
+use Rattle.vacm_core.specs.Allowed.{Allowed}
+use Rattle.vacm_core.specs.Tables.{Tables}
+use Rattle.vacm_core.specs.Distinct.{HasOneRowEach}
+use Rattle.vacm_core.specs.declared.access.Access.{Access}
+use Rattle.vacm_core.specs.declared.access.Access.TheVariants as answers
+use Rattle.snmpsec.specs.Configs.{IsToml}
+use Rattle.snmpsec.specs.Questions.{Asked, Asks, Answers, ChecksAccess}
+use Rattle.snmpsec.specs.Words.{access_word, access_status}
+
+-- an element of a list that is mapped
+pub at_map : {A B : Type 0} (f : A → B) (xs : List A) (k : ℕ) (d : A) → get_or (map f xs) k (f d) ≡ f (get_or xs k d)
+at_map f [] zero d = refl
+at_map f [] (suc k) d = refl
+at_map f (x ∷ xs) zero d = refl
+at_map f (x ∷ xs) (suc k) d = at_map f xs k d
+
+pub if_answered : {A E : Type 0} (r : Result A E) (out err : A → List ℕ) (status : A → ℕ) (config : List ℕ) (words : List (List ℕ)) (asked : Asked) (tables : Tables) (answer : Access)
+    → Asks words asked → IsToml config → HasOneRowEach tables → Allowed tables asked.message asked.view asked.arcs answer
+    → IfOk r (λ x. out x ≡ access_word answer ++ codes "\n") → IfOk r (λ x. err x ≡ []) → IfOk r (λ x. status x ≡ access_status answer)
+    → IfOk r (λ x. ChecksAccess config words (record { out = out x; err = err x; status = status x }))
+if_answered (Ok x) out err status config words asked tables answer asks toml one allowed o e s = inr (
+  asked,
+  asks,
+  inr (toml, (tables, record { one_row_each = one; answer = answer; allowed = allowed; out = o; err = e; status = s })),
+)
+if_answered (Err x) out err status config words asked tables answer asks toml one allowed o e s = tt
+
+-- no answer is the line for a text that isn't TOML
+no_refusal : (answer : Access) → access_word answer ++ codes "\n" ≡ codes "refused config toml\n" → ⊥
+no_refusal answers.AccessAllowed e = let bad : 97 ≡ 114 = ap (λ (t : List ℕ). get_or t 0 0) e in absurd (omega (arith, bad))
+no_refusal answers.NotInView e = let bad : 110 ≡ 114 = ap (λ (t : List ℕ). get_or t 0 0) e in absurd (omega (arith, bad))
+no_refusal answers.NoSuchView e = let bad : 110 ≡ 114 = ap (λ (t : List ℕ). get_or t 0 0) e in absurd (omega (arith, bad))
+no_refusal answers.NoAccessEntry e = let bad : 110 ≡ 114 = ap (λ (t : List ℕ). get_or t 0 0) e in absurd (omega (arith, bad))
+no_refusal answers.NoGroupName e = let bad : 110 ≡ 114 = ap (λ (t : List ℕ). get_or t 0 0) e in absurd (omega (arith, bad))
+no_refusal answers.NoSuchContext e = let bad : 110 ≡ 114 = ap (λ (t : List ℕ). get_or t 0 0) e in absurd (omega (arith, bad))
+
+pub if_no_refusal : {A E : Type 0} (P : Type 0) (r : Result A E) (out : A → List ℕ) (answer : Access) → IfOk r (λ x. out x ≡ access_word answer ++ codes "\n")
+    → IfOk r (λ x. out x ≡ codes "refused config toml\n" → P)
+if_no_refusal P (Ok x) out answer o = λ e. absurd (no_refusal answer (rw o at e))
+if_no_refusal P (Err x) out answer o = tt
