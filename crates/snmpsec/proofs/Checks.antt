@@ -1,5 +1,5 @@
 -- What is printed for a question that was answered.
-use Rattle.std.proofs.Common.{◌≡◌, ℕ, zero, suc, List, [], ◌∷◌, ◌++◌, get_or, Result, Ok, Err, refl, ap, inl, inr, arith}
+use Rattle.std.proofs.Common.{◌≡◌, ℕ, zero, suc, List, [], ◌∷◌, ◌++◌, get_or, Result, Ok, Err, refl, ap, inr, arith}
 use Rattle.std.specs.Prelude.{map, IfOk, codes}
 use Rattle.vacm_core.specs.Allowed.{Allowed}
 use Rattle.vacm_core.specs.Tables.{Tables}
@@ -7,7 +7,7 @@ use Rattle.vacm_core.specs.Distinct.{HasOneRowEach}
 use Rattle.vacm_core.specs.declared.access.Access.{Access}
 use Rattle.vacm_core.specs.declared.access.Access.TheVariants as answers
 use Rattle.snmpsec.specs.Configs.{IsToml}
-use Rattle.snmpsec.specs.Questions.{Asked, Asks, Answers, ChecksAccess}
+use Rattle.snmpsec.specs.Questions.{Asked, Asks, ChecksAccess}
 use Rattle.snmpsec.specs.Words.{access_word, access_status}
 
 -- an element of a list that is mapped

@@ -1,4 +1,3 @@
-use Rattle.std.proofs.Common.{rules, ◌≡◌, ◌++◌, [], ℕ, List, IfOk, IfErr, codes, map, inl, inr}
 use Rattle.snmpsec.proofs.Checks.{if_answered, if_no_refusal}
 use Rattle.snmpsec.proofs.check.check_text.Goals as goal
 

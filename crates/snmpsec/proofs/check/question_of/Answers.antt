@@ -1,6 +1,6 @@
-use Rattle.std.proofs.Common.{◌≡◌, [], ℕ, List, get_or, map, sym, subst, ◌∙◌}
+use Rattle.std.proofs.Common.{[], ℕ, List, sym, subst, ◌∙◌}
 use Rattle.snmpsec.proofs.Checks.{at_map}
-use Rattle.snmpsec.specs.Questions.{word_at, IsModelWord, IsContextWord}
+use Rattle.snmpsec.specs.Questions.{IsModelWord, IsContextWord}
 use Rattle.snmpsec.proofs.check.question_of.Goals as goal
 
 pub returns-clause-asks : goal.returns-clause-asks
