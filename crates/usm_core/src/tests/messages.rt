@@ -14,7 +14,7 @@ use snmp_msg::{Header, WriteFault, write_pdu, write_scoped};
 fn scoped_pdu(alloc: Global) -> Result<Vec<u8>, WriteFault>
     ensures { IfOk result (λ v. (content : List ℕ) × IsElement 48 content v.items) }
 {
-    let pdu = write_pdu(alloc, 0xA0, 2, 0, 0)?;
+    let pdu = write_pdu(alloc, 0xA0, 2, 0, 0, &[])?;
     let scoped = write_scoped(alloc, &ENGINE, b"", &pdu)?;
     Ok(scoped)
 }
