@@ -5,6 +5,7 @@ ghost use Rattle.snmp_ber.specs.Element.{IsTag};
 ghost use Rattle.snmp_msg.specs.Variables.{Variable, AreBindings, CanBeWritten, variable_of};
 
 use super::*;
+use crate::tests::is_too_large;
 use snmp_ber::Oid;
 use std::alloc::{AllocError, Global};
 use std::test::Fail;
@@ -247,10 +248,14 @@ fn valued_len(alloc: Global, count: usize) -> Result<usize, WriteFault> {
 fn a_pdu_is_no_longer_than_a_datagram(rt: HostRuntime) -> Result<(), Fail> {
     // 28 octets are of heads, the three numbers and the name
     assert_eq!(rt; valued_len(rt.alloc(), 65479)?, 65507);
-    let longer = valued_len(rt.alloc(), 65480).err();
-    assert_eq!(rt; longer, Some(WriteFault::TooLarge));
-    let longer = valued_len(rt.alloc(), 65508).err();
-    assert_eq!(rt; longer, Some(WriteFault::TooLarge));
+    assert!(rt;
+        is_too_large(valued_len(rt.alloc(), 65480))?,
+        "an octet more"
+    );
+    assert!(rt;
+        is_too_large(valued_len(rt.alloc(), 65508))?,
+        "a value that is longer"
+    );
     Ok(())
 }
 

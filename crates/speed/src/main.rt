@@ -2,6 +2,7 @@
 //!
 //! `speed OPERATION OCTETS TIMES` does the operation TIMES times, first on a text of OCTETS octets `a`, and
 //! then each time on that text with the last result over its first octets, so that no time can be left out.
+//! `speed OPERATION MESSAGE TIMES` opens the message, given in hex, TIMES times.
 //! It prints the last result in lower-case hex.
 #![tactic(auto)]
 
@@ -14,14 +15,14 @@ use std::env;
 fn main(rt: HostRuntime) -> Result<()> {
     let alloc = rt.alloc();
     let words: Vec<String> = env::args(&rt)?.collect(alloc)?;
-    let [_, operation, octets, times] = words.as_slice() else {
-        bail!("usage: speed OPERATION OCTETS TIMES");
+    let [_, operation, text, times] = words.as_slice() else {
+        bail!("usage: speed OPERATION OCTETS|MESSAGE TIMES");
     };
     let operation: Operation = operation.as_str().parse()?;
-    let octets: usize = octets.as_str().parse().context("OCTETS")?;
+    let mut text = operation.text(alloc, text.as_str())?;
     let times: u64 = times.as_str().parse().context("TIMES")?;
-    let mut text = vec![in alloc; b'a'; octets]?;
-    let result = operation.repeat(&mut text, times)?;
+    let mut users = operation.users(alloc)?;
+    let result = operation.repeat(&mut users, &mut text, times)?;
     println!(rt; "{}", hex::encode(alloc, result.as_slice())?)?;
     Ok(())
 }

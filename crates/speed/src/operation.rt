@@ -1,9 +1,12 @@
 //! The operations that can be timed.
+use anyhow::{Context, Result};
 use arrayvec::ArrayVec;
+use std::alloc::Global;
 use std::str::FromStr;
 use thiserror::Error;
 use usm_aes::{cfb_seal, expand, iv};
-use usm_keys::{Auth, Key, ShortPassword, mac, password_key};
+use usm_core::{Role, UserRow, Users};
+use usm_keys::{Auth, Key, mac, password_key};
 
 /// The key of the message authentication codes.
 const MAC_KEY: [u8; 32] = [0x0b; 32];
@@ -18,11 +21,14 @@ pub enum Operation {
     /// `cfb-seal`: the text sealed in place under the key 00 to 0F, with boots 7, time 1000 and the salt 00 to 07. The result
     /// is its last 16 octets, or all of a shorter one.
     CfbSeal,
+    /// `open-auth-md5`, `open-auth-sha1`: the text, which is a message of the user `ann` with the password `maplesyrup`, opened
+    /// by a manager. The result is the message's authentication code.
+    OpenAuth(Auth),
 }
 
 /// No operation has this name.
 #[derive(Clone, Copy, PartialEq, Eq, Debug, Error)]
-#[error("OPERATION is password-key-md5, password-key-sha1, mac-md5, mac-sha1 or cfb-seal")]
+#[error("OPERATION is password-key-md5, password-key-sha1, mac-md5, mac-sha1, cfb-seal, open-auth-md5 or open-auth-sha1")]
 pub struct UnknownOperation;
 
 impl FromStr for Operation {
@@ -35,25 +41,58 @@ impl FromStr for Operation {
             "mac-md5" => Ok(Operation::Mac(Auth::Md5)),
             "mac-sha1" => Ok(Operation::Mac(Auth::Sha1)),
             "cfb-seal" => Ok(Operation::CfbSeal),
+            "open-auth-md5" => Ok(Operation::OpenAuth(Auth::Md5)),
+            "open-auth-sha1" => Ok(Operation::OpenAuth(Auth::Sha1)),
             _ => Err(UnknownOperation),
         }
     }
 }
 
 impl Operation {
-    /// Does the operation on the text `times` times, with each result over the first octets of the text
-    /// for the next, and answers the last result: no octets for no times.
-    pub fn repeat(self, text: &mut [u8], times: u64) -> Result<ArrayVec<u8, 32>, ShortPassword> {
+    /// The text to begin with: the message that the word gives in hex, or as many octets `a` as the word says.
+    pub fn text(self, alloc: Global, word: &str) -> Result<Vec<u8>> {
+        match self {
+            Operation::OpenAuth(_) => Ok(hex::decode(alloc, word).context("MESSAGE")?),
+            _ => {
+                let octets: usize = word.parse().context("OCTETS")?;
+                Ok(vec![in alloc; b'a'; octets]?)
+            }
+        }
+    }
+
+    /// The users that the operation is done with: `ann`, or none.
+    pub fn users(self, alloc: Global) -> Result<Users> {
+        let mut rows = Vec::new(alloc);
+        if let Operation::OpenAuth(auth) = self {
+            rows.push(UserRow {
+                name: b"ann".to_vec(alloc)?,
+                auth: Some((auth, b"maplesyrup".to_vec(alloc)?)),
+                privacy: None,
+            })?;
+        }
+        Ok(Users::load(alloc, &rows)?)
+    }
+
+    /// Does the operation on the text `times` times, and answers the last result: no octets for no times. Where the text
+    /// isn't a message, each result is written over its first octets for the next time.
+    pub fn repeat(
+        self,
+        users: &mut Users,
+        text: &mut [u8],
+        times: u64,
+    ) -> Result<ArrayVec<u8, 32>> {
         let mut result = ArrayVec::new();
         for _ in 0..times {
-            result = self.once(text)?;
-            overwrite(text, result.as_slice());
+            result = self.once(users, text)?;
+            if !matches!(self, Operation::OpenAuth(_)) {
+                overwrite(text, result.as_slice());
+            }
         }
         Ok(result)
     }
 
     /// The operation's result on the text.
-    fn once(self, text: &mut [u8]) -> Result<ArrayVec<u8, 32>, ShortPassword> {
+    fn once(self, users: &mut Users, text: &mut [u8]) -> Result<ArrayVec<u8, 32>> {
         match self {
             Operation::PasswordKey(auth) => {
                 let key = password_key(auth, text)?;
@@ -66,8 +105,19 @@ impl Operation {
                 Ok(mac(&key, text, 0, &[]))
             }
             Operation::CfbSeal => Ok(sealed_end(text)),
+            Operation::OpenAuth(_) => code_of(users, text),
         }
     }
+}
+
+/// The authentication code of a message that a manager opens.
+fn code_of(users: &mut Users, message: &[u8]) -> Result<ArrayVec<u8, 32>> {
+    let checked = users.open_auth(Role::Manager, message)?;
+    let mut code = ArrayVec::new();
+    code.try_extend_from_slice(checked.security.auth)
+        .ok()
+        .context("a code of at most 32 octets")?;
+    Ok(code)
 }
 
 /// Seals the text in place, and answers the end of what it is then.

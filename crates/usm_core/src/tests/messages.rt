@@ -10,13 +10,20 @@ use engine_clock::{EngineId, Pair};
 use snmp_ber::Level;
 use snmp_msg::{Header, WriteFault, write_pdu, write_scoped};
 
-/// The scoped PDU of each message: a GetRequest with request-id 2 and no bindings, of the engine's own context.
-fn scoped_pdu(alloc: Global) -> Result<Vec<u8>, WriteFault>
+/// A GetRequest with request-id 2 and no bindings, in the engine's context of this name.
+fn scoped_pdu_in(alloc: Global, context: &[u8]) -> Result<Vec<u8>, WriteFault>
     ensures { IfOk result (λ v. (content : List ℕ) × IsElement 48 content v.items) }
 {
     let pdu = write_pdu(alloc, 0xA0, 2, 0, 0, &[])?;
-    let scoped = write_scoped(alloc, &ENGINE, b"", &pdu)?;
+    let scoped = write_scoped(alloc, &ENGINE, context, &pdu)?;
     Ok(scoped)
+}
+
+/// The scoped PDU of each message but the longest ones.
+fn scoped_pdu(alloc: Global) -> Result<Vec<u8>, WriteFault>
+    ensures { IfOk result (λ v. (content : List ℕ) × IsElement 48 content v.items) }
+{
+    scoped_pdu_in(alloc, b"")
 }
 
 /// The header of each message, with the auth and priv flags.
@@ -459,6 +466,50 @@ fn sealing_needs_a_user_of_the_level(rt: HostRuntime) -> Result<(), Fail> {
     }
     // At noAuthNoPriv no user is looked for.
     let _text = sealed(&mut users, &header(false, false), b"nobody", &scoped)?;
+    Ok(())
+}
+
+/// A user, the flags of auth and priv, and how many octets a context name can have in a message to the user.
+static LONGEST: [(&str, bool, bool, usize); 3] = [
+    ("guest", false, false, 65_413),
+    ("ann", true, false, 65_403),
+    ("ann", true, true, 65_391),
+];
+
+fn longest() -> &'static [(&'static str, bool, bool, usize)] {
+    &LONGEST
+}
+
+/// How many octets the message has whose context name has this many, or None where it is too large.
+fn sealed_len(
+    users: &mut Users,
+    alloc: Global,
+    header: &Header,
+    user: &str,
+    count: usize,
+) -> Result<Option<usize>, Fail>
+    requires { HeaderFits header.now }
+{
+    let context = vec![in alloc; b'c'; count]?;
+    let scoped = scoped_pdu_in(alloc, &context)?;
+    match sealed(users, header, user.as_bytes(), &scoped) {
+        Ok(text) => Ok(Some(text.len())),
+        Err(UsmFault::TooLarge) => Ok(None),
+        Err(fault) => Err(fault.into()),
+    }
+}
+
+#[test]
+fn nothing_longer_than_a_datagram_is_sealed(rt: HostRuntime) -> Result<(), Fail> {
+    let mut users = loaded(rt.alloc(), people())?;
+    for (user, auth, privacy, most) in longest() {
+        let header = header(*auth, *privacy);
+        let len = sealed_len(&mut users, rt.alloc(), &header, user, *most)?;
+        assert_eq!(rt; len, Some(65_507), "{user} {privacy}");
+        let longer = most.saturating_add(1);
+        let len = sealed_len(&mut users, rt.alloc(), &header, user, longer)?;
+        assert_eq!(rt; len, None, "{user} {privacy}");
+    }
     Ok(())
 }
 
