@@ -1,6 +1,7 @@
 //! What is printed, and its status; what is read and written.
 
 mod access;
+mod commands;
 mod merged;
 mod streams;
 
