@@ -1,5 +1,5 @@
 -- Decimals without sign or leading zeros, and the dotted text of arcs.
-use Rattle.std.proofs.Common.{◌≡◌, ◌≢◌, ℕ, zero, suc, ◌<◌, ◌^◌, ◌⊎◌, eqb, false, List, [], ◌∷◌, ◌++◌, length, get_or, Some, Result, Ok, Err, IfSome, refl, sym, ap, ◌∙◌, arith, decimal, inl, inr}
+use Rattle.std.proofs.Common.{◌≡◌, ◌≢◌, ℕ, zero, suc, ◌<◌, ◌≤◌, ◌^◌, ◌⊎◌, eqb, false, List, [], ◌∷◌, ◌++◌, length, get_or, Some, Result, Ok, Err, IfSome, refl, sym, ap, ◌∙◌, arith, decimal, inl, inr}
 use Rattle.std.specs.Prelude.{map}
 use Rattle.std.specs.List.{AllByRecursion, All, slice_split, join_with_byte, flat_map}
 use Rattle.std.specs.Result.{result_ok}
@@ -7,9 +7,9 @@ use Rattle.std.specs.Str.Parse.{ParsesUnsigned, AllDigits, digits_value}
 use Rattle.std.proofs.lemmas.Str.Parse.{IsNumeralModel, numerals_by_value, tells_digits, parse_plain, not_in_digits}
 use Rattle.std.proofs.lemmas.Fmt.{decimal_digit, first_decimal, decimal-digits_value, parse-decimal, digits_decimal, decimal_injective}
 use Rattle.std.proofs.lemmas.Bool.{cases_eq, ne_eqb}
-use Rattle.std.proofs.lemmas.List.{append-nil}
+use Rattle.std.proofs.lemmas.List.{append-nil, length-map}
 use Rattle.std.proofs.lemmas.List.Elements.{All-from_get_or}
-use Rattle.std.proofs.lemmas.List.Splits.{slice_split_at, slice_split_none, join_with_byte-slice_split}
+use Rattle.std.proofs.lemmas.List.Splits.{slice_split_at, slice_split_none, join_with_byte-slice_split, length-slice_split}
 use Rattle.snmp_ber.specs.Oid.{AreArcs, dotted}
 
 own : IsNumeralModel (AllDigits 10) (digits_value 10)
@@ -60,8 +60,11 @@ dotted_pieces text [] h e = absurd (omega (arith, h.some))
 dotted_pieces text (a ∷ arcs) h e = ap (slice_split (λ (b : ℕ). eqb b 46)) e ∙ split_dotted a arcs h.limit
 
 -- the text whose pieces are decimals is dotted
-pub dotted_from : (text arcs : List ℕ) → slice_split (λ (b : ℕ). eqb b 46) text ≡ map decimal arcs → text ≡ dotted arcs
-dotted_from text arcs e = sym (join_with_byte-slice_split 46 text) ∙ ap (join_with_byte 46) e
+pub dotted_from : (text arcs : List ℕ) → AllByRecursion (λ arc. arc < 2 ^ 32) arcs → length arcs ≤ 128 → slice_split (λ (b : ℕ). eqb b 46) text ≡ map decimal arcs
+    → AreArcs arcs × (text ≡ dotted arcs)
+dotted_from text arcs limit most e =
+    let some : 1 ≤ length arcs = omega (arith, length-slice_split (λ (b : ℕ). eqb b 46) text, ap length e, length-map arcs decimal) in
+    (record { some = some; most = most; limit = limit }, sym (join_with_byte-slice_split 46 text) ∙ ap (join_with_byte 46) e)
 
 pub same_arcs : (xs ys : List ℕ) → AllByRecursion (λ arc. arc < 2 ^ 32) xs → AllByRecursion (λ arc. arc < 2 ^ 32) ys → map decimal xs ≡ map decimal ys → xs ≡ ys
 same_arcs [] [] a b e = refl

@@ -43,6 +43,7 @@ pub record Asks (words : List (List ℕ)) (asked : Asked) : Type 0 where
   pub level : word_at words 2 ≡ level_word asked.message.level
   pub view : word_at words 3 ≡ view_word asked.view
   pub context : IsContextWord (word_at words 4) asked.message.context
+  pub arcs : AreArcs asked.arcs
   pub variable : word_at words 5 ≡ dotted asked.arcs
 
 -- ---- a word out of its form

@@ -38,4 +38,4 @@ returns-clause-found c =
     let text = c.args.text.now in
     let road = YieldsList-from_str_split {s = c.into_iter-arc-iterator.result} 46 text (lit< tt) (search rules) (search rules) (search rules) in
     let whole = YieldsList-end road c.loop-arc.yielded c.loop-arc.arc-iterator c.loop-arc.yielded_by c.next.result c.next.new.self c.in-None.is c.next.ensures.steps in
-    dotted_from text c.loop-arc.arcs.items (sym (c.loop-arc.invariant.same ∙ whole.0))
+    dotted_from text c.loop-arc.arcs.items c.loop-arc.invariant.limit c.loop-arc.invariant.most (sym (c.loop-arc.invariant.same ∙ whole.0))
