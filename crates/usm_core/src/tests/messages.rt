@@ -80,30 +80,6 @@ fn opened(
     }
 }
 
-fn digit(c: u8) -> u8 {
-    match c {
-        b'0'..=b'9' => c - b'0',
-        b'a'..=b'f' => c - b'a' + 10,
-        _ => 0,
-    }
-}
-
-/// The octets of a hex text.
-fn octets_of(alloc: Global, hex: &str) -> Result<Vec<u8>, AllocError> {
-    let mut octets = Vec::new(alloc);
-    let mut high = None;
-    for c in hex.bytes() {
-        match high {
-            None => high = Some(digit(c)),
-            Some(first) => {
-                octets.push(first.wrapping_mul(16) | digit(c))?;
-                high = None;
-            }
-        }
-    }
-    Ok(octets)
-}
-
 /// A message with boots 7, time 1000 and the salt 0001020304050607.
 struct Sample {
     user: &'static [u8],
@@ -163,7 +139,7 @@ fn assert_sample(
     sample: &Sample,
 ) -> Result<(), Fail> {
     let own = engine(&ENGINE)?;
-    let datagram = octets_of(alloc, sample.text)?;
+    let datagram = hex::decode(alloc, sample.text)?;
     let scoped = scoped_pdu(alloc)?;
     let header = header(
         sample.level != Level::NoAuthNoPriv,
@@ -192,7 +168,7 @@ fn messages_of_another_program_are_opened_and_sealed(rt: HostRuntime) -> Result<
 fn what_a_message_says_is_given(rt: HostRuntime) -> Result<(), Fail> {
     let mut users = loaded(rt.alloc(), people())?;
     for sample in samples() {
-        let datagram = octets_of(rt.alloc(), sample.text)?;
+        let datagram = hex::decode(rt.alloc(), sample.text)?;
         let checked = users.open_auth(Role::Manager, &datagram)?;
         assert_eq!(rt; checked.level, sample.level);
         assert_eq!(rt; checked.security.user, sample.user);
@@ -311,7 +287,7 @@ fn spoiled_messages() -> &'static [Spoiled] {
 /// The first sample with these octets.
 fn with_octets(alloc: Global, octets: &[(usize, u8)]) -> Result<Vec<u8>, Fail> {
     let sample = samples().first().ok_or("a sample")?;
-    let mut datagram = octets_of(alloc, sample.text)?;
+    let mut datagram = hex::decode(alloc, sample.text)?;
     for (place, octet) in octets {
         if let Some(held) = datagram.get_mut(*place) {
             *held = *octet;
@@ -391,7 +367,7 @@ fn the_code_is_that_of_the_octets_received(rt: HostRuntime) -> Result<(), Fail> 
     let mut users = loaded(rt.alloc(), people())?;
     let own = engine(&ENGINE)?;
     for (number, answered) in answered_messages().iter().enumerate() {
-        let datagram = octets_of(rt.alloc(), answered.text)?;
+        let datagram = hex::decode(rt.alloc(), answered.text)?;
         let agent = users.open_auth(Role::Agent(&own), &datagram).err();
         assert_eq!(rt; agent, answered.agent, "case {number} at the agent");
         let manager = users.open_auth(Role::Manager, &datagram).err();
@@ -407,7 +383,7 @@ const SHORT_SALT: &str =
 #[test]
 fn a_salt_has_eight_octets(rt: HostRuntime) -> Result<(), Fail> {
     let mut users = loaded(rt.alloc(), people())?;
-    let datagram = octets_of(rt.alloc(), SHORT_SALT)?;
+    let datagram = hex::decode(rt.alloc(), SHORT_SALT)?;
     assert!(rt; users.open_auth(Role::Manager, &datagram).is_ok());
     let answer = opened(&mut users, rt.alloc(), Role::Manager, &datagram);
     assert_eq!(rt; answer.err(), Some(UsmFault::DecryptionError));
@@ -430,7 +406,7 @@ fn assert_changes_seen(rt: &impl Abort, users: &mut Users, datagram: &mut [u8], 
 fn a_changed_octet_is_seen(rt: HostRuntime) -> Result<(), Fail> {
     let mut users = loaded(rt.alloc(), people())?;
     let sample = samples().get(1).ok_or("a sample")?;
-    let mut datagram = octets_of(rt.alloc(), sample.text)?;
+    let mut datagram = hex::decode(rt.alloc(), sample.text)?;
     assert_changes_seen(&rt, &mut users, &mut datagram, 0x01);
     assert_changes_seen(&rt, &mut users, &mut datagram, 0x80);
     assert!(rt; users.open_auth(Role::Manager, &datagram).is_ok());
