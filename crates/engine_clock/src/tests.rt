@@ -323,7 +323,7 @@ fn clocks_of(rt: &impl Abort, alloc: Global, from: u8, to: u8) -> Result<Clocks,
     Ok(clocks)
 }
 
-// Run with `rt try --test --fail-alloc N` for each N, this shows that a refused growth is answered as want of memory, that
+// Run by `tools/refuse-memory`, this shows that a refused growth is answered as want of memory, that
 // it changes nothing, and that the same call succeeds afterwards.
 #[test]
 fn a_refused_growth_changes_nothing(rt: HostRuntime) -> Result<(), Fail> {

@@ -7,6 +7,8 @@ mod streams;
 
 use super::*;
 use crate::show::show_text;
+use clap::error::ErrorKind;
+use std::alloc::AllocError;
 use std::test::Fail;
 
 /// A discovery request, changed, and the line that refuses it.
@@ -144,17 +146,18 @@ fn a_word_of_no_digits_is_told(rt: HostRuntime) -> Result<(), Fail> {
     Ok(())
 }
 
-/// What the parser says of these words.
+/// What the parser says of these words. Want of memory is handed on.
 fn refusal_of(rt: &HostRuntime, words: &[&str]) -> Result<String, Fail> {
     let alloc = rt.alloc();
     let mut owned: Vec<String> = Vec::new(alloc);
     for word in words {
         owned.push(word.to_string(alloc)?)?;
     }
-    let Err(fault) = arguments::parse(alloc, &owned) else {
-        return Ok(String::new(alloc));
-    };
-    Ok(fault.to_string(alloc)?)
+    match arguments::parse(alloc, &owned) {
+        Ok(_) => Ok(String::new(alloc)),
+        Err(fault) if fault.kind() == ErrorKind::OutOfMemory => Err(AllocError.into()),
+        Err(fault) => Ok(fault.to_string(alloc)?),
+    }
 }
 
 #[test]

@@ -489,7 +489,7 @@ fn nothing_longer_than_a_datagram_is_sealed(rt: HostRuntime) -> Result<(), Fail>
     Ok(())
 }
 
-// Run with `rt try --test --fail-alloc N` for each N, this shows that a refused growth is answered as want of memory, and that
+// Run by `tools/refuse-memory`, this shows that a refused growth is answered as want of memory, and that
 // the same call succeeds afterwards.
 #[test]
 fn a_refused_growth_seals_and_opens_nothing(rt: HostRuntime) -> Result<(), Fail> {
