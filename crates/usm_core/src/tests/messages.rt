@@ -1,5 +1,5 @@
-//! Messages that are opened, refused and sealed. Those that are written out as hex were made by another program, with Python's
-//! hmac and hashlib and its package cryptography.
+//! Messages that are opened, refused and sealed. Those that are written out as hex were made by other programs: by net-snmp, where
+//! it is said, and else with Python's hmac and hashlib and its package cryptography.
 
 ghost use Rattle.std.specs.Prelude.{◌≡◌, ◌≤◌, ℕ, List, length, IfOk};
 ghost use Rattle.snmp_ber.specs.Element.{IsElement};
@@ -175,6 +175,71 @@ fn what_a_message_says_is_given(rt: HostRuntime) -> Result<(), Fail> {
         assert_eq!(rt; checked.security.engine, ENGINE.as_slice());
         assert_eq!(rt; (checked.security.boots, checked.security.time), (7, 1000));
         assert_eq!(rt; checked.message.header.id, 3);
+    }
+    Ok(())
+}
+
+/// A request that `snmpget` of net-snmp 5.9.3 sent, and its scoped PDU, deciphered by another program, or the content of it.
+struct Foreign {
+    user: &'static [u8],
+    level: Level,
+    text: &'static str,
+    scoped: &'static str,
+}
+
+static FOREIGN: [Foreign; 5] = [
+    Foreign {
+        user: b"ann",
+        level: Level::AuthNoPriv,
+        text: "307302010330110204044ba959020300ffe3040105020103042b3029040c0000000000000000000000020201000201000403616e6e040c7780538916686ad57677a7c20400302e040c0000000000000000000000020400a01c02047a630427020100020100300e300c06082b060102010101000500",
+        scoped: "040c0000000000000000000000020400a01c02047a630427020100020100300e300c06082b060102010101000500",
+    },
+    Foreign {
+        user: b"ann",
+        level: Level::AuthPriv,
+        text: "307d020103301102045a838eca020300ffe304010702010304333031040c0000000000000000000000020201000201000403616e6e040c3f360515da8abf44cae4701f04087f9ca1f268a4cb6804306ea46a4f36f3ed8012dd50c27e7a845993de1c2234f9006d5abb6e569912519e6189ad0f278e69c15e13a2f601150804",
+        scoped: "302e040c0000000000000000000000020400a01c020419095ed9020100020100300e300c06082b060102010101000500",
+    },
+    Foreign {
+        user: b"bob",
+        level: Level::AuthNoPriv,
+        text: "307302010330110204288600ea020300ffe3040105020103042b3029040c0000000000000000000000020201000201000403626f62040c7f29730c2c1c8ff9543e1adf0400302e040c0000000000000000000000020400a01c02041ccd657d020100020100300e300c06082b060102010101000500",
+        scoped: "040c0000000000000000000000020400a01c02041ccd657d020100020100300e300c06082b060102010101000500",
+    },
+    Foreign {
+        user: b"bob",
+        level: Level::AuthPriv,
+        text: "307d02010330110204134d6939020300ffe304010702010304333031040c0000000000000000000000020201000201000403626f62040c51a4114844345dafe6cede5404086626530e953ee7030430c0437ad6b1fa796d38ad2605d3eda05d0ef9993a2a179fe5f5124881c7e035c0babded7504631b204270af9850b005df",
+        scoped: "302e040c0000000000000000000000020400a01c02047d36a210020100020100300e300c06082b060102010101000500",
+    },
+    Foreign {
+        user: b"guest",
+        level: Level::NoAuthNoPriv,
+        text: "3069020103301102045608a976020300ffe30401040201030421301f040c0000000000000000000000020201000201000405677565737404000400302e040c0000000000000000000000020400a01c020462e7eeb2020100020100300e300c06082b060102010101000500",
+        scoped: "040c0000000000000000000000020400a01c020462e7eeb2020100020100300e300c06082b060102010101000500",
+    },
+];
+
+fn foreign_messages() -> &'static [Foreign] {
+    &FOREIGN
+}
+
+#[test]
+fn requests_of_net_snmp_are_opened(rt: HostRuntime) -> Result<(), Fail> {
+    let mut users = loaded(rt.alloc(), people())?;
+    let own = engine(&ENGINE)?;
+    for foreign in foreign_messages() {
+        let datagram = hex::decode(rt.alloc(), foreign.text)?;
+        let scoped = hex::decode(rt.alloc(), foreign.scoped)?;
+        let checked = users.open_auth(Role::Manager, &datagram)?;
+        assert_eq!(rt;
+            (checked.security.user, checked.level),
+            (foreign.user, foreign.level)
+        );
+        let there = opened(&mut users, rt.alloc(), Role::Manager, &datagram)?;
+        assert_eq!(rt; there.as_slice(), scoped.as_slice());
+        let here = opened(&mut users, rt.alloc(), Role::Agent(&own), &datagram)?;
+        assert_eq!(rt; here.as_slice(), scoped.as_slice());
     }
     Ok(())
 }
