@@ -5,7 +5,7 @@ ghost use Rattle.std.specs.Result.{result_ok};
 ghost use Rattle.snmp_ber.specs.Number.{number};
 ghost use Rattle.snmp_ber.specs.Reading.{length_at, front_of};
 ghost use Rattle.snmp_ber.specs.Element.{IsTag, Begins, StandsAt};
-ghost use Rattle.snmp_ber.specs.Spelling.{head_of, head_size, element};
+ghost use Rattle.snmp_ber.specs.Spelling.{digit_count, head_of, head_size, element};
 ghost use Rattle.snmp_ber.specs.Tlv.{front_at};
 
 use crate::fault::BerFault;
@@ -116,6 +116,23 @@ pub fn read_tlv(bytes: &[u8], at: usize, end: usize) -> Result<Tlv<'_>, BerFault
     })
 }
 
+/// How many digits in base 256 a number takes.
+fn count_digits(number: u32) -> usize
+    ensures count { result ≡ digit_count number }
+    ensures least { 1 ≤ result }
+    ensures most { result ≤ 4 }
+{
+    if number < 0x100 {
+        1
+    } else if number < 0x1_0000 {
+        2
+    } else if number < 0x100_0000 {
+        3
+    } else {
+        4
+    }
+}
+
 /// How many octets the tag and the shortest length of a content of `size` octets take.
 #[tactic(auto, unfolding(crate::specs::Spelling::shortest_length))]
 pub fn head_len(size: usize) -> usize
@@ -125,14 +142,8 @@ pub fn head_len(size: usize) -> usize
 {
     if size < 128 {
         2
-    } else if size < 256 {
-        3
-    } else if size < 65_536 {
-        4
-    } else if size < 16_777_216 {
-        5
     } else {
-        6
+        2 + count_digits(size as u32)
     }
 }
 
@@ -141,30 +152,17 @@ pub fn head_len(size: usize) -> usize
 fn head(tag: u8, size: u32) -> ArrayVec<u8, 6>
     ensures { result.items ≡ head_of tag size }
 {
-    let octets = size.to_be_bytes();
     let mut head = ArrayVec::new();
     head.push(tag);
-    if size < 0x80 {
-        head.push(octets[3]);
-    } else if size < 0x100 {
-        head.push(0x81);
-        head.push(octets[3]);
-    } else if size < 0x1_0000 {
-        head.push(0x82);
-        head.push(octets[2]);
-        head.push(octets[3]);
-    } else if size < 0x100_0000 {
-        head.push(0x83);
-        head.push(octets[1]);
-        head.push(octets[2]);
-        head.push(octets[3]);
-    } else {
-        head.push(0x84);
-        head.push(octets[0]);
-        head.push(octets[1]);
-        head.push(octets[2]);
-        head.push(octets[3]);
+    if size < 128 {
+        head.push(size as u8);
+        return head;
     }
+    let count = count_digits(size);
+    head.push(128 + count as u8);
+    let Ok(()) = head.try_extend_from_slice(&size.to_be_bytes()[4 - count..]) else {
+        unreachable!();
+    };
     head
 }
 

@@ -47,9 +47,9 @@ pdu_refused w text m f s faults.BadVersion o x h same none = absurd none
 pdu_refused w text m f s (faults.NotScoped at) o x h same none = absurd none
 pdu_refused w text m f s (faults.NotSecurity at) o x h same none = absurd none
 
-pub write_refused : (w : List ℕ) (m : Whole) (f : WriteFault) → Says w m → (f ≡ writes.TooLarge → 65507 < length (whole_text m)) → RefusesCanonical w (canon_fault f)
-write_refused w m writes.TooLarge says large = (whole_text m, record { message = m; says = says; spelled = refl }, large refl)
-write_refused w m writes.OutOfMemory says large = (whole_text m, record { message = m; says = says; spelled = refl })
+pub write_refused : (w : List ℕ) (m : Whole) (f : WriteFault) → Says w m → (f ≡ writes.TooLarge → 65507 < length (whole_text m)) → (f ≡ writes.OutOfMemory → length (whole_text m) ≤ 65507) → RefusesCanonical w (canon_fault f)
+write_refused w m writes.TooLarge says large short = (whole_text m, record { message = m; says = says; spelled = refl }, large refl)
+write_refused w m writes.OutOfMemory says large short = (whole_text m, record { message = m; says = says; spelled = refl }, short refl)
 
 -- ---- sizes
 

@@ -11,3 +11,4 @@ pub mod Appends
 pub mod Canonicals
 pub mod Variables
 pub mod Written
+pub mod Plain

@@ -1,5 +1,5 @@
 -- Why octets are refused: for each call the faults that it answers, each with its cause.
-use Rattle.std.specs.Prelude.{◌<◌, ◌⊎◌, ℕ, List, length}
+use Rattle.std.specs.Prelude.{◌<◌, ◌≤◌, ◌⊎◌, ℕ, List, length, Option, Some, None}
 use Rattle.snmp_msg.specs.declared.fault.MsgFault.{MsgFault}
 use Rattle.snmp_msg.specs.declared.fault.MsgFault.TheVariants as faults
 use Rattle.snmp_msg.specs.declared.fault.WriteFault.{WriteFault}
@@ -12,45 +12,39 @@ use Rattle.snmp_msg.specs.Scoped.{Contexts, HasScoped, HasSealed, ScopedFront}
 use Rattle.snmp_msg.specs.Pdu.{PduParts, PduText}
 use Rattle.snmp_msg.specs.Canonical.{IsCanonical}
 
+-- where the first fault is, counted in octets from 0 in what was read
+abbrev pub place_of : MsgFault → Option ℕ
+place_of faults.BadVersion = None
+place_of (faults.NotMessage at) = Some at
+place_of (faults.NotSecurity at) = Some at
+place_of (faults.NotScoped at) = Some at
+place_of (faults.NotPdu at) = Some at
+
 -- The fault is why the text has no outer layout.
 abbrev pub RefusesOuter : List ℕ → MsgFault → Type 0
 RefusesOuter w faults.BadVersion = WrongVersion w
 RefusesOuter w (faults.NotMessage at) = (WrongVersion w → ⊥) × ((m : Parts) → Outer w m → ⊥)
-RefusesOuter w (faults.NotSecurity at) = ⊥
-RefusesOuter w (faults.NotScoped at) = ⊥
-RefusesOuter w (faults.NotPdu at) = ⊥
+RefusesOuter w _ = ⊥
 
 -- The fault is why the message has no UsmSecurityParameters.
 abbrev pub RefusesSecurity : Parts → MsgFault → Type 0
 RefusesSecurity m (faults.NotSecurity place) = (s : Fields) → SecText m.security_at m.security s → ⊥
-RefusesSecurity m (faults.NotMessage place) = ⊥
-RefusesSecurity m faults.BadVersion = ⊥
-RefusesSecurity m (faults.NotScoped place) = ⊥
-RefusesSecurity m (faults.NotPdu place) = ⊥
+RefusesSecurity m _ = ⊥
 
 -- The fault is why msgData is neither sealed octets nor a ScopedPDU, as the priv flag says.
 abbrev pub RefusesScoped : List ℕ → Parts → MsgFault → Type 0
 RefusesScoped w m (faults.NotScoped at) = (HasSealed m → ⊥) × ((s : Contexts) → HasScoped w m s → ⊥)
-RefusesScoped w m (faults.NotMessage at) = ⊥
-RefusesScoped w m faults.BadVersion = ⊥
-RefusesScoped w m (faults.NotSecurity at) = ⊥
-RefusesScoped w m (faults.NotPdu at) = ⊥
+RefusesScoped w m _ = ⊥
 
 -- The fault is why the octets don't begin with a ScopedPDU.
 abbrev pub RefusesFront : List ℕ → MsgFault → Type 0
 RefusesFront z (faults.NotScoped at) = (s : Contexts) → ScopedFront z s → ⊥
-RefusesFront z (faults.NotMessage at) = ⊥
-RefusesFront z faults.BadVersion = ⊥
-RefusesFront z (faults.NotSecurity at) = ⊥
-RefusesFront z (faults.NotPdu at) = ⊥
+RefusesFront z _ = ⊥
 
 -- The fault is why the text isn't a PDU.
 abbrev pub RefusesPdu : List ℕ → MsgFault → Type 0
 RefusesPdu z (faults.NotPdu at) = (p : PduParts) → PduText z p → ⊥
-RefusesPdu z (faults.NotMessage at) = ⊥
-RefusesPdu z faults.BadVersion = ⊥
-RefusesPdu z (faults.NotSecurity at) = ⊥
-RefusesPdu z (faults.NotScoped at) = ⊥
+RefusesPdu z _ = ⊥
 
 -- msgData is what the priv flag says
 abbrev pub AgreesWithPriv : List ℕ → Parts → Type 0
@@ -64,11 +58,11 @@ RefusesWhole w (faults.NotScoped at) = (m : Parts) × Outer w m × (HasSealed m 
 RefusesWhole w (faults.NotSecurity at) = (m : Parts) × Outer w m × AgreesWithPriv w m × ((s : Fields) → SecText m.security_at m.security s → ⊥)
 RefusesWhole w (faults.NotPdu at) = (m : Parts) × (f : Fields) × (s : Contexts) × Outer w m × SecText m.security_at m.security f × HasScoped w m s × ((p : PduParts) → PduText s.pdu p → ⊥)
 
--- The fault is why there is no canonical spelling: want of memory comes only where there is one.
+-- The fault is why there is no canonical spelling: want of memory comes only where there is one that fits a datagram.
 abbrev pub RefusesCanonical : List ℕ → CanonFault → Type 0
 RefusesCanonical w (canons.Msg fault) = RefusesWhole w fault
 RefusesCanonical w canons.TooLarge = (c : List ℕ) × IsCanonical w c × (65507 < length c)
-RefusesCanonical w canons.OutOfMemory = (c : List ℕ) × IsCanonical w c
+RefusesCanonical w canons.OutOfMemory = (c : List ℕ) × IsCanonical w c × (length c ≤ 65507)
 
 -- ---- faults of one call as those of another
 

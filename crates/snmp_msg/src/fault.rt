@@ -2,7 +2,7 @@
 
 ghost use Rattle.std.specs.Prelude.{◌≡◌};
 ghost use Rattle.snmp_msg.specs.declared.fault.WriteFault.TheVariants.{OutOfMemory};
-ghost use Rattle.snmp_msg.specs.Refusals.{canon_fault, msg_canon_fault};
+ghost use Rattle.snmp_msg.specs.Refusals.{canon_fault, msg_canon_fault, place_of};
 
 use std::alloc::AllocError;
 use thiserror::Error;
@@ -26,6 +26,21 @@ pub enum MsgFault {
     /// 5: not a PDU (RFC 3416, section 3).
     #[error("not a PDU at octet {at}")]
     NotPdu { at: usize },
+}
+
+impl MsgFault {
+    /// Where the first fault is, counted in octets from 0 in what was read. BadVersion has no place.
+    pub fn at(&self) -> Option<usize>
+        ensures { result ≡ place_of self.now }
+    {
+        match *self {
+            MsgFault::BadVersion => None,
+            MsgFault::NotMessage { at }
+            | MsgFault::NotSecurity { at }
+            | MsgFault::NotScoped { at }
+            | MsgFault::NotPdu { at } => Some(at),
+        }
+    }
 }
 
 /// Why a text was not written.

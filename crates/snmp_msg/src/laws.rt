@@ -1,6 +1,6 @@
 //! Laws of the layouts, for callers that reason about whole datagrams. Each function does nothing: its contract is the law.
 
-ghost use Rattle.std.specs.Prelude.{◌≡◌, ◌+◌, ◌≤◌, ◌⊎◌, ℕ, List, ◌++◌, take, drop, length, slice_range};
+ghost use Rattle.std.specs.Prelude.{◌≡◌, ◌+◌, ◌-◌, ◌≤◌, ◌⊎◌, ℕ, List, ◌++◌, take, drop, length, slice_range};
 ghost use Rattle.snmp_ber.specs.Spelling.{head_size};
 ghost use Rattle.snmp_msg.specs.declared.header.Header.{Header};
 ghost use Rattle.snmp_msg.specs.Layout.{Parts, Outer, WrongVersion};
@@ -73,4 +73,15 @@ pub fn field_filled()
 /// A message is at least as long as its security parameters, and as its content.
 pub fn longer_whole()
     ensures { (h : Header) (security : List ℕ) (tag : ℕ) (content : List ℕ) → (length security ≤ length (message_text h security tag content)) × (length content ≤ length (message_text h security tag content)) }
+{}
+
+/// The datagram from msgData on is its element: where priv is clear a ScopedPDU, with the same contexts.
+pub fn plain_from_data()
+    ensures within { (w : List ℕ) (m : Parts) → Outer w m → m.data_at ≤ length w }
+    ensures scoped { (w : List ℕ) (m : Parts) (s : Contexts) → Outer w m → HasScoped w m s → ScopedText 0 (drop m.data_at w) (record s { pdu_at = s.pdu_at - m.data_at }) }
+{}
+
+/// The octets from the first to the last are all of them, so that a slice can be read over its whole length.
+pub fn whole_slice()
+    ensures { (octets : List ℕ) → slice_range octets 0 (length octets) ≡ octets }
 {}

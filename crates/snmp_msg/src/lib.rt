@@ -21,7 +21,7 @@ pub use fault::{CanonFault, MsgFault, WriteFault};
 pub use header::Header;
 pub use laws::{
     canonical_again, field_filled, longer_whole, one_content, one_cut, one_message, one_whole,
-    written_again,
+    plain_from_data, whole_slice, written_again,
 };
 pub use message::{Data, LARGEST, Message, read_message, write_message};
 pub use pdu::{Pdu, read_pdu, write_pdu};

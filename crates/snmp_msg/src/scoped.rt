@@ -1,7 +1,8 @@
 //! ScopedPDU (RFC 3412, section 6.8).
 
-ghost use Rattle.std.specs.Prelude.{◌≡◌, ◌+◌, ◌<◌, ◌≤◌, ◌++◌, length, slice_range, option_map, IfOk, IfSome, IfNone, IfErr, OnOk, OnErr, IsErrOf, MatchOption, MatchResult};
+ghost use Rattle.std.specs.Prelude.{◌≡◌, ℕ, List, ◌+◌, ◌<◌, ◌≤◌, ◌++◌, length, slice_range, option_map, IfOk, IfSome, IfNone, IfErr, OnOk, OnErr, IsErrOf, MatchOption, MatchResult};
 ghost use Rattle.std.specs.Result.{result_ok};
+ghost use Rattle.snmp_ber.specs.Element.{IsElement};
 ghost use Rattle.snmp_ber.specs.Spelling.{element, head_size};
 ghost use Rattle.snmp_msg.specs.Layout.{Outer};
 ghost use Rattle.snmp_msg.specs.Message.{parts};
@@ -32,7 +33,9 @@ pub struct Scoped<'a> {
 fn read_contexts(octets: &[u8], at: usize, end: usize) -> Result<Scoped<'_>, BerFault>
     requires start { at ≤ end }
     requires within { end ≤ length octets.now }
-    ensures { option_map contexts_of (result_ok result) ≡ contexts_in end (slice_range octets.now at end) }
+    ensures value { option_map contexts_of (result_ok result) ≡ contexts_in end (slice_range octets.now at end) }
+    ensures ends { IfOk result (λ s. s.data_at + length s.pdu.now ≡ end) }
+    ensures place { IfOk result (λ s. s.pdu.now ≡ slice_range octets.now s.data_at end) }
 {
     let engine = read_element(octets, at, end, OCTET_STRING)?;
     let name = read_element(octets, engine.end, end, OCTET_STRING)?;
@@ -83,7 +86,9 @@ pub fn read_scoped<'a>(
 /// The ScopedPDU in front of the octets.
 #[tactic(auto, unfolding(crate::specs::Scoped::scoped_front_in))]
 fn read_front(plaintext: &[u8]) -> Result<Scoped<'_>, BerFault>
-    ensures { option_map contexts_of (result_ok result) ≡ scoped_front_in plaintext.now }
+    ensures value { option_map contexts_of (result_ok result) ≡ scoped_front_in plaintext.now }
+    ensures within { IfOk result (λ s. s.data_at + length s.pdu.now ≤ length plaintext.now) }
+    ensures place { IfOk result (λ s. s.pdu.now ≡ slice_range plaintext.now s.data_at (s.data_at + length s.pdu.now)) }
 {
     let whole = read_element(plaintext, 0, plaintext.len(), SEQUENCE)?;
     read_contexts(plaintext, whole.body, whole.end)
@@ -96,6 +101,8 @@ fn read_front(plaintext: &[u8]) -> Result<Scoped<'_>, BerFault>
 pub fn read_scoped_front(plaintext: &[u8]) -> Result<Scoped<'_>, MsgFault>
     ensures exact { MatchResult result (λ s. ScopedFront plaintext.now (contexts_of s)) (RefusesFront plaintext.now) }
     ensures none { OnErr result ((s : Contexts) → ScopedFront plaintext.now s → ⊥) }
+    ensures within { IfOk result (λ s. s.data_at + length s.pdu.now ≤ length plaintext.now) }
+    ensures place { IfOk result (λ s. s.pdu.now ≡ slice_range plaintext.now s.data_at (s.data_at + length s.pdu.now)) }
     ensures element { IfOk result (λ s. IsOneElement s.pdu.now) }
 {
     match read_front(plaintext) {
@@ -159,6 +166,7 @@ pub fn write_scoped(
     requires { IsOneElement pdu.now }
     ensures ok { IfOk result (λ v. v.items ≡ scoped_text engine.now name.now pdu.now) }
     ensures size { IfOk result (λ v. length v.items ≤ LARGEST) }
+    ensures element { IfOk result (λ v. (content : List ℕ) × IsElement 48 content v.items) }
     ensures spelled { IfOk result (λ v. ScopedText 0 v.items (contexts_placed (head_size (length (contexts_text engine.now name.now pdu.now))) engine.now name.now pdu.now)) }
     ensures too_large { IsErrOf result WriteFault.TooLarge → LARGEST < length (scoped_text engine.now name.now pdu.now) }
     ensures memory { IsErrOf result WriteFault.OutOfMemory → length (scoped_text engine.now name.now pdu.now) ≤ LARGEST }

@@ -164,6 +164,7 @@ fn write_layers(alloc: Global, layers: &Layers<'_>) -> Result<Vec<u8>, WriteFaul
     ensures ok { IfOk result (λ v. v.items ≡ whole_text (whole_of layers.now)) }
     ensures size { IfOk result (λ v. length v.items ≤ LARGEST) }
     ensures too_large { IsErrOf result WriteFault.TooLarge → LARGEST < length (whole_text (whole_of layers.now)) }
+    ensures memory { IsErrOf result WriteFault.OutOfMemory → length (whole_text (whole_of layers.now)) ≤ LARGEST }
 {
     if !is_short(&layers.security) {
         return Err(WriteFault::TooLarge);
@@ -189,7 +190,7 @@ fn write_layers(alloc: Global, layers: &Layers<'_>) -> Result<Vec<u8>, WriteFaul
 ///
 /// The layers are read in the order message, msgData, msgSecurityParameters and, where the priv flag is clear, PDU. The
 /// error Msg is that of the first that refuses, and comes exactly where one does. TooLarge (16) comes exactly where the
-/// spelling is longer than 65,507 octets, and OutOfMemory only for a message that can be read. Neither the security model
+/// spelling is longer than 65,507 octets, and OutOfMemory only where there is a spelling that isn't. Neither the security model
 /// nor priv without auth is looked at.
 pub fn canonical(alloc: Global, datagram: &[u8]) -> Result<Vec<u8>, CanonFault>
     ensures exact { MatchResult result (λ v. IsCanonical datagram.now v.items) (RefusesCanonical datagram.now) }

@@ -8,7 +8,7 @@ has_scoped : (c : goal.In-Ok) → HasScoped c.args.datagram.now (parts c.args.me
 has_scoped c = (
   c.in-false-Plain.is-0,
   ap tag_of c.in-false-Plain.is-1,
-  scoped_from c.args.datagram.now (parts c.args.message.now) c.in-false-Plain.content.now (contexts_of c.in-Ok.scoped) c.requires (ap content_of c.in-false-Plain.is-1) (sym c.in-Ok.ensures),
+  scoped_from c.args.datagram.now (parts c.args.message.now) c.in-false-Plain.content.now (contexts_of c.in-Ok.scoped) c.requires (ap content_of c.in-false-Plain.is-1) (sym c.in-Ok.ensures.value),
 )
 
 pub returns-in-Ok-clause-exact : goal.returns-in-Ok-clause-exact
@@ -26,7 +26,7 @@ both b f t = let e : true ≡ false = sym t ∙ f in absurd cc
 pub returns-in-Err-clause-exact : goal.returns-in-Err-clause-exact
 returns-in-Err-clause-exact c = (
   λ h. both c.args.message.now.header.privacy c.in-false-Plain.is-0 h.0,
-  λ s h. scoped_none c.args.datagram.now (parts c.args.message.now) c.in-false-Plain.content.now c.requires (ap content_of c.in-false-Plain.is-1) (sym c.in-Err.ensures) s h.2,
+  λ s h. scoped_none c.args.datagram.now (parts c.args.message.now) c.in-false-Plain.content.now c.requires (ap content_of c.in-false-Plain.is-1) (sym c.in-Err.ensures.value) s h.2,
 )
 
 pub returns-in-Err-clause-none : goal.returns-in-Err-clause-none

@@ -35,3 +35,6 @@ returns-clause-spelled c =
     let size : c.element_len-size.result ≡ length (scoped_text engine name pdu) =
     c.element_len-size.ensures.size ∙ ap (λ (n : ℕ). head_size n + n) (c.contexts_len.ensures.size ∙ sym (contexts_text-length c.args.engine.now c.args.name.now c.args.pdu.now)) ∙ sym (scoped_text-size engine name pdu) in
     subst (λ (text : List ℕ). ScopedText 0 text (contexts_placed (head_size (length (contexts_text engine name pdu))) engine name pdu)) (sym c.in_ok-out.ensures) (scoped_text-is engine name pdu c.requires (omega arith))
+
+pub returns-clause-element : goal.returns-clause-element
+returns-clause-element c = let t = returns-clause-spelled c in (t.content, (t.head, t.is_whole, t.whole))

@@ -36,3 +36,8 @@ pub returns-in_default-clause-too_large : goal.returns-in_default-clause-too_lar
 returns-in_default-clause-too_large c = λ _.
     let longer = whole_text-longer (whole_of c.args.layers.now) in
     omega (arith, longer.1, c.in_default.ensures.none)
+
+pub returns-in_err-out-clause-memory : goal.returns-in_err-out-clause-memory
+returns-in_err-out-clause-memory c =
+    let size = measured_whole (whole_of c.args.layers.now) c.message_len-size.result c.security_len-security_len.result c.data_len-data_len.result c.security_len-security_len.ensures.size c.data_len-data_len.ensures.size c.message_len-size.ensures.size in
+    λ _. omega arith
