@@ -12,3 +12,4 @@ pub mod Canonicals
 pub mod Variables
 pub mod Written
 pub mod Plain
+pub mod Lengths

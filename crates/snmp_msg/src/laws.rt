@@ -70,6 +70,14 @@ pub fn field_filled()
         → length (message_text h (security_text (with_auth auth s)) tag content) ≡ length (message_text h (security_text s) tag content) }
 {}
 
+/// How long a message is that was written: at least 6 octets longer than the content of its msgData, and at most 110 longer
+/// than that and the fields of its security parameters whose lengths aren't bounded by a number.
+pub fn message_size()
+    ensures least { (h : Header) (security : List ℕ) (tag : ℕ) (content : List ℕ) → 6 + length content ≤ length (message_text h security tag content) }
+    ensures most { (h : Header) (s : Fields) (tag : ℕ) (content : List ℕ) → HeaderFits h → FieldsFit s
+        → length (message_text h (security_text s) tag content) ≤ 110 + length s.engine + length s.user + length s.auth + length s.salt + length content }
+{}
+
 /// A message is at least as long as its security parameters, and as its content.
 pub fn longer_whole()
     ensures { (h : Header) (security : List ℕ) (tag : ℕ) (content : List ℕ) → (length security ≤ length (message_text h security tag content)) × (length content ≤ length (message_text h security tag content)) }

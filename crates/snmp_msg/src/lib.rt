@@ -20,8 +20,8 @@ pub use binding::{Binding, Bindings};
 pub use fault::{CanonFault, MsgFault, WriteFault};
 pub use header::Header;
 pub use laws::{
-    canonical_again, field_filled, longer_whole, one_content, one_cut, one_message, one_whole,
-    plain_from_data, whole_slice, written_again,
+    canonical_again, field_filled, longer_whole, message_size, one_content, one_cut, one_message,
+    one_whole, plain_from_data, whole_slice, written_again,
 };
 pub use message::{Data, LARGEST, Message, read_message, write_message};
 pub use pdu::{Pdu, read_pdu, write_pdu};

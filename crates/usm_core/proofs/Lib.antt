@@ -6,3 +6,5 @@ pub mod Places
 pub mod Keyed
 pub mod Sealing
 pub mod Again
+pub mod Determined
+pub mod Same

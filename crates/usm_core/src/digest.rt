@@ -9,6 +9,20 @@ use crate::user::User;
 use snmp_msg::{Message, Security, cut, one_cut};
 use usm_keys::{Key, localise, mac};
 
+/// Whether the octets are the same. It looks at each of them wherever they differ, so that the time tells nothing of the place.
+fn are_same(a: &[u8], b: &[u8]) -> bool
+    ensures { IsTrue result ↔ (a.now ≡ b.now) }
+{
+    if a.len() != b.len() {
+        return false;
+    }
+    let mut difference = 0;
+    for k in 0..a.len() {
+        difference |= a[k] ^ b[k];
+    }
+    difference == 0
+}
+
 /// The field is the code of the datagram, with zeros in the field's place, under the key localised to the message's engine.
 /// No octet of the datagram is copied.
 fn is_mac(key: &Key, datagram: &[u8], message: &Message<'_>, security: &Security<'_>) -> bool
@@ -24,7 +38,8 @@ fn is_mac(key: &Key, datagram: &[u8], message: &Message<'_>, security: &Security
     }
     let pieces = cut(datagram, security);
     let localised = localise(key, security.engine);
-    mac(&localised, pieces.front, size, pieces.back).as_slice() == security.auth
+    let code = mac(&localised, pieces.front, size, pieces.back);
+    are_same(code.as_slice(), security.auth)
 }
 
 /// Where auth is set, the field is the code under the user's key.

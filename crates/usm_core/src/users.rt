@@ -8,8 +8,8 @@ ghost use Rattle.snmp_msg.specs.Level.{level_of};
 ghost use Rattle.engine_clock.specs.Pairs.{BootsAndTime};
 ghost use Rattle.usm_core.specs.Users.{AreUsers, HasUserAt};
 ghost use Rattle.usm_core.specs.Authentic.{Authentic};
-ghost use Rattle.usm_core.specs.Verified.{Verifies, AllowsEngine};
-ghost use Rattle.usm_core.specs.Answers.{side_of, checked_answer, seal_answer, IsAuthenticatedAs};
+ghost use Rattle.usm_core.specs.Verified.{Verifies, AllowsEngine, IsReadAs, IsJudged};
+ghost use Rattle.usm_core.specs.Answers.{side_of, checked_answer, verified_of, seal_answer, IsAuthenticatedAs};
 ghost use Rattle.usm_core.specs.Rows.{AreSound, IsTold, user_of};
 ghost use Rattle.usm_core.specs.Refusals.{Supports};
 ghost use Rattle.usm_core.specs.Sealed.{sending, Seals, SendingFits, IsSealable, IsPlaintext};
@@ -112,6 +112,13 @@ impl Users {
         ensures authentic { (engine : List ℕ) (pair : BootsAndTime) →
             (Authentic self.old.users datagram.now engine pair × AllowsEngine (side_of role.entry) engine) ↔ IsAuthenticatedAs (checked_answer result) engine pair }
         ensures level { IfOk result (λ c. c.level ≡ level_of c.message.header) }
+
+        // Want of memory is never the error.
+        ensures memory { IfErr result (λ e. e ≢ OutOfMemory) }
+
+        // What was read is the datagram's, and its engine, user and digest are as the rows ask.
+        ensures read { IfOk result (λ c. IsReadAs datagram.now (verified_of c)) }
+        ensures judged { IfOk result (λ c. IsJudged (side_of role.entry) self.old.users datagram.now (verified_of c)) }
 
         // This is what `open_priv` asks.
         ensures private { IfOk result (λ c. c.level ≡ AuthPriv → HasUserAt self.old.users c.security.user.now AuthPriv × (tag_of c.message.body ≡ 4)) }

@@ -74,9 +74,5 @@ pub(crate) fn verify<'a>(
             }
         }
     }
-    Ok(Checked {
-        message,
-        security,
-        level,
-    })
+    Ok(layout)
 }

@@ -1,16 +1,10 @@
 use Rattle.std.proofs.Common.{◌≡◌, ◌+◌, ap, sym, subst, ◌∙◌, ℕ, List, true, length, take, drop, replicate, ◌++◌}
-use Rattle.std.specs.Prelude.{nat_eq}
-use Rattle.std.specs.Cmp.Lexicographic.{pointwise, same_text}
-use Rattle.std.proofs.lemmas.Cmp.{nat_list_eq_equiv}
 use Rattle.snmp_msg.specs.Message.{parts}
 use Rattle.snmp_msg.specs.Security.{fields_of}
 use Rattle.usm_keys.specs.AuthKey.{AuthKey}
 use Rattle.usm_keys.specs.Keys.{kul}
 use Rattle.usm_keys.specs.Protocols.{hash_of, mac, mac_octets}
 use Rattle.usm_core.proofs.digest.is_mac.Goals as goal
-
-equal : (xs ys : List ℕ) → xs ≡ ys → pointwise nat_eq xs ys ≡ true
-equal xs ys e = subst (λ (zs : List ℕ). pointwise nat_eq xs zs ≡ true) e (nat_list_eq_equiv.refl xs)
 
 pub returns : goal.returns
 returns c =
@@ -23,8 +17,8 @@ returns c =
     let back = drop (s.auth_at + length s.auth) w in
     let local = c.localise-localised.result in
     let pieces = c.cut-pieces.ensures in
-    let coded : c.mac.result.items ≡ mac local.auth local.octets (front ++ zeros ++ back) =
-    c.mac.ensures.code ∙ ap (λ (f : List ℕ). mac local.auth local.octets (f ++ zeros ++ c.cut-pieces.result.back.now)) pieces.front ∙ ap (λ (b : List ℕ). mac local.auth local.octets (front ++ zeros ++ b)) pieces.back in
+    let coded : c.mac-code.result.items ≡ mac local.auth local.octets (front ++ zeros ++ back) =
+    c.mac-code.ensures.code ∙ ap (λ (f : List ℕ). mac local.auth local.octets (f ++ zeros ++ c.cut-pieces.result.back.now)) pieces.front ∙ ap (λ (b : List ℕ). mac local.auth local.octets (front ++ zeros ++ b)) pieces.back in
     let code : c.as_slice.result.now ≡ mac key.auth (kul (hash_of key.auth) key.octets s.engine) (front ++ zeros ++ back) =
     c.as_slice.ensures.value ∙ coded ∙ ap (λ (k : AuthKey). mac k.auth k.octets (front ++ zeros ++ back)) c.localise-localised.ensures.key in
     let size : length s.auth ≡ _ = c.if-size-mac_octets.false ∙ c.mac_octets.ensures.value in (
@@ -33,10 +27,10 @@ returns c =
         back = back;
         cut = c.requires.cut;
         size = size ∙ ap mac_octets c.auth.ensures;
-        code = sym (same_text c.as_slice.result.now s.auth (sym right ∙ c.eq.ensures)) ∙ code;
+        code = sym (c.are_same.ensures.0 right) ∙ code;
       },
       λ h.
           let places = c.one_cut.ensures.places w m s h.front h.back h.cut in
           let same : s.auth ≡ c.as_slice.result.now = h.code ∙ ap (λ (f : List ℕ). mac key.auth (kul (hash_of key.auth) key.octets s.engine) (f ++ zeros ++ h.back)) places.0 ∙ ap (λ (b : List ℕ). mac key.auth (kul (hash_of key.auth) key.octets s.engine) (front ++ zeros ++ b)) places.2 ∙ sym code in
-          c.eq.ensures ∙ equal c.as_slice.result.now s.auth (sym same),
+          c.are_same.ensures.1 (sym same),
     )

@@ -1,0 +1,221 @@
+-- The table down to the digest gives one answer, and says what was read where it refuses below the layout.
+use Rattle.std.proofs.Common.{◌≡◌, ◌≤◌, ◌<◌, ℕ, List, [], Bool, true, false, Option, Some, None, refl, sym, ap, subst, ◌∙◌, arith}
+use Rattle.std.specs.Prelude.{◌≢◌, Result, Ok, Err, IfOk, IfErr, IsSomeAnd, MatchBool, if◌then◌else◌}
+use Rattle.snmp_msg.specs.Layout.{Parts, Outer, WrongVersion}
+use Rattle.snmp_msg.specs.Security.{Fields, SecText}
+use Rattle.snmp_msg.specs.Refusals.{AgreesWithPriv}
+use Rattle.snmp_msg.specs.Level.{level_of}
+use Rattle.snmp_ber.specs.Element.{IsElement}
+use Rattle.snmp_ber.specs.declared.level.Level.{Level}
+use Rattle.snmp_ber.specs.declared.level.Level.TheVariants.{NoAuthNoPriv, AuthNoPriv, AuthPriv}
+use Rattle.usm_keys.specs.AuthKey.{AuthKey}
+use Rattle.usm_aes.specs.Feedback.{IsSealed, iv_of}
+use Rattle.usm_core.specs.declared.user.User.{User}
+use Rattle.usm_core.specs.Users.{user_named, supports, HasUser, HasUserAt}
+use Rattle.usm_core.specs.Table.{Needs, Then, Gives, holds, fails, gives, refuses}
+use Rattle.usm_core.specs.Authentic.{AuthenticMessage, Authentic, IsMac, IsDigestRight}
+use Rattle.engine_clock.specs.Pairs.{BootsAndTime}
+use Rattle.usm_core.specs.Verified.{ReadsLayout, Verified, OuterOf, SecurityOf, Side, Judges, Verifies, IsReadAs, IsJudged}
+use Rattle.usm_core.specs.declared.open.Checked.{Checked}
+use Rattle.usm_core.specs.declared.fault.UsmFault.{UsmFault}
+use Rattle.usm_core.specs.declared.fault.UsmFault.TheVariants.{OutOfMemory}
+use Rattle.usm_core.specs.Refusals.{number_of}
+use Rattle.usm_core.specs.Answers.{checked_answer, verified_of}
+use Rattle.usm_core.specs.Sealed.{Sending, SendingFits, SealedText, IsSealable, IsSentData, IsSentText, UserKey, cipher, spelled_with, digest_of}
+use Rattle.usm_core.proofs.Tables.{has_privacy, true_false}
+
+-- one row gives one answer, if what stands below it does
+needs_one : {X : Type 0} (P : Type 0) (n : ℕ) (below : P → Result X ℕ → Type 0) → ((p q : P) (a b : Result X ℕ) → below p a → below q b → a ≡ b)
+    → (a b : Result X ℕ) → Needs P n below a → Needs P n below b → a ≡ b
+needs_one P n below one a b (holds p x) (holds q y) = one p q a b x y
+needs_one P n below one a b (holds p x) (fails never) = absurd (never p)
+needs_one P n below one a b (fails never) (holds q y) = absurd (never q)
+needs_one P n below one a b (fails x) (fails y) = refl
+
+gives_one : (v : Verified) (a b : Result Verified ℕ) → a ≡ Ok v → b ≡ Ok v → a ≡ b
+gives_one v a b x y = x ∙ sym y
+
+judges_one : (side : Side) (users : List User) (w : List ℕ) (v : Verified) (a b : Result Verified ℕ) → Judges side users w v a → Judges side users w v b → a ≡ b
+unfolding Judges
+judges_one side users w v =
+    needs_one _ 6 _ (λ p q. needs_one _ 7 _ (λ r s. needs_one _ 8 _ (λ t u. needs_one _ 9 _ (λ x y. gives_one v))))
+
+-- the rows of the layout below Outer
+Below : List ℕ → Parts → Result Verified ℕ → Type 0
+Below w p =
+    Needs (p.header.model ≡ 3) 17 (λ _.
+    Needs (p.header.privacy ≡ true → p.header.auth ≡ true) 18 (λ _.
+    Needs (AgreesWithPriv w p) 4 (λ _.
+    Needs (SecurityOf p) 3 (λ s.
+    Gives (record { parts = p; fields = s.fields })))))
+
+module _ (one : (w : List ℕ) (m n : Parts) → Outer w m → Outer w n → m ≡ n) (same : (at : ℕ) (x : List ℕ) (s t : Fields) → SecText at x s → SecText at x t → s ≡ t) where
+  below_one : (w : List ℕ) (p : Parts) (a b : Result Verified ℕ) → Below w p a → Below w p b → a ≡ b
+  unfolding Below
+  below_one w p =
+      needs_one _ 17 _ (λ x y. needs_one _ 18 _ (λ z u. needs_one _ 4 _ (λ v r. needs_one _ 3 _ (λ s t a b e f.
+      e ∙ ap (λ (g : Fields). Ok (record { parts = p; fields = g })) (same p.security_at p.security s.fields t.fields s.is t.is) ∙ sym f))))
+
+  layout_one : (w : List ℕ) (a b : Result Verified ℕ) → ReadsLayout w a → ReadsLayout w b → a ≡ b
+  unfolding ReadsLayout Below
+  layout_one w =
+      needs_one _ 2 _ (λ x y. needs_one (OuterOf w) 1 (λ o. Below w o.parts) (λ o q a b r s.
+      below_one w q.parts a b (subst (λ (p : Parts). Below w p a) (one w o.parts q.parts o.is q.is) r) s))
+
+  pub answer_one : (side : Side) (users : List User) (w : List ℕ) (a b : Result Verified ℕ) → Verifies side users w a → Verifies side users w b → a ≡ b
+  unfolding Verifies
+  answer_one side users w a b (gives v x y) (gives u s t) =
+      let e : ◌≡◌ {A = Result Verified ℕ} (Ok v) (Ok u) = layout_one w (Ok v) (Ok u) x s in
+      let f : v ≡ u = cc in
+      judges_one side users w u a b (subst (λ (z : Verified). Judges side users w z a) f y) t
+  answer_one side users w a b (gives v x y) (refuses n r) = let e : ◌≡◌ {A = Result Verified ℕ} (Ok v) (Err n) = layout_one w (Ok v) (Err n) x r in absurd cc
+  answer_one side users w a b (refuses n r) (gives v x y) = let e : ◌≡◌ {A = Result Verified ℕ} (Err n) (Ok v) = layout_one w (Err n) (Ok v) r x in absurd cc
+  answer_one side users w a b (refuses n r) (refuses k s) = layout_one w (Err n) (Err k) r s
+
+-- ---- what was read
+
+read_of : (w : List ℕ) (v : Verified) → ReadsLayout w (Ok v) → IsReadAs w v
+unfolding ReadsLayout
+read_of w v (holds version (holds o (holds model (holds flags (holds agrees (holds s e)))))) =
+    let made : IsReadAs w (record { parts = o.parts; fields = s.fields }) = record { outer = o.is; security = s.is; data_agrees = agrees; model = model; flags = flags } in
+    let is : v ≡ (record { parts = o.parts; fields = s.fields }) = cc in
+    subst (λ (u : Verified). IsReadAs w u) (sym is) made
+
+not_layout : (w : List ℕ) (n : ℕ) → 6 ≤ n → n ≤ 9 → ReadsLayout w (Err n) → ⊥
+unfolding ReadsLayout
+not_layout w n least most (fails x) = omega arith
+not_layout w n least most (holds _ (fails x)) = omega arith
+not_layout w n least most (holds _ (holds _ (fails x))) = omega arith
+not_layout w n least most (holds _ (holds _ (holds _ (fails x)))) = omega arith
+not_layout w n least most (holds _ (holds _ (holds _ (holds _ (fails x))))) = omega arith
+not_layout w n least most (holds _ (holds _ (holds _ (holds _ (holds _ (fails x)))))) = omega arith
+not_layout w n least most (holds _ (holds _ (holds _ (holds _ (holds _ (holds s e)))))) = absurd cc
+
+pub refused_read : (side : Side) (users : List User) (w : List ℕ) (n : ℕ) → 6 ≤ n → n ≤ 9 → Verifies side users w (Err n) → (v : Verified) × IsReadAs w v × Judges side users w v (Err n)
+unfolding Verifies
+refused_read side users w n least most (gives v x y) = (v, read_of w v x, y)
+refused_read side users w n least most (refuses k r) = absurd (not_layout w k least most r)
+
+judges_gave : (side : Side) (users : List User) (w : List ℕ) (v u : Verified) → Judges side users w v (Ok u) → u ≡ v
+unfolding Judges
+judges_gave side users w v u (holds engine (holds user (holds level (holds digest e)))) = cc
+
+pub accepted_read : (side : Side) (users : List User) (w : List ℕ) (u : Verified) → Verifies side users w (Ok u) → IsReadAs w u
+unfolding Verifies
+accepted_read side users w u (gives v x y) = subst (λ (z : Verified). IsReadAs w z) (sym (judges_gave side users w v u y)) (read_of w v x)
+
+judges_said : (side : Side) (users : List User) (w : List ℕ) (v u : Verified) → Judges side users w v (Ok u) → IsJudged side users w v
+unfolding Judges
+judges_said side users w v u (holds engine (holds user (holds level (holds digest e)))) = record { engine = engine; user = user; level = level; digest = digest }
+
+accepted_judged : (side : Side) (users : List User) (w : List ℕ) (u : Verified) → Verifies side users w (Ok u) → IsJudged side users w u
+unfolding Verifies
+accepted_judged side users w u (gives v x y) = subst (λ (z : Verified). IsJudged side users w z) (sym (judges_gave side users w v u y)) (judges_said side users w v u y)
+
+pub read_checked : (side : Side) (users : List User) (w : List ℕ) (result : Result Checked UsmFault) → Verifies side users w (checked_answer result) → IfOk result (λ c. IsReadAs w (verified_of c))
+read_checked side users w (Ok c) rows = accepted_read side users w (verified_of c) rows
+read_checked side users w (Err fault) rows = tt
+
+pub judged_checked : (side : Side) (users : List User) (w : List ℕ) (result : Result Checked UsmFault) → Verifies side users w (checked_answer result) → IfOk result (λ c. IsJudged side users w (verified_of c))
+judged_checked side users w (Ok c) rows = accepted_judged side users w (verified_of c) rows
+judged_checked side users w (Err fault) rows = tt
+
+-- ---- want of memory is no answer of the table
+
+no_row-layout : (w : List ℕ) (n : ℕ) → n ≡ 14 → ReadsLayout w (Err n) → ⊥
+unfolding ReadsLayout
+no_row-layout w n e (fails never) = cc e
+no_row-layout w n e (holds _ (fails never)) = cc e
+no_row-layout w n e (holds _ (holds o (fails never))) = cc e
+no_row-layout w n e (holds _ (holds o (holds _ (fails never)))) = cc e
+no_row-layout w n e (holds _ (holds o (holds _ (holds _ (fails never))))) = cc e
+no_row-layout w n e (holds _ (holds o (holds _ (holds _ (holds _ (fails never)))))) = cc e
+no_row-layout w n e (holds _ (holds o (holds _ (holds _ (holds _ (holds t f)))))) = cc f
+
+no_row-judges : (side : Side) (users : List User) (w : List ℕ) (v : Verified) (n : ℕ) → n ≡ 14 → Judges side users w v (Err n) → ⊥
+unfolding Judges
+no_row-judges side users w v n e (fails never) = cc e
+no_row-judges side users w v n e (holds _ (fails never)) = cc e
+no_row-judges side users w v n e (holds _ (holds _ (fails never))) = cc e
+no_row-judges side users w v n e (holds _ (holds _ (holds _ (fails never)))) = cc e
+no_row-judges side users w v n e (holds _ (holds _ (holds _ (holds _ f)))) = cc f
+
+no_row : (side : Side) (users : List User) (w : List ℕ) (n : ℕ) → n ≡ 14 → Verifies side users w (Err n) → ⊥
+unfolding Verifies
+no_row side users w n e (gives v rows below) = no_row-judges side users w v n e below
+no_row side users w n e (refuses m rows) = no_row-layout w m e rows
+
+pub never_memory : (side : Side) (users : List User) (w : List ℕ) (result : Result Checked UsmFault) → Verifies side users w (checked_answer result) → IfErr result (λ e. e ≢ OutOfMemory)
+never_memory side users w (Ok c) rows = tt
+never_memory side users w (Err fault) rows = λ is. no_row side users w (number_of fault) (ap number_of is) rows
+
+-- ---- of the users, the one that is named
+
+with_name : (users others : List User) (w engine : List ℕ) (pair : BootsAndTime) (a : Authentic users w engine pair) → user_named users a.fields.user ≡ user_named others a.fields.user → Authentic others w engine pair
+with_name users others w engine pair a e = record {
+  parts = a.parts;
+  fields = a.fields;
+  message = record {
+    outer = a.message.outer;
+    security = a.message.security;
+    data_agrees = a.message.data_agrees;
+    model = a.message.model;
+    auth = a.message.auth;
+    engine_length = a.message.engine_length;
+    user = subst (λ (o : Option User). IsSomeAnd o (λ user. supports user (level_of a.parts.header) ≡ true)) e a.message.user;
+    digest = subst (λ (o : Option User). IsSomeAnd o (λ user. IsSomeAnd user.auth (λ key. IsMac key w a.parts a.fields))) e a.message.digest;
+  };
+  engine_is = a.engine_is;
+  boots_is = a.boots_is;
+  time_is = a.time_is;
+}
+
+module _ (one : (w : List ℕ) (m n : Parts) → Outer w m → Outer w n → m ≡ n) (same : (at : ℕ) (x : List ℕ) (s t : Fields) → SecText at x s → SecText at x t → s ≡ t) where
+  pub authentic_by_name : (users others : List User) (w engine : List ℕ) (pair : BootsAndTime) (p : Parts) (f : Fields) → Outer w p → SecText p.security_at p.security f
+      → user_named users f.user ≡ user_named others f.user → Authentic users w engine pair → Authentic others w engine pair
+  authentic_by_name users others w engine pair p f outer security e a =
+      let parts_is : p ≡ a.parts = one w p a.parts outer a.message.outer in
+      let there : SecText a.parts.security_at a.parts.security f = subst (λ (x : Parts). SecText x.security_at x.security f) parts_is security in
+      let fields_is : f ≡ a.fields = same a.parts.security_at a.parts.security f a.fields there a.message.security in
+      with_name users others w engine pair a (subst (λ (x : Fields). user_named users x.user ≡ user_named others x.user) fields_is e)
+
+-- ---- a message that can be sealed has a text
+
+auth_needed : (privacy : Bool) (k p : Option AuthKey) (name : List ℕ) → supports (record { name = name; auth = k; privacy = p }) (if privacy then AuthPriv else AuthNoPriv) ≡ true → (key : AuthKey) × (k ≡ Some key)
+auth_needed true None p name e = absurd cc
+auth_needed false None p name e = absurd cc
+auth_needed true (Some k) p name e = (k, refl)
+auth_needed false (Some k) p name e = (k, refl)
+
+module _ (users : List User) (m : Sending) (some : (encipher : List ℕ → List ℕ) (iv plain : List ℕ) → (cipher : List ℕ) × IsSealed encipher iv plain cipher) where
+  sealed_by : (o : Option User) → IsSomeAnd o (λ user. supports user (level_of m.header) ≡ true) → m.header.auth ≡ true → m.header.privacy ≡ true
+      → (content : List ℕ) × IsSomeAnd o (λ user. IsSomeAnd user.privacy (λ key. IsSealed (cipher key m.engine) (iv_of m.pair.boots m.pair.time m.salt) m.scoped content))
+  sealed_by None h a p = absurd h
+  sealed_by (Some user) h a p =
+      let k = has_privacy m.header user a h p in
+      let c = some (cipher k.0 m.engine) (iv_of m.pair.boots m.pair.time m.salt) m.scoped in
+      (c.0, subst (λ (x : Option AuthKey). IsSomeAnd x (λ key. IsSealed (cipher key m.engine) (iv_of m.pair.boots m.pair.time m.salt) m.scoped c.0)) (sym k.1) c.1)
+
+  data_by : SendingFits m → IsSealable users m → (b : Bool) → m.header.privacy ≡ b
+      → (tag : ℕ) × (content : List ℕ) × MatchBool b ((tag ≡ 4) × UserKey users m.user (λ user. user.privacy) (λ key. IsSealed (cipher key m.engine) (iv_of m.pair.boots m.pair.time m.salt) m.scoped content)) ((tag ≡ 48) × IsElement 48 content m.scoped)
+  data_by fits ok true e = let c = sealed_by (user_named users m.user) (ok.user (ok.flags e)) (ok.flags e) e in (4, c.0, (refl, c.1))
+  data_by fits ok false e = (48, fits.content, (refl, fits.scoped))
+
+  coded_by : (tag : ℕ) (content : List ℕ) (o : Option User) → IsSomeAnd o (λ user. supports user (level_of m.header) ≡ true) → m.header.auth ≡ true
+      → (text : List ℕ) × IsSomeAnd o (λ user. IsSomeAnd user.auth (λ key. text ≡ spelled_with m tag content (digest_of key m tag content)))
+  coded_by tag content None h a = absurd h
+  coded_by tag content (Some user) h a =
+      let k = auth_needed m.header.privacy user.auth user.privacy user.name (subst (λ (b : Bool). supports user (if b then (if m.header.privacy then AuthPriv else AuthNoPriv) else NoAuthNoPriv) ≡ true) a h) in
+      let text = spelled_with m tag content (digest_of k.0 m tag content) in
+      (text, subst (λ (x : Option AuthKey). IsSomeAnd x (λ key. text ≡ spelled_with m tag content (digest_of key m tag content))) (sym k.1) refl)
+
+  text_by : IsSealable users m → (tag : ℕ) (content : List ℕ) → (b : Bool) → m.header.auth ≡ b
+      → (text : List ℕ) × MatchBool b (UserKey users m.user (λ user. user.auth) (λ key. text ≡ spelled_with m tag content (digest_of key m tag content))) (text ≡ spelled_with m tag content [])
+  text_by ok tag content true e = coded_by tag content (user_named users m.user) (ok.user e) e
+  text_by ok tag content false e = (spelled_with m tag content [], refl)
+
+  pub some_text : SendingFits m → IsSealable users m → (text : List ℕ) × SealedText users m text
+  some_text fits ok =
+      let d = data_by fits ok m.header.privacy refl in
+      let t = text_by ok d.0 d.1 m.header.auth refl in
+      (t.0, record { tag = d.0; content = d.1; is_data = d.2; is_text = t.1 })

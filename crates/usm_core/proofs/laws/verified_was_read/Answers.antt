@@ -1,0 +1,8 @@
+use Rattle.usm_core.proofs.Determined.{accepted_read, refused_read}
+use Rattle.usm_core.proofs.laws.verified_was_read.Goals as goal
+
+pub returns-clause-accepted : goal.returns-clause-accepted
+returns-clause-accepted c = accepted_read
+
+pub returns-clause-refused : goal.returns-clause-refused
+returns-clause-refused c = refused_read
