@@ -8,3 +8,4 @@ pub mod Sealing
 pub mod Again
 pub mod Determined
 pub mod Same
+pub mod SealedSizes

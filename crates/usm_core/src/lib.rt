@@ -18,7 +18,7 @@ mod verify;
 pub use fault::UsmFault;
 pub use laws::{
     one_answer, one_authentic, sealed_is_authentic, sealed_is_opened, sealed_is_read, sealed_says,
-    some_sealed, users_by_name, verified_was_read,
+    sealed_size, some_sealed, users_by_name, verified_was_read,
 };
 pub use load::{UserFault, UserRow};
 pub use open::{Checked, Role};

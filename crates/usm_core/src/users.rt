@@ -1,6 +1,6 @@
 //! The users of an engine.
 
-ghost use Rattle.std.specs.Prelude.{◌≡◌, ◌≢◌, ◌↔◌, ◌⊎◌, ℕ, List, [], map, length, IfOk, IfErr, IfSome, OnOk, IsErrOf};
+ghost use Rattle.std.specs.Prelude.{◌+◌, ◌<◌, ◌≤◌, false, replicate, ◌≡◌, ◌≢◌, ◌↔◌, ◌⊎◌, ℕ, List, [], map, length, IfOk, IfErr, IfSome, OnOk, IsErrOf};
 ghost use Rattle.snmp_ber.specs.declared.level.Level.TheVariants.{AuthPriv};
 ghost use Rattle.snmp_msg.specs.Message.{tag_of, content_of};
 ghost use Rattle.snmp_msg.specs.Security.{fields_of};
@@ -12,14 +12,16 @@ ghost use Rattle.usm_core.specs.Verified.{Verifies, AllowsEngine, IsReadAs, IsJu
 ghost use Rattle.usm_core.specs.Answers.{side_of, checked_answer, verified_of, seal_answer, IsAuthenticatedAs};
 ghost use Rattle.usm_core.specs.Rows.{AreSound, IsTold, user_of};
 ghost use Rattle.usm_core.specs.Refusals.{Supports};
-ghost use Rattle.usm_core.specs.Sealed.{sending, Seals, SendingFits, IsSealable, IsPlaintext};
+ghost use Rattle.usm_core.specs.Sealed.{sending, Seals, IsSendable, IsSealable, IsPlaintext};
+ghost use Rattle.usm_core.specs.Writing.{IsWriteFault};
 ghost use Rattle.usm_core.specs.declared.fault.UsmFault.TheVariants.{UnknownUser, DecryptionError, OutOfMemory};
 
 use crate::fault::UsmFault;
+use crate::laws::{sealed_size, some_sealed};
 use crate::load::{UserFault, UserRow, first_fault, users_of};
 use crate::open::{Checked, Role};
 use crate::privacy::open_for;
-use crate::seal::seal_for;
+use crate::seal::{seal_for, seal_open};
 use crate::spell::Outgoing;
 use crate::user::{User, user_named};
 use crate::verify::{has_engine, verify};
@@ -151,7 +153,8 @@ impl Users {
     /// since a discovery has an empty one.
     ///
     /// The errors are InvalidFlags (18), then at levels with authentication UnknownUser (7) and UnsupportedLevel (8), and
-    /// then TooLarge (16), only where the text would be longer than 65,507 octets, or OutOfMemory.
+    /// then TooLarge (16), only where the text would be longer than 65,507 octets, or OutOfMemory, whichever is met first.
+    /// A text is at most 150 octets longer than the engine ID, the user name and the scoped PDU together.
     pub fn seal(
         &mut self,
         header: &Header,
@@ -161,13 +164,16 @@ impl Users {
         salt: [u8; 8],
         scoped: &[u8],
     ) -> Result<Vec<u8>, UsmFault>
-        requires { SendingFits (sending header.now engine.now pair user.now salt scoped.now) }
+        requires { IsSendable header.now user.now scoped.now }
         ensures rows { IfSome (seal_answer result) (Seals self.old.users (sending header.now engine.now pair user.now salt scoped.now)) }
 
         // The refusals before the text come before want of memory.
         ensures memory { IsErrOf result UsmFault.OutOfMemory → IsSealable self.old.users (sending header.now engine.now pair user.now salt scoped.now) }
+        ensures short { IsErrOf result UsmFault.TooLarge → 65507 < 150 + length engine.now + length user.now + length scoped.now }
         ensures users { self.new.users ≡ self.old.users }
     {
+        some_sealed();
+        sealed_size();
         let outgoing = Outgoing {
             header: *header,
             engine,
@@ -178,5 +184,37 @@ impl Users {
             scoped,
         };
         seal_for(self.alloc, &self.rows, &outgoing)
+    }
+
+    /// The text of an outgoing message without auth, for which no key is looked up: what `seal` gives at noAuthNoPriv.
+    ///
+    /// The errors are TooLarge (16), only where the text would be longer than 65,507 octets, and OutOfMemory.
+    pub fn write_plain(
+        &self,
+        header: &Header,
+        engine: &[u8],
+        pair: Pair,
+        user: &[u8],
+        scoped: &[u8],
+    ) -> Result<Vec<u8>, UsmFault>
+        requires fits { IsSendable header.now user.now scoped.now }
+        requires auth { header.now.auth ≡ false }
+        requires privacy { header.now.privacy ≡ false }
+        ensures rows { IfSome (seal_answer result) (Seals self.now.users (sending header.now engine.now pair user.now (replicate 8 0) scoped.now)) }
+        ensures fault { IfErr result IsWriteFault }
+        ensures short { IsErrOf result UsmFault.TooLarge → 65507 < 150 + length engine.now + length user.now + length scoped.now }
+    {
+        some_sealed();
+        sealed_size();
+        let outgoing = Outgoing {
+            header: *header,
+            engine,
+            boots: pair.boots,
+            time: pair.time,
+            user,
+            salt: [0; 8],
+            scoped,
+        };
+        seal_open(self.alloc, &outgoing)
     }
 }
