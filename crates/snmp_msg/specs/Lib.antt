@@ -10,3 +10,4 @@ pub mod Variables
 pub mod Pdu
 pub mod Canonical
 pub mod Refusals
+pub mod Numbers

@@ -6,11 +6,25 @@ use Rattle.snmp_msg.specs.declared.fault.WriteFault.{WriteFault}
 use Rattle.snmp_msg.specs.declared.fault.WriteFault.TheVariants as writes
 use Rattle.snmp_msg.specs.declared.fault.CanonFault.{CanonFault}
 use Rattle.snmp_msg.specs.declared.fault.CanonFault.TheVariants as canons
+use Rattle.snmp_msg.specs.declared.refusal.Refusal.{Refusal}
+use Rattle.snmp_msg.specs.declared.refusal.Refusal.TheVariants as refusals
 use Rattle.snmp_msg.specs.Layout.{Parts, Outer, WrongVersion}
 use Rattle.snmp_msg.specs.Security.{Fields, SecText}
 use Rattle.snmp_msg.specs.Scoped.{Contexts, HasScoped, HasSealed, ScopedFront}
 use Rattle.snmp_msg.specs.Pdu.{PduParts, PduText}
 use Rattle.snmp_msg.specs.Canonical.{IsCanonical}
+
+-- the refusals that the faults are
+abbrev pub msg_refusal : MsgFault → Refusal
+msg_refusal (faults.NotMessage at) = refusals.NotMessage
+msg_refusal faults.BadVersion = refusals.BadVersion
+msg_refusal (faults.NotSecurity at) = refusals.NotSecurity
+msg_refusal (faults.NotScoped at) = refusals.NotScoped
+msg_refusal (faults.NotPdu at) = refusals.NotPdu
+
+abbrev pub write_refusal : WriteFault → Refusal
+write_refusal writes.TooLarge = refusals.TooLarge
+write_refusal writes.OutOfMemory = refusals.OutOfMemory
 
 -- where the first fault is, counted in octets from 0 in what was read
 abbrev pub place_of : MsgFault → Option ℕ
@@ -72,3 +86,14 @@ canon_fault writes.OutOfMemory = canons.OutOfMemory
 
 abbrev pub msg_canon_fault : MsgFault → CanonFault
 msg_canon_fault fault = canons.Msg fault
+
+-- the refusals that these are, and their places
+abbrev pub canon_refusal : CanonFault → Refusal
+canon_refusal (canons.Msg fault) = msg_refusal fault
+canon_refusal canons.TooLarge = refusals.TooLarge
+canon_refusal canons.OutOfMemory = refusals.OutOfMemory
+
+abbrev pub canon_place : CanonFault → Option ℕ
+canon_place (canons.Msg fault) = place_of fault
+canon_place canons.TooLarge = None
+canon_place canons.OutOfMemory = None

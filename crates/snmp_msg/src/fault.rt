@@ -2,33 +2,43 @@
 
 ghost use Rattle.std.specs.Prelude.{◌≡◌};
 ghost use Rattle.snmp_msg.specs.declared.fault.WriteFault.TheVariants.{OutOfMemory};
-ghost use Rattle.snmp_msg.specs.Refusals.{canon_fault, msg_canon_fault, place_of};
+ghost use Rattle.snmp_msg.specs.Refusals.{canon_fault, msg_canon_fault, msg_refusal, write_refusal, canon_refusal, place_of, canon_place};
 
+use crate::refusal::Refusal;
 use std::alloc::AllocError;
-use thiserror::Error;
+use std::error::Error;
+use std::fmt;
 
 /// The layout that octets don't have. `at` is the place of the first fault, counted from 0 in the octets that were read:
 /// elements are read depth first, from left to right.
-#[derive(Clone, Copy, Debug, PartialEq, Eq, Drop, Error)]
+#[derive(Clone, Copy, Debug, PartialEq, Eq, Drop)]
 pub enum MsgFault {
     /// 1: not an SNMPv3Message (RFC 3412, section 6).
-    #[error("not a message at octet {at}")]
     NotMessage { at: usize },
     /// 2: msgVersion isn't 3.
-    #[error("not version 3")]
     BadVersion,
     /// 3: msgSecurityParameters are no UsmSecurityParameters (RFC 3414, section 2.4).
-    #[error("not security parameters at octet {at}")]
     NotSecurity { at: usize },
     /// 4: msgData is no ScopedPDU (RFC 3412, section 6.8), or not what the priv flag says.
-    #[error("not a scoped PDU at octet {at}")]
     NotScoped { at: usize },
     /// 5: not a PDU (RFC 3416, section 3).
-    #[error("not a PDU at octet {at}")]
     NotPdu { at: usize },
 }
 
 impl MsgFault {
+    /// The refusal, without its place.
+    pub fn refusal(&self) -> Refusal
+        ensures { result ≡ msg_refusal self.now }
+    {
+        match *self {
+            MsgFault::NotMessage { .. } => Refusal::NotMessage,
+            MsgFault::BadVersion => Refusal::BadVersion,
+            MsgFault::NotSecurity { .. } => Refusal::NotSecurity,
+            MsgFault::NotScoped { .. } => Refusal::NotScoped,
+            MsgFault::NotPdu { .. } => Refusal::NotPdu,
+        }
+    }
+
     /// Where the first fault is, counted in octets from 0 in what was read. BadVersion has no place.
     pub fn at(&self) -> Option<usize>
         ensures { result ≡ place_of self.now }
@@ -43,15 +53,46 @@ impl MsgFault {
     }
 }
 
+impl fmt::Display for MsgFault {
+    fn fmt<W: fmt::Write>(&self, f: &mut fmt::Formatter<W>) -> fmt::Result {
+        write!(f, "{}", self.refusal())?;
+        match self.at() {
+            Some(at) => write!(f, " at octet {at}"),
+            None => Ok(()),
+        }
+    }
+}
+
+impl Error for MsgFault {}
+
 /// Why a text was not written.
-#[derive(Clone, Copy, Debug, PartialEq, Eq, Drop, Error)]
+#[derive(Clone, Copy, Debug, PartialEq, Eq, Drop)]
 pub enum WriteFault {
     /// 16: the text would be longer than 65,507 octets, the most that a datagram over UDP and IPv4 can have.
-    #[error("longer than a datagram")]
     TooLarge,
-    #[error("out of memory")]
+    /// 14: a growth of memory was refused.
     OutOfMemory,
 }
+
+impl WriteFault {
+    /// The refusal.
+    pub fn refusal(&self) -> Refusal
+        ensures { result ≡ write_refusal self.now }
+    {
+        match self {
+            WriteFault::TooLarge => Refusal::TooLarge,
+            WriteFault::OutOfMemory => Refusal::OutOfMemory,
+        }
+    }
+}
+
+impl fmt::Display for WriteFault {
+    fn fmt<W: fmt::Write>(&self, f: &mut fmt::Formatter<W>) -> fmt::Result {
+        write!(f, "{}", self.refusal())
+    }
+}
+
+impl Error for WriteFault {}
 
 impl From<AllocError> for WriteFault {
     ghost from_gives = { λ _ e. e ≡ OutOfMemory };
@@ -62,17 +103,49 @@ impl From<AllocError> for WriteFault {
 }
 
 /// Why there is no canonical spelling of a datagram.
-#[derive(Clone, Copy, Debug, PartialEq, Eq, Drop, Error)]
+#[derive(Clone, Copy, Debug, PartialEq, Eq, Drop)]
 pub enum CanonFault {
     /// The datagram can't be read.
-    #[error(transparent)]
     Msg(MsgFault),
     /// 16: the canonical spelling is longer than 65,507 octets.
-    #[error("longer than a datagram")]
     TooLarge,
-    #[error("out of memory")]
+    /// 14: a growth of memory was refused.
     OutOfMemory,
 }
+
+impl CanonFault {
+    /// The refusal, without its place.
+    pub fn refusal(&self) -> Refusal
+        ensures { result ≡ canon_refusal self.now }
+    {
+        match self {
+            CanonFault::Msg(fault) => fault.refusal(),
+            CanonFault::TooLarge => Refusal::TooLarge,
+            CanonFault::OutOfMemory => Refusal::OutOfMemory,
+        }
+    }
+
+    /// Where the first fault of the datagram is, counted in octets from 0.
+    pub fn at(&self) -> Option<usize>
+        ensures { result ≡ canon_place self.now }
+    {
+        match self {
+            CanonFault::Msg(fault) => fault.at(),
+            _ => None,
+        }
+    }
+}
+
+impl fmt::Display for CanonFault {
+    fn fmt<W: fmt::Write>(&self, f: &mut fmt::Formatter<W>) -> fmt::Result {
+        match self {
+            CanonFault::Msg(fault) => write!(f, "{fault}"),
+            _ => write!(f, "{}", self.refusal()),
+        }
+    }
+}
+
+impl Error for CanonFault {}
 
 impl From<MsgFault> for CanonFault {
     ghost from_gives = { λ fault e. e ≡ msg_canon_fault fault };

@@ -11,6 +11,9 @@ use crate::step::{OCTET_STRING, integer_len, read_element, read_number};
 use snmp_ber::{BerFault, Level, put_int, put_tlv};
 use std::alloc::AllocError;
 
+/// The msgSecurityModel of the user-based security model (RFC 3411, section 5).
+pub const USER_BASED: u32 = 3;
+
 /// What msgGlobalData says.
 #[derive(Clone, Copy, Debug, PartialEq, Eq)]
 pub struct Header {
@@ -24,7 +27,7 @@ pub struct Header {
     pub privacy: bool,
     /// The reportableFlag of msgFlags.
     pub reportable: bool,
-    /// msgSecurityModel, from 1 to 2,147,483,647. The user-based security model is 3.
+    /// msgSecurityModel, from 1 to 2,147,483,647. `USER_BASED` is the user-based one.
     pub model: u32,
 }
 

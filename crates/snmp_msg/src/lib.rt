@@ -11,6 +11,7 @@ mod laws;
 mod message;
 mod pdu;
 mod pieces;
+mod refusal;
 mod scoped;
 mod security;
 mod step;
@@ -18,7 +19,7 @@ mod whole;
 
 pub use binding::{Binding, Bindings};
 pub use fault::{CanonFault, MsgFault, WriteFault};
-pub use header::Header;
+pub use header::{Header, USER_BASED};
 pub use laws::{
     canonical_again, field_filled, longer_whole, message_size, one_content, one_cut, one_message,
     one_whole, plain_from_data, whole_slice, written_again,
@@ -26,6 +27,7 @@ pub use laws::{
 pub use message::{Data, LARGEST, Message, read_message, write_message};
 pub use pdu::{Pdu, read_pdu, write_pdu};
 pub use pieces::cut;
+pub use refusal::Refusal;
 pub use scoped::{Scoped, read_scoped, read_scoped_front, write_scoped};
 pub use security::{Cut, Security, read_security, write_security};
 pub use whole::canonical;
