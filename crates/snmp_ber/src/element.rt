@@ -154,7 +154,7 @@ fn head(tag: u8, size: u32) -> ArrayVec<u8, 6>
 {
     let mut head = ArrayVec::new();
     head.push(tag);
-    if size < 128 {
+    if size < 0x80 {
         head.push(size as u8);
         return head;
     }
