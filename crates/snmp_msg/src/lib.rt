@@ -33,6 +33,4 @@ pub use security::{Cut, Security, read_security, write_security};
 pub use whole::canonical;
 
 #[cfg(test)]
-mod binding_tests;
-#[cfg(test)]
 mod tests;

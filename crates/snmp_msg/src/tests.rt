@@ -8,6 +8,9 @@ use std::alloc::{AllocError, Global};
 use std::process::Abort;
 use std::test::Fail;
 
+mod bindings;
+mod places;
+
 /// The request that a manager discovers an engine with (RFC 3414, section 4).
 const DISCOVERY: [u8; 58] = [
     0x30, 0x38, 0x02, 0x01, 0x03, 0x30, 0x0E, 0x02, 0x01, 0x01, 0x02, 0x03, 0x00, 0xFF, 0xE3, 0x04,
@@ -101,75 +104,6 @@ fn a_broken_frame_is_no_message(rt: HostRuntime) -> Result<(), Fail> {
     let mut longer = discovery().to_vec(alloc)?;
     longer.push(0)?;
     assert_eq!(rt; read_message(&longer), Err(MsgFault::NotMessage { at: 58 }));
-    Ok(())
-}
-
-/// A place, the octet that stands there instead, and what refuses the datagram then.
-const CHANGES: [(usize, u8, Option<MsgFault>); 31] = [
-    // the outer layout: no element, an element past its parent's end, another tag, a value that isn't allowed
-    (0, 0x31, Some(MsgFault::NotMessage { at: 0 })),
-    (2, 0x04, Some(MsgFault::NotMessage { at: 2 })),
-    (4, 0x01, Some(MsgFault::BadVersion)),
-    (5, 0x31, Some(MsgFault::NotMessage { at: 5 })),
-    (6, 0x7F, Some(MsgFault::NotMessage { at: 5 })),
-    (6, 0x0D, Some(MsgFault::NotMessage { at: 18 })),
-    (6, 0x0F, Some(MsgFault::NotMessage { at: 21 })),
-    (7, 0x04, Some(MsgFault::NotMessage { at: 7 })),
-    (9, 0x80, Some(MsgFault::NotMessage { at: 7 })),
-    (12, 0x80, Some(MsgFault::NotMessage { at: 10 })),
-    (13, 0x00, Some(MsgFault::NotMessage { at: 10 })),
-    (15, 0x02, Some(MsgFault::NotMessage { at: 15 })),
-    (16, 0x00, Some(MsgFault::NotMessage { at: 15 })),
-    (20, 0x00, Some(MsgFault::NotMessage { at: 18 })),
-    (21, 0x30, Some(MsgFault::NotMessage { at: 21 })),
-    (39, 0x02, Some(MsgFault::NotMessage { at: 39 })),
-    (40, 0x10, Some(MsgFault::NotMessage { at: 57 })),
-    (40, 0x12, Some(MsgFault::NotMessage { at: 39 })),
-    // msgData
-    (39, 0x04, Some(MsgFault::NotScoped { at: 39 })),
-    (17, 0x07, Some(MsgFault::NotScoped { at: 39 })),
-    (41, 0x02, Some(MsgFault::NotScoped { at: 41 })),
-    (44, 0x0E, Some(MsgFault::NotScoped { at: 43 })),
-    (46, 0x0A, Some(MsgFault::NotScoped { at: 57 })),
-    // the security parameters
-    (24, 0x0D, Some(MsgFault::NotSecurity { at: 37 })),
-    (29, 0xFF, Some(MsgFault::NotSecurity { at: 27 })),
-    (34, 0x21, Some(MsgFault::NotSecurity { at: 33 })),
-    // the PDU
-    (45, 0xA4, Some(MsgFault::NotPdu { at: 45 })),
-    (56, 0x31, Some(MsgFault::NotPdu { at: 56 })),
-    (49, 0x80, None),
-    // other bits of the flags are ignored
-    (17, 0x0C, None),
-    (17, 0xF8, None),
-];
-
-/// One of these.
-fn change(index: usize) -> Option<&'static (usize, u8, Option<MsgFault>)> {
-    CHANGES.get(index)
-}
-
-/// Why the datagram has no canonical spelling, where it has none. Want of memory is handed on.
-fn unspelled(alloc: Global, datagram: &[u8]) -> Result<Option<CanonFault>, CanonFault> {
-    match canonical(alloc, datagram) {
-        Err(CanonFault::OutOfMemory) => Err(CanonFault::OutOfMemory),
-        other => Ok(other.err()),
-    }
-}
-
-#[test]
-fn a_fault_is_at_the_first_octet_of_its_element(rt: HostRuntime) -> Result<(), Fail> {
-    for index in 0..31 {
-        let (place, octet, fault) = change(index).ok_or("a change")?;
-        assert!(rt; *place < 58);
-        let datagram = changed(rt.alloc(), *place, *octet)?;
-        assert_eq!(rt; fault_of(&datagram), *fault, "octet {place} made {octet}");
-        assert_eq!(rt;
-            unspelled(rt.alloc(), &datagram)?,
-            fault.map(CanonFault::Msg),
-            "octet {place} made {octet}"
-        );
-    }
     Ok(())
 }
 

@@ -1,7 +1,7 @@
 use Rattle.std.proofs.Common.{◌≡◌, ◌++◌}
 use Rattle.std.specs.Prelude.{map}
 use Rattle.snmp_msg.specs.Variables.{Variable, variables_of, bindings_left}
-use Rattle.snmp_msg.proofs.binding_tests.names_of.Given as goal
+use Rattle.snmp_msg.proofs.tests.bindings.names_of.Given as goal
 
 abbrev pub invariant-loop-binding : goal.invariant-loop-binding
 invariant-loop-binding l = record {

@@ -1,7 +1,7 @@
 use Rattle.std.specs.Prelude.{All}
 use Rattle.snmp_msg.specs.Variables.{CanBeWritten, variable_of}
 use Rattle.snmp_msg.specs.declared.binding.Binding.{Binding}
-use Rattle.snmp_msg.proofs.binding_tests.collected.Given as goal
+use Rattle.snmp_msg.proofs.tests.bindings.collected.Given as goal
 
 abbrev pub invariant-loop-binding : goal.invariant-loop-binding
 invariant-loop-binding l = record {

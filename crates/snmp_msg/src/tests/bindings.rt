@@ -4,8 +4,8 @@ ghost use Rattle.std.specs.Prelude.{◌≡◌, All, List, length, map, IfOk};
 ghost use Rattle.snmp_ber.specs.Element.{IsTag};
 ghost use Rattle.snmp_msg.specs.Variables.{Variable, AreBindings, CanBeWritten, variable_of};
 
-use super::*;
-use crate::tests::is_too_large;
+use super::is_too_large;
+use crate::*;
 use snmp_ber::Oid;
 use std::alloc::{AllocError, Global};
 use std::test::Fail;
