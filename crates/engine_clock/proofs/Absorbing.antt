@@ -90,9 +90,10 @@ AllHeld-found m (e ∷ es) h q some =
     ] refl some
 
 pub HoldsAll-entries : (m : Marks) (es : List (List ℕ × SeenPair)) → AllHeld m es ↔ HoldsAll m (from_entries es)
-HoldsAll-entries m es =
-    (λ h q some. AllHeld-found m es h q (subst IsSome (get_engine es q) some),
-    λ h. AllHeld-from m es (λ q some. h q (subst IsSome (sym (get_engine es q)) some)))
+HoldsAll-entries m es = (
+  λ h q some. AllHeld-found m es h q (subst IsSome (get_engine es q) some),
+  λ h. AllHeld-from m es (λ q some. h q (subst IsSome (sym (get_engine es q)) some)),
+)
 
 pub all_held : (m : Marks) (es : List (List ℕ × SeenPair)) → HoldsAll m (from_entries es) → AllHeld m es
 all_held m es every = (HoldsAll-entries m es).1 every

@@ -110,7 +110,7 @@ impl Clocks {
         self.mark(engine).map(|mark| mark.notion(now))
     }
 
-    // Whether each engine that is held is below this one.
+    /// Whether each engine that is held is below this one.
     pub(crate) fn all_below(&self, engine: &EngineId) -> bool
         ensures { result ≡ list_all (λ e. is_lt (engine_cmp e.0 engine.now)) (map.entries self.now) }
     {
@@ -120,7 +120,7 @@ impl Clocks {
         }
     }
 
-    // Joins one mark in.
+    /// Joins one mark in.
     pub(crate) fn join_in(&mut self, engine: EngineId, mark: Mark) -> Result<(), AllocError>
         ensures ok { OnOk result (self.new ≡ learned engine mark self.old) }
         ensures err { OnErr result (self.new ≡ self.old) }
@@ -144,7 +144,7 @@ impl Clocks {
     }
 }
 
-// Whether each engine of the marks is held.
+/// Whether each engine of the marks is held.
 fn holds_all(clocks: &Clocks, marks: &BTreeMap<EngineId, Mark>) -> bool
     ensures { IsTrue result ↔ HoldsAll clocks.now (map.from_entries marks.now.entries) }
 {
@@ -156,7 +156,7 @@ fn holds_all(clocks: &Clocks, marks: &BTreeMap<EngineId, Mark>) -> bool
     true
 }
 
-// Joins the marks in.
+/// Joins the marks in.
 #[tactic(auto, using(crate::proofs::Absorbing::all_held))]
 fn join_all(clocks: &mut Clocks, marks: &BTreeMap<EngineId, Mark>) -> Result<(), AllocError>
     ensures held { HoldsAll clocks.old (map.from_entries marks.now.entries) → IsOk result }

@@ -13,13 +13,17 @@ ghost use Rattle.engine_clock.specs.Reading.{IsTail, IsFaultIn};
 ghost use Rattle.engine_clock.specs.Faults.{IsFaultOf, GivesBack};
 ghost use Rattle.engine_clock.specs.Splits.{IsSplit, Lacks};
 
+use crate::engine_id::MOST;
 use crate::{Clocks, EngineId, Mark, Pair};
+use snmp_ber::read_decimal;
 use std::alloc::{AllocError, Global};
 use std::collections::BTreeMap;
 use thiserror::Error;
 
+/// The first line of version 2.
 const HEADING: &str = "snmp-clocks 2\n";
 
+/// The first line of version 1.
 const OLD_HEADING: &str = "snmp-clocks 1\n";
 
 /// Why a saved text is not read.
@@ -47,7 +51,9 @@ impl Clocks {
         Ok(text.into_bytes())
     }
 
-    /// Reads what `save` wrote. In version 1 of the text there are no moments, and each is `now`, in seconds.
+    /// Reads what `save` wrote, version 2 of the text, or version 1, whose first line is `snmp-clocks 1` and whose lines have no
+    /// moment: each mark is then seen at `now`, in seconds. In version 2 `now` changes nothing. Any other text is refused by
+    /// the number of its first faulty line.
     pub fn read_saved(alloc: Global, text: &[u8], now: u64) -> Result<Clocks, ClockFault>
         // The text that is read saves the marks.
         ensures read { IfOk result (λ clocks. Saves now text.now clocks) }
@@ -66,7 +72,7 @@ impl Clocks {
     }
 }
 
-// Reads the lines after the heading.
+/// Reads the lines after the heading.
 fn read_lines(alloc: Global, text: &[u8], rest: &[u8], form: Form) -> Result<Clocks, ClockFault>
     requires { text.now ≡ heading_in form ++ rest.now }
     ensures read { IfOk result (λ clocks. Lists (heading_in form) (line_in form) (FitsIn form) text.now clocks) }
@@ -92,7 +98,7 @@ fn read_lines(alloc: Global, text: &[u8], rest: &[u8], form: Form) -> Result<Clo
     Ok(clocks)
 }
 
-// Appends a line for each engine.
+/// Appends a line for each engine.
 fn push_lines(text: &mut String, marks: &BTreeMap<EngineId, Mark>) -> Result<(), AllocError>
     ensures { OnOk result (string_bytes text.new ≡ string_bytes text.old ++ flat_map line marks.now.entries) }
 {
@@ -138,7 +144,7 @@ fn read_tail(text: &[u8], form: Form) -> Option<(&[u8], u64, &[u8])>
         Form::WithMoments => {
             let (time, text) = split_once(text, b' ')?;
             let (seen, rest) = split_once(text, b'\n')?;
-            Some((time, read_decimal(seen)?, rest))
+            Some((time, read_decimal(seen, u64::MAX)?, rest))
         }
         Form::ReadAt(now) => {
             let (time, rest) = split_once(text, b'\n')?;
@@ -147,14 +153,15 @@ fn read_tail(text: &[u8], form: Form) -> Option<(&[u8], u64, &[u8])>
     }
 }
 
+/// Reads an identifier in lower-case hex.
 fn read_engine(text: &[u8]) -> Option<EngineId>
     ensures found { IfSome result (λ e. text.now ≡ encode_lower e) }
     ensures all { (e : List ℕ) → IsEngine e → text.now ≡ encode_lower e → result ≡ Some e }
 {
-    if text.len() > 64 || has_capital(text) {
+    if text.len() > 2 * MOST || has_capital(text) {
         return None;
     }
-    let mut room = [0; 32];
+    let mut room = [0; MOST];
     let octets = &mut room[..text.len() / 2];
     match hex::decode_to_slice(text, octets) {
         Ok(()) => EngineId::of(octets),
@@ -162,12 +169,14 @@ fn read_engine(text: &[u8]) -> Option<EngineId>
     }
 }
 
+/// There is a capital letter.
 fn has_capital(text: &[u8]) -> bool
     ensures { result ≡ list_any is_ascii_uppercase text.now }
 {
     text.iter().any(|b| b.is_ascii_uppercase())
 }
 
+/// Reads boots and time.
 fn read_pair(boots: &[u8], time: &[u8]) -> Option<Pair>
     ensures found { IfSome result (λ p. (boots.now ≡ decimal p.boots) × (time.now ≡ decimal p.time)) }
     ensures all { (p : BootsAndTime) → IsPair p → boots.now ≡ decimal p.boots → time.now ≡ decimal p.time → result ≡ Some p }
@@ -177,41 +186,17 @@ fn read_pair(boots: &[u8], time: &[u8]) -> Option<Pair>
     Some(Pair { boots, time })
 }
 
+/// Reads boots or time in decimal, at most `Pair::MAX`.
 fn read_number(text: &[u8]) -> Option<u32>
     ensures bound { IfSome result (λ n. n ≤ pair_max) }
     ensures found { IfSome result (λ n. text.now ≡ decimal n) }
     ensures all { (n : ℕ) → n ≤ pair_max → text.now ≡ decimal n → result ≡ Some n }
 {
-    let number = read_decimal(text)?;
-    if number <= u64::from(Pair::MAX) {
-        Some(number as u32)
-    } else {
-        None
-    }
+    let number = read_decimal(text, u64::from(Pair::MAX))?;
+    Some(number as u32)
 }
 
-/// Reads a decimal without sign or leading zeros.
-fn read_decimal(text: &[u8]) -> Option<u64>
-    ensures found { IfSome result (λ n. text.now ≡ decimal n) }
-    ensures all { (n : ℕ) → n < 2 ^ 64 → text.now ≡ decimal n → result ≡ Some n }
-{
-    if begins_wrongly(text) {
-        return None;
-    }
-    let Ok(digits) = str::from_utf8(text) else {
-        return None;
-    };
-    digits.parse().ok()
-}
-
-// A sign, or a zero that leads.
-fn begins_wrongly(text: &[u8]) -> bool
-    ensures { MatchBool result ((slice_index text.now 0 ≡ 43) ⊎ ((slice_index text.now 0 ≡ 48) × (1 < length text.now))) ((slice_index text.now 0 ≢ 43) × (slice_index text.now 0 ≡ 48 → length text.now ≡ 1)) }
-{
-    !text.is_empty() && (text[0] == b'+' || text[0] == b'0' && text.len() > 1)
-}
-
-// What is before the first such octet, and what is after it.
+/// What is before the first such octet, and what is after it.
 fn split_once(text: &[u8], octet: u8) -> Option<(&[u8], &[u8])>
     ensures found { IfSome result (λ r. IsSplit octet text.now r.0.now r.1.now) }
     ensures none { IfNone result (Lacks octet text.now) }
@@ -224,7 +209,7 @@ fn split_once(text: &[u8], octet: u8) -> Option<(&[u8], &[u8])>
     }
 }
 
-// The place of the first such octet, or else the length.
+/// The place of the first such octet, or else the length.
 fn find(text: &[u8], octet: u8) -> usize
     ensures within { result ≤ length text.now }
     ensures before { (k : ℕ) → k < result → slice_index text.now k ≢ octet }

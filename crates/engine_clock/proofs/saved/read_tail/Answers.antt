@@ -1,3 +1,4 @@
+use Rattle.std.proofs.Common.{arith}
 use Rattle.engine_clock.proofs.Cuts.{none_not_some}
 use Rattle.engine_clock.proofs.Lines.{no_time, no_seen, seen_is, no_old_time}
 use Rattle.engine_clock.proofs.saved.read_tail.Goals as goal
@@ -15,7 +16,7 @@ pub returns-in_err-read_decimal-in-WithMoments-clause-none : goal.returns-in_err
 returns-in_err-read_decimal-in-WithMoments-clause-none c =
     rw c.from_residual-in_err-read_decimal-in-WithMoments.ensures (λ time seen rest tail.
     let is = seen_is c.args.form c.args.text.now time seen rest tail _ _ _ _ c.in-WithMoments.is c.in_ok-time-in-WithMoments.ensures.found c.in_ok-seen-in-WithMoments.ensures.found in
-    none_not_some _ (c.in_err-read_decimal-in-WithMoments.ensures.all seen is.0 is.1))
+    none_not_some _ (c.in_err-read_decimal-in-WithMoments.ensures.all seen (omega (arith, is.0), is.1)))
 
 pub returns-in_err-time-in-ReadAt-clause-none : goal.returns-in_err-time-in-ReadAt-clause-none
 returns-in_err-time-in-ReadAt-clause-none c =
