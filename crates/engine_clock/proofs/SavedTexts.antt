@@ -1,142 +1,232 @@
--- The listings of pairs, and what has been read of a saved text.
-use Rattle.std.proofs.Common.{◌≡◌, ◌≢◌, ℕ, suc, ◌+◌, ◌≤◌, List, [], ◌∷◌, ◌++◌, map, length, Some, None, Option, IfSome, OnOk, is_ok, ◌==◌, cond, Result, Ok, Err, true, false, refl, sym, ap, ◌∙◌, arith, decimal}
+-- The listings of marks, and what has been read of a saved text.
+use Rattle.std.proofs.Common.{◌≡◌, ◌≢◌, ℕ, zero, suc, ◌+◌, ◌<◌, ◌≤◌, List, [], ◌∷◌, ◌++◌, length, slice_index, OnOk, is_ok, ◌==◌, Result, Ok, Err, true, false, refl, sym, ap, ◌∙◌, arith, ◌⊎◌, inl, inr}
 use Rattle.std.specs.List.{flat_map, AllByRecursion}
 use Rattle.std.proofs.lemmas.List.{append_assoc, append-nil, length-append}
-use Rattle.std.proofs.lemmas.Bool.{eqb-true}
-use Rattle.std.specs.Ordering.{is_lt, eq_by_cmp}
-use Rattle.std.specs.FinMap.{entries, from_entries, empty, get, get-empty, get-insert, len, len-entries}
-use Rattle.hex.specs.Hex.{encode_lower}
+use Rattle.std.proofs.lemmas.Bool.{eqb-true, cases_lt}
+use Rattle.std.specs.FinMap.{entries, from_entries, empty, len, len-entries}
 use Rattle.engine_clock.specs.Engines.{engine_cmp}
-use Rattle.engine_clock.specs.Pairs.{BootsAndTime, pair_cmp}
-use Rattle.engine_clock.specs.Marks.{SeenPair, Marks, Pairs, learned, received, pairs_of, without_moment, AllSeenAt}
-use Rattle.engine_clock.specs.Saved.{Entry, IsEntry, ArePairs, line, heading, listing, AreHeld, IsFirstFault}
-use Rattle.engine_clock.proofs.Held.{engines_total}
+use Rattle.engine_clock.specs.Marks.{SeenPair, Marks, learned}
+use Rattle.engine_clock.specs.Listings.{AllFit, listing_by, Lists, BeginsWellBy, IsFirstFaultBy}
+use Rattle.engine_clock.specs.Saved.{Entry, IsEntry, AreMarks, IsSeenAt, line, heading, listing, old_line, old_heading, Saves, BeginsWell, AreHeld, IsFirstFault, heading_in, line_in, FitsIn}
+use Rattle.engine_clock.specs.Reading.{IsFaultIn}
+use Rattle.engine_clock.specs.Faults.{IsFaultOf}
+use Rattle.engine_clock.specs.declared.saved.Form.{Form}
+use Rattle.engine_clock.specs.declared.saved.Form.TheVariants.{WithMoments, ReadAt}
+use Rattle.engine_clock.specs.declared.saved.ClockFault.{ClockFault}
+use Rattle.engine_clock.specs.declared.saved.ClockFault.TheVariants.{Line, OutOfMemory}
 use Rattle.engine_clock.proofs.Lines.{one_line, line-not_nil}
-use Rattle.engine_clock.proofs.Entries.{all_below, all_below-pairs, entries-empty, entries-pairs_of, pairs-learned, entries-from_entries, is_sorted-from}
+use Rattle.engine_clock.proofs.Entries.{all_below, entries-empty, entries-learned, entries-from_entries, is_sorted-from}
 use Rattle.engine_clock.proofs.Listings as listings
 
--- ---- the listings of pairs
+-- ---- listings in one form
 
-pub one_listing : (p q : Pairs) → ArePairs p → ArePairs q → listing p ≡ listing q → p ≡ q
-one_listing = listings.one_listing heading line IsEntry one_line line-not_nil
+abbrev pub listing_in : Form → Marks → List ℕ
+listing_in f m = listing_by (heading_in f) (line_in f) m
+
+abbrev pub ListsIn : Form → List ℕ → Marks → Type 0
+ListsIn f text m = Lists (heading_in f) (line_in f) (FitsIn f) text m
+
+abbrev FirstFaultIn : Form → List ℕ → ℕ → Type 0
+FirstFaultIn f text n = IsFirstFaultBy (heading_in f) (line_in f) (FitsIn f) text n
+
+pub one_listing_in : (f : Form) (p q : Marks) → AllFit (FitsIn f) p → AllFit (FitsIn f) q → listing_in f p ≡ listing_in f q → p ≡ q
+one_listing_in f = listings.one_listing (heading_in f) (line_in f) (FitsIn f) (one_line f) (line-not_nil f)
 
 -- the rest goes on with the line of an engine that is above all others
-abbrev pub GoesOn : Pairs → List ℕ → Type 0
-GoesOn pairs rest = listings.GoesOn heading line IsEntry one_line line-not_nil pairs rest
+abbrev pub GoesOn : Form → Marks → List ℕ → Type 0
+GoesOn f m rest = listings.GoesOn (heading_in f) (line_in f) (FitsIn f) (one_line f) (line-not_nil f) m rest
 
-pub first_fault : (text rest : List ℕ) (p : Pairs) → ArePairs p → text ≡ listing p ++ rest → rest ≢ [] → (GoesOn p rest → ⊥)
-    → IsFirstFault text (suc (suc (len p)))
-first_fault = listings.first_fault heading line IsEntry one_line line-not_nil
+pub first_fault : (f : Form) (text rest : List ℕ) (p : Marks) → AllFit (FitsIn f) p → text ≡ listing_in f p ++ rest → rest ≢ [] → (GoesOn f p rest → ⊥)
+    → FirstFaultIn f text (suc (suc (len p)))
+first_fault f = listings.first_fault (heading_in f) (line_in f) (FitsIn f) (one_line f) (line-not_nil f)
 
-pub no_heading : (text : List ℕ) → ((rest : List ℕ) → text ≢ heading ++ rest) → IsFirstFault text 1
-no_heading = listings.no_heading heading line IsEntry one_line line-not_nil
+no_heading_in : (f : Form) (text : List ℕ) → ((rest : List ℕ) → text ≢ heading_in f ++ rest) → FirstFaultIn f text 1
+no_heading_in f = listings.no_heading (heading_in f) (line_in f) (FitsIn f) (one_line f) (line-not_nil f)
 
-pub one_first_fault : (text : List ℕ) (m n : ℕ) → IsFirstFault text m → IsFirstFault text n → m ≡ n
-one_first_fault = listings.one_first_fault heading line IsEntry one_line line-not_nil
+one_first_fault_in : (f : Form) (text : List ℕ) (m n : ℕ) → FirstFaultIn f text m → FirstFaultIn f text n → m ≡ n
+one_first_fault_in f = listings.one_first_fault (heading_in f) (line_in f) (FitsIn f) (one_line f) (line-not_nil f)
 
-abbrev pub lines : List Entry → List ℕ
-lines es = flat_map line es
+pub one_listing : (p q : Marks) → AreMarks p → AreMarks q → listing p ≡ listing q → p ≡ q
+one_listing = one_listing_in WithMoments
 
-abbrev pub AllEntries : List Entry → Type 0
-AllEntries es = AllByRecursion IsEntry es
+-- ---- the two forms
+
+headings_differ : (a b : List ℕ) → heading ++ a ≡ old_heading ++ b → ⊥
+headings_differ a b e = let wrong : 50 ≡ 49 = ap (λ t. slice_index t 12) e in cc wrong
+
+new_is_not_old : (text a b : List ℕ) → text ≡ heading ++ a → text ≡ old_heading ++ b → ⊥
+new_is_not_old text a b new old = headings_differ a b (sym new ∙ old)
+
+-- a text saves one map
+pub one_saved : (now : ℕ) (text : List ℕ) (p q : Marks) → Saves now text p → Saves now text q → p ≡ q
+one_saved now text p q (inl a) (inl b) = one_listing_in WithMoments p q a.0 b.0 (sym a.1 ∙ b.1)
+one_saved now text p q (inl a) (inr b) = absurd (new_is_not_old text _ _ a.1 b.1)
+one_saved now text p q (inr a) (inl b) = absurd (new_is_not_old text _ _ b.1 a.1)
+one_saved now text p q (inr a) (inr b) = one_listing_in (ReadAt now) p q a.0 b.0 (sym a.1 ∙ b.1)
+
+fits_seen : (now : ℕ) (es : List Entry) → AllByRecursion (IsSeenAt now) es → AllByRecursion IsEntry es
+fits_seen now [] h = tt
+fits_seen now (e ∷ es) h = (h.0.0, fits_seen now es h.1)
+
+-- what is saved is within its bounds
+pub AreMarks-saved : (now : ℕ) (text : List ℕ) (p : Marks) → Saves now text p → AreMarks p
+AreMarks-saved now text p (inl a) = a.0
+AreMarks-saved now text p (inr a) = fits_seen now (entries p) a.0
+
+more_text : (f : Form) (text rest : List ℕ) (m : Marks) → text ≡ listing_in f m ++ rest → text ≡ heading_in f ++ (flat_map (line_in f) (entries m) ++ rest)
+more_text f text rest m e = e ∙ append_assoc (heading_in f) (flat_map (line_in f) (entries m)) rest
+
+old_not_begun : (now : ℕ) (text a : List ℕ) (n : ℕ) → text ≡ heading ++ a → BeginsWellBy old_heading old_line (IsSeenAt now) text (suc n) → ⊥
+old_not_begun now text a n new w = new_is_not_old text a _ new (more_text (ReadAt now) text w.3.0 w.0 w.3.1)
+
+new_not_begun : (now : ℕ) (text a : List ℕ) (n : ℕ) → text ≡ old_heading ++ a → BeginsWellBy heading line IsEntry text (suc n) → ⊥
+new_not_begun now text a n old w = new_is_not_old text _ a (more_text WithMoments text w.3.0 w.0 w.3.1) old
+
+either_well : {A B : Type 0} → A ⊎ B → (A → ⊥) → (B → ⊥) → ⊥
+either_well (inl a) f g = f a
+either_well (inr b) f g = g b
+
+-- the first fault in the form of the heading is that of the text
+pub fault_new : (now : ℕ) (text a : List ℕ) (n : ℕ) → text ≡ heading ++ a → FirstFaultIn WithMoments text n → IsFirstFault now text n
+fault_new now text a zero new h = cc h.before.1
+fault_new now text a (suc n) new h = record {
+  before = (h.before.0, h.before.1, inl h.before.2);
+  at = λ w. either_well w h.at (old_not_begun now text a n new);
+  whole = λ marks s. either_well s (λ l. h.whole marks l.0 l.1) (λ l. new_is_not_old text a _ new l.1);
+}
+
+pub fault_old : (now : ℕ) (text a : List ℕ) (n : ℕ) → text ≡ old_heading ++ a → FirstFaultIn (ReadAt now) text n → IsFirstFault now text n
+fault_old now text a zero old h = cc h.before.1
+fault_old now text a (suc n) old h = record {
+  before = (h.before.0, h.before.1, inr h.before.2);
+  at = λ w. either_well w (new_not_begun now text a n old) h.at;
+  whole = λ marks s. either_well s (λ l. new_is_not_old text _ a l.1 old) (λ l. h.whole marks l.0 l.1);
+}
+
+pub fault_of_new : (now : ℕ) (text a : List ℕ) (fault : ClockFault) → text ≡ heading ++ a → IsFaultIn WithMoments text fault → IsFaultOf now text fault
+fault_of_new now text a (Line n) new h = fault_new now text a n new h
+fault_of_new now text a OutOfMemory new h = inl h
+
+pub fault_of_old : (now : ℕ) (text a : List ℕ) (fault : ClockFault) → text ≡ old_heading ++ a → IsFaultIn (ReadAt now) text fault → IsFaultOf now text fault
+fault_of_old now text a (Line n) old h = fault_old now text a n old h
+fault_of_old now text a OutOfMemory old h = inr h
+
+-- the first line is that of neither version
+pub no_heading : (now : ℕ) (text : List ℕ) → ((rest : List ℕ) → text ≢ heading ++ rest) → ((rest : List ℕ) → text ≢ old_heading ++ rest) → IsFirstFault now text 1
+no_heading now text no_new no_old =
+    let new = no_heading_in WithMoments text no_new in
+    let old = no_heading_in (ReadAt now) text no_old in
+    record {
+      before = (0, refl, inl tt);
+      at = λ w. either_well w new.at old.at;
+      whole = λ marks s. either_well s (λ l. new.whole marks l.0 l.1) (λ l. old.whole marks l.0 l.1);
+    }
+
+-- ---- a text has one first fault
+
+fewer : (now : ℕ) (text : List ℕ) (m n : ℕ) → m ≤ n → BeginsWell now text n → BeginsWell now text m
+fewer now text m n l (inl w) = inl (listings.fewer heading line IsEntry (one_line WithMoments) (line-not_nil WithMoments) text m n l w)
+fewer now text m n l (inr w) = inr (listings.fewer old_heading old_line (IsSeenAt now) (one_line (ReadAt now)) (line-not_nil (ReadAt now)) text m n l w)
+
+not_earlier : (now : ℕ) (text : List ℕ) (m n : ℕ) → IsFirstFault now text m → IsFirstFault now text n → ¬ (m < n)
+not_earlier now text m n first second less =
+    let k = second.before in
+    let there : m ≤ k.0 = omega (arith, k.1) in
+    first.at (fewer now text m k.0 there k.2)
+
+pub one_first_fault : (now : ℕ) (text : List ℕ) (m n : ℕ) → IsFirstFault now text m → IsFirstFault now text n → m ≡ n
+one_first_fault now text m n first second =
+    let a = not_earlier now text m n first second in
+    let b = not_earlier now text n m second first in
+    elim (cases_lt m n) [ inl less ↦ absurd (a less) | inr le ↦ elim (cases_lt n m) [ inl more ↦ absurd (b more) | inr ge ↦ omega arith ] ]
 
 -- ---- what has been read
 
--- the text is the listing of the map, and the rest; each moment is now
-pub record ReadSoFar (now : ℕ) (text : List ℕ) (m : Marks) (rest : List ℕ) : Type 0 where
-  pub fits : ArePairs (pairs_of m)
-  pub read : text ≡ listing (pairs_of m) ++ rest
-  pub seen : AllSeenAt now m
+-- the text is the listing of the map, and the rest
+pub record ReadSoFar (f : Form) (text : List ℕ) (m : Marks) (rest : List ℕ) : Type 0 where
+  pub fits : AllFit (FitsIn f) m
+  pub read : text ≡ listing_in f m ++ rest
 
-pub pairs-empty : entries (pairs_of empty) ≡ []
-pairs-empty = entries-pairs_of empty ∙ ap (map without_moment) entries-empty
-
-pub none_read : (now : ℕ) (text rest : List ℕ) → text ≡ heading ++ rest → ReadSoFar now text empty rest
-none_read now text rest e = record {
-  fits = rw pairs-empty tt;
-  read = e ∙ ap (λ es. heading ++ lines es ++ rest) (sym pairs-empty);
-  seen = λ q. rw (get-empty engine_cmp q) tt;
+pub none_read : (f : Form) (text rest : List ℕ) → text ≡ heading_in f ++ rest → ReadSoFar f text empty rest
+none_read f text rest e = record {
+  fits = rw entries-empty tt;
+  read = e ∙ ap (λ t. t ++ rest) (sym (append-nil (heading_in f))) ∙ ap (λ es. (heading_in f ++ flat_map (line_in f) es) ++ rest) (sym entries-empty);
 }
 
-lines-push : (es : List Entry) (x : Entry) → lines (es ++ x ∷ []) ≡ lines es ++ line x
-lines-push [] x = append-nil (line x)
-lines-push (e ∷ es) x = ap (λ t. line e ++ t) (lines-push es x) ∙ sym (append_assoc (line e) (lines es) (line x))
+lines-push : (f : Form) (es : List Entry) (x : Entry) → flat_map (line_in f) (es ++ x ∷ []) ≡ flat_map (line_in f) es ++ line_in f x
+lines-push f [] x = append-nil (line_in f x)
+lines-push f (e ∷ es) x = ap (λ t. line_in f e ++ t) (lines-push f es x) ∙ sym (append_assoc (line_in f e) (flat_map (line_in f) es) (line_in f x))
 
-AllEntries-push : (es : List Entry) (x : Entry) → AllEntries es → IsEntry x → AllEntries (es ++ x ∷ [])
-AllEntries-push [] x h p = (p, tt)
-AllEntries-push (e ∷ es) x h p = (h.0, AllEntries-push es x h.1 p)
+AllFit-push : (P : Entry → Type 0) (es : List Entry) (x : Entry) → AllByRecursion P es → P x → AllByRecursion P (es ++ x ∷ [])
+AllFit-push P [] x h p = (p, tt)
+AllFit-push P (e ∷ es) x h p = (h.0, AllFit-push P es x h.1 p)
 
-seen-received : (now : ℕ) (p : BootsAndTime) (held : Option SeenPair) → IfSome held (λ mark. mark.seen ≡ now) → (received now p held).seen ≡ now
-seen-received now p None h = refl
-seen-received now p (Some held) h =
-    elim (is_lt (pair_cmp held.pair p)) as (λ b. (cond b (record { pair = p; seen = now }) held).seen ≡ now) [ true ↦ refl | false ↦ h ]
-
-pub one_read : (now : ℕ) (text rest after : List ℕ) (m m' : Marks) (e : Entry) → ReadSoFar now text m rest → IsEntry e
-    → all_below (entries m) e.0 ≡ true → rest ≡ line e ++ after → m' ≡ learned now e.0 e.1 m → ReadSoFar now text m' after
-one_read now text rest after m m' e so_far fits above left made = rw made record {
-  fits = rw (pairs-learned now m e above) (AllEntries-push (entries (pairs_of m)) e so_far.fits fits);
-  read = so_far.read ∙ ap (λ t. listing (pairs_of m) ++ t) left
-      ∙ sym (ap (λ es. heading ++ lines es ++ after) (pairs-learned now m e above) ∙ ap (λ t. heading ++ t ++ after) (lines-push (entries (pairs_of m)) e)
-      ∙ simp append_assoc);
-  seen = λ q. rw (get-insert engines_total m e.0 (received now e.1 (get m e.0)) q) (
-      elim (eq_by_cmp engine_cmp q e.0) as (λ b. IfSome (cond b (Some (received now e.1 (get m e.0))) (get m q)) (λ mark. mark.seen ≡ now)) [
-        | true ↦ seen-received now e.1 (get m e.0) (so_far.seen e.0)
-        | false ↦ so_far.seen q
-      ]);
+pub one_read : (f : Form) (text rest after : List ℕ) (m m' : Marks) (e : Entry) → ReadSoFar f text m rest → FitsIn f e
+    → all_below (entries m) e.0 ≡ true → rest ≡ line_in f e ++ after → m' ≡ learned e.0 e.1 m → ReadSoFar f text m' after
+one_read f text rest after m m' e so_far fits above left made = rw made record {
+  fits = rw (entries-learned m e above) (AllFit-push (FitsIn f) (entries m) e so_far.fits fits);
+  read = so_far.read ∙ ap (λ t. listing_in f m ++ t) left ∙ sym (append_assoc (listing_in f m) (line_in f e) after)
+      ∙ ap (λ t. t ++ after) (append_assoc (heading_in f) (flat_map (line_in f) (entries m)) (line_in f e) ∙ ap (λ t. heading_in f ++ t) (sym (lines-push f (entries m) e)) ∙ ap (λ es. heading_in f ++ flat_map (line_in f) es) (sym (entries-learned m e above)));
 }
 
-pub len-learned : (now : ℕ) (m : Marks) (e : Entry) → all_below (entries m) e.0 ≡ true → len (pairs_of (learned now e.0 e.1 m)) ≡ suc (len (pairs_of m))
-len-learned now m e above =
-    let longer = ap length (pairs-learned now m e above) ∙ length-append (entries (pairs_of m)) (e ∷ []) in
-    let a = len-entries (pairs_of (learned now e.0 e.1 m)) in
-    let b = len-entries (pairs_of m) in
+pub len-learned : (m : Marks) (e : Entry) → all_below (entries m) e.0 ≡ true → len (learned e.0 e.1 m) ≡ suc (len m)
+len-learned m e above =
+    let longer = ap length (entries-learned m e above) ∙ length-append (entries m) (e ∷ []) in
+    let a = len-entries (learned e.0 e.1 m) in
+    let b = len-entries m in
     omega arith
+
+-- an entry that goes on: the text begins well at least up to its line
+pub entry_well : (f : Form) (text rest after : List ℕ) (m : Marks) (e : Entry) → ReadSoFar f text m rest → FitsIn f e → true ≡ all_below (entries m) e.0
+    → rest ≡ line_in f e ++ after → BeginsWellBy (heading_in f) (line_in f) (FitsIn f) text 2
+entry_well f text rest after m e so_far fits above left =
+    let more = learned e.0 e.1 m in
+    let read = one_read f text rest after m more e so_far fits (sym above) left refl in
+    let longer = len-learned m e (sym above) in
+    listings.fewer (heading_in f) (line_in f) (FitsIn f) (one_line f) (line-not_nil f) text 2 (suc (len more)) (omega arith) (more, read.fits, refl, (after, read.read))
 
 -- ---- what the entries of a map say of it
 
-fits-pairs : (es : List (List ℕ × SeenPair)) → AllByRecursion (λ e. IsEntry (without_moment e)) es → AllEntries (map without_moment es)
-fits-pairs [] h = tt
-fits-pairs (e ∷ es) h = (h.0, fits-pairs es h.1)
-
-module _ (es : List (List ℕ × SeenPair)) (h : AreHeld es) where
+module _ (es : List Entry) (h : AreHeld es) where
   pub entries-held : entries (from_entries {R = engine_cmp} es) ≡ es
   entries-held = entries-from_entries es (is_sorted-from es h.rising)
 
-  pub pairs-held : entries (pairs_of (from_entries es)) ≡ map without_moment es
-  pairs-held = entries-pairs_of (from_entries es) ∙ ap (map without_moment) entries-held
+  pub AreMarks-held : AreMarks (from_entries es)
+  AreMarks-held = rw entries-held h.fits
 
-  pub ArePairs-held : ArePairs (pairs_of (from_entries es))
-  ArePairs-held = rw pairs-held (fits-pairs es h.fits)
+  pub listing-held : listing (from_entries es) ≡ heading ++ flat_map line es
+  listing-held = ap (λ es. heading ++ flat_map line es) entries-held
 
-  pub listing-held : listing (pairs_of (from_entries es)) ≡ heading ++ lines (map without_moment es)
-  listing-held = ap (λ es. heading ++ lines es) pairs-held
-
-pub len-empty_pairs : len (pairs_of empty) ≡ 0
-len-empty_pairs = len-entries (pairs_of empty) ∙ ap length pairs-empty
+pub len-empty_marks : len (empty {X = SeenPair} {R = engine_cmp}) ≡ 0
+len-empty_marks = len-entries (empty {X = SeenPair} {R = engine_cmp}) ∙ ap length entries-empty
 
 -- ---- a turn of the loop
 
-above_in_pairs : (m : Marks) (k : List ℕ) → all_below (entries (pairs_of m)) k ≡ all_below (entries m) k
-above_in_pairs m k = ap (λ es. all_below es k) (entries-pairs_of m) ∙ all_below-pairs (entries m) k
-
 -- the line that comes is not of an engine above all others
-pub not_above : (m : Marks) (rest after : List ℕ) (e : Entry) → IsEntry e → rest ≡ line e ++ after → false ≡ all_below (entries m) e.0
-    → GoesOn (pairs_of m) rest → ⊥
-not_above m rest after e fits left test w =
-    let same = (one_line e w.0 after w.3.0 fits w.1 (sym left ∙ w.3.1)).0 in
-    let wrong : false ≡ true = test ∙ sym (above_in_pairs m e.0) ∙ ap (λ (x : Entry). all_below (entries (pairs_of m)) x.0) same ∙ w.2 in
+pub not_above : (f : Form) (m : Marks) (rest after : List ℕ) (e : Entry) → FitsIn f e → rest ≡ line_in f e ++ after → false ≡ all_below (entries m) e.0
+    → GoesOn f m rest → ⊥
+not_above f m rest after e fits left test w =
+    let same = (one_line f e w.0 after w.3.0 fits w.1 (sym left ∙ w.3.1)).0 in
+    let wrong : false ≡ true = test ∙ ap (λ (x : Entry). all_below (entries m) x.0) same ∙ w.2 in
     cc wrong
 
-pub one_turn : (now : ℕ) (text rest after : List ℕ) (m m' : Marks) (e : Entry) (n : ℕ) → ReadSoFar now text m rest → n ≡ suc (suc (len (pairs_of m)))
-    → n + length rest ≤ length text + 2 → IsEntry e → true ≡ all_below (entries m) e.0 → rest ≡ line e ++ after → m' ≡ learned now e.0 e.1 m
-    → record { so_far : ReadSoFar now text m' after; number : n + 1 ≡ suc (suc (len (pairs_of m'))); bound : n + 1 + length after ≤ length text + 2 }
-one_turn now text rest after m m' e n so_far number bound fits above left made =
-    let more = len-learned now m e (sym above) in
-    let more' : len (pairs_of m') ≡ suc (len (pairs_of m)) = ap (λ m. len (pairs_of m)) made ∙ more in
-    let long : length rest ≡ length (line e) + length after = ap length left ∙ length-append (line e) after in
-    let ends : length (line e) ≡ length (encode_lower e.0 ++ 32 ∷ decimal e.1.boots ++ 32 ∷ decimal e.1.time) + 1 = length-append (encode_lower e.0 ++ 32 ∷ decimal e.1.boots ++ 32 ∷ decimal e.1.time) (10 ∷ []) in
+line-long : (f : Form) (e : Entry) → 0 ≢ length (line_in f e)
+line-long f e h = line-not_nil f e [] (nil_of (line_in f e) (sym h) ∙ sym (append-nil (line_in f e)))
+  where
+    nil_of : (xs : List ℕ) → length xs ≡ 0 → [] ≡ xs
+    nil_of [] e = refl
+    nil_of (x ∷ xs) e = absurd (omega arith)
+
+pub one_turn : (f : Form) (text rest after : List ℕ) (m m' : Marks) (e : Entry) (n : ℕ) → ReadSoFar f text m rest → n ≡ suc (suc (len m))
+    → n + length rest ≤ length text + 2 → FitsIn f e → true ≡ all_below (entries m) e.0 → rest ≡ line_in f e ++ after → m' ≡ learned e.0 e.1 m
+    → record { so_far : ReadSoFar f text m' after; number : n + 1 ≡ suc (suc (len m')); bound : n + 1 + length after ≤ length text + 2 }
+one_turn f text rest after m m' e n so_far number bound fits above left made =
+    let more = len-learned m e (sym above) in
+    let more' : len m' ≡ suc (len m) = ap len made ∙ more in
+    let long : length rest ≡ length (line_in f e) + length after = ap length left ∙ length-append (line_in f e) after in
+    let some = line-long f e in
     record {
-      so_far = one_read now text rest after m m' e so_far fits (sym above) left made;
+      so_far = one_read f text rest after m m' e so_far fits (sym above) left made;
       number = omega arith;
       bound = omega arith;
     }
@@ -153,8 +243,15 @@ on_ok (Ok x) is h = h
 on_ok (Err e) is h = cc is
 
 -- all has been read
-pub all_read : (now : ℕ) (text rest : List ℕ) (m : Marks) (p : Pairs) → ReadSoFar now text m rest → true ≡ (length rest == 0) → ArePairs p → text ≡ listing p
-    → pairs_of m ≡ p
-all_read now text rest m p so_far test fp e =
-    one_listing (pairs_of m) p so_far.fits fp
-    (sym (so_far.read ∙ ap (λ r. listing (pairs_of m) ++ r) (is_empty rest test) ∙ append-nil (listing (pairs_of m))) ∙ e)
+pub all_read : (f : Form) (text rest : List ℕ) (m : Marks) → ReadSoFar f text m rest → true ≡ (length rest == 0) → ListsIn f text m
+all_read f text rest m so_far test =
+    (so_far.fits, so_far.read ∙ ap (λ r. listing_in f m ++ r) (is_empty rest test) ∙ append-nil (listing_in f m))
+
+pub given_back : (f : Form) (text rest : List ℕ) (m p : Marks) → ReadSoFar f text m rest → true ≡ (length rest == 0) → ListsIn f text p → m ≡ p
+given_back f text rest m p so_far test listed =
+    let read = all_read f text rest m so_far test in
+    one_listing_in f m p read.0 listed.0 (sym read.1 ∙ listed.1)
+
+pub heading_long : (f : Form) (text rest : List ℕ) → text ≡ heading_in f ++ rest → length text ≡ 14 + length rest
+heading_long WithMoments text rest e = ap length e ∙ length-append heading rest
+heading_long (ReadAt now) text rest e = ap length e ∙ length-append old_heading rest

@@ -1,27 +1,26 @@
 //! The clocks of other engines.
-ghost use Rattle.std.specs.Prelude.{◌≡◌, IsSome, IsOk, OnOk, OnErr, IfOk};
+ghost use Rattle.std.specs.Prelude.{◌≡◌, ◌↔◌, IsTrue, IsSome, IsOk, OnOk, OnErr, IfOk};
 ghost use Rattle.std.specs.Option.{option_map};
 ghost use Rattle.std.specs.FinMap as map;
 ghost use Rattle.std.specs.Ordering.{is_lt};
 ghost use Rattle.std.specs.List.{list_all};
 ghost use Rattle.engine_clock.specs.Engines.{engine_cmp};
-ghost use Rattle.engine_clock.specs.Marks.{Marks, pair_at, pairs_of, learned, JoinsPair, IsJoinOf, Absorbs};
-ghost use Rattle.engine_clock.specs.Saved.{ArePairs, listing};
+ghost use Rattle.engine_clock.specs.Marks.{Marks, mark_at, pair_at, seen_at, learned, JoinsMark, JoinsPair, HoldsAll, IsMarkJoinOf, IsJoinOf};
+ghost use Rattle.engine_clock.specs.Saved.{AreMarks};
 ghost use Rattle.engine_clock.specs.Windows.{notion_at};
 
 use crate::mark::Mark;
-use crate::saved::{HEADING, push_lines};
 use crate::{EngineId, Pair};
 use std::alloc::{AllocError, Global};
 use std::collections::BTreeMap;
 use std::marker::Model;
 
-/// A map from each engine that is held to the greatest of its pairs that has come in, and to the moment, in seconds, at
-/// which that pair was set (RFC 3414 section 2.3). A moment of a call is on the same clock as those of the calls before.
+/// A map from each engine that is held to the greatest of its marks that has come in (RFC 3414 section 2.3). All moments
+/// are in seconds from one beginning, which the caller keeps.
 #[derive(Debug, Drop)]
 pub struct Clocks {
-    alloc: Global,
-    marks: BTreeMap<EngineId, Mark>,
+    pub(crate) alloc: Global,
+    pub(crate) marks: BTreeMap<EngineId, Mark>,
 }
 
 impl Model for Clocks {
@@ -49,31 +48,32 @@ impl Clocks {
         }
     }
 
-    /// Learns a pair of an engine at the moment `now`. Where none is held or the held one is below it, it is set and seen
-    /// now; else nothing changes. Where the engine is held already, this takes no memory and succeeds. On an error all is
-    /// as before.
+    /// Learns a pair of an engine at the moment `now`: the mark (pair, now) is joined in. Where the engine is held already,
+    /// this takes no memory and succeeds. On an error all is as before.
     pub fn learn(&mut self, engine: EngineId, pair: Pair, now: u64) -> Result<(), AllocError>
-        // The pair is joined in, and other engines keep theirs.
+        ensures marks { OnOk result (JoinsMark engine (seen_at pair now) self.old self.new) }
+        // So the pair is joined in.
         ensures joined { OnOk result (JoinsPair engine pair self.old self.new) }
-        // A moment is `now` where the pair has changed, and else as it was.
-        ensures ok { OnOk result (self.new ≡ learned now engine pair self.old) }
         ensures err { OnErr result (self.new ≡ self.old) }
-        ensures held { IsSome (map.get self.old engine) → IsOk result }
+        ensures held { IsSome (mark_at self.old engine) → IsOk result }
     {
-        let mark = Mark::received(now, pair, self.mark(&engine));
-        self.put(engine, mark)
+        self.join_in(engine, Mark { pair, seen: now })
     }
 
-    /// Learns each pair of `other` at the moment `now`, whatever moments `other` has. On an error all is as before.
-    pub fn absorb(&mut self, other: &Clocks, now: u64) -> Result<(), AllocError>
-        // It is the join of the pairs.
+    /// Joins each mark of `other` in. Where all its engines are held already, this takes no memory and succeeds. On an error
+    /// all is as before.
+    pub fn absorb(&mut self, other: &Clocks) -> Result<(), AllocError>
+        ensures marks { OnOk result (IsMarkJoinOf self.old other.now self.new) }
+        // So it is the join of the pairs.
         ensures joined { OnOk result (IsJoinOf self.old other.now self.new) }
-        // A moment is `now` where the pair has changed, and else as it was.
-        ensures ok { OnOk result (Absorbs now self.old other.now self.new) }
         ensures err { OnErr result (self.new ≡ self.old) }
+        ensures held { HoldsAll self.old other.now → IsOk result }
     {
+        if holds_all(self, &other.marks) {
+            return join_all(self, &other.marks);
+        }
         let mut joined = self.try_clone()?;
-        learn_all(&mut joined, &other.marks, now)?;
+        join_all(&mut joined, &other.marks)?;
         *self = joined;
         Ok(())
     }
@@ -95,27 +95,22 @@ impl Clocks {
         self.mark(engine).map(|mark| mark.pair)
     }
 
+    /// The mark that is held of the engine.
+    pub fn mark(&self, engine: &EngineId) -> Option<Mark>
+        ensures { result ≡ mark_at self.now engine.now }
+    {
+        self.marks.get(engine).copied()
+    }
+
     /// The notion of the engine's time at the moment `now` (RFC 3414 section 2.3), where a pair is held: its time, and the
     /// seconds since it was set, none where `now` is earlier. It is at most 2147483647.
     pub fn notion(&self, engine: &EngineId, now: u64) -> Option<u32>
-        ensures { result ≡ option_map (notion_at now) (map.get self.now engine.now) }
+        ensures { result ≡ option_map (notion_at now) (mark_at self.now engine.now) }
     {
         self.mark(engine).map(|mark| mark.notion(now))
     }
 
-    /// The text of the pairs, which has no moments: a line `snmp-clocks 1`, and then a line for each engine, in their
-    /// order, of its identifier in lower-case hex, its boots and its time. Each line ends with a line feed.
-    pub fn save(&self) -> Result<Vec<u8>, AllocError>
-        ensures text { IfOk result (λ v. v.items ≡ listing (pairs_of self.now)) }
-        // They are within their bounds, so the text can be read again.
-        ensures pairs { ArePairs (pairs_of self.now) }
-    {
-        let mut text = String::from_str(self.alloc, HEADING)?;
-        push_lines(&mut text, &self.marks)?;
-        Ok(text.into_bytes())
-    }
-
-    // Whether each engine that is held is below this one.
+    /// Whether each engine that is held is below this one.
     pub(crate) fn all_below(&self, engine: &EngineId) -> bool
         ensures { result ≡ list_all (λ e. is_lt (engine_cmp e.0 engine.now)) (map.entries self.now) }
     {
@@ -125,10 +120,14 @@ impl Clocks {
         }
     }
 
-    fn mark(&self, engine: &EngineId) -> Option<Mark>
-        ensures { result ≡ map.get self.now engine.now }
+    /// Joins one mark in.
+    pub(crate) fn join_in(&mut self, engine: EngineId, mark: Mark) -> Result<(), AllocError>
+        ensures ok { OnOk result (self.new ≡ learned engine mark self.old) }
+        ensures err { OnErr result (self.new ≡ self.old) }
+        ensures held { IsSome (map.get self.old engine) → IsOk result }
     {
-        self.marks.get(engine).copied()
+        let joined = mark.joined_to(self.mark(&engine));
+        self.put(engine, joined)
     }
 
     fn put(&mut self, engine: EngineId, mark: Mark) -> Result<(), AllocError>
@@ -139,21 +138,32 @@ impl Clocks {
         // These give the proof the bounds of what comes in.
         let _octets = engine.as_slice();
         let _boots = mark.pair.boots;
+        let _seen = mark.seen;
         self.marks.insert(engine, mark)?;
         Ok(())
     }
 }
 
-// Learns the pairs of the marks.
-fn learn_all(
-    clocks: &mut Clocks,
-    marks: &BTreeMap<EngineId, Mark>,
-    now: u64,
-) -> Result<(), AllocError>
-    ensures { OnOk result (Absorbs now clocks.old (map.from_entries marks.now.entries) clocks.new) }
+/// Whether each engine of the marks is held.
+fn holds_all(clocks: &Clocks, marks: &BTreeMap<EngineId, Mark>) -> bool
+    ensures { IsTrue result ↔ HoldsAll clocks.now (map.from_entries marks.now.entries) }
+{
+    for (engine, _) in marks {
+        if clocks.mark(engine).is_none() {
+            return false;
+        }
+    }
+    true
+}
+
+/// Joins the marks in.
+#[tactic(auto, using(crate::proofs::Absorbing::all_held))]
+fn join_all(clocks: &mut Clocks, marks: &BTreeMap<EngineId, Mark>) -> Result<(), AllocError>
+    ensures held { HoldsAll clocks.old (map.from_entries marks.now.entries) → IsOk result }
+    ensures joined { OnOk result (IsMarkJoinOf clocks.old (map.from_entries marks.now.entries) clocks.new) }
 {
     for (engine, mark) in marks {
-        clocks.learn(engine.clone()?, mark.pair, now)?;
+        clocks.join_in(engine.clone()?, *mark)?;
     }
     Ok(())
 }

@@ -8,13 +8,13 @@ mod join;
 pub mod laws;
 mod mark;
 mod pair;
-mod reading;
 mod saved;
 mod window;
 
 pub use clocks::Clocks;
 pub use engine_id::EngineId;
 pub use join::Join;
+pub use mark::Mark;
 pub use pair::Pair;
 pub use saved::ClockFault;
 pub use window::{in_window_agent, in_window_manager};

@@ -1,4 +1,4 @@
--- Decimals without sign or leading zeros, and the dotted text of arcs.
+-- The dotted text of arcs.
 use Rattle.std.proofs.Common.{◌≡◌, ◌≢◌, ℕ, zero, suc, ◌<◌, ◌≤◌, ◌^◌, ◌⊎◌, eqb, false, List, [], ◌∷◌, ◌++◌, length, get_or, Some, Result, Ok, Err, IfSome, refl, sym, ap, ◌∙◌, arith, decimal, inl, inr}
 use Rattle.std.specs.Prelude.{map}
 use Rattle.std.specs.List.{AllByRecursion, All, slice_split, join_with_byte, flat_map}
@@ -14,36 +14,6 @@ use Rattle.snmp_ber.specs.Oid.{AreArcs, dotted}
 
 own : IsNumeralModel (AllDigits 10) (digits_value 10)
 own = numerals_by_value (AllDigits 10) tells_digits
-
--- a sign, or a zero that leads
-abbrev pub BeginsWrongly : List ℕ → Type 0
-BeginsWrongly text = (get_or text 0 0 ≡ 43) ⊎ ((get_or text 0 0 ≡ 48) × (1 < length text))
-
-pub decimal_begins : (n : ℕ) (text : List ℕ) → n < 2 ^ 64 → text ≡ decimal n → BeginsWrongly text → ⊥
-decimal_begins n text h e wrong =
-    elim (cases_eq n 0) [
-      | inl none ↦
-          let digits : text ≡ 48 ∷ [] = e ∙ ap decimal none ∙ decimal_digit 0 (omega arith) in
-          let first : get_or text 0 0 ≡ 48 = ap (λ (t : List ℕ). get_or t 0 0) digits in
-          let long : length text ≡ 1 = ap length digits in
-          elim wrong [ inl plus ↦ omega arith | inr lead ↦ omega (arith, lead.1) ]
-      | inr some ↦
-          let first : 48 < get_or text 0 0 = rw e (first_decimal n (omega arith) h) in
-          elim wrong [ inl plus ↦ omega arith | inr lead ↦ omega (arith, lead.0) ]
-    ]
-
-pub decimal_found : {E : Type 0} (text : List ℕ) (r : Result ℕ E) → ParsesUnsigned 32 10 text r → get_or text 0 0 ≢ 43
-    → (get_or text 0 0 ≡ 48 → length text ≡ 1) → IfSome (result_ok r) (λ n. text ≡ decimal n)
-decimal_found {E} text (Ok n) h plus lead =
-    let read = parse_plain own {E = E} 32 text (Ok n) h plus in
-    sym (decimal-digits_value own text read.0.0 read.0.1 lead (omega (arith, read.0.2))) ∙ ap decimal (sym read.1)
-decimal_found text (Err e) h plus lead = tt
-
-pub decimal_all : {E : Type 0} (text : List ℕ) (r : Result ℕ E) → ParsesUnsigned 32 10 text r
-    → (n : ℕ) → n < 2 ^ 32 → text ≡ decimal n → result_ok r ≡ Some n
-decimal_all text r h n l e = ap result_ok (parse-decimal 32 n text r l (omega arith) e h)
-
--- ---- dotted texts
 
 no_dot : (n : ℕ) → n < 2 ^ 64 → All (λ (b : ℕ). eqb b 46 ≡ false) (decimal n)
 no_dot n h = All-from_get_or (λ (b : ℕ). eqb b 46 ≡ false) (decimal n) 0 (λ i l. ne_eqb _ _ (not_in_digits own (decimal n) 46 (digits_decimal own n h) (λ r. omega (arith, r.0)) i l))

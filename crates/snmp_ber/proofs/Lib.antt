@@ -4,5 +4,6 @@ pub mod Integers
 pub mod Spellings
 pub mod Oids
 pub mod Uniques
+pub mod Decimals
 pub mod Dotted
 pub mod Identifiers

@@ -1,5 +1,6 @@
 pub mod Octets
 pub mod Number
+pub mod Decimal
 pub mod Element
 pub mod Reading
 pub mod Tlv

@@ -4,6 +4,7 @@
 //! shortest spelling.
 #![tactic(auto)]
 
+mod decimal;
 mod element;
 mod fault;
 mod identifier;
@@ -12,6 +13,7 @@ mod level;
 mod number;
 mod oid;
 
+pub use decimal::read_decimal;
 pub use element::{Tlv, head_len, put_head, put_tlv, read_tlv};
 pub use fault::BerFault;
 pub use identifier::{oid_len, put_oid, read_oid};

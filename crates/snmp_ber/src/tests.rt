@@ -2,6 +2,8 @@
 
 ghost use Rattle.std.specs.Prelude.{◌≡◌, ◌<◌, ◌^◌, length};
 
+mod decimal;
+
 use super::*;
 use std::test::Fail;
 
