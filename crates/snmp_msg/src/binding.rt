@@ -6,8 +6,8 @@ ghost use Rattle.std.specs.Iterator.{YieldsFirstBy, item_count};
 ghost use Rattle.snmp_ber.specs.Oid.{AreArcs};
 ghost use Rattle.snmp_msg.specs.Variables.{AreBindings, CanBeWritten, AllFit, binding_in, variables_of, after_variables, variable_of, bindings_left, variable_content, variable_text, variables_text};
 
+use crate::field::{OBJECT_IDENTIFIER, SEQUENCE, element_len, read_element};
 use crate::message::LARGEST;
-use crate::step::{OBJECT_IDENTIFIER, SEQUENCE, element_len, read_element};
 use snmp_ber::{BerFault, Oid, oid_len, put_head, put_oid, put_tlv, read_oid, read_tlv};
 use std::alloc::AllocError;
 

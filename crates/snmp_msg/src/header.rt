@@ -7,7 +7,7 @@ ghost use Rattle.snmp_msg.specs.Reading.{header_of};
 ghost use Rattle.snmp_msg.specs.Spelling.{HeaderFits, header_text, flags_of};
 ghost use Rattle.snmp_msg.specs.Level.{level_of};
 
-use crate::step::{OCTET_STRING, integer_len, read_element, read_number};
+use crate::field::{OCTET_STRING, integer_len, read_element, read_number};
 use snmp_ber::{BerFault, Level, put_int, put_tlv};
 use std::alloc::AllocError;
 

@@ -6,6 +6,7 @@
 
 mod binding;
 mod fault;
+mod field;
 mod header;
 mod laws;
 mod message;
@@ -14,7 +15,6 @@ mod pieces;
 mod refusal;
 mod scoped;
 mod security;
-mod step;
 mod whole;
 
 pub use binding::{Binding, Bindings};

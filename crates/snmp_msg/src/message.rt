@@ -11,8 +11,8 @@ ghost use Rattle.snmp_msg.specs.Message.{parts, tag_of, content_of};
 ghost use Rattle.snmp_msg.specs.Refusals.{RefusesOuter};
 
 use crate::fault::{MsgFault, WriteFault};
+use crate::field::{INTEGER, OCTET_STRING, SEQUENCE, element_len, read_element};
 use crate::header::{Header, header_len, put_header, read_header};
-use crate::step::{INTEGER, OCTET_STRING, SEQUENCE, element_len, read_element};
 use snmp_ber::{BerFault, put_head, put_int, put_tlv, read_int, read_tlv};
 use std::alloc::{AllocError, Global};
 

@@ -10,8 +10,8 @@ ghost use Rattle.snmp_msg.specs.Refusals.{RefusesPdu};
 
 use crate::binding::{Binding, Bindings, bindings_len, check_bindings, put_bindings};
 use crate::fault::{MsgFault, WriteFault};
+use crate::field::{SEQUENCE, element_len, integer_len, read_element, read_signed};
 use crate::message::LARGEST;
-use crate::step::{SEQUENCE, element_len, integer_len, read_element, read_signed};
 use snmp_ber::{BerFault, put_head, put_int, read_tlv};
 use std::alloc::{AllocError, Global};
 

@@ -10,8 +10,8 @@ ghost use Rattle.snmp_msg.specs.Scoped.{Contexts, ScopedText, HasScoped, HasSeal
 ghost use Rattle.snmp_msg.specs.Refusals.{RefusesScoped, RefusesFront};
 
 use crate::fault::{MsgFault, WriteFault};
+use crate::field::{OCTET_STRING, SEQUENCE, element_len, read_element};
 use crate::message::{Data, LARGEST, Message};
-use crate::step::{OCTET_STRING, SEQUENCE, element_len, read_element};
 use snmp_ber::{BerFault, put_head, put_tlv, read_tlv};
 use std::alloc::{AllocError, Global};
 

@@ -9,8 +9,8 @@ ghost use Rattle.snmp_msg.specs.Security.{Fields, SecText, IsCut, fields_in, sec
 ghost use Rattle.snmp_msg.specs.Refusals.{RefusesSecurity};
 
 use crate::fault::{MsgFault, WriteFault};
+use crate::field::{OCTET_STRING, SEQUENCE, element_len, integer_len, read_element, read_number};
 use crate::message::{LARGEST, Message};
-use crate::step::{OCTET_STRING, SEQUENCE, element_len, integer_len, read_element, read_number};
 use snmp_ber::{BerFault, put_head, put_int, put_tlv};
 use std::alloc::{AllocError, Global};
 

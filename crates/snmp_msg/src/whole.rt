@@ -10,12 +10,12 @@ ghost use Rattle.snmp_msg.specs.Refusals.{RefusesWhole, RefusesCanonical};
 
 use crate::binding::{list_len, put_list};
 use crate::fault::{CanonFault, MsgFault, WriteFault};
+use crate::field::{OCTET_STRING, SEQUENCE};
 use crate::header::Header;
 use crate::message::{LARGEST, message_len, put_front, read_message};
 use crate::pdu::{Pdu, pdu_len, put_pdu_front, read_pdu};
 use crate::scoped::{contexts_len, put_contexts, read_scoped};
 use crate::security::{Security, is_short, put_security, read_security, security_len};
-use crate::step::{OCTET_STRING, SEQUENCE};
 use snmp_ber::{put_head, put_tlv};
 use std::alloc::{AllocError, Global};
 

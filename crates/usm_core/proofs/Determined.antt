@@ -16,7 +16,7 @@ use Rattle.usm_core.specs.Table.{Needs, Then, Gives, holds, fails, gives, refuse
 use Rattle.usm_core.specs.Authentic.{AuthenticMessage, Authentic, IsMac, IsDigestRight}
 use Rattle.engine_clock.specs.Pairs.{BootsAndTime}
 use Rattle.usm_core.specs.Verified.{ReadsLayout, Verified, OuterOf, SecurityOf, Side, Judges, Verifies, IsReadAs, IsJudged}
-use Rattle.usm_core.specs.declared.open.Checked.{Checked}
+use Rattle.usm_core.specs.declared.checked.Checked.{Checked}
 use Rattle.usm_core.specs.declared.fault.UsmFault.{UsmFault}
 use Rattle.usm_core.specs.declared.fault.UsmFault.TheVariants.{OutOfMemory}
 use Rattle.usm_core.specs.Refusals.{number_of}

@@ -1,12 +1,17 @@
-//! The digest of a message.
+//! The digest of a message (RFC 3414, sections 6.3 and 7.3): whether it is right, and putting it in its place.
 
-ghost use Rattle.std.specs.Prelude.{◌≡◌, ◌+◌, ◌≤◌, ◌↔◌, take, drop, length, IsTrue, IsSomeAnd, true};
-ghost use Rattle.snmp_msg.specs.Message.{parts};
+ghost use Rattle.std.specs.Prelude.{◌≡◌, ◌+◌, ◌≤◌, ◌↔◌, ◌++◌, vec_len, replicate, take, drop, length, IsTrue, IsSomeAnd, true};
+ghost use Rattle.snmp_msg.specs.Message.{parts, tag_of, content_of};
 ghost use Rattle.snmp_msg.specs.Security.{IsCut, fields_of};
+ghost use Rattle.usm_keys.specs.Protocols.{hash_of, mac as mac_by, mac_octets};
+ghost use Rattle.usm_keys.specs.Keys.{kul};
 ghost use Rattle.usm_core.specs.Authentic.{IsMac};
+ghost use Rattle.usm_core.specs.Sealed.{SendingFits, spelled_with, digest_of};
+ghost use Rattle.usm_core.specs.Writing.{sending_of, IsSecured, FieldAt};
 
+use crate::spell::Outgoing;
 use crate::user::User;
-use snmp_msg::{Message, Security, cut, one_cut};
+use snmp_msg::{Data, Message, Security, cut, field_filled, one_cut, read_message, read_security};
 use usm_keys::{Key, localise, mac};
 
 /// Whether the octets are the same. It looks at each of them wherever they differ, so that the time tells nothing of the place.
@@ -61,4 +66,47 @@ pub(crate) fn is_digest_right(
         Some(key) => is_mac(key, datagram, message, security),
         None => false,
     }
+}
+
+/// The place of the content of msgAuthenticationParameters.
+pub(crate) fn field_place(text: &[u8]) -> usize
+    requires { IsSecured text.now }
+    ensures { FieldAt text.now result }
+{
+    let Ok(message) = read_message(text) else {
+        unreachable!();
+    };
+    let Ok(security) = read_security(text, &message) else {
+        unreachable!();
+    };
+    security.auth_at
+}
+
+/// Puts the code of the text, with `size` zeros at this place, there.
+fn put_code(text: &mut Vec<u8>, at: usize, size: usize, key: &Key, engine: &[u8])
+    requires size { size ≡ mac_octets key.now.auth }
+    requires most { size ≤ 24 }
+    requires within { at + size ≤ vec_len text.old }
+    ensures { text.new.items ≡ take at text.old.items
+        ++ (mac_by key.now.auth (kul (hash_of key.now.auth) key.now.octets engine.now) (take at text.old.items ++ replicate size 0 ++ drop (at + size) text.old.items)
+        ++ drop (at + size) text.old.items) }
+{
+    let localised = localise(key, engine);
+    let code = mac(&localised, &text[..at], size, &text[at + size..]);
+    text[at..at + size].copy_from_slice(code.as_slice());
+}
+
+/// Puts the code in the place of the zeros, in the text itself.
+pub(crate) fn fill(text: &mut Vec<u8>, key: &Key, outgoing: &Outgoing<'_>, body: &Data<'_>)
+    requires fits { SendingFits (sending_of outgoing.now) }
+    requires text { text.old.items ≡ spelled_with (sending_of outgoing.now) (tag_of body.now) (content_of body.now) (replicate (mac_octets key.now.auth) 0) }
+    requires size { length text.old.items ≤ 65507 }
+    requires secured { IsSecured text.old.items }
+    ensures filled { text.new.items ≡ spelled_with (sending_of outgoing.now) (tag_of body.now) (content_of body.now) (digest_of key.now (sending_of outgoing.now) (tag_of body.now) (content_of body.now)) }
+    ensures length { length text.new.items ≡ length text.old.items }
+{
+    field_filled();
+    let size = key.auth().mac_octets();
+    let at = field_place(text);
+    put_code(text, at, size, key, outgoing.engine);
 }

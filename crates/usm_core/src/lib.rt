@@ -2,12 +2,12 @@
 //! message that comes in or goes out.
 #![tactic(auto)]
 
+mod checked;
 mod digest;
 mod fault;
 mod laws;
 mod layout;
 mod load;
-mod open;
 mod privacy;
 mod seal;
 mod spell;
@@ -15,13 +15,13 @@ mod user;
 mod users;
 mod verify;
 
+pub use checked::{Checked, Role};
 pub use fault::UsmFault;
 pub use laws::{
     one_answer, one_authentic, sealed_is_authentic, sealed_is_opened, sealed_is_read, sealed_says,
     sealed_size, some_sealed, users_by_name, verified_was_read,
 };
 pub use load::{UserFault, UserRow};
-pub use open::{Checked, Role};
 pub use users::Users;
 
 #[cfg(test)]

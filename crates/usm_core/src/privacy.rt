@@ -12,8 +12,8 @@ ghost use Rattle.usm_core.specs.Users.{HasUserAt};
 ghost use Rattle.usm_core.specs.Sealed.{cipher, IsPlaintext};
 ghost use Rattle.usm_core.specs.declared.fault.UsmFault.TheVariants.{DecryptionError, OutOfMemory};
 
+use crate::checked::Checked;
 use crate::fault::UsmFault;
-use crate::open::Checked;
 use crate::spell::Outgoing;
 use crate::user::{User, user_named};
 use snmp_msg::Security;

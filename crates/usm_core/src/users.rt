@@ -16,10 +16,10 @@ ghost use Rattle.usm_core.specs.Sealed.{sending, Seals, IsSendable, IsSealable, 
 ghost use Rattle.usm_core.specs.Writing.{IsWriteFault};
 ghost use Rattle.usm_core.specs.declared.fault.UsmFault.TheVariants.{UnknownUser, DecryptionError, OutOfMemory};
 
+use crate::checked::{Checked, Role};
 use crate::fault::UsmFault;
 use crate::laws::{sealed_size, some_sealed};
 use crate::load::{UserFault, UserRow, first_fault, users_of};
-use crate::open::{Checked, Role};
 use crate::privacy::open_for;
 use crate::seal::{seal_for, seal_open};
 use crate::spell::Outgoing;

@@ -8,10 +8,10 @@ ghost use Rattle.usm_core.specs.Authentic.{HasEngineLength};
 ghost use Rattle.usm_core.specs.Verified.{Verifies, AllowsEngine, HasEngine, manager};
 ghost use Rattle.usm_core.specs.Answers.{side_of, checked_answer};
 
+use crate::checked::{Checked, Role};
 use crate::digest::is_digest_right;
 use crate::fault::UsmFault;
 use crate::layout::read_layout;
-use crate::open::{Checked, Role};
 use crate::user::{User, user_named};
 use snmp_ber::Level;
 
