@@ -1,10 +1,15 @@
+//! Examples from the standards, and texts beside what OpenSSL makes of them.
+
 ghost use Rattle.std.specs.Prelude.{◌<◌};
 
 use super::*;
 use crate::field::{double, product, substitute};
+use crate::lanes::{Substituted, substitute_lanes};
 use feedback_rows::FEEDBACK_ROWS;
+use std::simd::prelude::*;
 
 mod feedback_rows;
+mod random_texts;
 
 // The octets of a hex text, and zeros where the text is shorter.
 fn octets<const N: usize>(hex: &[u8]) -> [u8; N] {
@@ -35,6 +40,20 @@ fn octets_as_polynomials(rt: HostRuntime) {
     assert_eq!(rt; double(0xae), 0x47);
     assert_eq!(rt; substitute(0x53), 0xed);
     assert_eq!(rt; substitute(0), 0x63);
+}
+
+// The S-box and its double, in lanes and in plain code.
+#[test]
+fn lanes_as_plain_code(rt: HostRuntime) {
+    for octet in 0..=255u8 {
+        let Substituted { once, twice } = substitute_lanes(u8x16::splat(octet));
+        assert_eq!(rt; once.to_array(), [substitute(octet); 16], "{octet}");
+        assert_eq!(rt;
+            twice.to_array(),
+            [double(substitute(octet)); 16],
+            "{octet}"
+        );
+    }
 }
 
 // FIPS 197, appendix A.1.
