@@ -1,7 +1,7 @@
 ghost use Rattle.std.specs.Prelude.{◌≡◌, ◌<◌, ◌≤◌};
 ghost use Rattle.usm_aes.specs.Aes.{expanded_word, rot_word as rot_word_of, round_constant as round_constant_of, schedule, sub_word as sub_word_of, word as word_of, xor_words as xor_words_of};
 
-use crate::lanes::substitute_lanes;
+use crate::lanes::{substitute_lanes, to_tower};
 use std::marker::Model;
 use std::simd::prelude::*;
 
@@ -86,7 +86,7 @@ fn sub_word(word: [u8; 4]) -> [u8; 4]
     let lanes = u8x16::from_array([
         word[0], word[1], word[2], word[3], 0, 0, 0, 0, 0, 0, 0, 0, 0, 0, 0, 0,
     ]);
-    let once = substitute_lanes(lanes).once.to_array();
+    let once = substitute_lanes(to_tower(lanes)).to_array();
     [once[0], once[1], once[2], once[3]]
 }
 

@@ -4,7 +4,7 @@ ghost use Rattle.std.specs.Prelude.{◌<◌};
 
 use super::*;
 use crate::field::{double, product, substitute};
-use crate::lanes::{Substituted, substitute_lanes};
+use crate::lanes::{substitute_lanes, to_tower};
 use feedback_rows::FEEDBACK_ROWS;
 use std::simd::prelude::*;
 
@@ -42,17 +42,12 @@ fn octets_as_polynomials(rt: HostRuntime) {
     assert_eq!(rt; substitute(0), 0x63);
 }
 
-// The S-box and its double, in lanes and in plain code.
+// The S-box in lanes and as a table.
 #[test]
-fn lanes_as_plain_code(rt: HostRuntime) {
+fn lanes_as_the_table(rt: HostRuntime) {
     for octet in 0..=255u8 {
-        let Substituted { once, twice } = substitute_lanes(u8x16::splat(octet));
-        assert_eq!(rt; once.to_array(), [substitute(octet); 16], "{octet}");
-        assert_eq!(rt;
-            twice.to_array(),
-            [double(substitute(octet)); 16],
-            "{octet}"
-        );
+        let once = substitute_lanes(to_tower(u8x16::splat(octet))).to_array();
+        assert_eq!(rt; once, [substitute(octet); 16], "{octet}");
     }
 }
 
