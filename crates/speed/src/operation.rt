@@ -4,31 +4,42 @@ use arrayvec::ArrayVec;
 use std::alloc::Global;
 use std::str::FromStr;
 use thiserror::Error;
-use usm_aes::{cfb_seal, expand, iv};
+use usm_aes::{cfb_open, cfb_seal, expand, iv};
 use usm_core::{Role, UserRow, Users};
 use usm_keys::{Auth, Key, mac, password_key};
 
 /// The key of the message authentication codes.
 const MAC_KEY: [u8; 32] = [0x0b; 32];
 
+/// The key, boots, time and salt of sealing and opening.
+const AES_KEY: [u8; 16] = [0, 1, 2, 3, 4, 5, 6, 7, 8, 9, 10, 11, 12, 13, 14, 15];
+
+const BOOTS: u32 = 7;
+
+const TIME: u32 = 1000;
+
+const SALT: [u8; 8] = [0, 1, 2, 3, 4, 5, 6, 7];
+
 /// An operation on a text that can be timed.
 #[derive(Clone, Copy, PartialEq, Eq, Debug)]
 pub enum Operation {
-    /// `password-key-md5`, `password-key-sha1`: the key of the text, taken as a password.
+    /// `password-key-md5`, `password-key-sha1`, `password-key-sha256`: the key of the text, taken as a password.
     PasswordKey(Auth),
-    /// `mac-md5`, `mac-sha1`: the text's message authentication code under 32 octets 0B.
+    /// `mac-md5`, `mac-sha1`, `mac-sha256`: the text's message authentication code under 32 octets 0B.
     Mac(Auth),
     /// `cfb-seal`: the text sealed in place under the key 00 to 0F, with boots 7, time 1000 and the salt 00 to 07. The result
     /// is its last 16 octets, or all of a shorter one.
     CfbSeal,
-    /// `open-auth-md5`, `open-auth-sha1`: the text, which is a message of the user `ann` with the password `maplesyrup`, opened
-    /// by a manager. The result is the message's authentication code.
+    /// `cfb-open`: the text opened in place, and else as `cfb-seal`.
+    CfbOpen,
+    /// `open-auth-md5`, `open-auth-sha1`, `open-auth-sha256`: the text, which is a message of the user `ann` with the password
+    /// `maplesyrup`, opened by a manager. The result is the message's authentication code.
     OpenAuth(Auth),
 }
 
 /// No operation has this name.
 #[derive(Clone, Copy, PartialEq, Eq, Debug, Error)]
-#[error("OPERATION is password-key-md5, password-key-sha1, mac-md5, mac-sha1, cfb-seal, open-auth-md5 or open-auth-sha1")]
+#[error("OPERATION is password-key-HASH, mac-HASH, open-auth-HASH, cfb-seal or cfb-open, HASH being md5, sha1 or sha256")]
 pub struct UnknownOperation;
 
 impl FromStr for Operation {
@@ -38,11 +49,15 @@ impl FromStr for Operation {
         match name {
             "password-key-md5" => Ok(Operation::PasswordKey(Auth::Md5)),
             "password-key-sha1" => Ok(Operation::PasswordKey(Auth::Sha1)),
+            "password-key-sha256" => Ok(Operation::PasswordKey(Auth::Sha256)),
             "mac-md5" => Ok(Operation::Mac(Auth::Md5)),
             "mac-sha1" => Ok(Operation::Mac(Auth::Sha1)),
+            "mac-sha256" => Ok(Operation::Mac(Auth::Sha256)),
             "cfb-seal" => Ok(Operation::CfbSeal),
+            "cfb-open" => Ok(Operation::CfbOpen),
             "open-auth-md5" => Ok(Operation::OpenAuth(Auth::Md5)),
             "open-auth-sha1" => Ok(Operation::OpenAuth(Auth::Sha1)),
+            "open-auth-sha256" => Ok(Operation::OpenAuth(Auth::Sha256)),
             _ => Err(UnknownOperation),
         }
     }
@@ -105,6 +120,7 @@ impl Operation {
                 Ok(mac(&key, text, 0, &[]))
             }
             Operation::CfbSeal => Ok(sealed_end(text)),
+            Operation::CfbOpen => Ok(opened_end(text)),
             Operation::OpenAuth(_) => code_of(users, text),
         }
     }
@@ -122,8 +138,18 @@ fn code_of(users: &mut Users, message: &[u8]) -> Result<ArrayVec<u8, 32>> {
 
 /// Seals the text in place, and answers the end of what it is then.
 fn sealed_end(text: &mut [u8]) -> ArrayVec<u8, 32> {
-    let schedule = expand(&[0, 1, 2, 3, 4, 5, 6, 7, 8, 9, 10, 11, 12, 13, 14, 15]);
-    cfb_seal(&schedule, iv(7, 1000, &[0, 1, 2, 3, 4, 5, 6, 7]), text);
+    cfb_seal(&expand(&AES_KEY), iv(BOOTS, TIME, &SALT), text);
+    end_of(text)
+}
+
+/// Opens the text in place, and answers the end of what it is then.
+fn opened_end(text: &mut [u8]) -> ArrayVec<u8, 32> {
+    cfb_open(&expand(&AES_KEY), iv(BOOTS, TIME, &SALT), text);
+    end_of(text)
+}
+
+/// The last 16 octets of the text, or all of a shorter one.
+fn end_of(text: &[u8]) -> ArrayVec<u8, 32> {
     let mut end = ArrayVec::new();
     end.try_extend_from_slice(&text[text.len() - text.len().min(16)..])
         .unwrap();

@@ -1,8 +1,9 @@
 ghost use Rattle.std.specs.Prelude.{◌≡◌, ◌<◌, ◌≤◌};
 ghost use Rattle.usm_aes.specs.Aes.{expanded_word, rot_word as rot_word_of, round_constant as round_constant_of, schedule, sub_word as sub_word_of, word as word_of, xor_words as xor_words_of};
 
-use crate::field::substitute;
+use crate::lanes::{substitute_lanes, to_tower};
 use std::marker::Model;
+use std::simd::prelude::*;
 
 // The words of a schedule: four for each round, and four before the first.
 const WORDS: usize = 44;
@@ -78,16 +79,15 @@ fn rot_word(word: [u8; 4]) -> [u8; 4]
     [word[1], word[2], word[3], word[0]]
 }
 
-// The S-box at each octet of the word.
+// The S-box at each octet of the word, with no memory that is read at a secret place.
 fn sub_word(word: [u8; 4]) -> [u8; 4]
     ensures { result ≡ sub_word_of word }
 {
-    [
-        substitute(word[0]),
-        substitute(word[1]),
-        substitute(word[2]),
-        substitute(word[3]),
-    ]
+    let lanes = u8x16::from_array([
+        word[0], word[1], word[2], word[3], 0, 0, 0, 0, 0, 0, 0, 0, 0, 0, 0, 0,
+    ]);
+    let once = substitute_lanes(to_tower(lanes)).to_array();
+    [once[0], once[1], once[2], once[3]]
 }
 
 // The sum of two words.

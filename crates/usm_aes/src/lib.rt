@@ -12,6 +12,7 @@ mod cipher;
 mod feedback;
 mod field;
 mod key_expansion;
+mod lanes;
 pub mod laws;
 #[cfg(test)]
 mod tests;

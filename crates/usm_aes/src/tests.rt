@@ -1,10 +1,15 @@
+//! Examples from the standards, and texts beside what OpenSSL makes of them.
+
 ghost use Rattle.std.specs.Prelude.{◌<◌};
 
 use super::*;
 use crate::field::{double, product, substitute};
+use crate::lanes::{substitute_lanes, to_tower};
 use feedback_rows::FEEDBACK_ROWS;
+use std::simd::prelude::*;
 
 mod feedback_rows;
+mod random_texts;
 
 // The octets of a hex text, and zeros where the text is shorter.
 fn octets<const N: usize>(hex: &[u8]) -> [u8; N] {
@@ -35,6 +40,15 @@ fn octets_as_polynomials(rt: HostRuntime) {
     assert_eq!(rt; double(0xae), 0x47);
     assert_eq!(rt; substitute(0x53), 0xed);
     assert_eq!(rt; substitute(0), 0x63);
+}
+
+// The S-box in lanes and as a table.
+#[test]
+fn lanes_as_the_table(rt: HostRuntime) {
+    for octet in 0..=255u8 {
+        let once = substitute_lanes(to_tower(u8x16::splat(octet))).to_array();
+        assert_eq!(rt; once, [substitute(octet); 16], "{octet}");
+    }
 }
 
 // FIPS 197, appendix A.1.

@@ -1,6 +1,8 @@
+//! A key and its protocol.
 ghost use Rattle.std.specs.Prelude.{◌≡◌, ◌≤◌, ◌↔◌, IfSome, IsSome, length};
 
 use crate::auth::Auth;
+use crate::hash::octets_of;
 use arrayvec::ArrayVec;
 use std::marker::Model;
 
@@ -38,6 +40,13 @@ impl Key {
         ensures { result ≡ record { auth = auth; octets = octets.items } }
     {
         Key { auth, octets }
+    }
+
+    /// An equal key. It takes no memory.
+    pub fn copy(&self) -> Key
+        ensures { result ≡ self.now }
+    {
+        Key::holding(self.auth, octets_of(self.as_slice()))
     }
 
     /// The key's octets, at most 32.

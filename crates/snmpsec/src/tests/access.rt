@@ -38,6 +38,11 @@ name = 'bob'
 auth = 'md5'
 auth-password = 'maplesyrup'
 [[user]]
+name = 'sam'
+auth = 'sha256'
+auth-password = 'maplesyrup'
+priv-password = 'maplesyrup'
+[[user]]
 name = 'eve'
 [[context]]
 name = 'here'

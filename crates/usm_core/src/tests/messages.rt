@@ -67,7 +67,7 @@ fn sealed(
 }
 
 /// The scoped PDU that the datagram gives: at noAuthNoPriv and authNoPriv its content alone, as msgData has it.
-fn opened(
+pub(super) fn opened(
     users: &mut Users,
     alloc: Global,
     role: Role<'_>,
@@ -81,10 +81,10 @@ fn opened(
 }
 
 /// A message with boots 7, time 1000 and the salt 0001020304050607.
-struct Sample {
-    user: &'static [u8],
-    level: Level,
-    text: &'static str,
+pub(super) struct Sample {
+    pub(super) user: &'static [u8],
+    pub(super) level: Level,
+    pub(super) text: &'static str,
 }
 
 static SAMPLES: [Sample; 5] = [
@@ -132,7 +132,7 @@ fn data_of(scoped: &[u8], level: Level) -> &[u8] {
 }
 
 /// The sample is what is sealed, and it is opened by its agent and by a manager.
-fn assert_sample(
+pub(super) fn assert_sample(
     rt: &impl Abort,
     users: &mut Users,
     alloc: Global,
@@ -180,11 +180,11 @@ fn what_a_message_says_is_given(rt: HostRuntime) -> Result<(), Fail> {
 }
 
 /// A request that `snmpget` of net-snmp 5.9.3 sent, and its scoped PDU, deciphered by another program, or the content of it.
-struct Foreign {
-    user: &'static [u8],
-    level: Level,
-    text: &'static str,
-    scoped: &'static str,
+pub(super) struct Foreign {
+    pub(super) user: &'static [u8],
+    pub(super) level: Level,
+    pub(super) text: &'static str,
+    pub(super) scoped: &'static str,
 }
 
 static FOREIGN: [Foreign; 5] = [
@@ -224,22 +224,33 @@ fn foreign_messages() -> &'static [Foreign] {
     &FOREIGN
 }
 
+/// The message is opened by its agent and by a manager, as another program opened it.
+pub(super) fn assert_foreign(
+    rt: &impl Abort,
+    users: &mut Users,
+    alloc: Global,
+    foreign: &Foreign,
+) -> Result<(), Fail> {
+    let own = engine(&ENGINE)?;
+    let datagram = hex::decode(alloc, foreign.text)?;
+    let scoped = hex::decode(alloc, foreign.scoped)?;
+    let checked = users.open_auth(Role::Manager, &datagram)?;
+    assert_eq!(rt;
+        (checked.security.user, checked.level),
+        (foreign.user, foreign.level)
+    );
+    let there = opened(users, alloc, Role::Manager, &datagram)?;
+    assert_eq!(rt; there.as_slice(), scoped.as_slice());
+    let here = opened(users, alloc, Role::Agent(&own), &datagram)?;
+    assert_eq!(rt; here.as_slice(), scoped.as_slice());
+    Ok(())
+}
+
 #[test]
 fn requests_of_net_snmp_are_opened(rt: HostRuntime) -> Result<(), Fail> {
     let mut users = loaded(rt.alloc(), people())?;
-    let own = engine(&ENGINE)?;
     for foreign in foreign_messages() {
-        let datagram = hex::decode(rt.alloc(), foreign.text)?;
-        let scoped = hex::decode(rt.alloc(), foreign.scoped)?;
-        let checked = users.open_auth(Role::Manager, &datagram)?;
-        assert_eq!(rt;
-            (checked.security.user, checked.level),
-            (foreign.user, foreign.level)
-        );
-        let there = opened(&mut users, rt.alloc(), Role::Manager, &datagram)?;
-        assert_eq!(rt; there.as_slice(), scoped.as_slice());
-        let here = opened(&mut users, rt.alloc(), Role::Agent(&own), &datagram)?;
-        assert_eq!(rt; here.as_slice(), scoped.as_slice());
+        assert_foreign(&rt, &mut users, rt.alloc(), foreign)?;
     }
     Ok(())
 }
@@ -380,10 +391,10 @@ fn the_first_fault_is_told(rt: HostRuntime) -> Result<(), Fail> {
 }
 
 /// A message, and what an agent of its engine and a manager answer.
-struct Answered {
-    text: &'static str,
-    agent: Option<UsmFault>,
-    manager: Option<UsmFault>,
+pub(super) struct Answered {
+    pub(super) text: &'static str,
+    pub(super) agent: Option<UsmFault>,
+    pub(super) manager: Option<UsmFault>,
 }
 
 static ANSWERED: [Answered; 6] = [
@@ -427,16 +438,28 @@ fn answered_messages() -> &'static [Answered] {
     &ANSWERED
 }
 
+/// An agent of the engine and a manager answer so.
+pub(super) fn assert_answered(
+    rt: &impl Abort,
+    users: &mut Users,
+    alloc: Global,
+    number: usize,
+    answered: &Answered,
+) -> Result<(), Fail> {
+    let own = engine(&ENGINE)?;
+    let datagram = hex::decode(alloc, answered.text)?;
+    let agent = users.open_auth(Role::Agent(&own), &datagram).err();
+    assert_eq!(rt; agent, answered.agent, "case {number} at the agent");
+    let manager = users.open_auth(Role::Manager, &datagram).err();
+    assert_eq!(rt; manager, answered.manager, "case {number} at the manager");
+    Ok(())
+}
+
 #[test]
 fn the_code_is_that_of_the_octets_received(rt: HostRuntime) -> Result<(), Fail> {
     let mut users = loaded(rt.alloc(), people())?;
-    let own = engine(&ENGINE)?;
     for (number, answered) in answered_messages().iter().enumerate() {
-        let datagram = hex::decode(rt.alloc(), answered.text)?;
-        let agent = users.open_auth(Role::Agent(&own), &datagram).err();
-        assert_eq!(rt; agent, answered.agent, "case {number} at the agent");
-        let manager = users.open_auth(Role::Manager, &datagram).err();
-        assert_eq!(rt; manager, answered.manager, "case {number} at the manager");
+        assert_answered(&rt, &mut users, rt.alloc(), number, answered)?;
     }
     Ok(())
 }
@@ -456,7 +479,12 @@ fn a_salt_has_eight_octets(rt: HostRuntime) -> Result<(), Fail> {
 }
 
 /// No octet of a message with privacy can be xored with this one.
-fn assert_changes_seen(rt: &impl Abort, users: &mut Users, datagram: &mut [u8], change: u8) {
+pub(super) fn assert_changes_seen(
+    rt: &impl Abort,
+    users: &mut Users,
+    datagram: &mut [u8],
+    change: u8,
+) {
     for place in 0..datagram.len() {
         datagram[place] ^= change;
         assert!(rt;
