@@ -5,3 +5,4 @@ pub mod Reading
 pub mod Tlv
 pub mod Spelling
 pub mod Oid
+pub mod Level
