@@ -39,7 +39,7 @@ module _ {R : Type 0} (p : R → Bool) (rows : List R) (few : ℕ) (within : few
       let l = front_long in
       ap p (front_at i d (omega arith)) ∙ is_parted i j d upto (omega arith) (sym (ap p (front_at j d (omega arith))) ∙ passes)
 
-  pub front_point : ((d : R) → p (get_or rows few d) ≡ false) → (n : ℕ) → n ≤ length (take few rows)
+  pub front_point : ((d : R) → few < length rows → p (get_or rows few d) ≡ false) → (n : ℕ) → n ≤ length (take few rows)
       → IsPartitionPoint (λ y. p y ≡ true) (λ y. p y ≡ false) (take few rows) n → IsPartitionPoint (λ y. p y ≡ true) (λ y. p y ≡ false) rows n
   front_point next n upto point = (
     λ k d long before. elim (cases_lt k few) [
@@ -54,7 +54,7 @@ module _ {R : Type 0} (p : R → Bool) (rows : List R) (few : ℕ) (within : few
     where
       fails : (k : ℕ) (d : R) (b : Bool) → p (get_or rows k d) ≡ b → few ≤ k → k < length rows → p (get_or rows k d) ≡ false
       fails k d false e past long = e
-      fails k d true e past long = let h : true ≡ false = sym (is_parted few k d past long e) ∙ next d in cc
+      fails k d true e past long = let h : true ≡ false = sym (is_parted few k d past long e) ∙ next d (omega arith) in cc
 
 module _ {R : Type 0} (name : R → List ℕ) (rank : R → R → Ordering) (wanted : List ℕ) where
   at_name : (row : R) → name row ≡ wanted → side_of name wanted row ≡ 1

@@ -1,5 +1,5 @@
 //! Tables whose rows stand by name, the rows of a name from the best down.
-ghost use Rattle.std.specs.Prelude.{◌≡◌, ℕ, ◌<◌, ◌≤◌, length, nat_lt, List, IfOk, OnOk, true, false};
+ghost use Rattle.std.specs.Prelude.{◌≡◌, ℕ, ◌<◌, ◌≤◌, length, nat_lt, true, false, get_or, MatchBool, List, IfOk, OnOk};
 ghost use Rattle.std.specs.List.Sorted.{IsPermutation, IsPartitionedBy, IsPartitionPoint};
 ghost use Rattle.vacm_core.specs.Place.{place_order, side_of, AreInPlace, IsRunOf};
 
@@ -7,8 +7,8 @@ use crate::rows::Row;
 use std::alloc::{AllocError, Global};
 use std::cmp::Ordering;
 
-/// As many rows as a name mostly has at most.
-const FEW: usize = 8;
+/// How much further each look for the end of a name's rows goes.
+const STRIDE: usize = 8;
 
 /// The order in which rows stand.
 fn place<R: Row>(a: &R, b: &R) -> Ordering
@@ -38,16 +38,29 @@ fn count_upto<R: Row>(rows: &[R], wanted: &[u8]) -> usize
     rows.partition_point(|row| is_upto(row, wanted))
 }
 
-/// The same. A name mostly has few rows, so these are looked at first.
+/// There is a row at the place, and it is not past the name.
+fn goes_on<R: Row>(rows: &[R], place: usize, wanted: &[u8]) -> bool
+    ensures { MatchBool result (place < length rows.now)
+        ((d : R) → place < length rows.now → nat_lt (side_of R.name_of wanted.now (get_or rows.now place d)) 2 ≡ false) }
+{
+    match rows.get(place) {
+        Some(row) => is_upto(row, wanted),
+        None => false,
+    }
+}
+
+/// The same, looked for near the first row, and then further and further away, since a name mostly has few rows.
 fn count_near<R: Row>(rows: &[R], wanted: &[u8]) -> usize
     requires { IsPartitionedBy (λ row. nat_lt (side_of R.name_of wanted.now row) 2) rows.now }
     ensures bound { result ≤ length rows.now }
     ensures parted { IsPartitionPoint (λ row. nat_lt (side_of R.name_of wanted.now row) 2 ≡ true) (λ row. nat_lt (side_of R.name_of wanted.now row) 2 ≡ false) rows.now result }
 {
-    match rows.get(FEW) {
-        Some(row) if !is_upto(row, wanted) => count_upto(&rows[..FEW], wanted),
-        _ => count_upto(rows, wanted),
+    let mut near = 1;
+    while goes_on(rows, near, wanted) {
+        near = near.saturating_mul(STRIDE);
     }
+    let near = near.min(rows.len());
+    count_upto(&rows[..near], wanted)
 }
 
 /// The rows of this name, found by halving.

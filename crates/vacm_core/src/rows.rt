@@ -243,14 +243,10 @@ impl Row for AccessRow {
     }
 
     fn ranking(&self, other: &AccessRow) -> Ordering {
+        let (first, second) = (self.prefix.as_slice().len(), other.prefix.as_slice().len());
         self.specificity()
             .cmp(&other.specificity())
-            .then(
-                self.prefix
-                    .as_slice()
-                    .len()
-                    .cmp(&other.prefix.as_slice().len()),
-            )
+            .then(first.cmp(&second))
             .then(self.level.number().cmp(&other.level.number()))
     }
 
