@@ -11,6 +11,7 @@ use crate::view::answer_of_view;
 use crate::{Access, ViewType};
 use snmp_ber::Level;
 
+/// There is a context of this name.
 fn has_context(rows: &[ContextRow], context: &[u8]) -> bool
     requires { AreInPlace context_name context_rank rows.now }
     ensures { IsTrue result ↔ HasContext rows.now context.now }
@@ -18,6 +19,7 @@ fn has_context(rows: &[ContextRow], context: &[u8]) -> bool
     !rows_of(rows, context).is_empty()
 }
 
+/// The row that has the security name's group under the model.
 fn group_of<'a>(rows: &'a [GroupRow], model: u32, name: &[u8]) -> Option<&'a GroupRow>
     requires { AreInPlace group_name group_rank rows.now }
     ensures { MatchOption result ((group : List ℕ) → ¬ IsInGroup rows.now model name.now group)
@@ -32,6 +34,7 @@ fn group_of<'a>(rows: &'a [GroupRow], model: u32, name: &[u8]) -> Option<&'a Gro
     None
 }
 
+/// The row's prefix is the context's name, or begins it where that is enough.
 fn fits_context(row: &AccessRow, context: &[u8]) -> bool
     ensures { IsTrue result ↔ FitsContext row.now context.now }
 {
@@ -71,6 +74,7 @@ fn best_row<'a>(
     None
 }
 
+/// The name of the view that is asked for.
 fn view_name(row: &AccessRow, view: ViewType) -> &[u8]
     ensures { result.now ≡ view_name view row.now }
 {

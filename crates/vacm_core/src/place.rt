@@ -17,12 +17,14 @@ fn place<R: Row>(a: &R, b: &R) -> Ordering
     a.name().cmp(b.name()).then(b.ranking(a))
 }
 
+/// The row stands before those of the name.
 fn is_before<R: Row>(row: &R, wanted: &[u8]) -> bool
     ensures { result ≡ nat_lt (side_of R.name_of wanted.now row.now) 1 }
 {
     row.name().cmp(wanted).is_lt()
 }
 
+/// The row stands before those of the name, or is one.
 fn is_upto<R: Row>(row: &R, wanted: &[u8]) -> bool
     ensures { result ≡ nat_lt (side_of R.name_of wanted.now row.now) 2 }
 {

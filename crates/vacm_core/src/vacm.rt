@@ -53,7 +53,8 @@ impl Model for Vacm {
 impl Vacm {
     /// Makes the tables of these rows.
     ///
-    /// A fault is told for the first row at fault, exactly there: see `VacmFault`. Want of memory leaves nothing behind.
+    /// A fault is told for the first row at fault, exactly there: see `VacmFault`. Want of memory leaves nothing behind, and may
+    /// be told in the place of a fault. For n rows it takes O(n log n) comparisons, whatever the rows and their order.
     pub fn load(alloc: Global, rows: &Rows) -> Result<Vacm, VacmFault>
         ensures sound { OnOk result (AreSound (tables_of rows.now)) }
         ensures same_rows { IfOk result (λ vacm. HaveSameRows (tables_of rows.now) vacm) }
@@ -74,6 +75,7 @@ impl Vacm {
         }
     }
 
+    /// The tables of rows without a fault.
     fn made_of(alloc: Global, rows: &Rows) -> Result<Vacm, AllocError>
         requires { AreSound (tables_of rows.now) }
         ensures { IfOk result (λ vacm. HaveSameRows (tables_of rows.now) vacm) }

@@ -10,6 +10,7 @@ use crate::Access;
 use crate::place::rows_of;
 use crate::rows::{FamilyRow, Row, arcs_order};
 
+/// The mask says that the arc of this number has to be equal.
 fn is_compared(mask: &[u8], k: usize) -> bool
     ensures { IsTrue result ↔ (mask_bit mask.now k ≡ 1) }
 {
@@ -32,6 +33,7 @@ pub(crate) fn is_exact(row: &FamilyRow) -> bool
     true
 }
 
+/// The arcs that the mask compares are equal.
 fn agrees(subtree: &[u32], mask: &[u8], variable: &[u32]) -> bool
     requires { length subtree.now ≤ length variable.now }
     ensures { IsTrue result ↔ ((k : ℕ) → k < length subtree.now → mask_bit mask.now k ≡ 1 → slice_index subtree.now k ≡ slice_index variable.now k) }
@@ -44,6 +46,7 @@ fn agrees(subtree: &[u32], mask: &[u8], variable: &[u32]) -> bool
     true
 }
 
+/// The row's subtree has the variable.
 fn has_arcs(row: &FamilyRow, variable: &[u32]) -> bool
     ensures { IsTrue result ↔ HasArcs variable.now row.now }
 {
