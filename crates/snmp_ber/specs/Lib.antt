@@ -6,3 +6,4 @@ pub mod Reading
 pub mod Tlv
 pub mod Spelling
 pub mod Oid
+pub mod Level

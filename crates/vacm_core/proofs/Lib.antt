@@ -1,5 +1,9 @@
-pub mod Best
 pub mod Distinct
+pub mod Exact
+pub mod First
 pub mod Invariance
-pub mod Orders
+pub mod Parts
+pub mod Runs
+pub mod Seen
 pub mod Uniqueness
+pub mod Views

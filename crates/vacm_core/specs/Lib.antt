@@ -2,3 +2,6 @@ pub mod Allowed
 pub mod Faults
 pub mod Tables
 pub mod Distinct
+pub mod Place
+pub mod View
+pub mod Laws

@@ -1,7 +1,7 @@
 //! View-based access control (RFC 3415): contexts, groups, access rows and view tree families, and the decision whether a
 //! message may see a variable.
 //!
-//! The rows are kept as they come and all of them are looked at for each question.
+//! The rows are kept in order, and those that a question asks for are found by halving.
 #![tactic(auto)]
 
 mod access;
@@ -10,8 +10,10 @@ mod fault;
 pub mod laws;
 mod mask;
 mod name;
+mod place;
 mod rows;
 mod vacm;
+mod view;
 
 pub use access::{Access, ViewType};
 pub use fault::{Table, VacmFault};

@@ -1,46 +1,60 @@
 //! The tables that answer (RFC 3415, section 3).
-ghost use Rattle.std.specs.Prelude.{◌≡◌, ℕ, List, IfOk, IfErr, OnOk};
+ghost use Rattle.std.specs.Prelude.{◌≡◌, ◌++◌, ℕ, List, IfOk, IfErr, OnOk};
+ghost use Rattle.std.specs.List.Sorted.{IsPermutation};
 ghost use Rattle.vacm_core.specs.Tables.{tables_of, HaveSameRows};
 ghost use Rattle.vacm_core.specs.Faults.{AreSound, IsTold};
 ghost use Rattle.vacm_core.specs.Distinct.{HasOneRowEach};
 ghost use Rattle.vacm_core.specs.declared.access.ViewType.{ViewType as Asked};
 ghost use Rattle.vacm_core.specs.declared.access.Access.{Access as Answer};
 ghost use Rattle.vacm_core.specs.Allowed as spec;
-ghost use Rattle.vacm_core.specs.Allowed.{Allowed};
+ghost use Rattle.vacm_core.specs.Allowed.{Allowed, family_order};
+ghost use Rattle.vacm_core.specs.Place.{AreInPlace, family_name};
+ghost use Rattle.vacm_core.specs.View.{AreExact};
 
 use crate::ask::{Message, answer};
 use crate::fault::find_fault;
+use crate::place::{sort, sorted};
 use crate::rows::{AccessRow, ContextRow, FamilyRow, GroupRow, Row};
+use crate::view::is_exact;
 use crate::{Access, Rows, VacmFault, ViewType};
 use snmp_ber::{Level, Oid};
 use std::alloc::{AllocError, Global};
 use std::marker::Model;
 
 /// The four tables, each without two rows of one index.
+///
+/// The rows of each stand by a name: contexts by their own, groups by the security name, access rows by the group and family
+/// rows by the view. The rows of one name stand from the best down, so that the first that fits decides. Family rows whose
+/// masks compare each arc stand apart: they are found by the beginnings of a variable.
 #[derive(Drop)]
 pub struct Vacm {
     contexts: Vec<ContextRow>,
     groups: Vec<GroupRow>,
     access: Vec<AccessRow>,
-    families: Vec<FamilyRow>,
+    exact: Vec<FamilyRow>,
+    others: Vec<FamilyRow>,
 }
 
 impl Model for Vacm {
+    ghost use Rattle.std.specs.Prelude.{◌++◌};
     ghost use Rattle.vacm_core.specs.Tables.{Tables};
 
     ghost Value = { Tables };
 
-    ghost view = { λ v. record { contexts = v.contexts.items; groups = v.groups.items; access = v.access.items; families = v.families.items } };
+    ghost view = { λ v. record { contexts = v.contexts.items; groups = v.groups.items; access = v.access.items; families = v.exact.items ++ v.others.items } };
 
     ghost use Rattle.vacm_core.specs.Distinct.{HasOneRowEach};
+    ghost use Rattle.vacm_core.specs.Place.{AreInOrder};
 
-    ghost invariant = { λ v. HasOneRowEach (record { contexts = v.contexts.items; groups = v.groups.items; access = v.access.items; families = v.families.items }) };
+    ghost invariant = { λ v. HasOneRowEach (record { contexts = v.contexts.items; groups = v.groups.items; access = v.access.items; families = v.exact.items ++ v.others.items })
+        × AreInOrder v.contexts.items v.groups.items v.access.items v.exact.items v.others.items };
 }
 
 impl Vacm {
     /// Makes the tables of these rows.
     ///
-    /// A fault is told for the first row at fault, exactly there: see `VacmFault`. Want of memory leaves nothing behind.
+    /// A fault is told for the first row at fault, exactly there: see `VacmFault`. Want of memory leaves nothing behind, and may
+    /// be told in the place of a fault. For n rows it takes O(n log n) comparisons, whatever the rows and their order.
     pub fn load(alloc: Global, rows: &Rows) -> Result<Vacm, VacmFault>
         ensures sound { OnOk result (AreSound (tables_of rows.now)) }
         ensures same_rows { IfOk result (λ vacm. HaveSameRows (tables_of rows.now) vacm) }
@@ -50,24 +64,32 @@ impl Vacm {
             → Allowed vacm message view variable answer → Allowed (tables_of rows.now) message view variable answer) }
         ensures told { IfErr result (IsTold (tables_of rows.now)) }
     {
-        if let Some(fault) = find_fault(rows) {
-            return Err(fault);
+        match find_fault(alloc, rows) {
+            Ok(None) => {}
+            Ok(Some(fault)) => return Err(fault),
+            Err(_) => return Err(VacmFault::OutOfMemory),
         }
-        match Vacm::copy_of(alloc, rows) {
+        match Vacm::made_of(alloc, rows) {
             Ok(vacm) => Ok(vacm),
             Err(_) => Err(VacmFault::OutOfMemory),
         }
     }
 
-    fn copy_of(alloc: Global, rows: &Rows) -> Result<Vacm, AllocError>
+    /// The tables of rows without a fault.
+    fn made_of(alloc: Global, rows: &Rows) -> Result<Vacm, AllocError>
         requires { AreSound (tables_of rows.now) }
-        ensures { IfOk result (λ vacm. vacm ≡ tables_of rows.now) }
+        ensures { IfOk result (λ vacm. HaveSameRows (tables_of rows.now) vacm) }
     {
+        let contexts = sorted(alloc, &rows.contexts)?;
+        let groups = sorted(alloc, &rows.groups)?;
+        let access = sorted(alloc, &rows.access)?;
+        let (exact, others) = families_of(alloc, &rows.families)?;
         Ok(Vacm {
-            contexts: copies(alloc, &rows.contexts)?,
-            groups: copies(alloc, &rows.groups)?,
-            access: copies(alloc, &rows.access)?,
-            families: copies(alloc, &rows.families)?,
+            contexts,
+            groups,
+            access,
+            exact,
+            others,
         })
     }
 
@@ -99,7 +121,8 @@ impl Vacm {
             &self.contexts,
             &self.groups,
             &self.access,
-            &self.families,
+            &self.exact,
+            &self.others,
             message,
             view,
             variable.as_slice(),
@@ -107,12 +130,35 @@ impl Vacm {
     }
 }
 
-fn copies<R: Row>(alloc: Global, rows: &[R]) -> Result<Vec<R>, AllocError>
-    ensures { IfOk result (λ made. made.items ≡ rows.now) }
+/// Copies of the rows in their places: those whose masks compare each arc, and the others.
+fn families_of(
+    alloc: Global,
+    rows: &[FamilyRow],
+) -> Result<(Vec<FamilyRow>, Vec<FamilyRow>), AllocError>
+    ensures same { IfOk result (λ made. IsPermutation rows.now (made.0.items ++ made.1.items)) }
+    ensures exact { IfOk result (λ made. AreExact made.0.items) }
+    ensures first_stand { IfOk result (λ made. AreInPlace family_name family_order made.0.items) }
+    ensures others_stand { IfOk result (λ made. AreInPlace family_name family_order made.1.items) }
 {
-    let mut made = Vec::new(alloc);
+    let (mut exact, mut others) = split(alloc, rows)?;
+    sort(&mut exact)?;
+    sort(&mut others)?;
+    Ok((exact, others))
+}
+
+/// Copies of the rows: those whose masks compare each arc, and the others.
+fn split(alloc: Global, rows: &[FamilyRow]) -> Result<(Vec<FamilyRow>, Vec<FamilyRow>), AllocError>
+    ensures same { IfOk result (λ made. IsPermutation rows.now (made.0.items ++ made.1.items)) }
+    ensures exact { IfOk result (λ made. AreExact made.0.items) }
+{
+    let mut exact = Vec::new(alloc);
+    let mut others = Vec::new(alloc);
     for row in rows {
-        made.push(row.copy())?;
+        if is_exact(row) {
+            exact.push(row.copy())?;
+        } else {
+            others.push(row.copy())?;
+        }
     }
-    Ok(made)
+    Ok((exact, others))
 }

@@ -1,0 +1,72 @@
+-- The rows of a view in two tables, and what they answer.
+use Rattle.std.proofs.Common.{◌≡◌, ◌≢◌, ℕ, ◌<◌, ◌⊎◌, List, [], ◌∷◌, ◌++◌, length, Contains, refl, inl, inr, arith}
+use Rattle.std.proofs.lemmas.List.Elements.{Contains-append_left, Contains-append_right, Contains-append_cases}
+use Rattle.vacm_core.specs.declared.access.Access.{Access}
+use Rattle.vacm_core.specs.declared.access.Access.TheVariants.{NoSuchContext, NoGroupName, NoAccessEntry, NoSuchView, NotInView, AccessAllowed}
+use Rattle.vacm_core.specs.declared.access.ViewType.{ViewType}
+use Rattle.vacm_core.specs.declared.rows.AccessRow.{AccessRow}
+use Rattle.vacm_core.specs.declared.rows.FamilyRow.{FamilyRow}
+use Rattle.vacm_core.specs.Tables.{Tables}
+use Rattle.vacm_core.specs.Allowed.{Allowed, Message, HasContext, HasView, IsInGroup, IsBestOf, NoneFits, FitsMessage, FitsVariable, access_order, family_order, view_name}
+use Rattle.vacm_core.specs.Place.{IsRunOf, family_name}
+use Rattle.vacm_core.specs.View.{HasArcs, AnswersView}
+use Rattle.vacm_core.proofs.First.{best_of_table, none_of_table}
+
+some_row : (rows : List FamilyRow) → 0 < length rows → (row : FamilyRow) × Contains rows row
+some_row [] h = absurd (omega (arith, h))
+some_row (row ∷ rows) h = (row, (0, omega arith, refl))
+
+module _ (xs ys xr yr : List FamilyRow) (view : List ℕ) (first : IsRunOf family_name family_order view xs xr) (second : IsRunOf family_name family_order view ys yr) where
+  among : (row : FamilyRow) → Contains (xr ++ yr) row → Contains (xs ++ ys) row
+  among row there = elim (Contains-append_cases xr yr row there) [
+    | inl c ↦ Contains-append_left xs ys row (first.among row c)
+    | inr c ↦ Contains-append_right xs ys row (second.among row c)
+  ]
+
+  whole : (row : FamilyRow) → Contains (xs ++ ys) row → row.view ≡ view → Contains (xr ++ yr) row
+  whole row there named = elim (Contains-append_cases xs ys row there) [
+    | inl c ↦ Contains-append_left xr yr row (first.whole row c named)
+    | inr c ↦ Contains-append_right xr yr row (second.whole row c named)
+  ]
+
+  named : (row : FamilyRow) → Contains (xr ++ yr) row → row.view ≡ view
+  named row there = elim (Contains-append_cases xr yr row there) [
+    | inl c ↦ first.named row c
+    | inr c ↦ second.named row c
+  ]
+
+  module _ (variable : List ℕ) where
+    pub none_of_view : NoneFits (xr ++ yr) (HasArcs variable) → NoneFits (xs ++ ys) (FitsVariable view variable)
+    none_of_view = none_of_table (FitsVariable view variable) (HasArcs variable) family_order family_name view (xs ++ ys) (xr ++ yr) among whole
+        (λ row f. f.same_view) (λ row f. record { long = f.long; arcs = f.arcs }) (λ row there h. record { same_view = named row there; long = h.long; arcs = h.arcs })
+
+    pub best_of_view : (row : FamilyRow) → IsBestOf (xr ++ yr) (HasArcs variable) family_order row → IsBestOf (xs ++ ys) (FitsVariable view variable) family_order row
+    best_of_view = best_of_table (FitsVariable view variable) (HasArcs variable) family_order family_name view (xs ++ ys) (xr ++ yr) among whole
+        (λ row f. f.same_view) (λ row f. record { long = f.long; arcs = f.arcs }) (λ row there h. record { same_view = named row there; long = h.long; arcs = h.arcs })
+
+  pub has_view_where : (view ≢ []) × ((0 < length xr) ⊎ (0 < length yr)) → HasView (xs ++ ys) view
+  has_view_where h = record { named = h.0; has_row = by_row h.1 }
+    where
+      by_row : (0 < length xr) ⊎ (0 < length yr) → (row : FamilyRow) × Contains (xs ++ ys) row × (row.view ≡ view)
+      by_row (inl l) = let r = some_row xr l in (r.0, Contains-append_left xs ys r.0 (first.among r.0 r.1), first.named r.0 r.1)
+      by_row (inr l) = let r = some_row yr l in (r.0, Contains-append_right xs ys r.0 (second.among r.0 r.1), second.named r.0 r.1)
+
+  pub where_has_view : HasView (xs ++ ys) view → (view ≢ []) × ((0 < length xr) ⊎ (0 < length yr))
+  where_has_view h = (
+    h.named,
+    elim (Contains-append_cases xr yr h.has_row.0 (whole h.has_row.0 h.has_row.1 h.has_row.2)) [
+      | inl c ↦ inl (let w = c.1 in omega arith)
+      | inr c ↦ inr (let w = c.1 in omega arith)
+    ],
+  )
+
+-- what the view answers is the answer
+pub by_view : (t : Tables) (q : Message) (view : ViewType) (variable group : List ℕ) (row : AccessRow)
+    → HasContext t.contexts q.context → IsInGroup t.groups q.model q.name group → IsBestOf t.access (FitsMessage group q.model q.level q.context) access_order row
+    → (answer : Access) → AnswersView t.families (view_name view row) variable answer → Allowed t q view variable answer
+by_view t q view variable group row context in_group best NoSuchContext h = absurd h
+by_view t q view variable group row context in_group best NoGroupName h = absurd h
+by_view t q view variable group row context in_group best NoAccessEntry h = absurd h
+by_view t q view variable group row context in_group best NoSuchView h = record { context = context; group = group; in_group = in_group; row = row; best = best; so = h }
+by_view t q view variable group row context in_group best NotInView h = record { context = context; group = group; in_group = in_group; row = row; best = best; so = h }
+by_view t q view variable group row context in_group best AccessAllowed h = record { context = context; group = group; in_group = in_group; row = row; best = best; so = h }

@@ -1,0 +1,171 @@
+//! The rows of one view, and the one of them that decides on a variable.
+ghost use Rattle.std.specs.Prelude.{◌≡◌, ◌≢◌, ◌⊎◌, [], ◌++◌, ℕ, ◌<◌, ◌≤◌, ◌↔◌, length, IsTrue, MatchOption, MatchResult, slice_index, get_or};
+ghost use Rattle.std.specs.declared.cmp.Ordering.TheVariants.{Less, Greater};
+ghost use Rattle.vacm_core.specs.Place.{AreInPlace, AreFalling, family_name, arcs_order};
+ghost use Rattle.vacm_core.specs.View.{AreExact, IsExact, HasArcs, AnswersView};
+ghost use Rattle.vacm_core.specs.declared.rows.FamilyRow.{FamilyRow as Family};
+ghost use Rattle.vacm_core.specs.Allowed.{IsBestOf, NoneFits, family_order, mask_bit};
+
+use crate::Access;
+use crate::place::rows_of;
+use crate::rows::{FamilyRow, Row, arcs_order};
+
+/// The mask says that the arc of this number has to be equal.
+fn is_compared(mask: &[u8], k: usize) -> bool
+    ensures { IsTrue result ↔ (mask_bit mask.now k ≡ 1) }
+{
+    match mask.get(k / 8) {
+        Some(octet) => (*octet >> (7 - k % 8)) & 1 == 1,
+        None => true,
+    }
+}
+
+/// The mask compares each arc of the subtree: there is no wildcard.
+pub(crate) fn is_exact(row: &FamilyRow) -> bool
+    ensures { IsTrue result ↔ IsExact row.now }
+{
+    let mask = row.mask.as_slice();
+    for k in 0..row.subtree.as_slice().len() {
+        if !is_compared(mask, k) {
+            return false;
+        }
+    }
+    true
+}
+
+/// The arcs that the mask compares are equal.
+fn agrees(subtree: &[u32], mask: &[u8], variable: &[u32]) -> bool
+    requires { length subtree.now ≤ length variable.now }
+    ensures { IsTrue result ↔ ((k : ℕ) → k < length subtree.now → mask_bit mask.now k ≡ 1 → slice_index subtree.now k ≡ slice_index variable.now k) }
+{
+    for (k, arc) in subtree.iter().enumerate() {
+        if is_compared(mask, k) && *arc != variable[k] {
+            return false;
+        }
+    }
+    true
+}
+
+/// The row's subtree has the variable.
+fn has_arcs(row: &FamilyRow, variable: &[u32]) -> bool
+    ensures { IsTrue result ↔ HasArcs variable.now row.now }
+{
+    row.subtree.as_slice().len() <= variable.len()
+        && agrees(row.subtree.as_slice(), row.mask.as_slice(), variable)
+}
+
+/// The first of the rows that has the variable.
+fn best_of_others<'a>(rows: &'a [FamilyRow], variable: &[u32]) -> Option<&'a FamilyRow>
+    requires { AreFalling family_order rows.now }
+    ensures { MatchOption result (NoneFits rows.now (HasArcs variable.now))
+        (λ row. IsBestOf rows.now (HasArcs variable.now) family_order row.now) }
+{
+    for row in rows {
+        if has_arcs(row, variable) {
+            return Some(row);
+        }
+    }
+    None
+}
+
+/// Where the row of this subtree is, or else the first row after it, found by halving.
+fn place_of(rows: &[FamilyRow], subtree: &[u32]) -> Result<usize, usize>
+    requires { AreFalling family_order rows.now }
+    ensures { MatchResult result
+        (λ place. (place < length rows.now) × ((d : Family) → (get_or rows.now place d).subtree ≡ subtree.now))
+        (λ place. (k : ℕ) (d : Family) → k < length rows.now
+        → (k < place → arcs_order subtree.now (get_or rows.now k d).subtree ≡ Less)
+        × (place ≤ k → arcs_order subtree.now (get_or rows.now k d).subtree ≡ Greater)) }
+{
+    rows.binary_search_by(|row| arcs_order(subtree, row.subtree.as_slice()))
+}
+
+/// One more than the arcs of the rows from this place on, or 0 where there is none.
+fn arcs_from(rows: &[FamilyRow], place: usize) -> usize
+    requires { AreFalling family_order rows.now }
+    ensures { (k : ℕ) (d : Family) → place ≤ k → k < length rows.now → length (get_or rows.now k d).subtree < result }
+{
+    match rows.get(place) {
+        Some(row) => row.subtree.as_slice().len() + 1,
+        None => 0,
+    }
+}
+
+/// Of rows whose masks compare each arc, the one whose subtree is the longest beginning of the variable. Only those beginnings
+/// are looked up that are as long as a row.
+fn best_of_exact<'a>(rows: &'a [FamilyRow], variable: &[u32]) -> Option<&'a FamilyRow>
+    requires falling { AreFalling family_order rows.now }
+    requires exact { AreExact rows.now }
+    ensures { MatchOption result (NoneFits rows.now (HasArcs variable.now))
+        (λ row. IsBestOf rows.now (HasArcs variable.now) family_order row.now) }
+{
+    let mut left = arcs_from(rows, 0).min(variable.len() + 1);
+    while left > 0 {
+        left -= 1;
+        match place_of(rows, &variable[..left]) {
+            Ok(place) => return Some(&rows[place]),
+            Err(place) => left = left.min(arcs_from(rows, place)),
+        }
+    }
+    None
+}
+
+/// The row that decides on the variable: the better of the two kinds' best.
+fn deciding_row<'a>(
+    exact: &'a [FamilyRow],
+    others: &'a [FamilyRow],
+    variable: &[u32],
+) -> Option<&'a FamilyRow>
+    requires exact_falling { AreFalling family_order exact.now }
+    requires others_falling { AreFalling family_order others.now }
+    requires are_exact { AreExact exact.now }
+    ensures { let rows = exact.now ++ others.now in
+        MatchOption result (NoneFits rows (HasArcs variable.now))
+        (λ row. IsBestOf rows (HasArcs variable.now) family_order row.now) }
+{
+    let Some(first) = best_of_exact(exact, variable) else {
+        return best_of_others(others, variable);
+    };
+    let Some(second) = best_of_others(others, variable) else {
+        return Some(first);
+    };
+    if first.ranking(second).is_lt() {
+        Some(second)
+    } else {
+        Some(first)
+    }
+}
+
+/// The view has a name, and a row of either kind.
+fn has_view(exact: &[FamilyRow], others: &[FamilyRow], view: &[u8]) -> bool
+    ensures { IsTrue result ↔ ((view.now ≢ []) × ((0 < length exact.now) ⊎ (0 < length others.now))) }
+{
+    !view.is_empty() && !(exact.is_empty() && others.is_empty())
+}
+
+/// What the view of this name says of the variable.
+pub(crate) fn answer_of_view(
+    exact: &[FamilyRow],
+    others: &[FamilyRow],
+    view: &[u8],
+    variable: &[u32],
+) -> Access
+    requires exact_stand { AreInPlace family_name family_order exact.now }
+    requires others_stand { AreInPlace family_name family_order others.now }
+    requires are_exact { AreExact exact.now }
+    ensures { AnswersView (exact.now ++ others.now) view.now variable.now result }
+{
+    let exact = rows_of(exact, view);
+    let others = rows_of(others, view);
+    if !has_view(exact, others, view) {
+        return Access::NoSuchView;
+    }
+    let Some(row) = deciding_row(exact, others, variable) else {
+        return Access::NotInView;
+    };
+    if row.include {
+        Access::AccessAllowed
+    } else {
+        Access::NotInView
+    }
+}
