@@ -9,11 +9,10 @@ use Rattle.snmp_msg.specs.declared.header.Header.{Header}
 use Rattle.snmp_msg.specs.Security.{Fields, FieldsFit, security_text}
 use Rattle.snmp_msg.specs.Spelling.{HeaderFits, message_text}
 use Rattle.usm_keys.specs.declared.auth.Auth.{Auth}
-use Rattle.usm_keys.specs.declared.auth.Auth.TheVariants.{Md5, Sha1}
 use Rattle.usm_keys.specs.AuthKey.{AuthKey}
 use Rattle.usm_keys.specs.Keys.{kul}
 use Rattle.usm_keys.specs.Protocols.{hash_of, mac_octets}
-use Rattle.usm_keys.proofs.Sizes.{length-mac}
+use Rattle.usm_keys.proofs.Sizes.{length-mac, mac_octets-most}
 use Rattle.usm_aes.specs.Feedback.{IsSealed}
 use Rattle.usm_core.specs.declared.user.User.{User}
 use Rattle.usm_core.specs.declared.fault.UsmFault.{UsmFault}
@@ -52,8 +51,7 @@ data_size users m tag content =
     (λ d. let e = element_size 48 content m.scoped d.1 in (e.1, e.0))
 
 code_most : (a : Auth) (code : List ℕ) → length code ≡ mac_octets a → length code ≤ 24
-code_most Md5 code e = omega (arith, e)
-code_most Sha1 code e = omega (arith, e)
+code_most a code e = let most = mac_octets-most a in omega (arith, e, most)
 
 salt_most : (b : Bool) (salt : List ℕ) → length salt ≡ 8 → length (if b then salt else []) ≤ 8
 salt_most true salt e = omega (arith, e)
