@@ -10,7 +10,7 @@ use Rattle.snmp_ber.specs.declared.level.Level.{Level}
 use Rattle.snmp_ber.specs.declared.level.Level.TheVariants.{NoAuthNoPriv, AuthNoPriv, AuthPriv}
 use Rattle.usm_keys.specs.AuthKey.{AuthKey}
 use Rattle.usm_aes.specs.Feedback.{IsSealed, iv_of}
-use Rattle.usm_core.specs.declared.user.User.{User}
+use Rattle.usm_core.specs.User.{User}
 use Rattle.usm_core.specs.Users.{user_named, supports, HasUser, HasUserAt}
 use Rattle.usm_core.specs.Table.{Needs, Then, Gives, holds, fails, gives, refuses}
 use Rattle.usm_core.specs.Authentic.{AuthenticMessage, Authentic, IsMac, IsDigestRight}

@@ -14,7 +14,7 @@ use Rattle.usm_keys.specs.Keys.{kul}
 use Rattle.usm_keys.specs.Protocols.{hash_of, mac_octets}
 use Rattle.usm_keys.proofs.Sizes.{length-mac, mac_octets-most}
 use Rattle.usm_aes.specs.Feedback.{IsSealed}
-use Rattle.usm_core.specs.declared.user.User.{User}
+use Rattle.usm_core.specs.User.{User}
 use Rattle.usm_core.specs.declared.fault.UsmFault.{UsmFault}
 use Rattle.usm_core.specs.declared.fault.UsmFault.TheVariants.{TooLarge}
 use Rattle.usm_core.specs.Users.{user_named}

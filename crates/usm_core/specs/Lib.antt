@@ -1,3 +1,5 @@
+pub mod User
+pub mod Credentials
 pub mod Users
 pub mod Rows
 pub mod Refusals

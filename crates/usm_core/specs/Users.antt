@@ -5,7 +5,7 @@ use Rattle.std.specs.Cmp.Lexicographic.{pointwise}
 use Rattle.snmp_ber.specs.declared.level.Level.{Level}
 use Rattle.snmp_ber.specs.declared.level.Level.TheVariants.{NoAuthNoPriv, AuthNoPriv, AuthPriv}
 use Rattle.usm_keys.specs.AuthKey.{AuthKey}
-use Rattle.usm_core.specs.declared.user.User.{User}
+use Rattle.usm_core.specs.User.{User}
 
 -- What a contract sees of `Users`.
 pub record Known : Type 0 where

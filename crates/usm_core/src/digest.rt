@@ -62,7 +62,7 @@ pub(crate) fn is_digest_right(
     if !message.header.auth {
         return true;
     }
-    match &user.auth {
+    match user.auth() {
         Some(key) => is_mac(key, datagram, message, security),
         None => false,
     }

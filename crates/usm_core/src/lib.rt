@@ -3,6 +3,7 @@
 #![tactic(auto)]
 
 mod checked;
+mod credentials;
 mod digest;
 mod fault;
 mod laws;

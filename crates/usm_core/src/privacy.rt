@@ -88,7 +88,7 @@ pub(crate) fn open_for(
     let Some(user) = user_named(users, security.user) else {
         unreachable!();
     };
-    let Some(key) = &user.privacy else {
+    let Some(key) = user.privacy() else {
         unreachable!();
     };
     let octets = checked.message.body.content();

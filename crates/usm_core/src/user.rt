@@ -4,6 +4,7 @@ ghost use Rattle.std.specs.Prelude.{◌≡◌, ◌≤◌, ◌↔◌, length, IsS
 ghost use Rattle.std.specs.Option.{option_copied};
 ghost use Rattle.usm_core.specs.Users.{supports, user_named as user_of_name};
 
+use crate::credentials::Credentials;
 use arrayvec::ArrayVec;
 use snmp_ber::Level;
 use std::marker::Model;
@@ -55,39 +56,43 @@ impl UserName {
 #[derive(Drop)]
 pub struct User {
     pub(crate) name: UserName,
-    pub(crate) auth: Option<Key>,
-    pub(crate) privacy: Option<Key>,
+    pub(crate) credentials: Credentials,
 }
 
-/// The same key. It takes no memory.
-fn copy_of(key: &Key) -> Key
-    ensures { result ≡ key.now }
-{
-    let Some(copy) = Key::of(key.auth(), key.as_slice()) else {
-        unreachable!();
-    };
-    copy
-}
+impl Model for User {
+    ghost use Rattle.usm_core.specs.User.{User as AUser};
+    ghost use Rattle.usm_core.specs.Credentials.{auth_of, privacy_of};
 
-/// The same key, where there is one.
-fn copy_of_any(key: &Option<Key>) -> Option<Key>
-    ensures { result ≡ key.now }
-{
-    match key {
-        Some(key) => Some(copy_of(key)),
-        None => None,
-    }
+    ghost Value = { AUser };
+
+    ghost view = { λ user. record { name = user.name; auth = auth_of user.credentials; privacy = privacy_of user.credentials } };
 }
 
 impl User {
+    /// The key for authentication, where the user has one.
+    pub(crate) fn auth(&self) -> Option<&Key>
+        ensures { option_copied result ≡ self.now.auth }
+    {
+        self.credentials.auth()
+    }
+
+    /// The key for privacy, where the user has one.
+    pub(crate) fn privacy(&self) -> Option<&Key>
+        ensures { option_copied result ≡ self.now.privacy }
+    {
+        self.credentials.privacy()
+    }
+
     /// The user has the keys that the level needs.
     pub(crate) fn supports(&self, level: Level) -> bool
         ensures { result ≡ supports self.now level }
     {
-        match level {
-            Level::NoAuthNoPriv => true,
-            Level::AuthNoPriv => self.auth.is_some(),
-            Level::AuthPriv => self.auth.is_some() && self.privacy.is_some(),
+        match (level, &self.credentials) {
+            (Level::NoAuthNoPriv, _) => true,
+            (_, Credentials::None) => false,
+            (Level::AuthNoPriv, _) => true,
+            (Level::AuthPriv, Credentials::Auth(_)) => false,
+            (Level::AuthPriv, Credentials::Private { .. }) => true,
         }
     }
 
@@ -97,8 +102,7 @@ impl User {
     {
         User {
             name: self.name.copy(),
-            auth: copy_of_any(&self.auth),
-            privacy: copy_of_any(&self.privacy),
+            credentials: self.credentials.copy(),
         }
     }
 }
