@@ -6,7 +6,6 @@ ghost use Rattle.std.specs.Ordering.{is_lt};
 ghost use Rattle.std.specs.List.{list_all};
 ghost use Rattle.engine_clock.specs.Engines.{engine_cmp};
 ghost use Rattle.engine_clock.specs.Marks.{Marks, mark_at, pair_at, seen_at, learned, JoinsMark, JoinsPair, HoldsAll, IsMarkJoinOf, IsJoinOf};
-ghost use Rattle.engine_clock.specs.Saved.{AreMarks};
 ghost use Rattle.engine_clock.specs.Windows.{notion_at};
 
 use crate::mark::Mark;

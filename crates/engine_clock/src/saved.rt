@@ -1,5 +1,5 @@
 //! The text of saved clocks: how it is written, and how each of its versions is read.
-ghost use Rattle.std.specs.Prelude.{◌≡◌, ◌≢◌, ℕ, ◌^◌, ◌<◌, ◌≤◌, ◌++◌, ◌⊎◌, List, length, decimal, slice_index, Some, IfSome, IfNone, IfOk, IfErr, OnOk, MatchBool};
+ghost use Rattle.std.specs.Prelude.{◌≡◌, ◌≢◌, ℕ, ◌<◌, ◌≤◌, ◌++◌, List, length, decimal, slice_index, Some, IfSome, IfNone, IfOk, IfErr, OnOk};
 ghost use Rattle.std.specs.List.{flat_map, list_any};
 ghost use Rattle.std.specs.Char.{is_ascii_uppercase};
 ghost use Rattle.std.specs.String.{string_bytes};
