@@ -1,3 +1,4 @@
+//! The key expansion.
 ghost use Rattle.std.specs.Prelude.{◌≡◌, ◌<◌, ◌≤◌};
 ghost use Rattle.usm_aes.specs.Aes.{expanded_word, rot_word as rot_word_of, round_constant as round_constant_of, schedule, sub_word as sub_word_of, word as word_of, xor_words as xor_words_of};
 
