@@ -1,12 +1,12 @@
 -- How long a message is that was written: no shorter than its parts, and not much longer.
-use Rattle.std.proofs.Common.{◌≡◌, ℕ, ◌+◌, ◌-◌, ◌<◌, ◌≤◌, suc, pos, Bool, true, false, List, [], ◌∷◌, ◌++◌, length, drop, refl, sym, ap, subst, ◌∙◌, arith}
+use Rattle.std.proofs.Common.{◌≡◌, ℕ, ◌+◌, ◌-◌, ◌≤◌, pos, Bool, true, false, List, [], ◌∷◌, ◌++◌, length, drop, refl, arith}
 use Rattle.std.specs.Prelude.{nat_lt, if◌then◌else◌}
 use Rattle.std.specs.Int.{w32, to_be_bytes}
 use Rattle.std.proofs.lemmas.List.{length-append, length-drop}
 use Rattle.snmp_ber.specs.Spelling.{digit_count, shortest_length, head_size, element, integer}
 use Rattle.snmp_ber.proofs.Spellings.{integer-positive}
 use Rattle.snmp_msg.specs.declared.header.Header.{Header}
-use Rattle.snmp_msg.specs.Spelling.{HeaderFits, number, flags_of, header_text, content_text, content_size, message_text}
+use Rattle.snmp_msg.specs.Spelling.{HeaderFits, number, header_text, content_size, message_text}
 use Rattle.snmp_msg.specs.Security.{Fields, FieldsFit, fields_text, security_text}
 use Rattle.snmp_msg.proofs.Writes.{element-length, header_text-length, message_text-size}
 

@@ -1,19 +1,18 @@
 -- The table down to the digest gives one answer, and says what was read where it refuses below the layout.
-use Rattle.std.proofs.Common.{◌≡◌, ◌≤◌, ◌<◌, ℕ, List, [], Bool, true, false, Option, Some, None, refl, sym, ap, subst, ◌∙◌, arith}
+use Rattle.std.proofs.Common.{◌≡◌, ◌≤◌, ℕ, List, [], Bool, true, false, Option, Some, None, refl, sym, ap, subst, ◌∙◌, arith}
 use Rattle.std.specs.Prelude.{◌≢◌, Result, Ok, Err, IfOk, IfErr, IsSomeAnd, MatchBool, if◌then◌else◌}
-use Rattle.snmp_msg.specs.Layout.{Parts, Outer, WrongVersion}
+use Rattle.snmp_msg.specs.Layout.{Parts, Outer}
 use Rattle.snmp_msg.specs.Security.{Fields, SecText}
 use Rattle.snmp_msg.specs.Refusals.{AgreesWithPriv}
 use Rattle.snmp_msg.specs.Level.{level_of}
 use Rattle.snmp_ber.specs.Element.{IsElement}
-use Rattle.snmp_ber.specs.declared.level.Level.{Level}
 use Rattle.snmp_ber.specs.declared.level.Level.TheVariants.{NoAuthNoPriv, AuthNoPriv, AuthPriv}
 use Rattle.usm_keys.specs.AuthKey.{AuthKey}
 use Rattle.usm_aes.specs.Feedback.{IsSealed, iv_of}
 use Rattle.usm_core.specs.User.{User}
-use Rattle.usm_core.specs.Users.{user_named, supports, HasUser, HasUserAt}
-use Rattle.usm_core.specs.Table.{Needs, Then, Gives, holds, fails, gives, refuses}
-use Rattle.usm_core.specs.Authentic.{AuthenticMessage, Authentic, IsMac, IsDigestRight}
+use Rattle.usm_core.specs.Users.{user_named, supports}
+use Rattle.usm_core.specs.Table.{Needs, Gives, holds, fails, gives, refuses}
+use Rattle.usm_core.specs.Authentic.{Authentic, IsMac}
 use Rattle.engine_clock.specs.Pairs.{BootsAndTime}
 use Rattle.usm_core.specs.Verified.{ReadsLayout, Verified, OuterOf, SecurityOf, Side, Judges, Verifies, IsReadAs, IsJudged}
 use Rattle.usm_core.specs.declared.checked.Checked.{Checked}
@@ -21,8 +20,8 @@ use Rattle.usm_core.specs.declared.fault.UsmFault.{UsmFault}
 use Rattle.usm_core.specs.declared.fault.UsmFault.TheVariants.{OutOfMemory}
 use Rattle.usm_core.specs.Refusals.{number_of}
 use Rattle.usm_core.specs.Answers.{checked_answer, verified_of}
-use Rattle.usm_core.specs.Sealed.{Sending, SendingFits, SealedText, IsSealable, IsSentData, IsSentText, UserKey, cipher, spelled_with, digest_of}
-use Rattle.usm_core.proofs.Tables.{has_privacy, true_false}
+use Rattle.usm_core.specs.Sealed.{Sending, SendingFits, SealedText, IsSealable, UserKey, cipher, spelled_with, digest_of}
+use Rattle.usm_core.proofs.Tables.{has_privacy}
 
 -- one row gives one answer, if what stands below it does
 needs_one : {X : Type 0} (P : Type 0) (n : ℕ) (below : P → Result X ℕ → Type 0) → ((p q : P) (a b : Result X ℕ) → below p a → below q b → a ≡ b)

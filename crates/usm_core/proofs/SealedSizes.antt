@@ -1,19 +1,16 @@
 -- How long a sealed text is: no shorter than its scoped PDU, and not much longer than its parts.
-use Rattle.std.proofs.Common.{◌≡◌, ℕ, ◌+◌, ◌<◌, ◌≤◌, Bool, true, false, List, [], ◌++◌, length, replicate, refl, sym, ap, subst, ◌∙◌, inl, inr, arith, Option, Some, None}
-use Rattle.std.specs.Prelude.{Result, Ok, Err, IfSome, IsErrOf, IsSomeAnd, MatchBool, if◌then◌else◌}
+use Rattle.std.proofs.Common.{◌≡◌, ℕ, ◌+◌, ◌<◌, ◌≤◌, Bool, true, false, List, [], length, replicate, refl, sym, ap, subst, ◌∙◌, inl, inr, arith, Option, Some, None}
+use Rattle.std.specs.Prelude.{Result, Err, IfSome, IsErrOf, IsSomeAnd, MatchBool, if◌then◌else◌}
 use Rattle.std.specs.Global.{Vec}
-use Rattle.std.proofs.lemmas.List.{length-append, length-replicate}
-use Rattle.std.proofs.lemmas.Bool.{cases_lt}
+use Rattle.std.proofs.lemmas.List.{length-append}
 use Rattle.snmp_ber.specs.Element.{IsElement, IsLength}
 use Rattle.snmp_msg.specs.declared.header.Header.{Header}
 use Rattle.snmp_msg.specs.Security.{Fields, FieldsFit, security_text}
 use Rattle.snmp_msg.specs.Spelling.{HeaderFits, message_text}
 use Rattle.usm_keys.specs.declared.auth.Auth.{Auth}
-use Rattle.usm_keys.specs.AuthKey.{AuthKey}
 use Rattle.usm_keys.specs.Keys.{kul}
 use Rattle.usm_keys.specs.Protocols.{hash_of, mac_octets}
 use Rattle.usm_keys.proofs.Sizes.{length-mac, mac_octets-most}
-use Rattle.usm_aes.specs.Feedback.{IsSealed}
 use Rattle.usm_core.specs.User.{User}
 use Rattle.usm_core.specs.declared.fault.UsmFault.{UsmFault}
 use Rattle.usm_core.specs.declared.fault.UsmFault.TheVariants.{TooLarge}

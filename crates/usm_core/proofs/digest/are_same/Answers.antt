@@ -1,6 +1,6 @@
-use Rattle.std.proofs.Common.{◌≡◌, ap, sym, ◌∙◌, ℕ, List, length, get_or, arith}
+use Rattle.std.proofs.Common.{◌≡◌, sym, length, arith}
 use Rattle.std.proofs.lemmas.Bool.{eqb-true, eq-eqb}
-use Rattle.usm_core.proofs.Same.{AreSameBelow, more_same, still_none, all_same}
+use Rattle.usm_core.proofs.Same.{more_same, still_none, all_same}
 use Rattle.usm_core.proofs.digest.are_same.Goals as goal
 
 pub loop-k-preserved : goal.loop-k-preserved

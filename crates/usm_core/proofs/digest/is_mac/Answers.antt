@@ -1,4 +1,4 @@
-use Rattle.std.proofs.Common.{◌≡◌, ◌+◌, ap, sym, subst, ◌∙◌, ℕ, List, true, length, take, drop, replicate, ◌++◌}
+use Rattle.std.proofs.Common.{◌≡◌, ◌+◌, ap, sym, ◌∙◌, ℕ, List, length, take, drop, replicate, ◌++◌}
 use Rattle.snmp_msg.specs.Message.{parts}
 use Rattle.snmp_msg.specs.Security.{fields_of}
 use Rattle.usm_keys.specs.AuthKey.{AuthKey}

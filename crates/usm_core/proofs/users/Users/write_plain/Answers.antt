@@ -1,7 +1,5 @@
-use Rattle.std.proofs.Common.{◌≡◌, List, ℕ, ap, subst, sym, true, false, rules, replicate}
-use Rattle.std.specs.Prelude.{IfSome}
-use Rattle.usm_core.specs.Answers.{seal_answer}
-use Rattle.usm_core.specs.Sealed.{sending, Sending, Seals, SendingFits}
+use Rattle.std.proofs.Common.{rules, replicate}
+use Rattle.usm_core.specs.Sealed.{sending, SendingFits}
 use Rattle.usm_core.specs.Writing.{WritesOpen}
 use Rattle.usm_core.proofs.Tables.{true_false}
 use Rattle.usm_core.proofs.Sealing.{open_sealed}
