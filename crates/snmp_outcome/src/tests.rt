@@ -1,0 +1,3 @@
+//! The refusals.
+
+use super::*;
