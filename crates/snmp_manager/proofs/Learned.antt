@@ -41,15 +41,15 @@ pub known_more : (users : List User) (begin : Option BootsAndTime) (ws : List (L
     → IsLatest users begin ws engine (pair_at old engine) → IsLatest users begin (ws ++ w ∷ []) engine (pair_at new engine)
 known_more users begin ws now w old new engine learns latest =
     IsGreatestOf-same (λ q. Known users begin ws engine q ⊎ Authentic users w engine q) (Known users begin (ws ++ w ∷ []) engine) (pair_at new engine)
-      (λ q m. elim m [
-        | inl k ↦ elim k [ inl b ↦ inl b | inr x ↦ inr (x.0, Contains-append_left ws (w ∷ []) x.0 x.1, x.2) ]
-        | inr a ↦ inr (w, Contains-append_right ws (w ∷ []) w (the_one w), a)
-      ])
-      (λ q k. elim k [
-        | inl b ↦ inl (inl b)
-        | inr x ↦ elim (Contains-append_cases ws (w ∷ []) x.0 x.1) [ inl c ↦ inl (inr (x.0, c, x.2)) | inr c ↦ inr (subst (λ y. Authentic users y engine q) (only_one w x.0 c) x.2) ]
-      ])
-      (learns_set users now w old new engine (Known users begin ws engine) learns latest)
+    (λ q m. elim m [
+      | inl k ↦ elim k [ inl b ↦ inl b | inr x ↦ inr (x.0, Contains-append_left ws (w ∷ []) x.0 x.1, x.2) ]
+      | inr a ↦ inr (w, Contains-append_right ws (w ∷ []) w (the_one w), a)
+    ])
+    (λ q k. elim k [
+      | inl b ↦ inl (inl b)
+      | inr x ↦ elim (Contains-append_cases ws (w ∷ []) x.0 x.1) [ inl c ↦ inl (inr (x.0, c, x.2)) | inr c ↦ inr (subst (λ y. Authentic users y engine q) (only_one w x.0 c) x.2) ]
+    ])
+    (learns_set users now w old new engine (Known users begin ws engine) learns latest)
 
 -- nothing was taken yet
 pub known_none : (users : List User) (begin : Option BootsAndTime) (engine : List ℕ) → IsLatest users begin [] engine begin
@@ -72,7 +72,7 @@ module _ (begin old new : Held) (ts : List (ℕ × Vec ℕ)) (i : ℕ) (t : ℕ 
   latest_more same engine latest =
       rw (datagrams_of_more ts i t lt, ← is)
       (known_more begin.users (pair_at begin.clocks engine) (datagrams_of (take i ts)) t.0 t.1.items old.clocks new.clocks engine
-        (subst (λ x. LearnsFrom begin.users t.0 x old.clocks new.clocks) octets (subst (λ users. LearnsFrom users t.0 w old.clocks new.clocks) same takes.2.1)) latest)
+      (subst (λ x. LearnsFrom begin.users t.0 x old.clocks new.clocks) octets (subst (λ users. LearnsFrom users t.0 w old.clocks new.clocks) same takes.2.1)) latest)
 
   -- and its outcome
   pub outcomes_more : (outcomes : List Outcome) → Runs begin (take i ts) outcomes old → Runs begin (take (i + 1) ts) (outcomes ++ outcome ∷ []) new
@@ -87,5 +87,5 @@ pub same_latest : (users : List User) (begin : Option BootsAndTime) (xs ys : Lis
 same_latest users begin xs ys engine p q same h k =
     IsGreatestOf-unique (Known users begin ys engine) p q
     (IsGreatestOf-same (Known users begin xs engine) (Known users begin ys engine) p
-      (λ r m. elim m [ inl b ↦ inl b | inr w ↦ inr (w.0, (same w.0 engine r w.2).0 w.1, w.2) ])
-      (λ r m. elim m [ inl b ↦ inl b | inr w ↦ inr (w.0, (same w.0 engine r w.2).1 w.1, w.2) ]) h) k
+    (λ r m. elim m [ inl b ↦ inl b | inr w ↦ inr (w.0, (same w.0 engine r w.2).0 w.1, w.2) ])
+    (λ r m. elim m [ inl b ↦ inl b | inr w ↦ inr (w.0, (same w.0 engine r w.2).1 w.1, w.2) ]) h) k

@@ -39,10 +39,15 @@ one_pair p q e d = λ i. record { boots = e i; time = d i }
 by_auth : (users : List User) (now : ℕ) (w : List ℕ) (old new : Marks) (v : Verified) → IsExact users w (Ok v) → (b : Bool) → v.parts.header.auth ≡ b
     → MatchBool b (Learns v.fields.engine (pair_in v) now old new) (new ≡ old) → LearnsFrom users now w old new
 by_auth users now w old new v exact true is l =
-    inl (v.fields.engine, pair_in v, record {
-      is = ((exact v.fields.engine (pair_in v)).1 (is, refl, refl, refl)).0;
-      only = λ e p a. let h = (exact e p).0 (a, allowed users w e p a) in (sym h.1, one_pair p (pair_in v) (sym h.2) (sym h.3));
-    }, l)
+    inl (
+      v.fields.engine,
+      pair_in v,
+      record {
+        is = ((exact v.fields.engine (pair_in v)).1 (is, refl, refl, refl)).0;
+        only = λ e p a. let h = (exact e p).0 (a, allowed users w e p a) in (sym h.1, one_pair p (pair_in v) (sym h.2) (sym h.3));
+      },
+      l,
+    )
 by_auth users now w old new v exact false is l =
     inr (λ e p a. let h : true ≡ false = sym ((exact e p).0 (a, allowed users w e p a)).0 ∙ is in cc h, l)
 
@@ -103,4 +108,3 @@ stays old new now w (Some n) e takes = cc e
 pub no_answer : (o : Option ℕ) → o ≡ None → IsSome (refused o) → ⊥
 no_answer None e h = cc h
 no_answer (Some n) e h = cc e
-

@@ -16,11 +16,11 @@ loop-i-preserved c =
     record {
       users = c.in-Ok-take_one.ensures.outcome.2.0 ∙ c.loop-i.invariant.users;
       latest = λ engine.
-        latest_more c.args.self.now c.loop-i.self c.take_one.new.self c.args.datagrams.now c.loop-i.i c.index-datagrams-i.result c.in-Ok-take_one.outcome c.deref.result.now
+          latest_more c.args.self.now c.loop-i.self c.take_one.new.self c.args.datagrams.now c.loop-i.i c.index-datagrams-i.result c.in-Ok-take_one.outcome c.deref.result.now
           c.loop-i-test.true c.index-datagrams-i.is c.deref.ensures.value c.in-Ok-take_one.ensures.outcome c.loop-i.invariant.users engine (c.loop-i.invariant.latest engine);
       outcomes =
-        rw pushed
-        (outcomes_more c.args.self.now c.loop-i.self c.take_one.new.self c.args.datagrams.now c.loop-i.i c.index-datagrams-i.result c.in-Ok-take_one.outcome c.deref.result.now
+          rw pushed
+          (outcomes_more c.args.self.now c.loop-i.self c.take_one.new.self c.args.datagrams.now c.loop-i.i c.index-datagrams-i.result c.in-Ok-take_one.outcome c.deref.result.now
           c.loop-i-test.true c.index-datagrams-i.is c.deref.ensures.value c.in-Ok-take_one.ensures.outcome c.loop-i.outcomes.items c.loop-i.invariant.outcomes);
       len = grind (arith, common_steps);
       room = omega (arith, c.push.ensures.capacity, c.loop-i.invariant.room);
