@@ -19,7 +19,7 @@ use engine_clock::EngineId;
 use snmp_ber::Level;
 use snmp_msg::{MsgFault, plain_from_data, read_pdu, read_scoped_front, whole_slice};
 use std::alloc::AllocError;
-use usm_core::{Checked, UsmFault, Users};
+use usm_core::{Checked, Users, UsmFault};
 
 /// The octets that begin with the ScopedPDU of a message that `open_auth` gave of this datagram, or None where they can't be
 /// decrypted, since msgPrivacyParameters don't have the 8 octets of a salt (RFC 3826, section 3.2.1).
@@ -44,9 +44,7 @@ pub fn open_text<'a>(
             Err(UsmFault::DecryptionError) => Ok(None),
             Err(_) => Err(AllocError),
         },
-        _ => Ok(Some(Octets::Borrowed(
-            &datagram[checked.message.data_at..],
-        ))),
+        _ => Ok(Some(Octets::Borrowed(&datagram[checked.message.data_at..]))),
     }
 }
 
