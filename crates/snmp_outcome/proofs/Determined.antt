@@ -4,7 +4,6 @@ use Rattle.std.specs.Prelude.{Result, Ok, Err, IsSomeAnd, MatchBool}
 use Rattle.snmp_msg.specs.Layout.{Parts, Outer}
 use Rattle.snmp_msg.specs.Scoped.{Contexts, HasScoped, ScopedFront, ScopedText}
 use Rattle.snmp_msg.specs.Pdu.{PduParts, PduText}
-use Rattle.snmp_msg.specs.Refusals.{AgreesWithPriv}
 use Rattle.snmp_msg.specs.Level.{level_of}
 use Rattle.usm_core.specs.User.{User}
 use Rattle.usm_core.specs.Users.{user_named}

@@ -1,6 +1,6 @@
 -- Rows of the table, for the functions that answer them.
 use Rattle.std.proofs.Common.{◌≡◌, ℕ, List, Option, Some, None, refl, sym, subst, ap, ◌∙◌, inl, inr}
-use Rattle.std.specs.Prelude.{◌≢◌, Result, Ok, Err, IsSome, IsSomeAnd}
+use Rattle.std.specs.Prelude.{◌≢◌, Ok, Err, IsSomeAnd}
 use Rattle.snmp_msg.specs.Level.{level_of}
 use Rattle.snmp_msg.specs.declared.refusal.Refusal.{Refusal}
 use Rattle.usm_core.specs.declared.fault.UsmFault.{UsmFault}

@@ -2,7 +2,7 @@ use Rattle.std.proofs.Common.{◌≡◌, sym, subst, ap, ◌∙◌, List, ℕ}
 use Rattle.std.proofs.lemmas.Grind.{not_there}
 use mathlib.Core.Logic.{∥∥₁_elim}
 use native.Mathlib.Nat.{ℕ_set}
-use Rattle.snmp_msg.specs.Scoped.{ScopedFront, Contexts, contexts_of}
+use Rattle.snmp_msg.specs.Scoped.{Contexts, contexts_of}
 use Rattle.snmp_msg.specs.Pdu.{PduText, PduParts, pdu_of}
 use Rattle.snmp_outcome.specs.Texts.{text_of}
 use Rattle.snmp_outcome.proofs.taken.Taken.pdu.Goals as goal
