@@ -1,0 +1,23 @@
+-- What a manager may know of an engine's pair from the datagrams that it took.
+use Rattle.std.specs.Prelude.{◌≡◌, ◌⊎◌, ◌↔◌, ℕ, List, map, Contains, Option, Some}
+use Rattle.std.specs.Global.{Vec}
+use Rattle.engine_clock.specs.Pairs.{BootsAndTime, IsGreatestOf}
+use Rattle.usm_core.specs.User.{User}
+use Rattle.usm_core.specs.Authentic.{Authentic}
+
+-- the datagrams of a list that has the moment of each
+abbrev pub datagrams_of : List (ℕ × Vec ℕ) → List (List ℕ)
+datagrams_of taken = map (λ t. t.1.items) taken
+
+-- The pairs of the engine for which some datagram of the list is authentic, and the pair that was held at the beginning. It
+-- is a set: it has neither an order nor a moment.
+abbrev pub Known : List User → Option BootsAndTime → List (List ℕ) → List ℕ → BootsAndTime → Type 0
+Known users begin datagrams engine pair = (begin ≡ Some pair) ⊎ ((w : List ℕ) × Contains datagrams w × Authentic users w engine pair)
+
+-- the pair is the greatest that is known, or None where none is
+abbrev pub IsLatest : List User → Option BootsAndTime → List (List ℕ) → List ℕ → Option BootsAndTime → Type 0
+IsLatest users begin datagrams engine found = IsGreatestOf (Known users begin datagrams engine) found
+
+-- two lists have the same authentic datagrams
+abbrev pub HaveSameAuthentic : List User → List (List ℕ) → List (List ℕ) → Type 0
+HaveSameAuthentic users xs ys = (w engine : List ℕ) (pair : BootsAndTime) → Authentic users w engine pair → (Contains xs w ↔ Contains ys w)

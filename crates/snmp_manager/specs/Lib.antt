@@ -1,0 +1,5 @@
+pub mod Views
+pub mod Learning
+pub mod Takes
+pub mod Known
+pub mod Runs

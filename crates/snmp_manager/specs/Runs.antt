@@ -1,0 +1,37 @@
+-- A run of a manager over datagrams, each with its moment.
+use Rattle.std.specs.Prelude.{◌≡◌, ℕ, List, [], ◌∷◌, take, Some, Result, Ok, Err}
+use Rattle.std.specs.Global.{Vec}
+use Rattle.snmp_outcome.specs.Refusals.{answer_number}
+use Rattle.snmp_outcome.specs.Outcome.{Given}
+use Rattle.snmp_manager.specs.declared.outcome.Outcome.{Outcome}
+use Rattle.snmp_manager.specs.declared.outcome.Outcome.TheVariants.{Accepted, Refused}
+use Rattle.snmp_manager.specs.declared.outcome.Stopped.{Stopped}
+use Rattle.snmp_manager.specs.Views.{Held}
+use Rattle.snmp_manager.specs.Takes.{Takes}
+
+-- what an outcome tells of an answer
+abbrev pub Tells : Outcome → Result Given ℕ → Type 0
+Tells (Accepted level tag) (Ok given) = (level ≡ given.level) × (tag ≡ given.tag)
+Tells (Refused fault) (Err n) = answer_number fault ≡ Some n
+Tells (Accepted level tag) (Err n) = ⊥
+Tells (Refused fault) (Ok given) = ⊥
+
+-- a take of one datagram, told by an outcome
+abbrev pub TakesOne : Held → ℕ → List ℕ → Outcome → Held → Type 0
+TakesOne old now w outcome new = (answer : Result Given ℕ) × Tells outcome answer × Takes old now w (Some answer) new
+
+-- the outcomes of datagrams taken one after another
+abbrev pub Runs : Held → List (ℕ × Vec ℕ) → List Outcome → Held → Type 0
+Runs old [] [] new = new ≡ old
+Runs old (t ∷ ts) (outcome ∷ outcomes) new = (mid : Held) × TakesOne old t.0 t.1.items outcome mid × Runs mid ts outcomes new
+Runs old [] (outcome ∷ outcomes) new = ⊥
+Runs old (t ∷ ts) [] new = ⊥
+
+-- the datagrams were taken, with some outcomes
+abbrev pub HasRun : Held → List (ℕ × Vec ℕ) → Held → Type 0
+HasRun old datagrams new = (outcomes : List Outcome) × Runs old datagrams outcomes new
+
+-- the datagrams that were taken: all, or those before the stop
+abbrev pub taken_of : {A V : Type 0} → Result V Stopped → List A → List A
+taken_of (Ok outcomes) datagrams = datagrams
+taken_of (Err stopped) datagrams = take stopped.taken datagrams

@@ -1,0 +1,15 @@
+//! The manager: an SNMPv3 engine that isn't authoritative (RFC 3414, section 1.5.1). It takes datagrams, and keeps the
+//! greatest pair of boots and time that each engine has authenticated.
+#![tactic(auto)]
+
+mod laws;
+mod learning;
+mod manager;
+mod outcome;
+
+pub use laws::same_authentic_same_latest;
+pub use manager::Manager;
+pub use outcome::{Outcome, Stopped};
+
+#[cfg(test)]
+mod tests;

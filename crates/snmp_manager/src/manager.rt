@@ -1,0 +1,172 @@
+//! The manager.
+
+ghost use Rattle.std.specs.Prelude.{◌≡◌, ◌<◌, ℕ, List, length, take, IfOk, IfErr, IsOk, IsSome, OnErr, OnOk};
+ghost use Rattle.std.specs.Option.{option_map};
+ghost use Rattle.engine_clock.specs.Marks.{mark_at, pair_at, IsMarkJoinOf, IsJoinOf};
+ghost use Rattle.engine_clock.specs.Saved.{AreMarks, listing};
+ghost use Rattle.engine_clock.specs.Windows.{notion_at};
+ghost use Rattle.usm_core.specs.Verified.{manager};
+ghost use Rattle.snmp_outcome.specs.Answers.{answer_of, IsPlain};
+ghost use Rattle.snmp_manager.specs.Known.{IsLatest, datagrams_of};
+ghost use Rattle.snmp_manager.specs.Takes.{Takes, HoldsAuthentic};
+ghost use Rattle.snmp_manager.specs.Runs.{TakesOne, Runs, HasRun, taken_of};
+
+use crate::learning::learn;
+use crate::outcome::{Outcome, Stopped};
+use engine_clock::{Clocks, EngineId, Mark, Pair};
+use snmp_outcome::{TakeFault, Taken, open_text, read_text};
+use std::alloc::{AllocError, Global};
+use std::marker::Model;
+use usm_core::{Role, Users};
+
+/// Users, and what is known of the clocks of engines. All moments are in seconds from one beginning, which the caller keeps.
+#[derive(Drop)]
+pub struct Manager {
+    alloc: Global,
+    users: Users,
+    clocks: Clocks,
+}
+
+impl Model for Manager {
+    ghost use Rattle.std.specs.Coded.{codes};
+    ghost use Rattle.engine_clock.specs.Marks.{marks_code};
+    ghost use Rattle.snmp_manager.specs.Views.{Held};
+
+    ghost Value = { Held };
+
+    ghost coded = { Prim.hlevel (codes, marks_code) };
+
+    ghost view = { λ m. record { users = m.users.users; clocks = m.clocks } };
+}
+
+impl Manager {
+    /// A manager with these users that begins with these clocks. This takes no memory.
+    pub fn new(alloc: Global, users: Users, clocks: Clocks) -> Manager
+        ensures users { result.users ≡ users.users }
+        ensures clocks { result.clocks ≡ clocks }
+    {
+        Manager {
+            alloc,
+            users,
+            clocks,
+        }
+    }
+
+    /// The pair that is held of the engine.
+    pub fn pair(&self, engine: &EngineId) -> Option<Pair>
+        ensures { result ≡ pair_at self.now.clocks engine.now }
+    {
+        self.clocks.pair(engine)
+    }
+
+    /// The mark that is held of the engine: its pair, and the moment at which it was seen.
+    pub fn mark(&self, engine: &EngineId) -> Option<Mark>
+        ensures { result ≡ mark_at self.now.clocks engine.now }
+    {
+        self.clocks.mark(engine)
+    }
+
+    /// The notion of the engine's time at the moment `now` (RFC 3414, section 2.3), in seconds, at most 2147483647.
+    pub fn notion(&self, engine: &EngineId, now: u64) -> Option<u32>
+        ensures { result ≡ option_map (notion_at now) (mark_at self.now.clocks engine.now) }
+    {
+        self.clocks.notion(engine, now)
+    }
+
+    /// Joins the marks of `clocks` in. On an error, which is want of memory, all is as before.
+    pub fn absorb(&mut self, clocks: &Clocks) -> Result<(), AllocError>
+        ensures marks { OnOk result (IsMarkJoinOf self.old.clocks clocks.now self.new.clocks) }
+        // So it is the join of the pairs.
+        ensures joined { OnOk result (IsJoinOf self.old.clocks clocks.now self.new.clocks) }
+        ensures users { self.new.users ≡ self.old.users }
+        ensures err { OnErr result (self.new ≡ self.old) }
+    {
+        self.clocks.absorb(clocks)
+    }
+
+    /// The saved text of the marks, which `Clocks::read_saved` reads again. The error is want of memory.
+    pub fn save(&self) -> Result<Vec<u8>, AllocError>
+        ensures text { IfOk result (λ text. text.items ≡ listing self.now.clocks) }
+        ensures fits { AreMarks self.now.clocks }
+    {
+        self.clocks.save()
+    }
+
+    /// Takes a datagram at the moment `now`: reads and authenticates it (RFC 3412, section 7.2, and RFC 3414, section 3.2),
+    /// learns its pair, and then looks at the time window, opens the message and reads its ScopedPDU.
+    ///
+    /// The errors are, the first that applies: those of `Users::open_auth`, which teach nothing; OutOfMemory (14), which
+    /// leaves all as before; and NotInWindow (10), DecryptionError (11), BadScoped (12) and BadPdu (13), of messages whose pair
+    /// is learned all the same, where they have authentication. Memory is taken to decrypt, and for an engine that isn't held.
+    pub fn take<'a>(&mut self, now: u64, datagram: &'a [u8]) -> Result<Taken<'a>, TakeFault>
+        ensures takes { Takes self.old now datagram.now (answer_of result) self.new }
+        ensures no_memory { IsPlain manager self.old.users datagram.now → HoldsAuthentic self.old datagram.now → IsSome (answer_of result) }
+    {
+        let checked = match self.users.open_auth(Role::Manager, datagram) {
+            Ok(checked) => checked,
+            Err(fault) => return Err(fault.into()),
+        };
+        let Some(engine) = EngineId::of(checked.security.engine) else {
+            unreachable!();
+        };
+        let Ok(opening) = open_text(&mut self.users, datagram, &checked) else {
+            return Err(TakeFault::OutOfMemory);
+        };
+        match learn(&mut self.clocks, &engine, &checked, now) {
+            Err(_) => return Err(TakeFault::OutOfMemory),
+            Ok(false) => return Err(TakeFault::NotInWindow),
+            Ok(true) => {}
+        }
+        let Some(text) = opening else {
+            return Err(TakeFault::DecryptionError);
+        };
+        read_text(&checked, engine, text)
+    }
+
+    /// Takes a datagram at the moment `now`, and tells what it was answered. On an error, which is want of memory, all is as
+    /// before. It takes memory where `take` does.
+    pub fn take_one(&mut self, now: u64, datagram: &[u8]) -> Result<Outcome, AllocError>
+        ensures outcome { IfOk result (λ outcome. TakesOne self.old now datagram.now outcome self.new) }
+        ensures err { OnErr result (self.new ≡ self.old) }
+        ensures no_memory { IsPlain manager self.old.users datagram.now → HoldsAuthentic self.old datagram.now → IsOk result }
+    {
+        match self.take(now, datagram) {
+            Ok(taken) => Ok(Outcome::Accepted {
+                level: taken.level,
+                tag: taken.tag,
+            }),
+            Err(fault) => {
+                if fault.is_memory() {
+                    return Err(AllocError);
+                }
+                Ok(Outcome::Refused(fault))
+            }
+        }
+    }
+
+    /// Takes datagrams one after another, each at its moment. Then the pair of each engine is the greatest that was
+    /// authenticated in what was taken, or that was held before. The memory for the outcomes is asked for first.
+    ///
+    /// The error says how many of the datagrams were taken before there was want of memory: never all, so that a run over no
+    /// datagram succeeds.
+    pub fn run(&mut self, datagrams: &[(u64, Vec<u8>)]) -> Result<Vec<Outcome>, Stopped>
+        ensures outcomes { IfOk result (λ outcomes. Runs self.old datagrams.now outcomes.items self.new) }
+        ensures latest { (engine : List ℕ) → IsLatest self.old.users (pair_at self.old.clocks engine) (datagrams_of (taken_of result datagrams.now)) engine (pair_at self.new.clocks engine) }
+        ensures users { self.new.users ≡ self.old.users }
+        ensures stopped { IfErr result (λ stopped. stopped.taken < length datagrams.now) }
+        ensures stopped_after { IfErr result (λ stopped. HasRun self.old (take stopped.taken datagrams.now) self.new) }
+    {
+        let Ok(mut outcomes) = Vec::with_capacity(self.alloc, datagrams.len()) else {
+            return Err(Stopped { taken: 0 });
+        };
+        for (i, (now, datagram)) in datagrams.iter().enumerate() {
+            let Ok(outcome) = self.take_one(*now, datagram) else {
+                return Err(Stopped { taken: i });
+            };
+            if outcomes.push(outcome).is_err() {
+                unreachable!();
+            }
+        }
+        Ok(outcomes)
+    }
+}

@@ -1,0 +1,21 @@
+//! What is told of datagrams that a manager took.
+
+use snmp_ber::Level;
+use snmp_outcome::TakeFault;
+use thiserror::Error;
+
+/// What a datagram was answered.
+#[derive(Clone, Copy, Debug, PartialEq, Eq)]
+pub enum Outcome {
+    /// It is accepted; the tag is that of its PDU.
+    Accepted { level: Level, tag: u8 },
+    /// It is refused. This is never OutOfMemory.
+    Refused(TakeFault),
+}
+
+/// A run that stopped for want of memory, when the first so many of its datagrams were taken.
+#[derive(Clone, Copy, Debug, PartialEq, Eq, Drop, Error)]
+#[error("out of memory after {taken} datagrams")]
+pub struct Stopped {
+    pub taken: usize,
+}

@@ -1,0 +1,108 @@
+//! Managers that take datagrams.
+
+ghost use Rattle.std.specs.Prelude.{◌≡◌, ◌≤◌, ℕ, List, length, IfOk};
+ghost use Rattle.snmp_ber.specs.Element.{IsElement};
+ghost use Rattle.snmp_msg.specs.Spelling.{HeaderFits};
+
+use super::*;
+use engine_clock::{Clocks, EngineId, Pair};
+use snmp_ber::Level;
+use snmp_msg::{Header, WriteFault, write_pdu, write_scoped};
+use snmp_outcome::TakeFault;
+use std::alloc::{AllocError, Global};
+use std::process::Abort;
+use std::test::Fail;
+use usm_core::{UserRow, Users, UsmFault};
+use usm_keys::Auth;
+
+mod memory;
+mod orders;
+mod refusals;
+mod window;
+
+/// The engine ID of RFC 3414, section A.3.
+const ENGINE: [u8; 12] = [0, 0, 0, 0, 0, 0, 0, 0, 0, 0, 0, 2];
+
+fn row(alloc: Global, name: &[u8], auth: Auth) -> Result<UserRow, AllocError> {
+    Ok(UserRow {
+        name: name.to_vec(alloc)?,
+        auth: Some((auth, b"maplesyrup".to_vec(alloc)?)),
+        privacy: Some(b"maplesyrup".to_vec(alloc)?),
+    })
+}
+
+/// Rows of `ann` with MD5 and `sam` with SHA-256.
+fn rows(alloc: Global) -> Result<Vec<UserRow>, AllocError> {
+    let mut rows = Vec::new(alloc);
+    rows.push(row(alloc, b"ann", Auth::Md5)?)?;
+    rows.push(row(alloc, b"sam", Auth::Sha256)?)?;
+    Ok(rows)
+}
+
+fn users(alloc: Global) -> Result<Users, Fail> {
+    let rows = rows(alloc)?;
+    Ok(Users::load(alloc, &rows)?)
+}
+
+/// A manager of these users that holds no engine.
+fn manager(alloc: Global, users: &Users) -> Result<Manager, AllocError> {
+    Ok(Manager::new(alloc, users.try_clone()?, Clocks::new(alloc)))
+}
+
+fn engine(octets: &[u8]) -> Result<EngineId, Fail> {
+    Ok(EngineId::of(octets).ok_or("engine")?)
+}
+
+fn pair(boots: u32, time: u32) -> Result<Pair, Fail> {
+    Ok(Pair::of(boots, time).ok_or("pair")?)
+}
+
+/// A GetRequest with request-id 2 and no bindings, in the engine's context of the empty name.
+fn scoped_pdu(alloc: Global) -> Result<Vec<u8>, WriteFault>
+    ensures { IfOk result (λ v. (content : List ℕ) × IsElement 48 content v.items) }
+{
+    let pdu = write_pdu(alloc, 0xA0, 2, 0, 0, &[])?;
+    let scoped = write_scoped(alloc, &ENGINE, b"", &pdu)?;
+    Ok(scoped)
+}
+
+/// The header of each message.
+fn header(level: Level) -> Header
+    ensures { HeaderFits result }
+{
+    Header {
+        id: 3,
+        max_size: 65_507,
+        auth: level != Level::NoAuthNoPriv,
+        privacy: level == Level::AuthPriv,
+        reportable: true,
+        model: 3,
+    }
+}
+
+/// A message of this engine with this pair, sealed for a user.
+fn sealed_of(
+    users: &mut Users,
+    alloc: Global,
+    engine: &[u8],
+    pair: Pair,
+    user: &[u8],
+    level: Level,
+) -> Result<Vec<u8>, UsmFault> {
+    let scoped = scoped_pdu(alloc)?;
+    let header = header(level);
+    let name = &user[..user.len().min(32)];
+    let salt = [0, 1, 2, 3, 4, 5, 6, 7];
+    users.seal(&header, engine, pair, name, salt, &scoped)
+}
+
+/// A message of the engine at authNoPriv for `ann`.
+fn sent(users: &mut Users, alloc: Global, boots: u32, time: u32) -> Result<Vec<u8>, Fail> {
+    let pair = pair(boots, time)?;
+    Ok(sealed_of(users, alloc, &ENGINE, pair, b"ann", Level::AuthNoPriv)?)
+}
+
+const ACCEPTED: Outcome = Outcome::Accepted {
+    level: Level::AuthNoPriv,
+    tag: 0xA0,
+};

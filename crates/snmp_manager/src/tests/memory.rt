@@ -1,0 +1,133 @@
+//! Growths that are refused. Run by `tools/refuse-memory`, these show that a refused growth is answered as want of memory, what
+//! it leaves, and that the same call succeeds afterwards.
+
+use super::*;
+
+fn users_after_refusal(alloc: Global) -> Result<Users, Fail> {
+    let rows = match rows(alloc) {
+        Ok(rows) => rows,
+        Err(_) => rows(alloc)?,
+    };
+    match Users::load(alloc, &rows) {
+        Ok(users) => Ok(users),
+        Err(_) => Ok(Users::load(alloc, &rows)?),
+    }
+}
+
+/// A message at this level, of the engine whose last octet is this one, where at most one growth is refused.
+fn message_after_refusal(
+    users: &mut Users,
+    alloc: Global,
+    last: u8,
+    level: Level,
+) -> Result<Vec<u8>, Fail> {
+    let name = [128, 0, 0, 0, last];
+    let pair = pair(1, 5)?;
+    match sealed_of(users, alloc, &name, pair, b"ann", level) {
+        Ok(message) => Ok(message),
+        Err(_) => Ok(sealed_of(users, alloc, &name, pair, b"ann", level)?),
+    }
+}
+
+fn manager_after_refusal(alloc: Global, users: &Users) -> Result<Manager, AllocError> {
+    match manager(alloc, users) {
+        Ok(manager) => Ok(manager),
+        Err(_) => manager(alloc, users),
+    }
+}
+
+#[test]
+fn a_refused_growth_learns_nothing(rt: HostRuntime) -> Result<(), Fail> {
+    let own = engine(&[128, 0, 0, 0, 1])?;
+    let mut users = users_after_refusal(rt.alloc())?;
+    let message = message_after_refusal(&mut users, rt.alloc(), 1, Level::AuthPriv)?;
+    let mut manager = manager_after_refusal(rt.alloc(), &users)?;
+    let refused = match manager.take(7, &message) {
+        Ok(taken) => {
+            assert_eq!(rt; taken.level, Level::AuthPriv);
+            None
+        }
+        Err(fault) => Some(fault),
+    };
+    if let Some(fault) = refused {
+        assert_eq!(rt; fault, TakeFault::OutOfMemory);
+        assert_eq!(rt; manager.pair(&own), None);
+        let taken = manager.take(7, &message)?;
+        assert_eq!(rt; taken.level, Level::AuthPriv);
+    }
+    assert_eq!(rt; manager.pair(&own), Some(pair(1, 5)?));
+    Ok(())
+}
+
+/// The messages, each at the moment 7.
+fn list_of(alloc: Global, messages: &[Vec<u8>]) -> Result<Vec<(u64, Vec<u8>)>, AllocError> {
+    let mut list = Vec::new(alloc);
+    for message in messages {
+        list.push((7, message.to_vec(alloc)?))?;
+    }
+    Ok(list)
+}
+
+/// Whether the manager has a pair of the engine whose last octet is this one.
+fn holds(manager: &Manager, last: u8) -> Result<bool, Fail> {
+    Ok(manager.pair(&engine(&[128, 0, 0, 0, last])?).is_some())
+}
+
+/// The manager holds the first so many of the three engines, and no other.
+fn assert_held(rt: &impl Abort, manager: &Manager, count: usize) -> Result<(), Fail> {
+    let held = [holds(manager, 1)?, holds(manager, 2)?, holds(manager, 3)?];
+    assert_eq!(rt; held, [count > 0, count > 1, count > 2]);
+    Ok(())
+}
+
+#[test]
+fn a_refused_growth_stops_a_run(rt: HostRuntime) -> Result<(), Fail> {
+    let mut users = users_after_refusal(rt.alloc())?;
+    let messages = [
+        message_after_refusal(&mut users, rt.alloc(), 1, Level::AuthNoPriv)?,
+        message_after_refusal(&mut users, rt.alloc(), 2, Level::AuthNoPriv)?,
+        message_after_refusal(&mut users, rt.alloc(), 3, Level::AuthNoPriv)?,
+    ];
+    let list = match list_of(rt.alloc(), &messages) {
+        Ok(list) => list,
+        Err(_) => list_of(rt.alloc(), &messages)?,
+    };
+    let mut manager = manager_after_refusal(rt.alloc(), &users)?;
+    let stopped = match manager.run(&list) {
+        Ok(outcomes) => {
+            assert_eq!(rt;
+                outcomes.as_slice(),
+                [ACCEPTED, ACCEPTED, ACCEPTED].as_slice()
+            );
+            None
+        }
+        Err(stopped) => Some(stopped),
+    };
+    if let Some(stopped) = stopped {
+        assert_held(&rt, &manager, stopped.taken)?;
+        assert_eq!(rt; manager.run(&list)?.len(), 3);
+    }
+    assert_held(&rt, &manager, 3)?;
+    Ok(())
+}
+
+#[test]
+fn a_refused_growth_absorbs_and_saves_nothing(rt: HostRuntime) -> Result<(), Fail> {
+    let text = b"snmp-clocks 2\n8000000001 1 5 7\n8000000002 1 5 7\n";
+    let users = users_after_refusal(rt.alloc())?;
+    let mut manager = manager_after_refusal(rt.alloc(), &users)?;
+    let clocks = match Clocks::read_saved(rt.alloc(), text, 0) {
+        Ok(clocks) => clocks,
+        Err(_) => Clocks::read_saved(rt.alloc(), text, 0)?,
+    };
+    if manager.absorb(&clocks).is_err() {
+        assert_held(&rt, &manager, 0)?;
+        manager.absorb(&clocks)?;
+    }
+    let saved = match manager.save() {
+        Ok(saved) => saved,
+        Err(_) => manager.save()?,
+    };
+    assert_eq!(rt; saved.as_slice(), text.as_slice());
+    Ok(())
+}

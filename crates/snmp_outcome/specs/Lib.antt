@@ -1,0 +1,4 @@
+pub mod Refusals
+pub mod Texts
+pub mod Outcome
+pub mod Answers

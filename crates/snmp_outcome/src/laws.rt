@@ -1,0 +1,30 @@
+//! Laws of the table. Each function does nothing: its contract is the law.
+
+ghost use Rattle.std.specs.Prelude.{◌≡◌, List, ℕ, Result, Ok, Err, true};
+ghost use Rattle.usm_core.specs.User.{User};
+ghost use Rattle.usm_core.specs.Verified.{Verified, Verifies};
+ghost use Rattle.snmp_outcome.specs.Outcome.{Given, Taker, side_at, IsTextOf, Outcome};
+
+use snmp_msg::{one_content, plain_from_data};
+
+/// A message has one text at most.
+pub fn one_text()
+    ensures { (users : List User) (w : List ℕ) (v : Verified) (a b : List ℕ) → IsTextOf users w v a → IsTextOf users w v b → a ≡ b }
+{}
+
+/// The table gives each datagram one answer at most.
+pub fn one_answer()
+    ensures { (taker : Taker) (users : List User) (now : ℕ) (w : List ℕ) (a b : Result Given ℕ) → Outcome taker users now w a → Outcome taker users now w b → a ≡ b }
+{
+    usm_core::one_answer();
+    one_content();
+}
+
+/// Where the answer is 12 the message is sealed: what isn't was found to be a ScopedPDU before its digest was looked at.
+pub fn bad_scoped_is_sealed()
+    ensures { (taker : Taker) (users : List User) (now : ℕ) (w : List ℕ) → Outcome taker users now w (Err 12)
+        → (v : Verified) × Verifies (side_at taker) users w (Ok v) × (v.parts.header.privacy ≡ true) }
+{
+    usm_core::verified_was_read();
+    plain_from_data();
+}

@@ -1,0 +1,18 @@
+//! What a datagram is answered: the table of refusals, from RFC 3412, section 7.2, and RFC 3414, section 3.2; and what is
+//! given on of a datagram that none of them refuses.
+#![tactic(auto)]
+
+mod fault;
+mod laws;
+mod octets;
+mod reading;
+mod taken;
+
+pub use fault::TakeFault;
+pub use laws::{bad_scoped_is_sealed, one_answer, one_text};
+pub use octets::Octets;
+pub use reading::{open_text, read_text};
+pub use taken::Taken;
+
+#[cfg(test)]
+mod tests;

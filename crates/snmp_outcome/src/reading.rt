@@ -1,0 +1,113 @@
+//! The ScopedPDU of a message that passed its digest: opened, and read.
+
+ghost use Rattle.std.specs.Prelude.{◌≡◌, ◌≤◌, false, length, IsOk, IfOk, IfErr, IsSomeAnd};
+ghost use Rattle.std.specs.Option.{option_map};
+ghost use Rattle.snmp_ber.specs.declared.level.Level.TheVariants.{AuthPriv};
+ghost use Rattle.snmp_msg.specs.Message.{tag_of};
+ghost use Rattle.snmp_msg.specs.Level.{level_of};
+ghost use Rattle.usm_core.specs.Users.{HasUserAt};
+ghost use Rattle.usm_core.specs.Verified.{IsReadAs};
+ghost use Rattle.usm_core.specs.Answers.{verified_of};
+ghost use Rattle.snmp_outcome.specs.Texts.{text_of, HasTag};
+ghost use Rattle.snmp_outcome.specs.Outcome.{ReadsText};
+ghost use Rattle.snmp_outcome.specs.Answers.{answer_of, IsOpening, RefusesText};
+
+use crate::fault::TakeFault;
+use crate::octets::Octets;
+use crate::taken::Taken;
+use engine_clock::EngineId;
+use snmp_ber::Level;
+use snmp_msg::{MsgFault, plain_from_data, read_pdu, read_scoped_front, whole_slice};
+use std::alloc::AllocError;
+use usm_core::{Checked, Users, UsmFault};
+
+/// The octets that begin with the ScopedPDU of a message that `open_auth` gave of this datagram, or None where they can't be
+/// decrypted, since msgPrivacyParameters don't have the 8 octets of a salt (RFC 3826, section 3.2.1).
+///
+/// Memory is taken at authPriv alone, to decrypt; the error is want of it.
+pub fn open_text<'a>(
+    users: &mut Users,
+    datagram: &'a [u8],
+    checked: &Checked<'a>,
+) -> Result<Option<Octets<'a>>, AllocError>
+    requires read { IsReadAs datagram.now (verified_of checked.now) }
+    requires level { checked.now.level ≡ level_of checked.now.message.header }
+    requires private { checked.now.level ≡ AuthPriv → HasUserAt users.old.users checked.now.security.user.now AuthPriv × (tag_of checked.now.message.body ≡ 4) }
+    ensures users { users.new.users ≡ users.old.users }
+    ensures no_memory { checked.now.message.header.privacy ≡ false → IsOk result }
+    ensures opened { IfOk result (λ opening. IsOpening users.old.users datagram.now (verified_of checked.now) (option_map text_of opening)) }
+{
+    plain_from_data();
+    match checked.level {
+        Level::AuthPriv => match users.open_priv(checked) {
+            Ok(plaintext) => Ok(Some(Octets::Owned(plaintext))),
+            Err(UsmFault::DecryptionError) => Ok(None),
+            Err(_) => Err(AllocError),
+        },
+        _ => Ok(Some(Octets::Borrowed(&datagram[checked.message.data_at..]))),
+    }
+}
+
+/// The place of a fault, in octets that begin at the place `base`.
+fn place(fault: MsgFault, base: usize) -> usize {
+    fault.at().unwrap_or(0).saturating_add(base)
+}
+
+/// What is given on of the message that `open_auth` gave, whose octets `open_text` gave.
+///
+/// The error is BadScoped (12), exactly where the octets don't begin with a ScopedPDU, or BadPdu (13), exactly where its data
+/// is no PDU. It takes no memory.
+pub fn read_text<'a>(
+    checked: &Checked<'a>,
+    engine: EngineId,
+    text: Octets<'a>,
+) -> Result<Taken<'a>, TakeFault>
+    requires engine { engine ≡ checked.now.security.engine.now }
+    requires level { checked.now.level ≡ level_of checked.now.message.header }
+    requires user { length checked.now.security.user.now ≤ 32 }
+    requires id { checked.now.message.header.id ≤ 2147483647 }
+    ensures { IsSomeAnd (answer_of result) (ReadsText (verified_of checked.now) (text_of text.entry)) }
+{
+    let base = match text {
+        Octets::Borrowed(_) => checked.message.data_at,
+        Octets::Owned(_) => 0,
+    };
+    let tag = match read_tag(text.as_slice(), base) {
+        Ok(tag) => tag,
+        Err(fault) => return Err(fault),
+    };
+    Ok(Taken {
+        engine,
+        user: checked.security.user,
+        level: checked.level,
+        id: checked.message.header.id,
+        tag,
+        text,
+    })
+}
+
+/// The tag of the PDU of the ScopedPDU that the text begins with. Places count from `base`.
+fn read_tag(text: &[u8], base: usize) -> Result<u8, TakeFault>
+    ensures tag { IfOk result (λ tag. HasTag text.now tag) }
+    ensures fault { IfErr result (RefusesText text.now) }
+{
+    whole_slice();
+    let scoped = match read_scoped_front(text) {
+        Ok(scoped) => scoped,
+        Err(fault) => {
+            return Err(TakeFault::BadScoped {
+                at: place(fault, base),
+            });
+        }
+    };
+    let pdu = match read_pdu(scoped.pdu, 0, scoped.pdu.len()) {
+        Ok(pdu) => pdu,
+        Err(fault) => {
+            let base = base.saturating_add(scoped.data_at);
+            return Err(TakeFault::BadPdu {
+                at: place(fault, base),
+            });
+        }
+    };
+    Ok(pdu.tag)
+}

@@ -1,0 +1,57 @@
+//! Accepted datagrams.
+
+ghost use Rattle.std.specs.Prelude.{◌≤◌, length};
+ghost use Rattle.snmp_outcome.specs.Texts.{text_of, HasTag};
+
+use crate::octets::Octets;
+use engine_clock::EngineId;
+use snmp_ber::Level;
+use snmp_msg::{Pdu, Scoped, one_content, read_pdu, read_scoped_front, whole_slice};
+
+/// An accepted datagram: from whom it is, and its ScopedPDU.
+#[derive(Drop)]
+pub struct Taken<'a> {
+    /// msgAuthoritativeEngineID.
+    pub engine: EngineId,
+    /// msgUserName, of at most 32 octets.
+    pub user: &'a [u8],
+    pub level: Level,
+    /// msgID, at most 2147483647.
+    pub id: u32,
+    /// The tag of the PDU.
+    pub tag: u8,
+    pub(crate) text: Octets<'a>,
+    pub ghost user_fits: { length user.now ≤ 32 },
+    pub ghost id_fits: { id ≤ 2147483647 },
+    pub ghost is_read: { ∥ HasTag (text_of text) tag ∥₁ },
+}
+
+impl<'a> Taken<'a> {
+    ghost use Rattle.std.specs.Prelude.{◌≡◌, List, ℕ};
+    ghost use Rattle.snmp_msg.specs.Scoped.{ScopedFront, Contexts, contexts_of};
+    ghost use Rattle.snmp_msg.specs.Pdu.{PduText, pdu_of};
+
+    /// The ScopedPDU (RFC 3412, section 6.8). The place of its data counts from its own first octet. It takes no memory.
+    pub fn scoped(&self) -> Scoped<'_>
+        ensures { ScopedFront (text_of self.now.text) (contexts_of result) }
+    {
+        match read_scoped_front(self.text.as_slice()) {
+            Ok(scoped) => scoped,
+            Err(_) => unreachable!(),
+        }
+    }
+
+    /// The PDU, the data of the ScopedPDU (RFC 3416, section 3). It takes no memory.
+    pub fn pdu(&self) -> Pdu<'_>
+        ensures is_pdu { (c : Contexts) → ScopedFront (text_of self.now.text) c → PduText c.pdu (pdu_of result) }
+        ensures tag { result.tag ≡ self.now.tag }
+    {
+        one_content();
+        whole_slice();
+        let scoped = self.scoped();
+        match read_pdu(scoped.pdu, 0, scoped.pdu.len()) {
+            Ok(pdu) => pdu,
+            Err(_) => unreachable!(),
+        }
+    }
+}
