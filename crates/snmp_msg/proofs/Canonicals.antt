@@ -77,6 +77,10 @@ list_in_whole engine name p =
     let longer = pdu_text-longer p in
     omega (arith, contexts_text-length engine name (pdu_text p), longer.0, longer.1)
 
+-- msgData is at least as long as each context in it
+pub contexts_in_whole : (engine name : List ℕ) (p : PduParts) → (length engine ≤ length (data_content_of (plain engine name p))) × (length name ≤ length (data_content_of (plain engine name p)))
+contexts_in_whole engine name p = let inner = contexts_text-length engine name (pdu_text p) in (omega arith, omega arith)
+
 -- a size that was computed is that of the text
 pub measured_whole : (m : Whole) (size security_size data_size : ℕ) → security_size ≡ length (security_text m.security) → data_size ≡ length (data_content_of m.contents)
     → (let inner = content_size m.header security_size data_size in size ≡ head_size inner + inner) → length (whole_text m) ≡ size

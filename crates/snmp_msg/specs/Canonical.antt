@@ -1,9 +1,13 @@
 -- A message with all its layers, and its canonical spelling.
 use Rattle.std.specs.Prelude.{◌≡◌, ℕ, ◌≤◌, List, [], length}
+use Rattle.snmp_msg.specs.declared.message.TheConstants.{LARGEST}
 use Rattle.snmp_msg.specs.declared.header.Header.{Header}
 use Rattle.snmp_msg.specs.declared.whole.Layers.{Layers}
 use Rattle.snmp_msg.specs.declared.whole.Layer.{Layer}
 use Rattle.snmp_msg.specs.declared.whole.Layer.TheVariants as layers
+use Rattle.snmp_msg.specs.declared.whole.Measured.{Measured}
+use Rattle.snmp_msg.specs.declared.whole.Measured.TheVariants as measures
+use Rattle.snmp_msg.specs.declared.pdu.Pdu.{Pdu}
 use Rattle.snmp_msg.specs.Layout.{Parts, Outer}
 use Rattle.snmp_msg.specs.Security.{Fields, SecText, FieldsFit, fields_of, security_text}
 use Rattle.snmp_msg.specs.Scoped.{Contexts, HasScoped, HasSealed, contexts_text}
@@ -67,28 +71,37 @@ pub record WholeFits (m : Whole) : Type 0 where
 
 -- msgData can stand in a datagram
 abbrev pub IsShortData : DataParts → Type 0
-IsShortData (sealed octets) = length octets ≤ 65507
-IsShortData (plain engine name p) = (length engine ≤ 65507) × (length name ≤ 65507)
+IsShortData (sealed octets) = length octets ≤ LARGEST
+IsShortData (plain engine name p) = (length engine ≤ LARGEST) × (length name ≤ LARGEST)
 
 -- ---- what the values of the code say
 
 abbrev pub data_parts : Layer → DataParts
 data_parts (layers.Sealed octets) = sealed octets.now
-data_parts (layers.Plain engine name p) = plain engine.now name.now (respelled (pdu_of p))
+data_parts (layers.Plain scoped p) = plain scoped.engine.now scoped.name.now (respelled (pdu_of p))
+
+abbrev pub message_with : Header → Fields → DataParts → Whole
+message_with header security contents = record { header = header; security = security; contents = contents }
 
 abbrev pub whole_of : Layers → Whole
-whole_of m = record {
-  header = m.header;
-  security = fields_of m.security;
-  contents = data_parts m.contents;
-}
+whole_of m = message_with m.header (fields_of m.security) (data_parts m.contents)
 
 -- the list is one of bindings
 abbrev pub IsReadLayer : Layer → Type 0
 IsReadLayer (layers.Sealed octets) = Unit {0}
-IsReadLayer (layers.Plain engine name p) = after_variables p.list.now ≡ []
+IsReadLayer (layers.Plain scoped p) = after_variables p.list.now ≡ []
 
--- how many octets the canonical spelling of the list has
-abbrev pub IsListSize : Layer → ℕ → Type 0
-IsListSize (layers.Sealed octets) size = Unit {0}
-IsListSize (layers.Plain engine name p) size = size ≡ length (variables_text (variables_of p.list.now))
+-- what is to be written, and that it was measured: it can stand in a datagram, and the size is that of the bindings' canonical spelling
+abbrev pub measured_parts : Measured → DataParts
+measured_parts (measures.Sealed octets) = sealed octets.now
+measured_parts (measures.Plain scoped p size) = plain scoped.engine.now scoped.name.now (respelled (pdu_of p))
+
+-- the list of the PDU is one of bindings, whose canonical spelling has so many octets
+pub record IsListSize (p : Pdu) (size : ℕ) : Type 0 where
+  pub list : after_variables p.list.now ≡ []
+  pub is : size ≡ length (variables_text (variables_of p.list.now))
+  pub within : size ≤ LARGEST
+
+abbrev pub IsMeasured : Measured → Type 0
+IsMeasured (measures.Sealed octets) = length octets.now ≤ LARGEST
+IsMeasured (measures.Plain scoped p size) = (length scoped.engine.now ≤ LARGEST) × (length scoped.name.now ≤ LARGEST) × IsListSize p size

@@ -1,5 +1,6 @@
 -- Why octets are refused: for each call the faults that it answers, each with its cause.
 use Rattle.std.specs.Prelude.{◌<◌, ◌≤◌, ◌⊎◌, ℕ, List, length, Option, Some, None}
+use Rattle.snmp_msg.specs.declared.message.TheConstants.{LARGEST}
 use Rattle.snmp_msg.specs.declared.fault.MsgFault.{MsgFault}
 use Rattle.snmp_msg.specs.declared.fault.MsgFault.TheVariants as faults
 use Rattle.snmp_msg.specs.declared.fault.WriteFault.{WriteFault}
@@ -75,8 +76,8 @@ RefusesWhole w (faults.NotPdu at) = (m : Parts) × (f : Fields) × (s : Contexts
 -- The fault is why there is no canonical spelling: want of memory comes only where there is one that fits a datagram.
 abbrev pub RefusesCanonical : List ℕ → CanonFault → Type 0
 RefusesCanonical w (canons.Msg fault) = RefusesWhole w fault
-RefusesCanonical w canons.TooLarge = (c : List ℕ) × IsCanonical w c × (65507 < length c)
-RefusesCanonical w canons.OutOfMemory = (c : List ℕ) × IsCanonical w c × (length c ≤ 65507)
+RefusesCanonical w canons.TooLarge = (c : List ℕ) × IsCanonical w c × (LARGEST < length c)
+RefusesCanonical w canons.OutOfMemory = (c : List ℕ) × IsCanonical w c × (length c ≤ LARGEST)
 
 -- ---- faults of one call as those of another
 

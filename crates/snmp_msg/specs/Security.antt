@@ -1,5 +1,6 @@
 -- The layout of msgSecurityParameters (RFC 3414, section 2.4).
 use Rattle.std.specs.Prelude.{◌≡◌, ℕ, ◌+◌, ◌-◌, ◌≤◌, nat_lt, if◌then◌else◌, List, ◌++◌, length, Option, Some, None}
+use Rattle.snmp_msg.specs.declared.message.TheConstants.{LARGEST}
 use Rattle.snmp_ber.specs.Element.{IsHead, IsElement}
 use Rattle.snmp_ber.specs.Reading.{Front}
 use Rattle.snmp_msg.specs.Steps.{◌>>=◌, when_ended}
@@ -104,9 +105,9 @@ pub record FieldsFit (s : Fields) : Type 0 where
 
 -- fields that can stand in a datagram
 pub record IsShort (s : Fields) : Type 0 where
-  pub engine : length s.engine ≤ 65507
-  pub auth : length s.auth ≤ 65507
-  pub salt : length s.salt ≤ 65507
+  pub engine : length s.engine ≤ LARGEST
+  pub auth : length s.auth ≤ LARGEST
+  pub salt : length s.salt ≤ LARGEST
 
 unfoldable pub fields_text : Fields → List ℕ
 fields_text s = element 4 s.engine ++ (number s.boots ++ (number s.time ++ (element 4 s.user ++ (element 4 s.auth ++ element 4 s.salt))))

@@ -1,6 +1,6 @@
 //! Variable bindings (RFC 3416, section 3).
 
-ghost use Rattle.std.specs.Prelude.{◌≡◌, [], ◌+◌, ◌<◌, ◌≤◌, ◌++◌, All, length, map, slice_range, option_map, IfOk, IfSome, IfNone, OnOk, OnErr};
+ghost use Rattle.std.specs.Prelude.{◌≡◌, [], ◌+◌, ◌*◌, ◌<◌, ◌≤◌, ◌++◌, All, length, map, slice_range, option_map, IfOk, IfSome, IfNone, OnOk, OnErr};
 ghost use Rattle.std.specs.Result.{result_ok};
 ghost use Rattle.std.specs.Iterator.{YieldsFirstBy, item_count};
 ghost use Rattle.snmp_ber.specs.Oid.{AreArcs};
@@ -99,7 +99,7 @@ fn binding_content_len(binding: &Binding<'_>) -> usize
     requires fits { CanBeWritten (variable_of binding.now) }
     requires short { length binding.now.content.now ≤ LARGEST }
     ensures size { result ≡ length (variable_content (variable_of binding.now)) }
-    ensures most { result ≤ 70000 }
+    ensures most { result ≤ 2 * LARGEST }
 {
     oid_len(&binding.name) + element_len(binding.content.len())
 }

@@ -2,6 +2,7 @@
 
 ghost use Rattle.std.specs.Prelude.{◌≡◌, ◌+◌, ◌-◌, ◌≤◌, ◌⊎◌, ℕ, List, ◌++◌, take, drop, length, slice_range};
 ghost use Rattle.snmp_ber.specs.Spelling.{head_size};
+ghost use Rattle.snmp_msg.specs.declared.message.TheConstants.{LARGEST};
 ghost use Rattle.snmp_msg.specs.declared.header.Header.{Header};
 ghost use Rattle.snmp_msg.specs.Layout.{Parts, Outer, WrongVersion};
 ghost use Rattle.snmp_msg.specs.Security.{Fields, FieldsFit, SecText, IsCut, security_text, placed, with_auth};
@@ -44,26 +45,26 @@ pub fn one_whole()
 /// What is written is read again: each value that fits has the layout that it is written in.
 pub fn written_again()
     ensures message { (h : Header) (security : List ℕ) (tag : ℕ) (content : List ℕ) → HeaderFits h → (tag ≡ 48) ⊎ (tag ≡ 4)
-        → length (message_text h security tag content) ≤ 65507 → Outer (message_text h security tag content) (written h security tag content) }
-    ensures security { (at : ℕ) (s : Fields) → FieldsFit s → length (security_text s) ≤ 65507 → SecText at (security_text s) (placed at s) }
-    ensures scoped { (engine name pdu : List ℕ) → IsOneElement pdu → length (scoped_text engine name pdu) ≤ 65507
+        → length (message_text h security tag content) ≤ LARGEST → Outer (message_text h security tag content) (written h security tag content) }
+    ensures security { (at : ℕ) (s : Fields) → FieldsFit s → length (security_text s) ≤ LARGEST → SecText at (security_text s) (placed at s) }
+    ensures scoped { (engine name pdu : List ℕ) → IsOneElement pdu → length (scoped_text engine name pdu) ≤ LARGEST
         → ScopedText 0 (scoped_text engine name pdu) (contexts_placed (head_size (length (contexts_text engine name pdu))) engine name pdu) }
-    ensures pdu { (p : PduParts) → PduFits p → length (pdu_text p) ≤ 65507 → PduText (pdu_text p) p }
-    ensures list { (vs : List Variable) → AllFit vs → length (variables_text vs) ≤ 65507 → AreBindings vs (variables_text vs) }
+    ensures pdu { (p : PduParts) → PduFits p → length (pdu_text p) ≤ LARGEST → PduText (pdu_text p) p }
+    ensures list { (vs : List Variable) → AllFit vs → length (variables_text vs) ≤ LARGEST → AreBindings vs (variables_text vs) }
 {}
 
 /// A message has one canonical spelling, which is its own: spelling it again changes nothing.
 pub fn canonical_again()
     ensures one { (w a b : List ℕ) → IsCanonical w a → IsCanonical w b → a ≡ b }
-    ensures again { (w c : List ℕ) → IsCanonical w c → length c ≤ 65507 → IsCanonical c c }
-    ensures fixed { (w c d : List ℕ) → IsCanonical w c → length c ≤ 65507 → IsCanonical c d → d ≡ c }
+    ensures again { (w c : List ℕ) → IsCanonical w c → length c ≤ LARGEST → IsCanonical c c }
+    ensures fixed { (w c d : List ℕ) → IsCanonical w c → length c ≤ LARGEST → IsCanonical c d → d ≡ c }
 {}
 
 /// Where the field of msgAuthenticationParameters of a message that was written is filled with as many octets, what comes
 /// out is that message written with these octets.
 pub fn field_filled()
     ensures filled { (h : Header) (s t : Fields) (tag : ℕ) (content auth front back : List ℕ) (m : Parts) → HeaderFits h → FieldsFit s → (tag ≡ 48) ⊎ (tag ≡ 4)
-        → length (message_text h (security_text s) tag content) ≤ 65507 → length auth ≡ length s.auth
+        → length (message_text h (security_text s) tag content) ≤ LARGEST → length auth ≡ length s.auth
         → IsCut (message_text h (security_text s) tag content) m t front back
         → (t.auth ≡ s.auth) × (message_text h (security_text (with_auth auth s)) tag content ≡ front ++ (auth ++ back)) }
     ensures size { (h : Header) (s : Fields) (tag : ℕ) (content auth : List ℕ) → length auth ≡ length s.auth

@@ -30,7 +30,7 @@ pub use pieces::cut;
 pub use refusal::Refusal;
 pub use scoped::{Scoped, read_scoped, read_scoped_front, write_scoped};
 pub use security::{Cut, Security, read_security, write_security};
-pub use whole::canonical;
+pub use whole::{Layer, Layers, canonical, read_layers, write_layers};
 
 #[cfg(test)]
 mod tests;

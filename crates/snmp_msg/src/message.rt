@@ -1,6 +1,6 @@
 //! The outer layout of an SNMPv3Message (RFC 3412, section 6).
 
-ghost use Rattle.std.specs.Prelude.{◌≡◌, ◌+◌, ◌<◌, ◌≤◌, ◌++◌, length, slice_range, option_map, IfOk, OnOk, OnErr, IsErrOf, MatchResult};
+ghost use Rattle.std.specs.Prelude.{◌≡◌, ◌+◌, ◌*◌, ◌<◌, ◌≤◌, ◌++◌, length, slice_range, option_map, IfOk, OnOk, OnErr, IsErrOf, MatchResult};
 ghost use Rattle.std.specs.Result.{result_ok};
 ghost use Rattle.snmp_ber.specs.Element.{IsTag};
 ghost use Rattle.snmp_ber.specs.Spelling.{head_of, head_size, element};
@@ -136,10 +136,10 @@ pub fn read_message(datagram: &[u8]) -> Result<Message<'_>, MsgFault>
 /// How many octets the content of a message has.
 fn content_len(header: &Header, security_len: usize, data_len: usize) -> usize
     requires header { HeaderFits header.now }
-    requires security { security_len ≤ 400000 }
-    requires within { data_len ≤ 400000 }
+    requires security { security_len ≤ LARGEST }
+    requires within { data_len ≤ LARGEST }
     ensures size { result ≡ content_size header.now security_len data_len }
-    ensures most { result ≤ 800064 }
+    ensures most { result ≤ 3 * LARGEST }
 {
     let version_len = 3;
     version_len
@@ -151,10 +151,10 @@ fn content_len(header: &Header, security_len: usize, data_len: usize) -> usize
 /// How many octets a message has.
 pub(crate) fn message_len(header: &Header, security_len: usize, data_len: usize) -> usize
     requires header { HeaderFits header.now }
-    requires security { security_len ≤ 400000 }
-    requires within { data_len ≤ 400000 }
+    requires security { security_len ≤ LARGEST }
+    requires within { data_len ≤ LARGEST }
     ensures size { let size = content_size header.now security_len data_len in result ≡ head_size size + size }
-    ensures most { result ≤ 800070 }
+    ensures most { result ≤ 4 * LARGEST }
 {
     element_len(content_len(header, security_len, data_len))
 }
@@ -168,8 +168,8 @@ pub(crate) fn put_front(
     data_len: usize,
 ) -> Result<(), AllocError>
     requires header { HeaderFits header.now }
-    requires security { security_len ≤ 400000 }
-    requires within { data_len ≤ 400000 }
+    requires security { security_len ≤ LARGEST }
+    requires within { data_len ≤ LARGEST }
     ensures ok { OnOk result (out.new.items ≡ out.old.items ++ front_text header.now (content_size header.now security_len data_len) security_len) }
 {
     put_head(out, SEQUENCE, content_len(header, security_len, data_len))?;

@@ -1,6 +1,6 @@
 //! PDUs (RFC 3416, section 3).
 
-ghost use Rattle.std.specs.Prelude.{◌≡◌, List, ◌+◌, ◌<◌, ◌≤◌, ◌++◌, length, slice_range, option_map, IfOk, OnOk, OnErr, IsErrOf, MatchResult, IsTrue, ◌↔◌, All, map};
+ghost use Rattle.std.specs.Prelude.{◌≡◌, List, ◌+◌, ◌*◌, ◌<◌, ◌≤◌, ◌++◌, length, slice_range, option_map, IfOk, OnOk, OnErr, IsErrOf, MatchResult, IsTrue, ◌↔◌, All, map};
 ghost use Rattle.std.specs.Result.{result_ok};
 ghost use Rattle.snmp_ber.specs.Spelling.{head_size};
 ghost use Rattle.snmp_msg.specs.Pdu.{IsPduTag, AreInRange, PduParts, PduText, PduFits, pdu_in, pdu_content_in, pdu_of, pdu_with, with_variables, pdu_content_size, pdu_front_text, pdu_text};
@@ -111,7 +111,7 @@ pub fn read_pdu(bytes: &[u8], at: usize, end: usize) -> Result<Pdu<'_>, MsgFault
 fn pdu_content_len(pdu: &Pdu<'_>, list_len: usize) -> usize
     requires { list_len ≤ LARGEST }
     ensures size { result ≡ pdu_content_size (pdu_of pdu.now) list_len }
-    ensures most { result ≤ 70000 }
+    ensures most { result ≤ 2 * LARGEST }
 {
     integer_len(pdu.id) + integer_len(pdu.second) + integer_len(pdu.third) + element_len(list_len)
 }
@@ -120,7 +120,7 @@ fn pdu_content_len(pdu: &Pdu<'_>, list_len: usize) -> usize
 pub(crate) fn pdu_len(pdu: &Pdu<'_>, list_len: usize) -> usize
     requires { list_len ≤ LARGEST }
     ensures size { let size = pdu_content_size (pdu_of pdu.now) list_len in result ≡ head_size size + size }
-    ensures most { result ≤ 70006 }
+    ensures most { result ≤ 3 * LARGEST }
 {
     element_len(pdu_content_len(pdu, list_len))
 }

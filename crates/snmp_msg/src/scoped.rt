@@ -1,6 +1,6 @@
 //! ScopedPDU (RFC 3412, section 6.8).
 
-ghost use Rattle.std.specs.Prelude.{◌≡◌, ℕ, List, ◌+◌, ◌<◌, ◌≤◌, ◌++◌, length, slice_range, option_map, IfOk, IfSome, IfNone, IfErr, OnOk, OnErr, IsErrOf, MatchOption, MatchResult};
+ghost use Rattle.std.specs.Prelude.{◌≡◌, ℕ, List, ◌+◌, ◌*◌, ◌<◌, ◌≤◌, ◌++◌, length, slice_range, option_map, IfOk, IfSome, IfNone, IfErr, OnOk, OnErr, IsErrOf, MatchOption, MatchResult};
 ghost use Rattle.std.specs.Result.{result_ok};
 ghost use Rattle.snmp_ber.specs.Element.{IsElement};
 ghost use Rattle.snmp_ber.specs.Spelling.{element, head_size};
@@ -115,9 +115,9 @@ pub fn read_scoped_front(plaintext: &[u8]) -> Result<Scoped<'_>, MsgFault>
 pub(crate) fn contexts_len(engine: &[u8], name: &[u8], pdu_len: usize) -> usize
     requires engine { length engine.now ≤ LARGEST }
     requires name { length name.now ≤ LARGEST }
-    requires pdu { pdu_len ≤ 100000 }
+    requires pdu { pdu_len ≤ 3 * LARGEST }
     ensures size { result ≡ contexts_size (length engine.now) (length name.now) pdu_len }
-    ensures most { result ≤ 240000 }
+    ensures most { result ≤ 6 * LARGEST }
 {
     element_len(engine.len()) + element_len(name.len()) + pdu_len
 }

@@ -1,6 +1,6 @@
 //! msgSecurityParameters of the user-based security model (RFC 3414, section 2.4).
 
-ghost use Rattle.std.specs.Prelude.{◌≡◌, ℕ, pos, ◌+◌, ◌<◌, ◌≤◌, ◌++◌, length, slice_range, take, drop, option_map, IfOk, OnOk, OnErr, IsErrOf, MatchResult, IsTrue, ◌↔◌};
+ghost use Rattle.std.specs.Prelude.{◌≡◌, ℕ, pos, ◌+◌, ◌*◌, ◌<◌, ◌≤◌, ◌++◌, length, slice_range, take, drop, option_map, IfOk, OnOk, OnErr, IsErrOf, MatchResult, IsTrue, ◌↔◌};
 ghost use Rattle.std.specs.Result.{result_ok};
 ghost use Rattle.snmp_ber.specs.Spelling.{element, head_size, integer};
 ghost use Rattle.snmp_msg.specs.Layout.{Parts, Outer};
@@ -131,7 +131,7 @@ fn fields_len(security: &Security<'_>) -> usize
     requires fits { FieldsFit (fields_of security.now) }
     requires short { IsShort (fields_of security.now) }
     ensures size { result ≡ length (fields_text (fields_of security.now)) }
-    ensures most { result ≤ 300000 }
+    ensures most { result ≤ 4 * LARGEST }
 {
     element_len(security.engine.len())
         + integer_len(security.boots as i32)
@@ -162,7 +162,7 @@ pub(crate) fn security_len(security: &Security<'_>) -> usize
     requires fits { FieldsFit (fields_of security.now) }
     requires short { IsShort (fields_of security.now) }
     ensures size { result ≡ length (security_text (fields_of security.now)) }
-    ensures most { result ≤ 300006 }
+    ensures most { result ≤ 5 * LARGEST }
 {
     element_len(fields_len(security))
 }

@@ -2,9 +2,10 @@
 
 ghost use Rattle.std.specs.Prelude.{◌≡◌, None};
 ghost use Rattle.snmp_msg.specs.declared.refusal.Refusal.TheVariants.{OutOfMemory};
-ghost use Rattle.snmpsec.specs.Refusals.{canon_refused, msg_refused, plain_refused};
+ghost use Rattle.snmp_msg.specs.Refusals.{write_refusal};
+ghost use Rattle.snmpsec.specs.Refusals.{msg_refused, plain_refused};
 
-use snmp_msg::{CanonFault, MsgFault, Refusal};
+use snmp_msg::{MsgFault, Refusal, WriteFault};
 use std::alloc::AllocError;
 use std::error::Error;
 use std::fmt;
@@ -54,14 +55,11 @@ impl From<MsgFault> for Refused {
     }
 }
 
-impl From<CanonFault> for Refused {
-    ghost from_gives = { λ fault e. e ≡ canon_refused fault };
+impl From<WriteFault> for Refused {
+    ghost from_gives = { λ fault e. e ≡ plain_refused (write_refusal fault) };
 
-    fn from(fault: CanonFault) -> Refused {
-        Refused {
-            refusal: fault.refusal(),
-            at: fault.at(),
-        }
+    fn from(fault: WriteFault) -> Refused {
+        Refused::plain(fault.refusal())
     }
 }
 

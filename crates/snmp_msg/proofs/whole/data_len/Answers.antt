@@ -7,11 +7,11 @@ use Rattle.snmp_msg.proofs.whole.data_len.Goals as goal
 
 pub returns-in-Plain-clause-size : goal.returns-in-Plain-clause-size
 returns-in-Plain-clause-size c =
-    let engine = c.in-Plain.engine.now in
-    let name = c.in-Plain.name.now in
+    let engine = c.in-Plain.scoped.engine.now in
+    let name = c.in-Plain.scoped.name.now in
     let p = respelled (pdu_of c.in-Plain.pdu) in
-    let list_size = rw c.in-Plain.is at c.requires.list in
-    let pdu_size = measured_pdu p c.args.list_len c.pdu_len.result list_size c.pdu_len.ensures.size in
+    let measured = rw c.in-Plain.is at c.requires in
+    let pdu_size = measured_pdu p c.in-Plain.list_len c.pdu_len.result measured.2.is c.pdu_len.ensures.size in
     let size : c.contexts_len.result ≡ contexts_size (length engine) (length name) c.pdu_len.result = c.contexts_len.ensures.size in
     let all = size ∙ ap (λ (n : ℕ). contexts_size (length engine) (length name) n) (sym pdu_size) ∙ sym (contexts_text-length engine name (pdu_text p)) in
     rw c.in-Plain.is all

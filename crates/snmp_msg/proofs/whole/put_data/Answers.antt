@@ -8,8 +8,8 @@ use Rattle.snmp_msg.proofs.whole.put_data.Goals as goal
 
 pub returns-in_ok-put_pdu-in-Plain : goal.returns-in_ok-put_pdu-in-Plain
 returns-in_ok-put_pdu-in-Plain c =
-    let engine = c.in-Plain.engine.now in
-    let name = c.in-Plain.name.now in
+    let engine = c.in-Plain.scoped.engine.now in
+    let name = c.in-Plain.scoped.name.now in
     let pdu = pdu_text (respelled (pdu_of c.in-Plain.pdu)) in
     let content = contexts_text engine name pdu in
     let size : c.data_len-size.result ≡ length content = rw c.in-Plain.is at c.data_len-size.ensures.size in

@@ -1,18 +1,29 @@
-use Rattle.std.proofs.Common.{◌≡◌, ℕ, List, [], ◌++◌, length, ap, sym, ◌∙◌, rules}
+use Rattle.std.proofs.Common.{arith, ◌≡◌, ℕ, List, [], ◌++◌, length, ap, sym, ◌∙◌, rules}
 use Rattle.snmp_ber.specs.Spelling.{element}
 use Rattle.snmp_msg.specs.Security.{fields_of, security_text}
 use Rattle.snmp_msg.specs.Spelling.{front_text, content_size}
-use Rattle.snmp_msg.specs.Canonical.{data_parts, data_tag_of, data_content_of, whole_text}
+use Rattle.snmp_msg.specs.Canonical.{message_with, measured_parts, data_tag_of, data_content_of, whole_text}
 use Rattle.snmp_msg.proofs.Appends.{three_appended}
 use Rattle.snmp_msg.proofs.Writes.{message_text-front}
+use Rattle.snmp_msg.proofs.Canonicals.{whole_text-longer}
 use Rattle.snmp_msg.proofs.whole.spell_layers.Goals as goal
+
+pub put_front-requires-clause-security : goal.put_front-requires-clause-security
+put_front-requires-clause-security c =
+    let longer = whole_text-longer (message_with c.args.header.now (fields_of c.args.security.now) (measured_parts c.args.contents.now)) in
+    omega (arith, longer.0, c.security_len-security_len.ensures.size, c.requires.within)
+
+pub put_front-requires-clause-within : goal.put_front-requires-clause-within
+put_front-requires-clause-within c =
+    let longer = whole_text-longer (message_with c.args.header.now (fields_of c.args.security.now) (measured_parts c.args.contents.now)) in
+    omega (arith, longer.1, c.data_len-data_len.ensures.size, c.requires.within)
 
 pub returns : goal.returns
 unfolding whole_text
 returns c =
-    let h = c.args.layers.now.header in
-    let security = security_text (fields_of c.args.layers.now.security) in
-    let d = data_parts c.args.layers.now.contents in
+    let h = c.args.header.now in
+    let security = security_text (fields_of c.args.security.now) in
+    let d = measured_parts c.args.contents.now in
     let content = data_content_of d in
     let security_is : c.security_len-security_len.result ≡ length security = c.security_len-security_len.ensures.size in
     let data_is : c.data_len-data_len.result ≡ length content = c.data_len-data_len.ensures.size in
