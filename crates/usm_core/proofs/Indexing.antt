@@ -13,10 +13,9 @@ use Rattle.lru.proofs.Pairs.{slice_get-cut}
 use Rattle.usm_core.specs.User.{User}
 use Rattle.usm_core.specs.declared.load.UserRow.{UserRow}
 use Rattle.usm_core.specs.declared.load.UserFault.{UserFault}
-use Rattle.usm_core.specs.declared.load.UserFault.TheVariants.{DuplicateUser, ShortPassword, BadUser}
 use Rattle.usm_core.specs.Index.{IsIndex}
 use Rattle.usm_core.specs.Users.{user_named}
-use Rattle.usm_core.specs.Rows.{is_bad_user, has_short_password, has_name, row_fault, fault_at, AreSound, user_of}
+use Rattle.usm_core.specs.Rows.{has_name, row_fault, fault_at, AreSound, user_of}
 
 -- a clone's entries are the same
 pub same_entries : (es fs : List (List ℕ × ℕ)) → AllZip (λ p q. (q.0 ≡ p.0) × (q.1 ≡ p.1)) es fs → fs ≡ es
@@ -106,7 +105,7 @@ any_by : (b : Bool) (u : User) (o : Option User) (more : Bool) → is_some o ≡
 any_by true u o more e = refl
 any_by false u o more e = e
 
-named_any : (rows : List UserRow) (name : List ℕ) → is_some (user_named (map user_of rows) name) ≡ list_any (has_name name) rows
+pub named_any : (rows : List UserRow) (name : List ℕ) → is_some (user_named (map user_of rows) name) ≡ list_any (has_name name) rows
 unfolding user_named
 named_any [] name = refl
 named_any (row ∷ rows) name = any_by (pointwise nat_eq row.name.items name) (user_of row) _ _ (named_any rows name)
@@ -122,37 +121,9 @@ is_twice rows entries name index = by (lookup (pointwise nat_eq name) entries) r
         let some : Some h.0 ≡ user_named (map user_of rows) name = sym h.1 ∙ sym (ap (option_and_then (slice_get (map user_of rows))) e) ∙ index.finds name in
         ap is_some some ∙ named_any rows name
 
-module _ (rows : List UserRow) (i : ℕ) (row : UserRow) (at : slice_get rows i ≡ Some row) where
-  fault_is : (fault : Option UserFault) → row_fault (take i rows) i row ≡ fault → fault_at rows i ≡ fault
-  fault_is fault e = ap (option_and_then (row_fault (take i rows) i)) at ∙ e
-
-  bad_there_by : is_bad_user row ≡ true → row_fault (take i rows) i row ≡ Some (BadUser i)
-  unfolding row_fault
-  bad_there_by bad = rw bad refl
-
-  pub bad_there : is_bad_user row ≡ true → fault_at rows i ≡ Some (BadUser i)
-  bad_there bad = fault_is (Some (BadUser i)) (bad_there_by bad)
-
-  short_there_by : is_bad_user row ≡ false → has_short_password row ≡ true → row_fault (take i rows) i row ≡ Some (ShortPassword i)
-  unfolding row_fault
-  short_there_by good short = rw (good, short) refl
-
-  pub short_there : is_bad_user row ≡ false → has_short_password row ≡ true → fault_at rows i ≡ Some (ShortPassword i)
-  short_there good short = fault_is (Some (ShortPassword i)) (short_there_by good short)
-
-  twice_there_by : is_bad_user row ≡ false → has_short_password row ≡ false → list_any (has_name row.name.items) (take i rows) ≡ true → row_fault (take i rows) i row ≡ Some (DuplicateUser i)
-  unfolding row_fault
-  twice_there_by good long twice = rw (good, long, twice) refl
-
-  pub twice_there : is_bad_user row ≡ false → has_short_password row ≡ false → list_any (has_name row.name.items) (take i rows) ≡ true → fault_at rows i ≡ Some (DuplicateUser i)
-  twice_there good long twice = fault_is (Some (DuplicateUser i)) (twice_there_by good long twice)
-
-  none_there_by : is_bad_user row ≡ false → has_short_password row ≡ false → list_any (has_name row.name.items) (take i rows) ≡ false → row_fault (take i rows) i row ≡ None
-  unfolding row_fault
-  none_there_by good long fresh = rw (good, long, fresh) refl
-
-  pub none_there : is_bad_user row ≡ false → has_short_password row ≡ false → list_any (has_name row.name.items) (take i rows) ≡ false → fault_at rows i ≡ None
-  none_there good long fresh = fault_is None (none_there_by good long fresh)
+-- what is wrong with the row that stands at a place
+pub fault_is : (rows : List UserRow) (i : ℕ) (row : UserRow) (fault : Option UserFault) → slice_get rows i ≡ Some row → fault ≡ row_fault (take i rows) i row → fault_at rows i ≡ fault
+fault_is rows i row fault at is = ap (option_and_then (row_fault (take i rows) i)) at ∙ sym is
 
 pub none_below : (rows : List UserRow) (i : ℕ) → ((k : ℕ) → k < i → fault_at rows k ≡ None) → fault_at rows i ≡ None → (k : ℕ) → k < i + 1 → fault_at rows k ≡ None
 none_below rows i before here k h = elim (cases_lt k i) [

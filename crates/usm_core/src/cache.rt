@@ -11,7 +11,7 @@ use lru::LruCache;
 use std::alloc::{AllocError, Global};
 use std::marker::Model;
 use std::num::NonZeroUsize;
-use usm_keys::Key;
+use usm_keys::KeptKey;
 
 /// The most localised keys that are kept.
 const MOST_KEYS: usize = 64;
@@ -47,7 +47,7 @@ impl KeyId {
 /// At most 64 localised keys, in the order of their last use, the last used first.
 #[derive(Drop)]
 pub(crate) struct KeyCache {
-    keys: LruCache<KeyId, Key>,
+    keys: LruCache<KeyId, KeptKey>,
 }
 
 impl Model for KeyCache {
@@ -84,7 +84,7 @@ impl KeyCache {
     }
 
     /// The key that is kept under this. The order stays as it is, and no memory is taken.
-    pub(crate) fn find(&self, name: &[u8], engine: &[u8], purpose: Purpose) -> Option<&Key>
+    pub(crate) fn find(&self, name: &[u8], engine: &[u8], purpose: Purpose) -> Option<&KeptKey>
         ensures { (users : List User) → AreCached users self.now → IfSome (option_copied result) (IsCachedAt users (key_id name.now engine.now purpose)) }
     {
         self.keys.peek(&KeyId::of(name, engine, purpose)?)
@@ -97,7 +97,7 @@ impl KeyCache {
         name: &[u8],
         engine: &[u8],
         purpose: Purpose,
-        made: Option<Key>,
+        made: Option<KeptKey>,
     )
         ensures { (users : List User) → AreCached users self.old → IfSome made (IsCachedAt users (key_id name.now engine.now purpose)) → AreCached users self.new }
     {

@@ -15,7 +15,7 @@ use crate::cache::{KeyCache, Purpose};
 use crate::spell::Outgoing;
 use crate::user::User;
 use snmp_msg::{Data, Message, Security, cut, field_filled, one_cut, read_message, read_security};
-use usm_keys::{Key, localise, mac};
+use usm_keys::{KeptKey, Key, localise};
 
 /// Whether the octets are the same. It looks at each of them wherever they differ, so that the time tells nothing of the place.
 fn are_same(a: &[u8], b: &[u8]) -> bool
@@ -35,7 +35,7 @@ fn are_same(a: &[u8], b: &[u8]) -> bool
 /// No octet of the datagram is copied.
 fn is_mac(
     key: &Key,
-    local: &Key,
+    local: &KeptKey,
     datagram: &[u8],
     message: &Message<'_>,
     security: &Security<'_>,
@@ -52,7 +52,7 @@ fn is_mac(
         return false;
     }
     let pieces = cut(datagram, security);
-    let code = mac(local, pieces.front, size, pieces.back);
+    let code = local.mac(pieces.front, size, pieces.back);
     are_same(code.as_slice(), security.auth)
 }
 
@@ -63,7 +63,7 @@ pub(crate) fn is_digest_right(
     datagram: &[u8],
     message: &Message<'_>,
     security: &Security<'_>,
-    made: &mut Option<Key>,
+    made: &mut Option<KeptKey>,
 ) -> bool
     requires cut { IsCut datagram.now (parts message.now) (fields_of security.now)
         (take security.now.auth_at datagram.now) (drop (security.now.auth_at + length security.now.auth.now) datagram.now) }
@@ -82,7 +82,7 @@ pub(crate) fn is_digest_right(
     if let Some(local) = cache.find(security.user, security.engine, Purpose::Authentication) {
         return is_mac(key, local, datagram, message, security);
     }
-    let local = localise(key, security.engine);
+    let local = KeptKey::with_pads(localise(key, security.engine));
     let right = is_mac(key, &local, datagram, message, security);
     *made = Some(local);
     right
@@ -103,7 +103,7 @@ pub(crate) fn field_place(text: &[u8]) -> usize
 }
 
 /// Puts the code of the text, with `size` zeros at this place, there, under a localised key.
-fn put_code(text: &mut Vec<u8>, at: usize, size: usize, local: &Key)
+fn put_code(text: &mut Vec<u8>, at: usize, size: usize, local: &KeptKey)
     requires size { size ≡ mac_octets local.now.auth }
     requires most { size ≤ 24 }
     requires within { at + size ≤ vec_len text.old }
@@ -111,7 +111,7 @@ fn put_code(text: &mut Vec<u8>, at: usize, size: usize, local: &Key)
         ++ (mac_by local.now.auth local.now.octets (take at text.old.items ++ replicate size 0 ++ drop (at + size) text.old.items)
         ++ drop (at + size) text.old.items) }
 {
-    let code = mac(local, &text[..at], size, &text[at + size..]);
+    let code = local.mac(&text[..at], size, &text[at + size..]);
     text[at..at + size].copy_from_slice(code.as_slice());
 }
 
@@ -119,7 +119,7 @@ fn put_code(text: &mut Vec<u8>, at: usize, size: usize, local: &Key)
 pub(crate) fn fill(
     text: &mut Vec<u8>,
     key: &Key,
-    local: &Key,
+    local: &KeptKey,
     outgoing: &Outgoing<'_>,
     body: &Data<'_>,
 )

@@ -22,7 +22,7 @@ use crate::user_table::UserTable;
 use snmp_msg::Security;
 use std::alloc::{AllocError, Global};
 use usm_aes::{Schedule, cfb_open, cfb_seal, expand, iv};
-use usm_keys::{Key, localise};
+use usm_keys::{KeptKey, Key, localise};
 
 /// The first 16 octets of the localised key, expanded.
 fn schedule_of(local: &Key) -> Schedule
@@ -49,10 +49,10 @@ pub(crate) fn schedule_under(
     ensures cache { AreCached users.now cache.new }
 {
     let (schedule, made) = match cache.find(name, engine, Purpose::Privacy) {
-        Some(local) => (schedule_of(local), None),
+        Some(local) => (schedule_of(local.key()), None),
         None => {
             let local = localise(key, engine);
-            (schedule_of(&local), Some(local))
+            (schedule_of(&local), Some(KeptKey::of(local)))
         }
     };
     cache.note_use(name, engine, Purpose::Privacy, made);

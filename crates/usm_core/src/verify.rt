@@ -17,7 +17,7 @@ use crate::fault::UsmFault;
 use crate::layout::read_layout;
 use crate::user_table::UserTable;
 use snmp_ber::Level;
-use usm_keys::Key;
+use usm_keys::KeptKey;
 
 /// The engine's own identifier at an agent, and any of 5 to 32 octets at a manager.
 fn allows_engine(role: Role<'_>, engine: &[u8]) -> bool
@@ -56,7 +56,7 @@ pub(crate) fn verify<'a>(
     cache: &KeyCache,
     role: Role<'_>,
     datagram: &'a [u8],
-    made: &mut Option<Key>,
+    made: &mut Option<KeptKey>,
 ) -> Result<Checked<'a>, UsmFault>
     requires cache { AreCached users.now cache.now }
     requires none { made.old ≡ None }
