@@ -9,3 +9,5 @@ pub mod Again
 pub mod Determined
 pub mod Same
 pub mod SealedSizes
+pub mod Indexing
+pub mod Caching

@@ -10,3 +10,5 @@ pub mod Answers
 pub mod Sealed
 pub mod Writing
 pub mod Says
+pub mod Index
+pub mod Cache

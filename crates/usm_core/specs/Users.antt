@@ -6,10 +6,13 @@ use Rattle.snmp_ber.specs.declared.level.Level.{Level}
 use Rattle.snmp_ber.specs.declared.level.Level.TheVariants.{NoAuthNoPriv, AuthNoPriv, AuthPriv}
 use Rattle.usm_keys.specs.AuthKey.{AuthKey}
 use Rattle.usm_core.specs.User.{User}
+use Rattle.usm_core.specs.declared.cache.KeyId.{KeyId}
 
 -- What a contract sees of `Users`.
 pub record Known : Type 0 where
   pub users : List User
+  -- the localised keys that are kept, the last used first
+  pub cache : List (KeyId × AuthKey)
 
 -- the user of this name
 unfoldable pub user_named : List User → List ℕ → Option User

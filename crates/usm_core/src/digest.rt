@@ -1,18 +1,21 @@
 //! The digest of a message (RFC 3414, sections 6.3 and 7.3): whether it is right, and putting it in its place.
 
-ghost use Rattle.std.specs.Prelude.{◌≡◌, ◌+◌, ◌≤◌, ◌↔◌, ◌++◌, vec_len, replicate, take, drop, length, IsTrue, IsSomeAnd, true};
+ghost use Rattle.std.specs.Prelude.{◌≡◌, ◌+◌, ◌≤◌, ◌↔◌, ◌++◌, vec_len, replicate, take, drop, length, IsTrue, IsSomeAnd, IfSome, Some, None, List, true};
 ghost use Rattle.snmp_msg.specs.Message.{parts, tag_of, content_of};
 ghost use Rattle.snmp_msg.specs.Security.{IsCut, fields_of};
-ghost use Rattle.usm_keys.specs.Protocols.{hash_of, mac as mac_by, mac_octets};
-ghost use Rattle.usm_keys.specs.Keys.{kul};
+ghost use Rattle.usm_keys.specs.Protocols.{mac as mac_by, mac_octets};
+ghost use Rattle.usm_core.specs.User.{User as UserOf};
+ghost use Rattle.usm_core.specs.Users.{user_named};
+ghost use Rattle.usm_core.specs.Cache.{AreCached, localised_to};
 ghost use Rattle.usm_core.specs.Authentic.{IsMac};
 ghost use Rattle.usm_core.specs.Sealed.{SendingFits, spelled_with, digest_of};
 ghost use Rattle.usm_core.specs.Writing.{sending_of, IsSecured, FieldAt};
 
+use crate::cache::{KeyCache, Purpose};
 use crate::spell::Outgoing;
 use crate::user::User;
 use snmp_msg::{Data, Message, Security, cut, field_filled, one_cut, read_message, read_security};
-use usm_keys::{Key, localise, mac};
+use usm_keys::{KeptKey, Key, localise};
 
 /// Whether the octets are the same. It looks at each of them wherever they differ, so that the time tells nothing of the place.
 fn are_same(a: &[u8], b: &[u8]) -> bool
@@ -30,7 +33,14 @@ fn are_same(a: &[u8], b: &[u8]) -> bool
 
 /// The field is the code of the datagram, with zeros in the field's place, under the key localised to the message's engine.
 /// No octet of the datagram is copied.
-fn is_mac(key: &Key, datagram: &[u8], message: &Message<'_>, security: &Security<'_>) -> bool
+fn is_mac(
+    key: &Key,
+    local: &KeptKey,
+    datagram: &[u8],
+    message: &Message<'_>,
+    security: &Security<'_>,
+) -> bool
+    requires local { local.now ≡ localised_to security.now.engine.now key.now }
     requires cut { IsCut datagram.now (parts message.now) (fields_of security.now)
         (take security.now.auth_at datagram.now) (drop (security.now.auth_at + length security.now.auth.now) datagram.now) }
     requires within { security.now.auth_at + length security.now.auth.now ≤ length datagram.now }
@@ -42,30 +52,40 @@ fn is_mac(key: &Key, datagram: &[u8], message: &Message<'_>, security: &Security
         return false;
     }
     let pieces = cut(datagram, security);
-    let localised = localise(key, security.engine);
-    let code = mac(&localised, pieces.front, size, pieces.back);
+    let code = local.mac(pieces.front, size, pieces.back);
     are_same(code.as_slice(), security.auth)
 }
 
-/// Where auth is set, the field is the code under the user's key.
+/// Where auth is set, the field is the code under the user's key. The localised key is the kept one, or one that is made.
 pub(crate) fn is_digest_right(
     user: &User,
+    cache: &KeyCache,
     datagram: &[u8],
     message: &Message<'_>,
     security: &Security<'_>,
+    made: &mut Option<KeptKey>,
 ) -> bool
     requires cut { IsCut datagram.now (parts message.now) (fields_of security.now)
         (take security.now.auth_at datagram.now) (drop (security.now.auth_at + length security.now.auth.now) datagram.now) }
     requires within { security.now.auth_at + length security.now.auth.now ≤ length datagram.now }
-    ensures { IsTrue result ↔ (message.now.header.auth ≡ true → IsSomeAnd user.now.auth (λ key. IsMac key datagram.now (parts message.now) (fields_of security.now))) }
+    requires cache { (users : List UserOf) × (user_named users security.now.user.now ≡ Some user.now) × AreCached users cache.now }
+    requires none { made.old ≡ None }
+    ensures right { IsTrue result ↔ (message.now.header.auth ≡ true → IsSomeAnd user.now.auth (λ key. IsMac key datagram.now (parts message.now) (fields_of security.now))) }
+    ensures made { IfSome made.new (λ local. IsSomeAnd user.now.auth (λ key. local ≡ localised_to security.now.engine.now key)) }
 {
     if !message.header.auth {
         return true;
     }
-    match user.auth() {
-        Some(key) => is_mac(key, datagram, message, security),
-        None => false,
+    let Some(key) = user.auth() else {
+        return false;
+    };
+    if let Some(local) = cache.find(security.user, security.engine, Purpose::Authentication) {
+        return is_mac(key, local, datagram, message, security);
     }
+    let local = KeptKey::with_pads(localise(key, security.engine));
+    let right = is_mac(key, &local, datagram, message, security);
+    *made = Some(local);
+    right
 }
 
 /// The place of the content of msgAuthenticationParameters.
@@ -82,22 +102,28 @@ pub(crate) fn field_place(text: &[u8]) -> usize
     security.auth_at
 }
 
-/// Puts the code of the text, with `size` zeros at this place, there.
-fn put_code(text: &mut Vec<u8>, at: usize, size: usize, key: &Key, engine: &[u8])
-    requires size { size ≡ mac_octets key.now.auth }
+/// Puts the code of the text, with `size` zeros at this place, there, under a localised key.
+fn put_code(text: &mut Vec<u8>, at: usize, size: usize, local: &KeptKey)
+    requires size { size ≡ mac_octets local.now.auth }
     requires most { size ≤ 24 }
     requires within { at + size ≤ vec_len text.old }
     ensures { text.new.items ≡ take at text.old.items
-        ++ (mac_by key.now.auth (kul (hash_of key.now.auth) key.now.octets engine.now) (take at text.old.items ++ replicate size 0 ++ drop (at + size) text.old.items)
+        ++ (mac_by local.now.auth local.now.octets (take at text.old.items ++ replicate size 0 ++ drop (at + size) text.old.items)
         ++ drop (at + size) text.old.items) }
 {
-    let localised = localise(key, engine);
-    let code = mac(&localised, &text[..at], size, &text[at + size..]);
+    let code = local.mac(&text[..at], size, &text[at + size..]);
     text[at..at + size].copy_from_slice(code.as_slice());
 }
 
-/// Puts the code in the place of the zeros, in the text itself.
-pub(crate) fn fill(text: &mut Vec<u8>, key: &Key, outgoing: &Outgoing<'_>, body: &Data<'_>)
+/// Puts the code in the place of the zeros, in the text itself, under the key localised to the message's engine.
+pub(crate) fn fill(
+    text: &mut Vec<u8>,
+    key: &Key,
+    local: &KeptKey,
+    outgoing: &Outgoing<'_>,
+    body: &Data<'_>,
+)
+    requires local { local.now ≡ localised_to outgoing.now.engine.now key.now }
     requires fits { SendingFits (sending_of outgoing.now) }
     requires text { text.old.items ≡ spelled_with (sending_of outgoing.now) (tag_of body.now) (content_of body.now) (replicate (mac_octets key.now.auth) 0) }
     requires size { length text.old.items ≤ 65507 }
@@ -108,5 +134,5 @@ pub(crate) fn fill(text: &mut Vec<u8>, key: &Key, outgoing: &Outgoing<'_>, body:
     field_filled();
     let size = key.auth().mac_octets();
     let at = field_place(text);
-    put_code(text, at, size, key, outgoing.engine);
+    put_code(text, at, size, local);
 }

@@ -2,6 +2,7 @@
 //! message that comes in or goes out.
 #![tactic(auto)]
 
+mod cache;
 mod checked;
 mod credentials;
 mod digest;
@@ -13,6 +14,7 @@ mod privacy;
 mod seal;
 mod spell;
 mod user;
+mod user_table;
 mod users;
 mod verify;
 

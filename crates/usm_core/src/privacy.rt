@@ -1,96 +1,132 @@
 //! The privacy of a message (RFC 3826, section 3.1).
 
-ghost use Rattle.std.specs.Prelude.{◌≡◌, ◌≢◌, ℕ, List, length, take, IfOk, IfErr, IsErrOf, ◌⊎◌};
+ghost use Rattle.std.specs.Prelude.{◌≡◌, ◌≢◌, ℕ, List, Some, length, take, IfOk, IfErr, IsErrOf, ◌≤◌, ◌⊎◌};
 ghost use Rattle.snmp_ber.specs.declared.level.Level.TheVariants.{AuthPriv};
 ghost use Rattle.snmp_msg.specs.Message.{tag_of, content_of};
 ghost use Rattle.snmp_msg.specs.Security.{fields_of};
 ghost use Rattle.usm_keys.specs.Keys.{kul};
 ghost use Rattle.usm_keys.specs.Protocols.{hash_of};
-ghost use Rattle.usm_aes.specs.Aes.{schedule};
+ghost use Rattle.usm_aes.specs.Aes.{enciphered, schedule};
 ghost use Rattle.usm_aes.specs.Feedback.{IsSealed, iv_of, opened};
-ghost use Rattle.usm_core.specs.Users.{HasUserAt};
-ghost use Rattle.usm_core.specs.Sealed.{cipher, IsPlaintext};
+ghost use Rattle.usm_core.specs.User.{User as UserOf};
+ghost use Rattle.usm_core.specs.Users.{HasUserAt, user_named};
+ghost use Rattle.usm_core.specs.Cache.{AreCached};
+ghost use Rattle.usm_core.specs.Sealed.{UserKey, IsPlaintext};
 ghost use Rattle.usm_core.specs.declared.fault.UsmFault.TheVariants.{DecryptionError, OutOfMemory};
 
+use crate::cache::{KeyCache, Purpose};
 use crate::checked::Checked;
 use crate::fault::UsmFault;
 use crate::spell::Outgoing;
-use crate::user::{User, user_named};
+use crate::user_table::UserTable;
 use snmp_msg::Security;
 use std::alloc::{AllocError, Global};
 use usm_aes::{Schedule, cfb_open, cfb_seal, expand, iv};
-use usm_keys::{Key, localise};
+use usm_keys::{KeptKey, Key, localise};
 
 /// The first 16 octets of the localised key, expanded.
-fn schedule_of(key: &Key, engine: &[u8]) -> Schedule
-    ensures { result ≡ schedule (take 16 (kul (hash_of key.now.auth) key.now.octets engine.now)) }
+fn schedule_of(local: &Key) -> Schedule
+    requires { 16 ≤ length local.now.octets }
+    ensures { result ≡ schedule (take 16 local.now.octets) }
 {
-    let localised = localise(key, engine);
     let mut octets = [0; 16];
-    octets.copy_from_slice(&localised.as_slice()[..16]);
+    octets.copy_from_slice(&local.as_slice()[..16]);
     expand(&octets)
+}
+
+/// The first 16 octets of the key localised to the engine, expanded, of a user's privacy key. The localised key is the kept
+/// one, which becomes the last used, or one that is made and kept.
+pub(crate) fn schedule_under(
+    users: &UserTable,
+    cache: &mut KeyCache,
+    key: &Key,
+    name: &[u8],
+    engine: &[u8],
+) -> Schedule
+    requires key { (user : UserOf) × (user_named users.now name.now ≡ Some user) × (user.privacy ≡ Some key.now) }
+    requires cache { AreCached users.now cache.old }
+    ensures schedule { result ≡ schedule (take 16 (kul (hash_of key.now.auth) key.now.octets engine.now)) }
+    ensures cache { AreCached users.now cache.new }
+{
+    let (schedule, made) = match cache.find(name, engine, Purpose::Privacy) {
+        Some(local) => (schedule_of(local.key()), None),
+        None => {
+            let local = localise(key, engine);
+            (schedule_of(&local), Some(KeptKey::of(local)))
+        }
+    };
+    cache.note_use(name, engine, Purpose::Privacy, made);
+    schedule
+}
+
+/// The same, of the user of this name.
+fn user_schedule(users: &UserTable, cache: &mut KeyCache, name: &[u8], engine: &[u8]) -> Schedule
+    requires level { HasUserAt users.now name.now AuthPriv }
+    requires cache { AreCached users.now cache.old }
+    ensures schedule { UserKey users.now name.now (λ user. user.privacy) (λ key. result ≡ schedule (take 16 (kul (hash_of key.auth) key.octets engine.now))) }
+    ensures cache { AreCached users.now cache.new }
+{
+    let Some(user) = users.user_named(name) else {
+        unreachable!();
+    };
+    let Some(key) = user.privacy() else {
+        unreachable!();
+    };
+    schedule_under(users, cache, key, name, engine)
 }
 
 /// The ciphertext of the scoped PDU.
 pub(crate) fn seal_octets(
     alloc: Global,
-    key: &Key,
+    schedule: &Schedule,
     outgoing: &Outgoing<'_>,
 ) -> Result<Vec<u8>, AllocError>
-    ensures sealed { IfOk result (λ v. IsSealed (cipher key.now outgoing.now.engine.now) (iv_of outgoing.now.boots outgoing.now.time outgoing.now.salt) outgoing.now.scoped.now v.items) }
-    ensures only { IfOk result (λ v. (octets : List ℕ) → IsSealed (cipher key.now outgoing.now.engine.now) (iv_of outgoing.now.boots outgoing.now.time outgoing.now.salt) outgoing.now.scoped.now octets → octets ≡ v.items) }
+    ensures sealed { IfOk result (λ v. IsSealed (enciphered schedule.now) (iv_of outgoing.now.boots outgoing.now.time outgoing.now.salt) outgoing.now.scoped.now v.items) }
+    ensures only { IfOk result (λ v. (octets : List ℕ) → IsSealed (enciphered schedule.now) (iv_of outgoing.now.boots outgoing.now.time outgoing.now.salt) outgoing.now.scoped.now octets → octets ≡ v.items) }
 {
-    let schedule = schedule_of(key, outgoing.engine);
     let mut text = outgoing.scoped.to_vec(alloc)?;
     let iv = iv(outgoing.boots, outgoing.time, &outgoing.salt);
-    cfb_seal(&schedule, iv, &mut text);
+    cfb_seal(schedule, iv, &mut text);
     Ok(text)
 }
 
 /// The plaintext of sealed octets.
 fn open_octets(
     alloc: Global,
-    key: &Key,
+    schedule: &Schedule,
     security: &Security<'_>,
     salt: &[u8; 8],
     octets: &[u8],
 ) -> Result<Vec<u8>, AllocError>
-    ensures { IfOk result (λ v. v.items ≡ opened (cipher key.now security.now.engine.now) (iv_of security.now.boots security.now.time salt.now) octets.now) }
+    ensures { IfOk result (λ v. v.items ≡ opened (enciphered schedule.now) (iv_of security.now.boots security.now.time salt.now) octets.now) }
 {
-    let schedule = schedule_of(key, security.engine);
     let mut text = octets.to_vec(alloc)?;
-    cfb_open(
-        &schedule,
-        iv(security.boots, security.time, salt),
-        &mut text,
-    );
+    cfb_open(schedule, iv(security.boots, security.time, salt), &mut text);
     Ok(text)
 }
 
 /// The plaintext of a message whose user supports authPriv.
 pub(crate) fn open_for(
     alloc: Global,
-    users: &[User],
+    users: &UserTable,
+    cache: &mut KeyCache,
     checked: &Checked<'_>,
 ) -> Result<Vec<u8>, UsmFault>
     requires level { HasUserAt users.now checked.now.security.user.now AuthPriv }
     requires sealed { tag_of checked.now.message.body ≡ 4 }
+    requires cache { AreCached users.now cache.old }
     ensures opened { IfOk result (λ v. IsPlaintext users.now (fields_of checked.now.security) (content_of checked.now.message.body) v.items) }
     ensures salt { IsErrOf result UsmFault.DecryptionError → length checked.now.security.salt.now ≢ 8 }
     ensures salt_length { IfOk result (λ _. length checked.now.security.salt.now ≡ 8) }
     ensures memory { IsErrOf result UsmFault.OutOfMemory → length checked.now.security.salt.now ≡ 8 }
     ensures fault { IfErr result (λ e. (e ≡ DecryptionError) ⊎ (e ≡ OutOfMemory)) }
+    ensures cache { AreCached users.now cache.new }
 {
     let security = &checked.security;
     let Some(salt) = security.salt.as_array::<8>() else {
         return Err(UsmFault::DecryptionError);
     };
-    let Some(user) = user_named(users, security.user) else {
-        unreachable!();
-    };
-    let Some(key) = user.privacy() else {
-        unreachable!();
-    };
+    let schedule = user_schedule(users, cache, security.user, security.engine);
     let octets = checked.message.body.content();
-    Ok(open_octets(alloc, key, security, salt, octets)?)
+    Ok(open_octets(alloc, &schedule, security, salt, octets)?)
 }

@@ -1,17 +1,18 @@
 //! A user.
 
-ghost use Rattle.std.specs.Prelude.{◌≡◌, ◌≤◌, ◌↔◌, length, IsSome, IfSome};
+ghost use Rattle.std.specs.Prelude.{◌≡◌, ◌≤◌, ◌↔◌, ⊤, length, IsSome, IfSome};
 ghost use Rattle.std.specs.Option.{option_copied};
-ghost use Rattle.usm_core.specs.Users.{supports, user_named as user_of_name};
+ghost use Rattle.usm_core.specs.Users.{supports};
 
 use crate::credentials::Credentials;
 use arrayvec::ArrayVec;
 use snmp_ber::Level;
+use std::alloc::AllocError;
 use std::marker::Model;
 use usm_keys::Key;
 
 /// A name of at most 32 octets.
-#[derive(Drop)]
+#[derive(PartialEq, Eq, Hash, Drop)]
 pub struct UserName {
     octets: ArrayVec<u8, 32>,
 }
@@ -22,6 +23,8 @@ impl Model for UserName {
     ghost Value = { List ℕ };
 
     ghost view = { λ name. name.octets.items };
+
+    ghost inverse = { λ octets. record { octets = record { items = octets } } };
 }
 
 impl UserName {
@@ -49,6 +52,19 @@ impl UserName {
         let mut octets = ArrayVec::new();
         let _ = octets.try_extend_from_slice(self.as_slice());
         UserName { octets }
+    }
+}
+
+/// A clone is equal to its source and takes no memory.
+impl Clone for UserName {
+    ghost is_clone = { λ name other. other ≡ name };
+
+    ghost is_infallible = { λ _. ⊤ };
+
+    fn clone(&self) -> Result<UserName, AllocError> {
+        Ok(UserName {
+            octets: self.octets.clone()?,
+        })
     }
 }
 
@@ -105,17 +121,4 @@ impl User {
             credentials: self.credentials.copy(),
         }
     }
-}
-
-/// The user of this name.
-#[tactic(auto, unfolding(crate::specs::Users::user_named))]
-pub(crate) fn user_named<'a>(users: &'a [User], name: &[u8]) -> Option<&'a User>
-    ensures { option_copied result ≡ user_of_name users.now name.now }
-{
-    for user in users {
-        if user.name.as_slice() == name {
-            return Some(user);
-        }
-    }
-    None
 }

@@ -1,12 +1,13 @@
 //! The users of an engine.
 
-ghost use Rattle.std.specs.Prelude.{◌+◌, ◌<◌, ◌≤◌, false, replicate, ◌≡◌, ◌≢◌, ◌↔◌, ◌⊎◌, ℕ, List, [], map, length, IfOk, IfErr, IfSome, OnOk, IsErrOf};
+ghost use Rattle.std.specs.Prelude.{◌+◌, ◌<◌, ◌≤◌, false, replicate, ◌≡◌, ◌≢◌, ◌↔◌, ◌⊎◌, ℕ, List, [], map, length, IfOk, IfErr, IfSome, OnOk, OnErr, IsErrOf};
 ghost use Rattle.snmp_ber.specs.declared.level.Level.TheVariants.{AuthPriv};
 ghost use Rattle.snmp_msg.specs.Message.{tag_of, content_of};
 ghost use Rattle.snmp_msg.specs.Security.{fields_of};
 ghost use Rattle.snmp_msg.specs.Level.{level_of};
 ghost use Rattle.engine_clock.specs.Pairs.{BootsAndTime};
 ghost use Rattle.usm_core.specs.Users.{AreUsers, HasUserAt};
+ghost use Rattle.usm_core.specs.Cache.{AreCached};
 ghost use Rattle.usm_core.specs.Authentic.{Authentic};
 ghost use Rattle.usm_core.specs.Verified.{Verifies, AllowsEngine, IsReadAs, IsJudged};
 ghost use Rattle.usm_core.specs.Answers.{side_of, checked_answer, verified_of, seal_answer, IsAuthenticatedAs};
@@ -16,14 +17,15 @@ ghost use Rattle.usm_core.specs.Sealed.{sending, Seals, IsSendable, IsSealable, 
 ghost use Rattle.usm_core.specs.Writing.{IsWriteFault};
 ghost use Rattle.usm_core.specs.declared.fault.UsmFault.TheVariants.{UnknownUser, DecryptionError, OutOfMemory};
 
+use crate::cache::{KeyCache, Purpose};
 use crate::checked::{Checked, Role};
 use crate::fault::UsmFault;
 use crate::laws::{sealed_size, some_sealed};
-use crate::load::{UserFault, UserRow, first_fault, users_of};
+use crate::load::{UserFault, UserRow, table_of};
 use crate::privacy::open_for;
 use crate::seal::{seal_for, seal_open};
 use crate::spell::Outgoing;
-use crate::user::{User, user_named};
+use crate::user_table::UserTable;
 use crate::verify::{has_engine, verify};
 use engine_clock::Pair;
 use snmp_ber::Level;
@@ -36,21 +38,24 @@ use std::marker::Model;
 #[derive(Drop)]
 pub struct Users {
     alloc: Global,
-    pub(crate) rows: Vec<User>,
+    pub(crate) table: UserTable,
+    cache: KeyCache,
 }
 
 impl Model for Users {
     ghost use Rattle.usm_core.specs.Users.{Known, AreUsers};
+    ghost use Rattle.usm_core.specs.Cache.{AreCached};
 
     ghost Value = { Known };
 
-    ghost view = { λ a. record { users = a.rows.items } };
+    ghost view = { λ a. record { users = a.table; cache = a.cache } };
 
-    ghost invariant = { λ a. AreUsers a.rows.items };
+    ghost invariant = { λ a. AreUsers a.table × AreCached a.table a.cache };
 }
 
 impl Users {
-    /// The users of these rows, in their order. Each password is hashed once, at length (RFC 3414, section A.2).
+    /// The users of these rows, in their order, with no localised key kept. Each password is hashed once, at length (RFC 3414,
+    /// section A.2).
     ///
     /// The error is what is wrong with the first row at fault, or OutOfMemory where none is: of one row's faults BadUser
     /// comes first, then ShortPassword, then DuplicateUser, which is told of the later row.
@@ -58,27 +63,38 @@ impl Users {
         ensures sound { OnOk result (AreSound rows.now) }
         ensures users { IfOk result (λ made. made.users ≡ map user_of rows.now) }
         ensures told { IfErr result (IsTold rows.now) }
+        ensures cache { IfOk result (λ made. made.cache ≡ []) }
     {
-        if let Some(fault) = first_fault(rows) {
-            return Err(fault);
-        }
-        match users_of(alloc, rows) {
-            Ok(rows) => Ok(Users { alloc, rows }),
+        let table = table_of(alloc, rows)?;
+        match KeyCache::new(alloc) {
+            Ok(cache) => Ok(Users {
+                alloc,
+                table,
+                cache,
+            }),
             Err(_) => Err(UserFault::OutOfMemory),
         }
     }
 
-    /// The same users.
-    pub fn try_clone(&self) -> Result<Users, AllocError>
-        ensures { IfOk result (λ made. made.users ≡ self.now.users) }
+    /// The number of localised keys that are kept for the next message: at most 64. Each is the key of one of the users, for
+    /// authentication or for privacy, localised to an engine.
+    pub fn cached(&self) -> usize
+        ensures count { result ≡ length self.now.cache }
+        ensures most { result ≤ 64 }
+        ensures each { AreCached self.now.users self.now.cache }
     {
-        let mut rows = Vec::with_capacity(self.alloc, self.rows.len())?;
-        for user in &self.rows {
-            rows.push(user.copy())?;
-        }
+        self.cache.len()
+    }
+
+    /// The same users, with no localised key kept.
+    pub fn try_clone(&self) -> Result<Users, AllocError>
+        ensures users { IfOk result (λ made. made.users ≡ self.now.users) }
+        ensures cache { IfOk result (λ made. made.cache ≡ []) }
+    {
         Ok(Users {
             alloc: self.alloc,
-            rows,
+            table: self.table.try_clone(self.alloc)?,
+            cache: KeyCache::new(self.alloc)?,
         })
     }
 
@@ -91,7 +107,7 @@ impl Users {
         // What is true of all users that were loaded.
         ensures users { AreUsers self.now.users }
     {
-        match user_named(&self.rows, user) {
+        match self.table.user_named(user) {
             Some(user) if user.supports(level) => Ok(()),
             Some(_) => Err(UsmFault::UnsupportedLevel),
             None => Err(UsmFault::UnknownUser),
@@ -102,7 +118,8 @@ impl Users {
     ///
     /// The errors are, the first that applies: NotMessage (1) and BadVersion (2), UnknownModel (17), InvalidFlags (18),
     /// NotScoped (4), NotSecurity (3), UnknownEngine (6), UnknownUser (7), UnsupportedLevel (8), WrongDigest (9). Neither
-    /// the time window nor the sealed text is looked at. It takes no memory and copies no octet of the datagram.
+    /// the time window nor the sealed text is looked at. It copies no octet of the datagram. Only keeping the localised key takes
+    /// memory, and where that is refused the answer is the same.
     pub fn open_auth<'a>(
         &mut self,
         role: Role<'_>,
@@ -125,11 +142,24 @@ impl Users {
         // This is what `open_priv` asks.
         ensures private { IfOk result (λ c. c.level ≡ AuthPriv → HasUserAt self.old.users c.security.user.now AuthPriv × (tag_of c.message.body ≡ 4)) }
         ensures users { self.new.users ≡ self.old.users }
+
+        // A refused datagram leaves the keys that are kept, and their order.
+        ensures cache { OnErr result (self.new.cache ≡ self.old.cache) }
     {
         one_message();
         one_cut();
         has_engine(role);
-        verify(&self.rows, role, datagram)
+        let mut made = None;
+        let checked = match verify(&self.table, &self.cache, role, datagram, &mut made) {
+            Ok(checked) => checked,
+            Err(fault) => return Err(fault),
+        };
+        if checked.message.header.auth {
+            let (user, engine) = (checked.security.user, checked.security.engine);
+            self.cache
+                .note_use(user, engine, Purpose::Authentication, made);
+        }
+        Ok(checked)
     }
 
     /// The plaintext of a message at authPriv that `open_auth` gave (RFC 3826, section 3.1.4). Its memory is asked for once.
@@ -145,7 +175,7 @@ impl Users {
         ensures fault { IfErr result (λ e. (e ≡ DecryptionError) ⊎ (e ≡ OutOfMemory)) }
         ensures users { self.new.users ≡ self.old.users }
     {
-        open_for(self.alloc, &self.rows, checked)
+        open_for(self.alloc, &self.table, &mut self.cache, checked)
     }
 
     /// The text of an outgoing message (RFC 3414, section 3.1): every length the shortest, fields that its level doesn't use
@@ -183,7 +213,7 @@ impl Users {
             salt,
             scoped,
         };
-        seal_for(self.alloc, &self.rows, &outgoing)
+        seal_for(self.alloc, &self.table, &mut self.cache, &outgoing)
     }
 
     /// The text of an outgoing message without auth, for which no key is looked up: what `seal` gives at noAuthNoPriv.

@@ -1,19 +1,23 @@
 //! The refusals of a datagram down to its digest.
 
-ghost use Rattle.std.specs.Prelude.{◌≡◌, ◌≤◌, ◌⊎◌, ◌↔◌, ℕ, List, [], length, IsTrue, IfOk};
+ghost use Rattle.std.specs.Prelude.{◌≡◌, ◌≤◌, ◌⊎◌, ◌↔◌, ℕ, List, [], length, IsTrue, IfOk, IfSome, None};
 ghost use Rattle.std.specs.Bool.{OnTrue};
 ghost use Rattle.snmp_ber.specs.declared.level.Level.TheVariants.{NoAuthNoPriv};
 ghost use Rattle.snmp_msg.specs.Level.{level_of};
 ghost use Rattle.usm_core.specs.Authentic.{HasEngineLength};
 ghost use Rattle.usm_core.specs.Verified.{Verifies, AllowsEngine, HasEngine, manager};
 ghost use Rattle.usm_core.specs.Answers.{side_of, checked_answer};
+ghost use Rattle.usm_core.specs.Cache.{AreCached, IsCachedAt, key_id};
+ghost use Rattle.usm_core.specs.declared.cache.Purpose.TheVariants.{Authentication};
 
+use crate::cache::KeyCache;
 use crate::checked::{Checked, Role};
 use crate::digest::is_digest_right;
 use crate::fault::UsmFault;
 use crate::layout::read_layout;
-use crate::user::{User, user_named};
+use crate::user_table::UserTable;
 use snmp_ber::Level;
+use usm_keys::KeptKey;
 
 /// The engine's own identifier at an agent, and any of 5 to 32 octets at a manager.
 fn allows_engine(role: Role<'_>, engine: &[u8]) -> bool
@@ -45,26 +49,32 @@ pub(crate) fn has_engine(role: Role<'_>)
     }
 }
 
-/// The message that the datagram is, where its digest is right or it has none.
+/// The message that the datagram is, where its digest is right or it has none. `made` is the localised key where the cache has
+/// none.
 pub(crate) fn verify<'a>(
-    users: &[User],
+    users: &UserTable,
+    cache: &KeyCache,
     role: Role<'_>,
     datagram: &'a [u8],
+    made: &mut Option<KeptKey>,
 ) -> Result<Checked<'a>, UsmFault>
+    requires cache { AreCached users.now cache.now }
+    requires none { made.old ≡ None }
     ensures rows { Verifies (side_of role.entry) users.now datagram.now (checked_answer result) }
     ensures level { IfOk result (λ c. c.level ≡ level_of c.message.header) }
+    ensures made { IfOk result (λ c. IfSome made.new (IsCachedAt users.now (key_id c.security.user.now c.security.engine.now Authentication))) }
 {
     let layout = read_layout(datagram)?;
     let (message, security, level) = (layout.message, layout.security, layout.level);
     if !allows_engine(role, security.engine) {
         return Err(UsmFault::UnknownEngine);
     }
-    match user_named(users, security.user) {
+    match users.user_named(security.user) {
         Some(user) => {
             if !user.supports(level) {
                 return Err(UsmFault::UnsupportedLevel);
             }
-            if !is_digest_right(user, datagram, &message, &security) {
+            if !is_digest_right(user, cache, datagram, &message, &security, made) {
                 return Err(UsmFault::WrongDigest);
             }
         }

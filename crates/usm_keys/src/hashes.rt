@@ -41,6 +41,10 @@ impl AuthHash for Md5 {
         self.update(piece);
     }
 
+    fn copy(&self) -> Md5 {
+        self.clone().unwrap()
+    }
+
     fn finish(self) -> ArrayVec<u8, 32> {
         octets_of(&self.finalize())
     }
@@ -86,6 +90,10 @@ impl AuthHash for Sha1 {
         self.update(piece);
     }
 
+    fn copy(&self) -> Sha1 {
+        self.clone().unwrap()
+    }
+
     fn finish(self) -> ArrayVec<u8, 32> {
         octets_of(&self.finalize())
     }
@@ -129,6 +137,10 @@ impl AuthHash for Sha256 {
 
     fn feed(&mut self, piece: &[u8]) {
         self.update(piece);
+    }
+
+    fn copy(&self) -> Sha256 {
+        self.clone().unwrap()
     }
 
     fn finish(self) -> ArrayVec<u8, 32> {

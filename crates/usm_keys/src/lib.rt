@@ -7,6 +7,7 @@
 pub use auth::Auth;
 pub use derivation::{MIN_PASSWORD, ShortPassword, localise, password_key};
 pub use hash::AuthHash;
+pub use kept_key::KeptKey;
 pub use key::Key;
 pub use message_mac::mac;
 
@@ -15,7 +16,9 @@ mod cycle;
 mod derivation;
 mod hash;
 mod hashes;
+mod kept_key;
 mod key;
 mod message_mac;
+mod pads;
 #[cfg(test)]
 mod tests;

@@ -15,12 +15,12 @@ returns c =
     let zeros = replicate (length s.auth) 0 in
     let front = take s.auth_at w in
     let back = drop (s.auth_at + length s.auth) w in
-    let local = c.localise-localised.result in
+    let local = c.args.local.now in
     let pieces = c.cut-pieces.ensures in
     let coded : c.mac-code.result.items ≡ mac local.auth local.octets (front ++ zeros ++ back) =
     c.mac-code.ensures.code ∙ ap (λ (f : List ℕ). mac local.auth local.octets (f ++ zeros ++ c.cut-pieces.result.back.now)) pieces.front ∙ ap (λ (b : List ℕ). mac local.auth local.octets (front ++ zeros ++ b)) pieces.back in
     let code : c.as_slice.result.now ≡ mac key.auth (kul (hash_of key.auth) key.octets s.engine) (front ++ zeros ++ back) =
-    c.as_slice.ensures.value ∙ coded ∙ ap (λ (k : AuthKey). mac k.auth k.octets (front ++ zeros ++ back)) c.localise-localised.ensures.key in
+    c.as_slice.ensures.value ∙ coded ∙ ap (λ (k : AuthKey). mac k.auth k.octets (front ++ zeros ++ back)) c.requires.local in
     let size : length s.auth ≡ _ = c.if-size-mac_octets.false ∙ c.mac_octets.ensures.value in (
       λ right. record {
         front = front;

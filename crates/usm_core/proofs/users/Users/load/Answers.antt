@@ -1,10 +1,11 @@
 use Rattle.std.proofs.Common.{sym, subst}
 use Rattle.usm_core.specs.Users.{AreUsers}
-use Rattle.usm_core.proofs.Loaded.{users_of_sound, told}
+use Rattle.usm_core.proofs.Caching.{none_cached}
+use Rattle.usm_core.proofs.Loaded.{users_of_sound}
 use Rattle.usm_core.proofs.users.Users.load.Goals as goal
 
 pub invariant_of-result : goal.invariant_of-result
-invariant_of-result c = subst AreUsers (sym c.in-Ok.ensures) (users_of_sound c.args.rows.now c.in_default.ensures)
-
-pub returns-in-Some-clause-told : goal.returns-in-Some-clause-told
-returns-in-Some-clause-told c = told c.args.rows.now c.in-Some.fault c.in-Some.ensures
+invariant_of-result c = (
+  subst AreUsers (sym c.in_ok-table.ensures.users) (users_of_sound c.args.rows.now c.in_ok-table.ensures.sound),
+  none_cached c.in_ok-table.table c.in-Ok.cache c.in-Ok.ensures,
+)

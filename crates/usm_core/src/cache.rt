@@ -1,0 +1,128 @@
+//! Localised keys that are kept for the next message (RFC 3414, section 2.6).
+
+ghost use Rattle.std.specs.Prelude.{◌≡◌, ◌≤◌, List, [], length, IfOk, IfSome};
+ghost use Rattle.std.specs.Option.{option_copied};
+ghost use Rattle.usm_core.specs.User.{User};
+ghost use Rattle.usm_core.specs.Cache.{AreCached, IsCachedAt, key_id};
+
+use crate::user::UserName;
+use engine_clock::EngineId;
+use lru::LruCache;
+use std::alloc::{AllocError, Global};
+use std::marker::Model;
+use std::num::NonZeroUsize;
+use usm_keys::KeptKey;
+
+/// The most localised keys that are kept.
+const MOST_KEYS: usize = 64;
+
+/// What a key is for.
+#[derive(Clone, Copy, PartialEq, Eq, Hash, Debug)]
+pub enum Purpose {
+    Authentication,
+    Privacy,
+}
+
+/// What tells one localised key from another: whose it is, for which engine and for what.
+#[derive(PartialEq, Eq, Hash, Drop)]
+pub struct KeyId {
+    user: UserName,
+    engine: EngineId,
+    purpose: Purpose,
+}
+
+impl KeyId {
+    /// None for a name or an identifier that no user and no engine has.
+    fn of(name: &[u8], engine: &[u8], purpose: Purpose) -> Option<KeyId>
+        ensures { IfSome result (λ id. id ≡ key_id name.now engine.now purpose) }
+    {
+        Some(KeyId {
+            user: UserName::of(name)?,
+            engine: EngineId::of(engine)?,
+            purpose,
+        })
+    }
+}
+
+/// At most 64 localised keys, in the order of their last use, the last used first.
+#[derive(Drop)]
+pub(crate) struct KeyCache {
+    keys: LruCache<KeyId, KeptKey>,
+}
+
+impl Model for KeyCache {
+    ghost use Rattle.std.specs.Prelude.{◌≡◌, List};
+    ghost use Rattle.usm_keys.specs.AuthKey.{AuthKey};
+    ghost use Rattle.usm_core.specs.declared.cache.KeyId.{KeyId};
+
+    ghost Value = { List (KeyId × AuthKey) };
+
+    ghost view = { λ cache. cache.keys.entries };
+
+    ghost invariant = { λ cache. cache.keys.cap ≡ 64 };
+}
+
+impl KeyCache {
+    /// No key.
+    pub(crate) fn new(alloc: Global) -> Result<KeyCache, AllocError>
+        ensures { IfOk result (λ cache. cache ≡ []) }
+    {
+        let Some(most) = NonZeroUsize::new(MOST_KEYS) else {
+            unreachable!();
+        };
+        Ok(KeyCache {
+            keys: LruCache::new(alloc, most)?,
+        })
+    }
+
+    /// The number of keys.
+    pub(crate) fn len(&self) -> usize
+        ensures count { result ≡ length self.now }
+        ensures most { result ≤ 64 }
+    {
+        self.keys.len()
+    }
+
+    /// The key that is kept under this. The order stays as it is, and no memory is taken.
+    pub(crate) fn find(&self, name: &[u8], engine: &[u8], purpose: Purpose) -> Option<&KeptKey>
+        ensures { (users : List User) → AreCached users self.now → IfSome (option_copied result) (IsCachedAt users (key_id name.now engine.now purpose)) }
+    {
+        self.keys.peek(&KeyId::of(name, engine, purpose)?)
+    }
+
+    /// Notes that a key was used: one that was made is entered, and a kept one moved to the front, but for one of the last two.
+    /// Where there is no memory, and for engine IDs of other lengths than 5 to 32 octets, all stays as it was.
+    pub(crate) fn note_use(
+        &mut self,
+        name: &[u8],
+        engine: &[u8],
+        purpose: Purpose,
+        made: Option<KeptKey>,
+    )
+        ensures { (users : List User) → AreCached users self.old → IfSome made (IsCachedAt users (key_id name.now engine.now purpose)) → AreCached users self.new }
+    {
+        let Some(id) = KeyId::of(name, engine, purpose) else {
+            return;
+        };
+        match made {
+            Some(key) => {
+                let _ = self.keys.put(id, key);
+            }
+            None => {
+                if !self.is_near_front(&id) {
+                    let _ = self.keys.promote(&id);
+                }
+            }
+        }
+    }
+
+    /// Whether the key is one of the last two that were used, as both keys of one user and engine are.
+    fn is_near_front(&self, id: &KeyId) -> bool {
+        for (near, _) in self.keys.iter().take(2) {
+            if *near == *id {
+                return true;
+            }
+        }
+        false
+    }
+}
