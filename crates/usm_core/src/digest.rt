@@ -1,6 +1,7 @@
 //! The digest of a message (RFC 3414, sections 6.3 and 7.3): whether it is right, and putting it in its place.
 
 ghost use Rattle.std.specs.Prelude.{◌≡◌, ◌+◌, ◌≤◌, ◌↔◌, ◌++◌, vec_len, replicate, take, drop, length, IsTrue, IsSomeAnd, IfSome, Some, None, List, true};
+ghost use Rattle.snmp_msg.specs.declared.message.TheConstants.{LARGEST};
 ghost use Rattle.snmp_msg.specs.Message.{parts, tag_of, content_of};
 ghost use Rattle.snmp_msg.specs.Security.{IsCut, fields_of};
 ghost use Rattle.usm_keys.specs.Protocols.{mac as mac_by, mac_octets};
@@ -126,7 +127,7 @@ pub(crate) fn fill(
     requires local { local.now ≡ localised_to outgoing.now.engine.now key.now }
     requires fits { SendingFits (sending_of outgoing.now) }
     requires text { text.old.items ≡ spelled_with (sending_of outgoing.now) (tag_of body.now) (content_of body.now) (replicate (mac_octets key.now.auth) 0) }
-    requires size { length text.old.items ≤ 65507 }
+    requires size { length text.old.items ≤ LARGEST }
     requires secured { IsSecured text.old.items }
     ensures filled { text.new.items ≡ spelled_with (sending_of outgoing.now) (tag_of body.now) (content_of body.now) (digest_of key.now (sending_of outgoing.now) (tag_of body.now) (content_of body.now)) }
     ensures length { length text.new.items ≡ length text.old.items }

@@ -2,6 +2,7 @@
 
 ghost use Rattle.std.specs.Prelude.{◌+◌, ◌<◌, ◌≤◌, false, replicate, ◌≡◌, ◌≢◌, ◌↔◌, ◌⊎◌, ℕ, List, [], map, length, IfOk, IfErr, IfSome, OnOk, OnErr, IsErrOf};
 ghost use Rattle.snmp_ber.specs.declared.level.Level.TheVariants.{AuthPriv};
+ghost use Rattle.snmp_msg.specs.declared.message.TheConstants.{LARGEST};
 ghost use Rattle.snmp_msg.specs.Message.{tag_of, content_of};
 ghost use Rattle.snmp_msg.specs.Security.{fields_of};
 ghost use Rattle.snmp_msg.specs.Level.{level_of};
@@ -20,13 +21,13 @@ ghost use Rattle.usm_core.specs.declared.fault.UsmFault.TheVariants.{UnknownUser
 use crate::cache::{KeyCache, Purpose};
 use crate::checked::{Checked, Role};
 use crate::fault::UsmFault;
-use crate::laws::{sealed_size, some_sealed};
+use crate::laws::{has_engine, sealed_size, some_sealed};
 use crate::load::{UserFault, UserRow, table_of};
 use crate::privacy::open_for;
 use crate::seal::{seal_for, seal_open};
 use crate::spell::Outgoing;
 use crate::user_table::UserTable;
-use crate::verify::{has_engine, verify};
+use crate::verify::verify;
 use engine_clock::Pair;
 use snmp_ber::Level;
 use snmp_msg::{Header, one_cut, one_message};
@@ -199,7 +200,7 @@ impl Users {
 
         // The refusals before the text come before want of memory.
         ensures memory { IsErrOf result UsmFault.OutOfMemory → IsSealable self.old.users (sending header.now engine.now pair user.now salt scoped.now) }
-        ensures short { IsErrOf result UsmFault.TooLarge → 65507 < 150 + length engine.now + length user.now + length scoped.now }
+        ensures short { IsErrOf result UsmFault.TooLarge → LARGEST < 150 + length engine.now + length user.now + length scoped.now }
         ensures users { self.new.users ≡ self.old.users }
     {
         some_sealed();
@@ -232,7 +233,7 @@ impl Users {
         requires privacy { header.now.privacy ≡ false }
         ensures rows { IfSome (seal_answer result) (Seals self.now.users (sending header.now engine.now pair user.now (replicate 8 0) scoped.now)) }
         ensures fault { IfErr result IsWriteFault }
-        ensures short { IsErrOf result UsmFault.TooLarge → 65507 < 150 + length engine.now + length user.now + length scoped.now }
+        ensures short { IsErrOf result UsmFault.TooLarge → LARGEST < 150 + length engine.now + length user.now + length scoped.now }
     {
         some_sealed();
         sealed_size();

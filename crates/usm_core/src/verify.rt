@@ -5,7 +5,7 @@ ghost use Rattle.std.specs.Bool.{OnTrue};
 ghost use Rattle.snmp_ber.specs.declared.level.Level.TheVariants.{NoAuthNoPriv};
 ghost use Rattle.snmp_msg.specs.Level.{level_of};
 ghost use Rattle.usm_core.specs.Authentic.{HasEngineLength};
-ghost use Rattle.usm_core.specs.Verified.{Verifies, AllowsEngine, HasEngine, manager};
+ghost use Rattle.usm_core.specs.Verified.{Verifies, AllowsEngine, manager};
 ghost use Rattle.usm_core.specs.Answers.{side_of, checked_answer};
 ghost use Rattle.usm_core.specs.Cache.{AreCached, IsCachedAt, key_id};
 ghost use Rattle.usm_core.specs.declared.cache.Purpose.TheVariants.{Authentication};
@@ -37,15 +37,6 @@ fn allows_no_user(role: Role<'_>, name: &[u8], level: Level) -> bool
     match (role, level) {
         (Role::Manager, Level::NoAuthNoPriv) => name.is_empty(),
         _ => false,
-    }
-}
-
-/// An agent's own identifier has 5 to 32 octets.
-pub(crate) fn has_engine(role: Role<'_>)
-    ensures { HasEngine (side_of role.entry) }
-{
-    if let Role::Agent(own) = role {
-        let _octets = own.as_slice();
     }
 }
 
