@@ -7,7 +7,7 @@ mod learning;
 mod manager;
 mod outcome;
 
-pub use laws::same_authentic_same_latest;
+pub use laws::{runs_are_joined, same_authentic_same_latest, same_authentic_same_pairs};
 pub use manager::Manager;
 pub use outcome::{Outcome, Stopped};
 

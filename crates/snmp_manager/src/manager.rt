@@ -1,6 +1,6 @@
 //! The manager.
 
-ghost use Rattle.std.specs.Prelude.{◌≡◌, ◌<◌, ℕ, List, length, take, IfOk, IfErr, IsOk, IsSome, OnErr, OnOk};
+ghost use Rattle.std.specs.Prelude.{◌≡◌, ◌<◌, ℕ, List, length, IfOk, IfErr, IsOk, IsSome, OnErr, OnOk};
 ghost use Rattle.std.specs.Option.{option_map};
 ghost use Rattle.engine_clock.specs.Marks.{mark_at, pair_at, IsMarkJoinOf, IsJoinOf};
 ghost use Rattle.engine_clock.specs.Saved.{AreMarks, listing};
@@ -154,7 +154,7 @@ impl Manager {
         ensures latest { (engine : List ℕ) → IsLatest self.old.users (pair_at self.old.clocks engine) (datagrams_of (taken_of result datagrams.now)) engine (pair_at self.new.clocks engine) }
         ensures users { self.new.users ≡ self.old.users }
         ensures stopped { IfErr result (λ stopped. stopped.taken < length datagrams.now) }
-        ensures stopped_after { IfErr result (λ stopped. HasRun self.old (take stopped.taken datagrams.now) self.new) }
+        ensures ran { HasRun self.old (taken_of result datagrams.now) self.new }
     {
         let Ok(mut outcomes) = Vec::with_capacity(self.alloc, datagrams.len()) else {
             return Err(Stopped { taken: 0 });
