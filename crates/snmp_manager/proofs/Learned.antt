@@ -3,7 +3,7 @@ use Rattle.std.proofs.Common.{◌≡◌, ◌<◌, ◌+◌, ℕ, List, [], ◌∷
 use Rattle.std.specs.Prelude.{◌⊎◌, Contains, true, Result, Ok, Err, IsOk}
 use Rattle.std.specs.Result.{is_err}
 use Rattle.std.specs.Global.{Vec}
-use Rattle.std.proofs.lemmas.List.{take_more, map-append}
+use Rattle.std.proofs.lemmas.List.{take_more, map-append, append_assoc, append-nil}
 use Rattle.std.proofs.lemmas.List.Elements.{Contains-append_left, Contains-append_right, Contains-append_cases}
 use Rattle.engine_clock.specs.Pairs.{BootsAndTime, IsGreatestOf}
 use Rattle.engine_clock.specs.Marks.{Marks, pair_at}
@@ -14,8 +14,8 @@ use Rattle.usm_core.specs.User.{User}
 use Rattle.usm_core.specs.Authentic.{Authentic}
 use Rattle.snmp_manager.specs.Learning.{LearnsFrom}
 use Rattle.snmp_manager.specs.Known.{Known, IsLatest, HaveSameAuthentic, datagrams_of}
-use Rattle.snmp_manager.specs.Views.{Held}
-use Rattle.snmp_manager.specs.Runs.{TakesOne, Runs}
+use Rattle.snmp_manager.specs.Views.{Held, BeginAlike, HoldSamePairs}
+use Rattle.snmp_manager.specs.Runs.{TakesOne, Runs, HasRun}
 use Rattle.snmp_manager.specs.declared.outcome.Outcome.{Outcome}
 
 -- A set of pairs of an engine is what it was, and what an authentic datagram adds. Its greatest is then held.
@@ -89,3 +89,35 @@ same_latest users begin xs ys engine p q same h k =
     (IsGreatestOf-same (Known users begin xs engine) (Known users begin ys engine) p
     (λ r m. elim m [ inl b ↦ inl b | inr w ↦ inr (w.0, (same w.0 engine r w.2).0 w.1, w.2) ])
     (λ r m. elim m [ inl b ↦ inl b | inr w ↦ inr (w.0, (same w.0 engine r w.2).1 w.1, w.2) ]) h) k
+
+-- ---- whole runs
+
+-- a run behind another
+pub runs_behind : (old mid new : Held) (xs ys : List (ℕ × Vec ℕ)) (os ps : List Outcome) → Runs old xs os mid → Runs mid ys ps new → Runs old (xs ++ ys) (os ++ ps) new
+runs_behind old mid new [] ys [] ps runs more = subst (λ (h : Held). Runs h ys ps new) runs more
+runs_behind old mid new [] ys (o ∷ os) ps runs more = absurd runs
+runs_behind old mid new (x ∷ xs) ys [] ps runs more = absurd runs
+runs_behind old mid new (x ∷ xs) ys (o ∷ os) ps runs more = (runs.0, runs.1, runs_behind runs.0 mid new xs ys os ps runs.2 more)
+
+-- the greatest that is known after a run over a list, where it was held after the datagrams before
+runs_latest : (begin mid new : Held) (done : List (List ℕ)) (ts : List (ℕ × Vec ℕ)) (os : List Outcome) (engine : List ℕ) → mid.users ≡ begin.users → Runs mid ts os new
+    → IsLatest begin.users (pair_at begin.clocks engine) done engine (pair_at mid.clocks engine)
+    → IsLatest begin.users (pair_at begin.clocks engine) (done ++ datagrams_of ts) engine (pair_at new.clocks engine)
+runs_latest begin mid new done [] [] engine same runs latest =
+    rw append-nil (subst (λ (h : Held). IsLatest begin.users (pair_at begin.clocks engine) done engine (pair_at h.clocks engine)) (sym runs) latest)
+runs_latest begin mid new done [] (o ∷ os) engine same runs latest = absurd runs
+runs_latest begin mid new done (t ∷ ts) [] engine same runs latest = absurd runs
+runs_latest begin mid new done (t ∷ ts) (o ∷ os) engine same runs latest =
+    let learns = subst (λ users. LearnsFrom users t.0 t.1.items mid.clocks runs.0.clocks) same runs.1.2.1 in
+    let more = known_more begin.users (pair_at begin.clocks engine) done t.0 t.1.items mid.clocks runs.0.clocks engine learns latest in
+    subst (λ ws. IsLatest begin.users (pair_at begin.clocks engine) ws engine (pair_at new.clocks engine)) (append_assoc done (t.1.items ∷ []) (datagrams_of ts))
+    (runs_latest begin runs.0 new (done ++ t.1.items ∷ []) ts os engine (runs.1.2.0 ∙ same) runs.2 more)
+
+-- after a run the greatest that is known is held
+has_run_latest : (old new : Held) (ts : List (ℕ × Vec ℕ)) (engine : List ℕ) → HasRun old ts new → IsLatest old.users (pair_at old.clocks engine) (datagrams_of ts) engine (pair_at new.clocks engine)
+has_run_latest old new ts engine run = runs_latest old old new [] ts run.0 engine refl run.1 (known_none old.users (pair_at old.clocks engine) engine)
+
+pub same_pairs : (a b a_after b_after : Held) (xs ys : List (ℕ × Vec ℕ)) → BeginAlike a b → HaveSameAuthentic a.users (datagrams_of xs) (datagrams_of ys) → HasRun a xs a_after → HasRun b ys b_after → HoldSamePairs a_after b_after
+same_pairs a b a_after b_after xs ys alike same run other engine =
+    same_latest a.users (pair_at a.clocks engine) (datagrams_of xs) (datagrams_of ys) engine (pair_at a_after.clocks engine) (pair_at b_after.clocks engine) same (has_run_latest a a_after xs engine run)
+    (rw (alike.0, alike.1 engine) (has_run_latest b b_after ys engine other))

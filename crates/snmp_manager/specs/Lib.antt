@@ -3,3 +3,5 @@ pub mod Learning
 pub mod Takes
 pub mod Known
 pub mod Runs
+pub mod Pendings
+pub mod Replies

@@ -1,6 +1,6 @@
 -- What contracts see of a manager.
-use Rattle.std.specs.Prelude.{List}
-use Rattle.engine_clock.specs.Marks.{Marks}
+use Rattle.std.specs.Prelude.{◌≡◌, ℕ, List}
+use Rattle.engine_clock.specs.Marks.{Marks, pair_at}
 use Rattle.usm_core.specs.User.{User}
 
 -- its users, and the marks that it holds
@@ -10,3 +10,11 @@ pub record Held : Type 0 where
 
 abbrev pub held_by : List User → Marks → Held
 held_by users clocks = record { users = users; clocks = clocks }
+
+-- the same pair of each engine
+abbrev pub HoldSamePairs : Held → Held → Type 0
+HoldSamePairs a b = (engine : List ℕ) → pair_at a.clocks engine ≡ pair_at b.clocks engine
+
+-- the same users, and the same pair of each engine
+abbrev pub BeginAlike : Held → Held → Type 0
+BeginAlike a b = (a.users ≡ b.users) × HoldSamePairs a b

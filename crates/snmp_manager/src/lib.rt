@@ -1,15 +1,20 @@
-//! The manager: an SNMPv3 engine that isn't authoritative (RFC 3414, section 1.5.1). It takes datagrams, and keeps the
-//! greatest pair of boots and time that each engine has authenticated.
+//! The manager: an SNMPv3 engine that isn't authoritative (RFC 3414, section 1.5.1). It takes datagrams, keeps the greatest
+//! pair of boots and time that each engine has authenticated, and writes requests.
 #![tactic(auto)]
 
 mod laws;
 mod learning;
 mod manager;
 mod outcome;
+mod pending;
+mod replies;
+mod requests;
 
-pub use laws::same_authentic_same_latest;
+pub use laws::{runs_are_joined, same_authentic_same_latest, same_authentic_same_pairs};
 pub use manager::Manager;
 pub use outcome::{Outcome, Stopped};
+pub use pending::{Answer, Pending};
+pub use replies::answer_of;
 
 #[cfg(test)]
 mod tests;

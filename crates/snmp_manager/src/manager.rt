@@ -1,20 +1,29 @@
 //! The manager.
 
-ghost use Rattle.std.specs.Prelude.{◌≡◌, ◌<◌, ℕ, List, length, take, IfOk, IfErr, IsOk, IsSome, OnErr, OnOk};
+ghost use Rattle.std.specs.Prelude.{◌≡◌, ◌<◌, ◌≤◌, ℕ, pos, List, [], length, Ok, IfOk, IfErr, IfSome, IsErrOf, IsOk, IsSome, OnErr, OnOk};
 ghost use Rattle.std.specs.Option.{option_map};
 ghost use Rattle.engine_clock.specs.Marks.{mark_at, pair_at, IsMarkJoinOf, IsJoinOf};
 ghost use Rattle.engine_clock.specs.Saved.{AreMarks, listing};
 ghost use Rattle.engine_clock.specs.Windows.{notion_at};
+ghost use Rattle.snmp_ber.specs.declared.level.Level.TheVariants.{NoAuthNoPriv};
 ghost use Rattle.usm_core.specs.Verified.{manager};
+ghost use Rattle.usm_core.specs.Sealed.{Seals, IsSealable};
 ghost use Rattle.snmp_outcome.specs.Answers.{answer_of, IsPlain};
+ghost use Rattle.snmp_sending.specs.Bodies.{BodyFits};
+ghost use Rattle.snmp_sending.specs.Requests.{requesting, discovering};
+ghost use Rattle.snmp_manager.specs.Pendings.{Remembers, IsPending, request_answer};
 ghost use Rattle.snmp_manager.specs.Known.{IsLatest, datagrams_of};
 ghost use Rattle.snmp_manager.specs.Takes.{Takes, HoldsAuthentic};
 ghost use Rattle.snmp_manager.specs.Runs.{TakesOne, Runs, HasRun, taken_of};
 
 use crate::learning::learn;
 use crate::outcome::{Outcome, Stopped};
+use crate::pending::Pending;
+use crate::requests::{no_pair, written_pair};
 use engine_clock::{Clocks, EngineId, Mark, Pair};
+use snmp_ber::Level;
 use snmp_outcome::{TakeFault, Taken, open_text, read_text};
+use snmp_sending::{Body, Envelope, is_confirmed, send, send_plain};
 use std::alloc::{AllocError, Global};
 use std::marker::Model;
 use usm_core::{Role, Users};
@@ -82,6 +91,15 @@ impl Manager {
         ensures err { OnErr result (self.new ≡ self.old) }
     {
         self.clocks.absorb(clocks)
+    }
+
+    /// Goes on from these clocks alone, with the same users, as a manager does that starts again from a saved text. It takes no
+    /// memory.
+    pub fn restart(&mut self, clocks: Clocks)
+        ensures clocks { self.new.clocks ≡ clocks }
+        ensures users { self.new.users ≡ self.old.users }
+    {
+        self.clocks = clocks;
     }
 
     /// The saved text of the marks, which `Clocks::read_saved` reads again. The error is want of memory.
@@ -154,7 +172,7 @@ impl Manager {
         ensures latest { (engine : List ℕ) → IsLatest self.old.users (pair_at self.old.clocks engine) (datagrams_of (taken_of result datagrams.now)) engine (pair_at self.new.clocks engine) }
         ensures users { self.new.users ≡ self.old.users }
         ensures stopped { IfErr result (λ stopped. stopped.taken < length datagrams.now) }
-        ensures stopped_after { IfErr result (λ stopped. HasRun self.old (take stopped.taken datagrams.now) self.new) }
+        ensures ran { HasRun self.old (taken_of result datagrams.now) self.new }
     {
         let Ok(mut outcomes) = Vec::with_capacity(self.alloc, datagrams.len()) else {
             return Err(Stopped { taken: 0 });
@@ -168,5 +186,83 @@ impl Manager {
             }
         }
         Ok(outcomes)
+    }
+
+    /// A request to the engine at the moment `now`, and what is to be remembered of it (RFC 3414, section 3.1): with this msgID,
+    /// for this user at this level, and at authPriv with this salt, which is to be another one for each message. At levels with
+    /// authentication it has the held boots and the notion of the time, or 0 and 0 where no pair is held. It asks for reports where
+    /// the PDU is of the Confirmed Class.
+    ///
+    /// The errors are, at levels with authentication, UnknownUser (7) and UnsupportedLevel (8); then TooLarge (16), only where the
+    /// text would be longer than 65,507 octets, or OutOfMemory (14), whichever is met first.
+    pub fn request(
+        &mut self,
+        now: u64,
+        id: u32,
+        engine: &EngineId,
+        user: &[u8],
+        level: Level,
+        body: &Body<'_>,
+        salt: [u8; 8],
+    ) -> Result<(Vec<u8>, Pending), TakeFault>
+        requires id { id ≤ 2147483647 }
+        requires user { length user.now ≤ 32 }
+        requires body { BodyFits body.now }
+        ensures text { IfSome (request_answer result) (Seals self.old.users (requesting (mark_at self.old.clocks engine.now) now id engine.now user.now level body.now salt)) }
+        ensures memory { IsErrOf result TakeFault.OutOfMemory → IsSealable self.old.users (requesting (mark_at self.old.clocks engine.now) now id engine.now user.now level body.now salt) }
+        ensures pending { IfOk result (λ sent. IsPending sent.1 id engine.now user.now level body.now) }
+        ensures same { self.new ≡ self.old }
+    {
+        let envelope = Envelope {
+            level,
+            id,
+            reportable: is_confirmed(body.tag),
+            engine: engine.as_slice(),
+            pair: written_pair(&self.clocks, engine, level, now),
+            user,
+            salt,
+        };
+        let text = match send(self.alloc, &mut self.users, &envelope, body) {
+            Ok(text) => text,
+            Err(fault) => return Err(fault),
+        };
+        match Pending::of(self.alloc, &envelope, body) {
+            Ok(pending) => Ok((text, pending)),
+            Err(_) => Err(TakeFault::OutOfMemory),
+        }
+    }
+
+    /// The request by which an engine is discovered (RFC 3414, section 4), and what is to be remembered of it: a GetRequest of
+    /// nothing with this msgID and request-id, for no engine and no user. An agent answers with a Report that has its engine ID.
+    /// The error is want of memory.
+    pub fn discover(&self, id: u32) -> Result<(Vec<u8>, Pending), AllocError>
+        requires { id ≤ 2147483647 }
+        ensures text { IfOk result (λ sent. Seals self.now.users (discovering id) (Ok sent.0.items)) }
+        ensures pending { IfOk result (λ sent. Remembers sent.1 id [] [] NoAuthNoPriv [] [] (pos id)) }
+    {
+        let body = Body {
+            context_engine: &[],
+            context_name: &[],
+            tag: 0xA0,
+            id: id as i32,
+            second: 0,
+            third: 0,
+            bindings: &[],
+        };
+        let envelope = Envelope {
+            level: Level::NoAuthNoPriv,
+            id,
+            reportable: true,
+            engine: &[],
+            pair: no_pair(),
+            user: &[],
+            salt: [0; 8],
+        };
+        let text = match send_plain(self.alloc, &self.users, &envelope, &body) {
+            Ok(text) => text,
+            Err(TakeFault::TooLarge) => unreachable!(),
+            Err(_) => return Err(AllocError),
+        };
+        Ok((text, Pending::of(self.alloc, &envelope, &body)?))
     }
 }

@@ -1,0 +1,26 @@
+-- What is remembered of a message that was sent.
+use Rattle.std.specs.Prelude.{◌≡◌, ℕ, ℤ, List, Option, Some, Result, Ok, Err}
+use Rattle.std.specs.Global.{Vec}
+use Rattle.snmp_ber.specs.declared.level.Level.{Level}
+use Rattle.snmp_outcome.specs.declared.fault.TakeFault.{TakeFault}
+use Rattle.snmp_sending.specs.declared.body.Body.{Body}
+use Rattle.snmp_sending.specs.Sends.{send_refusal}
+use Rattle.snmp_manager.specs.declared.pending.Pending.{Pending}
+
+pub record Remembers (a : Pending) (id : ℕ) (engine user : List ℕ) (level : Level) (context_engine context_name : List ℕ) (request_id : ℤ) : Type 0 where
+  pub id_is : a.id ≡ id
+  pub engine_is : a.engine.items ≡ engine
+  pub user_is : a.user.items ≡ user
+  pub level_is : a.level ≡ level
+  pub context_engine_is : a.context_engine.items ≡ context_engine
+  pub context_name_is : a.context_name.items ≡ context_name
+  pub request_id_is : a.request_id ≡ request_id
+
+-- the same of a message with this body
+abbrev pub IsPending : Pending → ℕ → List ℕ → List ℕ → Level → Body → Type 0
+IsPending a id engine user level body = Remembers a id engine user level body.context_engine.now body.context_name.now body.id
+
+-- the text that was written, or the refusal; None for want of memory
+abbrev pub request_answer : Result (Vec ℕ × Pending) TakeFault → Option (Result (List ℕ) ℕ)
+request_answer (Ok sent) = Some (Ok sent.0.items)
+request_answer (Err fault) = send_refusal fault

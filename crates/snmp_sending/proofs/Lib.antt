@@ -1,0 +1,4 @@
+pub mod Levels
+pub mod Refusing
+pub mod Salts
+pub mod Accepted

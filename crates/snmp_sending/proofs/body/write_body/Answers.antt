@@ -1,0 +1,19 @@
+use Rattle.std.proofs.Common.{rules, sym, subst, arith, w32, SFits}
+use Rattle.std.proofs.lemmas.Int.{to_z-of_z}
+use Rattle.snmp_msg.specs.Pdu.{pdu_text}
+use Rattle.snmp_msg.specs.Scoped.{IsOneElement}
+use Rattle.snmp_sending.specs.Bodies.{pdu_in}
+use Rattle.snmp_sending.proofs.Levels.{scoped_longer}
+use Rattle.snmp_sending.proofs.body.write_body.Goals as goal
+
+pub returns-in-Err-clause-too_large : goal.returns-in-Err-clause-too_large
+returns-in-Err-clause-too_large c e =
+    let fits : SFits w32 c.args.body.now.id = search rules in
+    let fits_second : SFits w32 c.args.body.now.second = search rules in
+    let fits_third : SFits w32 c.args.body.now.third = search rules in
+    let long = rw (to_z-of_z w32 c.args.body.now.id fits, to_z-of_z w32 c.args.body.now.second fits_second, to_z-of_z w32 c.args.body.now.third fits_third) at (c.in-Err.ensures.too_large e) in
+    let longer = scoped_longer c.args.body.now.context_engine.now c.args.body.now.context_name.now (pdu_text (pdu_in c.args.body.now)) in
+    omega (arith, long, longer)
+
+pub write_scoped-requires : goal.write_scoped-requires
+write_scoped-requires c = subst IsOneElement (sym c.deref.ensures.value) c.in-Ok.ensures.element

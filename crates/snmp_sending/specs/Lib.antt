@@ -1,0 +1,6 @@
+pub mod Classes
+pub mod Counters
+pub mod Bodies
+pub mod Sends
+pub mod Requests
+pub mod Accepts

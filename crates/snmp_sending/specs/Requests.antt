@@ -1,0 +1,47 @@
+-- What a manager's requests are sent as (RFC 3414, sections 3.1 and 4).
+use Rattle.std.specs.Prelude.{ℕ, pos, true, List, [], replicate, Option, Some, None}
+use Rattle.snmp_ber.specs.declared.level.Level.{Level}
+use Rattle.snmp_ber.specs.declared.level.Level.TheVariants.{NoAuthNoPriv, AuthNoPriv, AuthPriv}
+use Rattle.snmp_msg.specs.Scoped.{scoped_text}
+use Rattle.snmp_msg.specs.Pdu.{pdu_with, pdu_text}
+use Rattle.engine_clock.specs.Pairs.{BootsAndTime}
+use Rattle.engine_clock.specs.Marks.{SeenPair}
+use Rattle.engine_clock.specs.Windows.{notion_at}
+use Rattle.usm_core.specs.Sealed.{Sending}
+use Rattle.snmp_sending.specs.declared.body.Body.{Body}
+use Rattle.snmp_sending.specs.Classes.{is_confirmed}
+use Rattle.snmp_sending.specs.Bodies.{header_at, scoped_of}
+
+-- boots and time as they are sent where nothing is known
+abbrev pub no_pair : BootsAndTime
+no_pair = record { boots = 0; time = 0 }
+
+-- the boots and time of a request: at levels with authentication the held boots and the notion of the time
+abbrev pub written_pair : Level → Option SeenPair → ℕ → BootsAndTime
+written_pair NoAuthNoPriv held now = no_pair
+written_pair AuthNoPriv None now = no_pair
+written_pair AuthPriv None now = no_pair
+written_pair AuthNoPriv (Some mark) now = record { boots = mark.pair.boots; time = notion_at now mark }
+written_pair AuthPriv (Some mark) now = record { boots = mark.pair.boots; time = notion_at now mark }
+
+-- a request to the engine, of which this mark is held
+abbrev pub requesting : Option SeenPair → ℕ → ℕ → List ℕ → List ℕ → Level → Body → List ℕ → Sending
+requesting held now id engine user level body salt = record {
+  header = header_at level id (is_confirmed body.tag);
+  engine = engine;
+  pair = written_pair level held now;
+  user = user;
+  salt = salt;
+  scoped = scoped_of body;
+}
+
+-- the discovery request: a GetRequest of nothing, for no engine and no user (RFC 3414, section 4)
+abbrev pub discovering : ℕ → Sending
+discovering id = record {
+  header = header_at NoAuthNoPriv id true;
+  engine = [];
+  pair = no_pair;
+  user = [];
+  salt = replicate 8 0;
+  scoped = scoped_text [] [] (pdu_text (pdu_with 160 (pos id) (pos 0) (pos 0) []));
+}

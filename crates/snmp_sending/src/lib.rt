@@ -1,0 +1,16 @@
+//! What goes out: the body of a message and its envelope, and the one way of writing them.
+#![tactic(auto)]
+
+mod body;
+mod class;
+mod counter;
+mod envelope;
+mod laws;
+mod sending;
+
+pub use body::Body;
+pub use class::is_confirmed;
+pub use counter::counter_name;
+pub use envelope::Envelope;
+pub use laws::sealed_is_accepted;
+pub use sending::{send, send_plain};

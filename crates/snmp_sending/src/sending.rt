@@ -1,0 +1,132 @@
+//! Messages that go out.
+
+ghost use Rattle.std.specs.Prelude.{◌≡◌, ◌+◌, ◌<◌, ◌≤◌, length, IfSome, OnOk, OnErr, IsErrOf, true};
+ghost use Rattle.snmp_ber.specs.declared.level.Level.TheVariants.{NoAuthNoPriv};
+ghost use Rattle.usm_core.specs.Users.{HasUserAt};
+ghost use Rattle.usm_core.specs.Refusals.{Supports};
+ghost use Rattle.usm_core.specs.Answers.{seal_answer};
+ghost use Rattle.usm_core.specs.Sealed.{Seals, IsSealable};
+ghost use Rattle.snmp_sending.specs.Sends.{sent, send_answer};
+ghost use Rattle.snmp_sending.specs.Bodies.{has_auth, scoped_of, BodyFits};
+
+use crate::body::{Body, write_body};
+use crate::envelope::Envelope;
+use snmp_ber::Level;
+use snmp_msg::LARGEST;
+use snmp_outcome::TakeFault;
+use std::alloc::Global;
+use usm_core::{Users, UsmFault, sealed_size};
+
+/// At a level with authentication, there is a user of this name that supports it.
+fn has_user(users: &Users, user: &[u8], level: Level) -> Result<(), UsmFault>
+    ensures has { OnOk result (has_auth level ≡ true → HasUserAt users.now.users user.now level) }
+    ensures auth { OnErr result (has_auth level ≡ true) }
+    ensures answer { has_auth level ≡ true → Supports users.now.users user.now level result }
+{
+    if level == Level::NoAuthNoPriv {
+        return Ok(());
+    }
+    users.supports(user, level)
+}
+
+/// The text of the message, as `send` says.
+fn seal_body(
+    alloc: Global,
+    users: &mut Users,
+    envelope: &Envelope<'_>,
+    body: &Body<'_>,
+) -> Result<Vec<u8>, UsmFault>
+    requires id { envelope.now.id ≤ 2147483647 }
+    requires user { length envelope.now.user.now ≤ 32 }
+    requires body { BodyFits body.now }
+    ensures rows { IfSome (seal_answer result) (Seals users.old.users (sent envelope.now body.now)) }
+    ensures memory { IsErrOf result UsmFault.OutOfMemory → IsSealable users.old.users (sent envelope.now body.now) }
+    ensures short { IsErrOf result UsmFault.TooLarge → LARGEST < 150 + length envelope.now.engine.now + length envelope.now.user.now + length (scoped_of body.now) }
+    ensures users { users.new.users ≡ users.old.users }
+{
+    sealed_size();
+    has_user(users, envelope.user, envelope.level)?;
+    let scoped = write_body(alloc, body)?;
+    users.seal(
+        &envelope.header(),
+        envelope.engine,
+        envelope.pair,
+        envelope.user,
+        envelope.salt,
+        &scoped,
+    )
+}
+
+/// The text of the message with this envelope and this body (RFC 3414, section 3.1).
+///
+/// The errors are, at levels with authentication, UnknownUser (7) and UnsupportedLevel (8), which are looked for before the
+/// body is written; then TooLarge (16), only where the text would be longer than 65,507 octets, or OutOfMemory, whichever is
+/// met first.
+pub fn send(
+    alloc: Global,
+    users: &mut Users,
+    envelope: &Envelope<'_>,
+    body: &Body<'_>,
+) -> Result<Vec<u8>, TakeFault>
+    requires id { envelope.now.id ≤ 2147483647 }
+    requires user { length envelope.now.user.now ≤ 32 }
+    requires body { BodyFits body.now }
+    ensures rows { IfSome (send_answer result) (Seals users.old.users (sent envelope.now body.now)) }
+
+    // The refusals before the text come before want of memory.
+    ensures memory { IsErrOf result TakeFault.OutOfMemory → IsSealable users.old.users (sent envelope.now body.now) }
+    ensures short { IsErrOf result TakeFault.TooLarge → LARGEST < 150 + length envelope.now.engine.now + length envelope.now.user.now + length (scoped_of body.now) }
+    ensures users { users.new.users ≡ users.old.users }
+{
+    match seal_body(alloc, users, envelope, body) {
+        Ok(text) => Ok(text),
+        Err(fault) => Err(fault.into()),
+    }
+}
+
+/// The text of the message, as `plain` says.
+fn seal_plain(
+    alloc: Global,
+    users: &Users,
+    envelope: &Envelope<'_>,
+    body: &Body<'_>,
+) -> Result<Vec<u8>, UsmFault>
+    requires id { envelope.now.id ≤ 2147483647 }
+    requires user { length envelope.now.user.now ≤ 32 }
+    requires level { envelope.now.level ≡ NoAuthNoPriv }
+    requires body { BodyFits body.now }
+    ensures rows { IfSome (seal_answer result) (Seals users.now.users (sent envelope.now body.now)) }
+    ensures short { IsErrOf result UsmFault.TooLarge → LARGEST < 150 + length envelope.now.engine.now + length envelope.now.user.now + length (scoped_of body.now) }
+{
+    sealed_size();
+    let scoped = write_body(alloc, body)?;
+    users.write_plain(
+        &envelope.header(),
+        envelope.engine,
+        envelope.pair,
+        envelope.user,
+        &scoped,
+    )
+}
+
+/// The text of a message at noAuthNoPriv, for which no key is looked up: what `send` gives.
+///
+/// The errors are TooLarge (16), only where the text would be longer than 65,507 octets, and OutOfMemory.
+pub fn send_plain(
+    alloc: Global,
+    users: &Users,
+    envelope: &Envelope<'_>,
+    body: &Body<'_>,
+) -> Result<Vec<u8>, TakeFault>
+    requires id { envelope.now.id ≤ 2147483647 }
+    requires user { length envelope.now.user.now ≤ 32 }
+    requires level { envelope.now.level ≡ NoAuthNoPriv }
+    requires body { BodyFits body.now }
+    ensures rows { IfSome (send_answer result) (Seals users.now.users (sent envelope.now body.now)) }
+    ensures short { IsErrOf result TakeFault.TooLarge → LARGEST < 150 + length envelope.now.engine.now + length envelope.now.user.now + length (scoped_of body.now) }
+{
+    match seal_plain(alloc, users, envelope, body) {
+        Ok(text) => Ok(text),
+        Err(fault) => Err(fault.into()),
+    }
+}
