@@ -4,3 +4,4 @@ pub mod Sizes
 pub mod Counted
 pub mod Reports
 pub mod Clocked
+pub mod Alike

@@ -1,7 +1,8 @@
 -- A report is short.
-use Rattle.std.proofs.Common.{◌≡◌, ℕ, ℤ, pos, ◌+◌, ◌-◌, ◌≤◌, List, [], ◌∷◌, ◌++◌, length, refl, arith}
+use Rattle.std.proofs.Common.{◌≡◌, ℕ, ℤ, pos, ◌+◌, ◌-◌, ◌<◌, ◌≤◌, ◌^◌, List, [], ◌∷◌, ◌++◌, length, refl, arith, rules}
 use Rattle.std.specs.Int.{w64, to_be_bytes, cast_unsigned}
 use Rattle.std.proofs.lemmas.List.{length-append, length-drop}
+use Rattle.snmp_ber.specs.Element.{IsTag, IsElement}
 use Rattle.snmp_ber.specs.Oid.{identifier}
 use Rattle.snmp_ber.specs.Spelling.{element, integer, octet_count}
 use Rattle.snmp_ber.proofs.Identifiers.{identifier-short}
@@ -10,7 +11,9 @@ use Rattle.snmp_msg.specs.Variables.{variable_content, variable_text, variables_
 use Rattle.snmp_msg.specs.Pdu.{pdu_with, signed, pdu_content_text, pdu_text}
 use Rattle.snmp_msg.proofs.Lengths.{element_between}
 use Rattle.snmp_sending.specs.Counters.{counter_name}
-use Rattle.snmp_agent.specs.Report.{counter_variable}
+use Rattle.engine_clock.specs.Pairs.{BootsAndTime, IsPair}
+use Rattle.usm_core.specs.Sealed.{SendingFits}
+use Rattle.snmp_agent.specs.Report.{counter_variable, reporting}
 
 eight_octets : (n : ℕ) → length (to_be_bytes w64 n) ≡ 8
 eight_octets n = refl
@@ -70,3 +73,28 @@ scoped_most engine id k value short =
     let first = element_between 4 engine in
     let second = element_between 4 [] in
     omega (arith, whole.1, joined, first.1, second.1, pdu_most id k value, short)
+
+scoped_element : ((tag : ℕ) (content : List ℕ) → IsTag tag → length content < 2 ^ 32 → IsElement tag content (element tag content))
+    → (engine : List ℕ) (id : ℤ) (k value : ℕ) → length engine ≤ 32 → (content : List ℕ) × IsElement 48 content (scoped_text engine [] (pdu_text (pdu_with 168 id (pos 0) (pos 0) (counter_variable k value ∷ []))))
+unfolding scoped_text
+scoped_element canonical engine id k value short =
+    let content = contexts_text engine [] (pdu_text (pdu_with 168 id (pos 0) (pos 0) (counter_variable k value ∷ []))) in
+    let whole = element_between 48 content in
+    let most = scoped_most engine id k value short in
+    (content, canonical 48 content (search rules) (omega (arith, whole.0, most)))
+
+-- it can be sealed
+pub report_fits : ((tag : ℕ) (content : List ℕ) → IsTag tag → length content < 2 ^ 32 → IsElement tag content (element tag content))
+    → (engine : List ℕ) (own : BootsAndTime) (id : ℕ) (user : List ℕ) (request_id : ℤ) (k value : ℕ) → length engine ≤ 32 → IsPair own → id ≤ 2147483647 → length user ≤ 32
+    → SendingFits (reporting engine own id user request_id k value)
+report_fits canonical engine own id user request_id k value short pair id_fits user_short =
+    let scoped = scoped_element canonical engine request_id k value short in
+    record {
+      header = record { id = id_fits; least_size = omega arith; most_size = omega arith; least_model = omega arith; most_model = omega arith };
+      boots = pair.boots;
+      time = pair.time;
+      user = user_short;
+      salt = refl;
+      content = scoped.0;
+      scoped = scoped.1;
+    }

@@ -5,7 +5,7 @@ use Rattle.snmp_ber.specs.declared.level.Level.{Level}
 use Rattle.snmp_msg.specs.Scoped.{Contexts}
 use Rattle.snmp_msg.specs.Variables.{Variable, AreBindings}
 use Rattle.snmp_msg.specs.Pdu.{PduParts}
-use Rattle.vacm_core.specs.Tables.{Tables}
+use Rattle.vacm_core.specs.Tables.{Tables, HaveSameRows}
 use Rattle.vacm_core.specs.Allowed.{Message, Allowed}
 use Rattle.vacm_core.specs.declared.access.ViewType.{ViewType}
 use Rattle.vacm_core.specs.declared.access.ViewType.TheVariants.{Read, Write}
@@ -13,6 +13,7 @@ use Rattle.vacm_core.specs.declared.access.Access.{Access}
 use Rattle.snmp_agent.specs.declared.decision.Decision.{Decision}
 use Rattle.snmp_agent.specs.declared.decision.Decision.TheVariants.{ByName, NotByName}
 use Rattle.snmp_outcome.specs.Outcome.{Given}
+use Rattle.snmp_agent.specs.Agent.{AgentState}
 
 -- who asks: model 3, the user-based one, a user, its level, and the name of a context
 abbrev pub question : List ℕ → Level → List ℕ → Message
@@ -34,3 +35,7 @@ abbrev pub IsDecision : Tables → Given → Contexts → PduParts → Decision 
 IsDecision tables g c p NotByName = (p.tag ≢ 160) × (p.tag ≢ 163)
 IsDecision tables g c p (ByName answers) =
     (view : ViewType) × IsDecidedBy p.tag view × ((vs : List Variable) × AreBindings vs p.list × AreAnswers tables (question_of g c) view vs answers.items)
+
+-- The agent's tables were made of these rows, in whatever order they came.
+abbrev pub HoldsRows : Tables → AgentState → Type 0
+HoldsRows rows agent = HaveSameRows rows agent.tables

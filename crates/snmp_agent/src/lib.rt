@@ -10,6 +10,7 @@ mod counting;
 mod decision;
 mod engine;
 mod judge;
+mod laws;
 mod notification;
 mod refused;
 mod report;
@@ -17,4 +18,5 @@ mod response;
 
 pub use agent::Agent;
 pub use decision::Decision;
+pub use laws::{agents_decide_alike, notification_is_accepted, report_is_short, response_is_accepted};
 pub use refused::Refused;
