@@ -2,3 +2,4 @@ pub mod Levels
 pub mod Refusing
 pub mod Salts
 pub mod Accepted
+pub mod Spoken

@@ -2,5 +2,6 @@ pub mod Classes
 pub mod Counters
 pub mod Bodies
 pub mod Sends
+pub mod Speaks
 pub mod Requests
 pub mod Accepts

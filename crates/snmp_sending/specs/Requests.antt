@@ -1,16 +1,19 @@
 -- What a manager's requests are sent as (RFC 3414, sections 3.1 and 4).
-use Rattle.std.specs.Prelude.{ℕ, pos, true, List, [], replicate, Option, Some, None}
+use Rattle.std.specs.Prelude.{◌≡◌, ◌≤◌, ℕ, pos, true, List, [], length, map, replicate, Option, Some, None}
 use Rattle.snmp_ber.specs.declared.level.Level.{Level}
 use Rattle.snmp_ber.specs.declared.level.Level.TheVariants.{NoAuthNoPriv, AuthNoPriv, AuthPriv}
 use Rattle.snmp_msg.specs.Scoped.{scoped_text}
-use Rattle.snmp_msg.specs.Pdu.{pdu_with, pdu_text}
-use Rattle.engine_clock.specs.Pairs.{BootsAndTime}
+use Rattle.snmp_msg.specs.Variables.{AllFit, variable_of}
+use Rattle.snmp_msg.specs.Pdu.{IsPduTag, AreInRange, pdu_with, pdu_text}
+use Rattle.engine_clock.specs.Pairs.{BootsAndTime, IsPair}
 use Rattle.engine_clock.specs.Marks.{SeenPair}
 use Rattle.engine_clock.specs.Windows.{notion_at}
+use Rattle.usm_core.specs.Authentic.{HasEngineLength}
 use Rattle.usm_core.specs.Sealed.{Sending}
 use Rattle.snmp_sending.specs.declared.body.Body.{Body}
 use Rattle.snmp_sending.specs.Classes.{is_confirmed}
-use Rattle.snmp_sending.specs.Bodies.{header_at, scoped_of}
+use Rattle.snmp_sending.specs.Bodies.{header_at, pdu_in, scoped_of}
+use Rattle.snmp_sending.specs.Speaks.{Speech}
 
 -- boots and time as they are sent where nothing is known
 abbrev pub no_pair : BootsAndTime
@@ -34,6 +37,32 @@ requesting held now id engine user level body salt = record {
   salt = salt;
   scoped = scoped_of body;
 }
+
+-- the same as a speech
+abbrev pub request : Option SeenPair → ℕ → ℕ → List ℕ → List ℕ → Level → Body → List ℕ → Speech
+request held now id engine user level body salt = record {
+  level = level;
+  id = id;
+  reportable = is_confirmed body.tag;
+  engine = engine;
+  pair = written_pair level held now;
+  user = user;
+  salt = salt;
+  context_engine = body.context_engine.now;
+  context_name = body.context_name.now;
+  pdu = pdu_in body;
+}
+
+-- The request's numbers, names, body and held pair are in their ranges.
+pub record RequestFits (held : Option SeenPair) (number : ℕ) (identifier name octets : List ℕ) (b : Body) : Type 0 where
+  pub id : number ≤ 2147483647
+  pub pair : (mark : SeenPair) → held ≡ Some mark → IsPair mark.pair
+  pub engine : HasEngineLength identifier
+  pub user : length name ≤ 32
+  pub salt : length octets ≡ 8
+  pub tag : IsPduTag b.tag
+  pub numbers : AreInRange (pdu_in b)
+  pub bindings : AllFit (map variable_of b.bindings.now)
 
 -- the discovery request: a GetRequest of nothing, for no engine and no user (RFC 3414, section 4)
 abbrev pub discovering : ℕ → Sending

@@ -1,0 +1,24 @@
+use Rattle.std.proofs.Common.{subst, ap, arith}
+use Rattle.std.specs.Prelude.{IfSome}
+use Rattle.usm_core.specs.Table.{fails}
+use Rattle.snmp_sending.specs.Sends.{send_answer}
+use Rattle.snmp_agent.specs.Agent.{AgentState}
+use Rattle.snmp_agent.specs.Sent.{notifying, Sends, CanBeSent}
+use Rattle.snmp_agent.proofs.Clocked.{sends, can_be_sent}
+use Rattle.snmp_agent.proofs.agent.Agent.notify.Goals as goal
+
+pub returns-in_default-clause-answer : goal.returns-in_default-clause-answer
+returns-in_default-clause-answer c =
+    let started = ap (λ (a : AgentState). a.started) c.self.view_is in
+    fails (λ runs. let past = c.in_default.ensures in absurd (omega (arith, past, runs, started)))
+
+pub returns-clause-answer : goal.returns-clause-answer
+returns-clause-answer c =
+    let agent : AgentState = record { engine = c.self.inside.engine.id; boots = c.self.inside.engine.boots; started = c.self.inside.engine.started; users = c.self.inside.users.users; tables = c.self.inside.vacm; counters = c.self.inside.counters } in
+    subst (λ (a : AgentState). IfSome (send_answer c.send_notification.result) (Sends a c.args.now (λ own. notifying a.engine own c.args.id c.args.user.now c.args.level c.args.body.now c.args.salt))) c.self.view_is
+    (sends agent c.args.now (λ own. notifying c.self.inside.engine.id own c.args.id c.args.user.now c.args.level c.args.body.now c.args.salt) c.in-Some.own c.in-Some.ensures.0 c.in-Some.ensures.1 (send_answer c.send_notification.result) c.send_notification.ensures.rows)
+
+pub returns-clause-memory : goal.returns-clause-memory
+returns-clause-memory c is =
+    subst (λ (a : AgentState). CanBeSent a c.args.now (λ own. notifying a.engine own c.args.id c.args.user.now c.args.level c.args.body.now c.args.salt)) c.self.view_is
+    (can_be_sent _ c.args.now (λ own. notifying c.self.inside.engine.id own c.args.id c.args.user.now c.args.level c.args.body.now c.args.salt) c.in-Some.own c.in-Some.ensures.0 c.in-Some.ensures.1 (c.send_notification.ensures.memory is))

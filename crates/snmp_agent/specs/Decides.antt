@@ -1,0 +1,41 @@
+-- Decisions on the variables that a request names (RFC 3413, section 3.2; RFC 3415, section 3).
+use Rattle.std.specs.Prelude.{◌≡◌, ◌≢◌, ◌⊎◌, ℕ, List}
+use Rattle.std.specs.List.{AllZip}
+use Rattle.snmp_ber.specs.declared.level.Level.{Level}
+use Rattle.snmp_msg.specs.Scoped.{Contexts}
+use Rattle.snmp_msg.specs.Variables.{Variable, AreBindings}
+use Rattle.snmp_msg.specs.Pdu.{PduParts}
+use Rattle.vacm_core.specs.Tables.{Tables, HaveSameRows}
+use Rattle.vacm_core.specs.Allowed.{Message, Allowed}
+use Rattle.vacm_core.specs.declared.access.ViewType.{ViewType}
+use Rattle.vacm_core.specs.declared.access.ViewType.TheVariants.{Read, Write}
+use Rattle.vacm_core.specs.declared.access.Access.{Access}
+use Rattle.snmp_agent.specs.declared.decision.Decision.{Decision}
+use Rattle.snmp_agent.specs.declared.decision.Decision.TheVariants.{ByName, NotByName}
+use Rattle.snmp_outcome.specs.Outcome.{Given}
+use Rattle.snmp_agent.specs.Agent.{AgentState}
+
+-- who asks: model 3, the user-based one, a user, its level, and the name of a context
+abbrev pub question : List ℕ → Level → List ℕ → Message
+question user level context = record { model = 3; name = user; level = level; context = context }
+
+-- the same of an accepted message: its user and level, and the name of its context
+abbrev pub question_of : Given → Contexts → Message
+question_of g c = question g.user g.level c.name
+
+-- A GetRequest is decided by the read view, and a SetRequest by the write view.
+abbrev pub IsDecidedBy : ℕ → ViewType → Type 0
+IsDecidedBy tag view = ((tag ≡ 160) × (view ≡ Read)) ⊎ ((tag ≡ 163) × (view ≡ Write))
+
+-- the answer for the name of each variable, in their order
+abbrev pub AreAnswers : Tables → Message → ViewType → List Variable → List Access → Type 0
+AreAnswers tables message view vs answers = AllZip (λ v answer. Allowed tables message view v.name answer) vs answers
+
+abbrev pub IsDecision : Tables → Given → Contexts → PduParts → Decision → Type 0
+IsDecision tables g c p NotByName = (p.tag ≢ 160) × (p.tag ≢ 163)
+IsDecision tables g c p (ByName answers) =
+    (view : ViewType) × IsDecidedBy p.tag view × ((vs : List Variable) × AreBindings vs p.list × AreAnswers tables (question_of g c) view vs answers.items)
+
+-- The agent's tables were made of these rows, in whatever order they came.
+abbrev pub HoldsRows : Tables → AgentState → Type 0
+HoldsRows rows agent = HaveSameRows rows agent.tables

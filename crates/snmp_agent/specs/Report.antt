@@ -1,0 +1,108 @@
+-- Reports (RFC 3412, section 7.1; RFC 3414, section 3.2): on which refusal there is one, and what it says.
+use Rattle.std.specs.Prelude.{◌≡◌, ◌≤◌, ◌⊎◌, ◌==◌, ℕ, ℤ, pos, true, false, if◌then◌else◌, List, [], ◌∷◌, length, replicate, Option, Some, None, Err, option_map}
+use Rattle.std.specs.Global.{Vec}
+use Rattle.snmp_ber.specs.declared.level.Level.{Level}
+use Rattle.snmp_ber.specs.declared.level.Level.TheVariants.{NoAuthNoPriv, AuthNoPriv}
+use Rattle.snmp_ber.specs.Spelling.{integer}
+use Rattle.snmp_msg.specs.Layout.{Parts}
+use Rattle.snmp_msg.specs.Scoped.{Contexts, HasScoped, scoped_text}
+use Rattle.snmp_msg.specs.Variables.{Variable}
+use Rattle.snmp_msg.specs.Pdu.{PduParts, PduText, pdu_with, pdu_text}
+use Rattle.engine_clock.specs.Pairs.{BootsAndTime}
+use Rattle.usm_core.specs.User.{User}
+use Rattle.usm_core.specs.Verified.{OuterOf, SecurityOf}
+use Rattle.usm_core.specs.Sealed.{Sending, SealedText}
+use Rattle.snmp_outcome.specs.Outcome.{Taker, own_pair, Outcome}
+use Rattle.snmp_sending.specs.Classes.{is_confirmed}
+use Rattle.snmp_sending.specs.Counters.{counter_name}
+use Rattle.snmp_sending.specs.Bodies.{header_at}
+use Rattle.snmp_agent.specs.declared.asking.Asking.{Asking}
+use Rattle.snmp_agent.specs.Counting.{counter_of, counter_at}
+use Rattle.snmp_agent.specs.Agent.{AgentState}
+
+-- ---- whether one is offered
+
+-- The message isn't sealed, and its PDU can be read.
+pub record PlainPdu (w : List ℕ) (m : Parts) : Type 0 where
+  pub contexts : Contexts
+  pub is_scoped : HasScoped w m contexts
+  pub pdu : PduParts
+  pub is_pdu : PduText contexts.pdu pdu
+
+-- The message asks for reports: the reportableFlag is set, and its PDU, where it can be read, is of the Confirmed Class.
+pub record AsksForReport (w : List ℕ) : Type 0 where
+  pub outer : OuterOf w
+  pub security : SecurityOf outer.parts
+  pub reportable : outer.parts.header.reportable ≡ true
+  pub confirmed : (plain : PlainPdu w outer.parts) → is_confirmed plain.pdu.tag ≡ true
+
+-- A report on refusal n is offered.
+pub record Offers (w : List ℕ) (n : ℕ) : Type 0 where
+  pub counter : ℕ
+  pub counter_is : counter_of n ≡ Some counter
+  pub asks : AsksForReport w
+
+-- one is offered on the answer to the datagram, so that memory is needed for it
+abbrev pub OffersOnAnswer : Taker → List User → ℕ → List ℕ → Type 0
+OffersOnAnswer taker users now w = (n : ℕ) × Outcome taker users now w (Err n) × Offers w n
+
+-- ---- what it says
+
+-- the request-id that it has: the PDU's where that can be read, and else 0
+abbrev pub IsCopiedId : List ℕ → Parts → ℤ → Type 0
+IsCopiedId w m id = ((plain : PlainPdu w m) × (id ≡ plain.pdu.id)) ⊎ ((PlainPdu w m → ⊥) × (id ≡ pos 0))
+
+-- a Counter32 (RFC 2578, section 7.1.6) with its name
+abbrev pub counter_variable : ℕ → ℕ → Variable
+counter_variable n value = record { name = counter_name n; tag = 65; content = integer (pos value) }
+
+-- usmStatsNotInTimeWindows, whose number is 2, is reported with authentication (RFC 3414, section 3.2, step 7), and the others
+-- without
+abbrev pub report_level : ℕ → Level
+report_level k = if k == 2 then AuthNoPriv else NoAuthNoPriv
+
+-- the report of counter k, with the agent's engine, its boots and time, and the counter's value
+abbrev pub reporting : List ℕ → BootsAndTime → ℕ → List ℕ → ℤ → ℕ → ℕ → Sending
+reporting engine own id user request_id k value = record {
+  header = header_at (report_level k) id false;
+  engine = engine;
+  pair = own;
+  user = user;
+  salt = replicate 8 0;
+  scoped = scoped_text engine [] (pdu_text (pdu_with 168 request_id (pos 0) (pos 0) (counter_variable k value ∷ [])));
+}
+
+-- The report on refusal n of the datagram, by the users and the engine of the agent, its boots and time, and its counters after
+-- the refusal was counted; or None where none is offered.
+pub data IsReport (users : List User) (engine : List ℕ) (own : BootsAndTime) (counters : List ℕ) (w : List ℕ) (n : ℕ) : Option (List ℕ) → Type 0 where
+  offered : (offer : Offers w n) (id : ℤ) (text : List ℕ) → IsCopiedId w offer.asks.outer.parts id
+      → SealedText users (reporting engine own offer.asks.outer.parts.header.id offer.asks.security.fields.user id offer.counter (counter_at counters offer.counter)) text
+      → IsReport users engine own counters w n (Some text)
+  missing : (Offers w n → ⊥) → IsReport users engine own counters w n None
+
+-- what an agent, as the refusal left it, reports; nothing for want of memory
+abbrev pub AgentReports : AgentState → ℕ → List ℕ → Option ℕ → Option (List ℕ) → Type 0
+AgentReports agent now w None report = report ≡ None
+AgentReports agent now w (Some n) report = IsReport agent.users agent.engine (own_pair agent.boots agent.started now) agent.counters w n report
+
+abbrev pub report_of : Option (Vec ℕ) → Option (List ℕ)
+report_of report = option_map (λ v. v.items) report
+
+-- ---- between the functions
+
+-- The PDU, where it can be read, is of the Confirmed Class, and this request-id is copied.
+pub record IsCopied (w : List ℕ) (m : Parts) (id : ℤ) : Type 0 where
+  pub confirmed : (plain : PlainPdu w m) → is_confirmed plain.pdu.tag ≡ true
+  pub is : IsCopiedId w m id
+
+-- what the code keeps of a message that asks for reports
+pub record IsAsking (w : List ℕ) (a : Asking) : Type 0 where
+  pub asks : AsksForReport w
+  pub id_is : asks.outer.parts.header.id ≡ a.id
+  pub user_is : asks.security.fields.user ≡ a.user.now
+  pub copied : IsCopiedId w asks.outer.parts a.request_id
+  pub id_fits : a.id ≤ 2147483647
+  pub user_fits : length a.user.now ≤ 32
+
+abbrev pub reporting_of : List ℕ → BootsAndTime → ℕ → Asking → ℕ → Sending
+reporting_of engine own k a value = reporting engine own a.id a.user.now a.request_id k value

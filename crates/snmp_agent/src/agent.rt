@@ -1,0 +1,270 @@
+//! The agent.
+
+ghost use Rattle.std.specs.Prelude.{◌≡◌, ◌≤◌, ◌<◌, ◌⊎◌, replicate, IfErr, IsSome, MatchOption};
+ghost use Rattle.engine_clock.specs.Pairs.{pair_max};
+ghost use Rattle.snmp_outcome.specs.Refusals.{answer_number};
+ghost use Rattle.snmp_agent.specs.Counting.{counter_at};
+ghost use Rattle.snmp_agent.specs.Agent.{taker_of, taken_answer, AgentTakes, IsOpened};
+ghost use Rattle.snmp_agent.specs.Report.{AgentReports, OffersOnAnswer, report_of};
+
+use crate::answers::{answers, view_for};
+use crate::counting::counted;
+use crate::decision::Decision;
+use crate::engine::Engine;
+use crate::judge::judge;
+use crate::notification::{Recipient, send_notification};
+use crate::refused::Refused;
+use crate::report::report;
+use crate::response::{Response, send_response};
+use engine_clock::EngineId;
+use snmp_ber::{Level, Oid};
+use snmp_msg::{Binding, USER_BASED, one_content};
+use snmp_outcome::{TakeFault, Taken};
+use snmp_sending::Body;
+use std::alloc::{AllocError, Global};
+use std::marker::Model;
+use usm_core::Users;
+use vacm_core::{Access, Vacm, ViewType};
+
+/// An authoritative engine (RFC 3414, section 1.5.1), with its users, its view-based access (RFC 3415) and the counters of what
+/// it refused. All moments are in seconds from one beginning, which the caller keeps.
+#[derive(Drop)]
+pub struct Agent {
+    alloc: Global,
+    engine: Engine,
+    users: Users,
+    vacm: Vacm,
+    counters: [u32; 6],
+}
+
+impl Model for Agent {
+    ghost use Rattle.snmp_agent.specs.Agent.{AgentState};
+
+    ghost Value = { AgentState };
+
+    ghost view = { λ a. record { engine = a.engine.id; boots = a.engine.boots; started = a.engine.started; users = a.users.users; tables = a.vacm; counters = a.counters } };
+}
+
+impl Agent {
+    ghost use Rattle.std.specs.Prelude.{◌≢◌, ℕ, List, All, map, length, IfOk, IsOk, IfSome, IsErrOf};
+    ghost use Rattle.snmp_msg.specs.Scoped.{Contexts, ScopedFront};
+    ghost use Rattle.snmp_msg.specs.Pdu.{PduParts, PduText};
+    ghost use Rattle.snmp_msg.specs.Variables.{CanBeWritten, variable_of};
+    ghost use Rattle.vacm_core.specs.Allowed.{Allowed};
+    ghost use Rattle.snmp_outcome.specs.Texts.{text_of};
+    ghost use Rattle.snmp_outcome.specs.Answers.{given_of};
+    ghost use Rattle.snmp_sending.specs.Bodies.{BodyFits};
+    ghost use Rattle.snmp_sending.specs.Sends.{send_answer};
+    ghost use Rattle.snmp_agent.specs.Decides.{question, question_of, IsDecision};
+    ghost use Rattle.snmp_agent.specs.Sent.{responding, notifying, Sends, CanBeSent};
+
+    /// An agent that started at the moment `started`, with these boots, at most 2147483647. Its counters are 0. This takes no
+    /// memory.
+    pub fn new(
+        alloc: Global,
+        engine: EngineId,
+        boots: u32,
+        started: u64,
+        users: Users,
+        vacm: Vacm,
+    ) -> Agent
+        requires { boots ≤ pair_max }
+        ensures { result ≡ record { engine = engine; boots = boots; started = started; users = users.users; tables = vacm; counters = replicate 6 0 } }
+    {
+        Agent {
+            alloc,
+            engine: Engine {
+                id: engine,
+                boots,
+                started,
+            },
+            users,
+            vacm,
+            counters: [0; 6],
+        }
+    }
+
+    /// The value of counter n, usmStats n of RFC 3414, section 5, or None where n isn't 1 to 6.
+    pub fn counter(&self, n: u8) -> Option<u32>
+        ensures { MatchOption result ((n ≡ 0) ⊎ (6 < n)) (λ value. (1 ≤ n) × (n ≤ 6) × (value ≡ counter_at self.now.counters n)) }
+    {
+        if n == 0 || n > 6 {
+            return None;
+        }
+        Some(self.counters[usize::from(n) - 1])
+    }
+
+    /// Takes a datagram at the moment `now`: reads and authenticates it (RFC 3412, section 7.2, and RFC 3414, section 3.2),
+    /// looks at the time window, opens the message and reads its ScopedPDU. A refusal that has a counter adds one to it, and is
+    /// reported where the message asks for reports.
+    ///
+    /// The errors are, the first that applies: ClockExhausted (15), where the engine's time would be above 2147483647; those of
+    /// `Users::open_auth`; NotInWindow (10), DecryptionError (11), BadScoped (12) and BadPdu (13). OutOfMemory (14), from
+    /// opening a message or in the place of a refusal whose report finds no memory, leaves all as before. Memory is taken to
+    /// open a sealed message that is in the window, and for a report.
+    pub fn take<'a>(&mut self, now: u64, datagram: &'a [u8]) -> Result<Taken<'a>, Refused>
+        ensures takes { AgentTakes self.old now datagram.now (taken_answer result) self.new }
+        ensures report { IfErr result (λ r. AgentReports self.new now datagram.now (answer_number r.why) (report_of r.report)) }
+        ensures no_memory { (IsOpened (taker_of self.old) self.old.users now datagram.now → ⊥) → (OffersOnAnswer (taker_of self.old) self.old.users now datagram.now → ⊥)
+            → IsSome (taken_answer result) }
+    {
+        let why = match judge(&mut self.users, &self.engine, now, datagram) {
+            Ok(taken) => return Ok(taken),
+            Err(why) => why,
+        };
+        let none = Refused {
+            why: TakeFault::OutOfMemory,
+            report: None,
+        };
+        if why.is_memory() {
+            return Err(none);
+        }
+        let counters = counted(self.counters, why);
+        match report(
+            self.alloc,
+            &mut self.users,
+            &self.engine,
+            now,
+            &counters,
+            why,
+            datagram,
+        ) {
+            Ok(report) => {
+                self.counters = counters;
+                Err(Refused { why, report })
+            }
+            Err(_) => Err(none),
+        }
+    }
+
+    /// Whether the sender of an accepted message may see this variable in the message's context (isAccessAllowed, RFC 3415,
+    /// section 3). The context's engine isn't looked at. It takes no memory.
+    pub fn allows(&self, taken: &Taken<'_>, view: ViewType, variable: &Oid) -> Access
+        ensures { (c : Contexts) → ScopedFront (text_of taken.now.text) c → Allowed self.now.tables (question_of (given_of taken.now) c) view variable.now result }
+    {
+        one_content();
+        let scoped = taken.scoped();
+        self.vacm.is_access_allowed(
+            USER_BASED,
+            taken.user,
+            taken.level,
+            view,
+            scoped.name,
+            variable,
+        )
+    }
+
+    /// The same without a message: whether this user at this level may see the variable in the context of this name, as for the
+    /// notify view of a notification. It takes no memory.
+    pub fn may(
+        &self,
+        user: &[u8],
+        level: Level,
+        context: &[u8],
+        view: ViewType,
+        variable: &Oid,
+    ) -> Access
+        ensures { Allowed self.now.tables (question user.now level context.now) view variable.now result }
+    {
+        self.vacm
+            .is_access_allowed(USER_BASED, user, level, view, context, variable)
+    }
+
+    /// Whether a request by name may see each variable that it names, in their order: a GetRequest by the read view, and a
+    /// SetRequest by the write view. The names that another PDU asks for are known only as they are answered: for them there is
+    /// `allows`, and no memory is taken here. The error is want of memory.
+    pub fn decide(&self, taken: &Taken<'_>) -> Result<Decision, AllocError>
+        ensures decision { IfOk result (λ d. (c : Contexts) (p : PduParts) → ScopedFront (text_of taken.now.text) c → PduText c.pdu p → IsDecision self.now.tables (given_of taken.now) c p d) }
+        ensures no_memory { taken.now.tag ≢ 160 → taken.now.tag ≢ 163 → IsOk result }
+    {
+        one_content();
+        let pdu = taken.pdu();
+        let view = match view_for(pdu.tag) {
+            Some(view) => view,
+            None => return Ok(Decision::NotByName),
+        };
+        let scoped = taken.scoped();
+        let answers = answers(self.alloc, &self.vacm, taken, scoped.name, view, &pdu)?;
+        Ok(Decision::ByName(answers))
+    }
+
+    /// The Response to an accepted request, at its level: its msgID, user, contexts and request-id, with this error-status, this
+    /// error-index and these bindings, under the agent's engine, boots and time. Nothing of the agent changes. The salt is used
+    /// at authPriv alone.
+    ///
+    /// The errors are ClockExhausted (15), then at levels with authentication UnknownUser (7) and UnsupportedLevel (8), and then
+    /// TooLarge (16), only where the text would be longer than 65,507 octets, or OutOfMemory (14), whichever is met first.
+    /// Where it is TooLarge, a tooBig is sent by calling this again with status 1 and no bindings.
+    pub fn respond(
+        &mut self,
+        now: u64,
+        taken: &Taken<'_>,
+        status: i32,
+        index: i32,
+        bindings: &[Binding<'_>],
+        salt: [u8; 8],
+    ) -> Result<Vec<u8>, TakeFault>
+        requires { All (λ b. CanBeWritten (variable_of b)) bindings.now }
+        ensures answer { (c : Contexts) (p : PduParts) → ScopedFront (text_of taken.now.text) c → PduText c.pdu p
+            → IfSome (send_answer result) (Sends self.old now (λ own. responding self.old.engine own (given_of taken.now) c p status index (map variable_of bindings.now) salt)) }
+
+        // The refusals before the text come before want of memory.
+        ensures memory { (c : Contexts) (p : PduParts) → ScopedFront (text_of taken.now.text) c → PduText c.pdu p → IsErrOf result TakeFault.OutOfMemory
+            → CanBeSent self.old now (λ own. responding self.old.engine own (given_of taken.now) c p status index (map variable_of bindings.now) salt) }
+        ensures same { self.new ≡ self.old }
+    {
+        let Some(own) = self.engine.pair(now) else {
+            return Err(TakeFault::ClockExhausted);
+        };
+        let response = Response {
+            status,
+            index,
+            bindings,
+            salt,
+        };
+        send_response(
+            self.alloc,
+            &mut self.users,
+            &self.engine.id,
+            own,
+            taken,
+            &response,
+        )
+    }
+
+    /// An SNMPv2-Trap for this user at this level (RFC 3416, section 4.2.6), under the agent's engine, boots and time, which
+    /// asks for no report. Nothing of the agent changes. `id` is msgID, at most 2147483647, and the user's name has at most 32
+    /// octets; the salt is used at authPriv alone.
+    ///
+    /// The errors are those of `respond`, in its order.
+    pub fn notify(
+        &mut self,
+        now: u64,
+        id: u32,
+        user: &[u8],
+        level: Level,
+        body: &Body<'_>,
+        salt: [u8; 8],
+    ) -> Result<Vec<u8>, TakeFault>
+        requires id { id ≤ 2147483647 }
+        requires user { length user.now ≤ 32 }
+        requires tag { body.now.tag ≡ 167 }
+        requires body { BodyFits body.now }
+        ensures answer { IfSome (send_answer result) (Sends self.old now (λ own. notifying self.old.engine own id user.now level body.now salt)) }
+
+        // The refusals before the text come before want of memory.
+        ensures memory { IsErrOf result TakeFault.OutOfMemory → CanBeSent self.old now (λ own. notifying self.old.engine own id user.now level body.now salt) }
+        ensures same { self.new ≡ self.old }
+    {
+        let Some(own) = self.engine.pair(now) else {
+            return Err(TakeFault::ClockExhausted);
+        };
+        let to = Recipient {
+            id,
+            user,
+            level,
+            salt,
+        };
+        send_notification(self.alloc, &mut self.users, &self.engine.id, own, &to, body)
+    }
+}

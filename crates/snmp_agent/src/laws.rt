@@ -1,0 +1,75 @@
+//! Laws of what agents send and decide. Each function does nothing: its contract is the law.
+
+ghost use Rattle.std.specs.Prelude.{◌≡◌, ◌≤◌, ℕ, ℤ, List, length, Ok};
+ghost use Rattle.snmp_ber.specs.declared.level.Level.{Level};
+ghost use Rattle.snmp_msg.specs.Scoped.{Contexts};
+ghost use Rattle.snmp_msg.specs.Variables.{Variable};
+ghost use Rattle.snmp_msg.specs.Pdu.{PduParts, pdu_with};
+ghost use Rattle.engine_clock.specs.Pairs.{BootsAndTime, IsPair};
+ghost use Rattle.engine_clock.specs.Marks.{Marks};
+ghost use Rattle.vacm_core.specs.Tables.{Tables, HaveSameRows};
+ghost use Rattle.vacm_core.specs.Faults.{AreSound};
+ghost use Rattle.vacm_core.specs.Allowed.{Message, Allowed};
+ghost use Rattle.vacm_core.specs.declared.access.ViewType.{ViewType as Asked};
+ghost use Rattle.vacm_core.specs.declared.access.Access.{Access as Answer};
+ghost use Rattle.usm_core.specs.User.{User};
+ghost use Rattle.usm_core.specs.Verified.{manager};
+ghost use Rattle.usm_core.specs.Sealed.{Seals, SealedText};
+ghost use Rattle.snmp_outcome.specs.Outcome.{Given, as_manager};
+ghost use Rattle.snmp_sending.specs.declared.body.Body.{Body as Said};
+ghost use Rattle.snmp_sending.specs.Bodies.{pdu_in};
+ghost use Rattle.snmp_sending.specs.Accepts.{IsTakenInTime};
+ghost use Rattle.snmp_sending.specs.Speaks.{spoken_contexts, SpeechFits, HasSameUser};
+ghost use Rattle.snmp_agent.specs.Agent.{AgentState};
+ghost use Rattle.snmp_agent.specs.Report.{reporting};
+ghost use Rattle.snmp_agent.specs.Sent.{response, responding, notification, notifying};
+ghost use Rattle.snmp_agent.specs.Decides.{HoldsRows};
+
+use snmp_ber::one_element;
+use snmp_sending::spoken_is_accepted;
+use usm_core::sealed_size;
+use vacm_core::laws::order_is_free;
+
+/// What an agent's Response is sent as is accepted by a manager with that user, with the same ScopedPDU given on, exactly where
+/// its pair is in the window of what the manager holds once it has learned the pair; at noAuthNoPriv always.
+pub fn response_is_accepted()
+    ensures { (senders users : List User) (held : Marks) (now : ℕ) (engine : List ℕ) (own : BootsAndTime) (g : Given) (c : Contexts) (p : PduParts) (status index : ℤ) (vs : List Variable) (salt text : List ℕ)
+        → SpeechFits (response engine own g c p status index vs salt) → HasSameUser manager senders users g.user g.level
+        → Seals senders (responding engine own g c p status index vs salt) (Ok text)
+        → IsTakenInTime (as_manager held) users now text (responding engine own g c p status index vs salt)
+            (spoken_contexts (response engine own g c p status index vs salt)) (pdu_with 162 p.id status index vs) }
+{
+    spoken_is_accepted();
+}
+
+/// The same of a notification.
+pub fn notification_is_accepted()
+    ensures { (senders users : List User) (held : Marks) (now : ℕ) (engine : List ℕ) (own : BootsAndTime) (id : ℕ) (user : List ℕ) (level : Level) (body : Said) (salt text : List ℕ)
+        → SpeechFits (notification engine own id user level body salt) → HasSameUser manager senders users user level
+        → Seals senders (notifying engine own id user level body salt) (Ok text)
+        → IsTakenInTime (as_manager held) users now text (notifying engine own id user level body salt)
+            (spoken_contexts (notification engine own id user level body salt)) (pdu_in body) }
+{
+    spoken_is_accepted();
+}
+
+/// A report is never longer than a datagram can be.
+pub fn report_is_short()
+    ensures { (users : List User) (engine : List ℕ) (own : BootsAndTime) (id : ℕ) (user : List ℕ) (request_id : ℤ) (n value : ℕ) (text : List ℕ)
+        → length engine ≤ 32 → IsPair own → id ≤ 2147483647 → length user ≤ 32 → SealedText users (reporting engine own id user request_id n value) text → length text ≤ 65507 }
+{
+    one_element();
+    sealed_size();
+}
+
+/// Agents whose tables were made of the same rows, each table's with distinct indexes, in whatever order they were loaded,
+/// decide each access alike, and as isAccessAllowed defines on the rows (RFC 3415, section 3).
+pub fn agents_decide_alike()
+    ensures defined { (rows : Tables) (agent : AgentState) → HoldsRows rows agent
+        → (message : Message) (view : Asked) (variable : List ℕ) (answer : Answer) → Allowed agent.tables message view variable answer → Allowed rows message view variable answer }
+    ensures alike { (rows others : Tables) (a b : AgentState) → AreSound rows → HaveSameRows rows others → HoldsRows rows a → HoldsRows others b
+        → (message : Message) (view : Asked) (variable : List ℕ) (answer other : Answer)
+        → Allowed a.tables message view variable answer → Allowed b.tables message view variable other → answer ≡ other }
+{
+    order_is_free();
+}

@@ -1,0 +1,52 @@
+//! Notifications.
+
+ghost use Rattle.std.specs.Prelude.{◌≡◌, ◌≤◌, length, IfSome, IsErrOf};
+ghost use Rattle.usm_core.specs.Sealed.{Seals, IsSealable};
+ghost use Rattle.snmp_sending.specs.Bodies.{BodyFits};
+ghost use Rattle.snmp_sending.specs.Sends.{send_answer};
+ghost use Rattle.snmp_agent.specs.Sent.{notifying};
+
+use engine_clock::{EngineId, Pair};
+use snmp_ber::Level;
+use snmp_outcome::TakeFault;
+use snmp_sending::{Body, Envelope, send};
+use std::alloc::Global;
+use usm_core::Users;
+
+/// To whom a notification goes.
+#[derive(Clone, Copy)]
+pub(crate) struct Recipient<'a> {
+    /// msgID.
+    pub(crate) id: u32,
+    pub(crate) user: &'a [u8],
+    pub(crate) level: Level,
+    pub(crate) salt: [u8; 8],
+}
+
+/// A message of this engine that isn't answered, with its own boots and time.
+pub(crate) fn send_notification(
+    alloc: Global,
+    users: &mut Users,
+    engine: &EngineId,
+    own: Pair,
+    to: &Recipient<'_>,
+    body: &Body<'_>,
+) -> Result<Vec<u8>, TakeFault>
+    requires id { to.now.id ≤ 2147483647 }
+    requires user { length to.now.user.now ≤ 32 }
+    requires body { BodyFits body.now }
+    ensures rows { IfSome (send_answer result) (Seals users.old.users (notifying engine.now own to.now.id to.now.user.now to.now.level body.now to.now.salt)) }
+    ensures memory { IsErrOf result TakeFault.OutOfMemory → IsSealable users.old.users (notifying engine.now own to.now.id to.now.user.now to.now.level body.now to.now.salt) }
+    ensures users { users.new.users ≡ users.old.users }
+{
+    let envelope = Envelope {
+        level: to.level,
+        id: to.id,
+        reportable: false,
+        engine: engine.as_slice(),
+        pair: own,
+        user: to.user,
+        salt: to.salt,
+    };
+    send(alloc, users, &envelope, body)
+}

@@ -1,0 +1,124 @@
+//! Reports (RFC 3414, section 3.2).
+
+ghost use Rattle.std.specs.Prelude.{◌≡◌, ◌≤◌, length, Some, IfOk, OnErr, IfSome, true};
+ghost use Rattle.snmp_ber.specs.declared.level.Level.TheVariants.{AuthNoPriv};
+ghost use Rattle.usm_core.specs.Users.{HasUserAt};
+ghost use Rattle.usm_core.specs.Sealed.{SealedText};
+ghost use Rattle.snmp_outcome.specs.Refusals.{number_of, answer_number};
+ghost use Rattle.snmp_outcome.specs.Outcome.{Outcome, own_pair};
+ghost use Rattle.snmp_outcome.specs.Answers.{refused};
+ghost use Rattle.snmp_agent.specs.Counting.{counter_of};
+ghost use Rattle.snmp_agent.specs.Agent.{taker_at};
+ghost use Rattle.snmp_agent.specs.Report.{Offers, IsReport, report_level, reporting_of, report_of};
+
+use crate::asked::asking;
+use crate::asking::Asking;
+use crate::counting::counter_of;
+use crate::engine::Engine;
+use engine_clock::{EngineId, Pair};
+use snmp_ber::{Level, Oid, int_content};
+use snmp_msg::{Binding, one_cut, one_message};
+use snmp_outcome::TakeFault;
+use snmp_sending::{Body, Envelope, counter_name, send};
+use std::alloc::{AllocError, Global};
+use usm_core::{Users, verified_was_read};
+
+/// The report on a refusal of the datagram, or None where none is offered. These are the counters after the refusal.
+///
+/// The error is want of memory. Where no report is offered, no memory is taken.
+pub(crate) fn report(
+    alloc: Global,
+    users: &mut Users,
+    engine: &Engine,
+    now: u64,
+    counters: &[u32; 6],
+    why: TakeFault,
+    datagram: &[u8],
+) -> Result<Option<Vec<u8>>, AllocError>
+    requires rows { IfSome (refused (answer_number why)) (Outcome (taker_at engine.now) users.old.users now datagram.now) }
+    ensures users { users.new.users ≡ users.old.users }
+    ensures report { IfOk result (λ r. IsReport users.old.users engine.now.id (own_pair engine.now.boots engine.now.started now) counters.now datagram.now (number_of why) (report_of r)) }
+    ensures memory { OnErr result (Offers datagram.now (number_of why)) }
+{
+    one_message();
+    one_cut();
+    verified_was_read();
+    let Some(n) = counter_of(why) else {
+        return Ok(None);
+    };
+    let Some(asking) = asking(datagram) else {
+        return Ok(None);
+    };
+    let Some(own) = engine.pair(now) else {
+        unreachable!();
+    };
+    let value = counters[usize::from(n) - 1];
+    let text = send_report(alloc, users, &engine.id, own, n, value, &asking)?;
+    Ok(Some(text))
+}
+
+/// The level at which counter n is reported (RFC 3414, section 3.2, step 7).
+fn report_level(n: u8) -> Level
+    ensures { result ≡ report_level n }
+{
+    if n == 2 {
+        Level::AuthNoPriv
+    } else {
+        Level::NoAuthNoPriv
+    }
+}
+
+/// The report of counter n. A report is short, and at a level with authentication its user has been authenticated; so the
+/// error is want of memory.
+fn send_report(
+    alloc: Global,
+    users: &mut Users,
+    engine: &EngineId,
+    own: Pair,
+    n: u8,
+    value: u32,
+    asking: &Asking<'_>,
+) -> Result<Vec<u8>, AllocError>
+    requires id { asking.now.id ≤ 2147483647 }
+    requires user { length asking.now.user.now ≤ 32 }
+    requires known { n ≡ 2 → HasUserAt users.old.users asking.now.user.now AuthNoPriv }
+    ensures users { users.new.users ≡ users.old.users }
+    ensures text { IfOk result (λ text. SealedText users.old.users (reporting_of engine.now own n asking.now value) text.items) }
+{
+    let Some(name) = Oid::of(&counter_name(n)) else {
+        unreachable!();
+    };
+    let content = int_content(i64::from(value));
+    let bindings = [Binding {
+        name,
+        tag: 0x41,
+        content: content.as_slice(),
+    }];
+    let body = Body {
+        context_engine: engine.as_slice(),
+        context_name: &[],
+        tag: 0xA8,
+        id: asking.request_id,
+        second: 0,
+        third: 0,
+        bindings: &bindings,
+    };
+    let envelope = Envelope {
+        level: report_level(n),
+        id: asking.id,
+        reportable: false,
+        engine: engine.as_slice(),
+        pair: own,
+        user: asking.user,
+        salt: [0; 8],
+    };
+    match send(alloc, users, &envelope, &body) {
+        Ok(text) => Ok(text),
+        Err(fault) => {
+            if !fault.is_memory() {
+                unreachable!();
+            }
+            Err(AllocError)
+        }
+    }
+}

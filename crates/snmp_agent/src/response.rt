@@ -1,0 +1,69 @@
+//! Responses.
+
+ghost use Rattle.std.specs.Prelude.{◌≡◌, All, map, IfSome, IsErrOf};
+ghost use Rattle.snmp_msg.specs.Scoped.{Contexts, ScopedFront};
+ghost use Rattle.snmp_msg.specs.Pdu.{PduParts, PduText};
+ghost use Rattle.snmp_msg.specs.Variables.{CanBeWritten, variable_of};
+ghost use Rattle.usm_core.specs.Sealed.{Seals, IsSealable};
+ghost use Rattle.snmp_outcome.specs.Texts.{text_of};
+ghost use Rattle.snmp_outcome.specs.Answers.{given_of};
+ghost use Rattle.snmp_sending.specs.Sends.{send_answer};
+ghost use Rattle.snmp_agent.specs.Sent.{responding};
+
+use engine_clock::{EngineId, Pair};
+use snmp_msg::{Binding, one_content};
+use snmp_outcome::{TakeFault, Taken};
+use snmp_sending::{Body, Envelope, send};
+use std::alloc::Global;
+use usm_core::Users;
+
+/// What a Response says besides what it copies.
+#[derive(Clone, Copy)]
+pub(crate) struct Response<'a> {
+    /// error-status.
+    pub(crate) status: i32,
+    /// error-index.
+    pub(crate) index: i32,
+    pub(crate) bindings: &'a [Binding<'a>],
+    pub(crate) salt: [u8; 8],
+}
+
+/// The Response to what was taken, from this engine with its own boots and time.
+pub(crate) fn send_response(
+    alloc: Global,
+    users: &mut Users,
+    engine: &EngineId,
+    own: Pair,
+    taken: &Taken<'_>,
+    response: &Response<'_>,
+) -> Result<Vec<u8>, TakeFault>
+    requires { All (λ b. CanBeWritten (variable_of b)) response.now.bindings.now }
+    ensures rows { (c : Contexts) (p : PduParts) → ScopedFront (text_of taken.now.text) c → PduText c.pdu p
+        → IfSome (send_answer result) (Seals users.old.users (responding engine.now own (given_of taken.now) c p response.now.status response.now.index (map variable_of response.now.bindings.now) response.now.salt)) }
+    ensures memory { (c : Contexts) (p : PduParts) → ScopedFront (text_of taken.now.text) c → PduText c.pdu p → IsErrOf result TakeFault.OutOfMemory
+        → IsSealable users.old.users (responding engine.now own (given_of taken.now) c p response.now.status response.now.index (map variable_of response.now.bindings.now) response.now.salt) }
+    ensures users { users.new.users ≡ users.old.users }
+{
+    one_content();
+    let scoped = taken.scoped();
+    let pdu = taken.pdu();
+    let body = Body {
+        context_engine: scoped.engine,
+        context_name: scoped.name,
+        tag: 0xA2,
+        id: pdu.id,
+        second: response.status,
+        third: response.index,
+        bindings: response.bindings,
+    };
+    let envelope = Envelope {
+        level: taken.level,
+        id: taken.id,
+        reportable: false,
+        engine: engine.as_slice(),
+        pair: own,
+        user: taken.user,
+        salt: response.salt,
+    };
+    send(alloc, users, &envelope, &body)
+}
