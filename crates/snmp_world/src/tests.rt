@@ -1,0 +1,1 @@
+//! Worlds of managers, and the files between them.
