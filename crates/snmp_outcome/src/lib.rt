@@ -9,7 +9,7 @@ mod reading;
 mod taken;
 
 pub use fault::TakeFault;
-pub use laws::{bad_scoped_is_sealed, one_answer, one_text};
+pub use laws::{bad_scoped_is_sealed, one_answer, one_text, replay_bound};
 pub use octets::Octets;
 pub use reading::{open_text, read_text};
 pub use taken::Taken;
