@@ -1,0 +1,3 @@
+//! Managers that share saved marks through files.
+
+pub use snmp_world::{Event, World, WorldFault, WorldStopped};
