@@ -1,0 +1,245 @@
+-- A replay, line by line.
+use Rattle.std.proofs.Common.{◌≡◌, ℕ, ◌+◌, ◌<◌, ◌≤◌, ◌⊎◌, List, [], ◌∷◌, ◌++◌, length, Option, Some, None, IfSome, is_some, true, false, MatchOption, refl, sym, ap, ◌∙◌, arith, inl, inr, append_assoc, append-nil, length-append, subst}
+use Rattle.std.specs.Io.KnownBytes.{Appends, Consumes, IsAtEnd, Keeps}
+use Rattle.std.proofs.KnownBytes.{Appends-nil, Appends-trans, Appends-kept, Consumes-nil, Consumes-trans, Consumes-whole, Keeps-refl}
+use Rattle.engine_clock.specs.Splits.{Lacks}
+use Rattle.engine_clock.specs.Saved.{listing}
+use Rattle.snmp_manager.specs.declared.outcome.Outcome.{Outcome}
+use Rattle.snmp_manager.specs.Views.{Held}
+use Rattle.snmp_manager.specs.Runs.{TakesOne}
+use Rattle.snmpsec_replay.specs.Log.{LogEntry, IsLine, IsLineAt, AreLines, HasNoLine}
+use Rattle.snmpsec_replay.specs.Transfer.{WritesFront}
+use Rattle.snmpsec_replay.specs.Replay.{answer_line, Answers, Replays, ReplayText, Streams, Reads, Stands, Waits, IsLinePart, IsEnd, IsBad, WriteFails, StopsBy, Ends, SavesUnless, WritesSome}
+use Rattle.snmpsec_replay.specs.declared.fault.ReplayFault.{ReplayFault}
+use Rattle.snmpsec_replay.specs.declared.fault.ReplayFault.TheVariants as fault
+use Rattle.snmpsec_replay.specs.declared.replay.Ending.{Ending}
+use Rattle.snmpsec_replay.specs.declared.replay.Ending.TheVariants as ending
+use Rattle.snmpsec_replay.proofs.Texts.{none_over_limit, none_unended, none_past_limit, none_at_line}
+
+-- ---- one line more
+
+lines_more : (k : ℕ) (es : List LogEntry) (read line : List ℕ) (e : LogEntry) → AreLines k es read → IsLineAt (k + length es) line e
+    → AreLines k (es ++ e ∷ []) (read ++ (line ++ 10 ∷ []))
+lines_more k [] read line e h at = (line, [], subst (λ n. IsLineAt n line e) (omega arith) at, ap (λ t. t ++ (line ++ 10 ∷ [])) h, refl)
+lines_more k (x ∷ es) read line e (l, rest, is, parts, later) at =
+    let number : k + length (x ∷ es) ≡ (k + 1) + length es = omega arith in
+    (l, rest ++ (line ++ 10 ∷ []), is, ap (λ t. t ++ (line ++ 10 ∷ [])) parts ∙ append_assoc l (10 ∷ rest) _,
+      lines_more (k + 1) es rest line e later (subst (λ n. IsLineAt n line e) number at))
+
+answers_more : (old : Held) (k : ℕ) (es : List LogEntry) (text : List ℕ) (mid : Held) (e : LogEntry) (outcome : Outcome) (new : Held)
+    → Answers old k es text mid → TakesOne mid e.moment e.datagram outcome new
+    → Answers old k (es ++ e ∷ []) (text ++ answer_line (k + length es) e.moment outcome) new
+answers_more old k [] text mid e outcome new h takes =
+    let number : k + length {A = LogEntry} [] ≡ k = omega arith in
+    (outcome, new, [], subst (λ m. TakesOne m e.moment e.datagram outcome new) h.1 takes,
+      ap (λ t. t ++ answer_line (k + length {A = LogEntry} []) e.moment outcome) h.0 ∙ ap (λ n. answer_line n e.moment outcome) number ∙ sym (append-nil _), (refl, refl))
+answers_more old k (x ∷ es) text mid e outcome new (o, m, rest, first, parts, later) takes =
+    let number : k + length (x ∷ es) ≡ (k + 1) + length es = omega arith in
+    (o, m, rest ++ answer_line (k + length (x ∷ es)) e.moment outcome, first,
+      ap (λ t. t ++ answer_line (k + length (x ∷ es)) e.moment outcome) parts ∙ append_assoc (answer_line k x.moment o) rest _,
+      subst (λ n. Answers m (k + 1) (es ++ e ∷ []) (rest ++ answer_line n e.moment outcome) new) (sym number)
+      (answers_more m (k + 1) es rest mid e outcome new later takes))
+
+-- ---- where a replay stands before line n
+
+abbrev pub IsNext : ℕ → List LogEntry → List ℕ → Type 0
+IsNext n es part = (part ≡ []) × (n ≡ length es + 1)
+
+abbrev pub streams : Option (List ℕ) → Option (List ℕ) → Option (List ℕ) → Option (List ℕ) → Streams
+streams unread left held written = record { unread = unread; left = left; held = held; written = written }
+
+pub starts : (begin : Held) (unread held : Option (List ℕ)) (waiting : List ℕ) → waiting ≡ [] → Waits begin (streams unread unread held held) waiting (IsNext 1) begin
+starts begin unread held waiting none = record {
+  text = [];
+  reads = record {
+    read = [];
+    part = [];
+    replays = record { entries = []; lines = refl; answers = (refl, refl) };
+    consumed = Consumes-nil unread;
+    is_part = (refl, refl);
+  };
+  done = [];
+  parts = sym none;
+  wrote = Appends-nil held;
+}
+
+-- a part of the next line was read
+pub reads_part : {begin now : Held} {unread left held written : Option (List ℕ)} {n : ℕ} {waiting : List ℕ}
+    → Waits begin (streams unread left held written) waiting (IsNext n) now
+    → (left' : Option (List ℕ)) (P : List LogEntry → List ℕ → Type 0) (part waits : List ℕ) → Consumes left left' part → waits ≡ waiting
+    → ((es : List LogEntry) → n ≡ length es + 1 → P es part)
+    → Waits begin (streams unread left' held written) waits P now
+reads_part w left' P part waits c same p =
+    let r = w.reads in
+    record {
+      text = w.text;
+      reads = record {
+        read = r.read;
+        part = part;
+        replays = r.replays;
+        consumed = Consumes-trans _ _ _ _ _ (rw (r.is_part.0, append-nil r.read) at r.consumed) c;
+        is_part = p r.replays.entries r.is_part.1;
+      };
+      done = w.done;
+      parts = w.parts ∙ ap (λ t. w.done ++ t) (sym same);
+      wrote = w.wrote;
+    }
+
+-- the next line was read and answered
+pub reads_line : {begin now : Held} {unread left held written : Option (List ℕ)} {n : ℕ} {waiting : List ℕ}
+    → Waits begin (streams unread left held written) waiting (IsNext n) now
+    → (left' : Option (List ℕ)) (line waits : List ℕ) (e : LogEntry) (outcome : Outcome) (new : Held)
+    → IsLineAt n line e → TakesOne now e.moment e.datagram outcome new → Consumes left left' (line ++ 10 ∷ []) → waits ≡ waiting ++ answer_line n e.moment outcome
+    → Waits begin (streams unread left' held written) waits (IsNext (n + 1)) new
+reads_line {begin = begin} {now = now} {n = n} {waiting = waiting} w left' line waits e outcome new at takes c more =
+    let r = w.reads in
+    let es = r.replays.entries in
+    let number : n ≡ 1 + length es = r.is_part.1 ∙ omega arith in
+    let longer : length (es ++ e ∷ []) ≡ length es + 1 = length-append es (e ∷ []) in
+    record {
+      text = w.text ++ answer_line n e.moment outcome;
+      reads = record {
+        read = r.read ++ (line ++ 10 ∷ []);
+        part = [];
+        replays = record {
+          entries = es ++ e ∷ [];
+          lines = lines_more 1 es r.read line e r.replays.lines (subst (λ k. IsLineAt k line e) number at);
+          answers = subst (λ k. Answers begin 1 (es ++ e ∷ []) (w.text ++ answer_line k e.moment outcome) new) (sym number)
+          (answers_more begin 1 es w.text now e outcome new r.replays.answers takes);
+        };
+        consumed = rw (append-nil (r.read ++ (line ++ 10 ∷ []))) (Consumes-trans _ _ _ _ _ (rw (r.is_part.0, append-nil r.read) at r.consumed) c);
+        is_part = (refl, ap (λ k. k + 1) r.is_part.1 ∙ ap (λ k. k + 1) (sym longer));
+      };
+      done = w.done;
+      parts = ap (λ t. t ++ answer_line n e.moment outcome) w.parts ∙ append_assoc w.done waiting _ ∙ ap (λ t. w.done ++ t) (sym more);
+      wrote = w.wrote;
+    }
+
+-- a front of what waited was written
+pub writes_some : {begin now : Held} {unread left held written : Option (List ℕ)} {waiting : List ℕ} {P : List LogEntry → List ℕ → Type 0}
+    → Waits begin (streams unread left held written) waiting P now
+    → (written' : Option (List ℕ)) (waits : List ℕ) → WritesSome written written' waiting waits
+    → Waits begin (streams unread left held written') waits P now
+writes_some w written' waits (front, cut, a) = record {
+  text = w.text;
+  reads = record { read = w.reads.read; part = w.reads.part; replays = w.reads.replays; consumed = w.reads.consumed; is_part = w.reads.is_part };
+  done = w.done ++ front;
+  parts = w.parts ∙ ap (λ t. w.done ++ t) cut ∙ sym (append_assoc w.done front waits);
+  wrote = Appends-trans _ _ _ _ _ w.wrote a;
+}
+
+-- all is written
+pub stands : {begin now : Held} {unread left held written : Option (List ℕ)} {waiting : List ℕ} {P : List LogEntry → List ℕ → Type 0}
+    → Waits begin (streams unread left held written) waiting P now
+    → (written' : Option (List ℕ)) → Appends written written' waiting → Stands begin (streams unread left held written') P now
+stands {held = held} w written' a = record {
+  text = w.text;
+  reads = record { read = w.reads.read; part = w.reads.part; replays = w.reads.replays; consumed = w.reads.consumed; is_part = w.reads.is_part };
+  wrote = subst (Appends held written') (sym w.parts) (Appends-trans _ _ _ _ _ w.wrote a);
+}
+
+-- what waited couldn't be written
+pub write_fails : {begin now : Held} {unread left held written : Option (List ℕ)} {waiting : List ℕ} {P : List LogEntry → List ℕ → Type 0}
+    → Waits begin (streams unread left held written) waiting P now
+    → ((es : List LogEntry) (part : List ℕ) → P es part → IsLinePart part)
+    → (written' : Option (List ℕ)) → WritesFront written written' waiting → WriteFails begin (streams unread left held written')
+write_fails {now = now} w is written' (front, rest, cut, a) = record {
+  text = w.text;
+  after = now;
+  front = inl (
+    record { read = w.reads.read; part = w.reads.part; replays = w.reads.replays; consumed = w.reads.consumed; is_part = is _ _ w.reads.is_part },
+    (w.done ++ front, rest, w.parts ∙ ap (λ t. w.done ++ t) cut ∙ sym (append_assoc w.done front rest), Appends-trans _ _ _ _ _ w.wrote a)
+  );
+}
+
+-- ---- the parts of a line
+
+pub part_none : (part : List ℕ) → part ≡ [] → IsLinePart part
+part_none part e = ([], tt, inl e)
+
+pub part_plain : (part : List ℕ) → Lacks 10 part → IsLinePart part
+part_plain part h = (part, h, inl refl)
+
+pub part_line : (line : List ℕ) → Lacks 10 line → IsLinePart (line ++ 10 ∷ [])
+part_line line h = (line, h, inr refl)
+
+pub part_octet : (x : ℕ) → (x ≡ 10) ⊎ (x ≡ 10 → ⊥) → IsLinePart (x ∷ [])
+part_octet x (inl e) = ([], tt, inr (ap (λ y. y ∷ []) e))
+part_octet x (inr n) = (x ∷ [], (n, tt), inl refl)
+
+pub bad_front : (left : Option (List ℕ)) (n : ℕ) (part : List ℕ) → Lacks 10 part → (131072 < length part) ⊎ ((0 < length part) × IsAtEnd left)
+    → (es : List LogEntry) → n ≡ length es + 1 → IsBad left n es part
+bad_front left n part h (inl long) es number = record { number = number; line = part_plain part h; more = omega (arith, long); none = λ rest is. none_over_limit n part rest h long }
+bad_front left n part h (inr end) es number = record { number = number; line = part_plain part h; more = end.0; none = λ rest is. none_unended n part rest h (rw is at end.1) }
+
+pub bad_line : (left : Option (List ℕ)) (n : ℕ) (line : List ℕ) → Lacks 10 line → ((e : LogEntry) → IsLine line e → ⊥)
+    → (es : List LogEntry) → n ≡ length es + 1 → IsBad left n es (line ++ 10 ∷ [])
+bad_line left n line h none es number = record {
+  number = number;
+  line = part_line line h;
+  more = (let l = length-append line (10 ∷ []) in omega (arith, l));
+  none = λ rest is. none_at_line n line rest h none;
+}
+
+pub bad_number : (left : Option (List ℕ)) (n x : ℕ) → (x ≡ 10) ⊎ (x ≡ 10 → ⊥) → n ≡ 1000001 → (es : List LogEntry) → n ≡ length es + 1 → IsBad left 1000001 es (x ∷ [])
+bad_number left n x d past es number = record {
+  number = sym past ∙ number;
+  line = part_octet x d;
+  more = omega arith;
+  none = λ rest is. none_past_limit ((x ∷ []) ++ rest);
+}
+
+-- ---- the end
+
+pub saves : {begin now : Held} {unread left held written : Option (List ℕ)}
+    → Stands begin (streams unread left held written) (IsEnd left) now
+    → (written' : Option (List ℕ)) → Appends written written' (listing now.clocks)
+    → IfSome unread (λ log. (text : List ℕ) × ReplayText begin log text × Appends held written' text)
+saves {begin = begin} {now = now} {unread = unread} {left = left} {held = held} s written' a =
+    let r = s.reads in
+    let c = rw (r.is_part.0, append-nil r.read) at r.consumed in
+    Consumes-whole unread left r.read _ c r.is_part.1
+    (s.text ++ listing now.clocks, record { answers = s.text; after = now; replays = r.replays; is = refl }, Appends-trans _ _ _ _ _ s.wrote a)
+
+pub save_fails : {begin now : Held} {unread left held written : Option (List ℕ)}
+    → Stands begin (streams unread left held written) (IsEnd left) now
+    → (written' : Option (List ℕ)) (e : ReplayFault) → SavesUnless (listing now.clocks) written written' e → StopsBy begin (streams unread left held written') e
+save_fails s written' (fault.LogLine m) h = absurd h
+save_fails s written' fault.CannotRead h = absurd h
+save_fails {now = now} s written' fault.CannotWrite (front, rest, cut, a) = record {
+  text = s.text;
+  after = now;
+  front = inr (
+    record { read = s.reads.read; part = s.reads.part; replays = s.reads.replays; consumed = s.reads.consumed; is_part = s.reads.is_part },
+    (s.text ++ front, rest, ap (λ t. s.text ++ t) cut ∙ sym (append_assoc s.text front rest), Appends-trans _ _ _ _ _ s.wrote a)
+  );
+}
+save_fails {now = now} s written' fault.OutOfMemory k = (now, record {
+  text = s.text;
+  reads = record { read = s.reads.read; part = s.reads.part; replays = s.reads.replays; consumed = s.reads.consumed; is_part = part_none _ s.reads.is_part.0 };
+  wrote = Appends-kept _ _ _ _ s.wrote k;
+})
+
+pub ends_write_fails : (begin now : Held) (unread left held written : Option (List ℕ)) (waiting : List ℕ) (e : Ending)
+    → Ends begin now (streams unread left held written) waiting e
+    → (written' : Option (List ℕ)) → WritesFront written written' waiting → WriteFails begin (streams unread left held written')
+ends_write_fails begin now unread left held written waiting ending.Whole h written' w = write_fails h (λ es part p. part_none part p.0) written' w
+ends_write_fails begin now unread left held written waiting (ending.LogLine n) h written' w = write_fails h.1 (λ es part p. p.line) written' w
+ends_write_fails begin now unread left held written waiting ending.CannotRead h written' w = write_fails h.1 (λ es part p. part_plain part p) written' w
+ends_write_fails begin now unread left held written waiting ending.OutOfMemory h written' w = write_fails h.1 (λ es part p. p) written' w
+
+-- ---- one octet
+
+pub octet_at_end : (P : Type 0) (Q : ℕ → Type 0) (o : Option ℕ) → is_some o ≡ false → MatchOption o P Q → P
+octet_at_end P Q None h m = m
+octet_at_end P Q (Some x) h m = absurd cc
+
+pub octet_given : (P : Type 0) (Q : ℕ → Type 0) (o : Option ℕ) → is_some o ≡ true → MatchOption o P Q → (x : ℕ) × Q x
+octet_given P Q None h m = absurd cc
+octet_given P Q (Some x) h m = (x, m)
+
+-- a reader that kept its bytes gave none
+pub kept_none : (a b : Option (List ℕ)) → Keeps a b → Consumes a b []
+kept_none None b k = tt
+kept_none (Some x) None k = absurd k
+kept_none (Some x) (Some y) k = sym k

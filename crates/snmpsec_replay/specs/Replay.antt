@@ -1,0 +1,145 @@
+-- What a replay writes for a log, and what it has written where it stops.
+use Rattle.std.specs.Prelude.{◌≡◌, ◌⊎◌, ℕ, ◌+◌, ◌<◌, List, [], ◌∷◌, ◌++◌, length, codes, Option, Some, None, decimal}
+use Rattle.std.specs.Io.KnownBytes.{Appends, Consumes, IsAtEnd, Keeps}
+use Rattle.hex.specs.Hex.{encode_lower}
+use Rattle.snmp_ber.specs.declared.level.Level.{Level}
+use Rattle.snmp_ber.specs.declared.level.Level.TheVariants.{NoAuthNoPriv, AuthNoPriv, AuthPriv}
+use Rattle.engine_clock.specs.Splits.{Lacks}
+use Rattle.engine_clock.specs.Saved.{listing}
+use Rattle.snmp_manager.specs.declared.outcome.Outcome.{Outcome}
+use Rattle.snmp_manager.specs.declared.outcome.Outcome.TheVariants.{Accepted, Refused}
+use Rattle.snmp_outcome.specs.Refusals.{number_of, name_of}
+use Rattle.snmp_manager.specs.Views.{Held}
+use Rattle.snmp_manager.specs.Runs.{TakesOne}
+use Rattle.snmpsec_replay.specs.Log.{LogEntry, IsLine, AreLines, HasNoLine}
+use Rattle.snmpsec_replay.specs.Transfer.{WritesFront}
+use Rattle.snmpsec_replay.specs.declared.fault.ReplayFault.{ReplayFault}
+use Rattle.snmpsec_replay.specs.declared.fault.ReplayFault.TheVariants as fault
+use Rattle.snmpsec_replay.specs.declared.replay.Ending.{Ending}
+use Rattle.snmpsec_replay.specs.declared.replay.Ending.TheVariants as ending
+use Rattle.snmpsec_replay.specs.declared.replay.Step.{Step}
+use Rattle.snmpsec_replay.specs.declared.replay.Step.TheVariants as step
+
+-- ---- the words
+
+abbrev pub level_word : Level → List ℕ
+level_word NoAuthNoPriv = codes "noAuthNoPriv"
+level_word AuthNoPriv = codes "authNoPriv"
+level_word AuthPriv = codes "authPriv"
+
+abbrev pub outcome_text : Outcome → List ℕ
+outcome_text (Accepted level tag) = codes "accepted " ++ (level_word level ++ (codes " " ++ encode_lower (tag ∷ [])))
+outcome_text (Refused why) = codes "refused " ++ (decimal (number_of why) ++ (codes " " ++ name_of why))
+
+-- the line for the datagram of line n
+unfoldable pub answer_line : ℕ → ℕ → Outcome → List ℕ
+answer_line n moment outcome = decimal n ++ (codes " " ++ (decimal moment ++ (codes " " ++ (outcome_text outcome ++ codes "\n"))))
+
+-- ---- the text
+
+-- the manager `old` takes the entries of a log from line n on, `text` has a line for each, and then it is `new`
+abbrev pub Answers : Held → ℕ → List LogEntry → List ℕ → Held → Type 0
+Answers old n [] text new = (text ≡ []) × (new ≡ old)
+Answers old n (e ∷ es) text new =
+    (outcome : Outcome) × (mid : Held) × (rest : List ℕ) × TakesOne old e.moment e.datagram outcome mid
+    × (text ≡ answer_line n e.moment outcome ++ rest) × Answers mid (n + 1) es rest new
+
+-- the manager `begin` takes the lines of the log, `text` has a line for each, and then it is `after`
+pub record Replays (begin : Held) (log text : List ℕ) (after : Held) : Type 0 where
+  pub entries : List LogEntry
+  pub lines : AreLines 1 entries log
+  pub answers : Answers begin 1 entries text after
+
+-- a line for each line of the log, and then the saved text
+pub record ReplayText (begin : Held) (log text : List ℕ) : Type 0 where
+  pub answers : List ℕ
+  pub after : Held
+  pub replays : Replays begin log answers after
+  pub is : text ≡ answers ++ listing after.clocks
+
+-- ---- where a replay stops
+
+-- the bytes that a reader has left and that a writer holds, before and after
+pub record Streams : Type 0 where
+  pub unread : Option (List ℕ)
+  pub left : Option (List ℕ)
+  pub held : Option (List ℕ)
+  pub written : Option (List ℕ)
+
+-- `read` is whole lines, a part was read after it, and `text` answers the lines
+pub record Reads (begin : Held) (s : Streams) (IsPart : List LogEntry → List ℕ → Type 0) (text : List ℕ) (after : Held) : Type 0 where
+  pub read : List ℕ
+  pub part : List ℕ
+  pub replays : Replays begin read text after
+  pub consumed : Consumes s.unread s.left (read ++ part)
+  pub is_part : IsPart replays.entries part
+
+-- and the text is written
+pub record Stands (begin : Held) (s : Streams) (IsPart : List LogEntry → List ℕ → Type 0) (after : Held) : Type 0 where
+  pub text : List ℕ
+  pub reads : Reads begin s IsPart text after
+  pub wrote : Appends s.held s.written text
+
+-- at most one line, with its line feed or without
+abbrev pub IsLinePart : List ℕ → Type 0
+IsLinePart part = (line : List ℕ) × Lacks 10 line × ((part ≡ line) ⊎ (part ≡ line ++ 10 ∷ []))
+
+-- nothing more, and the reader is at its end
+abbrev pub IsEnd : Option (List ℕ) → List LogEntry → List ℕ → Type 0
+IsEnd left es part = (part ≡ []) × IsAtEnd left
+
+-- what is next is line n, which is none
+pub record IsBad (left : Option (List ℕ)) (n : ℕ) (es : List LogEntry) (part : List ℕ) : Type 0 where
+  pub number : n ≡ length es + 1
+  pub line : IsLinePart part
+  pub more : 0 < length part
+  pub none : (rest : List ℕ) → left ≡ Some rest → HasNoLine n (part ++ rest)
+
+-- A write failed: what is written is a front of what answers the lines that were read, or of the whole text.
+pub record WriteFails (begin : Held) (s : Streams) : Type 0 where
+  pub text : List ℕ
+  pub after : Held
+  pub front : (Reads begin s (λ es part. IsLinePart part) text after × WritesFront s.held s.written text)
+      ⊎ (Reads begin s (IsEnd s.left) text after × WritesFront s.held s.written (text ++ listing after.clocks))
+
+-- what a replay by the manager `begin` has done where it stops with a fault
+abbrev pub StopsBy : Held → Streams → ReplayFault → Type 0
+StopsBy begin s (fault.LogLine n) = (after : Held) × Stands begin s (IsBad s.left n) after
+StopsBy begin s fault.CannotRead = (after : Held) × Stands begin s (λ es part. Lacks 10 part) after
+StopsBy begin s fault.CannotWrite = WriteFails begin s
+StopsBy begin s fault.OutOfMemory = (after : Held) × Stands begin s (λ es part. IsLinePart part) after
+
+-- ---- between the functions
+
+-- a front of the text is written, and the rest waits
+pub record Waits (begin : Held) (s : Streams) (waiting : List ℕ) (IsPart : List LogEntry → List ℕ → Type 0) (after : Held) : Type 0 where
+  pub text : List ℕ
+  pub reads : Reads begin s IsPart text after
+  pub done : List ℕ
+  pub parts : text ≡ done ++ waiting
+  pub wrote : Appends s.held s.written done
+
+-- where the lines end, with what is not yet written
+abbrev pub Ends : Held → Held → Streams → List ℕ → Ending → Type 0
+Ends begin now s waiting ending.Whole = Waits begin s waiting (IsEnd s.left) now
+Ends begin now s waiting (ending.LogLine n) = (after : Held) × Waits begin s waiting (IsBad s.left n) after
+Ends begin now s waiting ending.CannotRead = (after : Held) × Waits begin s waiting (λ es part. Lacks 10 part) after
+Ends begin now s waiting ending.OutOfMemory = (after : Held) × Waits begin s waiting (λ es part. IsLinePart part) after
+
+-- what one line does to the manager and to what is not yet written
+abbrev pub AnswersLine : Held → ℕ → List ℕ → List ℕ → Held → List ℕ → Step → Type 0
+AnswersLine old n line waited new waits step.Answered =
+    (e : LogEntry) × (outcome : Outcome) × IsLine line e × TakesOne old e.moment e.datagram outcome new × (waits ≡ waited ++ answer_line n e.moment outcome)
+AnswersLine old n line waited new waits step.OutOfForm = ((e : LogEntry) → IsLine line e → ⊥) × (waits ≡ waited)
+AnswersLine old n line waited new waits step.OutOfMemory = waits ≡ waited
+
+-- what the saved text has done where it stops
+abbrev pub SavesUnless : List ℕ → Option (List ℕ) → Option (List ℕ) → ReplayFault → Type 0
+SavesUnless text old new (fault.LogLine m) = ⊥
+SavesUnless text old new fault.CannotRead = ⊥
+SavesUnless text old new fault.CannotWrite = WritesFront old new text
+SavesUnless text old new fault.OutOfMemory = Keeps old new
+
+-- A front of what waited was written, and the rest waits.
+abbrev pub WritesSome : Option (List ℕ) → Option (List ℕ) → List ℕ → List ℕ → Type 0
+WritesSome old new waited waits = (front : List ℕ) × (waited ≡ front ++ waits) × Appends old new front

@@ -1,0 +1,230 @@
+//! A log taken by a manager, line by line.
+ghost use Rattle.std.specs.Prelude.{◌≡◌, [], IfOk, OnOk, OnErr, IfErr, IfSome, List, ℕ, string_bytes};
+ghost use Rattle.std.specs.Io.KnownBytes.{Appends};
+ghost use Rattle.engine_clock.specs.Saved.{listing};
+ghost use Rattle.snmpsec_replay.specs.Transfer.{WritesFront};
+ghost use Rattle.snmpsec_replay.specs.Replay.{AnswersLine, Ends, ReplayText, SavesUnless, StopsBy, WriteFails, WritesSome, answer_line, level_word, outcome_text};
+
+use crate::fault::ReplayFault;
+use crate::log::{LINE_LIMIT, LINES_LIMIT, NextLine, read_entry, read_line};
+use crate::transfer::{Failed, read_octet, write_whole};
+use snmp_ber::Level;
+use snmp_manager::{Manager, Outcome};
+use std::alloc::{AllocError, Global};
+use std::io::{Read, Write};
+
+/// How many octets wait before they are written.
+const PIECE: usize = 8_192;
+
+/// Where the lines of a log end.
+#[derive(Clone, Copy, Debug, PartialEq, Eq)]
+pub(crate) enum Ending {
+    /// Each line was taken.
+    Whole,
+    /// The line of this number is out of its form or past the limits.
+    LogLine(u32),
+    /// A read failed.
+    CannotRead,
+    /// A growth of memory was refused.
+    OutOfMemory,
+}
+
+/// What became of a line.
+#[derive(Clone, Copy, Debug, PartialEq, Eq)]
+pub(crate) enum Step {
+    /// Its datagram was taken.
+    Answered,
+    /// It is no line of a log.
+    OutOfForm,
+    /// A growth of memory was refused.
+    OutOfMemory,
+}
+
+/// The word for a level.
+fn level_word(level: Level) -> &'static str
+    ensures { result.now ≡ level_word level }
+{
+    match level {
+        Level::NoAuthNoPriv => "noAuthNoPriv",
+        Level::AuthNoPriv => "authNoPriv",
+        Level::AuthPriv => "authPriv",
+    }
+}
+
+/// The words for an outcome.
+fn outcome_text(alloc: Global, outcome: Outcome) -> Result<String, AllocError>
+    ensures { IfOk result (λ text. string_bytes text ≡ outcome_text outcome) }
+{
+    match outcome {
+        Outcome::Accepted { level, tag } => {
+            let mut text = String::from_str(alloc, "accepted ")?;
+            text.push_str(level_word(level))?;
+            text.push_str(" ")?;
+            text.push_str(hex::encode(alloc, [tag].as_slice())?.as_str())?;
+            Ok(text)
+        }
+        Outcome::Refused(why) => {
+            let (number, name) = (why.number(), why.name());
+            format!(in alloc; "refused {number} {name}")
+        }
+    }
+}
+
+/// The line for the datagram of line `number`.
+#[tactic(auto, unfolding(crate::specs::Replay::answer_line))]
+fn answer_line(
+    alloc: Global,
+    number: u32,
+    moment: u64,
+    outcome: Outcome,
+) -> Result<String, AllocError>
+    ensures { IfOk result (λ text. string_bytes text ≡ answer_line number moment outcome) }
+{
+    let words = outcome_text(alloc, outcome)?;
+    format!(in alloc; "{number} {moment} {words}\n")
+}
+
+/// Takes the datagram of a line, and adds its answer to what waits to be written.
+fn answer(
+    alloc: Global,
+    manager: &mut Manager,
+    number: u32,
+    line: &[u8],
+    waiting: &mut Vec<u8>,
+) -> Step
+    ensures { AnswersLine manager.old number line.now waiting.old.items manager.new waiting.new.items result }
+{
+    let Ok(entry) = read_entry(alloc, line) else {
+        return Step::OutOfMemory;
+    };
+    let Some(entry) = entry else {
+        return Step::OutOfForm;
+    };
+    let Ok(outcome) = manager.take_one(entry.moment, &entry.datagram) else {
+        return Step::OutOfMemory;
+    };
+    let Ok(text) = answer_line(alloc, number, entry.moment, outcome) else {
+        return Step::OutOfMemory;
+    };
+    let Ok(()) = waiting.extend_from_slice(text.as_bytes()) else {
+        return Step::OutOfMemory;
+    };
+    Step::Answered
+}
+
+/// Writes what waits, where it is a piece.
+fn write_piece<W: Write>(writer: &mut W, waiting: &mut Vec<u8>) -> Result<(), Failed>
+    ensures ok { OnOk result (WritesSome (W.contents writer.old) (W.contents writer.new) waiting.old.items waiting.new.items) }
+    ensures err { OnErr result (WritesFront (W.contents writer.old) (W.contents writer.new) waiting.old.items) }
+{
+    if waiting.len() < PIECE {
+        return Ok(());
+    }
+    let Ok(()) = write_whole(writer, waiting) else {
+        return Err(Failed);
+    };
+    waiting.clear();
+    Ok(())
+}
+
+/// Takes the lines of a log. What answers them is written, or waits to be.
+fn answer_lines<R: Read, W: Write>(
+    alloc: Global,
+    manager: &mut Manager,
+    reader: &mut R,
+    writer: &mut W,
+    waiting: &mut Vec<u8>,
+) -> Result<Ending, Failed>
+    requires { waiting.old.items ≡ [] }
+    ensures ok { IfOk result (Ends manager.old manager.new record {
+      unread = R.remaining reader.old;
+      left = R.remaining reader.new;
+      held = W.contents writer.old;
+      written = W.contents writer.new;
+    } waiting.new.items) }
+    ensures err { OnErr result (WriteFails manager.old record {
+      unread = R.remaining reader.old;
+      left = R.remaining reader.new;
+      held = W.contents writer.old;
+      written = W.contents writer.new;
+    }) }
+{
+    let Ok(mut line) = Vec::with_capacity(alloc, LINE_LIMIT) else {
+        return Ok(Ending::OutOfMemory);
+    };
+    for number in 1..LINES_LIMIT + 1 {
+        let Ok(next) = read_line(reader, &mut line) else {
+            return Ok(Ending::CannotRead);
+        };
+        match next {
+            NextLine::Whole => {}
+            NextLine::End => return Ok(Ending::Whole),
+            NextLine::OutOfForm => return Ok(Ending::LogLine(number)),
+        }
+        match answer(alloc, manager, number, &line, waiting) {
+            Step::Answered => {}
+            Step::OutOfForm => return Ok(Ending::LogLine(number)),
+            Step::OutOfMemory => return Ok(Ending::OutOfMemory),
+        }
+        let Ok(()) = write_piece(writer, waiting) else {
+            return Err(Failed);
+        };
+    }
+    let Ok(next) = read_octet(reader) else {
+        return Ok(Ending::CannotRead);
+    };
+    if next.is_some() {
+        return Ok(Ending::LogLine(LINES_LIMIT + 1));
+    }
+    Ok(Ending::Whole)
+}
+
+/// Writes the saved text.
+fn save<W: Write>(manager: &Manager, writer: &mut W) -> Result<(), ReplayFault>
+    ensures ok { OnOk result (Appends (W.contents writer.old) (W.contents writer.new) (listing manager.now.clocks)) }
+    ensures err { IfErr result (SavesUnless (listing manager.now.clocks) (W.contents writer.old) (W.contents writer.new)) }
+{
+    let Ok(text) = manager.save() else {
+        return Err(ReplayFault::OutOfMemory);
+    };
+    match write_whole(writer, &text) {
+        Ok(()) => Ok(()),
+        Err(_) => Err(ReplayFault::CannotWrite),
+    }
+}
+
+/// Takes the datagrams of a log, one a line, and writes a line for each, and at the end the saved text of what the manager holds.
+/// It holds one line at a time, of at most 131,072 octets, and reads at most 1,000,000.
+///
+/// The errors are LogLine(n), where line n is the first that is out of its form or past these limits; CannotRead and CannotWrite,
+/// where a read or a write fails, or is interrupted 1,000 times in a row; and OutOfMemory. Before each of them but CannotWrite
+/// the lines of all datagrams that were taken are written, and no saved text.
+pub fn replay_log<R: Read, W: Write>(
+    alloc: Global,
+    mut manager: Manager,
+    reader: &mut R,
+    writer: &mut W,
+) -> Result<(), ReplayFault>
+    ensures ok { OnOk result (IfSome (R.remaining reader.old) (λ log. (text : List ℕ) × ReplayText manager log text
+        × Appends (W.contents writer.old) (W.contents writer.new) text)) }
+    ensures err { IfErr result (StopsBy manager record {
+      unread = R.remaining reader.old;
+      left = R.remaining reader.new;
+      held = W.contents writer.old;
+      written = W.contents writer.new;
+    }) }
+{
+    let mut waiting = Vec::new(alloc);
+    let Ok(ending) = answer_lines(alloc, &mut manager, reader, writer, &mut waiting) else {
+        return Err(ReplayFault::CannotWrite);
+    };
+    let Ok(()) = write_whole(writer, &waiting) else {
+        return Err(ReplayFault::CannotWrite);
+    };
+    match ending {
+        Ending::Whole => save(&manager, writer),
+        Ending::LogLine(number) => Err(ReplayFault::LogLine(number)),
+        Ending::CannotRead => Err(ReplayFault::CannotRead),
+        Ending::OutOfMemory => Err(ReplayFault::OutOfMemory),
+    }
+}
