@@ -1,6 +1,8 @@
 //! The laws of managers, agents and worlds. Each function does nothing: its contract is the law.
 
-pub use snmp_agent::{agents_decide_alike, notification_is_accepted, report_is_short, response_is_accepted};
+pub use snmp_agent::{
+    agents_decide_alike, notification_is_accepted, report_is_short, response_is_accepted,
+};
 pub use snmp_manager::{runs_are_joined, same_authentic_same_latest, same_authentic_same_pairs};
 pub use snmp_outcome::{bad_scoped_is_sealed, one_answer, one_text, replay_bound};
 pub use snmp_sending::{request_is_accepted, sealed_is_accepted, spoken_is_accepted};

@@ -50,10 +50,7 @@ pub(crate) enum Measured<'a> {
 ///
 /// They are read in the order msgData, msgSecurityParameters and, where the priv flag is clear, PDU. The error is that of the
 /// first that refuses, and comes exactly where one does: NotScoped, NotSecurity or NotPdu. No memory is taken.
-pub fn read_layers<'a>(
-    datagram: &'a [u8],
-    message: &Message<'a>,
-) -> Result<Layers<'a>, MsgFault>
+pub fn read_layers<'a>(datagram: &'a [u8], message: &Message<'a>) -> Result<Layers<'a>, MsgFault>
     requires { Outer datagram.now (parts message.now) }
     ensures exact { MatchResult result (λ m. Says datagram.now (whole_of m)) (RefusesWhole datagram.now) }
     ensures fits { IfOk result (λ m. WholeFits (whole_of m)) }

@@ -99,12 +99,12 @@ same_listed a b fa fb e = one_listing a b fa fb (same_text (listing a) (listing 
 pub greatest_at_first : (world : WorldState) → HasGreatest (at_first world) world
 greatest_at_first world = record {
   managers = λ i held at engine.
-    latest_alike (λ q. mark_at held.clocks engine ≡ Some q) ((at_first world).managers i engine)
+      latest_alike (λ q. mark_at held.clocks engine ≡ Some q) ((at_first world).managers i engine)
       (λ q is. (held, at, is))
       (λ q m. let e : Some m.0 ≡ Some held = sym m.1 ∙ at in let h : m.0 ≡ held = cc e in subst (λ (x : Held). mark_at x.clocks engine ≡ Some q) h m.2)
       (mark_at held.clocks engine) (greatest-held mark_order (mark_at held.clocks engine));
   files = λ f marks fits at engine.
-    latest_alike (λ q. mark_at marks engine ≡ Some q) ((at_first world).files f engine)
+      latest_alike (λ q. mark_at marks engine ≡ Some q) ((at_first world).files f engine)
       (λ q is. (marks, fits, at, is))
       (λ q m. let h : m.0 ≡ marks = same_listed m.0 marks m.1 fits (sym m.2 ∙ at) in subst (λ (x : Marks). mark_at x engine ≡ Some q) h m.3)
       (mark_at marks engine) (greatest-held mark_order (mark_at marks engine));
@@ -122,26 +122,26 @@ saved_files users k old new i greatest steps f marks fits at engine =
           let count = greatest.saved in
           let other : f ≢ k.saved = omega (arith, within, count) in
           latest_alike (k.files f engine) ((knows_after users (Save i) k).files f engine)
-            (λ q h. inl (other, h)) (λ q m. elim m [ inl h ↦ h.1 | inr h ↦ absurd (other h.0) ])
-            (mark_at marks engine) (greatest.files f marks fits before engine)
+          (λ q h. inl (other, h)) (λ q m. elim m [ inl h ↦ h.1 | inr h ↦ absurd (other h.0) ])
+          (mark_at marks engine) (greatest.files f marks fits before engine)
       | inr last ↦
           let same : f ≡ k.saved = last.0 ∙ sym greatest.saved in
           latest_alike (k.managers i engine) ((knows_after users (Save i) k).files f engine)
-            (λ q h. inr (same, h)) (λ q m. elim m [ inl h ↦ absurd (h.0 same) | inr h ↦ h.1 ])
-            (mark_at marks engine)
-            (subst (λ (m : Marks). IsGreatestMarkOf (k.managers i engine) (mark_at m engine)) (one_listing steps.1.held.clocks marks steps.1.fits fits last.1) (greatest.managers i steps.1.held steps.1.was engine))
+          (λ q h. inr (same, h)) (λ q m. elim m [ inl h ↦ absurd (h.0 same) | inr h ↦ h.1 ])
+          (mark_at marks engine)
+          (subst (λ (m : Marks). IsGreatestMarkOf (k.managers i engine) (mark_at m engine)) (one_listing steps.1.held.clocks marks steps.1.fits fits last.1) (greatest.managers i steps.1.held steps.1.was engine))
     ]
 
 -- after one event
 pub greatest_after : (users : List User) (k : Knowing) (old new : WorldState) (event : Event) → HaveUsers users old → HasGreatest k old → Steps old event new → HasGreatest (knows_after users event k) new
 greatest_after users k old new (Take i now w) have greatest steps = record {
   managers = changed k.managers (knows_after users (Take i now w) k).managers i _ old.managers new.managers steps.0 greatest.managers
-    (λ j e q n s. inl s) (λ j e q n m. elim m [ inl s ↦ s | inr h ↦ absurd (n h.0) ])
-    (λ before after was learns e latest.
+      (λ j e q n s. inl s) (λ j e q n m. elim m [ inl s ↦ s | inr h ↦ absurd (n h.0) ])
+      (λ before after was learns e latest.
       latest_alike (λ q. k.managers i e q ⊎ AuthenticAt users now w.items e q) ((knows_after users (Take i now w) k).managers i e)
-        (λ q m. elim m [ inl s ↦ inl s | inr a ↦ inr (refl, a) ]) (λ q m. elim m [ inl s ↦ inl s | inr h ↦ inr h.1 ])
-        (mark_at after.clocks e)
-        (learns_set users now w.items before.clocks after.clocks e (k.managers i e) (subst (λ us. LearnsFrom us now w.items before.clocks after.clocks) (have i before was) learns) latest));
+      (λ q m. elim m [ inl s ↦ inl s | inr a ↦ inr (refl, a) ]) (λ q m. elim m [ inl s ↦ inl s | inr h ↦ inr h.1 ])
+      (mark_at after.clocks e)
+      (learns_set users now w.items before.clocks after.clocks e (k.managers i e) (subst (λ us. LearnsFrom us now w.items before.clocks after.clocks) (have i before was) learns) latest));
   files = files_stay k old new greatest steps.1;
   saved = greatest.saved ∙ sym (ap (λ (fs : List (List ℕ)). length fs) steps.1);
 }
@@ -152,23 +152,23 @@ greatest_after users k old new (Save i) have greatest steps = record {
 }
 greatest_after users k old new (Absorb i f now) have greatest steps = record {
   managers = changed k.managers (knows_after users (Absorb i f now) k).managers i _ old.managers new.managers steps.0.2 greatest.managers
-    (λ j e q n s. inl s) (λ j e q n m. elim m [ inl s ↦ s | inr h ↦ absurd (n h.0) ])
-    (λ before after was joins e latest.
+      (λ j e q n s. inl s) (λ j e q n m. elim m [ inl s ↦ s | inr h ↦ absurd (n h.0) ])
+      (λ before after was joins e latest.
       latest_alike (λ q. k.managers i e q ⊎ k.files f e q) ((knows_after users (Absorb i f now) k).managers i e)
-        (λ q m. elim m [ inl s ↦ inl s | inr h ↦ inr (refl, h) ]) (λ q m. elim m [ inl s ↦ inl s | inr h ↦ inr h.1 ])
-        (mark_at after.clocks e)
-        (IsGreatestMarkOf-absorbed (k.managers i e) (k.files f e) before.clocks steps.0.0 after.clocks joins e latest (greatest.files f steps.0.0 steps.0.1.fits steps.0.1.there e)));
+      (λ q m. elim m [ inl s ↦ inl s | inr h ↦ inr (refl, h) ]) (λ q m. elim m [ inl s ↦ inl s | inr h ↦ inr h.1 ])
+      (mark_at after.clocks e)
+      (IsGreatestMarkOf-absorbed (k.managers i e) (k.files f e) before.clocks steps.0.0 after.clocks joins e latest (greatest.files f steps.0.0 steps.0.1.fits steps.0.1.there e)));
   files = files_stay k old new greatest steps.1;
   saved = greatest.saved ∙ sym (ap (λ (fs : List (List ℕ)). length fs) steps.1);
 }
 greatest_after users k old new (Restart i f now) have greatest steps = record {
   managers = changed k.managers (knows_after users (Restart i f now) k).managers i _ old.managers new.managers steps.0.2 greatest.managers
-    (λ j e q n s. inl (n, s)) (λ j e q n m. elim m [ inl s ↦ s.1 | inr h ↦ absurd (n h.0) ])
-    (λ before after was same e latest.
+      (λ j e q n s. inl (n, s)) (λ j e q n m. elim m [ inl s ↦ s.1 | inr h ↦ absurd (n h.0) ])
+      (λ before after was same e latest.
       subst (λ (m : Marks). IsGreatestMarkOf ((knows_after users (Restart i f now) k).managers i e) (mark_at m e)) (sym same)
       (latest_alike (k.files f e) ((knows_after users (Restart i f now) k).managers i e)
-        (λ q h. inr (refl, h)) (λ q m. elim m [ inl s ↦ absurd (s.0 refl) | inr h ↦ h.1 ])
-        (mark_at steps.0.0 e) (greatest.files f steps.0.0 steps.0.1.fits steps.0.1.there e)));
+      (λ q h. inr (refl, h)) (λ q m. elim m [ inl s ↦ absurd (s.0 refl) | inr h ↦ h.1 ])
+      (mark_at steps.0.0 e) (greatest.files f steps.0.0 steps.0.1.fits steps.0.1.there e)));
   files = files_stay k old new greatest steps.1;
   saved = greatest.saved ∙ sym (ap (λ (fs : List (List ℕ)). length fs) steps.1);
 }
@@ -184,7 +184,7 @@ pub greatest_more : (users : List User) (begin old new : WorldState) (events : L
     → HasGreatest (knows_after_all users (take (i + 1) events) (at_first begin)) new
 greatest_more users begin old new events i event lt is have greatest steps =
     rw (take_more events i event lt, ← is) (subst (λ (k : Knowing). HasGreatest k new) (sym (knows_more users (take i events) event (at_first begin)))
-      (greatest_after users (knows_after_all users (take i events) (at_first begin)) old new event have greatest steps))
+    (greatest_after users (knows_after_all users (take i events) (at_first begin)) old new event have greatest steps))
 
 -- ---- the files are listings
 

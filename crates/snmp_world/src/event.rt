@@ -12,7 +12,9 @@ pub enum Event {
         datagram: Vec<u8>,
     },
     /// The manager saves its marks as a new file, behind those that are there.
-    Save { manager: usize },
+    Save {
+        manager: usize,
+    },
     /// The manager joins in the marks of a file. The moment changes nothing, since a file of a world has one for each mark.
     Absorb {
         manager: usize,

@@ -65,7 +65,14 @@ fn header() -> Header
 /// A message of the engine of this number at authNoPriv.
 fn sent(users: &mut Users, alloc: Global, number: u8, pair: Pair) -> Result<Vec<u8>, UsmFault> {
     let scoped = scoped_pdu(alloc)?;
-    users.seal(&header(), &engine_octets(number), pair, b"ann", [0; 8], &scoped)
+    users.seal(
+        &header(),
+        &engine_octets(number),
+        pair,
+        b"ann",
+        [0; 8],
+        &scoped,
+    )
 }
 
 /// Managers that hold nothing.

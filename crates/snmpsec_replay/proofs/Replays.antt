@@ -22,23 +22,36 @@ lines_more : (k : ℕ) (es : List LogEntry) (read line : List ℕ) (e : LogEntry
     → AreLines k (es ++ e ∷ []) (read ++ (line ++ 10 ∷ []))
 lines_more k [] read line e h at = (line, [], subst (λ n. IsLineAt n line e) (omega arith) at, ap (λ t. t ++ (line ++ 10 ∷ [])) h, refl)
 lines_more k (x ∷ es) read line e (l, rest, is, parts, later) at =
-    let number : k + length (x ∷ es) ≡ (k + 1) + length es = omega arith in
-    (l, rest ++ (line ++ 10 ∷ []), is, ap (λ t. t ++ (line ++ 10 ∷ [])) parts ∙ append_assoc l (10 ∷ rest) _,
-      lines_more (k + 1) es rest line e later (subst (λ n. IsLineAt n line e) number at))
+    let number : k + length (x ∷ es) ≡ (k + 1) + length es = omega arith in (
+      l,
+      rest ++ (line ++ 10 ∷ []),
+      is,
+      ap (λ t. t ++ (line ++ 10 ∷ [])) parts ∙ append_assoc l (10 ∷ rest) _,
+      lines_more (k + 1) es rest line e later (subst (λ n. IsLineAt n line e) number at),
+    )
 
 answers_more : (old : Held) (k : ℕ) (es : List LogEntry) (text : List ℕ) (mid : Held) (e : LogEntry) (outcome : Outcome) (new : Held)
     → Answers old k es text mid → TakesOne mid e.moment e.datagram outcome new
     → Answers old k (es ++ e ∷ []) (text ++ answer_line (k + length es) e.moment outcome) new
 answers_more old k [] text mid e outcome new h takes =
-    let number : k + length {A = LogEntry} [] ≡ k = omega arith in
-    (outcome, new, [], subst (λ m. TakesOne m e.moment e.datagram outcome new) h.1 takes,
-      ap (λ t. t ++ answer_line (k + length {A = LogEntry} []) e.moment outcome) h.0 ∙ ap (λ n. answer_line n e.moment outcome) number ∙ sym (append-nil _), (refl, refl))
+    let number : k + length {A = LogEntry} [] ≡ k = omega arith in (
+      outcome,
+      new,
+      [],
+      subst (λ m. TakesOne m e.moment e.datagram outcome new) h.1 takes,
+      ap (λ t. t ++ answer_line (k + length {A = LogEntry} []) e.moment outcome) h.0 ∙ ap (λ n. answer_line n e.moment outcome) number ∙ sym (append-nil _),
+      (refl, refl),
+    )
 answers_more old k (x ∷ es) text mid e outcome new (o, m, rest, first, parts, later) takes =
-    let number : k + length (x ∷ es) ≡ (k + 1) + length es = omega arith in
-    (o, m, rest ++ answer_line (k + length (x ∷ es)) e.moment outcome, first,
+    let number : k + length (x ∷ es) ≡ (k + 1) + length es = omega arith in (
+      o,
+      m,
+      rest ++ answer_line (k + length (x ∷ es)) e.moment outcome,
+      first,
       ap (λ t. t ++ answer_line (k + length (x ∷ es)) e.moment outcome) parts ∙ append_assoc (answer_line k x.moment o) rest _,
       subst (λ n. Answers m (k + 1) (es ++ e ∷ []) (rest ++ answer_line n e.moment outcome) new) (sym number)
-      (answers_more m (k + 1) es rest mid e outcome new later takes))
+          (answers_more m (k + 1) es rest mid e outcome new later takes),
+    )
 
 -- ---- where a replay stands before line n
 
@@ -105,7 +118,7 @@ reads_line {begin = begin} {now = now} {n = n} {waiting = waiting} w left' line 
           entries = es ++ e ∷ [];
           lines = lines_more 1 es r.read line e r.replays.lines (subst (λ k. IsLineAt k line e) number at);
           answers = subst (λ k. Answers begin 1 (es ++ e ∷ []) (w.text ++ answer_line k e.moment outcome) new) (sym number)
-          (answers_more begin 1 es w.text now e outcome new r.replays.answers takes);
+              (answers_more begin 1 es w.text now e outcome new r.replays.answers takes);
         };
         consumed = rw (append-nil (r.read ++ (line ++ 10 ∷ []))) (Consumes-trans _ _ _ _ _ (rw (r.is_part.0, append-nil r.read) at r.consumed) c);
         is_part = (refl, ap (λ k. k + 1) r.is_part.1 ∙ ap (λ k. k + 1) (sym longer));
@@ -148,7 +161,7 @@ write_fails {now = now} w is written' (front, rest, cut, a) = record {
   after = now;
   front = inl (
     record { read = w.reads.read; part = w.reads.part; replays = w.reads.replays; consumed = w.reads.consumed; is_part = is _ _ w.reads.is_part },
-    (w.done ++ front, rest, w.parts ∙ ap (λ t. w.done ++ t) cut ∙ sym (append_assoc w.done front rest), Appends-trans _ _ _ _ _ w.wrote a)
+    (w.done ++ front, rest, w.parts ∙ ap (λ t. w.done ++ t) cut ∙ sym (append_assoc w.done front rest), Appends-trans _ _ _ _ _ w.wrote a),
   );
 }
 
@@ -211,14 +224,17 @@ save_fails {now = now} s written' fault.CannotWrite (front, rest, cut, a) = reco
   after = now;
   front = inr (
     record { read = s.reads.read; part = s.reads.part; replays = s.reads.replays; consumed = s.reads.consumed; is_part = s.reads.is_part },
-    (s.text ++ front, rest, ap (λ t. s.text ++ t) cut ∙ sym (append_assoc s.text front rest), Appends-trans _ _ _ _ _ s.wrote a)
+    (s.text ++ front, rest, ap (λ t. s.text ++ t) cut ∙ sym (append_assoc s.text front rest), Appends-trans _ _ _ _ _ s.wrote a),
   );
 }
-save_fails {now = now} s written' fault.OutOfMemory k = (now, record {
-  text = s.text;
-  reads = record { read = s.reads.read; part = s.reads.part; replays = s.reads.replays; consumed = s.reads.consumed; is_part = part_none _ s.reads.is_part.0 };
-  wrote = Appends-kept _ _ _ _ s.wrote k;
-})
+save_fails {now = now} s written' fault.OutOfMemory k = (
+  now,
+  record {
+    text = s.text;
+    reads = record { read = s.reads.read; part = s.reads.part; replays = s.reads.replays; consumed = s.reads.consumed; is_part = part_none _ s.reads.is_part.0 };
+    wrote = Appends-kept _ _ _ _ s.wrote k;
+  },
+)
 
 pub ends_write_fails : (begin now : Held) (unread left held written : Option (List ℕ)) (waiting : List ℕ) (e : Ending)
     → Ends begin now (streams unread left held written) waiting e

@@ -109,6 +109,7 @@ impl Dice {
 }
 
 const MANAGERS: usize = 4;
+
 const ENGINES: usize = 3;
 
 /// Messages of three engines, each with four pairs.
@@ -181,7 +182,11 @@ fn acts(
 fn assert_greatest(rt: &impl Abort, world: &World, knowledge: &Knowledge) -> Result<(), Fail> {
     for (number, set) in knowledge.managers.iter().enumerate() {
         for own in 1..=ENGINES as u8 {
-            assert_eq!(rt; world.pair(number, &engine(own)?), set.greatest(own), "manager {number}");
+            assert_eq!(rt;
+                world.pair(number, &engine(own)?),
+                set.greatest(own),
+                "manager {number}"
+            );
         }
     }
     Ok(())

@@ -82,7 +82,10 @@ fn what_is_not_there_is_refused(rt: HostRuntime) -> Result<(), Fail> {
         now: 0,
     };
     assert_eq!(rt; world.step(&absent), Err(WorldFault::NoSuch));
-    assert_eq!(rt; world.step(&Event::Save { manager: 2 }), Err(WorldFault::NoSuch));
+    assert_eq!(rt;
+        world.step(&Event::Save { manager: 2 }),
+        Err(WorldFault::NoSuch)
+    );
     assert_eq!(rt; world.files(), 3);
     assert_eq!(rt; world.file(3), None);
     assert_eq!(rt; world.pair(2, &engine(1)?), None);

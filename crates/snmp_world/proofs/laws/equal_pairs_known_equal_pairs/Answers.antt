@@ -11,5 +11,5 @@ returns c = λ users events begin world i j a b engine greatest at_i at_j same.
     let T = (knows_after_all users events (at_first begin)).managers j engine in
     IsGreatestOfBy-unique pair_order (PairsOf T) (pair_at a.clocks engine) (pair_at b.clocks engine)
     (IsGreatestOfBy-same IsBelow (PairsOf S) (PairsOf T) (pair_at a.clocks engine) (λ p. (same engine p).0) (λ p. (same engine p).1)
-      (greatest_pair S (mark_at a.clocks engine) (greatest.managers i a at_i engine)))
+    (greatest_pair S (mark_at a.clocks engine) (greatest.managers i a at_i engine)))
     (greatest_pair T (mark_at b.clocks engine) (greatest.managers j b at_j engine))

@@ -14,7 +14,7 @@ pub loop-done-preserved : goal.loop-done-preserved
 loop-done-preserved c = record {
   users = λ users have. users_after users c.loop-done.self c.step.new.self c.index-events-done.result c.in_default.ensures.ok (c.loop-done.invariant.users users have);
   greatest = λ users have.
-    greatest_more users c.args.self.now c.loop-done.self c.step.new.self c.args.events.now c.loop-done.done c.index-events-done.result
+      greatest_more users c.args.self.now c.loop-done.self c.step.new.self c.args.events.now c.loop-done.done c.index-events-done.result
       c.loop-done-test.true c.index-events-done.is (c.loop-done.invariant.users users have) (c.loop-done.invariant.greatest users have) c.in_default.ensures.ok;
 }
 

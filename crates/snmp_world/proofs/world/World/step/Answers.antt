@@ -22,14 +22,20 @@ pub returns-in_ok-clocks-in-Restart-clause-ok : goal.returns-in_ok-clocks-in-Res
 returns-in_ok-clocks-in-Restart-clause-ok c =
     let file = rw c.deref-in-Restart.ensures.value at c.in_ok-clocks-in-Restart.ensures.ok in
     rw (← c.self.view_is, c.in-Restart.is) (
-      (c.in_ok-clocks-in-Restart.clocks, file, record {
-        before = c.restart.ensures.before;
-        after = c.restart.ensures.after;
-        was = c.restart.ensures.was;
-        changes = c.restart.ensures.changes;
-        users = c.restart.ensures.users;
-        is = c.restart.ensures.is;
-      }), refl)
+      (
+        c.in_ok-clocks-in-Restart.clocks,
+        file,
+        record {
+          before = c.restart.ensures.before;
+          after = c.restart.ensures.after;
+          was = c.restart.ensures.was;
+          changes = c.restart.ensures.changes;
+          users = c.restart.ensures.users;
+          is = c.restart.ensures.is;
+        },
+      ),
+      refl,
+    )
 
 pub invariant_of-self-in-Save : goal.invariant_of-self-in-Save
 invariant_of-self-in-Save c = files_after _ _ _ _ c.save.result c.save.ensures.ok c.save.ensures.err c.self.invariant
