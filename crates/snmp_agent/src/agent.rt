@@ -34,7 +34,7 @@ pub struct Agent {
     engine: Engine,
     users: Users,
     vacm: Vacm,
-    counters: [u32; 6],
+    pub(crate) counters: [u32; 6],
 }
 
 impl Model for Agent {

@@ -37,7 +37,7 @@ pub fn response_is_accepted()
         → SpeechFits (response engine own g c p status index vs salt) → HasSameUser manager senders users g.user g.level
         → Seals senders (responding engine own g c p status index vs salt) (Ok text)
         → IsTakenInTime (as_manager held) users now text (responding engine own g c p status index vs salt)
-            (spoken_contexts (response engine own g c p status index vs salt)) (pdu_with 162 p.id status index vs) }
+        (spoken_contexts (response engine own g c p status index vs salt)) (pdu_with 162 p.id status index vs) }
 {
     spoken_is_accepted();
 }
@@ -48,7 +48,7 @@ pub fn notification_is_accepted()
         → SpeechFits (notification engine own id user level body salt) → HasSameUser manager senders users user level
         → Seals senders (notifying engine own id user level body salt) (Ok text)
         → IsTakenInTime (as_manager held) users now text (notifying engine own id user level body salt)
-            (spoken_contexts (notification engine own id user level body salt)) (pdu_in body) }
+        (spoken_contexts (notification engine own id user level body salt)) (pdu_in body) }
 {
     spoken_is_accepted();
 }

@@ -18,5 +18,7 @@ mod response;
 
 pub use agent::Agent;
 pub use decision::Decision;
-pub use laws::{agents_decide_alike, notification_is_accepted, report_is_short, response_is_accepted};
+pub use laws::{
+    agents_decide_alike, notification_is_accepted, report_is_short, response_is_accepted,
+};
 pub use refused::Refused;
