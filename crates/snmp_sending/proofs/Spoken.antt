@@ -38,7 +38,7 @@ pdu_longer p =
     omega (arith, whole, list, joined)
 
 module _ (again_scoped : (engine name pdu : List ℕ) → IsOneElement pdu → length (scoped_text engine name pdu) ≤ 65507
-        → ScopedText 0 (scoped_text engine name pdu) (contexts_placed (head_size (length (contexts_text engine name pdu))) engine name pdu))
+    → ScopedText 0 (scoped_text engine name pdu) (contexts_placed (head_size (length (contexts_text engine name pdu))) engine name pdu))
     (again_pdu : (p : PduParts) → PduFits p → length (pdu_text p) ≤ 65507 → PduText (pdu_text p) p)
     (again_list : (vs : List Variable) → AllFit vs → length (variables_text vs) ≤ 65507 → AreBindings vs (variables_text vs))
     (least : (users : List User) (m : Sending) (text : List ℕ) → SealedText users m text → length m.scoped ≤ length text)

@@ -55,7 +55,7 @@ pub fn request_is_accepted()
         → RequestFits held id engine user salt body → HasSameUser (agent engine) senders users user level → now - started ≤ pair_max
         → Seals senders (requesting held moment id engine user level body salt) (Ok text)
         → IsTakenInTime (as_agent engine boots started) users now text (requesting held moment id engine user level body salt)
-            (spoken_contexts (request held moment id engine user level body salt)) (pdu_in body) }
+        (spoken_contexts (request held moment id engine user level body salt)) (pdu_in body) }
 {
     spoken_is_accepted();
 }
