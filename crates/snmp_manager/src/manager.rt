@@ -93,8 +93,7 @@ impl Manager {
         self.clocks.absorb(clocks)
     }
 
-    /// Goes on from these clocks alone, with the same users, as a manager does that starts again from a saved text. It takes no
-    /// memory.
+    /// Goes on from these marks alone, with the same users. This takes no memory.
     pub fn restart(&mut self, clocks: Clocks)
         ensures clocks { self.new.clocks ≡ clocks }
         ensures users { self.new.users ≡ self.old.users }
