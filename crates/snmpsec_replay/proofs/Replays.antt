@@ -1,15 +1,15 @@
 -- A replay, line by line.
-use Rattle.std.proofs.Common.{◌≡◌, ℕ, ◌+◌, ◌<◌, ◌≤◌, ◌⊎◌, List, [], ◌∷◌, ◌++◌, length, Option, Some, None, IfSome, is_some, true, false, MatchOption, refl, sym, ap, ◌∙◌, arith, inl, inr, append_assoc, append-nil, length-append, subst}
+use Rattle.std.proofs.Common.{◌≡◌, ℕ, ◌+◌, ◌<◌, ◌⊎◌, List, [], ◌∷◌, ◌++◌, length, Option, Some, None, IfSome, is_some, true, false, MatchOption, refl, sym, ap, ◌∙◌, arith, inl, inr, append_assoc, append-nil, length-append, subst}
 use Rattle.std.specs.Io.KnownBytes.{Appends, Consumes, IsAtEnd, Keeps}
-use Rattle.std.proofs.KnownBytes.{Appends-nil, Appends-trans, Appends-kept, Consumes-nil, Consumes-trans, Consumes-whole, Keeps-refl}
+use Rattle.std.proofs.KnownBytes.{Appends-nil, Appends-trans, Appends-kept, Consumes-nil, Consumes-trans, Consumes-whole}
 use Rattle.engine_clock.specs.Splits.{Lacks}
 use Rattle.engine_clock.specs.Saved.{listing}
 use Rattle.snmp_manager.specs.declared.outcome.Outcome.{Outcome}
 use Rattle.snmp_manager.specs.Views.{Held}
 use Rattle.snmp_manager.specs.Runs.{TakesOne}
-use Rattle.snmpsec_replay.specs.Log.{LogEntry, IsLine, IsLineAt, AreLines, HasNoLine}
+use Rattle.snmpsec_replay.specs.Log.{LogEntry, IsLine, IsLineAt, AreLines}
 use Rattle.snmpsec_replay.specs.Transfer.{WritesFront}
-use Rattle.snmpsec_replay.specs.Replay.{answer_line, Answers, Replays, ReplayText, Streams, Reads, Stands, Waits, IsLinePart, IsEnd, IsBad, WriteFails, StopsBy, Ends, SavesUnless, WritesSome}
+use Rattle.snmpsec_replay.specs.Replay.{answer_line, Answers, ReplayText, Streams, Stands, Waits, IsLinePart, IsEnd, IsBad, WriteFails, StopsBy, Ends, SavesUnless, WritesSome}
 use Rattle.snmpsec_replay.specs.declared.fault.ReplayFault.{ReplayFault}
 use Rattle.snmpsec_replay.specs.declared.fault.ReplayFault.TheVariants as fault
 use Rattle.snmpsec_replay.specs.declared.replay.Ending.{Ending}

@@ -1,4 +1,4 @@
-use Rattle.std.proofs.Common.{arith, ◌≡◌, ◌∙◌, sym, subst, None, Some}
+use Rattle.std.proofs.Common.{arith, ◌∙◌, sym, subst}
 use Rattle.snmpsec_replay.specs.Log.{ArePairs}
 use Rattle.snmpsec_replay.proofs.Texts.{says_none, line_parts}
 use Rattle.snmpsec_replay.proofs.log.read_entry.Goals as goal
