@@ -20,14 +20,14 @@ fn scoped_pdu_in(alloc: Global, context: &[u8]) -> Result<Vec<u8>, WriteFault>
 }
 
 /// The scoped PDU of each message but the longest ones.
-pub(super) fn scoped_pdu(alloc: Global) -> Result<Vec<u8>, WriteFault>
+fn scoped_pdu(alloc: Global) -> Result<Vec<u8>, WriteFault>
     ensures { IfOk result (λ v. (content : List ℕ) × IsElement 48 content v.items) }
 {
     scoped_pdu_in(alloc, b"")
 }
 
 /// The header of each message, with the auth and priv flags.
-pub(super) fn header(auth: bool, privacy: bool) -> Header
+fn header(auth: bool, privacy: bool) -> Header
     ensures { HeaderFits result }
 {
     Header {
@@ -41,7 +41,7 @@ pub(super) fn header(auth: bool, privacy: bool) -> Header
 }
 
 /// The message to a user, sealed with boots 7, time 1000 and the salt 0001020304050607.
-pub(super) fn sealed(
+fn sealed(
     users: &mut Users,
     header: &Header,
     user: &[u8],
@@ -55,24 +55,15 @@ pub(super) fn sealed(
         boots: 7,
         time: 1000,
     };
-    sealed_at(users, header, &ENGINE, pair, user, scoped)
-}
-
-/// The same at an engine with a pair.
-pub(super) fn sealed_at(
-    users: &mut Users,
-    header: &Header,
-    engine: &[u8],
-    pair: Pair,
-    user: &[u8],
-    scoped: &[u8],
-) -> Result<Vec<u8>, UsmFault>
-    requires header { HeaderFits header.now }
-    requires scoped { (content : List ℕ) × IsElement 48 content scoped.now }
-    ensures users { users.new.users ≡ users.old.users }
-{
     let name = &user[..user.len().min(32)];
-    users.seal(header, engine, pair, name, [0, 1, 2, 3, 4, 5, 6, 7], scoped)
+    users.seal(
+        header,
+        &ENGINE,
+        pair,
+        name,
+        [0, 1, 2, 3, 4, 5, 6, 7],
+        scoped,
+    )
 }
 
 /// The scoped PDU that the datagram gives: at noAuthNoPriv and authNoPriv its content alone, as msgData has it.
@@ -474,7 +465,7 @@ fn the_code_is_that_of_the_octets_received(rt: HostRuntime) -> Result<(), Fail> 
 }
 
 /// With privacy and a salt of 7 octets, and with the code of it.
-pub(super) const SHORT_SALT: &str =
+const SHORT_SALT: &str =
     "3052020103300e020103020300ffe304010702010304333031040c000000000000000000000002020107020203e80403616e6e040c50924ed468d6335990d6c67d04070001020304050604080000000000000000";
 
 #[test]
