@@ -291,11 +291,6 @@ fn codes_of_texts(rt: HostRuntime) -> Result<(), Fail> {
         let cut = mac(&key, code.text, 0, &[]);
         assert_eq!(rt; code.auth.mac_octets(), code.kept);
         assert_eq!(rt; Some(cut.as_slice()), code.hmac.get(..code.kept));
-        for kept in [KeptKey::of(key.copy()), KeptKey::with_pads(key.copy())] {
-            assert_eq!(rt; kept.mac(code.text, 0, &[]).as_slice(), cut.as_slice());
-            let again = kept.mac(code.text, 0, &[]);
-            assert_eq!(rt; again.as_slice(), cut.as_slice());
-        }
     }
     Ok(())
 }
