@@ -26,6 +26,27 @@ fn scoped_pdu(alloc: Global) -> Result<Vec<u8>, WriteFault>
     scoped_pdu_in(alloc, b"")
 }
 
+/// The same, asked for again where a growth was refused.
+fn scoped_after_refusal(alloc: Global) -> Result<Vec<u8>, WriteFault>
+    ensures { IfOk result (λ v. (content : List ℕ) × IsElement 48 content v.items) }
+{
+    match scoped_pdu(alloc) {
+        Err(_) => scoped_pdu(alloc),
+        Ok(scoped) => Ok(scoped),
+    }
+}
+
+/// A message of `ann` at authPriv, asked for again where a growth was refused.
+fn sealed_after_refusal(users: &mut Users, scoped: &[u8]) -> Result<Vec<u8>, UsmFault>
+    requires { (content : List ℕ) × IsElement 48 content scoped.now }
+{
+    let header = header(true, true);
+    match sealed(users, &header, b"ann", scoped) {
+        Err(UsmFault::OutOfMemory) => sealed(users, &header, b"ann", scoped),
+        other => other,
+    }
+}
+
 /// The header of each message, with the auth and priv flags.
 fn header(auth: bool, privacy: bool) -> Header
     ensures { HeaderFits result }
@@ -587,15 +608,8 @@ fn nothing_longer_than_a_datagram_is_sealed(rt: HostRuntime) -> Result<(), Fail>
 #[test]
 fn a_refused_growth_seals_and_opens_nothing(rt: HostRuntime) -> Result<(), Fail> {
     let mut users = loaded_after_refusal(&rt, rt.alloc(), people())?;
-    let scoped = match scoped_pdu(rt.alloc()) {
-        Err(WriteFault::OutOfMemory) => scoped_pdu(rt.alloc())?,
-        other => other?,
-    };
-    let header = header(true, true);
-    let text = match sealed(&mut users, &header, b"ann", &scoped) {
-        Err(UsmFault::OutOfMemory) => sealed(&mut users, &header, b"ann", &scoped)?,
-        other => other?,
-    };
+    let scoped = scoped_after_refusal(rt.alloc())?;
+    let text = sealed_after_refusal(&mut users, &scoped)?;
     let plain = match opened(&mut users, rt.alloc(), Role::Manager, &text) {
         Err(UsmFault::OutOfMemory) => opened(&mut users, rt.alloc(), Role::Manager, &text)?,
         other => other?,
