@@ -1,5 +1,4 @@
 pub mod Refusals
-pub mod Transfer
 pub mod Show
 pub mod Merge
 pub mod ConfigRefusals

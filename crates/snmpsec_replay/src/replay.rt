@@ -3,12 +3,12 @@ ghost use Rattle.std.specs.Prelude.{◌≡◌, [], IfOk, OnOk, OnErr, IfErr, IfS
 ghost use Rattle.std.specs.Io.KnownBytes.{Appends};
 ghost use Rattle.engine_clock.specs.Saved.{listing};
 ghost use Rattle.snmpsec_replay.specs.Transfer.{WritesFront};
-ghost use Rattle.snmpsec_replay.specs.Replay.{AnswersLine, Ends, ReplayText, SavesUnless, StopsBy, WriteFails, WritesSome, answer_line, level_word, outcome_text};
+ghost use Rattle.snmpsec_replay.specs.Replay.{AnswersLine, Ends, ReplayText, SavesUnless, StopsBy, WriteFails, WritesSome, answer_line, outcome_text};
 
 use crate::fault::ReplayFault;
 use crate::log::{LINE_LIMIT, LINES_LIMIT, NextLine, read_entry, read_line};
 use crate::transfer::{Failed, read_octet, write_whole};
-use snmp_ber::Level;
+use crate::words::level_word;
 use snmp_manager::{Manager, Outcome};
 use std::alloc::{AllocError, Global};
 use std::io::{Read, Write};
@@ -38,17 +38,6 @@ pub(crate) enum Step {
     OutOfForm,
     /// A growth of memory was refused.
     OutOfMemory,
-}
-
-/// The word for a level.
-fn level_word(level: Level) -> &'static str
-    ensures { result.now ≡ level_word level }
-{
-    match level {
-        Level::NoAuthNoPriv => "noAuthNoPriv",
-        Level::AuthNoPriv => "authNoPriv",
-        Level::AuthPriv => "authPriv",
-    }
 }
 
 /// The words for an outcome.

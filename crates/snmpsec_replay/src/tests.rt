@@ -2,7 +2,10 @@
 
 use crate::fault::ReplayFault;
 use crate::replay::replay_log;
+use crate::transfer::write_whole;
+use crate::words::{level_of, level_word};
 use engine_clock::Clocks;
+use snmp_ber::Level;
 use snmp_manager::Manager;
 use std::alloc::Global;
 use std::io;
@@ -301,6 +304,39 @@ fn the_longest_line_is_taken(rt: HostRuntime) -> Result<(), Fail> {
             replay_log(alloc, manager(alloc)?, &mut reader, &mut Nowhere),
             outcome
         );
+    }
+    Ok(())
+}
+
+#[test]
+fn a_text_is_written_whole(rt: HostRuntime) -> Result<(), Fail> {
+    let alloc = rt.alloc();
+    for interruptions in [0, 1, 999] {
+        let mut writer = Choppy::new(alloc, interruptions, None);
+        assert_eq!(rt; write_whole(&mut writer, b"clocks"), Ok(()));
+        assert_eq!(rt; writer.written.as_slice(), b"clocks".as_slice());
+    }
+    for (interruptions, failing) in [(1000, None), (0, Some(0)), (0, Some(1))] {
+        let mut writer = Choppy::new(alloc, interruptions, failing);
+        assert!(rt; write_whole(&mut writer, b"clocks").is_err());
+        assert!(rt; b"clocks".starts_with(&writer.written));
+    }
+    Ok(())
+}
+
+#[test]
+fn each_level_has_one_word(rt: HostRuntime) -> Result<(), Fail> {
+    let words = [
+        (Level::NoAuthNoPriv, "noAuthNoPriv"),
+        (Level::AuthNoPriv, "authNoPriv"),
+        (Level::AuthPriv, "authPriv"),
+    ];
+    for (level, word) in words {
+        assert_eq!(rt; level_word(level), word);
+        assert_eq!(rt; level_of(word), Some(level));
+    }
+    for word in ["", "AuthPriv", "authpriv", "authPriv ", "priv"] {
+        assert_eq!(rt; level_of(word), None);
     }
     Ok(())
 }
