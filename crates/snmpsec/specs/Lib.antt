@@ -5,3 +5,4 @@ pub mod ConfigRefusals
 pub mod Configs
 pub mod Words
 pub mod Questions
+pub mod Replay
