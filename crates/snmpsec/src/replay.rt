@@ -98,8 +98,6 @@ fn manager_of(
     };
     match Clocks::read_saved(alloc, clocks, moment) {
         Ok(clocks) => Ok(Manager::new(alloc, config.users, clocks)),
-        Err(fault) => Err(NoManager::Refused(
-            refused_clocks(alloc, clocks_name, fault)?.out,
-        )),
+        Err(fault) => Err(NoManager::Refused(refused_clocks(alloc, clocks_name, fault)?.out)),
     }
 }

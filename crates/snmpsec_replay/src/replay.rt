@@ -11,7 +11,7 @@ use crate::transfer::{Failed, read_octet, write_whole};
 use crate::words::level_word;
 use snmp_manager::{Manager, Outcome};
 use std::alloc::{AllocError, Global};
-use std::io::{Read, Write};
+use std::io::{BufRead, Write};
 
 /// How many octets wait before they are written.
 const PIECE: usize = 8_192;
@@ -117,7 +117,7 @@ fn write_piece<W: Write>(writer: &mut W, waiting: &mut Vec<u8>) -> Result<(), Fa
 }
 
 /// Takes the lines of a log. What answers them is written, or waits to be.
-fn answer_lines<R: Read, W: Write>(
+fn answer_lines<R: BufRead, W: Write>(
     alloc: Global,
     manager: &mut Manager,
     reader: &mut R,
@@ -183,12 +183,13 @@ fn save<W: Write>(manager: &Manager, writer: &mut W) -> Result<(), ReplayFault>
 }
 
 /// Takes the datagrams of a log, one a line, and writes a line for each, and at the end the saved text of what the manager holds.
-/// It holds one line at a time, of at most 131,072 octets, and reads at most 1,000,000.
+/// It holds one line at a time, of at most 131,072 octets, and reads at most 1,000,000. A reader that doesn't read ahead is
+/// given in a `BufReader`.
 ///
 /// The errors are LogLine(n), where line n is the first that is out of its form or past these limits; CannotRead and CannotWrite,
 /// where a read or a write fails, or is interrupted 1,000 times in a row; and OutOfMemory. Before each of them but CannotWrite
 /// the lines of all datagrams that were taken are written, and no saved text.
-pub fn replay_log<R: Read, W: Write>(
+pub fn replay_log<R: BufRead, W: Write>(
     alloc: Global,
     mut manager: Manager,
     reader: &mut R,

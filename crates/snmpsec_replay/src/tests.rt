@@ -9,7 +9,7 @@ use snmp_ber::Level;
 use snmp_manager::Manager;
 use std::alloc::Global;
 use std::io;
-use std::io::{ErrorKind, Read, Write};
+use std::io::{BufReader, ErrorKind, Read, Write};
 use std::test::Fail;
 use usm_core::Users;
 
@@ -141,7 +141,7 @@ fn a_log_is_answered(rt: HostRuntime) -> Result<(), Fail> {
 fn a_log_is_read_octet_by_octet(rt: HostRuntime) -> Result<(), Fail> {
     let alloc = rt.alloc();
     for times in [0, 1, 999] {
-        let mut log = Slow::interrupted(LOG, times);
+        let mut log = BufReader::new(alloc, Slow::interrupted(LOG, times))?;
         let mut text = Choppy::new(alloc, times, None);
         replay_log(alloc, manager(alloc)?, &mut log, &mut text)?;
         assert_eq!(rt; text.written.as_slice(), ANSWERS);
@@ -152,7 +152,7 @@ fn a_log_is_read_octet_by_octet(rt: HostRuntime) -> Result<(), Fail> {
 #[test]
 fn a_thousand_interruptions_are_a_fault(rt: HostRuntime) -> Result<(), Fail> {
     let alloc = rt.alloc();
-    let mut log = Slow::interrupted(LOG, 1000);
+    let mut log = BufReader::new(alloc, Slow::interrupted(LOG, 1000))?;
     let mut text = Vec::new(alloc);
     let outcome = replay_log(alloc, manager(alloc)?, &mut log, &mut text);
     assert_eq!(rt; outcome, Err(ReplayFault::CannotRead));
@@ -167,7 +167,7 @@ fn a_thousand_interruptions_are_a_fault(rt: HostRuntime) -> Result<(), Fail> {
 fn what_was_answered_is_written_before_a_read_fails(rt: HostRuntime) -> Result<(), Fail> {
     let alloc = rt.alloc();
     for at in 0..LOG.len() as u32 {
-        let mut log = Slow::failing(LOG, at);
+        let mut log = BufReader::new(alloc, Slow::failing(LOG, at))?;
         let mut text = Vec::new(alloc);
         let outcome = replay_log(alloc, manager(alloc)?, &mut log, &mut text);
         assert_eq!(rt; outcome, Err(ReplayFault::CannotRead), "at {at}");
@@ -236,19 +236,18 @@ struct Endless {
 
 impl Read for Endless {
     fn read(&mut self, buf: &mut [u8]) -> io::Result<usize> {
-        let Some(place) = buf.first_mut() else {
-            return Ok(0);
-        };
-        *place = match self.line.get(self.at) {
-            Some(octet) => *octet,
-            None => self.feed,
-        };
-        self.at = if self.at < self.line.len() {
-            self.at + 1
-        } else {
-            0
-        };
-        Ok(1)
+        for place in buf.iter_mut() {
+            *place = match self.line.get(self.at) {
+                Some(octet) => *octet,
+                None => self.feed,
+            };
+            self.at = if self.at < self.line.len() {
+                self.at + 1
+            } else {
+                0
+            };
+        }
+        Ok(buf.len())
     }
 }
 
@@ -269,11 +268,12 @@ impl Write for Nowhere {
 #[test]
 fn a_reader_that_never_ends_is_left(rt: HostRuntime) -> Result<(), Fail> {
     let alloc = rt.alloc();
-    let mut log = Endless {
+    let endless = Endless {
         line: b"5 40",
         at: 0,
         feed: b'\n',
     };
+    let mut log = BufReader::new(alloc, endless)?;
     let outcome = replay_log(alloc, manager(alloc)?, &mut log, &mut Nowhere);
     assert_eq!(rt; outcome, Err(ReplayFault::LogLine(1_000_001)));
     Ok(())
@@ -282,11 +282,12 @@ fn a_reader_that_never_ends_is_left(rt: HostRuntime) -> Result<(), Fail> {
 #[test]
 fn a_line_that_never_ends_is_left(rt: HostRuntime) -> Result<(), Fail> {
     let alloc = rt.alloc();
-    let mut log = Endless {
+    let endless = Endless {
         line: b"5 40",
         at: 0,
         feed: b'4',
     };
+    let mut log = BufReader::new(alloc, endless)?;
     let outcome = replay_log(alloc, manager(alloc)?, &mut log, &mut Nowhere);
     assert_eq!(rt; outcome, Err(ReplayFault::LogLine(1)));
     Ok(())
