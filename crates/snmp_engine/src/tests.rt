@@ -12,6 +12,9 @@ use vacm_core::{AccessRow, ContextRow, FamilyRow, GroupRow, Mask, Matching, Name
 
 mod agent_rows;
 mod agents;
+mod memory;
+mod net_snmp;
+mod net_snmp_rows;
 
 /// The engine ID of RFC 3414, section A.3.
 const ENGINE: [u8; 12] = [0, 0, 0, 0, 0, 0, 0, 0, 0, 0, 0, 2];

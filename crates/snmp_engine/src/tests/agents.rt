@@ -5,7 +5,7 @@ use super::agent_rows::{
 };
 use super::*;
 
-/// What one agent with boots 7, which started at the moment 0, takes in turn, and its counters after that. A row has four words:
+/// What one agent, which started at the moment 0, takes in turn, and its counters after that. A row has four words:
 /// the moment, the refusal or `-`, the datagram in hex, and the report in hex or `-`.
 pub(super) struct Table {
     pub(super) rows: &'static str,
@@ -48,15 +48,25 @@ fn assert_row(rt: &impl Abort, alloc: Global, agent: &mut Agent, row: &str) -> R
     Ok(())
 }
 
-/// One agent answers all rows, and has these counters then.
+/// The agent answers all rows, and has these counters then.
+pub(super) fn assert_told(
+    rt: &impl Abort,
+    alloc: Global,
+    agent: &mut Agent,
+    table: &Table,
+) -> Result<(), Fail> {
+    for row in table.rows.split('\n') {
+        assert_row(rt, alloc, agent, row)?;
+    }
+    assert_eq!(rt; counters(agent), table.counts.map(Some));
+    Ok(())
+}
+
+/// One agent with boots 7 answers all rows.
 fn assert_rows(rt: &impl Abort, alloc: Global, table: &Table) -> Result<(), Fail> {
     let users = users(alloc)?;
     let mut agent = agent(alloc, &users)?;
-    for row in table.rows.split('\n') {
-        assert_row(rt, alloc, &mut agent, row)?;
-    }
-    assert_eq!(rt; counters(&agent), table.counts.map(Some));
-    Ok(())
+    assert_told(rt, alloc, &mut agent, table)
 }
 
 #[test]
