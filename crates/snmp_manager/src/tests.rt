@@ -15,9 +15,13 @@ use std::test::Fail;
 use usm_core::{UserRow, Users, UsmFault};
 use usm_keys::Auth;
 
+mod captured;
 mod memory;
 mod orders;
 mod refusals;
+mod replies;
+mod requests;
+mod two_faults;
 mod window;
 
 /// The engine ID of RFC 3414, section A.3.
@@ -31,11 +35,17 @@ fn row(alloc: Global, name: &[u8], auth: Auth) -> Result<UserRow, AllocError> {
     })
 }
 
-/// Rows of `ann` with MD5 and `sam` with SHA-256.
+/// Rows of `ann` with MD5, `bob` with SHA-1 and `sam` with SHA-256, and of `guest`, who has no password.
 fn rows(alloc: Global) -> Result<Vec<UserRow>, AllocError> {
     let mut rows = Vec::new(alloc);
     rows.push(row(alloc, b"ann", Auth::Md5)?)?;
+    rows.push(row(alloc, b"bob", Auth::Sha1)?)?;
     rows.push(row(alloc, b"sam", Auth::Sha256)?)?;
+    rows.push(UserRow {
+        name: b"guest".to_vec(alloc)?,
+        auth: None,
+        privacy: None,
+    })?;
     Ok(rows)
 }
 
@@ -96,13 +106,36 @@ fn sealed_of(
     users.seal(&header, engine, pair, name, salt, &scoped)
 }
 
-/// A message of the engine at authNoPriv for `ann`.
-fn sent(users: &mut Users, alloc: Global, boots: u32, time: u32) -> Result<Vec<u8>, Fail> {
+/// A message of the engine at authNoPriv for the user.
+fn sent(
+    users: &mut Users,
+    alloc: Global,
+    user: &[u8],
+    (boots, time): (u32, u32),
+) -> Result<Vec<u8>, Fail> {
     let pair = pair(boots, time)?;
-    Ok(sealed_of(users, alloc, &ENGINE, pair, b"ann", Level::AuthNoPriv)?)
+    Ok(sealed_of(users, alloc, &ENGINE, pair, user, Level::AuthNoPriv)?)
+}
+
+/// What the manager answers to the datagram.
+fn took(manager: &mut Manager, now: u64, datagram: &[u8]) -> Result<Outcome, Fail> {
+    Ok(manager.take_one(now, datagram)?)
+}
+
+/// The boots and the time that the manager holds of the engine.
+fn held(manager: &Manager, engine: &EngineId) -> Option<(u32, u32)> {
+    match manager.pair(engine) {
+        Some(pair) => Some((pair.boots, pair.time)),
+        None => None,
+    }
 }
 
 const ACCEPTED: Outcome = Outcome::Accepted {
     level: Level::AuthNoPriv,
+    tag: 0xA0,
+};
+
+const SEALED: Outcome = Outcome::Accepted {
+    level: Level::AuthPriv,
     tag: 0xA0,
 };

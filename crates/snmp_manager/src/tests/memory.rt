@@ -1,6 +1,7 @@
 //! Growths that are refused. Run by `tools/refuse-memory`, these show that a refused growth is answered as want of memory, what
 //! it leaves, and that the same call succeeds afterwards.
 
+use super::requests::{discovery, refusal};
 use super::*;
 
 fn users_after_refusal(alloc: Global) -> Result<Users, Fail> {
@@ -14,6 +15,20 @@ fn users_after_refusal(alloc: Global) -> Result<Users, Fail> {
     }
 }
 
+/// A message of the engine with this pair at this level, where at most one growth is refused.
+fn sealed_after_refusal(
+    users: &mut Users,
+    alloc: Global,
+    engine: &[u8],
+    pair: Pair,
+    level: Level,
+) -> Result<Vec<u8>, Fail> {
+    match sealed_of(users, alloc, engine, pair, b"ann", level) {
+        Ok(message) => Ok(message),
+        Err(_) => Ok(sealed_of(users, alloc, engine, pair, b"ann", level)?),
+    }
+}
+
 /// A message at this level, of the engine whose last octet is this one, where at most one growth is refused.
 fn message_after_refusal(
     users: &mut Users,
@@ -22,11 +37,7 @@ fn message_after_refusal(
     level: Level,
 ) -> Result<Vec<u8>, Fail> {
     let name = [128, 0, 0, 0, last];
-    let pair = pair(1, 5)?;
-    match sealed_of(users, alloc, &name, pair, b"ann", level) {
-        Ok(message) => Ok(message),
-        Err(_) => Ok(sealed_of(users, alloc, &name, pair, b"ann", level)?),
-    }
+    sealed_after_refusal(users, alloc, &name, pair(1, 5)?, level)
 }
 
 fn manager_after_refusal(alloc: Global, users: &Users) -> Result<Manager, AllocError> {
@@ -111,23 +122,58 @@ fn a_refused_growth_stops_a_run(rt: HostRuntime) -> Result<(), Fail> {
     Ok(())
 }
 
+fn clocks_after_refusal(alloc: Global, text: &[u8]) -> Result<Clocks, Fail> {
+    match Clocks::read_saved(alloc, text, 0) {
+        Ok(clocks) => Ok(clocks),
+        Err(_) => Ok(Clocks::read_saved(alloc, text, 0)?),
+    }
+}
+
+fn absorbed(manager: &mut Manager, clocks: &Clocks) -> Result<(), AllocError> {
+    manager.absorb(clocks)
+}
+
+fn saved_after_refusal(manager: &Manager) -> Result<Vec<u8>, AllocError> {
+    match manager.save() {
+        Ok(saved) => Ok(saved),
+        Err(_) => manager.save(),
+    }
+}
+
 #[test]
 fn a_refused_growth_absorbs_and_saves_nothing(rt: HostRuntime) -> Result<(), Fail> {
     let text = b"snmp-clocks 2\n8000000001 1 5 7\n8000000002 1 5 7\n";
     let users = users_after_refusal(rt.alloc())?;
     let mut manager = manager_after_refusal(rt.alloc(), &users)?;
-    let clocks = match Clocks::read_saved(rt.alloc(), text, 0) {
-        Ok(clocks) => clocks,
-        Err(_) => Clocks::read_saved(rt.alloc(), text, 0)?,
-    };
-    if manager.absorb(&clocks).is_err() {
+    let clocks = clocks_after_refusal(rt.alloc(), text)?;
+    if absorbed(&mut manager, &clocks).is_err() {
         assert_held(&rt, &manager, 0)?;
-        manager.absorb(&clocks)?;
+        absorbed(&mut manager, &clocks)?;
     }
-    let saved = match manager.save() {
-        Ok(saved) => saved,
-        Err(_) => manager.save()?,
-    };
+    let saved = saved_after_refusal(&manager)?;
     assert_eq!(rt; saved.as_slice(), text.as_slice());
+    Ok(())
+}
+
+#[test]
+fn a_refused_growth_asks_for_nothing(rt: HostRuntime) -> Result<(), Fail> {
+    let own = engine(&ENGINE)?;
+    let users = users_after_refusal(rt.alloc())?;
+    let mut manager = manager_after_refusal(rt.alloc(), &users)?;
+    if let Some(fault) = refusal(&mut manager, &own, b"ann", Level::AuthPriv, b"") {
+        assert_eq!(rt; fault, TakeFault::OutOfMemory);
+        let again = refusal(&mut manager, &own, b"ann", Level::AuthPriv, b"");
+        assert_eq!(rt; again, None);
+    }
+    Ok(())
+}
+
+#[test]
+fn a_refused_growth_discovers_nothing(rt: HostRuntime) -> Result<(), Fail> {
+    let users = users_after_refusal(rt.alloc())?;
+    let manager = manager_after_refusal(rt.alloc(), &users)?;
+    if discovery(&manager).is_err() {
+        let _again = discovery(&manager)?;
+    }
     Ok(())
 }
