@@ -57,8 +57,14 @@ fn a_get_request_has_one_binding(rt: HostRuntime) -> Result<(), Fail> {
 #[test]
 fn a_binding_tells_the_places_of_its_parts(rt: HostRuntime) -> Result<(), Fail> {
     let binding = read_binding(get_request(), 85, 99).ok().ok_or("a binding")?;
-    assert_eq!(rt; (binding.name.start, binding.name.body, binding.name.end), (87, 89, 97));
-    assert_eq!(rt; (binding.value.start, binding.value.body, binding.value.end), (97, 99, 99));
+    assert_eq!(rt;
+        (binding.name.start, binding.name.body, binding.name.end),
+        (87, 89, 97)
+    );
+    assert_eq!(rt;
+        (binding.value.start, binding.value.body, binding.value.end),
+        (97, 99, 99)
+    );
     assert_eq!(rt; (binding.value.tag, binding.end), (0x05, 99));
     Ok(())
 }
