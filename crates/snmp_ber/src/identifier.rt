@@ -1,6 +1,7 @@
 //! The content of an OBJECT IDENTIFIER (X.690, section 8.19).
 
-ghost use Rattle.std.specs.Prelude.{◌≡◌, ℕ, ◌+◌, ◌<◌, ◌≤◌, ◌↔◌, ◌++◌, ◌∷◌, List, Some, length, IfSome, OnOk, OnErr, option_map, option_and_then, vec_len, vec_capacity};
+ghost use Rattle.std.specs.Prelude.{◌≡◌, ℕ, ◌+◌, ◌<◌, ◌≤◌, ◌↔◌, ◌++◌, ◌∷◌, List, Some, length, IfSome, OnOk, OnErr, option_map, option_and_then, is_some, nat_lt, vec_len, vec_capacity, IsTrue};
+ghost use Rattle.std.specs.List.{list_all};
 ghost use Rattle.snmp_ber.specs.Oid.{IsObjectId, IsIdentifier, subidentifiers, subidentifiers_in, at_most, identifier_in, group_count, subidentifier, identifier};
 ghost use Rattle.snmp_ber.specs.Spelling.{element, head_size};
 
@@ -76,6 +77,58 @@ pub fn read_oid(content: &[u8]) -> Option<Oid>
 {
     let arcs = read_arcs(content)?;
     Some(Oid::from_arcs(arcs))
+}
+
+/// Each octet is a subidentifier of its own.
+fn are_single(content: &[u8]) -> bool
+    ensures { result ≡ list_all (λ octet. nat_lt octet 128) content.now }
+{
+    content.iter().all(|octet| *octet < 128)
+}
+
+/// How many subidentifiers the octets are, at most 127.
+fn count_subidentifiers(content: &[u8]) -> Option<usize>
+    ensures { result ≡ option_map length (option_and_then (at_most 127) (subidentifiers_in 0 content.now)) }
+{
+    let mut count = 0;
+    let mut so_far: u32 = 0;
+    for octet in content {
+        if so_far > 0x1ff_ffff {
+            return None;
+        }
+        if *octet < 128 {
+            if count == 127 {
+                return None;
+            }
+            count += 1;
+            so_far = 0;
+        } else {
+            so_far = 128 * so_far + (u32::from(*octet) - 128);
+            if so_far == 0 {
+                return None;
+            }
+        }
+    }
+    if so_far > 0 {
+        return None;
+    }
+    Some(count)
+}
+
+/// The content is an identifier's, which `read_oid` gives: one to 127 subidentifiers, each at most 4,294,967,295 and in the
+/// fewest octets.
+pub fn is_oid(content: &[u8]) -> bool
+    ensures identifier { IsTrue result ↔ ((arcs : List ℕ) × IsIdentifier arcs content.now) }
+    ensures exact { result ≡ is_some (identifier_in content.now) }
+{
+    // Most arcs are below 128.
+    if content.len() <= 127 && are_single(content) {
+        return content.len() > 0;
+    }
+    match count_subidentifiers(content) {
+        Some(count) => count > 0,
+        None => false,
+    }
 }
 
 /// How many groups of seven bits a number takes.

@@ -45,6 +45,7 @@ fn an_identifier_has_one_content(rt: HostRuntime) -> Result<(), Fail> {
             Oid::from_text(text).as_ref(),
             "reading {text}"
         );
+        assert!(rt; is_oid(content), "{text}");
         let out = spelled(rt.alloc(), text)?;
         assert_eq!(rt; out.get(2..), Some(*content), "writing {text}");
         assert_eq!(rt; out.first(), Some(&0x06));
@@ -67,6 +68,7 @@ fn other_contents_are_no_identifiers(rt: HostRuntime) {
     ];
     for content in contents {
         assert_eq!(rt; read_oid(content), None);
+        assert!(rt; !is_oid(content));
     }
 }
 
@@ -75,9 +77,32 @@ fn an_identifier_has_at_most_128_arcs(rt: HostRuntime) -> Result<(), Fail> {
     let longest = read_oid(&[0x2A; 127]).ok_or("127 subidentifiers")?;
     assert_eq!(rt; longest.as_slice().len(), 128);
     assert_eq!(rt; read_oid(&[0x2A; 128]), None);
+    assert!(rt; is_oid(&[0x2A; 127]));
+    assert!(rt; !is_oid(&[0x2A; 128]));
     assert!(rt; Oid::of(&[1; 128]).is_some());
     assert_eq!(rt; Oid::of(&[1; 129]), None);
     assert_eq!(rt; Oid::of(&[]), None);
+    Ok(())
+}
+
+/// So many subidentifiers, of which the first is 128 and takes two octets.
+fn with_a_long_one(alloc: Global, count: usize) -> Result<Vec<u8>, AllocError> {
+    let mut content = Vec::new(alloc);
+    content.extend_from_slice(&[0x81, 0x00])?;
+    for _ in 1..count {
+        content.push(0x2A)?;
+    }
+    Ok(content)
+}
+
+#[test]
+fn a_long_subidentifier_counts_as_one(rt: HostRuntime) -> Result<(), Fail> {
+    let longest = with_a_long_one(rt.alloc(), 127)?;
+    assert!(rt; is_oid(&longest));
+    assert!(rt; read_oid(&longest).is_some());
+    let longer = with_a_long_one(rt.alloc(), 128)?;
+    assert!(rt; !is_oid(&longer));
+    assert!(rt; read_oid(&longer).is_none());
     Ok(())
 }
 

@@ -16,7 +16,7 @@ mod oid;
 pub use decimal::read_decimal;
 pub use element::{Tlv, head_len, put_head, put_tlv, read_tlv};
 pub use fault::BerFault;
-pub use identifier::{oid_len, put_oid, read_oid};
+pub use identifier::{is_oid, oid_len, put_oid, read_oid};
 pub use laws::{one_element, one_identifier, one_integer};
 pub use level::{Level, levels_rise};
 pub use number::{int_content, put_int, read_int};

@@ -92,7 +92,7 @@ is_so b P h e = h.0 e
 
 -- the numbers of a message are those of a pair
 pub IsPair-read : (w : List ℕ) (v : Verified) → IsReadAs w v → IsPair (pair_in v)
-IsPair-read w v read = record { boots = read.security.is_boots.at_most; time = read.security.is_time.at_most }
+IsPair-read w v read = record { boots = read.security.says.is_boots.at_most; time = read.security.says.is_time.at_most }
 
 -- ---- outcomes
 

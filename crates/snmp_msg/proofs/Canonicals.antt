@@ -135,7 +135,7 @@ pub header_fits : (h : Header) (content : List ℕ) → IsGlobal h content → H
 header_fits h content g = record { id = g.is_id.at_most; least_size = g.is_max_size.at_least; most_size = g.is_max_size.at_most; least_model = g.is_model.at_least; most_model = g.is_model.at_most }
 
 pub fields_fit : (at : ℕ) (x : List ℕ) (s : Fields) → SecText at x s → FieldsFit s
-fields_fit at x s t = record { boots = t.is_boots.at_most; time = t.is_time.at_most; user = t.user_allowed }
+fields_fit at x s t = record { boots = t.says.is_boots.at_most; time = t.says.is_time.at_most; user = t.says.user_allowed }
 
 data_fits : (w : List ℕ) (m : Parts) (d : DataParts) → SaysData w m d → DataFits d
 data_fits w m (sealed octets) h = tt

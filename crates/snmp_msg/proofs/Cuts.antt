@@ -29,16 +29,17 @@ security_stands w m o =
 pub cut_of : (w : List ℕ) (m : Parts) (s : Fields) (o : Outer w m) (t : SecText m.security_at m.security s) → (front : List ℕ) × (back : List ℕ) × IsCut w m s front back
 cut_of w m s o t =
     let p = security_parts w m o in
-    let front = (o.head ++ (o.version ++ (o.global ++ o.security_head))) ++ (t.head ++ (t.engine ++ (t.boots ++ (t.time ++ (t.user ++ t.auth_head))))) in
-    let back = t.salt ++ o.data_text in
-    let inner : m.security ≡ (t.head ++ (t.engine ++ (t.boots ++ (t.time ++ (t.user ++ t.auth_head))))) ++ (s.auth ++ t.salt) = t.whole ∙ ap (λ (c : List ℕ). t.head ++ c) t.joined ∙ simp append_assoc in (
+    let f = t.says in
+    let front = (o.head ++ (o.version ++ (o.global ++ o.security_head))) ++ (t.head ++ (f.engine ++ (f.boots ++ (f.time ++ (f.user ++ f.auth_head))))) in
+    let back = f.salt ++ o.data_text in
+    let inner : m.security ≡ (t.head ++ (f.engine ++ (f.boots ++ (f.time ++ (f.user ++ f.auth_head))))) ++ (s.auth ++ f.salt) = t.whole ∙ ap (λ (c : List ℕ). t.head ++ c) f.joined ∙ simp append_assoc in (
       front,
       back,
       record {
         outer = o;
         security = t;
         parts = p.0 ∙ ap (λ (x : List ℕ). (o.head ++ (o.version ++ (o.global ++ o.security_head))) ++ (x ++ o.data_text)) inner ∙ simp append_assoc;
-        place = length-append (o.head ++ (o.version ++ (o.global ++ o.security_head))) (t.head ++ (t.engine ++ (t.boots ++ (t.time ++ (t.user ++ t.auth_head))))) ∙ ap (λ (n : ℕ). n + length (t.head ++ (t.engine ++ (t.boots ++ (t.time ++ (t.user ++ t.auth_head)))))) p.1 ∙ simp length-append (sym t.auth_place);
+        place = length-append (o.head ++ (o.version ++ (o.global ++ o.security_head))) (t.head ++ (f.engine ++ (f.boots ++ (f.time ++ (f.user ++ f.auth_head))))) ∙ ap (λ (n : ℕ). n + length (t.head ++ (f.engine ++ (f.boots ++ (f.time ++ (f.user ++ f.auth_head)))))) p.1 ∙ simp length-append (omega (arith, f.auth_place));
       },
     )
 

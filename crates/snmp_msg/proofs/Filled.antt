@@ -34,25 +34,27 @@ security_text-is at s fits size =
     let longer = fields_text-longer s in
     let inner = element 4 s.engine ++ (number s.boots ++ (number s.time ++ (element 4 s.user ++ (element 4 s.auth ++ element 4 s.salt)))) in
     record {
-      engine = element 4 s.engine;
-      is_engine = element-is 4 s.engine (λ e. absurd cc) (omega (arith, size, longer.0));
-      boots = number s.boots;
-      is_boots = number-is 0 s.boots (omega arith) fits.boots;
-      time = number s.time;
-      is_time = number-is 0 s.time (omega arith) fits.time;
-      user = element 4 s.user;
-      is_user = element-is 4 s.user (λ e. absurd cc) (omega (arith, fits.user));
-      user_allowed = fits.user;
-      auth_head = head_of 4 (length s.auth);
-      is_auth = head_of-is 4 (length s.auth) (λ e. absurd cc) (omega (arith, size, longer.1));
-      salt = element 4 s.salt;
-      is_salt = element-is 4 s.salt (λ e. absurd cc) (omega (arith, size, longer.2));
       head = head_of 48 (length inner);
       content = inner;
       is_whole = head_of-is 48 (length inner) (λ e. absurd cc) (omega (arith, size, longer.3));
-      joined = ap (λ (r : List ℕ). element 4 s.engine ++ (number s.boots ++ (number s.time ++ (element 4 s.user ++ r)))) (append_assoc (head_of 4 (length s.auth)) s.auth (element 4 s.salt));
       whole = refl;
-      auth_place = refl;
+      says = record {
+        engine = element 4 s.engine;
+        is_engine = element-is 4 s.engine (λ e. absurd cc) (omega (arith, size, longer.0));
+        boots = number s.boots;
+        is_boots = number-is 0 s.boots (omega arith) fits.boots;
+        time = number s.time;
+        is_time = number-is 0 s.time (omega arith) fits.time;
+        user = element 4 s.user;
+        is_user = element-is 4 s.user (λ e. absurd cc) (omega (arith, fits.user));
+        user_allowed = fits.user;
+        auth_head = head_of 4 (length s.auth);
+        is_auth = head_of-is 4 (length s.auth) (λ e. absurd cc) (omega (arith, size, longer.1));
+        salt = element 4 s.salt;
+        is_salt = element-is 4 s.salt (λ e. absurd cc) (omega (arith, size, longer.2));
+        joined = ap (λ (r : List ℕ). element 4 s.engine ++ (number s.boots ++ (number s.time ++ (element 4 s.user ++ r)))) (append_assoc (head_of 4 (length s.auth)) s.auth (element 4 s.salt));
+        auth_place = omega arith;
+      };
     }
 
 -- The octets in front of the field, where the content of the message, that of msgSecurityParameters and that of their

@@ -17,7 +17,7 @@ use Rattle.snmp_ber.specs.Spelling.{shortest_length}
 use Rattle.snmp_msg.specs.Steps.{when_ended}
 use Rattle.snmp_msg.specs.Reading.{element_in}
 use Rattle.snmp_msg.specs.Variables.{Variable, AreBindings, variables_of, after_variables, variables_text}
-use Rattle.snmp_msg.specs.Pdu.{IsPduTag, IsInRange, IsSigned, AreInRange, PduParts, PduText, PduFits, SaysPdu, IsSpelled, with_variables, respelled, signed, pdu_content_text, pdu_text, pdu_content_size, pdu_front_text, signed_in, with_list, pdu_content_in, with_pdu_tag, pdu_in}
+use Rattle.snmp_msg.specs.Pdu.{IsPduTag, IsInRange, IsSigned, AreInRange, PduParts, PduContent, PduText, PduFits, SaysPdu, IsSpelled, with_variables, respelled, signed, pdu_content_text, pdu_text, pdu_content_size, pdu_front_text, signed_in, with_list, pdu_content_in, with_pdu_tag, pdu_in}
 use Rattle.snmp_msg.proofs.Steps.{after_some, same_some, guard_then, element_in-is, element_in-again, begins_from_element}
 use Rattle.snmp_msg.proofs.Headers.{ended}
 use Rattle.snmp_msg.proofs.Scopeds.{whole_element}
@@ -46,25 +46,11 @@ signed_in-again n text rest h =
     let read = element_in-again (text ++ rest) 2 h.is_element.0 h.content rest (begins_from_element 2 h.content text rest h.is_element) in
     rw (read, integer32_of-again h.content n h.is_integer) refl
 
--- the content of a PDU with these parts
-pub record IsPduContent (content : List ℕ) (p : PduParts) : Type 0 where
-  pub id : List ℕ
-  pub is_id : IsSigned p.id id
-  pub second : List ℕ
-  pub is_second : IsSigned p.second second
-  pub third : List ℕ
-  pub is_third : IsSigned p.third third
-  pub list : List ℕ
-  pub is_list : IsElement 48 p.list list
-  pub variables : List Variable
-  pub are_bindings : AreBindings variables p.list
-  pub joined : content ≡ id ++ (second ++ (third ++ list))
-
 made : ℕ → ℤ → ℤ → ℤ → List ℕ → PduParts
 made tag id second third list = record { tag = tag; id = id; second = second; third = third; list = list }
 
 pdu_content_last : (tag : ℕ) (content : List ℕ) (p : PduParts) (id second third : ℤ × List ℕ) (list : Front)
-    → AreInRange p → Octets content → signed_in content ≡ Some id → signed_in id.1 ≡ Some second → signed_in second.1 ≡ Some third → element_in 48 third.1 ≡ Some list → with_list tag id.0 second.0 third.0 list ≡ Some p → IsPduContent content p × (p.tag ≡ tag)
+    → AreInRange p → Octets content → signed_in content ≡ Some id → signed_in id.1 ≡ Some second → signed_in second.1 ≡ Some third → element_in 48 third.1 ≡ Some list → with_list tag id.0 second.0 third.0 list ≡ Some p → PduContent content p × (p.tag ≡ tag)
 unfolding made
 pdu_content_last tag content p id second third list numbers bytes e1 e2 e3 e4 e5 =
     let g = guard_some (ltb 0 (length (after_variables list.content))) _ p e5 in
@@ -81,7 +67,7 @@ pdu_content_last tag content p id second third list numbers bytes e1 e2 e3 e4 e5
     let parts2 : id.1 ≡ t2.0 ++ (t3.0 ++ list_text) = t2.2 ∙ ap (λ (r : List ℕ). t2.0 ++ r) parts3 in
     let joined : content ≡ t1.0 ++ (t2.0 ++ (t3.0 ++ list_text)) = t1.2 ∙ ap (λ (r : List ℕ). t1.0 ++ r) parts2 in
     let listed : Octets list.content = octets_back t4.head list.content (octets_back t3.0 list_text (octets_back t2.0 (t3.0 ++ list_text) (octets_back t1.0 (t2.0 ++ (t3.0 ++ list_text)) (subst Octets joined bytes)))) in
-    let spelled : IsPduContent content (made tag id.0 second.0 third.0 list.content) = record {
+    let spelled : PduContent content (made tag id.0 second.0 third.0 list.content) = record {
       id = t1.0;
       is_id = t1.1;
       second = t2.0;
@@ -94,9 +80,9 @@ pdu_content_last tag content p id second third list numbers bytes e1 e2 e3 e4 e5
       are_bindings = variables_of-is list.content listed (ended (after_variables list.content) g.0);
       joined = joined;
     } in
-    subst (λ (q : PduParts). IsPduContent content q × (q.tag ≡ tag)) same (spelled, refl)
+    subst (λ (q : PduParts). PduContent content q × (q.tag ≡ tag)) same (spelled, refl)
 
-pub pdu_content_in-is : (tag : ℕ) (content : List ℕ) (p : PduParts) → AreInRange p → Octets content → pdu_content_in tag content ≡ Some p → IsPduContent content p × (p.tag ≡ tag)
+pub pdu_content_in-is : (tag : ℕ) (content : List ℕ) (p : PduParts) → AreInRange p → Octets content → pdu_content_in tag content ≡ Some p → PduContent content p × (p.tag ≡ tag)
 unfolding pdu_content_in
 pdu_content_in-is tag content p numbers bytes e =
     after_some (signed_in content) _ p e (λ id e1 k1.
@@ -105,7 +91,7 @@ pdu_content_in-is tag content p numbers bytes e =
     after_some (element_in 48 third.1) _ p k3 (λ list e4 e5.
     pdu_content_last tag content p id second third list numbers bytes e1 e2 e3 e4 e5))))
 
-pub pdu_content_in-again : (content : List ℕ) (p : PduParts) → IsPduContent content p → pdu_content_in p.tag content ≡ Some p
+pub pdu_content_in-again : (content : List ℕ) (p : PduParts) → PduContent content p → pdu_content_in p.tag content ≡ Some p
 unfolding pdu_content_in
 pdu_content_in-again content p t =
     let r1 = signed_in-again p.id t.id (t.second ++ (t.third ++ t.list)) t.is_id in
@@ -135,19 +121,9 @@ pdu_last z p q any f numbers bytes e1 e2 e3 e4 =
     let t = pdu_content_in-is f.tag f.content q in_range inner e3 in
     let made_text : PduText z q = record {
       tag_allowed = subst IsPduTag (ap (λ (x : Front). x.tag) g.1 ∙ sym t.1) allowed;
-      id = t.0.id;
-      is_id = t.0.is_id;
-      second = t.0.second;
-      is_second = t.0.is_second;
-      third = t.0.third;
-      is_third = t.0.is_third;
-      list = t.0.list;
-      is_list = t.0.is_list;
-      variables = t.0.variables;
-      are_bindings = t.0.are_bindings;
       content = f.content;
       is_whole = subst (λ (n : ℕ). IsElement n f.content z) (sym t.1) is_whole;
-      joined = t.0.joined;
+      says = t.0;
     } in
     subst (λ (x : PduParts). PduText z x) (same_some q p g2.1) made_text
 
@@ -165,20 +141,7 @@ pdu_in-again z p t =
     let begun : Begins z p.tag t.is_whole.0 t.content [] = record { is_head = t.is_whole.1; parts = t.is_whole.2 ∙ ap (λ (r : List ℕ). t.is_whole.0 ++ r) (sym (append-nil t.content)) } in
     let r1 = front_of-begun z p.tag t.is_whole.0 t.content [] begun in
     let allowed = pdu_tag-again p.tag t.tag_allowed in
-    let inner : IsPduContent t.content p = record {
-      id = t.id;
-      is_id = t.is_id;
-      second = t.second;
-      is_second = t.is_second;
-      third = t.third;
-      is_third = t.is_third;
-      list = t.list;
-      is_list = t.is_list;
-      variables = t.variables;
-      are_bindings = t.are_bindings;
-      joined = t.joined;
-    } in
-    rw (r1, allowed, pdu_content_in-again t.content p inner) refl
+    rw (r1, allowed, pdu_content_in-again t.content p t.says) refl
 
 -- A text is one PDU at most.
 pub one_pdu : (z : List ℕ) (p q : PduParts) → PduText z p → PduText z q → p ≡ q
@@ -233,23 +196,25 @@ pdu_text-is p fits size =
     let short : length content < 4294967296 = omega (arith, longer.1, size) in
     record {
       tag_allowed = fits.tag_allowed;
-      id = signed p.id;
-      is_id = signed-is p.id fits.numbers.id;
-      second = signed p.second;
-      is_second = signed-is p.second fits.numbers.second;
-      third = signed p.third;
-      is_third = signed-is p.third fits.numbers.third;
-      list = element 48 p.list;
-      is_list = element-is 48 p.list (λ e. absurd cc) (omega (arith, longer.0, longer.1, size));
-      variables = fits.variables;
-      are_bindings = fits.are_bindings;
       content = content;
       is_whole = element-is p.tag content (tag_from p.tag fits.tag_allowed) short;
-      joined = content_joined p;
+      says = record {
+        id = signed p.id;
+        is_id = signed-is p.id fits.numbers.id;
+        second = signed p.second;
+        is_second = signed-is p.second fits.numbers.second;
+        third = signed p.third;
+        is_third = signed-is p.third fits.numbers.third;
+        list = element 48 p.list;
+        is_list = element-is 48 p.list (λ e. absurd cc) (omega (arith, longer.0, longer.1, size));
+        variables = fits.variables;
+        are_bindings = fits.are_bindings;
+        joined = content_joined p;
+      };
     }
 
 pub pdu_fits : (z : List ℕ) (p : PduParts) → PduText z p → PduFits p
-pdu_fits z p t = record { tag_allowed = t.tag_allowed; numbers = record { id = t.is_id.range; second = t.is_second.range; third = t.is_third.range }; variables = t.variables; are_bindings = t.are_bindings }
+pdu_fits z p t = record { tag_allowed = t.tag_allowed; numbers = record { id = t.says.is_id.range; second = t.says.is_second.range; third = t.says.is_third.range }; variables = t.says.variables; are_bindings = t.says.are_bindings }
 
 -- ---- PDUs whose list is in its canonical spelling
 
@@ -276,15 +241,15 @@ says_itself p s size = record { as_read = p; is_pdu = pdu_text-is p (spelled_fit
 pub one_said : (z : List ℕ) (p q : PduParts) → SaysPdu z p → SaysPdu z q → p ≡ q
 one_said z p q a b =
     let read : a.as_read ≡ b.as_read = one_pdu z a.as_read b.as_read a.is_pdu b.is_pdu in
-    let bindings : AreBindings a.is_pdu.variables b.as_read.list = subst (λ (x : PduParts). AreBindings a.is_pdu.variables x.list) read a.is_pdu.are_bindings in
-    let variables = one_list a.is_pdu.variables b.is_pdu.variables b.as_read.list bindings b.is_pdu.are_bindings in
-    a.same ∙ ap (λ (x : PduParts). record x { list = variables_text a.is_pdu.variables }) read ∙ ap (λ (vs : List Variable). record b.as_read { list = variables_text vs }) variables ∙ sym b.same
+    let bindings : AreBindings a.is_pdu.says.variables b.as_read.list = subst (λ (x : PduParts). AreBindings a.is_pdu.says.variables x.list) read a.is_pdu.says.are_bindings in
+    let variables = one_list a.is_pdu.says.variables b.is_pdu.says.variables b.as_read.list bindings b.is_pdu.says.are_bindings in
+    a.same ∙ ap (λ (x : PduParts). record x { list = variables_text a.is_pdu.says.variables }) read ∙ ap (λ (vs : List Variable). record b.as_read { list = variables_text vs }) variables ∙ sym b.same
 
 pub said_spelled : (z : List ℕ) (p : PduParts) → SaysPdu z p → IsSpelled p
 said_spelled z p h =
-    let t = h.is_pdu in
+    let t = h.is_pdu.says in
     let made : IsSpelled (record h.as_read { list = variables_text t.variables }) = record {
-      tag_allowed = t.tag_allowed;
+      tag_allowed = h.is_pdu.tag_allowed;
       numbers = record { id = t.is_id.range; second = t.is_second.range; third = t.is_third.range };
       variables = t.variables;
       fit = all_fit t.variables h.as_read.list t.are_bindings;
@@ -294,7 +259,7 @@ said_spelled z p h =
 
 -- what was read, with its list respelled
 pub says_respelled : (z : List ℕ) (p : PduParts) → PduText z p → SaysPdu z (respelled p)
-says_respelled z p t = record { as_read = p; is_pdu = t; same = ap (λ (vs : List Variable). record p { list = variables_text vs }) (variables_of-again t.variables p.list t.are_bindings).0 }
+says_respelled z p t = record { as_read = p; is_pdu = t; same = ap (λ (vs : List Variable). record p { list = variables_text vs }) (variables_of-again t.says.variables p.list t.says.are_bindings).0 }
 
 -- ---- sizes
 

@@ -8,26 +8,9 @@ use Rattle.snmp_ber.proofs.Elements.{guard_some}
 use Rattle.snmp_msg.specs.Layout.{IsNumber}
 use Rattle.snmp_msg.specs.Reading.{element_in, number_in}
 use Rattle.snmp_msg.specs.Steps.{when_ended}
-use Rattle.snmp_msg.specs.Security.{Fields, SecText, with_user, with_salt, fields_in, security_in}
+use Rattle.snmp_msg.specs.Security.{Fields, SecContent, SecText, with_user, with_salt, fields_in, security_in}
 use Rattle.snmp_msg.proofs.Steps.{after_some, same_some, TakesElement, element_in-is, element_in-again, begins_from_element, number_in-is, number_in-again}
 use Rattle.snmp_msg.proofs.Headers.{ended}
-
-pub record TakesFields (end : ℕ) (octets : List ℕ) (s : Fields) : Type 0 where
-  pub engine : List ℕ
-  pub is_engine : IsElement 4 s.engine engine
-  pub boots : List ℕ
-  pub is_boots : IsNumber 0 s.boots boots
-  pub time : List ℕ
-  pub is_time : IsNumber 0 s.time time
-  pub user : List ℕ
-  pub is_user : IsElement 4 s.user user
-  pub user_allowed : length s.user ≤ 32
-  pub auth_head : List ℕ
-  pub is_auth : IsHead 4 (length s.auth) auth_head
-  pub salt : List ℕ
-  pub is_salt : IsElement 4 s.salt salt
-  pub joined : octets ≡ engine ++ (boots ++ (time ++ (user ++ (auth_head ++ (s.auth ++ salt)))))
-  pub auth_place : s.auth_at ≡ end - length salt - length s.auth
 
 -- an element that was read, as a text in front of the rest
 text_of : (tag : ℕ) (octets : List ℕ) (f : Front) (t : TakesElement tag octets f) → octets ≡ (t.head ++ f.content) ++ f.rest
@@ -48,12 +31,12 @@ made end engine boots time user auth f = record {
 }
 
 -- the pieces that were read, one after another
-fields_found : (end : ℕ) (octets : List ℕ) (engine : Front) (boots time : ℕ × List ℕ) (user auth salt : Front)
+fields_found : (at : ℕ) (octets : List ℕ) (engine : Front) (boots time : ℕ × List ℕ) (user auth salt : Front)
     → TakesElement 4 octets engine → (b : (text : List ℕ) × IsNumber 0 boots.0 text × (engine.rest ≡ text ++ boots.1)) → (t : (text : List ℕ) × IsNumber 0 time.0 text × (boots.1 ≡ text ++ time.1))
     → TakesElement 4 time.1 user → length user.content ≤ 32 → TakesElement 4 user.rest auth → TakesElement 4 auth.rest salt → salt.rest ≡ []
-    → TakesFields end octets (made end engine.content boots.0 time.0 user.content auth.content salt)
+    → SecContent at octets (made (at + length octets) engine.content boots.0 time.0 user.content auth.content salt)
 unfolding made
-fields_found end octets engine boots time user auth salt t1 t2 t3 t4 allowed t5 t6 none =
+fields_found at octets engine boots time user auth salt t1 t2 t3 t4 allowed t5 t6 none =
     let salt_text = t6.head ++ salt.content in
     let user_text = t4.head ++ user.content in
     let engine_text = t1.head ++ engine.content in
@@ -62,6 +45,8 @@ fields_found end octets engine boots time user auth salt t1 t2 t3 t4 allowed t5 
     let parts4 : time.1 ≡ user_text ++ (t5.head ++ (auth.content ++ salt_text)) = text_of 4 time.1 user t4 ∙ ap (λ (r : List ℕ). user_text ++ r) parts5 in
     let parts3 : boots.1 ≡ t3.0 ++ (user_text ++ (t5.head ++ (auth.content ++ salt_text))) = t3.2 ∙ ap (λ (r : List ℕ). t3.0 ++ r) parts4 in
     let parts2 : engine.rest ≡ t2.0 ++ (t3.0 ++ (user_text ++ (t5.head ++ (auth.content ++ salt_text)))) = t2.2 ∙ ap (λ (r : List ℕ). t2.0 ++ r) parts3 in
+    let joined : octets ≡ engine_text ++ (t2.0 ++ (t3.0 ++ (user_text ++ (t5.head ++ (auth.content ++ salt_text))))) = text_of 4 octets engine t1 ∙ ap (λ (r : List ℕ). engine_text ++ r) parts2 in
+    let size : length octets ≡ length engine_text + (length t2.0 + (length t3.0 + (length user_text + (length t5.head + (length auth.content + length salt_text))))) = ap length joined ∙ simp length-append in
     record {
       engine = engine_text;
       is_engine = (t1.head, t1.is_head, refl);
@@ -76,8 +61,8 @@ fields_found end octets engine boots time user auth salt t1 t2 t3 t4 allowed t5 
       is_auth = t5.is_head;
       salt = salt_text;
       is_salt = (t6.head, t6.is_head, refl);
-      joined = text_of 4 octets engine t1 ∙ ap (λ (r : List ℕ). engine_text ++ r) parts2;
-      auth_place = ap (λ (n : ℕ). end - n - length auth.content) salt_size;
+      joined = joined;
+      auth_place = omega (arith, size, salt_size);
     }
 
 with_user-is : (any user : Front) → with_user any ≡ Some user → (any ≡ user) × (length user.content ≤ 32)
@@ -87,20 +72,20 @@ with_user-is any user e =
     let short : length any.content ≤ 32 = ltb-false _ _ g.0 in
     (same, subst (λ (f : Front). length f.content ≤ 32) same short)
 
-fields_last : (end : ℕ) (octets : List ℕ) (s : Fields) (engine : Front) (boots time : ℕ × List ℕ) (any user auth salt : Front)
+fields_last : (at : ℕ) (octets : List ℕ) (s : Fields) (engine : Front) (boots time : ℕ × List ℕ) (any user auth salt : Front)
     → element_in 4 octets ≡ Some engine → number_in 0 engine.rest ≡ Some boots → number_in 0 boots.1 ≡ Some time → element_in 4 time.1 ≡ Some any → with_user any ≡ Some user
-    → element_in 4 user.rest ≡ Some auth → element_in 4 auth.rest ≡ Some salt → with_salt end engine.content boots.0 time.0 user.content auth.content salt ≡ Some s → TakesFields end octets s
+    → element_in 4 user.rest ≡ Some auth → element_in 4 auth.rest ≡ Some salt → with_salt (at + length octets) engine.content boots.0 time.0 user.content auth.content salt ≡ Some s → SecContent at octets s
 unfolding made
-fields_last end octets s engine boots time any user auth salt e1 e2 e3 e4 e5 e6 e7 e8 =
-    let g = guard_some (ltb 0 (length salt.rest)) (Some (made end engine.content boots.0 time.0 user.content auth.content salt)) s e8 in
+fields_last at octets s engine boots time any user auth salt e1 e2 e3 e4 e5 e6 e7 e8 =
+    let g = guard_some (ltb 0 (length salt.rest)) (Some (made (at + length octets) engine.content boots.0 time.0 user.content auth.content salt)) s e8 in
     let u = with_user-is any user e5 in
     let read : element_in 4 time.1 ≡ Some user = e4 ∙ ap (λ (f : Front). Some f) u.0 in
-    let found = fields_found end octets engine boots time user auth salt (element_in-is 4 octets engine e1) (number_in-is 0 engine.rest boots e2) (number_in-is 0 boots.1 time e3) (element_in-is 4 time.1 user read) u.1 (element_in-is 4 user.rest auth e6) (element_in-is 4 auth.rest salt e7) (ended salt.rest g.0) in
-    subst (λ (x : Fields). TakesFields end octets x) (same_some (made end engine.content boots.0 time.0 user.content auth.content salt) s g.1) found
+    let found = fields_found at octets engine boots time user auth salt (element_in-is 4 octets engine e1) (number_in-is 0 engine.rest boots e2) (number_in-is 0 boots.1 time e3) (element_in-is 4 time.1 user read) u.1 (element_in-is 4 user.rest auth e6) (element_in-is 4 auth.rest salt e7) (ended salt.rest g.0) in
+    subst (λ (x : Fields). SecContent at octets x) (same_some (made (at + length octets) engine.content boots.0 time.0 user.content auth.content salt) s g.1) found
 
-pub fields_in-is : (end : ℕ) (octets : List ℕ) (s : Fields) → fields_in end octets ≡ Some s → TakesFields end octets s
+pub fields_in-is : (at : ℕ) (octets : List ℕ) (s : Fields) → fields_in (at + length octets) octets ≡ Some s → SecContent at octets s
 unfolding fields_in
-fields_in-is end octets s e =
+fields_in-is at octets s e =
     after_some (element_in 4 octets) _ s e (λ engine e1 k1.
     after_some (number_in 0 engine.rest) _ s k1 (λ boots e2 k2.
     after_some (number_in 0 boots.1) _ s k2 (λ time e3 k3.
@@ -108,15 +93,15 @@ fields_in-is end octets s e =
     after_some (with_user any) _ s k4 (λ user e5 k5.
     after_some (element_in 4 user.rest) _ s k5 (λ auth e6 k6.
     after_some (element_in 4 auth.rest) _ s k6 (λ salt e7 e8.
-    fields_last end octets s engine boots time any user auth salt e1 e2 e3 e4 e5 e6 e7 e8)))))))
+    fields_last at octets s engine boots time any user auth salt e1 e2 e3 e4 e5 e6 e7 e8)))))))
 
 -- the last element of a text
 last_again : (tag : ℕ) (content text : List ℕ) (e : IsElement tag content text) → element_in tag text ≡ Some (record { tag = tag; head_size = length e.0; content = content; rest = [] })
 last_again tag content text e = element_in-again text tag e.0 content [] (record { is_head = e.1; parts = e.2 ∙ ap (λ (r : List ℕ). e.0 ++ r) (sym (append-nil content)) })
 
-pub fields_in-again : (end : ℕ) (octets : List ℕ) (s : Fields) → TakesFields end octets s → fields_in end octets ≡ Some s
+pub fields_in-again : (at : ℕ) (octets : List ℕ) (s : Fields) → SecContent at octets s → fields_in (at + length octets) octets ≡ Some s
 unfolding fields_in
-fields_in-again end octets s t =
+fields_in-again at octets s t =
     let after5 = t.salt in
     let after4 = t.auth_head ++ (s.auth ++ t.salt) in
     let after3 = t.user ++ after4 in
@@ -131,39 +116,24 @@ fields_in-again end octets s t =
     let r5 = element_in-again after4 4 t.auth_head s.auth t.salt begun in
     let r6 = last_again 4 s.salt t.salt t.is_salt in
     let salt_size : length t.is_salt.0 + length s.salt ≡ length t.salt = sym (ap length t.is_salt.2 ∙ length-append t.is_salt.0 s.salt) in
-    ap (fields_in end) t.joined ∙ rw (r1, r2, r3, r4, short, r5, r6, salt_size, ← t.auth_place) refl
+    let size : length octets ≡ length t.engine + (length t.boots + (length t.time + (length t.user + (length t.auth_head + (length s.auth + length t.salt))))) = ap length t.joined ∙ simp length-append in
+    let place : at + length octets - length t.salt - length s.auth ≡ s.auth_at = omega (arith, size, t.auth_place) in
+    ap (fields_in (at + length octets)) t.joined ∙ rw (r1, r2, r3, r4, short, r5, r6, salt_size, place) refl
 
 security_last : (at : ℕ) (x : List ℕ) (s fields : Fields) (whole : Front) → element_in 48 x ≡ Some whole → fields_in (at + length x - length whole.rest) whole.content ≡ Some fields → when_ended whole.rest fields ≡ Some s → SecText at x s
 security_last at x s fields whole e1 e2 e3 =
     let g = guard_some (ltb 0 (length whole.rest)) (Some fields) s e3 in
     let none = ended whole.rest g.0 in
     let t = element_in-is 48 x whole e1 in
-    let end_is : at + length x - length whole.rest ≡ at + length x = omega (arith, ap length none) in
-    let read : fields_in (at + length x) whole.content ≡ Some s = subst (λ (n : ℕ). fields_in n whole.content ≡ Some s) end_is (e2 ∙ ap (λ (f : Fields). Some f) (same_some fields s g.1)) in
-    let f = fields_in-is (at + length x) whole.content s read in
     let is_whole : x ≡ t.head ++ whole.content = last_text 48 x whole t none in
-    let size : length x ≡ length t.head + (length f.engine + (length f.boots + (length f.time + (length f.user + (length f.auth_head + (length s.auth + length f.salt)))))) =
-    ap length (is_whole ∙ ap (λ (c : List ℕ). t.head ++ c) f.joined) ∙ simp length-append in
+    let end_is : at + length x - length whole.rest ≡ (at + length t.head) + length whole.content = omega (arith, ap length none, ap length is_whole, length-append t.head whole.content) in
+    let read : fields_in ((at + length t.head) + length whole.content) whole.content ≡ Some s = subst (λ (n : ℕ). fields_in n whole.content ≡ Some s) end_is (e2 ∙ ap (λ (f : Fields). Some f) (same_some fields s g.1)) in
     record {
-      engine = f.engine;
-      is_engine = f.is_engine;
-      boots = f.boots;
-      is_boots = f.is_boots;
-      time = f.time;
-      is_time = f.is_time;
-      user = f.user;
-      is_user = f.is_user;
-      user_allowed = f.user_allowed;
-      auth_head = f.auth_head;
-      is_auth = f.is_auth;
-      salt = f.salt;
-      is_salt = f.is_salt;
       head = t.head;
       content = whole.content;
       is_whole = t.is_head;
-      joined = f.joined;
       whole = is_whole;
-      auth_place = omega (arith, size, f.auth_place);
+      says = fields_in-is (at + length t.head) whole.content s read;
     }
 
 pub security_in-is : (at : ℕ) (x : List ℕ) (s : Fields) → security_in (at + length x) x ≡ Some s → SecText at x s
@@ -177,27 +147,8 @@ pub security_in-again : (at : ℕ) (x : List ℕ) (s : Fields) → SecText at x 
 unfolding security_in
 security_in-again at x s t =
     let read = last_again 48 t.content x (t.head, t.is_whole, t.whole) in
-    let size : length x ≡ length t.head + (length t.engine + (length t.boots + (length t.time + (length t.user + (length t.auth_head + (length s.auth + length t.salt)))))) =
-    ap length (t.whole ∙ ap (λ (c : List ℕ). t.head ++ c) t.joined) ∙ simp length-append in
-    let fields : TakesFields (at + length x) t.content s = record {
-      engine = t.engine;
-      is_engine = t.is_engine;
-      boots = t.boots;
-      is_boots = t.is_boots;
-      time = t.time;
-      is_time = t.is_time;
-      user = t.user;
-      is_user = t.is_user;
-      user_allowed = t.user_allowed;
-      auth_head = t.auth_head;
-      is_auth = t.is_auth;
-      salt = t.salt;
-      is_salt = t.is_salt;
-      joined = t.joined;
-      auth_place = omega (arith, size, t.auth_place);
-    } in
-    let end_is : at + length x - 0 ≡ at + length x = omega arith in
-    rw (read, end_is, fields_in-again (at + length x) t.content s fields) refl
+    let end_is : at + length x - 0 ≡ (at + length t.head) + length t.content = omega (arith, ap length t.whole, length-append t.head t.content) in
+    rw (read, end_is, fields_in-again (at + length t.head) t.content s t.says) refl
 
 pub one_security : (at : ℕ) (x : List ℕ) (s t : Fields) → SecText at x s → SecText at x t → s ≡ t
 one_security at x s t a b = same_some s t (sym (security_in-again at x s a) ∙ security_in-again at x t b)

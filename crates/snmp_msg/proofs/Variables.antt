@@ -1,7 +1,7 @@
 -- Variable bindings: what is read is spelled so, and what is spelled so is read.
 use Rattle.std.proofs.Common.{◌≡◌, ℕ, zero, suc, ◌+◌, ◌-◌, ◌*◌, ◌≤◌, ◌<◌, ◌^◌, ltb, List, [], ◌∷◌, ◌++◌, length, take, drop, Option, Some, None, refl, sym, ap, subst, ◌∙◌, append_assoc, arith}
 use Rattle.std.specs.List.{AllByRecursion, flat_map}
-use Rattle.std.specs.Prelude.{slice_range}
+use Rattle.std.specs.Prelude.{slice_range, option_map, is_some, true}
 use Rattle.std.proofs.lemmas.List.{append-nil, length-append, nil_from_length, take_all}
 use Rattle.snmp_ber.specs.Element.{Begins}
 use Rattle.snmp_ber.specs.Oid.{AreArcs, IsIdentifier, AreSubidentifiers, identifier_in, identifier}
@@ -12,7 +12,8 @@ use Rattle.snmp_ber.proofs.Identifiers.{identifier-is, identifier-short}
 use Rattle.snmp_ber.proofs.Oids.{identifier_in-is, identifier_in-again}
 use Rattle.snmp_ber.proofs.Spellings.{element-is}
 use Rattle.snmp_msg.specs.Reading.{element_in}
-use Rattle.snmp_msg.specs.Variables.{Variable, IsBinding, AreBindings, with_value, binding_in, with_binding, bindings_taken, variables_of, after_variables, VariableFits, AllFit, variable_content, variable_text, variables_text}
+use Rattle.snmp_msg.specs.declared.binding.VarBind.{VarBind}
+use Rattle.snmp_msg.specs.Variables.{Variable, IsBinding, IsReadBinding, variable_with, AreBindings, with_value, binding_in, with_binding, bindings_taken, variables_of, after_variables, VariableFits, AllFit, variable_content, variable_text, variables_text}
 use Rattle.snmp_msg.proofs.Headers.{ended}
 use Rattle.snmp_msg.proofs.Scopeds.{whole_element}
 use Rattle.snmp_msg.proofs.Steps.{after_some, same_some, element_in-is, element_in-again, begins_from_element}
@@ -198,6 +199,37 @@ variables_of-again (v ∷ vs) octets (text, rest, is, parts, others) =
 -- A list has one list of variables.
 pub one_list : (vs ws : List Variable) (octets : List ℕ) → AreBindings vs octets → AreBindings ws octets → vs ≡ ws
 one_list vs ws octets h k = sym (variables_of-again vs octets h).0 ∙ (variables_of-again ws octets k).0
+
+-- what is left where only that is told
+pub none_skipped : (o : Option (Variable × List ℕ)) → None ≡ option_map (λ (x : Variable × List ℕ). x.1) o → o ≡ None
+none_skipped None e = refl
+none_skipped (Some x) e = absurd cc
+
+pub one_skipped : (o : Option (Variable × List ℕ)) (after : List ℕ) → Some after ≡ option_map (λ (x : Variable × List ℕ). x.1) o → (v : Variable) × (o ≡ Some (v, after))
+one_skipped None after e = absurd cc
+one_skipped (Some x) after e = (x.0, let is : x.1 ≡ after = cc in ap (λ (rest : List ℕ). Some (x.0, rest)) is)
+
+-- Where none is read, none begins.
+pub none_begins : (octets : List ℕ) → binding_in octets ≡ None → (v : Variable) (text rest : List ℕ) → IsBinding text v → octets ≡ text ++ rest → ⊥
+none_begins octets none v text rest is parts = let begun : binding_in octets ≡ Some (v, rest) = ap binding_in parts ∙ binding_in-again v text rest is in let never = sym none ∙ begun in cc
+
+-- What is read, with its places.
+pub places_read : (octets rest : List ℕ) (b : VarBind) → Octets octets → Octets b.name.content.now → is_some (identifier_in b.name.content.now) ≡ true → option_map (variable_with b rest) (identifier_in b.name.content.now) ≡ binding_in octets → IsReadBinding octets rest b
+places_read octets rest b bytes name named says = by (identifier_in b.name.content.now) refl named says
+  where
+    by : (o : Option (List ℕ)) → identifier_in b.name.content.now ≡ o → is_some o ≡ true → option_map (variable_with b rest) o ≡ binding_in octets → IsReadBinding octets rest b
+    by None e named says = absurd cc
+    by (Some arcs) e named says =
+        let s = binding_in-is octets (variable_with b rest arcs) bytes (sym says) in
+        record {
+          says = (variable_with b rest arcs).0;
+          text = s.text;
+          is_binding = s.is_binding;
+          parts = s.parts;
+          name = identifier_in-is arcs b.name.content.now name e;
+          tag = refl;
+          content = refl;
+        }
 
 -- ---- bindings that can be written
 

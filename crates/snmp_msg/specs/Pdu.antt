@@ -38,10 +38,8 @@ pub record PduParts : Type 0 where
   -- the content of variable-bindings
   pub list : List ℕ
 
--- The text is exactly one PDU with these parts: an element whose content is the texts of its four elements joined. The last
--- of them is a SEQUENCE of bindings.
-pub record PduText (z : List ℕ) (p : PduParts) : Type 0 where
-  pub tag_allowed : IsPduTag p.tag
+-- The content of a PDU with these parts: the texts of its four elements joined. The last of them is a SEQUENCE of bindings.
+pub record PduContent (content : List ℕ) (p : PduParts) : Type 0 where
   pub id : List ℕ
   pub is_id : IsSigned p.id id
   pub second : List ℕ
@@ -52,9 +50,14 @@ pub record PduText (z : List ℕ) (p : PduParts) : Type 0 where
   pub is_list : IsElement 48 p.list list
   pub variables : List Variable
   pub are_bindings : AreBindings variables p.list
+  pub joined : content ≡ id ++ (second ++ (third ++ list))
+
+-- The text is exactly one PDU with these parts.
+pub record PduText (z : List ℕ) (p : PduParts) : Type 0 where
+  pub tag_allowed : IsPduTag p.tag
   pub content : List ℕ
   pub is_whole : IsElement p.tag content z
-  pub joined : content ≡ id ++ (second ++ (third ++ list))
+  pub says : PduContent content p
 
 -- the numbers of a PDU are of 32 bits with sign
 pub record AreInRange (p : PduParts) : Type 0 where
@@ -135,7 +138,7 @@ with_variables p vs = record p { list = variables_text vs }
 pub record SaysPdu (z : List ℕ) (p : PduParts) : Type 0 where
   pub as_read : PduParts
   pub is_pdu : PduText z as_read
-  pub same : p ≡ with_variables as_read is_pdu.variables
+  pub same : p ≡ with_variables as_read is_pdu.says.variables
 
 -- The list is the canonical spelling of bindings that fit.
 pub record IsSpelled (p : PduParts) : Type 0 where

@@ -21,8 +21,9 @@ pub record Fields : Type 0 where
   -- the place of the content of msgAuthenticationParameters in the datagram
   pub auth_at : ℕ
 
--- The text, which stands at this place of a datagram, is exactly a UsmSecurityParameters with these fields.
-pub record SecText (at : ℕ) (x : List ℕ) (s : Fields) : Type 0 where
+-- The content of a UsmSecurityParameters with these fields, which stands at this place of a datagram: the texts of its six
+-- elements joined.
+pub record SecContent (at : ℕ) (content : List ℕ) (s : Fields) : Type 0 where
   pub engine : List ℕ
   pub is_engine : IsElement 4 s.engine engine
   pub boots : List ℕ
@@ -36,12 +37,16 @@ pub record SecText (at : ℕ) (x : List ℕ) (s : Fields) : Type 0 where
   pub is_auth : IsHead 4 (length s.auth) auth_head
   pub salt : List ℕ
   pub is_salt : IsElement 4 s.salt salt
+  pub joined : content ≡ engine ++ (boots ++ (time ++ (user ++ (auth_head ++ (s.auth ++ salt)))))
+  pub auth_place : s.auth_at ≡ at + (length engine + (length boots + (length time + (length user + length auth_head))))
+
+-- The text, which stands at this place of a datagram, is exactly a UsmSecurityParameters with these fields.
+pub record SecText (at : ℕ) (x : List ℕ) (s : Fields) : Type 0 where
   pub head : List ℕ
   pub content : List ℕ
   pub is_whole : IsHead 48 (length content) head
-  pub joined : content ≡ engine ++ (boots ++ (time ++ (user ++ (auth_head ++ (s.auth ++ salt)))))
   pub whole : x ≡ head ++ content
-  pub auth_place : s.auth_at ≡ at + (length head + (length engine + (length boots + (length time + (length user + length auth_head)))))
+  pub says : SecContent (at + length head) content s
 
 -- the one reading, of a text that ends at this place
 abbrev pub with_user : Front → Option Front

@@ -9,6 +9,7 @@ use Rattle.snmp_msg.specs.Steps.{◌>>=◌}
 use Rattle.snmp_msg.specs.Reading.{element_in}
 use Rattle.snmp_msg.specs.declared.binding.Binding.{Binding}
 use Rattle.snmp_msg.specs.declared.binding.Bindings.{Bindings}
+use Rattle.snmp_msg.specs.declared.binding.VarBind.{VarBind}
 
 -- What a VarBind says: the arcs of its name, and the tag and the content of its value.
 pub record Variable : Type 0 where
@@ -68,6 +69,20 @@ unfoldable pub after_variables : List ℕ → List ℕ
 after_variables octets = (bindings_taken (length octets) octets).1
 
 -- ---- what the values of the code say
+
+-- the same, of a VarBind with its places, whose name has these arcs, and the octets after it
+abbrev pub variable_with : VarBind → List ℕ → List ℕ → Variable × List ℕ
+variable_with b rest arcs = (record { name = arcs; tag = b.value.tag; content = b.value.content.now }, rest)
+
+-- The octets are a VarBind, of which this is said, and then the rest.
+pub record IsReadBinding (octets rest : List ℕ) (b : VarBind) : Type 0 where
+  pub says : Variable
+  pub text : List ℕ
+  pub is_binding : IsBinding text says
+  pub parts : octets ≡ text ++ rest
+  pub name : IsIdentifier says.name b.name.content.now
+  pub tag : says.tag ≡ b.value.tag
+  pub content : says.content ≡ b.value.content.now
 
 abbrev pub variable_of : Binding → Variable
 variable_of b = record { name = b.name; tag = b.tag; content = b.content.now }

@@ -1,14 +1,17 @@
 //! Variable bindings (RFC 3416, section 3).
 
-ghost use Rattle.std.specs.Prelude.{◌≡◌, [], ◌+◌, ◌*◌, ◌<◌, ◌≤◌, ◌++◌, All, length, map, slice_range, option_map, IfOk, IfSome, IfNone, OnOk, OnErr};
+ghost use Rattle.std.specs.Prelude.{◌≡◌, ℕ, List, [], ◌+◌, ◌*◌, ◌<◌, ◌≤◌, ◌++◌, All, length, map, slice_range, option_map, is_some, true, IfOk, IfSome, IfNone, OnOk, OnErr};
 ghost use Rattle.std.specs.Result.{result_ok};
 ghost use Rattle.std.specs.Iterator.{YieldsFirstBy, item_count};
-ghost use Rattle.snmp_ber.specs.Oid.{AreArcs};
-ghost use Rattle.snmp_msg.specs.Variables.{AreBindings, CanBeWritten, AllFit, binding_in, variables_of, after_variables, variable_of, bindings_left, variable_content, variable_text, variables_text};
+ghost use Rattle.snmp_ber.specs.Oid.{AreArcs, identifier_in};
+ghost use Rattle.snmp_ber.specs.Element.{StandsAt};
+ghost use Rattle.snmp_msg.specs.Variables.{Variable, IsBinding, IsReadBinding, variable_with, AreBindings, CanBeWritten, AllFit, binding_in, variables_of, after_variables, variable_of, bindings_left, variable_content, variable_text, variables_text};
 
 use crate::field::{OBJECT_IDENTIFIER, SEQUENCE, element_len, read_element};
 use crate::message::LARGEST;
-use snmp_ber::{BerFault, Oid, oid_len, put_head, put_oid, put_tlv, read_oid, read_tlv};
+use snmp_ber::{
+    BerFault, Oid, Tlv, is_oid, oid_len, put_head, put_oid, put_tlv, read_oid, read_tlv,
+};
 use std::alloc::AllocError;
 
 /// What a VarBind says.
@@ -22,29 +25,78 @@ pub struct Binding<'a> {
     pub content: &'a [u8],
 }
 
-/// The VarBind at this place, and the place after it.
+/// A VarBind with the places of its parts, in the octets that it was read from.
+#[derive(Clone, Copy, Debug, PartialEq, Eq)]
+pub struct VarBind<'a> {
+    /// The element of its name. `read_oid` gives the name of its content.
+    pub name: Tlv<'a>,
+    /// The element of its value.
+    pub value: Tlv<'a>,
+    /// The place after it.
+    pub end: usize,
+}
+
+/// The VarBind at this place, as it is read.
 #[tactic(auto, unfolding(crate::specs::Variables::binding_in))]
-fn read_binding(bytes: &[u8], at: usize, end: usize) -> Result<(Binding<'_>, usize), BerFault>
+fn read_places(bytes: &[u8], at: usize, end: usize) -> Result<VarBind<'_>, BerFault>
+    requires start { at ≤ end }
+    requires within { end ≤ length bytes.now }
+    ensures after { option_map (λ b. slice_range bytes.now b.end end) (result_ok result) ≡ option_map (λ x. x.1) (binding_in (slice_range bytes.now at end)) }
+    ensures says { IfOk result (λ b. option_map (variable_with b (slice_range bytes.now b.end end)) (identifier_in b.name.content.now) ≡ binding_in (slice_range bytes.now at end)) }
+    ensures named { IfOk result (λ b. is_some (identifier_in b.name.content.now) ≡ true) }
+    ensures name { IfOk result (λ b. b.name.content.now ≡ slice_range bytes.now b.name.body b.name.end) }
+    ensures value { IfOk result (λ b. StandsAt bytes.now b.value.start b.value.body b.value.end b.value.tag b.value.content.now) }
+    ensures ordered { IfOk result (λ b. (at < b.end) × (b.value.end ≡ b.end) × (b.end ≤ end)) }
+{
+    let whole = read_element(bytes, at, end, SEQUENCE)?;
+    let name = read_element(bytes, whole.body, whole.end, OBJECT_IDENTIFIER)?;
+    if !is_oid(name.content) {
+        return Err(BerFault { at: name.start });
+    }
+    let value = read_tlv(bytes, name.end, whole.end)?;
+    if value.end < whole.end {
+        return Err(BerFault { at: value.end });
+    }
+    Ok(VarBind {
+        name,
+        value,
+        end: whole.end,
+    })
+}
+
+/// The VarBind that begins at the place `at` and ends at the place `end` or before it (RFC 3416, section 3).
+///
+/// It is an error that no VarBind begins there. No memory is taken, and no identifier is built.
+pub fn read_binding(bytes: &[u8], at: usize, end: usize) -> Result<VarBind<'_>, BerFault>
+    requires start { at ≤ end }
+    requires within { end ≤ length bytes.now }
+    ensures found { IfOk result (λ b. IsReadBinding (slice_range bytes.now at end) (slice_range bytes.now b.end end) b) }
+    ensures none { OnErr result ((v : Variable) (text rest : List ℕ) → IsBinding text v → slice_range bytes.now at end ≡ text ++ rest → ⊥) }
+    ensures name { IfOk result (λ b. b.name.content.now ≡ slice_range bytes.now b.name.body b.name.end) }
+    ensures value { IfOk result (λ b. StandsAt bytes.now b.value.start b.value.body b.value.end b.value.tag b.value.content.now) }
+    ensures ordered { IfOk result (λ b. (at < b.end) × (b.value.end ≡ b.end) × (b.end ≤ end)) }
+{
+    let binding = read_places(bytes, at, end)?;
+    Ok(binding)
+}
+
+/// What the VarBind at this place says, and the place after it.
+fn read_variable(bytes: &[u8], at: usize, end: usize) -> Result<(Binding<'_>, usize), BerFault>
     requires start { at ≤ end }
     requires within { end ≤ length bytes.now }
     ensures value { option_map (λ x. (variable_of x.0, slice_range bytes.now x.1 end)) (result_ok result) ≡ binding_in (slice_range bytes.now at end) }
     ensures ordered { IfOk result (λ x. (at < x.1) × (x.1 ≤ end)) }
 {
-    let whole = read_element(bytes, at, end, SEQUENCE)?;
-    let name = read_element(bytes, whole.body, whole.end, OBJECT_IDENTIFIER)?;
-    let Some(oid) = read_oid(name.content) else {
-        return Err(BerFault { at: name.start });
+    let places = read_places(bytes, at, end)?;
+    let Some(name) = read_oid(places.name.content) else {
+        unreachable!();
     };
-    let value = read_tlv(bytes, name.end, whole.end)?;
-    if value.end < whole.end {
-        return Err(BerFault { at: value.end });
-    }
     let binding = Binding {
-        name: oid,
-        tag: value.tag,
-        content: value.content,
+        name,
+        tag: places.value.tag,
+        content: places.value.content,
     };
-    Ok((binding, whole.end))
+    Ok((binding, places.end))
 }
 
 /// Reads the octets between two places, which must be VarBinds one after another.
@@ -56,8 +108,8 @@ pub(crate) fn check_bindings(bytes: &[u8], at: usize, end: usize) -> Result<(), 
 {
     let mut place = at;
     while place < end {
-        let (_binding, after) = read_binding(bytes, place, end)?;
-        place = after;
+        let binding = read_places(bytes, place, end)?;
+        place = binding.end;
     }
     Ok(())
 }
@@ -85,7 +137,7 @@ impl<'a> Iterator for Bindings<'a> {
     ghost remaining = { item_count bindings_left };
 
     fn next(&mut self) -> Option<Binding<'a>> {
-        let Ok((binding, after)) = read_binding(self.rest, 0, self.rest.len()) else {
+        let Ok((binding, after)) = read_variable(self.rest, 0, self.rest.len()) else {
             return None;
         };
         self.rest = &self.rest[after..];

@@ -17,7 +17,7 @@ mod scoped;
 mod security;
 mod whole;
 
-pub use binding::{Binding, Bindings};
+pub use binding::{Binding, Bindings, VarBind, read_binding};
 pub use fault::{CanonFault, MsgFault, WriteFault};
 pub use header::{Header, USER_BASED};
 pub use laws::{

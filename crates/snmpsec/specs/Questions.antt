@@ -12,7 +12,8 @@ use Rattle.snmpsec.specs.declared.check.Argument.TheVariants.{Model, Level as Le
 use Rattle.snmpsec.specs.declared.config.refusal.ConfigRefusal.{ConfigRefusal}
 use Rattle.snmpsec.specs.ConfigRefusals.{refusal_text}
 use Rattle.snmpsec.specs.Configs.{IsToml, TellsRefusal}
-use Rattle.snmpsec.specs.Words.{level_word, view_word, access_word, access_status}
+use Rattle.snmpsec_replay.specs.Words.{level_word}
+use Rattle.snmpsec.specs.Words.{view_word, access_word, access_status}
 
 -- ---- the words
 

@@ -10,8 +10,9 @@ ghost use Rattle.snmpsec.specs.Words.{access_word, access_status};
 
 use crate::config::{Config, ConfigFault};
 use crate::output::Output;
-use crate::words::{level_of, model_of, name_of, status_of, view_of};
+use crate::words::{model_of, name_of, status_of, view_of};
 use snmp_ber::{Level, Oid};
+use snmpsec_replay::level_of;
 use std::alloc::{AllocError, Global};
 use vacm_core::{Access, Vacm, ViewType};
 

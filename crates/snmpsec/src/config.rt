@@ -3,7 +3,7 @@
 ghost use Rattle.std.specs.Prelude.{List, ℕ, ◌≡◌, ⊤, OnOk, IfErr, IfOk, Some};
 ghost use Rattle.toml.specs.Parse.{parse_document};
 ghost use Rattle.toml.specs.View.{table_view};
-ghost use Rattle.snmpsec.specs.Configs.{IsToml, TellsConfig};
+ghost use Rattle.snmpsec.specs.Configs.{GivesUsers, IsToml, TellsConfig};
 
 mod keys;
 mod refusal;
@@ -36,6 +36,7 @@ impl Config {
     pub fn read(alloc: Global, text: &[u8]) -> Result<Config, ConfigFault>
         ensures toml { OnOk result (IsToml text.now) }
         ensures told { IfErr result (TellsConfig text.now) }
+        ensures users { IfOk result (λ config. GivesUsers text.now config.users.users) }
     {
         let document = document(alloc, text)?;
         if !is_top(&document) {
@@ -73,6 +74,7 @@ fn is_top(document: &Table) -> bool {
 /// The rows of all tables, and then what they load.
 fn load(alloc: Global, document: &Table) -> Result<Config, ConfigFault>
     ensures told { IfErr result (λ fault. (text : List ℕ) → IsToml text → TellsConfig text fault) }
+    ensures users { IfOk result (λ config. (text : List ℕ) → IsToml text → GivesUsers text config.users.users) }
 {
     let users: Vec<UserRow> = read_rows(alloc, document)?;
     let rows = Rows {

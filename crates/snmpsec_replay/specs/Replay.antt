@@ -2,8 +2,6 @@
 use Rattle.std.specs.Prelude.{◌≡◌, ◌⊎◌, ℕ, ◌+◌, ◌<◌, List, [], ◌∷◌, ◌++◌, length, codes, Option, Some, None, decimal}
 use Rattle.std.specs.Io.KnownBytes.{Appends, Consumes, IsAtEnd, Keeps}
 use Rattle.hex.specs.Hex.{encode_lower}
-use Rattle.snmp_ber.specs.declared.level.Level.{Level}
-use Rattle.snmp_ber.specs.declared.level.Level.TheVariants.{NoAuthNoPriv, AuthNoPriv, AuthPriv}
 use Rattle.engine_clock.specs.Splits.{Lacks}
 use Rattle.engine_clock.specs.Saved.{listing}
 use Rattle.snmp_manager.specs.declared.outcome.Outcome.{Outcome}
@@ -13,6 +11,7 @@ use Rattle.snmp_manager.specs.Views.{Held}
 use Rattle.snmp_manager.specs.Runs.{TakesOne}
 use Rattle.snmpsec_replay.specs.Log.{LogEntry, IsLine, AreLines, HasNoLine}
 use Rattle.snmpsec_replay.specs.Transfer.{WritesFront}
+use Rattle.snmpsec_replay.specs.Words.{level_word}
 use Rattle.snmpsec_replay.specs.declared.fault.ReplayFault.{ReplayFault}
 use Rattle.snmpsec_replay.specs.declared.fault.ReplayFault.TheVariants as fault
 use Rattle.snmpsec_replay.specs.declared.replay.Ending.{Ending}
@@ -21,11 +20,6 @@ use Rattle.snmpsec_replay.specs.declared.replay.Step.{Step}
 use Rattle.snmpsec_replay.specs.declared.replay.Step.TheVariants as step
 
 -- ---- the words
-
-abbrev pub level_word : Level → List ℕ
-level_word NoAuthNoPriv = codes "noAuthNoPriv"
-level_word AuthNoPriv = codes "authNoPriv"
-level_word AuthPriv = codes "authPriv"
 
 abbrev pub outcome_text : Outcome → List ℕ
 outcome_text (Accepted level tag) = codes "accepted " ++ (level_word level ++ (codes " " ++ encode_lower (tag ∷ [])))

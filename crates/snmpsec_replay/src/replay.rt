@@ -3,15 +3,15 @@ ghost use Rattle.std.specs.Prelude.{◌≡◌, [], IfOk, OnOk, OnErr, IfErr, IfS
 ghost use Rattle.std.specs.Io.KnownBytes.{Appends};
 ghost use Rattle.engine_clock.specs.Saved.{listing};
 ghost use Rattle.snmpsec_replay.specs.Transfer.{WritesFront};
-ghost use Rattle.snmpsec_replay.specs.Replay.{AnswersLine, Ends, ReplayText, SavesUnless, StopsBy, WriteFails, WritesSome, answer_line, level_word, outcome_text};
+ghost use Rattle.snmpsec_replay.specs.Replay.{AnswersLine, Ends, ReplayText, SavesUnless, StopsBy, WriteFails, WritesSome, answer_line, outcome_text};
 
 use crate::fault::ReplayFault;
 use crate::log::{LINE_LIMIT, LINES_LIMIT, NextLine, read_entry, read_line};
 use crate::transfer::{Failed, read_octet, write_whole};
-use snmp_ber::Level;
+use crate::words::level_word;
 use snmp_manager::{Manager, Outcome};
 use std::alloc::{AllocError, Global};
-use std::io::{Read, Write};
+use std::io::{BufRead, Write};
 
 /// How many octets wait before they are written.
 const PIECE: usize = 8_192;
@@ -38,17 +38,6 @@ pub(crate) enum Step {
     OutOfForm,
     /// A growth of memory was refused.
     OutOfMemory,
-}
-
-/// The word for a level.
-fn level_word(level: Level) -> &'static str
-    ensures { result.now ≡ level_word level }
-{
-    match level {
-        Level::NoAuthNoPriv => "noAuthNoPriv",
-        Level::AuthNoPriv => "authNoPriv",
-        Level::AuthPriv => "authPriv",
-    }
 }
 
 /// The words for an outcome.
@@ -128,7 +117,7 @@ fn write_piece<W: Write>(writer: &mut W, waiting: &mut Vec<u8>) -> Result<(), Fa
 }
 
 /// Takes the lines of a log. What answers them is written, or waits to be.
-fn answer_lines<R: Read, W: Write>(
+fn answer_lines<R: BufRead, W: Write>(
     alloc: Global,
     manager: &mut Manager,
     reader: &mut R,
@@ -194,12 +183,13 @@ fn save<W: Write>(manager: &Manager, writer: &mut W) -> Result<(), ReplayFault>
 }
 
 /// Takes the datagrams of a log, one a line, and writes a line for each, and at the end the saved text of what the manager holds.
-/// It holds one line at a time, of at most 131,072 octets, and reads at most 1,000,000.
+/// It holds one line at a time, of at most 131,072 octets, and reads at most 1,000,000. A reader that doesn't read ahead is
+/// given in a `BufReader`.
 ///
 /// The errors are LogLine(n), where line n is the first that is out of its form or past these limits; CannotRead and CannotWrite,
 /// where a read or a write fails, or is interrupted 1,000 times in a row; and OutOfMemory. Before each of them but CannotWrite
 /// the lines of all datagrams that were taken are written, and no saved text.
-pub fn replay_log<R: Read, W: Write>(
+pub fn replay_log<R: BufRead, W: Write>(
     alloc: Global,
     mut manager: Manager,
     reader: &mut R,

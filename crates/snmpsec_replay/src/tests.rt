@@ -2,11 +2,14 @@
 
 use crate::fault::ReplayFault;
 use crate::replay::replay_log;
+use crate::transfer::write_whole;
+use crate::words::{level_of, level_word};
 use engine_clock::Clocks;
+use snmp_ber::Level;
 use snmp_manager::Manager;
 use std::alloc::Global;
 use std::io;
-use std::io::{ErrorKind, Read, Write};
+use std::io::{BufReader, ErrorKind, Read, Write};
 use std::test::Fail;
 use usm_core::Users;
 
@@ -138,7 +141,7 @@ fn a_log_is_answered(rt: HostRuntime) -> Result<(), Fail> {
 fn a_log_is_read_octet_by_octet(rt: HostRuntime) -> Result<(), Fail> {
     let alloc = rt.alloc();
     for times in [0, 1, 999] {
-        let mut log = Slow::interrupted(LOG, times);
+        let mut log = BufReader::new(alloc, Slow::interrupted(LOG, times))?;
         let mut text = Choppy::new(alloc, times, None);
         replay_log(alloc, manager(alloc)?, &mut log, &mut text)?;
         assert_eq!(rt; text.written.as_slice(), ANSWERS);
@@ -149,7 +152,7 @@ fn a_log_is_read_octet_by_octet(rt: HostRuntime) -> Result<(), Fail> {
 #[test]
 fn a_thousand_interruptions_are_a_fault(rt: HostRuntime) -> Result<(), Fail> {
     let alloc = rt.alloc();
-    let mut log = Slow::interrupted(LOG, 1000);
+    let mut log = BufReader::new(alloc, Slow::interrupted(LOG, 1000))?;
     let mut text = Vec::new(alloc);
     let outcome = replay_log(alloc, manager(alloc)?, &mut log, &mut text);
     assert_eq!(rt; outcome, Err(ReplayFault::CannotRead));
@@ -164,7 +167,7 @@ fn a_thousand_interruptions_are_a_fault(rt: HostRuntime) -> Result<(), Fail> {
 fn what_was_answered_is_written_before_a_read_fails(rt: HostRuntime) -> Result<(), Fail> {
     let alloc = rt.alloc();
     for at in 0..LOG.len() as u32 {
-        let mut log = Slow::failing(LOG, at);
+        let mut log = BufReader::new(alloc, Slow::failing(LOG, at))?;
         let mut text = Vec::new(alloc);
         let outcome = replay_log(alloc, manager(alloc)?, &mut log, &mut text);
         assert_eq!(rt; outcome, Err(ReplayFault::CannotRead), "at {at}");
@@ -233,19 +236,18 @@ struct Endless {
 
 impl Read for Endless {
     fn read(&mut self, buf: &mut [u8]) -> io::Result<usize> {
-        let Some(place) = buf.first_mut() else {
-            return Ok(0);
-        };
-        *place = match self.line.get(self.at) {
-            Some(octet) => *octet,
-            None => self.feed,
-        };
-        self.at = if self.at < self.line.len() {
-            self.at + 1
-        } else {
-            0
-        };
-        Ok(1)
+        for place in buf.iter_mut() {
+            *place = match self.line.get(self.at) {
+                Some(octet) => *octet,
+                None => self.feed,
+            };
+            self.at = if self.at < self.line.len() {
+                self.at + 1
+            } else {
+                0
+            };
+        }
+        Ok(buf.len())
     }
 }
 
@@ -266,11 +268,12 @@ impl Write for Nowhere {
 #[test]
 fn a_reader_that_never_ends_is_left(rt: HostRuntime) -> Result<(), Fail> {
     let alloc = rt.alloc();
-    let mut log = Endless {
+    let endless = Endless {
         line: b"5 40",
         at: 0,
         feed: b'\n',
     };
+    let mut log = BufReader::new(alloc, endless)?;
     let outcome = replay_log(alloc, manager(alloc)?, &mut log, &mut Nowhere);
     assert_eq!(rt; outcome, Err(ReplayFault::LogLine(1_000_001)));
     Ok(())
@@ -279,11 +282,12 @@ fn a_reader_that_never_ends_is_left(rt: HostRuntime) -> Result<(), Fail> {
 #[test]
 fn a_line_that_never_ends_is_left(rt: HostRuntime) -> Result<(), Fail> {
     let alloc = rt.alloc();
-    let mut log = Endless {
+    let endless = Endless {
         line: b"5 40",
         at: 0,
         feed: b'4',
     };
+    let mut log = BufReader::new(alloc, endless)?;
     let outcome = replay_log(alloc, manager(alloc)?, &mut log, &mut Nowhere);
     assert_eq!(rt; outcome, Err(ReplayFault::LogLine(1)));
     Ok(())
@@ -301,6 +305,39 @@ fn the_longest_line_is_taken(rt: HostRuntime) -> Result<(), Fail> {
             replay_log(alloc, manager(alloc)?, &mut reader, &mut Nowhere),
             outcome
         );
+    }
+    Ok(())
+}
+
+#[test]
+fn a_text_is_written_whole(rt: HostRuntime) -> Result<(), Fail> {
+    let alloc = rt.alloc();
+    for interruptions in [0, 1, 999] {
+        let mut writer = Choppy::new(alloc, interruptions, None);
+        assert_eq!(rt; write_whole(&mut writer, b"clocks"), Ok(()));
+        assert_eq!(rt; writer.written.as_slice(), b"clocks".as_slice());
+    }
+    for (interruptions, failing) in [(1000, None), (0, Some(0)), (0, Some(1))] {
+        let mut writer = Choppy::new(alloc, interruptions, failing);
+        assert!(rt; write_whole(&mut writer, b"clocks").is_err());
+        assert!(rt; b"clocks".starts_with(&writer.written));
+    }
+    Ok(())
+}
+
+#[test]
+fn each_level_has_one_word(rt: HostRuntime) -> Result<(), Fail> {
+    let words = [
+        (Level::NoAuthNoPriv, "noAuthNoPriv"),
+        (Level::AuthNoPriv, "authNoPriv"),
+        (Level::AuthPriv, "authPriv"),
+    ];
+    for (level, word) in words {
+        assert_eq!(rt; level_word(level), word);
+        assert_eq!(rt; level_of(word), Some(level));
+    }
+    for word in ["", "AuthPriv", "authpriv", "authPriv ", "priv"] {
+        assert_eq!(rt; level_of(word), None);
     }
     Ok(())
 }

@@ -8,7 +8,7 @@ use std::io::{ErrorKind, Read, Write};
 use thiserror::Error;
 
 /// How often in a row a transfer is tried.
-const TRIES: u32 = 1_000;
+pub(crate) const TRIES: u32 = 1_000;
 
 /// A read or a write failed, or was interrupted a thousand times in a row.
 #[derive(Clone, Copy, Debug, PartialEq, Eq, Drop, Error)]

@@ -54,6 +54,23 @@ fn a_get_request_has_one_binding(rt: HostRuntime) -> Result<(), Fail> {
     Ok(())
 }
 
+#[test]
+fn a_binding_tells_the_places_of_its_parts(rt: HostRuntime) -> Result<(), Fail> {
+    let binding = read_binding(get_request(), 85, 99).ok().ok_or("a binding")?;
+    assert_eq!(rt; (binding.name.start, binding.name.body, binding.name.end), (87, 89, 97));
+    assert_eq!(rt; (binding.value.start, binding.value.body, binding.value.end), (97, 99, 99));
+    assert_eq!(rt; (binding.value.tag, binding.end), (0x05, 99));
+    Ok(())
+}
+
+#[test]
+fn no_binding_begins_at_another_place(rt: HostRuntime) {
+    for at in [83, 86, 87, 97, 99] {
+        assert!(rt; read_binding(get_request(), at, 99).is_err(), "{at}");
+    }
+    assert!(rt; read_binding(get_request(), 85, 98).is_err());
+}
+
 /// The request, in its canonical spelling, or the refusal.
 fn spelled(alloc: Global, datagram: &[u8]) -> Result<Vec<u8>, CanonFault> {
     match canonical(alloc, datagram) {

@@ -124,7 +124,7 @@ const QUESTIONS: [(&str, &str, u8, &str); 14] = [
 ];
 
 /// Configurations that are refused, and the lines for them.
-const REFUSED: [(&str, &str); 52] = [
+static REFUSED: [(&str, &str); 52] = [
     ("user = ", "refused config toml\n"),
     ("users = []\nuser = [", "refused config toml\n"),
     ("users = []", "refused config top\n"),
@@ -307,6 +307,10 @@ const REFUSED: [(&str, &str); 52] = [
     ),
 ];
 
+pub(super) fn refused_configurations() -> &'static [(&'static str, &'static str)] {
+    &REFUSED
+}
+
 /// Words of which one is out of its form, and what is told.
 const BAD_WORDS: [(&str, &str); 15] = [
     (
@@ -389,7 +393,7 @@ fn a_question_has_one_answer(rt: HostRuntime) -> Result<(), Fail> {
 
 #[test]
 fn the_first_fault_of_a_configuration_is_told(rt: HostRuntime) -> Result<(), Fail> {
-    for (config, line) in REFUSED.iter() {
+    for (config, line) in refused_configurations() {
         expect_printed(&rt, config, "3 ann noAuthNoPriv read @ 1.3.6", 1, line, "")?;
     }
     let output = check_text(rt.alloc(), b"# \xff", &ASKED)?;

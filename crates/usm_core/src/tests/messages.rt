@@ -20,7 +20,7 @@ fn scoped_pdu_in(alloc: Global, context: &[u8]) -> Result<Vec<u8>, WriteFault>
 }
 
 /// The scoped PDU of each message but the longest ones.
-fn scoped_pdu(alloc: Global) -> Result<Vec<u8>, WriteFault>
+pub(super) fn scoped_pdu(alloc: Global) -> Result<Vec<u8>, WriteFault>
     ensures { IfOk result (λ v. (content : List ℕ) × IsElement 48 content v.items) }
 {
     scoped_pdu_in(alloc, b"")
@@ -48,7 +48,7 @@ fn sealed_after_refusal(users: &mut Users, scoped: &[u8]) -> Result<Vec<u8>, Usm
 }
 
 /// The header of each message, with the auth and priv flags.
-fn header(auth: bool, privacy: bool) -> Header
+pub(super) fn header(auth: bool, privacy: bool) -> Header
     ensures { HeaderFits result }
 {
     Header {
@@ -136,7 +136,7 @@ static SAMPLES: [Sample; 5] = [
     },
 ];
 
-fn samples() -> &'static [Sample] {
+pub(super) fn samples() -> &'static [Sample] {
     &SAMPLES
 }
 

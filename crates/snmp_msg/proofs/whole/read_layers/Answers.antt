@@ -44,4 +44,4 @@ pub returns-clause-fits : goal.returns-clause-fits
 returns-clause-fits c = whole_fits c.args.datagram.now _ (returns-clause-exact c)
 
 pub returns-clause-list : goal.returns-clause-list
-returns-clause-list c = let t = c.in_ok-pdu.ensures.exact in (variables_of-again t.variables c.in_ok-pdu.pdu.list.now t.are_bindings).1
+returns-clause-list c = let t = c.in_ok-pdu.ensures.exact.says in (variables_of-again t.variables c.in_ok-pdu.pdu.list.now t.are_bindings).1

@@ -20,10 +20,10 @@ returns-clause-decision c s p front is_pdu =
     let same_pdu : pdu_of c.pdu-pdu.result ≡ p = c.one_content.ensures.pdu s.pdu (pdu_of c.pdu-pdu.result) p (c.pdu-pdu.ensures.is_pdu s front) is_pdu in
     let tables = ap (λ (a : AgentState). a.tables) c.self.view_is in
     let list = ap (λ (y : PduParts). y.list) same_pdu in
-    let bindings : AreBindings is_pdu.variables c.pdu-pdu.result.list.now = subst (λ (l : List ℕ). AreBindings is_pdu.variables l) (sym list) is_pdu.are_bindings in
-    let zip = c.in_ok-answers.ensures is_pdu.variables bindings in
-    let So = λ (t : Tables) (x : Contexts). AreAnswers t (question_of (given_of c.args.taken.now) x) c.in-Some.view is_pdu.variables c.in_ok-answers.answers.items in (
+    let bindings : AreBindings is_pdu.says.variables c.pdu-pdu.result.list.now = subst (λ (l : List ℕ). AreBindings is_pdu.says.variables l) (sym list) is_pdu.says.are_bindings in
+    let zip = c.in_ok-answers.ensures is_pdu.says.variables bindings in
+    let So = λ (t : Tables) (x : Contexts). AreAnswers t (question_of (given_of c.args.taken.now) x) c.in-Some.view is_pdu.says.variables c.in_ok-answers.answers.items in (
       c.in-Some.view,
       subst (λ (y : PduParts). IsDecidedBy y.tag c.in-Some.view) same_pdu c.in-Some.ensures,
-      (is_pdu.variables, is_pdu.are_bindings, subst (λ (t : Tables). So t s) tables (subst (λ (x : Contexts). So c.self.inside.vacm x) same zip)),
+      (is_pdu.says.variables, is_pdu.says.are_bindings, subst (λ (t : Tables). So t s) tables (subst (λ (x : Contexts). So c.self.inside.vacm x) same zip)),
     )

@@ -1,0 +1,70 @@
+//! Growths that are refused. Run by `tools/refuse-memory`, these show that a refused growth is answered as want of memory, what it
+//! leaves, and that the same call succeeds afterwards.
+
+use super::*;
+
+const DISCOVERY: &str =
+    "3038020103300e020101020300ffe30401040201030410300e0400020100020100040004000400301104000400a00b0201010201000201003000";
+
+/// Users, asked for again where a growth was refused.
+fn users_after_refusal(alloc: Global) -> Result<Users, Fail> {
+    let rows = match user_rows(alloc) {
+        Ok(rows) => rows,
+        Err(_) => user_rows(alloc)?,
+    };
+    match Users::load(alloc, &rows) {
+        Ok(users) => Ok(users),
+        Err(_) => Ok(Users::load(alloc, &rows)?),
+    }
+}
+
+/// Tables without rows, asked for again where a growth was refused.
+fn tables_after_refusal(alloc: Global) -> Result<Vacm, Fail> {
+    let rows = Rows {
+        contexts: Vec::new(alloc),
+        groups: Vec::new(alloc),
+        access: Vec::new(alloc),
+        families: Vec::new(alloc),
+    };
+    match Vacm::load(alloc, &rows) {
+        Ok(tables) => Ok(tables),
+        Err(_) => Ok(Vacm::load(alloc, &rows)?),
+    }
+}
+
+fn agent_after_refusal(alloc: Global) -> Result<Agent, Fail> {
+    let users = users_after_refusal(alloc)?;
+    let tables = tables_after_refusal(alloc)?;
+    Ok(Agent::new(alloc, engine()?, 7, 0, users, tables))
+}
+
+/// The octets of a text in hex, asked for again where a growth was refused.
+fn octets_after_refusal(alloc: Global, hex: &str) -> Result<Vec<u8>, Fail> {
+    match hex::decode(alloc, hex) {
+        Ok(octets) => Ok(octets),
+        Err(_) => Ok(hex::decode(alloc, hex)?),
+    }
+}
+
+/// Why an agent refuses a datagram, or None where it accepts it, and whether there is a report.
+fn refused(agent: &mut Agent, now: u64, datagram: &[u8]) -> (Option<TakeFault>, bool) {
+    match agent.take(now, datagram) {
+        Ok(_) => (None, false),
+        Err(refused) => (Some(refused.why), refused.report.is_some()),
+    }
+}
+
+#[test]
+fn a_refused_growth_reports_and_counts_nothing(rt: HostRuntime) -> Result<(), Fail> {
+    let mut agent = agent_after_refusal(rt.alloc())?;
+    let discovery = octets_after_refusal(rt.alloc(), DISCOVERY)?;
+    let mut answer = refused(&mut agent, 1000, &discovery);
+    if answer.0 == Some(TakeFault::OutOfMemory) {
+        assert!(rt; !answer.1);
+        assert_eq!(rt; counters(&agent), [0; 6].map(Some));
+        answer = refused(&mut agent, 1000, &discovery);
+    }
+    assert_eq!(rt; answer, (Some(TakeFault::UnknownEngine), true));
+    assert_eq!(rt; counters(&agent), [0, 0, 0, 1, 0, 0].map(Some));
+    Ok(())
+}
