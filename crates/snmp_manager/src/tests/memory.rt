@@ -47,26 +47,25 @@ fn manager_after_refusal(alloc: Global, users: &Users) -> Result<Manager, AllocE
     }
 }
 
+/// The level of the datagram, which is accepted.
+fn taken_level(manager: &mut Manager, datagram: &[u8]) -> Result<Level, TakeFault> {
+    let taken = manager.take(7, datagram)?;
+    Ok(taken.level)
+}
+
 #[test]
 fn a_refused_growth_learns_nothing(rt: HostRuntime) -> Result<(), Fail> {
     let own = engine(&[128, 0, 0, 0, 1])?;
     let mut users = users_after_refusal(rt.alloc())?;
     let message = message_after_refusal(&mut users, rt.alloc(), 1, Level::AuthPriv)?;
     let mut manager = manager_after_refusal(rt.alloc(), &users)?;
-    let refused = match manager.take(7, &message) {
-        Ok(taken) => {
-            assert_eq!(rt; taken.level, Level::AuthPriv);
-            None
-        }
-        Err(fault) => Some(fault),
-    };
-    if let Some(fault) = refused {
-        assert_eq!(rt; fault, TakeFault::OutOfMemory);
-        assert_eq!(rt; manager.pair(&own), None);
-        let taken = manager.take(7, &message)?;
-        assert_eq!(rt; taken.level, Level::AuthPriv);
+    let mut level = taken_level(&mut manager, &message);
+    if level == Err(TakeFault::OutOfMemory) {
+        assert_eq!(rt; held(&manager, &own), None);
+        level = taken_level(&mut manager, &message);
     }
-    assert_eq!(rt; manager.pair(&own), Some(pair(1, 5)?));
+    assert_eq!(rt; level, Ok(Level::AuthPriv));
+    assert_eq!(rt; held(&manager, &own), Some((1, 5)));
     Ok(())
 }
 
@@ -152,6 +151,47 @@ fn a_refused_growth_absorbs_and_saves_nothing(rt: HostRuntime) -> Result<(), Fai
     }
     let saved = saved_after_refusal(&manager)?;
     assert_eq!(rt; saved.as_slice(), text.as_slice());
+    Ok(())
+}
+
+/// What the manager answers to the datagram, or None for want of memory.
+fn answered(manager: &mut Manager, datagram: &[u8]) -> Option<Outcome> {
+    match manager.take_one(7, datagram) {
+        Ok(outcome) => Some(outcome),
+        Err(_) => None,
+    }
+}
+
+#[test]
+fn a_refused_growth_is_told_before_the_window(rt: HostRuntime) -> Result<(), Fail> {
+    let own = engine(&ENGINE)?;
+    let last = pair(Pair::MAX, 0)?;
+    let mut users = users_after_refusal(rt.alloc())?;
+    let message = sealed_after_refusal(&mut users, rt.alloc(), &ENGINE, last, Level::AuthPriv)?;
+    let mut manager = manager_after_refusal(rt.alloc(), &users)?;
+    let late = Some(Outcome::Refused(TakeFault::NotInWindow));
+    let mut outcome = answered(&mut manager, &message);
+    if outcome == None {
+        assert_eq!(rt; held(&manager, &own), None);
+        outcome = answered(&mut manager, &message);
+    }
+    assert_eq!(rt; outcome, late);
+    assert_eq!(rt; held(&manager, &own), Some((Pair::MAX, 0)));
+    Ok(())
+}
+
+#[test]
+fn a_refused_growth_is_not_told_of_a_wrong_code(rt: HostRuntime) -> Result<(), Fail> {
+    let own = engine(&ENGINE)?;
+    let mut users = users_after_refusal(rt.alloc())?;
+    let mut message = message_after_refusal(&mut users, rt.alloc(), 1, Level::AuthPriv)?;
+    if let Some(octet) = message.last_mut() {
+        *octet ^= 1;
+    }
+    let mut manager = manager_after_refusal(rt.alloc(), &users)?;
+    let wrong = Some(Outcome::Refused(TakeFault::WrongDigest));
+    assert_eq!(rt; answered(&mut manager, &message), wrong);
+    assert_eq!(rt; held(&manager, &own), None);
     Ok(())
 }
 

@@ -163,6 +163,38 @@ pub(super) fn refusal(
     }
 }
 
+const UNKNOWN: Option<TakeFault> = Some(TakeFault::UnknownUser);
+
+const UNSUPPORTED: Option<TakeFault> = Some(TakeFault::UnsupportedLevel);
+
+const TOO_LARGE: Option<TakeFault> = Some(TakeFault::TooLarge);
+
+#[test]
+fn a_request_is_refused_for_its_user_its_level_and_its_length(rt: HostRuntime) -> Result<(), Fail> {
+    let own = engine(&ENGINE)?;
+    let users = users(rt.alloc())?;
+    let mut manager = begun(rt.alloc(), &users, HELD)?;
+    let long = vec![in rt.alloc(); b'c'; 65_507]?;
+    for (user, level, short_answer, long_answer) in [
+        (b"eve".as_slice(), Level::AuthNoPriv, UNKNOWN, UNKNOWN),
+        (b"eve", Level::AuthPriv, UNKNOWN, UNKNOWN),
+        (b"", Level::AuthNoPriv, UNKNOWN, UNKNOWN),
+        (b"guest", Level::AuthNoPriv, UNSUPPORTED, UNSUPPORTED),
+        (b"guest", Level::AuthPriv, UNSUPPORTED, UNSUPPORTED),
+        (b"ann", Level::AuthPriv, None, TOO_LARGE),
+        (b"sam", Level::AuthNoPriv, None, TOO_LARGE),
+        (b"eve", Level::NoAuthNoPriv, None, TOO_LARGE),
+    ] {
+        assert_eq!(rt; refusal(&mut manager, &own, user, level, b""), short_answer);
+        assert_eq!(rt;
+            refusal(&mut manager, &own, user, level, &long),
+            long_answer
+        );
+    }
+    assert_eq!(rt; manager.save()?.as_slice(), HELD);
+    Ok(())
+}
+
 const DISCOVERY: &str =
     "3038020103300e020101020300ffe30401040201030410300e0400020100020100040004000400301104000400a00b0201010201000201003000";
 
