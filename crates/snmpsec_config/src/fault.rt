@@ -3,6 +3,7 @@
 ghost use Rattle.std.specs.Prelude.{◌≡◌, ◌≢◌, Some, MatchBool};
 ghost use Rattle.snmpsec_config.specs.Keys.{table_name, key_name, listed, IsListed};
 ghost use Rattle.snmpsec_config.specs.Refusals.{user_refusal, vacm_refusal, wrong_name, refusal_line};
+ghost use Rattle.snmpsec_config.specs.Told.{wanted_words, key_fault_text};
 ghost use Rattle.snmpsec_config.specs.declared.fault.ConfigFault.TheVariants.{OutOfMemory};
 
 use std::alloc::{AllocError, AllocFailed};
@@ -14,10 +15,15 @@ use vacm_core::{Table, VacmFault};
 /// The tables of a configuration, in the order in which they are looked at.
 #[derive(Clone, Copy, Debug, PartialEq, Eq)]
 pub enum ConfigTable {
+    /// Users (RFC 3414, usmUserTable).
     User,
+    /// Contexts (RFC 3415, vacmContextTable).
     Context,
+    /// Groups of security names (vacmSecurityToGroupTable).
     Group,
+    /// Access rows (vacmAccessTable).
     Access,
+    /// View families (vacmViewTreeFamilyTable).
     Family,
 }
 
@@ -136,6 +142,8 @@ impl Key {
 }
 
 impl fmt::Display for Key {
+    ghost output = { λ key. Some (key_name key) };
+
     fn fmt<W: fmt::Write>(&self, f: &mut fmt::Formatter<W>) -> fmt::Result {
         f.write_str(self.name())
     }
@@ -159,7 +167,9 @@ pub enum Wanted {
 
 impl Wanted {
     /// What is wanted, in words.
-    pub fn words(self) -> &'static str {
+    pub fn words(self) -> &'static str
+        ensures { result.now ≡ wanted_words self }
+    {
         match self {
             Wanted::Text => "a text",
             Wanted::Name => "a text of at most 32 octets",
@@ -176,6 +186,8 @@ impl Wanted {
 }
 
 impl fmt::Display for Wanted {
+    ghost output = { λ wanted. Some (wanted_words wanted) };
+
     fn fmt<W: fmt::Write>(&self, f: &mut fmt::Formatter<W>) -> fmt::Result {
         f.write_str(self.words())
     }
@@ -191,6 +203,8 @@ pub enum KeyFault {
 }
 
 impl fmt::Display for KeyFault {
+    ghost output = { λ fault. Some (key_fault_text fault) };
+
     fn fmt<W: fmt::Write>(&self, f: &mut fmt::Formatter<W>) -> fmt::Result {
         match self {
             KeyFault::Unlisted { key } => write!(f, "{key}: not a key of this table"),
@@ -280,7 +294,9 @@ impl fmt::Display for ConfigFault {
             ConfigFault::Toml { .. } => f.write_str("refused config toml"),
             ConfigFault::Top { .. } => f.write_str("refused config top"),
             ConfigFault::BadKey {
-                table, position, ..
+                table,
+                position,
+                ..
             } => write!(f, "refused config {table} {position} BadKey"),
             ConfigFault::Row {
                 table,
