@@ -23,9 +23,9 @@ const MASK_MAX: usize = 16;
 
 /// A value that isn't what is wanted.
 #[derive(Clone, Copy, Debug, PartialEq, Eq)]
-pub struct ValueFault {
-    pub key: Key,
-    pub wanted: Wanted,
+pub(crate) struct ValueFault {
+    pub(crate) key: Key,
+    pub(crate) wanted: Wanted,
 }
 
 /// The value at a key.
@@ -36,7 +36,7 @@ fn value<'a>(row: &'a Table, key: Key) -> Option<&'a Value>
 }
 
 /// The text at a key, if any.
-pub fn optional_text<'a>(row: &'a Table, key: Key) -> Result<Option<&'a str>, ValueFault>
+pub(crate) fn optional_text<'a>(row: &'a Table, key: Key) -> Result<Option<&'a str>, ValueFault>
     ensures ok { IfOk result (λ text. IsTextIfAny (at (table_view row.now) key) (option_map (λ t. t.now) text)) }
     ensures fault { IfErr result (λ f. (f.key ≡ key) × (f.wanted ≡ wanted.Text) × ((text : Option (List ℕ)) → ¬ IsTextIfAny (at (table_view row.now) key) text)) }
 {
@@ -70,7 +70,7 @@ fn text_or_empty<'a>(row: &'a Table, key: Key) -> Option<&'a str>
 }
 
 /// The text at a key.
-pub fn required_text<'a>(row: &'a Table, key: Key) -> Result<&'a str, ValueFault>
+pub(crate) fn required_text<'a>(row: &'a Table, key: Key) -> Result<&'a str, ValueFault>
     ensures ok { IfOk result (λ text. IsText (at (table_view row.now) key) text.now) }
     ensures fault { IfErr result (λ f. (f.key ≡ key) × (f.wanted ≡ wanted.Text) × ((text : List ℕ) → ¬ IsText (at (table_view row.now) key) text)) }
 {
@@ -84,7 +84,7 @@ pub fn required_text<'a>(row: &'a Table, key: Key) -> Result<&'a str, ValueFault
 }
 
 /// The name at a key, of at most 32 octets.
-pub fn name(row: &Table, key: Key) -> Result<Name, ValueFault>
+pub(crate) fn name(row: &Table, key: Key) -> Result<Name, ValueFault>
     ensures ok { IfOk result (λ name. IsName (at (table_view row.now) key) name) }
     ensures fault { IfErr result (λ f. (f.key ≡ key) × (f.wanted ≡ wanted.Name) × ((name : List ℕ) → ¬ IsName (at (table_view row.now) key) name)) }
 {
@@ -99,7 +99,7 @@ pub fn name(row: &Table, key: Key) -> Result<Name, ValueFault>
 }
 
 /// The name at a key, empty where the key is absent.
-pub fn name_or_empty(row: &Table, key: Key) -> Result<Name, ValueFault>
+pub(crate) fn name_or_empty(row: &Table, key: Key) -> Result<Name, ValueFault>
     ensures ok { IfOk result (λ name. IsNameOrEmpty (at (table_view row.now) key) name) }
     ensures fault { IfErr result (λ f. (f.key ≡ key) × (f.wanted ≡ wanted.Name) × ((name : List ℕ) → ¬ IsNameOrEmpty (at (table_view row.now) key) name)) }
 {
@@ -114,7 +114,7 @@ pub fn name_or_empty(row: &Table, key: Key) -> Result<Name, ValueFault>
 }
 
 /// The number of a security model, or 0.
-pub fn model(row: &Table, key: Key) -> Result<u32, ValueFault>
+pub(crate) fn model(row: &Table, key: Key) -> Result<u32, ValueFault>
     ensures ok { IfOk result (λ model. IsModel (at (table_view row.now) key) model) }
     ensures fault { IfErr result (λ f. (f.key ≡ key) × (f.wanted ≡ wanted.Model) × ((model : ℕ) → ¬ IsModel (at (table_view row.now) key) model)) }
 {
@@ -140,7 +140,7 @@ fn number(row: &Table, key: Key) -> Option<u32>
 }
 
 /// The security level whose name stands at a key.
-pub fn level(row: &Table, key: Key) -> Result<Level, ValueFault>
+pub(crate) fn level(row: &Table, key: Key) -> Result<Level, ValueFault>
     ensures ok { IfOk result (IsLevel (at (table_view row.now) key)) }
     ensures fault { IfErr result (λ f. (f.key ≡ key) × (f.wanted ≡ wanted.Level) × ((level : ALevel) → ¬ IsLevel (at (table_view row.now) key) level)) }
 {
@@ -155,7 +155,7 @@ pub fn level(row: &Table, key: Key) -> Result<Level, ValueFault>
 }
 
 /// How a context prefix is compared.
-pub fn matching(row: &Table, key: Key) -> Result<Matching, ValueFault>
+pub(crate) fn matching(row: &Table, key: Key) -> Result<Matching, ValueFault>
     ensures ok { IfOk result (IsMatching (at (table_view row.now) key)) }
     ensures fault { IfErr result (λ f. (f.key ≡ key) × (f.wanted ≡ wanted.Matching) × ((matching : AMatching) → ¬ IsMatching (at (table_view row.now) key) matching)) }
 {
@@ -170,7 +170,7 @@ pub fn matching(row: &Table, key: Key) -> Result<Matching, ValueFault>
 }
 
 /// The identifier whose dotted text stands at a key.
-pub fn oid(row: &Table, key: Key) -> Result<Oid, ValueFault>
+pub(crate) fn oid(row: &Table, key: Key) -> Result<Oid, ValueFault>
     ensures ok { IfOk result (λ oid. IsOid (at (table_view row.now) key) oid) }
     ensures fault { IfErr result (λ f. (f.key ≡ key) × (f.wanted ≡ wanted.Oid) × ((arcs : List ℕ) → ¬ IsOid (at (table_view row.now) key) arcs)) }
 {
@@ -185,7 +185,7 @@ pub fn oid(row: &Table, key: Key) -> Result<Oid, ValueFault>
 }
 
 /// The truth value at a key.
-pub fn flag(row: &Table, key: Key) -> Result<bool, ValueFault>
+pub(crate) fn flag(row: &Table, key: Key) -> Result<bool, ValueFault>
     ensures ok { IfOk result (IsFlag (at (table_view row.now) key)) }
     ensures fault { IfErr result (λ f. (f.key ≡ key) × (f.wanted ≡ wanted.Flag) × ((flag : Bool) → ¬ IsFlag (at (table_view row.now) key) flag)) }
 {
@@ -214,7 +214,7 @@ fn mask_of(digits: &str) -> Option<Mask>
 }
 
 /// The mask at a key, empty where the key is absent.
-pub fn mask(row: &Table, key: Key) -> Result<Mask, ValueFault>
+pub(crate) fn mask(row: &Table, key: Key) -> Result<Mask, ValueFault>
     ensures ok { IfOk result (λ mask. IsMask (at (table_view row.now) key) mask) }
     ensures fault { IfErr result (λ f. (f.key ≡ key) × (f.wanted ≡ wanted.Mask) × ((mask : List ℕ) → ¬ IsMask (at (table_view row.now) key) mask)) }
 {
@@ -229,7 +229,7 @@ pub fn mask(row: &Table, key: Key) -> Result<Mask, ValueFault>
 }
 
 /// A user's protocol and password for authentication: both or neither.
-pub fn auth<'a>(row: &'a Table) -> Result<Option<(Auth, &'a str)>, ValueFault>
+pub(crate) fn auth<'a>(row: &'a Table) -> Result<Option<(Auth, &'a str)>, ValueFault>
     ensures ok { IfOk result (λ own. AreAuth (at (table_view row.now) keys.Auth) (at (table_view row.now) keys.AuthPassword) (option_map (λ o. (o.0, o.1.now)) own)) }
     ensures fault { IfErr result (λ f. IsAuthFault (table_view row.now) f.key f.wanted) }
 {
