@@ -1,0 +1,37 @@
+//! The words of a configuration.
+
+ghost use Rattle.std.specs.Prelude.{◌≡◌, ◌≢◌, IfSome, IfNone, Some};
+ghost use Rattle.usm_keys.specs.declared.auth.Auth.{Auth as AnAuth};
+ghost use Rattle.vacm_core.specs.declared.rows.Matching.{Matching as AMatching};
+ghost use Rattle.snmpsec_config.specs.Words.{auth_word, matching_word};
+
+use usm_keys::Auth;
+use vacm_core::Matching;
+
+/// The greatest number of a security model (SnmpSecurityModel, RFC 3411, section 5).
+pub const MODEL_MAX: u32 = 2_147_483_647;
+
+/// The protocol of this name.
+pub(crate) fn auth_of(word: &str) -> Option<Auth>
+    ensures found { IfSome result (λ auth. word.now ≡ auth_word auth) }
+    ensures all { (auth : AnAuth) → word.now ≡ auth_word auth → result ≡ Some auth }
+{
+    match word {
+        "md5" => Some(Auth::Md5),
+        "sha1" => Some(Auth::Sha1),
+        "sha256" => Some(Auth::Sha256),
+        _ => None,
+    }
+}
+
+/// How a context prefix is compared.
+pub(crate) fn matching_of(word: &str) -> Option<Matching>
+    ensures found { IfSome result (λ matching. word.now ≡ matching_word matching) }
+    ensures all { (matching : AMatching) → word.now ≡ matching_word matching → result ≡ Some matching }
+{
+    match word {
+        "exact" => Some(Matching::Exact),
+        "prefix" => Some(Matching::Prefix),
+        _ => None,
+    }
+}
