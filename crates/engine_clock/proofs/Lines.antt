@@ -12,8 +12,8 @@ use Rattle.engine_clock.specs.Saved.{Entry, IsEntry, line_in, FitsIn}
 use Rattle.engine_clock.specs.Reading.{IsTail}
 use Rattle.engine_clock.specs.declared.saved.Form.{Form}
 use Rattle.engine_clock.specs.declared.saved.Form.TheVariants.{WithMoments, ReadAt}
-use Rattle.engine_clock.specs.Splits.{Lacks, IsSplit}
-use Rattle.engine_clock.proofs.Cuts.{Lacks-append, cut_is, one_cut, no_cut}
+use Rattle.snmp_ber.specs.Splits.{Lacks, IsSplit}
+use Rattle.snmp_ber.proofs.Cuts.{Lacks-append, cut_is, one_cut, no_cut}
 
 digit_not_space : (d : ℕ) → d < 16 → slice_index lower_digits d ≢ 32
 digit_not_space d l e =

@@ -2,7 +2,7 @@
 use Rattle.std.specs.Prelude.{◌≡◌, ℕ, ◌<◌, ◌^◌, List, ◌∷◌, ◌++◌, decimal}
 use Rattle.engine_clock.specs.Listings.{BeginsWellBy, IsFirstFaultBy}
 use Rattle.engine_clock.specs.Saved.{heading_in, line_in, FitsIn}
-use Rattle.engine_clock.specs.Splits.{Lacks}
+use Rattle.snmp_ber.specs.Splits.{Lacks}
 use Rattle.engine_clock.specs.declared.saved.Form.{Form}
 use Rattle.engine_clock.specs.declared.saved.Form.TheVariants.{WithMoments, ReadAt}
 use Rattle.engine_clock.specs.declared.saved.ClockFault.{ClockFault}

@@ -11,11 +11,11 @@ ghost use Rattle.engine_clock.specs.Listings.{Lists};
 ghost use Rattle.engine_clock.specs.Saved.{Entry, AreMarks, line, listing, Saves, heading_in, line_in, FitsIn};
 ghost use Rattle.engine_clock.specs.Reading.{IsTail, IsFaultIn};
 ghost use Rattle.engine_clock.specs.Faults.{IsFaultOf, GivesBack};
-ghost use Rattle.engine_clock.specs.Splits.{IsSplit, Lacks};
+ghost use Rattle.snmp_ber.specs.Splits.{IsSplit, Lacks};
 
 use crate::engine_id::MOST;
 use crate::{Clocks, EngineId, Mark, Pair};
-use snmp_ber::read_decimal;
+use snmp_ber::{read_decimal, split_once};
 use std::alloc::{AllocError, Global};
 use std::collections::BTreeMap;
 use thiserror::Error;
@@ -194,31 +194,4 @@ fn read_number(text: &[u8]) -> Option<u32>
 {
     let number = read_decimal(text, u64::from(Pair::MAX))?;
     Some(number as u32)
-}
-
-/// What is before the first such octet, and what is after it.
-fn split_once(text: &[u8], octet: u8) -> Option<(&[u8], &[u8])>
-    ensures found { IfSome result (λ r. IsSplit octet text.now r.0.now r.1.now) }
-    ensures none { IfNone result (Lacks octet text.now) }
-{
-    let at = find(text, octet);
-    if at < text.len() {
-        Some((&text[..at], &text[at + 1..]))
-    } else {
-        None
-    }
-}
-
-/// The place of the first such octet, or else the length.
-fn find(text: &[u8], octet: u8) -> usize
-    ensures within { result ≤ length text.now }
-    ensures before { (k : ℕ) → k < result → slice_index text.now k ≢ octet }
-    ensures found { result < length text.now → slice_index text.now result ≡ octet }
-{
-    for (i, x) in text.iter().enumerate() {
-        if *x == octet {
-            return i;
-        }
-    }
-    text.len()
 }

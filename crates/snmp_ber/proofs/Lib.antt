@@ -5,5 +5,6 @@ pub mod Spellings
 pub mod Oids
 pub mod Uniques
 pub mod Decimals
+pub mod Cuts
 pub mod Dotted
 pub mod Identifiers

@@ -7,3 +7,4 @@ pub mod Tlv
 pub mod Spelling
 pub mod Oid
 pub mod Level
+pub mod Splits

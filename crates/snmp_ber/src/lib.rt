@@ -12,6 +12,7 @@ mod laws;
 mod level;
 mod number;
 mod oid;
+mod split;
 
 pub use decimal::read_decimal;
 pub use element::{Tlv, head_len, put_head, put_tlv, read_tlv};
@@ -21,6 +22,7 @@ pub use laws::{one_element, one_identifier, one_integer};
 pub use level::{Level, levels_rise};
 pub use number::{int_content, put_int, read_int};
 pub use oid::Oid;
+pub use split::{find, split_once};
 
 #[cfg(test)]
 mod identifier_tests;

@@ -3,6 +3,7 @@
 ghost use Rattle.std.specs.Prelude.{◌≡◌, ◌<◌, ◌^◌, length};
 
 mod decimal;
+mod split;
 
 use super::*;
 use std::test::Fail;

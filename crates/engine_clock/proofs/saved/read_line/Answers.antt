@@ -1,5 +1,5 @@
 use Rattle.std.proofs.Common.{◌∙◌, subst, sym, decimal}
-use Rattle.engine_clock.proofs.Cuts.{no_cut, none_not_some}
+use Rattle.snmp_ber.proofs.Cuts.{no_cut, none_not_some}
 use Rattle.engine_clock.proofs.Lines.{line-parts, engine_cut, boots_cut, tail_of_line, one_tail, entry_of, line_found}
 use Rattle.engine_clock.specs.Reading.{IsTail}
 use Rattle.engine_clock.proofs.saved.read_line.Goals as goal

@@ -1,5 +1,5 @@
 use Rattle.std.proofs.Common.{arith}
-use Rattle.engine_clock.proofs.Cuts.{none_not_some}
+use Rattle.snmp_ber.proofs.Cuts.{none_not_some}
 use Rattle.engine_clock.proofs.Lines.{no_time, no_seen, seen_is, no_old_time}
 use Rattle.engine_clock.proofs.saved.read_tail.Goals as goal
 

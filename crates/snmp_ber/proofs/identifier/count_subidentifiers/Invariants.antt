@@ -1,4 +1,4 @@
-use Rattle.std.proofs.Common.{◌≡◌, ◌≤◌, List, drop, length, ℕ}
+use Rattle.std.proofs.Common.{◌≡◌, ◌≤◌, drop, length}
 use Rattle.std.specs.Prelude.{option_map}
 use Rattle.snmp_ber.specs.Oid.{subidentifiers_in}
 use Rattle.snmp_ber.proofs.Oids.{counted}

@@ -1,5 +1,5 @@
-use Rattle.std.proofs.Common.{arith, ◌≡◌, ◌∙◌, ℕ, Bool, false, ltb, length, sym}
-use Rattle.std.specs.Prelude.{is_some, option_and_then}
+use Rattle.std.proofs.Common.{arith, ◌∙◌, false, ltb, length, sym}
+use Rattle.std.specs.Prelude.{option_and_then}
 use Rattle.snmp_ber.specs.Oid.{identifier_in, at_most, subidentifiers_in}
 use Rattle.snmp_ber.proofs.Oids.{counted_is, counted_not, some_exactly, single_is}
 use Rattle.snmp_ber.proofs.identifier.is_oid.Goals as goal
