@@ -1,4 +1,6 @@
 //! The rows that are loaded, by an arithmetic rule.
+ghost use Rattle.std.specs.Prelude.{◌≡◌, ◌≤◌, length, IfOk};
+
 use anyhow::{Context, Result};
 use snmp_ber::{Level, Oid};
 use std::alloc::Global;
@@ -14,7 +16,7 @@ const IN_VIEW: u32 = 20;
 
 /// How the family rows are spread over views.
 #[derive(Clone, Copy, PartialEq, Eq, Debug)]
-pub enum Shape {
+pub(crate) enum Shape {
     /// Over many views.
     Many,
     /// One view has them all.
@@ -24,7 +26,7 @@ pub enum Shape {
 /// No shape has this name.
 #[derive(Clone, Copy, PartialEq, Eq, Debug, Error)]
 #[error("SHAPE is many or one")]
-pub struct UnknownShape;
+pub(crate) struct UnknownShape;
 
 impl FromStr for Shape {
     type Err = UnknownShape;
@@ -49,7 +51,9 @@ impl Shape {
 }
 
 /// Nine octets: the letter five times, and the number.
-pub fn name_of(letter: u8, number: u32) -> Result<Name> {
+pub(crate) fn name_of(letter: u8, number: u32) -> Result<Name>
+    ensures { IfOk result (λ name. length name ≡ 9) }
+{
     let [a, b, c, d] = number.to_be_bytes();
     Name::of(&[letter, letter, letter, letter, letter, a, b, c, d]).context("a name")
 }
@@ -61,7 +65,9 @@ fn subtree_of(number: u32) -> [u32; 10] {
 
 /// A variable of at least 10 and at most 128 arcs under the subtree of this number, or for no hit one that differs from it in
 /// the last arc of the subtree.
-pub fn variable_of(number: u32, arcs: usize, is_hit: bool) -> Result<Oid> {
+pub(crate) fn variable_of(number: u32, arcs: usize, is_hit: bool) -> Result<Oid>
+    ensures { 10 ≤ arcs → arcs ≤ 128 → IfOk result (λ variable. length variable ≡ arcs) }
+{
     let mut variable = [5u32; 128];
     variable[..10].copy_from_slice(&subtree_of(number));
     if !is_hit {
@@ -100,7 +106,12 @@ fn family_row(shape: Shape, number: u32, is_wild: bool) -> Result<FamilyRow> {
 }
 
 /// So many rows of each table.
-pub fn rows_of(alloc: Global, shape: Shape, count: u32, wild: u32) -> Result<Rows> {
+pub(crate) fn rows_of(alloc: Global, shape: Shape, count: u32, wild: u32) -> Result<Rows>
+    ensures contexts { IfOk result (λ rows. length rows.contexts.items ≡ count) }
+    ensures groups { IfOk result (λ rows. length rows.groups.items ≡ count) }
+    ensures access { IfOk result (λ rows. length rows.access.items ≡ count) }
+    ensures families { IfOk result (λ rows. length rows.families.items ≡ count) }
+{
     let mut rows = Rows {
         contexts: Vec::new(alloc),
         groups: Vec::new(alloc),

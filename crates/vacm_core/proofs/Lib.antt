@@ -3,6 +3,7 @@ pub mod Exact
 pub mod First
 pub mod Invariance
 pub mod Parts
+pub mod Places
 pub mod Runs
 pub mod Seen
 pub mod Uniqueness

@@ -57,7 +57,7 @@ module _ {R : Type 0} (p : R → Bool) (rows : List R) (few : ℕ) (within : few
       fails k d true e past long = let h : true ≡ false = sym (is_parted few k d past long e) ∙ next d (omega arith) in cc
 
 module _ {R : Type 0} (name : R → List ℕ) (rank : R → R → Ordering) (wanted : List ℕ) where
-  at_name : (row : R) → name row ≡ wanted → side_of name wanted row ≡ 1
+  pub at_name : (row : R) → name row ≡ wanted → side_of name wanted row ≡ 1
   at_name row h = ap (λ x. ordering_index (slice_cmp nat_cmp x wanted)) h ∙ ap ordering_index (tied_itself nat_list_cmp_total wanted)
 
   pub sides_rise : (rows : List R) → AreInPlace name rank rows → IsNonDecreasingBy (side_of name wanted) rows

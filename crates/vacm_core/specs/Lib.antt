@@ -5,3 +5,4 @@ pub mod Distinct
 pub mod Place
 pub mod View
 pub mod Laws
+pub mod Numbers

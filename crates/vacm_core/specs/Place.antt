@@ -1,7 +1,8 @@
 -- How the rows of the tables stand.
-use Rattle.std.specs.Prelude.{◌≡◌, ℕ, List, length, Contains}
+use Rattle.std.specs.Prelude.{◌≡◌, ◌≢◌, ℕ, ◌<◌, ◌≤◌, List, length, get_or, Contains, Some, None, nat_eq}
+use Rattle.std.specs.Map.{lookup}
 use Rattle.std.specs.Ordering.{nat_cmp, ordering_then, ordering_index}
-use Rattle.std.specs.Cmp.Lexicographic.{slice_cmp}
+use Rattle.std.specs.Cmp.Lexicographic.{slice_cmp, pointwise}
 use Rattle.std.specs.List.Sorted.{IsSorted}
 use Rattle.std.specs.declared.cmp.Ordering.{Ordering}
 use Rattle.std.specs.declared.cmp.Ordering.TheVariants.{Equal}
@@ -9,8 +10,6 @@ use Rattle.vacm_core.specs.declared.rows.ContextRow.{ContextRow}
 use Rattle.vacm_core.specs.declared.rows.GroupRow.{GroupRow}
 use Rattle.vacm_core.specs.declared.rows.AccessRow.{AccessRow}
 use Rattle.vacm_core.specs.declared.rows.FamilyRow.{FamilyRow}
-use Rattle.vacm_core.specs.Allowed.{access_order, family_order}
-use Rattle.vacm_core.specs.View.{AreExact}
 
 -- the name that a table's rows stand by
 abbrev pub context_name : ContextRow → List ℕ
@@ -61,12 +60,14 @@ pub record IsRunOf {R : Type 0} (name : R → List ℕ) (rank : R → R → Orde
   pub whole : (row : R) → Contains rows row → name row ≡ wanted → Contains run row
   pub falling : AreFalling rank run
 
--- contexts and groups by name; the access rows of a group from the best down; the family rows of a view from the best down,
--- those that compare each arc apart from the others
-pub record AreInOrder (contexts : List ContextRow) (groups : List GroupRow) (access : List AccessRow) (exact others : List FamilyRow) : Type 0 where
-  pub contexts_stand : AreInPlace context_name context_rank contexts
-  pub groups_stand : AreInPlace group_name group_rank groups
-  pub access_stand : AreInPlace access_name access_order access
-  pub exact_stand : AreInPlace family_name family_order exact
-  pub others_stand : AreInPlace family_name family_order others
-  pub are_exact : AreExact exact
+-- of the rows the one at the place is the first with the name
+pub record IsFirstPlace {R : Type 0} (name : R → List ℕ) (rows : List R) (wanted : List ℕ) (place : ℕ) : Type 0 where
+  pub named : (row : R) → name (get_or rows place row) ≡ wanted
+  pub none_before : (k : ℕ) (row : R) → k < place → name (get_or rows k row) ≢ wanted
+
+-- the entries give the first place of each name that one of so many rows has, and of no other name
+pub record AreFirstPlaces {R : Type 0} (name : R → List ℕ) (rows : List R) (many : ℕ) (entries : List (List ℕ × ℕ)) : Type 0 where
+  pub within : (wanted : List ℕ) (place : ℕ) → lookup (pointwise nat_eq wanted) entries ≡ Some place → place < many
+  pub first : (wanted : List ℕ) (place : ℕ) → lookup (pointwise nat_eq wanted) entries ≡ Some place → IsFirstPlace name rows wanted place
+  pub missing : (wanted : List ℕ) → lookup (pointwise nat_eq wanted) entries ≡ None → (k : ℕ) (row : R) → k < many → name (get_or rows k row) ≢ wanted
+  pub short : (k : ℕ) (row : R) → k < many → length (name (get_or rows k row)) ≤ 32

@@ -2,30 +2,28 @@
 ghost use Rattle.std.specs.Prelude.{◌≡◌, ◌++◌, ℕ, ◌↔◌, IsTrue, MatchOption, List};
 ghost use Rattle.vacm_core.specs.Tables.{Tables};
 ghost use Rattle.vacm_core.specs.Allowed as spec;
-ghost use Rattle.vacm_core.specs.Place.{AreInPlace, AreInOrder, context_name, group_name, access_name, context_rank, group_rank};
+ghost use Rattle.vacm_core.specs.View.{AreExact};
 ghost use Rattle.vacm_core.specs.Allowed.{Allowed, HasContext, IsInGroup, IsBestOf, NoneFits, FitsMessage, FitsContext, access_order, view_name};
 
-use crate::place::rows_of;
 use crate::rows::{AccessRow, ContextRow, FamilyRow, GroupRow, Matching};
+use crate::table::OrderedTable;
 use crate::view::answer_of_view;
 use crate::{Access, ViewType};
 use snmp_ber::Level;
 
 /// There is a context of this name.
-fn has_context(rows: &[ContextRow], context: &[u8]) -> bool
-    requires { AreInPlace context_name context_rank rows.now }
+fn has_context(rows: &OrderedTable<ContextRow>, context: &[u8]) -> bool
     ensures { IsTrue result ↔ HasContext rows.now context.now }
 {
-    !rows_of(rows, context).is_empty()
+    !rows.rows_of(context).is_empty()
 }
 
 /// The row that has the security name's group under the model.
-fn group_of<'a>(rows: &'a [GroupRow], model: u32, name: &[u8]) -> Option<&'a GroupRow>
-    requires { AreInPlace group_name group_rank rows.now }
+fn group_of<'a>(rows: &'a OrderedTable<GroupRow>, model: u32, name: &[u8]) -> Option<&'a GroupRow>
     ensures { MatchOption result ((group : List ℕ) → ¬ IsInGroup rows.now model name.now group)
         (λ row. IsInGroup rows.now model name.now row.now.group) }
 {
-    let run = rows_of(rows, name);
+    let run = rows.rows_of(name);
     for row in run {
         if row.model == model {
             return Some(row);
@@ -55,17 +53,16 @@ fn fits_message(row: &AccessRow, model: u32, level: Level, context: &[u8]) -> bo
 
 /// The best of the group's rows that match: they stand from the best down.
 fn best_row<'a>(
-    rows: &'a [AccessRow],
+    rows: &'a OrderedTable<AccessRow>,
     group: &[u8],
     model: u32,
     level: Level,
     context: &[u8],
 ) -> Option<&'a AccessRow>
-    requires { AreInPlace access_name access_order rows.now }
     ensures { MatchOption result (NoneFits rows.now (FitsMessage group.now model level context.now))
         (λ row. IsBestOf rows.now (FitsMessage group.now model level context.now) access_order row.now) }
 {
-    let run = rows_of(rows, group);
+    let run = rows.rows_of(group);
     for row in run {
         if fits_message(row, model, level, context) {
             return Some(row);
@@ -96,16 +93,16 @@ pub(crate) struct Message<'a> {
 
 /// The answer over the tables.
 pub(crate) fn answer(
-    contexts: &[ContextRow],
-    groups: &[GroupRow],
-    access: &[AccessRow],
-    exact: &[FamilyRow],
-    others: &[FamilyRow],
+    contexts: &OrderedTable<ContextRow>,
+    groups: &OrderedTable<GroupRow>,
+    access: &OrderedTable<AccessRow>,
+    exact: &OrderedTable<FamilyRow>,
+    others: &OrderedTable<FamilyRow>,
     message: Message,
     view: ViewType,
     variable: &[u32],
 ) -> Access
-    requires { AreInOrder contexts.now groups.now access.now exact.now others.now }
+    requires { AreExact exact.now }
     ensures { let tables : Tables = record { contexts = contexts.now; groups = groups.now; access = access.now; families = exact.now ++ others.now } in
         let asking : spec.Message = record { model = message.entry.model; name = message.entry.name.now; level = message.entry.level; context = message.entry.context.now } in
         Allowed tables asking view variable.now result }

@@ -1,7 +1,7 @@
 //! View-based access control (RFC 3415): contexts, groups, access rows and view tree families, and the decision whether a
 //! message may see a variable.
 //!
-//! The rows are kept in order, and those that a question asks for are found by halving.
+//! The rows are kept in order, and those that a question asks for are found by their names.
 #![tactic(auto)]
 
 mod access;
@@ -12,6 +12,7 @@ mod mask;
 mod name;
 mod place;
 mod rows;
+mod table;
 mod vacm;
 mod view;
 

@@ -1,4 +1,4 @@
-//! Tables whose rows stand by name, the rows of a name from the best down.
+//! Rows that stand by name, the rows of a name from the best down.
 ghost use Rattle.std.specs.Prelude.{◌≡◌, ℕ, ◌<◌, ◌≤◌, length, nat_lt, true, false, get_or, MatchBool, List, IfOk, OnOk};
 ghost use Rattle.std.specs.List.Sorted.{IsPermutation, IsPartitionedBy, IsPartitionPoint};
 ghost use Rattle.vacm_core.specs.Place.{place_order, side_of, AreInPlace, IsRunOf};
@@ -14,21 +14,15 @@ const STRIDE: usize = 8;
 fn place<R: Row>(a: &R, b: &R) -> Ordering
     ensures { result ≡ place_order R.name_of R.rank a.now b.now }
 {
-    a.name().cmp(b.name()).then(b.ranking(a))
-}
-
-/// The row stands before those of the name.
-fn is_before<R: Row>(row: &R, wanted: &[u8]) -> bool
-    ensures { result ≡ nat_lt (side_of R.name_of wanted.now row.now) 1 }
-{
-    row.name().cmp(wanted).is_lt()
+    let (first, second) = (a.name().as_slice(), b.name().as_slice());
+    first.cmp(second).then(b.ranking(a))
 }
 
 /// The row stands before those of the name, or is one.
 fn is_upto<R: Row>(row: &R, wanted: &[u8]) -> bool
     ensures { result ≡ nat_lt (side_of R.name_of wanted.now row.now) 2 }
 {
-    row.name().cmp(wanted).is_le()
+    row.name().as_slice().cmp(wanted).is_le()
 }
 
 /// How many of the rows are not past the name.
@@ -52,7 +46,7 @@ fn goes_on<R: Row>(rows: &[R], place: usize, wanted: &[u8]) -> bool
 }
 
 /// The same, looked for near the first row, and then further and further away, since a name mostly has few rows.
-fn count_near<R: Row>(rows: &[R], wanted: &[u8]) -> usize
+pub(crate) fn count_near<R: Row>(rows: &[R], wanted: &[u8]) -> usize
     requires { IsPartitionedBy (λ row. nat_lt (side_of R.name_of wanted.now row) 2) rows.now }
     ensures bound { result ≤ length rows.now }
     ensures parted { IsPartitionPoint (λ row. nat_lt (side_of R.name_of wanted.now row) 2 ≡ true) (λ row. nat_lt (side_of R.name_of wanted.now row) 2 ≡ false) rows.now result }
@@ -65,18 +59,8 @@ fn count_near<R: Row>(rows: &[R], wanted: &[u8]) -> usize
     count_upto(&rows[..near], wanted)
 }
 
-/// The rows of this name, found by halving.
-pub(crate) fn rows_of<'a, R: Row>(rows: &'a [R], wanted: &[u8]) -> &'a [R]
-    requires { AreInPlace R.name_of R.rank rows.now }
-    ensures { IsRunOf R.name_of R.rank wanted.now rows.now result.now }
-{
-    let low = rows.partition_point(|row| is_before(row, wanted));
-    let rest = &rows[low..];
-    &rest[..count_near(rest, wanted)]
-}
-
 /// The same rows.
-fn copies<R: Row>(alloc: Global, rows: &[R]) -> Result<Vec<R>, AllocError>
+pub(crate) fn copies<R: Row>(alloc: Global, rows: &[R]) -> Result<Vec<R>, AllocError>
     ensures { IfOk result (λ made. made.items ≡ rows.now) }
 {
     let mut made = Vec::new(alloc);
@@ -92,14 +76,4 @@ pub(crate) fn sort<R: Row>(rows: &mut Vec<R>) -> Result<(), AllocError>
     ensures in_place { OnOk result (AreInPlace R.name_of R.rank rows.new.items) }
 {
     rows.sort_by(|a, b| place(a, b))
-}
-
-/// Copies of the rows, in their places.
-pub(crate) fn sorted<R: Row>(alloc: Global, rows: &[R]) -> Result<Vec<R>, AllocError>
-    ensures same { IfOk result (λ made. IsPermutation rows.now made.items) }
-    ensures in_place { IfOk result (λ made. AreInPlace R.name_of R.rank made.items) }
-{
-    let mut made = copies(alloc, rows)?;
-    sort(&mut made)?;
-    Ok(made)
 }

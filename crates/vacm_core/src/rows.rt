@@ -102,7 +102,7 @@ pub(crate) trait Row: Drop {
         ensures { result ≡ index_of self.now };
 
     /// The name that the rows of its table stand by.
-    fn name(&self) -> &[u8]
+    fn name(&self) -> &Name
         ensures { result.now ≡ name_of self.now };
 
     /// Which of two rows of one name is the better.
@@ -143,8 +143,8 @@ impl Row for ContextRow {
         self.name.copy()
     }
 
-    fn name(&self) -> &[u8] {
-        self.name.as_slice()
+    fn name(&self) -> &Name {
+        &self.name
     }
 
     fn ranking(&self, _other: &ContextRow) -> Ordering {
@@ -186,8 +186,8 @@ impl Row for GroupRow {
         (self.model, self.name.copy())
     }
 
-    fn name(&self) -> &[u8] {
-        self.name.as_slice()
+    fn name(&self) -> &Name {
+        &self.name
     }
 
     fn ranking(&self, other: &GroupRow) -> Ordering {
@@ -238,8 +238,8 @@ impl Row for AccessRow {
         (self.group.copy(), (self.prefix.copy(), numbers))
     }
 
-    fn name(&self) -> &[u8] {
-        self.group.as_slice()
+    fn name(&self) -> &Name {
+        &self.group
     }
 
     fn ranking(&self, other: &AccessRow) -> Ordering {
@@ -308,8 +308,8 @@ impl Row for FamilyRow {
         (self.view.copy(), self.subtree_copy())
     }
 
-    fn name(&self) -> &[u8] {
-        self.view.as_slice()
+    fn name(&self) -> &Name {
+        &self.view
     }
 
     fn ranking(&self, other: &FamilyRow) -> Ordering {

@@ -7,14 +7,13 @@ ghost use Rattle.vacm_core.specs.Distinct.{HasOneRowEach};
 ghost use Rattle.vacm_core.specs.declared.access.ViewType.{ViewType as Asked};
 ghost use Rattle.vacm_core.specs.declared.access.Access.{Access as Answer};
 ghost use Rattle.vacm_core.specs.Allowed as spec;
-ghost use Rattle.vacm_core.specs.Allowed.{Allowed, family_order};
-ghost use Rattle.vacm_core.specs.Place.{AreInPlace, family_name};
+ghost use Rattle.vacm_core.specs.Allowed.{Allowed};
 ghost use Rattle.vacm_core.specs.View.{AreExact};
 
 use crate::ask::{Message, answer};
 use crate::fault::find_fault;
-use crate::place::{sort, sorted};
 use crate::rows::{AccessRow, ContextRow, FamilyRow, GroupRow, Row};
+use crate::table::OrderedTable;
 use crate::view::is_exact;
 use crate::{Access, Rows, VacmFault, ViewType};
 use snmp_ber::{Level, Oid};
@@ -28,11 +27,11 @@ use std::marker::Model;
 /// masks compare each arc stand apart: they are found by the beginnings of a variable.
 #[derive(Drop)]
 pub struct Vacm {
-    contexts: Vec<ContextRow>,
-    groups: Vec<GroupRow>,
-    access: Vec<AccessRow>,
-    exact: Vec<FamilyRow>,
-    others: Vec<FamilyRow>,
+    contexts: OrderedTable<ContextRow>,
+    groups: OrderedTable<GroupRow>,
+    access: OrderedTable<AccessRow>,
+    exact: OrderedTable<FamilyRow>,
+    others: OrderedTable<FamilyRow>,
 }
 
 impl Model for Vacm {
@@ -41,13 +40,13 @@ impl Model for Vacm {
 
     ghost Value = { Tables };
 
-    ghost view = { λ v. record { contexts = v.contexts.items; groups = v.groups.items; access = v.access.items; families = v.exact.items ++ v.others.items } };
+    ghost view = { λ v. record { contexts = v.contexts; groups = v.groups; access = v.access; families = v.exact ++ v.others } };
 
     ghost use Rattle.vacm_core.specs.Distinct.{HasOneRowEach};
-    ghost use Rattle.vacm_core.specs.Place.{AreInOrder};
+    ghost use Rattle.vacm_core.specs.View.{AreExact};
 
-    ghost invariant = { λ v. HasOneRowEach (record { contexts = v.contexts.items; groups = v.groups.items; access = v.access.items; families = v.exact.items ++ v.others.items })
-        × AreInOrder v.contexts.items v.groups.items v.access.items v.exact.items v.others.items };
+    ghost invariant = { λ v. HasOneRowEach (record { contexts = v.contexts; groups = v.groups; access = v.access; families = v.exact ++ v.others })
+        × AreExact v.exact };
 }
 
 impl Vacm {
@@ -80,9 +79,9 @@ impl Vacm {
         requires { AreSound (tables_of rows.now) }
         ensures { IfOk result (λ vacm. HaveSameRows (tables_of rows.now) vacm) }
     {
-        let contexts = sorted(alloc, &rows.contexts)?;
-        let groups = sorted(alloc, &rows.groups)?;
-        let access = sorted(alloc, &rows.access)?;
+        let contexts = OrderedTable::of(alloc, &rows.contexts)?;
+        let groups = OrderedTable::of(alloc, &rows.groups)?;
+        let access = OrderedTable::of(alloc, &rows.access)?;
         let (exact, others) = families_of(alloc, &rows.families)?;
         Ok(Vacm {
             contexts,
@@ -130,19 +129,17 @@ impl Vacm {
     }
 }
 
-/// Copies of the rows in their places: those whose masks compare each arc, and the others.
+/// Copies of the rows: those whose masks compare each arc, and the others.
 fn families_of(
     alloc: Global,
     rows: &[FamilyRow],
-) -> Result<(Vec<FamilyRow>, Vec<FamilyRow>), AllocError>
-    ensures same { IfOk result (λ made. IsPermutation rows.now (made.0.items ++ made.1.items)) }
-    ensures exact { IfOk result (λ made. AreExact made.0.items) }
-    ensures first_stand { IfOk result (λ made. AreInPlace family_name family_order made.0.items) }
-    ensures others_stand { IfOk result (λ made. AreInPlace family_name family_order made.1.items) }
+) -> Result<(OrderedTable<FamilyRow>, OrderedTable<FamilyRow>), AllocError>
+    ensures same { IfOk result (λ made. IsPermutation rows.now (made.0 ++ made.1)) }
+    ensures exact { IfOk result (λ made. AreExact made.0) }
 {
-    let (mut exact, mut others) = split(alloc, rows)?;
-    sort(&mut exact)?;
-    sort(&mut others)?;
+    let (exact, others) = split(alloc, rows)?;
+    let exact = OrderedTable::made_of(alloc, exact)?;
+    let others = OrderedTable::made_of(alloc, others)?;
     Ok((exact, others))
 }
 

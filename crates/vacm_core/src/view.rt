@@ -1,14 +1,14 @@
 //! The rows of one view, and the one of them that decides on a variable.
 ghost use Rattle.std.specs.Prelude.{◌≡◌, ◌≢◌, ◌⊎◌, [], ◌++◌, ℕ, ◌<◌, ◌≤◌, ◌↔◌, length, IsTrue, MatchOption, MatchResult, slice_index, get_or};
 ghost use Rattle.std.specs.declared.cmp.Ordering.TheVariants.{Less, Greater};
-ghost use Rattle.vacm_core.specs.Place.{AreInPlace, AreFalling, family_name, arcs_order};
+ghost use Rattle.vacm_core.specs.Place.{AreFalling, arcs_order};
 ghost use Rattle.vacm_core.specs.View.{AreExact, IsExact, HasArcs, AnswersView};
 ghost use Rattle.vacm_core.specs.declared.rows.FamilyRow.{FamilyRow as Family};
 ghost use Rattle.vacm_core.specs.Allowed.{IsBestOf, NoneFits, family_order, mask_bit};
 
 use crate::Access;
-use crate::place::rows_of;
 use crate::rows::{FamilyRow, Row, arcs_order};
+use crate::table::OrderedTable;
 
 /// The mask says that the arc of this number has to be equal.
 fn is_compared(mask: &[u8], k: usize) -> bool
@@ -145,18 +145,16 @@ fn has_view(exact: &[FamilyRow], others: &[FamilyRow], view: &[u8]) -> bool
 
 /// What the view of this name says of the variable.
 pub(crate) fn answer_of_view(
-    exact: &[FamilyRow],
-    others: &[FamilyRow],
+    exact: &OrderedTable<FamilyRow>,
+    others: &OrderedTable<FamilyRow>,
     view: &[u8],
     variable: &[u32],
 ) -> Access
-    requires exact_stand { AreInPlace family_name family_order exact.now }
-    requires others_stand { AreInPlace family_name family_order others.now }
-    requires are_exact { AreExact exact.now }
+    requires { AreExact exact.now }
     ensures { AnswersView (exact.now ++ others.now) view.now variable.now result }
 {
-    let exact = rows_of(exact, view);
-    let others = rows_of(others, view);
+    let exact = exact.rows_of(view);
+    let others = others.rows_of(view);
     if !has_view(exact, others, view) {
         return Access::NoSuchView;
     }

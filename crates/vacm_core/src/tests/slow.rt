@@ -239,20 +239,54 @@ fn fast(vacm: &Vacm, asked: &Question) -> Access {
     )
 }
 
+/// How many questions are asked.
+const QUESTIONS: u32 = 200;
+
+/// The first question that the tables answer in another way than the search.
+fn first_difference(vacm: &Vacm, rows: &Rows) -> Result<Option<u32>, Fail> {
+    for q in 0..QUESTIONS {
+        let asked = question_at(q)?;
+        if fast(vacm, &asked) != slow(rows, &asked) {
+            return Ok(Some(q));
+        }
+    }
+    Ok(None)
+}
+
+/// The same, of tables of these rows.
+fn difference(alloc: Global, loaded: &Rows, rows: &Rows) -> Result<Option<u32>, Fail> {
+    let vacm = Vacm::load(alloc, loaded)?;
+    first_difference(&vacm, rows)
+}
+
+/// The same, of tables that were loaded in this order.
+fn difference_of(alloc: Global, turned: bool) -> Result<Option<u32>, Fail> {
+    let rows = made(alloc, false)?;
+    let loaded = made(alloc, turned)?;
+    difference(alloc, &loaded, &rows)
+}
+
 #[test]
 fn answers_are_those_of_a_search_through_all_rows(rt: HostRuntime) -> Result<(), Fail> {
-    let rows = made(rt.alloc(), false)?;
-    let forwards = Vacm::load(rt.alloc(), &rows)?;
-    let turned = made(rt.alloc(), true)?;
-    let backwards = Vacm::load(rt.alloc(), &turned)?;
-    let mut given = Vec::new(rt.alloc());
-    for q in 0..200 {
+    assert_eq!(rt; difference_of(rt.alloc(), false)?, None, "forwards");
+    assert_eq!(rt; difference_of(rt.alloc(), true)?, None, "backwards");
+    Ok(())
+}
+
+/// Whether a question has the answer.
+fn is_answered(rows: &Rows, answer: Access) -> Result<bool, Fail> {
+    for q in 0..QUESTIONS {
         let asked = question_at(q)?;
-        let wanted = slow(&rows, &asked);
-        assert_eq!(rt; fast(&forwards, &asked), wanted, "forwards, question {q}");
-        assert_eq!(rt; fast(&backwards, &asked), wanted, "backwards, question {q}");
-        given.push(wanted)?;
+        if slow(rows, &asked) == answer {
+            return Ok(true);
+        }
     }
+    Ok(false)
+}
+
+#[test]
+fn each_answer_is_that_of_a_question(rt: HostRuntime) -> Result<(), Fail> {
+    let rows = made(rt.alloc(), false)?;
     for answer in [
         Access::NoSuchContext,
         Access::NoGroupName,
@@ -261,7 +295,7 @@ fn answers_are_those_of_a_search_through_all_rows(rt: HostRuntime) -> Result<(),
         Access::NotInView,
         Access::AccessAllowed,
     ] {
-        assert!(rt; given.as_slice().contains(&answer), "{answer:?}");
+        assert!(rt; is_answered(&rows, answer)?, "{answer:?}");
     }
     Ok(())
 }
