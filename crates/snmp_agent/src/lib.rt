@@ -22,3 +22,6 @@ pub use laws::{
     agents_decide_alike, notification_is_accepted, report_is_short, response_is_accepted,
 };
 pub use refused::Refused;
+
+#[cfg(test)]
+mod tests;

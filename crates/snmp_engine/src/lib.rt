@@ -9,7 +9,7 @@ pub mod world;
 
 pub use snmp_agent::{Agent, Decision, Refused};
 pub use snmp_manager::{Answer, Manager, Outcome, Pending, Stopped, answer_of};
-pub use snmp_outcome::{TakeFault, Taken};
+pub use snmp_outcome::{Kept, TakeFault, Taken};
 pub use snmp_sending::Body;
 
 #[cfg(test)]

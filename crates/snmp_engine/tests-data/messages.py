@@ -11,9 +11,9 @@ from cryptography.hazmat.primitives.ciphers import Cipher, algorithms
 
 ENGINE = bytes(11) + b"\x02"
 SALT = bytes(range(8))
-HASHES = {"md5": 12, "sha256": 24}
+HASHES = {"md5": 12, "sha1": 12, "sha256": 24}
 # A user's name, hash and whether it has a privacy password.
-USERS = {b"ann": ("md5", True), b"sam": ("sha256", True), b"joe": ("md5", False), b"guest": (None, False)}
+USERS = {b"ann": ("md5", True), b"bob": ("sha1", True), b"sam": ("sha256", True), b"joe": ("md5", False), b"guest": (None, False)}
 PASSWORD = b"maplesyrup"
 
 

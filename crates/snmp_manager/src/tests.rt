@@ -5,10 +5,10 @@ ghost use Rattle.snmp_ber.specs.Element.{IsElement};
 ghost use Rattle.snmp_msg.specs.Spelling.{HeaderFits};
 
 use super::*;
-use engine_clock::{Clocks, EngineId, Pair};
+use engine_clock::{ClockFault, Clocks, EngineId, Pair};
 use snmp_ber::Level;
 use snmp_msg::{Header, WriteFault, write_pdu, write_scoped};
-use snmp_outcome::TakeFault;
+use snmp_outcome::{TakeFault, Taken};
 use std::alloc::{AllocError, Global};
 use std::process::Abort;
 use std::test::Fail;
@@ -27,11 +27,29 @@ mod window;
 /// The engine ID of RFC 3414, section A.3.
 const ENGINE: [u8; 12] = [0, 0, 0, 0, 0, 0, 0, 0, 0, 0, 0, 2];
 
+/// The identifier of this engine.
+fn own() -> EngineId {
+    let Some(own) = EngineId::of(&ENGINE) else {
+        unreachable!();
+    };
+    own
+}
+
+/// A row of a user who has these passwords for codes and for privacy.
 fn row(alloc: Global, name: &[u8], auth: Auth) -> Result<UserRow, AllocError> {
     Ok(UserRow {
         name: name.to_vec(alloc)?,
         auth: Some((auth, b"maplesyrup".to_vec(alloc)?)),
         privacy: Some(b"maplesyrup".to_vec(alloc)?),
+    })
+}
+
+/// A row of a user who has no password.
+fn guest(alloc: Global) -> Result<UserRow, AllocError> {
+    Ok(UserRow {
+        name: b"guest".to_vec(alloc)?,
+        auth: None,
+        privacy: None,
     })
 }
 
@@ -41,11 +59,7 @@ fn rows(alloc: Global) -> Result<Vec<UserRow>, AllocError> {
     rows.push(row(alloc, b"ann", Auth::Md5)?)?;
     rows.push(row(alloc, b"bob", Auth::Sha1)?)?;
     rows.push(row(alloc, b"sam", Auth::Sha256)?)?;
-    rows.push(UserRow {
-        name: b"guest".to_vec(alloc)?,
-        auth: None,
-        privacy: None,
-    })?;
+    rows.push(guest(alloc)?)?;
     Ok(rows)
 }
 
@@ -57,10 +71,6 @@ fn users(alloc: Global) -> Result<Users, Fail> {
 /// A manager of these users that holds no engine.
 fn manager(alloc: Global, users: &Users) -> Result<Manager, AllocError> {
     Ok(Manager::new(alloc, users.try_clone()?, Clocks::new(alloc)))
-}
-
-fn engine(octets: &[u8]) -> Result<EngineId, Fail> {
-    Ok(EngineId::of(octets).ok_or("engine")?)
 }
 
 fn pair(boots: u32, time: u32) -> Result<Pair, Fail> {
@@ -117,9 +127,35 @@ fn sent(
     Ok(sealed_of(users, alloc, &ENGINE, pair, user, Level::AuthNoPriv)?)
 }
 
+/// The datagram as the manager accepts it.
+fn taken<'a>(manager: &mut Manager, now: u64, datagram: &'a [u8]) -> Result<Taken<'a>, TakeFault> {
+    manager.take(now, datagram)
+}
+
 /// What the manager answers to the datagram.
 fn took(manager: &mut Manager, now: u64, datagram: &[u8]) -> Result<Outcome, Fail> {
     Ok(manager.take_one(now, datagram)?)
+}
+
+/// What the manager answers to the datagrams, one after another.
+fn ran(manager: &mut Manager, list: &[(u64, Vec<u8>)]) -> Result<Vec<Outcome>, Stopped> {
+    manager.run(list)
+}
+
+/// The saved text of what the manager holds.
+fn saved(manager: &Manager) -> Result<Vec<u8>, AllocError> {
+    manager.save()
+}
+
+/// The clocks of a saved text.
+fn clocks(alloc: Global, text: &[u8]) -> Result<Clocks, ClockFault> {
+    Clocks::read_saved(alloc, text, 0)
+}
+
+/// A manager with all users that begins with these clocks.
+fn begun(alloc: Global, text: &[u8]) -> Result<Manager, Fail> {
+    let clocks = clocks(alloc, text)?;
+    Ok(Manager::new(alloc, users(alloc)?, clocks))
 }
 
 /// The boots and the time that the manager holds of the engine.
@@ -128,6 +164,36 @@ fn held(manager: &Manager, engine: &EngineId) -> Option<(u32, u32)> {
         Some(pair) => Some((pair.boots, pair.time)),
         None => None,
     }
+}
+
+/// The manager holds this of this engine.
+fn assert_own(rt: &impl Abort, manager: &Manager, wanted: Option<(u32, u32)>) {
+    assert_eq!(rt; held(manager, &own()), wanted);
+}
+
+/// The manager holds what this text saves.
+fn assert_saved(rt: &impl Abort, manager: &Manager, wanted: &[u8]) -> Result<(), Fail> {
+    let text = saved(manager)?;
+    assert_octets(rt, 0, &text, wanted);
+    Ok(())
+}
+
+/// Row `number` has these octets.
+fn assert_octets(rt: &impl Abort, number: usize, found: &[u8], wanted: &[u8]) {
+    assert_eq!(rt; found, wanted, "row {number}");
+}
+
+/// Users, and a manager that has them and holds no engine.
+#[derive(Drop)]
+struct Station {
+    users: Users,
+    manager: Manager,
+}
+
+fn new_station(alloc: Global) -> Result<Station, Fail> {
+    let users = users(alloc)?;
+    let manager = manager(alloc, &users)?;
+    Ok(Station { users, manager })
 }
 
 const ACCEPTED: Outcome = Outcome::Accepted {

@@ -3,12 +3,14 @@
 #![tactic(auto)]
 
 mod fault;
+mod kept;
 mod laws;
 mod octets;
 mod reading;
 mod taken;
 
 pub use fault::TakeFault;
+pub use kept::Kept;
 pub use laws::{bad_scoped_is_sealed, one_answer, one_text, replay_bound};
 pub use octets::Octets;
 pub use reading::{open_text, read_text};

@@ -1,43 +1,22 @@
 //! Growths that are refused. Run by `tools/refuse-memory`, these show that a refused growth is answered as want of memory, what
-//! it leaves, and that the same call succeeds afterwards.
+//! it leaves, and that the same call succeeds afterwards. In each test one growth is refused at most.
 
 use super::requests::{discovery, refusal};
 use super::*;
 
+fn rows_after_refusal(alloc: Global) -> Result<Vec<UserRow>, AllocError> {
+    match rows(alloc) {
+        Ok(rows) => Ok(rows),
+        Err(_) => rows(alloc),
+    }
+}
+
 fn users_after_refusal(alloc: Global) -> Result<Users, Fail> {
-    let rows = match rows(alloc) {
-        Ok(rows) => rows,
-        Err(_) => rows(alloc)?,
-    };
+    let rows = rows_after_refusal(alloc)?;
     match Users::load(alloc, &rows) {
         Ok(users) => Ok(users),
         Err(_) => Ok(Users::load(alloc, &rows)?),
     }
-}
-
-/// A message of the engine with this pair at this level, where at most one growth is refused.
-fn sealed_after_refusal(
-    users: &mut Users,
-    alloc: Global,
-    engine: &[u8],
-    pair: Pair,
-    level: Level,
-) -> Result<Vec<u8>, Fail> {
-    match sealed_of(users, alloc, engine, pair, b"ann", level) {
-        Ok(message) => Ok(message),
-        Err(_) => Ok(sealed_of(users, alloc, engine, pair, b"ann", level)?),
-    }
-}
-
-/// A message at this level, of the engine whose last octet is this one, where at most one growth is refused.
-fn message_after_refusal(
-    users: &mut Users,
-    alloc: Global,
-    last: u8,
-    level: Level,
-) -> Result<Vec<u8>, Fail> {
-    let name = [128, 0, 0, 0, last];
-    sealed_after_refusal(users, alloc, &name, pair(1, 5)?, level)
 }
 
 fn manager_after_refusal(alloc: Global, users: &Users) -> Result<Manager, AllocError> {
@@ -47,84 +26,202 @@ fn manager_after_refusal(alloc: Global, users: &Users) -> Result<Manager, AllocE
     }
 }
 
-/// The level of the datagram, which is accepted.
-fn taken_level(manager: &mut Manager, datagram: &[u8]) -> Result<Level, TakeFault> {
-    let taken = manager.take(7, datagram)?;
+/// Users, and a manager that has them and holds no engine.
+fn station_after_refusal(alloc: Global) -> Result<Station, Fail> {
+    let users = users_after_refusal(alloc)?;
+    let manager = manager_after_refusal(alloc, &users)?;
+    Ok(Station { users, manager })
+}
+
+/// A message of `ann` of the engine with this pair at this level.
+fn sealed_after_refusal(
+    users: &mut Users,
+    alloc: Global,
+    engine: &[u8],
+    pair: Pair,
+    level: Level,
+) -> Result<Vec<u8>, UsmFault> {
+    match sealed_of(users, alloc, engine, pair, b"ann", level) {
+        Ok(message) => Ok(message),
+        Err(_) => sealed_of(users, alloc, engine, pair, b"ann", level),
+    }
+}
+
+/// A manager, and a message that it is to take.
+#[derive(Drop)]
+struct Waiting {
+    manager: Manager,
+    message: Vec<u8>,
+}
+
+/// A manager that holds no engine, and a message at authPriv with this pair.
+fn message_to_take(alloc: Global, boots: u32, time: u32) -> Result<Waiting, Fail> {
+    let pair = pair(boots, time)?;
+    let mut it = station_after_refusal(alloc)?;
+    let message = sealed_after_refusal(&mut it.users, alloc, &ENGINE, pair, Level::AuthPriv)?;
+    Ok(Waiting {
+        manager: it.manager,
+        message,
+    })
+}
+
+/// What the manager answers to the message, or None for want of memory.
+fn answered(it: &mut Waiting) -> Option<Outcome> {
+    match it.manager.take_one(7, &it.message) {
+        Ok(outcome) => Some(outcome),
+        Err(_) => None,
+    }
+}
+
+/// The same, where want of memory leaves that the manager holds nothing.
+fn answered_after_refusal(rt: &impl Abort, it: &mut Waiting) -> Option<Outcome> {
+    let outcome = answered(it);
+    if outcome != None {
+        return outcome;
+    }
+    assert_own(rt, &it.manager, None);
+    answered(it)
+}
+
+/// The level of the message, which is accepted.
+fn level_of(it: &mut Waiting) -> Result<Level, TakeFault> {
+    let taken = taken(&mut it.manager, 7, &it.message)?;
     Ok(taken.level)
+}
+
+/// The same, where want of memory leaves that the manager holds nothing.
+fn level_after_refusal(rt: &impl Abort, it: &mut Waiting) -> Result<Level, TakeFault> {
+    let level = level_of(it);
+    if level != Err(TakeFault::OutOfMemory) {
+        return level;
+    }
+    assert_own(rt, &it.manager, None);
+    level_of(it)
+}
+
+fn assert_learns(rt: &impl Abort, it: &mut Waiting) {
+    assert_eq!(rt; level_after_refusal(rt, it), Ok(Level::AuthPriv));
+    assert_own(rt, &it.manager, Some((1, 5)));
 }
 
 #[test]
 fn a_refused_growth_learns_nothing(rt: HostRuntime) -> Result<(), Fail> {
-    let own = engine(&[128, 0, 0, 0, 1])?;
-    let mut users = users_after_refusal(rt.alloc())?;
-    let message = message_after_refusal(&mut users, rt.alloc(), 1, Level::AuthPriv)?;
-    let mut manager = manager_after_refusal(rt.alloc(), &users)?;
-    let mut level = taken_level(&mut manager, &message);
-    if level == Err(TakeFault::OutOfMemory) {
-        assert_eq!(rt; held(&manager, &own), None);
-        level = taken_level(&mut manager, &message);
-    }
-    assert_eq!(rt; level, Ok(Level::AuthPriv));
-    assert_eq!(rt; held(&manager, &own), Some((1, 5)));
+    let mut it = message_to_take(rt.alloc(), 1, 5)?;
+    assert_learns(&rt, &mut it);
     Ok(())
 }
 
-/// The messages, each at the moment 7.
-fn list_of(alloc: Global, messages: &[Vec<u8>]) -> Result<Vec<(u64, Vec<u8>)>, AllocError> {
+fn assert_late(rt: &impl Abort, it: &mut Waiting) {
+    let late = Some(Outcome::Refused(TakeFault::NotInWindow));
+    assert_eq!(rt; answered_after_refusal(rt, it), late);
+    assert_own(rt, &it.manager, Some((Pair::MAX, 0)));
+}
+
+#[test]
+fn a_refused_growth_is_told_before_the_window(rt: HostRuntime) -> Result<(), Fail> {
+    let mut it = message_to_take(rt.alloc(), Pair::MAX, 0)?;
+    assert_late(&rt, &mut it);
+    Ok(())
+}
+
+fn change_the_end(message: &mut [u8]) {
+    if let Some(octet) = message.last_mut() {
+        *octet ^= 1;
+    }
+}
+
+fn assert_wrong(rt: &impl Abort, it: &mut Waiting) {
+    change_the_end(&mut it.message);
+    let wrong = Some(Outcome::Refused(TakeFault::WrongDigest));
+    assert_eq!(rt; answered(it), wrong);
+    assert_own(rt, &it.manager, None);
+}
+
+#[test]
+fn a_refused_growth_is_not_told_of_a_wrong_code(rt: HostRuntime) -> Result<(), Fail> {
+    let mut it = message_to_take(rt.alloc(), 1, 5)?;
+    assert_wrong(&rt, &mut it);
+    Ok(())
+}
+
+/// The list with a message more, of the engine whose last octet is this one, at the moment 7.
+fn add_after_refusal(
+    list: &mut Vec<(u64, Vec<u8>)>,
+    users: &mut Users,
+    alloc: Global,
+    last: u8,
+) -> Result<(), Fail> {
+    let engine = [128, 0, 0, 0, last];
+    let pair = pair(1, 5)?;
+    let message = sealed_after_refusal(users, alloc, &engine, pair, Level::AuthNoPriv)?;
+    if list.push((7, message)).is_err() {
+        let again = sealed_after_refusal(users, alloc, &engine, pair, Level::AuthNoPriv)?;
+        list.push((7, again))?;
+    }
+    Ok(())
+}
+
+/// Messages of three engines.
+fn list_after_refusal(users: &mut Users, alloc: Global) -> Result<Vec<(u64, Vec<u8>)>, Fail> {
     let mut list = Vec::new(alloc);
-    for message in messages {
-        list.push((7, message.to_vec(alloc)?))?;
+    for last in 1..4u8 {
+        add_after_refusal(&mut list, users, alloc, last)?;
     }
     Ok(list)
 }
 
 /// Whether the manager has a pair of the engine whose last octet is this one.
-fn holds(manager: &Manager, last: u8) -> Result<bool, Fail> {
-    Ok(manager.pair(&engine(&[128, 0, 0, 0, last])?).is_some())
+fn holds(manager: &Manager, last: u8) -> bool {
+    match EngineId::of(&[128, 0, 0, 0, last]) {
+        Some(engine) => manager.pair(&engine).is_some(),
+        None => false,
+    }
 }
 
 /// The manager holds the first so many of the three engines, and no other.
-fn assert_held(rt: &impl Abort, manager: &Manager, count: usize) -> Result<(), Fail> {
-    let held = [holds(manager, 1)?, holds(manager, 2)?, holds(manager, 3)?];
+fn assert_held(rt: &impl Abort, manager: &Manager, count: usize) {
+    let held = [holds(manager, 1), holds(manager, 2), holds(manager, 3)];
     assert_eq!(rt; held, [count > 0, count > 1, count > 2]);
+}
+
+/// How many of the datagrams were taken before the run stopped, or None where it accepted each of three.
+fn stop_of(rt: &impl Abort, manager: &mut Manager, list: &[(u64, Vec<u8>)]) -> Option<usize> {
+    match ran(manager, list) {
+        Ok(outcomes) => {
+            assert_eq!(rt; outcomes.as_slice(), [ACCEPTED; 3].as_slice());
+            None
+        }
+        Err(stopped) => Some(stopped.taken),
+    }
+}
+
+/// A run that stops has taken what it says, and succeeds the next time.
+fn assert_run(rt: &impl Abort, manager: &mut Manager, list: &[(u64, Vec<u8>)]) {
+    if let Some(taken) = stop_of(rt, manager, list) {
+        assert_held(rt, manager, taken);
+        assert_eq!(rt; stop_of(rt, manager, list), None);
+    }
+    assert_held(rt, manager, 3);
+}
+
+fn assert_stops(rt: &impl Abort, alloc: Global, it: &mut Station) -> Result<(), Fail> {
+    let list = list_after_refusal(&mut it.users, alloc)?;
+    assert_run(rt, &mut it.manager, &list);
     Ok(())
 }
 
 #[test]
 fn a_refused_growth_stops_a_run(rt: HostRuntime) -> Result<(), Fail> {
-    let mut users = users_after_refusal(rt.alloc())?;
-    let messages = [
-        message_after_refusal(&mut users, rt.alloc(), 1, Level::AuthNoPriv)?,
-        message_after_refusal(&mut users, rt.alloc(), 2, Level::AuthNoPriv)?,
-        message_after_refusal(&mut users, rt.alloc(), 3, Level::AuthNoPriv)?,
-    ];
-    let list = match list_of(rt.alloc(), &messages) {
-        Ok(list) => list,
-        Err(_) => list_of(rt.alloc(), &messages)?,
-    };
-    let mut manager = manager_after_refusal(rt.alloc(), &users)?;
-    let stopped = match manager.run(&list) {
-        Ok(outcomes) => {
-            assert_eq!(rt;
-                outcomes.as_slice(),
-                [ACCEPTED, ACCEPTED, ACCEPTED].as_slice()
-            );
-            None
-        }
-        Err(stopped) => Some(stopped),
-    };
-    if let Some(stopped) = stopped {
-        assert_held(&rt, &manager, stopped.taken)?;
-        assert_eq!(rt; manager.run(&list)?.len(), 3);
-    }
-    assert_held(&rt, &manager, 3)?;
-    Ok(())
+    let mut it = station_after_refusal(rt.alloc())?;
+    assert_stops(&rt, rt.alloc(), &mut it)
 }
 
-fn clocks_after_refusal(alloc: Global, text: &[u8]) -> Result<Clocks, Fail> {
-    match Clocks::read_saved(alloc, text, 0) {
+const TEXT: &[u8] = b"snmp-clocks 2\n8000000001 1 5 7\n8000000002 1 5 7\n";
+
+fn clocks_after_refusal(alloc: Global) -> Result<Clocks, ClockFault> {
+    match clocks(alloc, TEXT) {
         Ok(clocks) => Ok(clocks),
-        Err(_) => Ok(Clocks::read_saved(alloc, text, 0)?),
+        Err(_) => clocks(alloc, TEXT),
     }
 }
 
@@ -133,87 +230,64 @@ fn absorbed(manager: &mut Manager, clocks: &Clocks) -> Result<(), AllocError> {
 }
 
 fn saved_after_refusal(manager: &Manager) -> Result<Vec<u8>, AllocError> {
-    match manager.save() {
-        Ok(saved) => Ok(saved),
-        Err(_) => manager.save(),
+    match saved(manager) {
+        Ok(text) => Ok(text),
+        Err(_) => saved(manager),
     }
+}
+
+/// The manager absorbs the clocks, and holds nothing where that fails.
+fn absorb_after_refusal(rt: &impl Abort, alloc: Global, manager: &mut Manager) -> Result<(), Fail> {
+    let clocks = clocks_after_refusal(alloc)?;
+    if absorbed(manager, &clocks).is_err() {
+        assert_held(rt, manager, 0);
+        absorbed(manager, &clocks)?;
+    }
+    Ok(())
+}
+
+fn assert_absorbs(rt: &impl Abort, alloc: Global, manager: &mut Manager) -> Result<(), Fail> {
+    absorb_after_refusal(rt, alloc, manager)?;
+    let text = saved_after_refusal(manager)?;
+    assert_octets(rt, 0, &text, TEXT);
+    Ok(())
 }
 
 #[test]
 fn a_refused_growth_absorbs_and_saves_nothing(rt: HostRuntime) -> Result<(), Fail> {
-    let text = b"snmp-clocks 2\n8000000001 1 5 7\n8000000002 1 5 7\n";
-    let users = users_after_refusal(rt.alloc())?;
-    let mut manager = manager_after_refusal(rt.alloc(), &users)?;
-    let clocks = clocks_after_refusal(rt.alloc(), text)?;
-    if absorbed(&mut manager, &clocks).is_err() {
-        assert_held(&rt, &manager, 0)?;
-        absorbed(&mut manager, &clocks)?;
-    }
-    let saved = saved_after_refusal(&manager)?;
-    assert_eq!(rt; saved.as_slice(), text.as_slice());
-    Ok(())
+    let mut it = station_after_refusal(rt.alloc())?;
+    assert_absorbs(&rt, rt.alloc(), &mut it.manager)
 }
 
-/// What the manager answers to the datagram, or None for want of memory.
-fn answered(manager: &mut Manager, datagram: &[u8]) -> Option<Outcome> {
-    match manager.take_one(7, datagram) {
-        Ok(outcome) => Some(outcome),
-        Err(_) => None,
+fn assert_asks(rt: &impl Abort, manager: &mut Manager) {
+    if let Some(fault) = refusal(manager, b"ann", Level::AuthPriv, b"") {
+        assert_eq!(rt; fault, TakeFault::OutOfMemory);
+        let again = refusal(manager, b"ann", Level::AuthPriv, b"");
+        assert_eq!(rt; again, None);
     }
-}
-
-#[test]
-fn a_refused_growth_is_told_before_the_window(rt: HostRuntime) -> Result<(), Fail> {
-    let own = engine(&ENGINE)?;
-    let last = pair(Pair::MAX, 0)?;
-    let mut users = users_after_refusal(rt.alloc())?;
-    let message = sealed_after_refusal(&mut users, rt.alloc(), &ENGINE, last, Level::AuthPriv)?;
-    let mut manager = manager_after_refusal(rt.alloc(), &users)?;
-    let late = Some(Outcome::Refused(TakeFault::NotInWindow));
-    let mut outcome = answered(&mut manager, &message);
-    if outcome == None {
-        assert_eq!(rt; held(&manager, &own), None);
-        outcome = answered(&mut manager, &message);
-    }
-    assert_eq!(rt; outcome, late);
-    assert_eq!(rt; held(&manager, &own), Some((Pair::MAX, 0)));
-    Ok(())
-}
-
-#[test]
-fn a_refused_growth_is_not_told_of_a_wrong_code(rt: HostRuntime) -> Result<(), Fail> {
-    let own = engine(&ENGINE)?;
-    let mut users = users_after_refusal(rt.alloc())?;
-    let mut message = message_after_refusal(&mut users, rt.alloc(), 1, Level::AuthPriv)?;
-    if let Some(octet) = message.last_mut() {
-        *octet ^= 1;
-    }
-    let mut manager = manager_after_refusal(rt.alloc(), &users)?;
-    let wrong = Some(Outcome::Refused(TakeFault::WrongDigest));
-    assert_eq!(rt; answered(&mut manager, &message), wrong);
-    assert_eq!(rt; held(&manager, &own), None);
-    Ok(())
 }
 
 #[test]
 fn a_refused_growth_asks_for_nothing(rt: HostRuntime) -> Result<(), Fail> {
-    let own = engine(&ENGINE)?;
-    let users = users_after_refusal(rt.alloc())?;
-    let mut manager = manager_after_refusal(rt.alloc(), &users)?;
-    if let Some(fault) = refusal(&mut manager, &own, b"ann", Level::AuthPriv, b"") {
-        assert_eq!(rt; fault, TakeFault::OutOfMemory);
-        let again = refusal(&mut manager, &own, b"ann", Level::AuthPriv, b"");
-        assert_eq!(rt; again, None);
-    }
+    let mut it = station_after_refusal(rt.alloc())?;
+    assert_asks(&rt, &mut it.manager);
     Ok(())
+}
+
+/// Whether the discovery request is written.
+fn discovers(manager: &Manager) -> bool {
+    discovery(manager).is_ok()
+}
+
+fn assert_discovers(rt: &impl Abort, manager: &Manager) {
+    if !discovers(manager) {
+        assert!(rt; discovers(manager));
+    }
 }
 
 #[test]
 fn a_refused_growth_discovers_nothing(rt: HostRuntime) -> Result<(), Fail> {
-    let users = users_after_refusal(rt.alloc())?;
-    let manager = manager_after_refusal(rt.alloc(), &users)?;
-    if discovery(&manager).is_err() {
-        let _again = discovery(&manager)?;
-    }
+    let it = station_after_refusal(rt.alloc())?;
+    assert_discovers(&rt, &it.manager);
     Ok(())
 }

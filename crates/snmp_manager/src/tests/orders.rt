@@ -24,11 +24,21 @@ fn orders() -> &'static [[usize; 3]] {
 /// The messages of the three pairs for the user.
 fn messages(users: &mut Users, alloc: Global, user: &[u8]) -> Result<Vec<Vec<u8>>, Fail> {
     let mut messages = Vec::new(alloc);
-    for (boots, time) in pairs() {
-        let pair = pair(*boots, *time)?;
-        messages.push(sealed_of(users, alloc, &ENGINE, pair, user, Level::AuthNoPriv)?)?;
+    for pair in pairs() {
+        messages.push(sent(users, alloc, user, *pair)?)?;
     }
     Ok(messages)
+}
+
+/// Puts the octets at the end of the list, at this moment.
+fn put(
+    list: &mut Vec<(u64, Vec<u8>)>,
+    alloc: Global,
+    now: u64,
+    octets: &[u8],
+) -> Result<(), AllocError> {
+    list.push((now, octets.to_vec(alloc)?))?;
+    Ok(())
 }
 
 /// The messages in this order, each twice, with octets between that nobody authenticated.
@@ -36,24 +46,59 @@ fn list(alloc: Global, messages: &[Vec<u8>], order: &[usize]) -> Result<Vec<(u64
     let mut list = Vec::new(alloc);
     for place in order {
         let message = messages.get(*place).ok_or("message")?;
-        list.push((10, message.to_vec(alloc)?))?;
-        list.push((9, b"no message".to_vec(alloc)?))?;
-        list.push((8, message.to_vec(alloc)?))?;
+        put(&mut list, alloc, 10, message)?;
+        put(&mut list, alloc, 9, b"no message")?;
+        put(&mut list, alloc, 8, message)?;
     }
     Ok(list)
 }
 
-fn assert_orders(rt: &impl Abort, alloc: Global, user: &[u8]) -> Result<(), Fail> {
-    let own = engine(&ENGINE)?;
-    let mut users = users(alloc)?;
-    let messages = messages(&mut users, alloc, user)?;
+/// What a manager of its own answers to the list, and the boots and the time that it then holds of the engine.
+fn run_of(
+    alloc: Global,
+    users: &Users,
+    list: &[(u64, Vec<u8>)],
+) -> Result<(Vec<Outcome>, Option<(u32, u32)>), Fail> {
+    let mut manager = manager(alloc, users)?;
+    let outcomes = ran(&mut manager, list)?;
+    Ok((outcomes, held(&manager, &own())))
+}
+
+/// A run over the messages in this order has nine answers, and then the greatest pair is held.
+fn assert_order(
+    rt: &impl Abort,
+    alloc: Global,
+    users: &Users,
+    messages: &[Vec<u8>],
+    number: usize,
+    order: &[usize],
+) -> Result<(), Fail> {
+    let list = list(alloc, messages, order)?;
+    let (outcomes, held) = run_of(alloc, users, &list)?;
+    assert_eq!(rt;
+        (outcomes.len(), held),
+        (9, Some((2, 10))),
+        "order {number}"
+    );
+    Ok(())
+}
+
+fn assert_each(
+    rt: &impl Abort,
+    alloc: Global,
+    users: &Users,
+    messages: &[Vec<u8>],
+) -> Result<(), Fail> {
     for (number, order) in orders().iter().enumerate() {
-        let mut manager = manager(alloc, &users)?;
-        let list = list(alloc, &messages, order)?;
-        assert_eq!(rt; manager.run(&list)?.len(), 9);
-        assert_eq!(rt; manager.pair(&own), Some(pair(2, 10)?), "order {number}");
+        assert_order(rt, alloc, users, messages, number, order)?;
     }
     Ok(())
+}
+
+fn assert_orders(rt: &impl Abort, alloc: Global, user: &[u8]) -> Result<(), Fail> {
+    let mut users = users(alloc)?;
+    let messages = messages(&mut users, alloc, user)?;
+    assert_each(rt, alloc, &users, &messages)
 }
 
 #[test]
@@ -66,19 +111,26 @@ fn six_orders_have_one_pair_with_longer_codes(rt: HostRuntime) -> Result<(), Fai
     assert_orders(&rt, rt.alloc(), b"sam")
 }
 
+const NONE: Outcome = Outcome::Refused(TakeFault::NotMessage { at: 0 });
+
+const LATE: Outcome = Outcome::Refused(TakeFault::NotInWindow);
+
+/// The answers to the messages in the order in which they stand.
+fn answers(alloc: Global, user: &[u8]) -> Result<Vec<Outcome>, Fail> {
+    let mut users = users(alloc)?;
+    let messages = messages(&mut users, alloc, user)?;
+    let list = list(alloc, &messages, &[0, 1, 2])?;
+    let (outcomes, _held) = run_of(alloc, &users, &list)?;
+    Ok(outcomes)
+}
+
 #[test]
 fn a_run_tells_each_outcome(rt: HostRuntime) -> Result<(), Fail> {
-    let mut users = users(rt.alloc())?;
-    let messages = messages(&mut users, rt.alloc(), b"ann")?;
-    let list = list(rt.alloc(), &messages, &[0, 1, 2])?;
-    let mut manager = manager(rt.alloc(), &users)?;
-    let outcomes = manager.run(&list)?;
-    let none = Outcome::Refused(TakeFault::NotMessage { at: 0 });
-    let late = Outcome::Refused(TakeFault::NotInWindow);
+    let outcomes = answers(rt.alloc(), b"ann")?;
     assert_eq!(rt;
         outcomes.as_slice(),
         [
-            ACCEPTED, none, ACCEPTED, ACCEPTED, none, ACCEPTED, late, none, late
+            ACCEPTED, NONE, ACCEPTED, ACCEPTED, NONE, ACCEPTED, LATE, NONE, LATE
         ]
         .as_slice()
     );

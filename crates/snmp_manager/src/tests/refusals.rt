@@ -143,34 +143,38 @@ fn cases() -> &'static [Case] {
     &CASES
 }
 
+/// What a manager of its own answers to the datagram, and the boots and the time that it then holds of the engine.
+fn found(alloc: Global, users: &Users, text: &str) -> Result<(Outcome, Option<(u32, u32)>), Fail> {
+    let mut manager = manager(alloc, users)?;
+    let datagram = hex::decode(alloc, text)?;
+    let outcome = took(&mut manager, 5, &datagram)?;
+    Ok((outcome, held(&manager, &own())))
+}
+
 /// The datagram is answered so, and leaves this pair.
 fn assert_case(
     rt: &impl Abort,
     alloc: Global,
     users: &Users,
-    own: &EngineId,
     number: usize,
     case: &Case,
 ) -> Result<(), Fail> {
-    let mut manager = manager(alloc, users)?;
-    let datagram = hex::decode(alloc, case.text)?;
-    assert_eq!(rt;
-        took(&mut manager, 5, &datagram)?,
-        case.outcome,
-        "case {number}"
-    );
-    assert_eq!(rt; held(&manager, own), case.held, "case {number}");
+    let found = found(alloc, users, case.text)?;
+    assert_eq!(rt; found, (case.outcome, case.held), "case {number}");
+    Ok(())
+}
+
+fn assert_each(rt: &impl Abort, alloc: Global, users: &Users, cases: &[Case]) -> Result<(), Fail> {
+    for (number, case) in cases.iter().enumerate() {
+        assert_case(rt, alloc, users, number, case)?;
+    }
     Ok(())
 }
 
 /// Each of these datagrams is answered so, by a manager of its own.
 pub(super) fn assert_cases(rt: &impl Abort, alloc: Global, cases: &[Case]) -> Result<(), Fail> {
-    let own = engine(&ENGINE)?;
     let users = users(alloc)?;
-    for (number, case) in cases.iter().enumerate() {
-        assert_case(rt, alloc, &users, &own, number, case)?;
-    }
-    Ok(())
+    assert_each(rt, alloc, &users, cases)
 }
 
 #[test]
@@ -178,32 +182,44 @@ fn what_is_authentic_is_learned_whatever_it_is_answered(rt: HostRuntime) -> Resu
     assert_cases(&rt, rt.alloc(), cases())
 }
 
-/// No octet of the message can be xored with this one so that anything is learned.
-fn assert_nothing_learned(
-    rt: &impl Abort,
-    manager: &mut Manager,
-    datagram: &mut [u8],
-    change: u8,
-) -> Result<(), Fail> {
+/// The manager takes the message with each octet in turn xored with this one.
+fn take_changed(manager: &mut Manager, datagram: &mut [u8], change: u8) -> Result<(), Fail> {
     for place in 0..datagram.len() {
         datagram[place] ^= change;
-        let _outcome = manager.take_one(5, datagram)?;
+        let _outcome = took(manager, 5, datagram)?;
         datagram[place] ^= change;
     }
-    let text = manager.save()?;
-    assert_eq!(rt; text.as_slice(), b"snmp-clocks 2\n".as_slice());
     Ok(())
+}
+
+/// A message of the engine with the pair (7, 1000).
+fn message_of(
+    users: &mut Users,
+    alloc: Global,
+    user: &[u8],
+    level: Level,
+) -> Result<Vec<u8>, Fail> {
+    let pair = pair(7, 1000)?;
+    Ok(sealed_of(users, alloc, &ENGINE, pair, user, level)?)
+}
+
+fn take_all_changed(manager: &mut Manager, datagram: &mut [u8]) -> Result<(), Fail> {
+    take_changed(manager, datagram, 0x01)?;
+    take_changed(manager, datagram, 0x80)
+}
+
+/// A manager that took a message at authPriv for the user with each octet in turn as another.
+fn changed(alloc: Global, user: &[u8]) -> Result<Manager, Fail> {
+    let mut it = new_station(alloc)?;
+    let mut datagram = message_of(&mut it.users, alloc, user, Level::AuthPriv)?;
+    take_all_changed(&mut it.manager, &mut datagram)?;
+    Ok(it.manager)
 }
 
 /// A message at authPriv for the user teaches nothing where an octet of it is another.
 fn assert_changes_teach_nothing(rt: &impl Abort, alloc: Global, user: &[u8]) -> Result<(), Fail> {
-    let mut users = users(alloc)?;
-    let pair = pair(7, 1000)?;
-    let mut datagram = sealed_of(&mut users, alloc, &ENGINE, pair, user, Level::AuthPriv)?;
-    let mut manager = manager(alloc, &users)?;
-    assert_nothing_learned(rt, &mut manager, &mut datagram, 0x01)?;
-    assert_nothing_learned(rt, &mut manager, &mut datagram, 0x80)?;
-    Ok(())
+    let manager = changed(alloc, user)?;
+    assert_saved(rt, &manager, b"snmp-clocks 2\n")
 }
 
 #[test]
@@ -216,31 +232,60 @@ fn of_a_changed_message_with_a_longer_code_nothing_is_learned(rt: HostRuntime) -
     assert_changes_teach_nothing(&rt, rt.alloc(), b"sam")
 }
 
+/// The contexts, the place of the PDU and the PDU.
+fn contexts<'a>(taken: &'a Taken<'_>) -> (&'a [u8], &'a [u8], usize, &'a [u8]) {
+    let found = taken.scoped();
+    (found.engine, found.name, found.data_at, found.pdu)
+}
+
+/// The tag and the request-id.
+fn numbers(taken: &Taken<'_>) -> (u8, i32) {
+    let pdu = taken.pdu();
+    (pdu.tag, pdu.id)
+}
+
+/// What was taken is from this user at this level.
+fn assert_sender(rt: &impl Abort, taken: &Taken<'_>, user: &[u8], level: Level) {
+    assert_eq!(rt; (taken.level, taken.id, taken.tag), (level, 3, 0xA0));
+    assert_octets(rt, 0, taken.user, user);
+    assert_octets(rt, 1, taken.engine.as_slice(), &ENGINE);
+}
+
+/// What was taken has the ScopedPDU that was sent.
+fn assert_scoped(rt: &impl Abort, alloc: Global, taken: &Taken<'_>) -> Result<(), Fail> {
+    let scoped = scoped_pdu(alloc)?;
+    let (engine, name, at, pdu) = contexts(taken);
+    assert_octets(rt, 0, engine, &ENGINE);
+    assert_octets(rt, 1, name, b"");
+    assert_octets(rt, 2, pdu, scoped.get(at..).ok_or("PDU")?);
+    assert_eq!(rt; numbers(taken), (0xA0, 2));
+    Ok(())
+}
+
+/// The message is taken as what the user sent at this level.
+fn assert_given_on(
+    rt: &impl Abort,
+    alloc: Global,
+    manager: &mut Manager,
+    datagram: &[u8],
+    user: &[u8],
+    level: Level,
+) -> Result<(), Fail> {
+    let taken = taken(manager, 5, datagram)?;
+    assert_sender(rt, &taken, user, level);
+    assert_scoped(rt, alloc, &taken)
+}
+
+/// What a user sends at the level is given on.
+fn assert_sent(rt: &impl Abort, alloc: Global, user: &[u8], level: Level) -> Result<(), Fail> {
+    let mut it = new_station(alloc)?;
+    let datagram = message_of(&mut it.users, alloc, user, level)?;
+    assert_given_on(rt, alloc, &mut it.manager, &datagram, user, level)
+}
+
 #[test]
 fn what_was_sent_is_given_on(rt: HostRuntime) -> Result<(), Fail> {
-    let mut users = users(rt.alloc())?;
-    let mut manager = manager(rt.alloc(), &users)?;
-    let scoped = scoped_pdu(rt.alloc())?;
-    for level in [Level::NoAuthNoPriv, Level::AuthNoPriv, Level::AuthPriv] {
-        let user: &[u8] = if level == Level::NoAuthNoPriv {
-            b""
-        } else {
-            b"sam"
-        };
-        let datagram = sealed_of(&mut users, rt.alloc(), &ENGINE, pair(7, 1000)?, user, level)?;
-        let taken = manager.take(5, &datagram)?;
-        assert_eq!(rt;
-            (taken.user, taken.level, taken.id, taken.tag),
-            (user, level, 3, 0xA0)
-        );
-        assert_eq!(rt; taken.engine.as_slice(), ENGINE.as_slice());
-        let found = taken.scoped();
-        assert_eq!(rt;
-            (found.engine, found.name),
-            (ENGINE.as_slice(), b"".as_slice())
-        );
-        assert_eq!(rt; Some(found.pdu), scoped.get(found.data_at..));
-        assert_eq!(rt; (taken.pdu().tag, taken.pdu().id), (0xA0, 2));
-    }
-    Ok(())
+    assert_sent(&rt, rt.alloc(), b"", Level::NoAuthNoPriv)?;
+    assert_sent(&rt, rt.alloc(), b"sam", Level::AuthNoPriv)?;
+    assert_sent(&rt, rt.alloc(), b"sam", Level::AuthPriv)
 }

@@ -1,6 +1,6 @@
 //! Answers to requests, and what is none. They were made with Python.
 
-use super::requests::{asked, discovery};
+use super::requests::{NONE, asked, discovery};
 use super::*;
 
 /// A message that is accepted, and what it is to the GetRequest of 1.3.6.1.2.1.1.1.0 by `ann` without authentication.
@@ -125,33 +125,54 @@ fn reply_to(
     text: &str,
 ) -> Result<Answer, Fail> {
     let datagram = hex::decode(alloc, text)?;
-    let taken = manager.take(1010, &datagram)?;
+    let taken = taken(manager, 1010, &datagram)?;
     Ok(answer_of(pending, &taken))
+}
+
+fn assert_answer(rt: &impl Abort, number: usize, found: Answer, wanted: Answer) {
+    assert_eq!(rt; found, wanted, "reply {number}");
+}
+
+/// Each of the messages is to the request what stands beside it.
+fn assert_replies(
+    rt: &impl Abort,
+    alloc: Global,
+    manager: &mut Manager,
+    pending: &Pending,
+) -> Result<(), Fail> {
+    for (number, reply) in replies().iter().enumerate() {
+        let answer = reply_to(manager, alloc, pending, reply.text)?;
+        assert_answer(rt, number, answer, reply.answer);
+    }
+    Ok(())
+}
+
+/// Each of the messages is to a request of `ann` what stands beside it.
+fn assert_all_replies(rt: &impl Abort, alloc: Global, manager: &mut Manager) -> Result<(), Fail> {
+    let (_text, pending) = asked(manager, b"ann", Level::NoAuthNoPriv)?;
+    assert_replies(rt, alloc, manager, &pending)
 }
 
 #[test]
 fn a_response_a_report_and_other_messages_are_told_apart(rt: HostRuntime) -> Result<(), Fail> {
-    let own = engine(&ENGINE)?;
-    let users = users(rt.alloc())?;
-    let mut manager = manager(rt.alloc(), &users)?;
-    let (_text, pending) = asked(&mut manager, &own, b"ann", Level::NoAuthNoPriv)?;
-    for (number, reply) in replies().iter().enumerate() {
-        let answer = reply_to(&mut manager, rt.alloc(), &pending, reply.text)?;
-        assert_eq!(rt; answer, reply.answer, "reply {number}");
-    }
-    Ok(())
+    let mut manager = begun(rt.alloc(), NONE)?;
+    assert_all_replies(&rt, rt.alloc(), &mut manager)
 }
 
 /// The report on a discovery, with the engine's identifier.
 const FIRST_REPORT: &str =
     "3062020103300e020101020300ffe3040100020103041d301b040c000000000000000000000002020107020203e8040004000400302e040c0000000000000000000000020400a81c0201010201000201003011300f060a2b060106030f01010400410101";
 
+/// The report is one on the manager's discovery.
+fn assert_report(rt: &impl Abort, alloc: Global, manager: &mut Manager) -> Result<(), Fail> {
+    let (_text, pending) = discovery(manager)?;
+    let answer = reply_to(manager, alloc, &pending, FIRST_REPORT)?;
+    assert_answer(rt, 0, answer, Answer::Report(4));
+    Ok(())
+}
+
 #[test]
 fn the_report_on_a_discovery_is_known(rt: HostRuntime) -> Result<(), Fail> {
-    let users = users(rt.alloc())?;
-    let mut manager = manager(rt.alloc(), &users)?;
-    let (_text, pending) = discovery(&manager)?;
-    let answer = reply_to(&mut manager, rt.alloc(), &pending, FIRST_REPORT)?;
-    assert_eq!(rt; answer, Answer::Report(4));
-    Ok(())
+    let mut manager = begun(rt.alloc(), NONE)?;
+    assert_report(&rt, rt.alloc(), &mut manager)
 }

@@ -15,7 +15,7 @@ struct Request {
     text: &'static str,
 }
 
-const NONE: &[u8] = b"snmp-clocks 2\n";
+pub(super) const NONE: &[u8] = b"snmp-clocks 2\n";
 
 const HELD: &[u8] = b"snmp-clocks 2\n000000000000000000000002 7 1000 1000\n8000000001 9 9 9\n";
 
@@ -77,16 +77,9 @@ fn requests() -> &'static [Request] {
     &REQUESTS
 }
 
-/// A manager that begins with these clocks.
-fn begun(alloc: Global, users: &Users, text: &[u8]) -> Result<Manager, Fail> {
-    let clocks = Clocks::read_saved(alloc, text, 0)?;
-    Ok(Manager::new(alloc, users.try_clone()?, clocks))
-}
-
 /// The GetRequest at the moment 1010, with msgID 2 and request-id 2.
 pub(super) fn asked(
     manager: &mut Manager,
-    engine: &EngineId,
     user: &[u8],
     level: Level,
 ) -> Result<(Vec<u8>, Pending), Fail> {
@@ -107,34 +100,39 @@ pub(super) fn asked(
     };
     let user = &user[..user.len().min(32)];
     let salt = [0, 1, 2, 3, 4, 5, 6, 7];
-    Ok(manager.request(1010, 2, engine, user, level, &body, salt)?)
+    Ok(manager.request(1010, 2, &own(), user, level, &body, salt)?)
+}
+
+/// The request is this text.
+fn assert_text(
+    rt: &impl Abort,
+    alloc: Global,
+    manager: &mut Manager,
+    number: usize,
+    request: &Request,
+) -> Result<(), Fail> {
+    let (text, _pending) = asked(manager, request.user, request.level)?;
+    let wanted = hex::decode(alloc, request.text)?;
+    assert_octets(rt, number, &text, &wanted);
+    Ok(())
 }
 
 /// The request is this text, and leaves every mark.
 fn assert_request(
     rt: &impl Abort,
     alloc: Global,
-    users: &Users,
     number: usize,
     request: &Request,
 ) -> Result<(), Fail> {
-    let mut manager = begun(alloc, users, request.clocks)?;
-    let wanted = hex::decode(alloc, request.text)?;
-    let (text, _pending) = asked(&mut manager, &engine(&ENGINE)?, request.user, request.level)?;
-    assert_eq!(rt; text.as_slice(), wanted.as_slice(), "request {number}");
-    assert_eq!(rt;
-        manager.save()?.as_slice(),
-        request.clocks,
-        "request {number}"
-    );
-    Ok(())
+    let mut manager = begun(alloc, request.clocks)?;
+    assert_text(rt, alloc, &mut manager, number, request)?;
+    assert_saved(rt, &manager, request.clocks)
 }
 
 #[test]
 fn a_request_has_the_held_boots_and_the_notion(rt: HostRuntime) -> Result<(), Fail> {
-    let users = users(rt.alloc())?;
     for (number, request) in requests().iter().enumerate() {
-        assert_request(&rt, rt.alloc(), &users, number, request)?;
+        assert_request(&rt, rt.alloc(), number, request)?;
     }
     Ok(())
 }
@@ -142,7 +140,6 @@ fn a_request_has_the_held_boots_and_the_notion(rt: HostRuntime) -> Result<(), Fa
 /// The refusal of a GetRequest of nothing in the context of this name.
 pub(super) fn refusal(
     manager: &mut Manager,
-    engine: &EngineId,
     user: &[u8],
     level: Level,
     context: &[u8],
@@ -157,7 +154,7 @@ pub(super) fn refusal(
         bindings: &[],
     };
     let user = &user[..user.len().min(32)];
-    match manager.request(1010, 2, engine, user, level, &body, [0; 8]) {
+    match manager.request(1010, 2, &own(), user, level, &body, [0; 8]) {
         Ok(_) => None,
         Err(fault) => Some(fault),
     }
@@ -169,30 +166,111 @@ const UNSUPPORTED: Option<TakeFault> = Some(TakeFault::UnsupportedLevel);
 
 const TOO_LARGE: Option<TakeFault> = Some(TakeFault::TooLarge);
 
+/// A user, a level, and the refusals of a request with a short context name and with a long one.
+struct Wanted {
+    user: &'static [u8],
+    level: Level,
+    short: Option<TakeFault>,
+    long: Option<TakeFault>,
+}
+
+static WANTED: [Wanted; 8] = [
+    Wanted {
+        user: b"eve",
+        level: Level::AuthNoPriv,
+        short: UNKNOWN,
+        long: UNKNOWN,
+    },
+    Wanted {
+        user: b"eve",
+        level: Level::AuthPriv,
+        short: UNKNOWN,
+        long: UNKNOWN,
+    },
+    Wanted {
+        user: b"",
+        level: Level::AuthNoPriv,
+        short: UNKNOWN,
+        long: UNKNOWN,
+    },
+    Wanted {
+        user: b"guest",
+        level: Level::AuthNoPriv,
+        short: UNSUPPORTED,
+        long: UNSUPPORTED,
+    },
+    Wanted {
+        user: b"guest",
+        level: Level::AuthPriv,
+        short: UNSUPPORTED,
+        long: UNSUPPORTED,
+    },
+    Wanted {
+        user: b"ann",
+        level: Level::AuthPriv,
+        short: None,
+        long: TOO_LARGE,
+    },
+    Wanted {
+        user: b"sam",
+        level: Level::AuthNoPriv,
+        short: None,
+        long: TOO_LARGE,
+    },
+    Wanted {
+        user: b"eve",
+        level: Level::NoAuthNoPriv,
+        short: None,
+        long: TOO_LARGE,
+    },
+];
+
+fn all_wanted() -> &'static [Wanted] {
+    &WANTED
+}
+
+/// The refusal, or want of memory.
+fn told(
+    manager: &mut Manager,
+    user: &[u8],
+    level: Level,
+    context: &[u8],
+) -> Result<Option<TakeFault>, AllocError> {
+    let refusal = refusal(manager, user, level, context);
+    if refusal == Some(TakeFault::OutOfMemory) {
+        return Err(AllocError);
+    }
+    Ok(refusal)
+}
+
+/// A request of this row is refused so.
+fn assert_refused(
+    rt: &impl Abort,
+    manager: &mut Manager,
+    number: usize,
+    row: &Wanted,
+    context: &[u8],
+) -> Result<(), AllocError> {
+    let short = told(manager, row.user, row.level, b"")?;
+    let long = told(manager, row.user, row.level, context)?;
+    assert_eq!(rt; (short, long), (row.short, row.long), "row {number}");
+    Ok(())
+}
+
+/// A request of each row is refused so.
+fn assert_all_refused(rt: &impl Abort, alloc: Global, manager: &mut Manager) -> Result<(), Fail> {
+    let long = vec![in alloc; b'c'; 65_507]?;
+    for (number, row) in all_wanted().iter().enumerate() {
+        assert_refused(rt, manager, number, row, &long)?;
+    }
+    Ok(())
+}
+
 #[test]
 fn a_request_is_refused_for_its_user_its_level_and_its_length(rt: HostRuntime) -> Result<(), Fail> {
-    let own = engine(&ENGINE)?;
-    let users = users(rt.alloc())?;
-    let mut manager = begun(rt.alloc(), &users, HELD)?;
-    let long = vec![in rt.alloc(); b'c'; 65_507]?;
-    for (user, level, short_answer, long_answer) in [
-        (b"eve".as_slice(), Level::AuthNoPriv, UNKNOWN, UNKNOWN),
-        (b"eve", Level::AuthPriv, UNKNOWN, UNKNOWN),
-        (b"", Level::AuthNoPriv, UNKNOWN, UNKNOWN),
-        (b"guest", Level::AuthNoPriv, UNSUPPORTED, UNSUPPORTED),
-        (b"guest", Level::AuthPriv, UNSUPPORTED, UNSUPPORTED),
-        (b"ann", Level::AuthPriv, None, TOO_LARGE),
-        (b"sam", Level::AuthNoPriv, None, TOO_LARGE),
-        (b"eve", Level::NoAuthNoPriv, None, TOO_LARGE),
-    ] {
-        assert_eq!(rt; refusal(&mut manager, &own, user, level, b""), short_answer);
-        assert_eq!(rt;
-            refusal(&mut manager, &own, user, level, &long),
-            long_answer
-        );
-    }
-    assert_eq!(rt; manager.save()?.as_slice(), HELD);
-    Ok(())
+    let mut manager = begun(rt.alloc(), HELD)?;
+    assert_all_refused(&rt, rt.alloc(), &mut manager)?;
+    assert_saved(&rt, &manager, HELD)
 }
 
 const DISCOVERY: &str =
@@ -203,12 +281,17 @@ pub(super) fn discovery(manager: &Manager) -> Result<(Vec<u8>, Pending), AllocEr
     manager.discover(1)
 }
 
+/// The text of the discovery request.
+fn discovery_text(alloc: Global) -> Result<Vec<u8>, Fail> {
+    let manager = begun(alloc, HELD)?;
+    let (text, _pending) = discovery(&manager)?;
+    Ok(text)
+}
+
 #[test]
 fn an_engine_is_discovered_by_a_request_of_nothing(rt: HostRuntime) -> Result<(), Fail> {
-    let users = users(rt.alloc())?;
-    let manager = begun(rt.alloc(), &users, HELD)?;
+    let text = discovery_text(rt.alloc())?;
     let wanted = hex::decode(rt.alloc(), DISCOVERY)?;
-    let (text, _pending) = discovery(&manager)?;
-    assert_eq!(rt; text.as_slice(), wanted.as_slice());
+    assert_octets(&rt, 0, &text, &wanted);
     Ok(())
 }

@@ -1,0 +1,128 @@
+//! Notifications of an agent, and managers that take them.
+
+use super::exchange_rows::traps;
+use super::*;
+use snmp_msg::Binding;
+
+/// An SNMPv2-Trap of 1.3.6.1.2.1.1.1.0 with msgID and request-id 5, at the moment 1000.
+pub(super) struct Trap {
+    pub(super) user: &'static [u8],
+    pub(super) level: Level,
+    pub(super) text: &'static str,
+}
+
+/// The trap to a user in the context of this name.
+fn notified(
+    agent: &mut Agent,
+    now: u64,
+    user: &[u8],
+    level: Level,
+    context: &[u8],
+) -> Result<Vec<u8>, TakeFault> {
+    let Some(name) = Oid::of(&SYS_DESCR) else {
+        unreachable!();
+    };
+    let bindings = [Binding {
+        name,
+        tag: 0x05,
+        content: &[],
+    }];
+    let body = Body {
+        context_engine: &ENGINE,
+        context_name: context,
+        tag: 0xA7,
+        id: 5,
+        second: 0,
+        third: 0,
+        bindings: &bindings,
+    };
+    let user = &user[..user.len().min(32)];
+    agent.notify(now, 5, user, level, &body, SALT)
+}
+
+/// What the manager answers to the datagram.
+fn took(manager: &mut Manager, now: u64, datagram: &[u8]) -> Result<Outcome, AllocError> {
+    manager.take_one(now, datagram)
+}
+
+/// The trap has these octets, and a manager that holds no pair accepts it.
+fn assert_trap(
+    rt: &impl Abort,
+    alloc: Global,
+    users: &Users,
+    agent: &mut Agent,
+    trap: &Trap,
+) -> Result<(), Fail> {
+    let text = notified(agent, 1000, trap.user, trap.level, b"")?;
+    assert_eq!(rt; hex_of(alloc, &text)?.as_str(), trap.text);
+    let mut manager = manager(alloc, users)?;
+    let accepted = Outcome::Accepted {
+        level: trap.level,
+        tag: 0xA7,
+    };
+    assert_eq!(rt; took(&mut manager, 1000, &text)?, accepted);
+    assert_eq!(rt;
+        manager.pair(&engine()?).is_some(),
+        trap.level != Level::NoAuthNoPriv
+    );
+    Ok(())
+}
+
+#[test]
+fn a_trap_is_taken_by_a_manager_at_each_level(rt: HostRuntime) -> Result<(), Fail> {
+    let users = users(rt.alloc())?;
+    let mut agent = agent(rt.alloc(), &users)?;
+    for trap in traps() {
+        assert_trap(&rt, rt.alloc(), &users, &mut agent, trap)?;
+    }
+    assert_eq!(rt; counters(&agent), [0; 6].map(Some));
+    Ok(())
+}
+
+/// Why the trap isn't sent, or None where it is.
+fn refusal(
+    agent: &mut Agent,
+    now: u64,
+    user: &[u8],
+    level: Level,
+    context: &[u8],
+) -> Result<Option<TakeFault>, AllocError> {
+    match notified(agent, now, user, level, context) {
+        Ok(_) => Ok(None),
+        Err(fault) => {
+            if fault.is_memory() {
+                return Err(AllocError);
+            }
+            Ok(Some(fault))
+        }
+    }
+}
+
+#[test]
+fn a_trap_is_refused_for_its_clock_its_user_its_level_and_its_length(
+    rt: HostRuntime,
+) -> Result<(), Fail> {
+    let users = users(rt.alloc())?;
+    let mut agent = agent(rt.alloc(), &users)?;
+    let long = vec![in rt.alloc(); b'c'; 65_507]?;
+    let last = 2_147_483_647;
+    for (now, user, level, answer) in [
+        (
+            last + 1,
+            b"eve".as_slice(),
+            Level::AuthPriv,
+            TakeFault::ClockExhausted,
+        ),
+        (last, b"eve", Level::AuthPriv, TakeFault::UnknownUser),
+        (last, b"joe", Level::AuthPriv, TakeFault::UnsupportedLevel),
+        (last, b"joe", Level::AuthNoPriv, TakeFault::TooLarge),
+        (last, b"eve", Level::NoAuthNoPriv, TakeFault::TooLarge),
+    ] {
+        assert_eq!(rt; refusal(&mut agent, now, user, level, &long)?, Some(answer));
+    }
+    assert_eq!(rt;
+        refusal(&mut agent, last, b"joe", Level::AuthNoPriv, b"")?,
+        None
+    );
+    Ok(())
+}

@@ -1,0 +1,12 @@
+use Rattle.std.proofs.Common.{◌≡◌, ◌≤◌, length, sym, subst, rules}
+use Rattle.snmp_outcome.specs.Texts.{HasTag, text_of}
+use Rattle.snmp_outcome.proofs.kept.Kept.of.Goals as goal
+
+pub invariant_of-result : goal.invariant_of-result
+invariant_of-result c =
+    let user : c.in_ok-to_vec.field-0.items ≡ c.args.taken.now.user.now = search rules in
+    let text : c.in_ok-to_vec-2.field-0.items ≡ text_of c.args.taken.now.text = search rules in (
+      subst (λ octets. length octets ≤ 32) (sym user) c.args.taken.now.user_fits,
+      c.args.taken.now.id_fits,
+      subst (λ octets. ∥ HasTag octets c.args.taken.now.tag ∥₁) (sym text) c.args.taken.now.is_read,
+    )

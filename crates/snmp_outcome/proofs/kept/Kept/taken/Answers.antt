@@ -1,0 +1,10 @@
+use Rattle.std.proofs.Common.{◌≤◌, length, sym, subst}
+use Rattle.snmp_outcome.specs.Texts.{HasTag}
+use Rattle.snmp_outcome.proofs.kept.Kept.taken.Goals as goal
+
+pub invariant_of-result : goal.invariant_of-result
+invariant_of-result c = record {
+  user_fits = subst (λ octets. length octets ≤ 32) (sym c.as_slice-2.ensures.value) c.self.invariant.0;
+  id_fits = c.self.invariant.1;
+  is_read = subst (λ text. ∥ HasTag text c.self.inside.tag ∥₁) (sym c.as_slice-3.ensures.value) c.self.invariant.2;
+}

@@ -1,0 +1,70 @@
+//! Accepted datagrams that own their octets.
+
+ghost use Rattle.std.specs.Prelude.{◌≡◌, IfOk};
+ghost use Rattle.snmp_outcome.specs.Answers.{given_of};
+
+use crate::octets::Octets;
+use crate::taken::Taken;
+use engine_clock::EngineId;
+use snmp_ber::Level;
+use std::alloc::{AllocError, Global};
+use std::marker::Model;
+
+/// An accepted datagram with octets of its own, for a caller that answers it once the datagram is gone.
+#[derive(Drop)]
+pub struct Kept {
+    engine: EngineId,
+    user: Vec<u8>,
+    level: Level,
+    id: u32,
+    tag: u8,
+    text: Vec<u8>,
+}
+
+impl Model for Kept {
+    ghost use Rattle.std.specs.Prelude.{◌≤◌, length};
+    ghost use Rattle.snmp_outcome.specs.Outcome.{Given};
+    ghost use Rattle.snmp_outcome.specs.Texts.{HasTag};
+
+    ghost Value = { Given };
+
+    ghost view = { λ k. record { engine = k.engine; user = k.user.items; level = k.level; id = k.id; tag = k.tag; text = k.text.items } };
+
+    ghost invariant = { λ k. (length k.user.items ≤ 32) × (k.id ≤ 2147483647) × ∥ HasTag k.text.items k.tag ∥₁ };
+}
+
+impl Kept {
+    /// A copy of an accepted datagram. The error is want of memory.
+    pub fn of(alloc: Global, taken: &Taken<'_>) -> Result<Kept, AllocError>
+        ensures { IfOk result (λ kept. kept ≡ given_of taken.now) }
+    {
+        let Some(engine) = EngineId::of(taken.engine.as_slice()) else {
+            unreachable!();
+        };
+        Ok(Kept {
+            engine,
+            user: taken.user.to_vec(alloc)?,
+            level: taken.level,
+            id: taken.id,
+            tag: taken.tag,
+            text: taken.text.as_slice().to_vec(alloc)?,
+        })
+    }
+
+    /// The accepted datagram, lent, to be decided on and answered. It takes no memory.
+    pub fn taken(&self) -> Taken<'_>
+        ensures { given_of result ≡ self.now }
+    {
+        let Some(engine) = EngineId::of(self.engine.as_slice()) else {
+            unreachable!();
+        };
+        Taken {
+            engine,
+            user: self.user.as_slice(),
+            level: self.level,
+            id: self.id,
+            tag: self.tag,
+            text: Octets::Borrowed(self.text.as_slice()),
+        }
+    }
+}
