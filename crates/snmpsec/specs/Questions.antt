@@ -4,15 +4,14 @@ use Rattle.snmp_ber.specs.Oid.{AreArcs, dotted}
 use Rattle.snmp_ber.specs.declared.level.Level.{Level}
 use Rattle.vacm_core.specs.Allowed.{Message, Allowed}
 use Rattle.vacm_core.specs.Tables.{Tables}
-use Rattle.vacm_core.specs.Distinct.{HasOneRowEach}
 use Rattle.vacm_core.specs.declared.access.ViewType.{ViewType}
 use Rattle.vacm_core.specs.declared.access.Access.{Access}
 use Rattle.snmpsec.specs.declared.check.Argument.{Argument}
 use Rattle.snmpsec.specs.declared.check.Argument.TheVariants.{Model, Level as LevelWord, View, Oid}
-use Rattle.snmpsec.specs.declared.config.refusal.ConfigRefusal.{ConfigRefusal}
-use Rattle.snmpsec.specs.ConfigRefusals.{refusal_text}
-use Rattle.snmpsec.specs.Configs.{IsToml, TellsRefusal}
-use Rattle.snmpsec_replay.specs.Words.{level_word}
+use Rattle.usm_core.specs.declared.load.UserRow.{UserRow}
+use Rattle.snmpsec_config.specs.declared.fault.ConfigFault.{ConfigFault}
+use Rattle.snmpsec_config.specs.Refusals.{SaysSound, RefusesText, refusal_line}
+use Rattle.snmpsec_config.specs.Words.{level_word}
 use Rattle.snmpsec.specs.Words.{view_word, access_word, access_status}
 
 -- ---- the words
@@ -85,11 +84,10 @@ pub record Printed : Type 0 where
   pub err : List ℕ
   pub status : ℕ
 
--- The tables' answer is printed (RFC 3415, section 3). Of each index they have one row.
-pub record Answers (tables : Tables) (asked : Asked) (printed : Printed) : Type 0 where
-  pub one_row_each : HasOneRowEach tables
+-- The answer over these rows is printed (RFC 3415, section 3).
+pub record Answers (rows : Tables) (asked : Asked) (printed : Printed) : Type 0 where
   pub answer : Access
-  pub allowed : Allowed tables asked.message asked.view asked.arcs answer
+  pub allowed : Allowed rows asked.message asked.view asked.arcs answer
   pub out : printed.out ≡ access_word answer ++ codes "\n"
   pub err : printed.err ≡ []
   pub status : printed.status ≡ access_status answer
@@ -104,15 +102,18 @@ pub record TellsWord (words : List (List ℕ)) (printed : Printed) : Type 0 wher
 
 -- The refusal of the configuration is told.
 pub record TellsRefused (config : List ℕ) (printed : Printed) : Type 0 where
-  pub refusal : ConfigRefusal
-  pub told : TellsRefusal config refusal
-  pub out : printed.out ≡ refusal_text refusal ++ codes "\n"
+  pub fault : ConfigFault
+  pub told : RefusesText config fault
+  pub out : printed.out ≡ refusal_line fault ++ codes "\n"
   pub err : printed.err ≡ []
   pub status : printed.status ≡ 1
 
--- A word out of its form is told first, then a configuration that isn't read, and else the question is answered over tables
--- that were loaded.
+-- The question is answered over the rows that the configuration stands for. None of them is at fault, so that of each index
+-- there is one.
+abbrev pub AnswersFrom : List ℕ → Asked → Printed → Type 0
+AnswersFrom config asked printed = (users : List UserRow) × (rows : Tables) × SaysSound config users rows × Answers rows asked printed
+
+-- A word out of its form is told first, then a configuration that is refused, and else the question is answered.
 abbrev pub ChecksAccess : List ℕ → List (List ℕ) → Printed → Type 0
 ChecksAccess config words printed =
-    TellsWord words printed
-    ⊎ ((asked : Asked) × Asks words asked × (TellsRefused config printed ⊎ (IsToml config × ((tables : Tables) × Answers tables asked printed))))
+    TellsWord words printed ⊎ ((asked : Asked) × Asks words asked × (TellsRefused config printed ⊎ AnswersFrom config asked printed))

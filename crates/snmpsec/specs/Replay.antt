@@ -7,10 +7,11 @@ use Rattle.snmpsec_replay.specs.Replay.{ReplayText, Streams, StopsBy}
 use Rattle.snmpsec_replay.specs.Transfer.{WritesFront}
 use Rattle.snmpsec_replay.specs.declared.fault.ReplayFault.{ReplayFault}
 use Rattle.snmpsec_replay.specs.declared.fault.ReplayFault.TheVariants as faults
-use Rattle.snmpsec.specs.ConfigRefusals.{refusal_text}
-use Rattle.snmpsec.specs.Configs.{GivesUsers, IsToml, TellsRefusal}
+use Rattle.usm_core.specs.User.{User}
+use Rattle.vacm_core.specs.Tables.{Tables}
+use Rattle.snmpsec_config.specs.Refusals.{Loads, RefusesText, refusal_line}
+use Rattle.snmpsec_config.specs.declared.fault.ConfigFault.{ConfigFault}
 use Rattle.snmpsec.specs.Merge.{refused_line}
-use Rattle.snmpsec.specs.declared.config.refusal.ConfigRefusal.{ConfigRefusal}
 use Rattle.snmpsec.specs.declared.replay.NoManager.{NoManager}
 use Rattle.snmpsec.specs.declared.replay.NoManager.TheVariants.{Refused, OutOfMemory}
 
@@ -23,18 +24,21 @@ pub record Handed : Type 0 where
 
 -- The manager has the users of the configuration, and the marks that the clocks file saves.
 pub record Begins (h : Handed) (begin : Held) : Type 0 where
-  pub users : GivesUsers h.config begin.users
+  pub tables : Tables
+  pub users : Loads h.config begin.users tables
   pub marks : Saves h.moment h.clocks begin.clocks
 
 -- the line for a configuration that is refused
 pub record RefusesConfig (h : Handed) (line : List ℕ) : Type 0 where
-  pub refusal : ConfigRefusal
-  pub told : TellsRefusal h.config refusal
-  pub text : line ≡ refusal_text refusal ++ codes "\n"
+  pub fault : ConfigFault
+  pub told : RefusesText h.config fault
+  pub text : line ≡ refusal_line fault ++ codes "\n"
 
 -- the line for a clocks file that is no saved text, where the configuration is read
 pub record RefusesClocks (h : Handed) (line : List ℕ) : Type 0 where
-  pub toml : IsToml h.config
+  pub users : List User
+  pub tables : Tables
+  pub loads : Loads h.config users tables
   pub number : ℕ
   pub fault : IsFirstFault h.moment h.clocks number
   pub text : line ≡ refused_line h.name number

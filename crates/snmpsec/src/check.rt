@@ -4,15 +4,13 @@ ghost use Rattle.std.specs.Prelude.{◌≡◌, ◌++◌, [], ℕ, List, IfOk, If
 ghost use Rattle.std.specs.Str.{IsUtf8};
 ghost use Rattle.toml.specs.Parse.{parse_document};
 ghost use Rattle.vacm_core.specs.Allowed.{Message, Allowed};
-ghost use Rattle.vacm_core.specs.Distinct.{HasOneRowEach};
 ghost use Rattle.snmpsec.specs.Questions.{argument_name, Asked, Asks, IsContextWord, IsFirstWrong, ChecksAccess, Printed};
 ghost use Rattle.snmpsec.specs.Words.{access_word, access_status};
 
-use crate::config::{Config, ConfigFault};
 use crate::output::Output;
 use crate::words::{model_of, name_of, status_of, view_of};
 use snmp_ber::{Level, Oid};
-use snmpsec_replay::level_of;
+use snmpsec_config::{AccessConfig, level_of};
 use std::alloc::{AllocError, Global};
 use vacm_core::{Access, Vacm, ViewType};
 
@@ -66,10 +64,10 @@ pub fn check_text(alloc: Global, config: &[u8], words: &[&str; 6]) -> Result<Out
         Ok(question) => question,
         Err(argument) => return bad_word(alloc, argument),
     };
-    match Config::read(alloc, config) {
+    match AccessConfig::read(alloc, config) {
         Ok(config) => answered(alloc, answer_of(&config.access, &question)),
-        Err(ConfigFault::Refused(refusal)) => Output::refused(alloc, refusal),
-        Err(ConfigFault::OutOfMemory) => Err(AllocError),
+        Err(fault) if fault.is_memory() => Err(AllocError),
+        Err(fault) => Output::refused(alloc, &fault),
     }
 }
 
@@ -123,10 +121,9 @@ fn bad_word(alloc: Global, argument: Argument) -> Result<Output, AllocError>
 
 /// The answer of these tables.
 fn answer_of(access: &Vacm, question: &Question<'_>) -> Access
-    ensures allowed { let q = question.entry.now in
+    ensures { let q = question.entry.now in
         let message : Message = record { model = q.model; name = q.name.now; level = q.level; context = q.context.now } in
         Allowed access.now message q.view q.variable result }
-    ensures one_row_each { HasOneRowEach access.now }
 {
     access.is_access_allowed(
         question.model,

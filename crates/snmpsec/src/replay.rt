@@ -4,11 +4,11 @@ ghost use Rattle.std.specs.Prelude.{◌≡◌, IfErr, IfOk};
 ghost use Rattle.snmpsec.specs.Replay.{Begins, Handed, ReplayAnswers, ReplayStopsBy, TellsNoManager};
 ghost use Rattle.snmpsec.specs.declared.replay.NoManager.TheVariants as none;
 
-use crate::config::{Config, ConfigFault};
 use crate::merge::refused_clocks;
 use crate::output::Output;
 use engine_clock::Clocks;
 use snmp_manager::Manager;
+use snmpsec_config::Config;
 use snmpsec_replay::{ReplayFault, replay_log, write_whole};
 use std::alloc::{AllocError, Global};
 use std::io::{BufRead, Write};
@@ -91,10 +91,8 @@ fn manager_of(
 {
     let config = match Config::read(alloc, config) {
         Ok(config) => config,
-        Err(ConfigFault::Refused(refusal)) => {
-            return Err(NoManager::Refused(Output::refused(alloc, refusal)?.out));
-        }
-        Err(ConfigFault::OutOfMemory) => return Err(NoManager::OutOfMemory),
+        Err(fault) if fault.is_memory() => return Err(NoManager::OutOfMemory),
+        Err(fault) => return Err(NoManager::Refused(Output::refused(alloc, &fault)?.out)),
     };
     match Clocks::read_saved(alloc, clocks, moment) {
         Ok(clocks) => Ok(Manager::new(alloc, config.users, clocks)),

@@ -1,5 +1,5 @@
 -- What a configuration is, and why a text is none.
-use Rattle.std.specs.Prelude.{◌≡◌, ◌≢◌, ⊤, ℕ, ◌≤◌, List, ◌++◌, codes, decimal, map, Some, None, Contains, IsUtf8}
+use Rattle.std.specs.Prelude.{◌≡◌, ◌≢◌, ⊤, ℕ, List, ◌++◌, codes, decimal, map, if◌then◌else◌, Some, None, IsUtf8}
 use Rattle.toml.specs.Data.{Data, Members, table, get_item}
 use Rattle.snmpsec_config.specs.declared.rows.RowFault.{RowFault}
 use Rattle.snmpsec_config.specs.declared.rows.RowFault.TheVariants as row_faults
@@ -20,11 +20,12 @@ use Rattle.snmpsec_config.specs.declared.fault.ConfigTable.TheVariants.{User, Co
 use Rattle.snmpsec_config.specs.declared.fault.Wrong.{Wrong}
 use Rattle.snmpsec_config.specs.declared.fault.Wrong.TheVariants.{BadUser, ShortPassword, DuplicateUser, BadRow, Duplicate}
 use Rattle.snmpsec_config.specs.declared.fault.KeyFault.{KeyFault}
-use Rattle.snmpsec_config.specs.declared.fault.KeyFault.TheVariants.{Unlisted, Value}
+use Rattle.snmpsec_config.specs.declared.fault.KeyFault.TheVariants.{Unlisted, Missing, Value}
 use Rattle.snmpsec_config.specs.declared.fault.ConfigFault.{ConfigFault}
 use Rattle.snmpsec_config.specs.declared.fault.ConfigFault.TheVariants as faults
-use Rattle.snmpsec_config.specs.Keys.{at, listed, IsListed, SomeMember, table_name}
-use Rattle.snmpsec_config.specs.Values.{Disallows}
+use Rattle.snmpsec_config.specs.Keys.{at, HasOnlyListed, IsFirstUnlisted, table_name}
+use Rattle.snmpsec_config.specs.Values.{IsFirstWrong}
+use Rattle.snmpsec_config.specs.declared.keys.ValueFault.{ValueFault}
 use Rattle.snmpsec_config.specs.Documents.{IsBadTop, StandsFor, IsBadKeyAt, IsFirstBad, values_of}
 use Rattle.std.specs.Prelude.{string_bytes}
 
@@ -33,24 +34,32 @@ pub record IsDocument (text : List ℕ) (document : Members) : Type 0 where
   pub utf8 : IsUtf8 text
   pub parsed : parse_document text ≡ Some document
 
--- The document stands for rows that load, as these users and these tables.
-pub record LoadsDocument (document : Members) (loaded : List AUser) (tables : Tables) : Type 0 where
-  pub users : List UserRow
-  pub rows : Tables
+-- The text stands for these rows.
+pub record Says (text : List ℕ) (users : List UserRow) (rows : Tables) : Type 0 where
+  pub document : Members
+  pub is_document : IsDocument text document
   pub stands : StandsFor document users rows
+
+-- The text stands for these rows, and none of them is at fault.
+pub record SaysSound (text : List ℕ) (users : List UserRow) (rows : Tables) : Type 0 where
+  pub says : Says text users rows
   pub sound_users : user_rows.AreSound users
   pub sound_rows : access_rows.AreSound rows
+
+-- The text stands for rows that load, as these users and these tables.
+pub record Loads (text : List ℕ) (loaded : List AUser) (tables : Tables) : Type 0 where
+  pub users : List UserRow
+  pub rows : Tables
+  pub sound : SaysSound text users rows
   pub same_users : loaded ≡ map user_rows.user_of users
   pub same_rows : HaveSameRows rows tables
 
--- The text stands for rows that load, as these users and these tables.
-abbrev pub Loads : List ℕ → List AUser → Tables → Type 0
-Loads text loaded tables = (document : Members) × IsDocument text document × LoadsDocument document loaded tables
-
--- What is said of a row's keys: there is one that isn't listed, or the value at one that is isn't what is wanted.
+-- What is said of a row's keys, the first that is at fault: one that isn't listed, in the order of the keys; or else a listed
+-- one that is missing, or whose value isn't what is wanted there, in the order in which the table lists them.
 abbrev pub TellsKey : ConfigTable → Members → KeyFault → Type 0
-TellsKey of row (Unlisted key) = SomeMember (λ name _. (name ≡ string_bytes key) × ¬ IsListed of name) row
-TellsKey of row (Value key wanted) = Contains (listed of) key × Disallows wanted (at row key)
+TellsKey of row (Unlisted key) = IsFirstUnlisted of row (string_bytes key)
+TellsKey of row (Missing key) = HasOnlyListed of row × IsFirstWrong of row key × (at row key ≡ None)
+TellsKey of row (Value key) = HasOnlyListed of row × IsFirstWrong of row key × (at row key ≢ None)
 
 -- what is wrong with a row of users, or of view-based access
 abbrev pub TellsUser : List UserRow → ℕ → Wrong → Type 0
@@ -121,8 +130,9 @@ TellsNoRow {R} of Stands row (row_faults.Key fault) = TellsKey of row fault × (
 TellsNoRow {R} of Stands row row_faults.OutOfMemory = ⊤
 
 abbrev pub TellsUnlisted : ConfigTable → Members → RowFault → Type 0
-TellsUnlisted of row (row_faults.Key (Unlisted key)) = SomeMember (λ name _. (name ≡ string_bytes key) × ¬ IsListed of name) row
-TellsUnlisted of row (row_faults.Key (Value key wanted)) = ⊥
+TellsUnlisted of row (row_faults.Key (Unlisted key)) = IsFirstUnlisted of row (string_bytes key)
+TellsUnlisted of row (row_faults.Key (Missing key)) = ⊥
+TellsUnlisted of row (row_faults.Key (Value key)) = ⊥
 TellsUnlisted of row row_faults.OutOfMemory = ⊤
 
 -- What is told of the tables of one array.
@@ -131,6 +141,10 @@ TellsBadRow of Stands document (faults.BadKey name position fault) =
     (name ≡ of) × IsFirstBad Stands (values_of document of) position × TellsKeyAt document of position fault
 TellsBadRow of Stands document faults.OutOfMemory = ⊤
 TellsBadRow of Stands document _ = ⊥
+
+-- a fault of the value at a key
+abbrev pub key_fault : ValueFault → KeyFault
+key_fault fault = if fault.is_missing then Missing fault.key else Value fault.key
 
 -- a fault of a row's keys
 abbrev pub row_refusal : ConfigTable → ℕ → RowFault → ConfigFault

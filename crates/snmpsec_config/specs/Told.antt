@@ -1,10 +1,18 @@
--- What is told of a key, in words.
-use Rattle.std.specs.Prelude.{ℕ, List, ◌++◌, codes, string_bytes}
+-- What is wrong with a configuration and what is wanted, in words.
+use Rattle.std.specs.Prelude.{◌≡◌, ⊤, ℕ, List, ◌++◌, codes, decimal, string_bytes, Option, Some, None, IfSome, Contains}
+use Rattle.snmpsec_config.specs.declared.fault.ConfigTable.{ConfigTable}
+use Rattle.snmpsec_config.specs.declared.fault.ConfigTable.TheVariants as tables
+use Rattle.snmpsec_config.specs.declared.fault.Key.{Key}
 use Rattle.snmpsec_config.specs.declared.fault.Wanted.{Wanted}
 use Rattle.snmpsec_config.specs.declared.fault.Wanted.TheVariants as wanted
+use Rattle.snmpsec_config.specs.declared.fault.Wrong.{Wrong}
+use Rattle.snmpsec_config.specs.declared.fault.Wrong.TheVariants.{BadUser, ShortPassword, DuplicateUser, BadRow, Duplicate}
 use Rattle.snmpsec_config.specs.declared.fault.KeyFault.{KeyFault}
-use Rattle.snmpsec_config.specs.declared.fault.KeyFault.TheVariants.{Unlisted, Value}
-use Rattle.snmpsec_config.specs.Keys.{key_name}
+use Rattle.snmpsec_config.specs.declared.fault.KeyFault.TheVariants.{Unlisted, Missing, Value}
+use Rattle.snmpsec_config.specs.declared.fault.ConfigFault.{ConfigFault}
+use Rattle.snmpsec_config.specs.declared.fault.ConfigFault.TheVariants as faults
+use Rattle.snmpsec_config.specs.Keys.{key_name, table_name, listed}
+use Rattle.snmpsec_config.specs.Values.{wanted_at}
 
 abbrev pub wanted_words : Wanted → List ℕ
 wanted_words wanted.Text = codes "a text"
@@ -16,8 +24,51 @@ wanted_words wanted.Oid = codes "an object identifier in dotted decimal"
 wanted_words wanted.Mask = codes "at most 16 octets in hex"
 wanted_words wanted.Flag = codes "true or false"
 wanted_words wanted.Auth = codes "one of md5, sha1, sha256"
-wanted_words wanted.Beside = codes "auth and auth-password, both or neither"
 
-abbrev pub key_fault_text : KeyFault → List ℕ
-key_fault_text (Unlisted key) = string_bytes key ++ codes ": not a key of this table"
-key_fault_text (Value key wanted) = key_name key ++ (codes ": " ++ wanted_words wanted)
+-- what no row of the table may have
+abbrev pub bad_words : ConfigTable → List ℕ
+bad_words tables.User = codes "its name or its passwords are none that a user can have"
+bad_words tables.Context = codes "no such row"
+bad_words tables.Group = codes "a model from 1 to 2147483647 is wanted, and a name and a group that aren't empty"
+bad_words tables.Access = codes "a group that isn't empty is wanted"
+bad_words tables.Family = codes "a view that isn't empty is wanted"
+
+-- the index of the table's rows
+abbrev pub index_words : ConfigTable → List ℕ
+index_words tables.User = codes "an earlier row has this name"
+index_words tables.Context = codes "an earlier row has this name"
+index_words tables.Group = codes "an earlier row has this model and name"
+index_words tables.Access = codes "an earlier row has this group, prefix, model and level"
+index_words tables.Family = codes "an earlier row has this view and subtree"
+
+abbrev pub wrong_words : ConfigTable → Wrong → List ℕ
+wrong_words of BadUser = codes "a name of 1 to 32 octets is wanted, and a priv-password only beside auth and auth-password"
+wrong_words of ShortPassword = codes "passwords of at least 8 octets are wanted"
+wrong_words of DuplicateUser = codes "an earlier user has this name"
+wrong_words of BadRow = bad_words of
+wrong_words of Duplicate = index_words of
+
+-- words on the row at this position
+abbrev pub row_words : ConfigTable → ℕ → List ℕ → List ℕ
+row_words of position words = table_name of ++ (codes " " ++ (decimal position ++ (codes ": " ++ words)))
+
+-- a listed key that is like the one that isn't, if any is
+abbrev pub near_words : Option Key → List ℕ
+near_words None = codes ""
+near_words (Some key) = codes ", the nearest is " ++ key_name key
+
+-- what is told of a key
+abbrev pub IsKeyWords : ConfigTable → KeyFault → List ℕ → Type 0
+IsKeyWords of (Unlisted key) text =
+    (near : Option Key) × IfSome near (Contains (listed of)) × (text ≡ string_bytes key ++ (codes ": not a key of this table" ++ near_words near))
+IsKeyWords of (Missing key) text = text ≡ key_name key ++ (codes ": missing, " ++ wanted_words (wanted_at of key))
+IsKeyWords of (Value key) text = text ≡ key_name key ++ (codes ": " ++ wanted_words (wanted_at of key))
+
+-- What is wrong and what is wanted. Of a text that isn't TOML it is told in the words of the TOML reader.
+abbrev pub IsWhy : ConfigFault → List ℕ → Type 0
+IsWhy (faults.Toml fault) text = ⊤
+IsWhy (faults.Top key) text =
+    text ≡ string_bytes key ++ codes ": at the top stand the arrays of tables user, context, group, access and family, and nothing else"
+IsWhy (faults.BadKey of position fault) text = (words : List ℕ) × IsKeyWords of fault words × (text ≡ row_words of position words)
+IsWhy (faults.Row of position wrong) text = text ≡ row_words of position (wrong_words of wrong)
+IsWhy faults.OutOfMemory text = text ≡ codes "out of memory"

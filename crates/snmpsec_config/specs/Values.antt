@@ -1,16 +1,18 @@
 -- Which values are allowed at a key, and what they stand for. None is for an absent key.
-use Rattle.std.specs.Prelude.{◌≡◌, ◌≢◌, ◌⊎◌, ℕ, pos, ◌≤◌, Bool, List, [], length, Option, Some, None, Ok, option_map}
+use Rattle.std.specs.Prelude.{◌≡◌, ⊤, ◌⊎◌, ℕ, pos, ◌≤◌, Bool, List, [], ◌∷◌, length, Option, Some, None, is_none, Ok, option_map}
 use Rattle.hex.specs.Hex.{decode_of}
 use Rattle.toml.specs.Data.{Data, Members, string, integer, boolean}
-use Rattle.snmpsec_config.specs.Keys.{at}
+use Rattle.snmpsec_config.specs.Keys.{at, listed, FirstKey}
+use Rattle.snmpsec_config.specs.declared.keys.ValueFault.{ValueFault}
+use Rattle.snmpsec_config.specs.declared.fault.ConfigTable.{ConfigTable}
+use Rattle.snmpsec_config.specs.declared.fault.ConfigTable.TheVariants as tables
 use Rattle.snmpsec_config.specs.declared.fault.Key.{Key}
 use Rattle.snmpsec_config.specs.declared.fault.Key.TheVariants as keys
 use Rattle.snmp_ber.specs.Oid.{AreArcs, dotted}
 use Rattle.snmp_ber.specs.declared.level.Level.{Level}
 use Rattle.usm_keys.specs.declared.auth.Auth.{Auth}
 use Rattle.vacm_core.specs.declared.rows.Matching.{Matching}
-use Rattle.snmpsec_replay.specs.Words.{level_word}
-use Rattle.snmpsec_config.specs.Words.{auth_word, matching_word}
+use Rattle.snmpsec_config.specs.Words.{level_word, auth_word, matching_word}
 use Rattle.snmpsec_config.specs.declared.fault.Wanted.{Wanted}
 use Rattle.snmpsec_config.specs.declared.fault.Wanted.TheVariants as wanted
 
@@ -59,21 +61,80 @@ abbrev pub AreAuth : Option Data → Option Data → Option (Auth × List ℕ) �
 AreAuth protocol password None = (protocol ≡ None) × (password ≡ None)
 AreAuth protocol password (Some own) = IsText protocol (auth_word own.0) × IsText password own.1
 
--- The value isn't what is wanted.
-abbrev pub Disallows : Wanted → Option Data → Type 0
-Disallows wanted.Text value = (text : List ℕ) → ¬ IsText value text
-Disallows wanted.Name value = (name : List ℕ) → ¬ IsName value name
-Disallows wanted.Model value = (model : ℕ) → ¬ IsModel value model
-Disallows wanted.Level value = (level : Level) → ¬ IsLevel value level
-Disallows wanted.Matching value = (matching : Matching) → ¬ IsMatching value matching
-Disallows wanted.Oid value = (arcs : List ℕ) → ¬ IsOid value arcs
-Disallows wanted.Mask value = (mask : List ℕ) → ¬ IsMask value mask
-Disallows wanted.Flag value = (flag : Bool) → ¬ IsFlag value flag
-Disallows wanted.Auth value = (auth : Auth) → ¬ IsText value (auth_word auth)
-Disallows wanted.Beside value = value ≡ None
+-- ---- what is wanted at a key
 
--- What is told of a user's protocol and password: the one stands without the other, or one isn't what is wanted.
-pub record IsAuthFault (t : Members) (key : Key) (want : Wanted) : Type 0 where
-  pub among : (key ≡ keys.Auth) ⊎ (key ≡ keys.AuthPassword)
-  pub disallowed : Disallows want (at t key)
-  pub none : (own : Option (Auth × List ℕ)) → ¬ AreAuth (at t keys.Auth) (at t keys.AuthPassword) own
+abbrev pub wanted_name : ConfigTable → Wanted
+wanted_name tables.User = wanted.Text
+wanted_name tables.Context = wanted.Name
+wanted_name tables.Group = wanted.Name
+wanted_name tables.Access = wanted.Name
+wanted_name tables.Family = wanted.Name
+
+abbrev pub wanted_at : ConfigTable → Key → Wanted
+wanted_at of keys.Name = wanted_name of
+wanted_at of keys.Auth = wanted.Auth
+wanted_at of keys.AuthPassword = wanted.Text
+wanted_at of keys.PrivPassword = wanted.Text
+wanted_at of keys.Model = wanted.Model
+wanted_at of keys.Group = wanted.Name
+wanted_at of keys.Prefix = wanted.Name
+wanted_at of keys.Level = wanted.Level
+wanted_at of keys.Match = wanted.Matching
+wanted_at of keys.Read = wanted.Name
+wanted_at of keys.Write = wanted.Name
+wanted_at of keys.Notify = wanted.Name
+wanted_at of keys.View = wanted.Name
+wanted_at of keys.Subtree = wanted.Oid
+wanted_at of keys.Include = wanted.Flag
+wanted_at of keys.Mask = wanted.Mask
+
+-- The value is what is wanted.
+abbrev pub Allows : Wanted → Option Data → Type 0
+Allows wanted.Text value = (text : List ℕ) × IsText value text
+Allows wanted.Name value = (name : List ℕ) × IsName value name
+Allows wanted.Model value = (model : ℕ) × IsModel value model
+Allows wanted.Level value = (level : Level) × IsLevel value level
+Allows wanted.Matching value = (matching : Matching) × IsMatching value matching
+Allows wanted.Oid value = (arcs : List ℕ) × IsOid value arcs
+Allows wanted.Mask value = (mask : List ℕ) × IsMask value mask
+Allows wanted.Flag value = (flag : Bool) × IsFlag value flag
+Allows wanted.Auth value = (auth : Auth) × IsText value (auth_word auth)
+
+-- The row may leave the key out. A user's protocol and password are both left out, or neither. (A mask that is left out is the
+-- empty one, and so is what is wanted.)
+abbrev pub MayMiss : Members → Key → Type 0
+MayMiss row keys.Auth = at row keys.AuthPassword ≡ None
+MayMiss row keys.AuthPassword = at row keys.Auth ≡ None
+MayMiss row keys.PrivPassword = ⊤
+MayMiss row keys.Read = ⊤
+MayMiss row keys.Write = ⊤
+MayMiss row keys.Notify = ⊤
+MayMiss row keys.Name = ⊥
+MayMiss row keys.Model = ⊥
+MayMiss row keys.Group = ⊥
+MayMiss row keys.Prefix = ⊥
+MayMiss row keys.Level = ⊥
+MayMiss row keys.Match = ⊥
+MayMiss row keys.View = ⊥
+MayMiss row keys.Subtree = ⊥
+MayMiss row keys.Include = ⊥
+MayMiss row keys.Mask = ⊥
+
+-- What stands at the key is what is wanted there, or it is left out and may be.
+abbrev pub IsRightAt : ConfigTable → Members → Key → Type 0
+IsRightAt of row key = Allows (wanted_at of key) (at row key) ⊎ ((at row key ≡ None) × MayMiss row key)
+
+-- The first key, of those that the table lists, at which the row isn't right.
+abbrev pub IsFirstWrong : ConfigTable → Members → Key → Type 0
+IsFirstWrong of row key = FirstKey (IsRightAt of row) (listed of) key
+
+-- ---- between the calls
+
+-- what is told of the value at a key that isn't right
+abbrev pub value_fault : Option Data → Key → ValueFault
+value_fault value key = record { key = key; is_missing = is_none value }
+
+-- what is told of a user's protocol and password
+pub record IsAuthFault (row : Members) (fault : ValueFault) : Type 0 where
+  pub first : FirstKey (IsRightAt tables.User row) (keys.Auth ∷ keys.AuthPassword ∷ []) fault.key
+  pub told : fault ≡ value_fault (at row fault.key) fault.key

@@ -1,12 +1,15 @@
 //! Why a configuration is refused, and how that is printed.
 
-ghost use Rattle.std.specs.Prelude.{◌≡◌, ◌≢◌, Some, MatchBool};
+ghost use Rattle.std.specs.Prelude.{◌≡◌, ◌≢◌, ◌++◌, codes, Option, Some, IfOk, IfSome, Contains, MatchBool, string_bytes};
 ghost use Rattle.snmpsec_config.specs.Keys.{table_name, key_name, listed, IsListed};
 ghost use Rattle.snmpsec_config.specs.Refusals.{user_refusal, vacm_refusal, wrong_name, refusal_line};
-ghost use Rattle.snmpsec_config.specs.Told.{wanted_words, key_fault_text};
+ghost use Rattle.snmpsec_config.specs.Told.{wanted_words, bad_words, index_words, wrong_words, near_words, IsKeyWords, IsWhy};
+ghost use Rattle.snmpsec_config.specs.Values.{wanted_at};
+ghost use Rattle.snmpsec_config.specs.declared.fault.Key.{Key as AKey};
 ghost use Rattle.snmpsec_config.specs.declared.fault.ConfigFault.TheVariants.{OutOfMemory};
 
-use std::alloc::{AllocError, AllocFailed};
+use crate::near::nearest;
+use std::alloc::{AllocError, AllocFailed, Global};
 use std::fmt;
 use thiserror::Error;
 use usm_core::UserFault;
@@ -42,7 +45,7 @@ impl ConfigTable {
     }
 
     /// The keys that it lists.
-    fn keys(self) -> &'static [Key]
+    pub(crate) fn keys(self) -> &'static [Key]
         ensures { result.now ≡ listed self }
     {
         match self {
@@ -68,6 +71,33 @@ impl ConfigTable {
         ensures { MatchBool result (IsListed self name.now) (¬ IsListed self name.now) }
     {
         self.keys().iter().any(|key| key.name() == name)
+    }
+
+    /// What no row of it may have, in words.
+    fn bad_words(self) -> &'static str
+        ensures { result.now ≡ bad_words self }
+    {
+        match self {
+            ConfigTable::User => "its name or its passwords are none that a user can have",
+            ConfigTable::Context => "no such row",
+            ConfigTable::Group => {
+                "a model from 1 to 2147483647 is wanted, and a name and a group that aren't empty"
+            }
+            ConfigTable::Access => "a group that isn't empty is wanted",
+            ConfigTable::Family => "a view that isn't empty is wanted",
+        }
+    }
+
+    /// That a row has the index of an earlier one, in words.
+    fn index_words(self) -> &'static str
+        ensures { result.now ≡ index_words self }
+    {
+        match self {
+            ConfigTable::User | ConfigTable::Context => "an earlier row has this name",
+            ConfigTable::Group => "an earlier row has this model and name",
+            ConfigTable::Access => "an earlier row has this group, prefix, model and level",
+            ConfigTable::Family => "an earlier row has this view and subtree",
+        }
     }
 }
 
@@ -161,11 +191,32 @@ pub enum Wanted {
     Mask,
     Flag,
     Auth,
-    /// The key beside it is there.
-    Beside,
 }
 
 impl Wanted {
+    /// What a table wants at a key.
+    pub fn at(table: ConfigTable, key: Key) -> Wanted
+        ensures { result ≡ wanted_at table key }
+    {
+        match key {
+            Key::Name => match table {
+                ConfigTable::User => Wanted::Text,
+                _ => Wanted::Name,
+            },
+            Key::AuthPassword | Key::PrivPassword => Wanted::Text,
+            Key::Auth => Wanted::Auth,
+            Key::Model => Wanted::Model,
+            Key::Level => Wanted::Level,
+            Key::Match => Wanted::Matching,
+            Key::Subtree => Wanted::Oid,
+            Key::Include => Wanted::Flag,
+            Key::Mask => Wanted::Mask,
+            Key::Group | Key::Prefix | Key::Read | Key::Write | Key::Notify | Key::View => {
+                Wanted::Name
+            }
+        }
+    }
+
     /// What is wanted, in words.
     pub fn words(self) -> &'static str
         ensures { result.now ≡ wanted_words self }
@@ -180,7 +231,6 @@ impl Wanted {
             Wanted::Mask => "at most 16 octets in hex",
             Wanted::Flag => "true or false",
             Wanted::Auth => "one of md5, sha1, sha256",
-            Wanted::Beside => "auth and auth-password, both or neither",
         }
     }
 }
@@ -198,18 +248,34 @@ impl fmt::Display for Wanted {
 pub enum KeyFault {
     /// The table doesn't list this key.
     Unlisted { key: String },
-    /// The value at this key isn't what is wanted, or is missing.
-    Value { key: Key, wanted: Wanted },
+    /// This key is missing.
+    Missing { key: Key },
+    /// The value at this key isn't what is wanted.
+    Value { key: Key },
 }
 
-impl fmt::Display for KeyFault {
-    ghost output = { λ fault. Some (key_fault_text fault) };
-
-    fn fmt<W: fmt::Write>(&self, f: &mut fmt::Formatter<W>) -> fmt::Result {
+impl KeyFault {
+    /// What is wrong with a row of this table, and what is wanted, in words.
+    fn words(&self, alloc: Global, table: ConfigTable) -> Result<String, AllocError>
+        ensures { IfOk result (λ words. IsKeyWords table self.now (string_bytes words)) }
+    {
         match self {
-            KeyFault::Unlisted { key } => write!(f, "{key}: not a key of this table"),
-            KeyFault::Value { key, wanted } => write!(f, "{key}: {wanted}"),
+            KeyFault::Unlisted { key } => unlisted_words(alloc, table, key.as_str()),
+            KeyFault::Missing { key } => {
+                format!(in alloc; "{key}: missing, {}", Wanted::at(table, *key))
+            }
+            KeyFault::Value { key } => format!(in alloc; "{key}: {}", Wanted::at(table, *key)),
         }
+    }
+}
+
+/// What is told of a key that the table doesn't list.
+fn unlisted_words(alloc: Global, table: ConfigTable, key: &str) -> Result<String, AllocError>
+    ensures { IfOk result (λ words. (near : Option AKey) × IfSome near (Contains (listed table)) × (string_bytes words ≡ key.now ++ (codes ": not a key of this table" ++ near_words near))) }
+{
+    match nearest(table, key) {
+        Some(near) => format!(in alloc; "{key}: not a key of this table, the nearest is {near}"),
+        None => format!(in alloc; "{key}: not a key of this table"),
     }
 }
 
@@ -267,6 +333,21 @@ impl Wrong {
             Wrong::Duplicate => "Duplicate",
         }
     }
+
+    /// What is wrong with a row of this table, and what is wanted, in words.
+    fn words(self, table: ConfigTable) -> &'static str
+        ensures { result.now ≡ wrong_words table self }
+    {
+        match self {
+            Wrong::BadUser => {
+                "a name of 1 to 32 octets is wanted, and a priv-password only beside auth and auth-password"
+            }
+            Wrong::ShortPassword => "passwords of at least 8 octets are wanted",
+            Wrong::DuplicateUser => "an earlier user has this name",
+            Wrong::BadRow => table.bad_words(),
+            Wrong::Duplicate => table.index_words(),
+        }
+    }
 }
 
 impl fmt::Display for Wrong {
@@ -284,6 +365,49 @@ impl ConfigFault {
     {
         matches!(self, ConfigFault::OutOfMemory)
     }
+
+    /// What is wrong with the text and what is wanted, in words, for who wrote it. Of a text that isn't TOML it is where in the
+    /// text, counted from 1, and the TOML reader's own words.
+    pub fn why(&self, alloc: Global) -> Result<String, AllocError>
+        ensures { IfOk result (λ words. IsWhy self.now (string_bytes words)) }
+    {
+        match self {
+            ConfigFault::Toml { fault } => toml_words(alloc, fault),
+            ConfigFault::Top { key } => format!(in alloc;
+                "{key}: at the top stand the arrays of tables user, context, group, access and family, and nothing else"
+            ),
+            ConfigFault::BadKey {
+                table,
+                position,
+                fault,
+            } => {
+                let words = fault.words(alloc, *table)?;
+                format!(in alloc; "{table} {position}: {words}")
+            }
+            ConfigFault::Row {
+                table,
+                position,
+                wrong,
+            } => {
+                let words = wrong.words(*table);
+                format!(in alloc; "{table} {position}: {words}")
+            }
+            ConfigFault::OutOfMemory => format!(in alloc; "out of memory"),
+        }
+    }
+}
+
+/// The words of the TOML reader, in one line.
+fn toml_words(alloc: Global, fault: &toml::de::Error) -> Result<String, AllocError> {
+    let text = format!(in alloc; "{fault}")?;
+    let mut words = String::new(alloc);
+    for line in text.as_str().trim().split('\n') {
+        if !words.as_str().is_empty() {
+            words.push_str(": ")?;
+        }
+        words.push_str(line)?;
+    }
+    Ok(words)
 }
 
 impl fmt::Display for ConfigFault {

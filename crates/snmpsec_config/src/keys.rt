@@ -1,19 +1,19 @@
 //! The values at the keys of a row.
 
-ghost use Rattle.std.specs.Prelude.{◌≡◌, ◌≤◌, ℕ, List, length, Ok, Bool, IfOk, IfErr, Option, MatchOption, option_map};
+ghost use Rattle.std.specs.Prelude.{◌≡◌, ◌≤◌, ℕ, List, length, Ok, Bool, IfOk, IfErr, Option, MatchOption, option_map, is_some};
 ghost use Rattle.hex.specs.Hex.{decode_of};
 ghost use Rattle.snmp_ber.specs.declared.level.Level.{Level as ALevel};
 ghost use Rattle.vacm_core.specs.declared.rows.Matching.{Matching as AMatching};
 ghost use Rattle.toml.specs.View.{view, table_view};
 ghost use Rattle.snmpsec_config.specs.Keys.{at, key_name};
-ghost use Rattle.snmpsec_config.specs.Values.{IsText, IsTextIfAny, IsTextOrEmpty, IsName, IsNameOrEmpty, IsModel, IsLevel, IsMatching, IsOid, IsMask, IsFlag, AreAuth, IsAuthFault};
+ghost use Rattle.snmpsec_config.specs.Values.{IsText, IsTextIfAny, IsTextOrEmpty, IsName, IsNameOrEmpty, IsModel, IsLevel, IsMatching, IsOid, IsMask, IsFlag, AreAuth, IsAuthFault, value_fault};
 ghost use Rattle.snmpsec_config.specs.declared.fault.Key.TheVariants as keys;
-ghost use Rattle.snmpsec_config.specs.declared.fault.Wanted.TheVariants as wanted;
+ghost use Rattle.snmpsec_config.specs.Words.{auth_word};
+ghost use Rattle.usm_keys.specs.declared.auth.Auth.{Auth as AnAuth};
 
-use crate::fault::{Key, Wanted};
-use crate::words::{MODEL_MAX, auth_of, matching_of};
+use crate::fault::Key;
+use crate::words::{MODEL_MAX, auth_of, level_of, matching_of};
 use snmp_ber::{Level, Oid};
-use snmpsec_replay::level_of;
 use toml::{Table, Value};
 use usm_keys::Auth;
 use vacm_core::{Mask, Matching, Name};
@@ -21,11 +21,11 @@ use vacm_core::{Mask, Matching, Name};
 /// The most octets of a mask (vacmViewTreeFamilyMask, RFC 3415, section 4).
 const MASK_MAX: usize = 16;
 
-/// A value that isn't what is wanted.
+/// A key that is missing, or whose value isn't what is wanted.
 #[derive(Clone, Copy, Debug, PartialEq, Eq)]
 pub(crate) struct ValueFault {
     pub(crate) key: Key,
-    pub(crate) wanted: Wanted,
+    pub(crate) is_missing: bool,
 }
 
 /// The value at a key.
@@ -35,19 +35,24 @@ fn value<'a>(row: &'a Table, key: Key) -> Option<&'a Value>
     row.get(key.name())
 }
 
+/// The fault of the value at a key.
+fn fault(row: &Table, key: Key) -> ValueFault
+    ensures { result ≡ value_fault (at (table_view row.now) key) key }
+{
+    let is_missing = value(row, key).is_none();
+    ValueFault { key, is_missing }
+}
+
 /// The text at a key, if any.
 pub(crate) fn optional_text<'a>(row: &'a Table, key: Key) -> Result<Option<&'a str>, ValueFault>
     ensures ok { IfOk result (λ text. IsTextIfAny (at (table_view row.now) key) (option_map (λ t. t.now) text)) }
-    ensures fault { IfErr result (λ f. (f.key ≡ key) × (f.wanted ≡ wanted.Text) × ((text : Option (List ℕ)) → ¬ IsTextIfAny (at (table_view row.now) key) text)) }
+    ensures fault { IfErr result (λ f. (f ≡ value_fault (at (table_view row.now) key) key) × ((text : Option (List ℕ)) → ¬ IsTextIfAny (at (table_view row.now) key) text)) }
 {
     match value(row, key) {
         None => Ok(None),
         Some(value) => match value.as_str() {
             Some(text) => Ok(Some(text)),
-            None => Err(ValueFault {
-                key,
-                wanted: Wanted::Text,
-            }),
+            None => Err(fault(row, key)),
         },
     }
 }
@@ -72,58 +77,50 @@ fn text_or_empty<'a>(row: &'a Table, key: Key) -> Option<&'a str>
 /// The text at a key.
 pub(crate) fn required_text<'a>(row: &'a Table, key: Key) -> Result<&'a str, ValueFault>
     ensures ok { IfOk result (λ text. IsText (at (table_view row.now) key) text.now) }
-    ensures fault { IfErr result (λ f. (f.key ≡ key) × (f.wanted ≡ wanted.Text) × ((text : List ℕ) → ¬ IsText (at (table_view row.now) key) text)) }
+    ensures fault { IfErr result (λ f. (f ≡ value_fault (at (table_view row.now) key) key) × ((text : List ℕ) → ¬ IsText (at (table_view row.now) key) text)) }
 {
     match text(row, key) {
         Some(text) => Ok(text),
-        None => Err(ValueFault {
-            key,
-            wanted: Wanted::Text,
-        }),
+        None => Err(fault(row, key)),
     }
 }
 
 /// The name at a key, of at most 32 octets.
 pub(crate) fn name(row: &Table, key: Key) -> Result<Name, ValueFault>
     ensures ok { IfOk result (λ name. IsName (at (table_view row.now) key) name) }
-    ensures fault { IfErr result (λ f. (f.key ≡ key) × (f.wanted ≡ wanted.Name) × ((name : List ℕ) → ¬ IsName (at (table_view row.now) key) name)) }
+    ensures fault { IfErr result (λ f. (f ≡ value_fault (at (table_view row.now) key) key) × ((name : List ℕ) → ¬ IsName (at (table_view row.now) key) name)) }
 {
-    let wanted = Wanted::Name;
     let Some(text) = text(row, key) else {
-        return Err(ValueFault { key, wanted });
+        return Err(fault(row, key));
     };
     match Name::of(text.as_bytes()) {
         Some(name) => Ok(name),
-        None => Err(ValueFault { key, wanted }),
+        None => Err(fault(row, key)),
     }
 }
 
 /// The name at a key, empty where the key is absent.
 pub(crate) fn name_or_empty(row: &Table, key: Key) -> Result<Name, ValueFault>
     ensures ok { IfOk result (λ name. IsNameOrEmpty (at (table_view row.now) key) name) }
-    ensures fault { IfErr result (λ f. (f.key ≡ key) × (f.wanted ≡ wanted.Name) × ((name : List ℕ) → ¬ IsNameOrEmpty (at (table_view row.now) key) name)) }
+    ensures fault { IfErr result (λ f. (f ≡ value_fault (at (table_view row.now) key) key) × ((name : List ℕ) → ¬ IsNameOrEmpty (at (table_view row.now) key) name)) }
 {
-    let wanted = Wanted::Name;
     let Some(text) = text_or_empty(row, key) else {
-        return Err(ValueFault { key, wanted });
+        return Err(fault(row, key));
     };
     match Name::of(text.as_bytes()) {
         Some(name) => Ok(name),
-        None => Err(ValueFault { key, wanted }),
+        None => Err(fault(row, key)),
     }
 }
 
 /// The number of a security model, or 0.
 pub(crate) fn model(row: &Table, key: Key) -> Result<u32, ValueFault>
     ensures ok { IfOk result (λ model. IsModel (at (table_view row.now) key) model) }
-    ensures fault { IfErr result (λ f. (f.key ≡ key) × (f.wanted ≡ wanted.Model) × ((model : ℕ) → ¬ IsModel (at (table_view row.now) key) model)) }
+    ensures fault { IfErr result (λ f. (f ≡ value_fault (at (table_view row.now) key) key) × ((model : ℕ) → ¬ IsModel (at (table_view row.now) key) model)) }
 {
     match number(row, key) {
         Some(model) => Ok(model),
-        None => Err(ValueFault {
-            key,
-            wanted: Wanted::Model,
-        }),
+        None => Err(fault(row, key)),
     }
 }
 
@@ -142,60 +139,56 @@ fn number(row: &Table, key: Key) -> Option<u32>
 /// The security level whose name stands at a key.
 pub(crate) fn level(row: &Table, key: Key) -> Result<Level, ValueFault>
     ensures ok { IfOk result (IsLevel (at (table_view row.now) key)) }
-    ensures fault { IfErr result (λ f. (f.key ≡ key) × (f.wanted ≡ wanted.Level) × ((level : ALevel) → ¬ IsLevel (at (table_view row.now) key) level)) }
+    ensures fault { IfErr result (λ f. (f ≡ value_fault (at (table_view row.now) key) key) × ((level : ALevel) → ¬ IsLevel (at (table_view row.now) key) level)) }
 {
-    let wanted = Wanted::Level;
     let Some(text) = text(row, key) else {
-        return Err(ValueFault { key, wanted });
+        return Err(fault(row, key));
     };
     match level_of(text) {
         Some(level) => Ok(level),
-        None => Err(ValueFault { key, wanted }),
+        None => Err(fault(row, key)),
     }
 }
 
 /// How a context prefix is compared.
 pub(crate) fn matching(row: &Table, key: Key) -> Result<Matching, ValueFault>
     ensures ok { IfOk result (IsMatching (at (table_view row.now) key)) }
-    ensures fault { IfErr result (λ f. (f.key ≡ key) × (f.wanted ≡ wanted.Matching) × ((matching : AMatching) → ¬ IsMatching (at (table_view row.now) key) matching)) }
+    ensures fault { IfErr result (λ f. (f ≡ value_fault (at (table_view row.now) key) key) × ((matching : AMatching) → ¬ IsMatching (at (table_view row.now) key) matching)) }
 {
-    let wanted = Wanted::Matching;
     let Some(text) = text(row, key) else {
-        return Err(ValueFault { key, wanted });
+        return Err(fault(row, key));
     };
     match matching_of(text) {
         Some(matching) => Ok(matching),
-        None => Err(ValueFault { key, wanted }),
+        None => Err(fault(row, key)),
     }
 }
 
 /// The identifier whose dotted text stands at a key.
 pub(crate) fn oid(row: &Table, key: Key) -> Result<Oid, ValueFault>
     ensures ok { IfOk result (λ oid. IsOid (at (table_view row.now) key) oid) }
-    ensures fault { IfErr result (λ f. (f.key ≡ key) × (f.wanted ≡ wanted.Oid) × ((arcs : List ℕ) → ¬ IsOid (at (table_view row.now) key) arcs)) }
+    ensures fault { IfErr result (λ f. (f ≡ value_fault (at (table_view row.now) key) key) × ((arcs : List ℕ) → ¬ IsOid (at (table_view row.now) key) arcs)) }
 {
-    let wanted = Wanted::Oid;
     let Some(text) = text(row, key) else {
-        return Err(ValueFault { key, wanted });
+        return Err(fault(row, key));
     };
     match Oid::from_text(text) {
         Some(oid) => Ok(oid),
-        None => Err(ValueFault { key, wanted }),
+        None => Err(fault(row, key)),
     }
 }
 
 /// The truth value at a key.
 pub(crate) fn flag(row: &Table, key: Key) -> Result<bool, ValueFault>
     ensures ok { IfOk result (IsFlag (at (table_view row.now) key)) }
-    ensures fault { IfErr result (λ f. (f.key ≡ key) × (f.wanted ≡ wanted.Flag) × ((flag : Bool) → ¬ IsFlag (at (table_view row.now) key) flag)) }
+    ensures fault { IfErr result (λ f. (f ≡ value_fault (at (table_view row.now) key) key) × ((flag : Bool) → ¬ IsFlag (at (table_view row.now) key) flag)) }
 {
-    let wanted = Wanted::Flag;
     let Some(value) = value(row, key) else {
-        return Err(ValueFault { key, wanted });
+        return Err(fault(row, key));
     };
     match value.as_bool() {
         Some(flag) => Ok(flag),
-        None => Err(ValueFault { key, wanted }),
+        None => Err(fault(row, key)),
     }
 }
 
@@ -216,41 +209,50 @@ fn mask_of(digits: &str) -> Option<Mask>
 /// The mask at a key, empty where the key is absent.
 pub(crate) fn mask(row: &Table, key: Key) -> Result<Mask, ValueFault>
     ensures ok { IfOk result (λ mask. IsMask (at (table_view row.now) key) mask) }
-    ensures fault { IfErr result (λ f. (f.key ≡ key) × (f.wanted ≡ wanted.Mask) × ((mask : List ℕ) → ¬ IsMask (at (table_view row.now) key) mask)) }
+    ensures fault { IfErr result (λ f. (f ≡ value_fault (at (table_view row.now) key) key) × ((mask : List ℕ) → ¬ IsMask (at (table_view row.now) key) mask)) }
 {
-    let wanted = Wanted::Mask;
     let Some(digits) = text_or_empty(row, key) else {
-        return Err(ValueFault { key, wanted });
+        return Err(fault(row, key));
     };
     match mask_of(digits) {
         Some(mask) => Ok(mask),
-        None => Err(ValueFault { key, wanted }),
+        None => Err(fault(row, key)),
     }
+}
+
+/// The protocol whose name stands at a key.
+fn protocol(row: &Table, key: Key) -> Result<Auth, ValueFault>
+    ensures ok { IfOk result (λ auth. IsText (at (table_view row.now) key) (auth_word auth)) }
+    ensures fault { IfErr result (λ f. (f ≡ value_fault (at (table_view row.now) key) key) × ((auth : AnAuth) → ¬ IsText (at (table_view row.now) key) (auth_word auth))) }
+{
+    let Some(text) = text(row, key) else {
+        return Err(fault(row, key));
+    };
+    match auth_of(text) {
+        Some(auth) => Ok(auth),
+        None => Err(fault(row, key)),
+    }
+}
+
+/// Whether the key stands in the row.
+fn has(row: &Table, key: Key) -> bool
+    ensures { result ≡ is_some (at (table_view row.now) key) }
+{
+    value(row, key).is_some()
 }
 
 /// A user's protocol and password for authentication: both or neither.
 pub(crate) fn auth<'a>(row: &'a Table) -> Result<Option<(Auth, &'a str)>, ValueFault>
     ensures ok { IfOk result (λ own. AreAuth (at (table_view row.now) keys.Auth) (at (table_view row.now) keys.AuthPassword) (option_map (λ o. (o.0, o.1.now)) own)) }
-    ensures fault { IfErr result (λ f. IsAuthFault (table_view row.now) f.key f.wanted) }
+    ensures fault { IfErr result (IsAuthFault (table_view row.now)) }
 {
-    let protocol = optional_text(row, Key::Auth)?;
-    let password = optional_text(row, Key::AuthPassword)?;
-    match (protocol, password) {
-        (None, None) => Ok(None),
-        (None, Some(_)) => Err(ValueFault {
-            key: Key::Auth,
-            wanted: Wanted::Beside,
-        }),
-        (Some(_), None) => Err(ValueFault {
-            key: Key::AuthPassword,
-            wanted: Wanted::Beside,
-        }),
-        (Some(protocol), Some(password)) => match auth_of(protocol) {
-            Some(auth) => Ok(Some((auth, password))),
-            None => Err(ValueFault {
-                key: Key::Auth,
-                wanted: Wanted::Auth,
-            }),
-        },
+    if !has(row, Key::Auth) {
+        if has(row, Key::AuthPassword) {
+            return Err(fault(row, Key::Auth));
+        }
+        return Ok(None);
     }
+    let auth = protocol(row, Key::Auth)?;
+    let password = required_text(row, Key::AuthPassword)?;
+    Ok(Some((auth, password)))
 }

@@ -1,18 +1,22 @@
 //! The configuration: users, contexts, groups, access rows and view families, as arrays of tables in TOML.
 //!
 //! `Config::read` promises which rows a text stands for, and why a text is refused. A fault of a key says which key and what is
-//! wanted there.
+//! wanted there. `AccessConfig::read` does the same without the keys of the users' passwords.
 #![tactic(auto)]
 
 mod config;
 mod fault;
 mod keys;
+mod laws;
+mod near;
 mod rows;
+mod users;
 mod words;
 
-pub use config::Config;
+pub use config::{AccessConfig, Config, ConfigRows};
 pub use fault::{ConfigFault, ConfigTable, Key, KeyFault, Wanted, Wrong};
-pub use words::MODEL_MAX;
+pub use laws::one_configuration;
+pub use words::{MODEL_MAX, level_of, level_word};
 
 #[cfg(test)]
 mod tests;

@@ -49,142 +49,149 @@ type Mistake = (&'static str, &'static str, &'static str);
 
 /// Typical mistakes.
 static MISTAKES: [Mistake; 27] = [
-    ("user = ", "refused config toml", ""),
-    ("users = []", "refused config top", "users"),
-    ("user = 1", "refused config top", "user"),
-    ("[user]\nname = 'ann'", "refused config top", "user"),
+    (
+        "user = ",
+        "refused config toml",
+        "TOML parse error at line 1, column 8: invalid value, expected a string, number, boolean, date-time, array or inline table",
+    ),
+    (
+        "users = []",
+        "refused config top",
+        "users: at the top stand the arrays of tables user, context, group, access and family, and nothing else",
+    ),
+    (
+        "user = 1",
+        "refused config top",
+        "user: at the top stand the arrays of tables user, context, group, access and family, and nothing else",
+    ),
+    (
+        "[user]\nname = 'ann'",
+        "refused config top",
+        "user: at the top stand the arrays of tables user, context, group, access and family, and nothing else",
+    ),
     // a key that isn't listed, or is missing
     (
         "user = [{ name = 'ann', password = 'maplesyrup' }]",
         "refused config user 0 BadKey",
-        "password: not a key of this table",
+        "user 0: password: not a key of this table, the nearest is auth-password",
     ),
     (
         "user = [{ auth = 'md5', auth-password = 'maplesyrup' }]",
         "refused config user 0 BadKey",
-        "name: a text",
+        "user 0: name: missing, a text",
     ),
     (
         "access = [{ group = 'g', prefix = '', model = 3, level = 'authPriv', match = 'exact', view = 'v' }]",
         "refused config access 0 BadKey",
-        "view: not a key of this table",
+        "access 0: view: not a key of this table",
     ),
     (
         "access = [{ group = 'g', prefix = '', model = 3, level = 'authPriv' }]",
         "refused config access 0 BadKey",
-        "match: one of exact, prefix",
+        "access 0: match: missing, one of exact, prefix",
     ),
     (
         "family = [{ view = 'v', subtree = '1', included = true }]",
         "refused config family 0 BadKey",
-        "included: not a key of this table",
+        "family 0: included: not a key of this table, the nearest is include",
     ),
     (
         "family = [{ view = 'v', subtree = '1' }]",
         "refused config family 0 BadKey",
-        "include: true or false",
+        "family 0: include: missing, true or false",
     ),
     // a value that isn't what is wanted
     (
         "user = [{ name = 'ann', auth = 'MD5', auth-password = 'maplesyrup' }]",
         "refused config user 0 BadKey",
-        "auth: one of md5, sha1, sha256",
+        "user 0: auth: one of md5, sha1, sha256",
     ),
     (
         "user = [{ name = 'ann' }, { name = 'bob', auth = 'md5' }]",
         "refused config user 1 BadKey",
-        "auth-password: auth and auth-password, both or neither",
+        "user 1: auth-password: missing, a text",
     ),
     (
         "user = [{ name = 'ann', auth-password = 'maplesyrup' }]",
         "refused config user 0 BadKey",
-        "auth: auth and auth-password, both or neither",
+        "user 0: auth: missing, one of md5, sha1, sha256",
     ),
     (
         "user = [{ name = 'ann', priv-password = 12345678 }]",
         "refused config user 0 BadKey",
-        "priv-password: a text",
+        "user 0: priv-password: a text",
     ),
     (
         "context = [{ name = 'aaaaaaaaaaaaaaaaaaaaaaaaaaaaaaaaa' }]",
         "refused config context 0 BadKey",
-        "name: a text of at most 32 octets",
+        "context 0: name: a text of at most 32 octets",
     ),
     (
         "group = [{ model = 'usm', name = 'ann', group = 'g' }]",
         "refused config group 0 BadKey",
-        "model: a whole number from 0 to 2147483647",
+        "group 0: model: a whole number from 0 to 2147483647",
     ),
     (
         "group = [{ model = 2147483648, name = 'ann', group = 'g' }]",
         "refused config group 0 BadKey",
-        "model: a whole number from 0 to 2147483647",
+        "group 0: model: a whole number from 0 to 2147483647",
     ),
     (
         "access = [{ group = 'g', prefix = '', model = 3, level = 'priv', match = 'exact' }]",
         "refused config access 0 BadKey",
-        "level: one of noAuthNoPriv, authNoPriv, authPriv",
+        "access 0: level: one of noAuthNoPriv, authNoPriv, authPriv",
     ),
     (
         "family = [{ view = 'v', subtree = '.1.3.6', include = true }]",
         "refused config family 0 BadKey",
-        "subtree: an object identifier in dotted decimal",
+        "family 0: subtree: an object identifier in dotted decimal",
     ),
     (
         "family = [{ view = 'v', subtree = '1', include = true, mask = 'f' }]",
         "refused config family 0 BadKey",
-        "mask: at most 16 octets in hex",
+        "family 0: mask: at most 16 octets in hex",
     ),
     (
         "family = [{ view = 'v', subtree = '1', include = 'yes' }]",
         "refused config family 0 BadKey",
-        "include: true or false",
+        "family 0: include: true or false",
     ),
     // rows whose keys are right
     (
         "user = [{ name = '' }]",
         "refused config user 0 BadUser",
-        "",
+        "user 0: a name of 1 to 32 octets is wanted, and a priv-password only beside auth and auth-password",
     ),
     (
         "user = [{ name = 'ann', auth = 'md5', auth-password = 'seven77' }]",
         "refused config user 0 ShortPassword",
-        "",
+        "user 0: passwords of at least 8 octets are wanted",
     ),
     (
         "user = [{ name = 'ann' }, { name = 'ann' }]",
         "refused config user 1 DuplicateUser",
-        "",
+        "user 1: an earlier user has this name",
     ),
     (
         "group = [{ model = 0, name = 'ann', group = 'g' }]",
         "refused config group 0 BadRow",
-        "",
+        "group 0: a model from 1 to 2147483647 is wanted, and a name and a group that aren't empty",
     ),
     (
         "context = [{ name = '' }, { name = '' }]",
         "refused config context 1 Duplicate",
-        "",
+        "context 1: an earlier row has this name",
     ),
     // the first of two
     (
         "family = [{ }]\naccess = [{ }]\ncontext = [{ name = '' }, { }]",
         "refused config context 1 BadKey",
-        "name: a text of at most 32 octets",
+        "context 1: name: missing, a text of at most 32 octets",
     ),
 ];
 
 fn mistakes() -> &'static [Mistake] {
     &MISTAKES
-}
-
-/// What is told beside the line of a refusal.
-fn detail(alloc: Global, fault: &ConfigFault) -> Result<String, AllocError> {
-    match fault {
-        ConfigFault::Top { key } => key.clone(),
-        ConfigFault::BadKey { fault, .. } => format!(in alloc; "{fault}"),
-        _ => Ok(String::new(alloc)),
-    }
 }
 
 /// The fault of a text that is refused, or None where it is read.
@@ -202,7 +209,7 @@ fn a_mistake_is_told_with_its_key(rt: HostRuntime) -> Result<(), Fail> {
         let fault = fault_of(rt.alloc(), text)?.ok_or("a refusal")?;
         let told = format!(in rt.alloc(); "{fault}")?;
         assert_eq!(rt; told.as_str(), *line, "{text}");
-        let told = detail(rt.alloc(), &fault)?;
+        let told = fault.why(rt.alloc())?;
         assert_eq!(rt; told.as_str(), *wanted, "{text}");
     }
     Ok(())
@@ -263,6 +270,23 @@ fn users_have_the_levels_of_their_keys(rt: HostRuntime) -> Result<(), Fail> {
 fn nothing_is_a_configuration_too(rt: HostRuntime) -> Result<(), Fail> {
     for text in ["", "user = []", "[[context]]\nname = ''"] {
         assert!(rt; fault_of(rt.alloc(), text)?.is_none(), "{text}");
+    }
+    Ok(())
+}
+
+#[test]
+fn each_level_has_one_word(rt: HostRuntime) -> Result<(), Fail> {
+    let words = [
+        (Level::NoAuthNoPriv, "noAuthNoPriv"),
+        (Level::AuthNoPriv, "authNoPriv"),
+        (Level::AuthPriv, "authPriv"),
+    ];
+    for (level, word) in words {
+        assert_eq!(rt; level_word(level), word);
+        assert_eq!(rt; level_of(word), Some(level));
+    }
+    for word in ["", "AuthPriv", "authpriv", "authPriv ", "priv"] {
+        assert_eq!(rt; level_of(word), None);
     }
     Ok(())
 }

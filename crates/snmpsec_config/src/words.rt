@@ -1,15 +1,41 @@
-//! The words of a configuration.
+//! The words of a configuration, and of what the program prints of levels.
 
 ghost use Rattle.std.specs.Prelude.{◌≡◌, ◌≢◌, IfSome, IfNone, Some};
+ghost use Rattle.snmp_ber.specs.declared.level.Level.{Level as ALevel};
 ghost use Rattle.usm_keys.specs.declared.auth.Auth.{Auth as AnAuth};
 ghost use Rattle.vacm_core.specs.declared.rows.Matching.{Matching as AMatching};
-ghost use Rattle.snmpsec_config.specs.Words.{auth_word, matching_word};
+ghost use Rattle.snmpsec_config.specs.Words.{level_word, auth_word, matching_word};
 
+use snmp_ber::Level;
 use usm_keys::Auth;
 use vacm_core::Matching;
 
 /// The greatest number of a security model (SnmpSecurityModel, RFC 3411, section 5).
 pub const MODEL_MAX: u32 = 2_147_483_647;
+
+/// The word for a level.
+pub fn level_word(level: Level) -> &'static str
+    ensures { result.now ≡ level_word level }
+{
+    match level {
+        Level::NoAuthNoPriv => "noAuthNoPriv",
+        Level::AuthNoPriv => "authNoPriv",
+        Level::AuthPriv => "authPriv",
+    }
+}
+
+/// The level of this word.
+pub fn level_of(word: &str) -> Option<Level>
+    ensures found { IfSome result (λ level. word.now ≡ level_word level) }
+    ensures all { (level : ALevel) → word.now ≡ level_word level → result ≡ Some level }
+{
+    match word {
+        "noAuthNoPriv" => Some(Level::NoAuthNoPriv),
+        "authNoPriv" => Some(Level::AuthNoPriv),
+        "authPriv" => Some(Level::AuthPriv),
+        _ => None,
+    }
+}
 
 /// The protocol of this name.
 pub(crate) fn auth_of(word: &str) -> Option<Auth>

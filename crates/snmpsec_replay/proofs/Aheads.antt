@@ -3,8 +3,8 @@ use Rattle.std.proofs.Common.{◌≡◌, ◌≢◌, ℕ, ◌+◌, ◌-◌, ◌<�
 use Rattle.std.proofs.lemmas.List.{take_more, get_or-take, length-take-le}
 use Rattle.std.specs.Io.KnownBytes.{Consumes}
 use Rattle.std.proofs.KnownBytes.{Consumes-trans}
-use Rattle.engine_clock.specs.Splits.{Lacks}
-use Rattle.engine_clock.proofs.Cuts.{Lacks-append, Lacks-from_index}
+use Rattle.snmp_ber.specs.Splits.{Lacks}
+use Rattle.snmp_ber.proofs.Cuts.{Lacks-append, Lacks-from_index}
 use Rattle.snmpsec_replay.specs.Lines.{IsCut, LooksAhead}
 use Rattle.snmpsec_replay.specs.declared.log.Ahead.{Ahead}
 use Rattle.snmpsec_replay.specs.declared.log.Ahead.TheVariants as ahead

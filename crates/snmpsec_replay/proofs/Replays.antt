@@ -2,7 +2,7 @@
 use Rattle.std.proofs.Common.{◌≡◌, ℕ, ◌+◌, ◌<◌, ◌⊎◌, List, [], ◌∷◌, ◌++◌, length, Option, Some, None, IfSome, is_some, true, false, MatchOption, refl, sym, ap, ◌∙◌, arith, inl, inr, append_assoc, append-nil, length-append, subst}
 use Rattle.std.specs.Io.KnownBytes.{Appends, Consumes, IsAtEnd, Keeps}
 use Rattle.std.proofs.KnownBytes.{Appends-nil, Appends-trans, Appends-kept, Consumes-nil, Consumes-trans, Consumes-whole}
-use Rattle.engine_clock.specs.Splits.{Lacks}
+use Rattle.snmp_ber.specs.Splits.{Lacks}
 use Rattle.engine_clock.specs.Saved.{listing}
 use Rattle.snmp_manager.specs.declared.outcome.Outcome.{Outcome}
 use Rattle.snmp_manager.specs.Views.{Held}

@@ -2,7 +2,7 @@
 use Rattle.std.specs.Prelude.{◌≡◌, ◌⊎◌, ℕ, ◌+◌, ◌<◌, List, [], ◌∷◌, ◌++◌, length, codes, Option, Some, None, decimal}
 use Rattle.std.specs.Io.KnownBytes.{Appends, Consumes, IsAtEnd, Keeps}
 use Rattle.hex.specs.Hex.{encode_lower}
-use Rattle.engine_clock.specs.Splits.{Lacks}
+use Rattle.snmp_ber.specs.Splits.{Lacks}
 use Rattle.engine_clock.specs.Saved.{listing}
 use Rattle.snmp_manager.specs.declared.outcome.Outcome.{Outcome}
 use Rattle.snmp_manager.specs.declared.outcome.Outcome.TheVariants.{Accepted, Refused}
@@ -11,7 +11,7 @@ use Rattle.snmp_manager.specs.Views.{Held}
 use Rattle.snmp_manager.specs.Runs.{TakesOne}
 use Rattle.snmpsec_replay.specs.Log.{LogEntry, IsLine, AreLines, HasNoLine}
 use Rattle.snmpsec_replay.specs.Transfer.{WritesFront}
-use Rattle.snmpsec_replay.specs.Words.{level_word}
+use Rattle.snmpsec_config.specs.Words.{level_word}
 use Rattle.snmpsec_replay.specs.declared.fault.ReplayFault.{ReplayFault}
 use Rattle.snmpsec_replay.specs.declared.fault.ReplayFault.TheVariants as fault
 use Rattle.snmpsec_replay.specs.declared.replay.Ending.{Ending}

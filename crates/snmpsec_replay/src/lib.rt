@@ -6,13 +6,11 @@ mod laws;
 mod log;
 mod replay;
 mod transfer;
-mod words;
 
 pub use fault::ReplayFault;
 pub use laws::one_log;
 pub use replay::replay_log;
 pub use transfer::{Failed, read_some, write_whole};
-pub use words::{level_of, level_word};
 
 #[cfg(test)]
 mod tests;

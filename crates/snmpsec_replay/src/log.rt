@@ -2,12 +2,12 @@
 ghost use Rattle.std.specs.Prelude.{◌≡◌, ◌≢◌, ◌<◌, ◌≤◌, [], Ok, ℕ, length, slice_index, IfOk, OnErr, IfSome, IfNone, vec_capacity, vec_len};
 ghost use Rattle.std.specs.Io.KnownBytes.{Consumes, IsAtEnd, Keeps};
 ghost use Rattle.std.specs.Option.{option_map};
-ghost use Rattle.engine_clock.specs.Splits.{IsSplit, Lacks};
+ghost use Rattle.snmp_ber.specs.Splits.{IsSplit, Lacks};
 ghost use Rattle.snmpsec_replay.specs.Lines.{AreReadAs, IsCut, IsReadAs, Looks, LooksAhead, ReadsLine, ReadsPart};
 
 use crate::transfer::{Failed, TRIES, read_octet};
 use hex::FromHexError;
-use snmp_ber::read_decimal;
+use snmp_ber::{find, read_decimal, split_once};
 use std::alloc::{AllocError, Global};
 use std::io::{BufRead, ErrorKind, Read};
 use std::marker::Model;
@@ -31,33 +31,6 @@ impl Model for Entry {
     ghost Value = { LogEntry };
 
     ghost view = { λ e. record { moment = e.moment; «datagram» = e.datagram.items } };
-}
-
-/// What is before the first such octet, and what is after it.
-fn split_once(text: &[u8], octet: u8) -> Option<(&[u8], &[u8])>
-    ensures found { IfSome result (λ r. IsSplit octet text.now r.0.now r.1.now) }
-    ensures none { IfNone result (Lacks octet text.now) }
-{
-    let at = find(text, octet);
-    if at < text.len() {
-        Some((&text[..at], &text[at + 1..]))
-    } else {
-        None
-    }
-}
-
-/// The place of the first such octet, or else the length.
-fn find(text: &[u8], octet: u8) -> usize
-    ensures within { result ≤ length text.now }
-    ensures before { (k : ℕ) → k < result → slice_index text.now k ≢ octet }
-    ensures found { result < length text.now → slice_index text.now result ≡ octet }
-{
-    for (i, x) in text.iter().enumerate() {
-        if *x == octet {
-            return i;
-        }
-    }
-    text.len()
 }
 
 /// The octets that one or more pairs of hex digits write.

@@ -8,8 +8,8 @@ ghost use Rattle.snmpsec_replay.specs.Replay.{AnswersLine, Ends, ReplayText, Sav
 use crate::fault::ReplayFault;
 use crate::log::{LINE_LIMIT, LINES_LIMIT, NextLine, read_entry, read_line};
 use crate::transfer::{Failed, read_octet, write_whole};
-use crate::words::level_word;
 use snmp_manager::{Manager, Outcome};
+use snmpsec_config::level_word;
 use std::alloc::{AllocError, Global};
 use std::io::{BufRead, Write};
 

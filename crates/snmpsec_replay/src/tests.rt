@@ -3,9 +3,7 @@
 use crate::fault::ReplayFault;
 use crate::replay::replay_log;
 use crate::transfer::write_whole;
-use crate::words::{level_of, level_word};
 use engine_clock::Clocks;
-use snmp_ber::Level;
 use snmp_manager::Manager;
 use std::alloc::Global;
 use std::io;
@@ -321,23 +319,6 @@ fn a_text_is_written_whole(rt: HostRuntime) -> Result<(), Fail> {
         let mut writer = Choppy::new(alloc, interruptions, failing);
         assert!(rt; write_whole(&mut writer, b"clocks").is_err());
         assert!(rt; b"clocks".starts_with(&writer.written));
-    }
-    Ok(())
-}
-
-#[test]
-fn each_level_has_one_word(rt: HostRuntime) -> Result<(), Fail> {
-    let words = [
-        (Level::NoAuthNoPriv, "noAuthNoPriv"),
-        (Level::AuthNoPriv, "authNoPriv"),
-        (Level::AuthPriv, "authPriv"),
-    ];
-    for (level, word) in words {
-        assert_eq!(rt; level_word(level), word);
-        assert_eq!(rt; level_of(word), Some(level));
-    }
-    for word in ["", "AuthPriv", "authpriv", "authPriv ", "priv"] {
-        assert_eq!(rt; level_of(word), None);
     }
     Ok(())
 }

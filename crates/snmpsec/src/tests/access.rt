@@ -1,9 +1,9 @@
 //! Questions to configurations, and configurations that are refused.
 
 use crate::check::check_text;
-use crate::config::Config;
 use crate::output::Output;
 use snmp_ber::Level;
+use snmpsec_config::Config;
 use std::alloc::{AllocError, Global};
 use std::process::Abort;
 use std::test::Fail;
@@ -28,7 +28,7 @@ access = [{ group = 'g', prefix = '', model = 3, level = 'noAuthNoPriv', match =
 family = [{ view = 'v', subtree = '1', include = false }]";
 
 /// All keys, arrays of tables by their headings, and a mask whose second bit lets 3 be any arc.
-const ALL_KEYS: &str = "[[user]]
+pub(super) const ALL_KEYS: &str = "[[user]]
 name = 'ann'
 auth = 'sha1'
 auth-password = 'maplesyrup'
