@@ -2,11 +2,12 @@
 //!
 //! `speed OPERATION OCTETS TIMES` does the operation TIMES times, first on a text of OCTETS octets `a`, and
 //! then each time on that text with the last result over its first octets, so that no time can be left out.
-//! `speed OPERATION MESSAGE TIMES` opens the message, given in hex, TIMES times.
+//! `speed OPERATION MESSAGE TIMES` opens or takes the message, given in hex, TIMES times.
 //! It prints the last result in lower-case hex.
 #![tactic(auto)]
 
 mod operation;
+mod station;
 
 use anyhow::{Context, Result, bail};
 use operation::Operation;
@@ -21,8 +22,8 @@ fn main(rt: HostRuntime) -> Result<()> {
     let operation: Operation = operation.as_str().parse()?;
     let mut text = operation.text(alloc, text.as_str())?;
     let times: u64 = times.as_str().parse().context("TIMES")?;
-    let mut users = operation.users(alloc)?;
-    let result = operation.repeat(&mut users, &mut text, times)?;
+    let mut station = operation.station(alloc)?;
+    let result = operation.repeat(&mut station, &mut text, times)?;
     println!(rt; "{}", hex::encode(alloc, result.as_slice())?)?;
     Ok(())
 }

@@ -1,11 +1,16 @@
 //! The operations that can be timed.
+
+ghost use Rattle.std.specs.Prelude.{◌≡◌, ◌++◌, ◌-◌, [], IfOk, drop, length, take};
+
+use crate::station::Station;
 use anyhow::{Context, Result};
 use arrayvec::ArrayVec;
+use snmp_manager::Manager;
 use std::alloc::Global;
 use std::str::FromStr;
 use thiserror::Error;
 use usm_aes::{cfb_open, cfb_seal, expand, iv};
-use usm_core::{Role, UserRow, Users};
+use usm_core::{Role, Users};
 use usm_keys::{Auth, Key, mac, password_key};
 
 /// The key of the message authentication codes.
@@ -19,6 +24,9 @@ const BOOTS: u32 = 7;
 const TIME: u32 = 1000;
 
 const SALT: [u8; 8] = [0, 1, 2, 3, 4, 5, 6, 7];
+
+/// The moment at which each message is taken.
+const MOMENT: u64 = 1000;
 
 /// An operation on a text that can be timed.
 #[derive(Clone, Copy, PartialEq, Eq, Debug)]
@@ -35,11 +43,15 @@ pub enum Operation {
     /// `open-auth-md5`, `open-auth-sha1`, `open-auth-sha256`: the text, which is a message of the user `ann` with the password
     /// `maplesyrup`, opened by a manager. The result is the message's authentication code.
     OpenAuth(Auth),
+    /// `take`, `take-among-1000`, `take-among-10000`: the text, which is a message of the user `oak` with SHA-1 and AES and the
+    /// passwords `oaktreepass` and `oakprivpass`, taken by a manager that has so many other users. The result is the last 16
+    /// octets of its PDU.
+    TakeAmong(u32),
 }
 
 /// No operation has this name.
 #[derive(Clone, Copy, PartialEq, Eq, Debug, Error)]
-#[error("OPERATION is password-key-HASH, mac-HASH, open-auth-HASH, cfb-seal or cfb-open, HASH being md5, sha1 or sha256")]
+#[error("OPERATION is password-key-HASH, mac-HASH, open-auth-HASH, cfb-seal, cfb-open, take, take-among-1000 or take-among-10000, HASH being md5, sha1 or sha256")]
 pub struct UnknownOperation;
 
 impl FromStr for Operation {
@@ -58,48 +70,52 @@ impl FromStr for Operation {
             "open-auth-md5" => Ok(Operation::OpenAuth(Auth::Md5)),
             "open-auth-sha1" => Ok(Operation::OpenAuth(Auth::Sha1)),
             "open-auth-sha256" => Ok(Operation::OpenAuth(Auth::Sha256)),
+            "take" => Ok(Operation::TakeAmong(0)),
+            "take-among-1000" => Ok(Operation::TakeAmong(1000)),
+            "take-among-10000" => Ok(Operation::TakeAmong(10000)),
             _ => Err(UnknownOperation),
         }
     }
 }
 
 impl Operation {
-    /// The text to begin with: the message that the word gives in hex, or as many octets `a` as the word says.
-    pub fn text(self, alloc: Global, word: &str) -> Result<Vec<u8>> {
-        match self {
-            Operation::OpenAuth(_) => Ok(hex::decode(alloc, word).context("MESSAGE")?),
-            _ => {
-                let octets: usize = word.parse().context("OCTETS")?;
-                Ok(vec![in alloc; b'a'; octets]?)
-            }
-        }
+    /// Whether the text is a message, and stays as it is.
+    fn is_of_a_message(self) -> bool {
+        matches!(self, Operation::OpenAuth(_) | Operation::TakeAmong(_))
     }
 
-    /// The users that the operation is done with: `ann`, or none.
-    pub fn users(self, alloc: Global) -> Result<Users> {
-        let mut rows = Vec::new(alloc);
-        if let Operation::OpenAuth(auth) = self {
-            rows.push(UserRow {
-                name: b"ann".to_vec(alloc)?,
-                auth: Some((auth, b"maplesyrup".to_vec(alloc)?)),
-                privacy: None,
-            })?;
+    /// The text to begin with: the message that the word gives in hex, or as many octets `a` as the word says.
+    pub fn text(self, alloc: Global, word: &str) -> Result<Vec<u8>> {
+        if self.is_of_a_message() {
+            return Ok(hex::decode(alloc, word).context("MESSAGE")?);
         }
-        Ok(Users::load(alloc, &rows)?)
+        let octets: usize = word.parse().context("OCTETS")?;
+        Ok(vec![in alloc; b'a'; octets]?)
+    }
+
+    /// What the operation is done with.
+    pub fn station(self, alloc: Global) -> Result<Station> {
+        match self {
+            Operation::OpenAuth(auth) => Station::of_ann(alloc, auth),
+            Operation::TakeAmong(others) => Station::of_oak_among(alloc, others),
+            _ => Station::empty(alloc),
+        }
     }
 
     /// Does the operation on the text `times` times, and answers the last result: no octets for no times. Where the text
     /// isn't a message, each result is written over its first octets for the next time.
     pub fn repeat(
         self,
-        users: &mut Users,
+        station: &mut Station,
         text: &mut [u8],
         times: u64,
-    ) -> Result<ArrayVec<u8, 32>> {
+    ) -> Result<ArrayVec<u8, 32>>
+        ensures { times ≡ 0 → IfOk result (λ last. last.items ≡ []) }
+    {
         let mut result = ArrayVec::new();
         for _ in 0..times {
-            result = self.once(users, text)?;
-            if !matches!(self, Operation::OpenAuth(_)) {
+            result = self.once(station, text)?;
+            if !self.is_of_a_message() {
                 overwrite(text, result.as_slice());
             }
         }
@@ -107,7 +123,7 @@ impl Operation {
     }
 
     /// The operation's result on the text.
-    fn once(self, users: &mut Users, text: &mut [u8]) -> Result<ArrayVec<u8, 32>> {
+    fn once(self, station: &mut Station, text: &mut [u8]) -> Result<ArrayVec<u8, 32>> {
         match self {
             Operation::PasswordKey(auth) => {
                 let key = password_key(auth, text)?;
@@ -121,7 +137,8 @@ impl Operation {
             }
             Operation::CfbSeal => Ok(sealed_end(text)),
             Operation::CfbOpen => Ok(opened_end(text)),
-            Operation::OpenAuth(_) => code_of(users, text),
+            Operation::OpenAuth(_) => code_of(&mut station.users, text),
+            Operation::TakeAmong(_) => taken_end(&mut station.manager, text),
         }
     }
 }
@@ -134,6 +151,12 @@ fn code_of(users: &mut Users, message: &[u8]) -> Result<ArrayVec<u8, 32>> {
         .ok()
         .context("a code of at most 32 octets")?;
     Ok(code)
+}
+
+/// The end of the PDU of a message that a manager takes.
+fn taken_end(manager: &mut Manager, message: &[u8]) -> Result<ArrayVec<u8, 32>> {
+    let taken = manager.take(MOMENT, message)?;
+    Ok(end_of(taken.scoped().pdu))
 }
 
 /// Seals the text in place, and answers the end of what it is then.
@@ -149,15 +172,19 @@ fn opened_end(text: &mut [u8]) -> ArrayVec<u8, 32> {
 }
 
 /// The last 16 octets of the text, or all of a shorter one.
-fn end_of(text: &[u8]) -> ArrayVec<u8, 32> {
+fn end_of(text: &[u8]) -> ArrayVec<u8, 32>
+    ensures { result.items ≡ drop (length text.now - 16) text.now }
+{
     let mut end = ArrayVec::new();
-    end.try_extend_from_slice(&text[text.len() - text.len().min(16)..])
+    end.try_extend_from_slice(&text[text.len().saturating_sub(16)..])
         .unwrap();
     end
 }
 
 /// Writes the octets given, or as many as there is room for, over the first octets of the text.
-fn overwrite(text: &mut [u8], given: &[u8]) {
+fn overwrite(text: &mut [u8], given: &[u8])
+    ensures { text.new ≡ take (length text.old) given.now ++ drop (length given.now) text.old }
+{
     let count = text.len().min(given.len());
     text[..count].copy_from_slice(&given[..count]);
 }
