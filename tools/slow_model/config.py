@@ -1,0 +1,208 @@
+"""Configurations, and isAccessAllowed (README; RFC 3415 sections 3 and 4)."""
+import re
+import tomllib
+
+TABLES = ["user", "context", "group", "access", "family"]
+LEVELS = {"noAuthNoPriv": 1, "authNoPriv": 2, "authPriv": 3}
+MODEL_MOST = 0x7FFFFFFF
+ARC = re.compile(r"0|[1-9][0-9]*")
+
+
+class RefusedConfig(Exception):
+    pass
+
+
+def is_text(value):
+    return isinstance(value, str)
+
+
+def is_name(value):
+    return is_text(value) and len(value.encode()) <= 32
+
+
+def is_model(value):
+    return isinstance(value, int) and not isinstance(value, bool) and 0 <= value <= MODEL_MOST
+
+
+def is_mask(value):
+    return is_text(value) and re.fullmatch(r"(?:[0-9A-Fa-f]{2}){0,16}", value) is not None
+
+
+def arcs_of(text):
+    """The arcs of an identifier in dotted decimal, or None."""
+    words = text.split(".")
+    if len(words) > 128 or not all(ARC.fullmatch(word) and len(word) <= 10 and int(word) <= 0xFFFFFFFF for word in words):
+        return None
+    return [int(word) for word in words]
+
+
+# the keys of each table: what is allowed, and whether the key may be left out
+KEYS = {
+    "user": {
+        "name": (is_text, False),
+        "auth": (lambda value: is_text(value) and value in ("md5", "sha1", "sha256"), True),
+        "auth-password": (is_text, True),
+        "priv-password": (is_text, True),
+    },
+    "context": {"name": (is_name, False)},
+    "group": {"model": (is_model, False), "name": (is_name, False), "group": (is_name, False)},
+    "access": {
+        "group": (is_name, False),
+        "prefix": (is_name, False),
+        "model": (is_model, False),
+        "level": (lambda value: is_text(value) and value in LEVELS, False),
+        "match": (lambda value: is_text(value) and value in ("exact", "prefix"), False),
+        "read": (is_name, True),
+        "write": (is_name, True),
+        "notify": (is_name, True),
+    },
+    "family": {
+        "view": (is_name, False),
+        "subtree": (lambda value: is_text(value) and arcs_of(value) is not None, False),
+        "include": (lambda value: isinstance(value, bool), False),
+        "mask": (is_mask, True),
+    },
+}
+
+
+def is_right(table, row):
+    keys = KEYS[table]
+    if set(row) - set(keys):
+        return False
+    if table == "user" and ("auth" in row) != ("auth-password" in row):
+        return False
+    return all(allowed(row[key]) if key in row else may_miss for key, (allowed, may_miss) in keys.items())
+
+
+def is_array_of_tables(value):
+    return isinstance(value, list) and all(isinstance(it, dict) for it in value)
+
+
+def user_fault(row, before):
+    name = row["name"].encode()
+    if not 1 <= len(name) <= 32 or ("priv-password" in row and "auth" not in row):
+        return "BadUser"
+    if any(len(row[key].encode()) < 8 for key in ("auth-password", "priv-password") if key in row):
+        return "ShortPassword"
+    return "DuplicateUser" if any(other["name"] == row["name"] for other in before) else None
+
+
+def index_of(table, row):
+    if table == "context":
+        return row["name"]
+    if table == "group":
+        return row["model"], row["name"]
+    if table == "access":
+        return row["group"], row["prefix"], row["model"], row["level"]
+    return row["view"], tuple(arcs_of(row["subtree"]))
+
+
+def row_fault(table, row, before):
+    empty = {"context": [], "group": ["name", "group"], "access": ["group"], "family": ["view"]}[table]
+    if any(row[key] == "" for key in empty) or (table == "group" and row["model"] == 0):
+        return "BadRow"
+    return "Duplicate" if any(index_of(table, other) == index_of(table, row) for other in before) else None
+
+
+def read(text):
+    """The rows of each table that a text says."""
+    try:
+        document = tomllib.loads(text.decode("utf-8"))
+    except (UnicodeDecodeError, tomllib.TOMLDecodeError):
+        raise RefusedConfig("refused config toml\n") from None
+    if any(key not in TABLES or not is_array_of_tables(value) for key, value in document.items()):
+        raise RefusedConfig("refused config top\n")
+    rows = {table: document.get(table, []) for table in TABLES}
+    for table in TABLES:
+        for position, row in enumerate(rows[table]):
+            if not is_right(table, row):
+                raise RefusedConfig(f"refused config {table} {position} BadKey\n")
+    for table in TABLES:
+        for position, row in enumerate(rows[table]):
+            fault = (user_fault if table == "user" else lambda row, before: row_fault(table, row, before))(row, rows[table][:position])
+            if fault:
+                raise RefusedConfig(f"refused config {table} {position} {fault}\n")
+    return rows
+
+
+def best_access(rows, group, model, level, context):
+    def fits(row):
+        prefix = row["prefix"].encode()
+        return (
+            row["group"] == group
+            and row["model"] in (0, model)
+            and LEVELS[row["level"]] <= level
+            and (prefix == context or (row["match"] == "prefix" and context.startswith(prefix)))
+        )
+
+    def rank(row):
+        return row["model"] != 0, len(row["prefix"].encode()), LEVELS[row["level"]]
+
+    return max(filter(fits, rows), key=rank, default=None)
+
+
+def deciding_family(rows, variable):
+    def fits(row):
+        subtree, mask = arcs_of(row["subtree"]), bytes.fromhex(row.get("mask", ""))
+        if len(subtree) > len(variable):
+            return False
+        bits = [mask[k // 8] >> (7 - k % 8) & 1 if k // 8 < len(mask) else 1 for k in range(len(subtree))]
+        return all(not bit or arc == other for bit, arc, other in zip(bits, subtree, variable))
+
+    def rank(row):
+        subtree = arcs_of(row["subtree"])
+        return len(subtree), subtree
+
+    return max(filter(fits, rows), key=rank, default=None)
+
+
+def is_access_allowed(rows, model, name, level, view, context, variable):
+    if not any(row["name"].encode() == context for row in rows["context"]):
+        return "noSuchContext"
+    groups = [row["group"] for row in rows["group"] if row["model"] == model and row["name"].encode() == name]
+    if not groups:
+        return "noGroupName"
+    access = best_access(rows["access"], groups[0], model, level, context)
+    if access is None:
+        return "noAccessEntry"
+    families = [row for row in rows["family"] if row["view"] == access.get(view, "")]
+    if not access.get(view, "") or not families:
+        return "noSuchView"
+    family = deciding_family(families, variable)
+    return "accessAllowed" if family is not None and family["include"] else "notInView"
+
+
+def bad_word(words):
+    """The name of the first word of a question that is out of its form, or None."""
+    model, _, level, view, _, identifier = words
+    if not ARC.fullmatch(model) or len(model) > 10 or not 1 <= int(model) <= MODEL_MOST:
+        return "MODEL"
+    if level not in LEVELS:
+        return "LEVEL"
+    if view not in ("read", "write", "notify"):
+        return "VIEW"
+    return "OID" if arcs_of(identifier) is None else None
+
+
+def check_access(text, words):
+    """What `check-access` prints, what it tells on standard error, and its status."""
+    bad = bad_word(words)
+    if bad:
+        return "", f"snmpsec: bad word {bad}\n", 2
+    try:
+        rows = read(text)
+    except RefusedConfig as refused:
+        return str(refused), "", 1
+    model, name, level, view, context, identifier = words
+    context = b"" if context == "@" else context.encode()
+    answer = is_access_allowed(rows, int(model), name.encode(), LEVELS[level], view, context, arcs_of(identifier))
+    return answer + "\n", "", 0 if answer == "accessAllowed" else 1
+
+
+def check_config(text):
+    """What `check-config` prints, and its status."""
+    try:
+        rows = read(text)
+    except RefusedConfig as refused:
+        return str(refused), 1
+    return "".join(f"{table} {len(rows[table])}\n" for table in TABLES), 0

@@ -1,0 +1,24 @@
+# Completion of snmpsec's words for bash: `source tools/snmpsec.bash`.
+
+_snmpsec() {
+  local word=${COMP_WORDS[COMP_CWORD]} command=${COMP_WORDS[1]-}
+  local choices=
+  COMPREPLY=()
+  if [ "$COMP_CWORD" -eq 1 ]; then
+    choices="show check-config check-access replay merge-clocks"
+  else
+    case $command:$COMP_CWORD in
+      check-access:3) choices="3" ;;
+      check-access:5) choices="noAuthNoPriv authNoPriv authPriv" ;;
+      check-access:6) choices="read write notify" ;;
+      check-access:7) choices="@" ;;
+      check-config:2 | check-access:2 | replay:* | merge-clocks:*) mapfile -t COMPREPLY < <(compgen -f -- "$word") ;;
+    esac
+    case $command in
+      replay | merge-clocks) choices="--moment" ;;
+    esac
+  fi
+  [ -z "$choices" ] || mapfile -t -O "${#COMPREPLY[@]}" COMPREPLY < <(compgen -W "$choices" -- "$word")
+}
+
+complete -o filenames -F _snmpsec snmpsec ./snmpsec
