@@ -13,6 +13,7 @@ use std::test::Fail;
 use usm_core::{UserRow, Users, UsmFault};
 use usm_keys::Auth;
 
+mod memory;
 mod model;
 mod rows;
 
@@ -30,13 +31,18 @@ fn pair(boots: u32, time: u32) -> Result<Pair, Fail> {
 }
 
 /// The user `ann` with MD5.
-fn users(alloc: Global) -> Result<Users, Fail> {
+fn user_rows(alloc: Global) -> Result<Vec<UserRow>, AllocError> {
     let mut rows = Vec::new(alloc);
     rows.push(UserRow {
         name: b"ann".to_vec(alloc)?,
         auth: Some((Auth::Md5, b"maplesyrup".to_vec(alloc)?)),
         privacy: None,
     })?;
+    Ok(rows)
+}
+
+fn users(alloc: Global) -> Result<Users, Fail> {
+    let rows = user_rows(alloc)?;
     Ok(Users::load(alloc, &rows)?)
 }
 

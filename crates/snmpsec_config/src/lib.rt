@@ -10,7 +10,6 @@ mod keys;
 mod laws;
 mod near;
 mod rows;
-mod users;
 mod words;
 
 pub use config::{AccessConfig, Config, ConfigRows};

@@ -5,7 +5,7 @@ use crate::replay::replay_log;
 use crate::transfer::write_whole;
 use engine_clock::Clocks;
 use snmp_manager::Manager;
-use std::alloc::Global;
+use std::alloc::{AllocError, Global};
 use std::io;
 use std::io::{BufReader, ErrorKind, Read, Write};
 use std::test::Fail;
@@ -131,6 +131,41 @@ fn a_log_is_answered(rt: HostRuntime) -> Result<(), Fail> {
     let mut log = LOG;
     let mut text = Vec::new(alloc);
     replay_log(alloc, manager(alloc)?, &mut log, &mut text)?;
+    assert_eq!(rt; text.as_slice(), ANSWERS);
+    Ok(())
+}
+
+/// A manager without users, made again where a growth was refused.
+fn manager_after_refusal(alloc: Global) -> Result<Manager, Fail> {
+    let users = match Users::load(alloc, &[]) {
+        Ok(users) => users,
+        Err(_) => Users::load(alloc, &[])?,
+    };
+    Ok(Manager::new(alloc, users, Clocks::new(alloc)))
+}
+
+/// Room for the answers, asked for again where a growth was refused.
+fn room(alloc: Global) -> Result<Vec<u8>, AllocError> {
+    match Vec::with_capacity(alloc, ANSWERS.len()) {
+        Ok(room) => Ok(room),
+        Err(_) => Vec::with_capacity(alloc, ANSWERS.len()),
+    }
+}
+
+/// Run by `tools/refuse-memory`, this shows that the lines before a refused growth are written, and nothing else.
+#[test]
+fn a_refused_growth_writes_a_front(rt: HostRuntime) -> Result<(), Fail> {
+    let alloc = rt.alloc();
+    let mut log = LOG;
+    let mut text = room(alloc)?;
+    let mut outcome = replay_log(alloc, manager_after_refusal(alloc)?, &mut log, &mut text);
+    if outcome == Err(ReplayFault::OutOfMemory) {
+        assert!(rt; ANSWERS.starts_with(&text));
+        log = LOG;
+        text.clear();
+        outcome = replay_log(alloc, manager(alloc)?, &mut log, &mut text);
+    }
+    assert_eq!(rt; outcome, Ok(()));
     assert_eq!(rt; text.as_slice(), ANSWERS);
     Ok(())
 }

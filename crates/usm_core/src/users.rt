@@ -22,7 +22,7 @@ use crate::cache::{KeyCache, Purpose};
 use crate::checked::{Checked, Role};
 use crate::fault::UsmFault;
 use crate::laws::{has_engine, sealed_size, some_sealed};
-use crate::load::{UserFault, UserRow, table_of};
+use crate::load::{UserFault, UserRow, places_of, table_of};
 use crate::privacy::open_for;
 use crate::seal::{seal_for, seal_open};
 use crate::spell::Outgoing;
@@ -75,6 +75,17 @@ impl Users {
             }),
             Err(_) => Err(UserFault::OutOfMemory),
         }
+    }
+
+    /// Whether `load` takes these rows, memory aside. It hashes no password, so it is quick where no key is needed.
+    ///
+    /// The error is what is wrong with the first row at fault, as `load` tells it, or OutOfMemory where none is.
+    pub fn check(alloc: Global, rows: &[UserRow]) -> Result<(), UserFault>
+        ensures sound { OnOk result (AreSound rows.now) }
+        ensures told { IfErr result (IsTold rows.now) }
+    {
+        places_of(alloc, rows)?;
+        Ok(())
     }
 
     /// The number of localised keys that are kept for the next message: at most 64. Each is the key of one of the users, for

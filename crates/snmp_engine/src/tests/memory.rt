@@ -68,3 +68,58 @@ fn a_refused_growth_reports_and_counts_nothing(rt: HostRuntime) -> Result<(), Fa
     assert_eq!(rt; counters(&agent), [0, 0, 0, 1, 0, 0].map(Some));
     Ok(())
 }
+
+/// A GetRequest of `ann` for 1.3.6.1.2.1.1.1.0 at noAuthNoPriv. To take it needs no memory.
+const GET_REQUEST: &str =
+    "3061020103300e020102020300ffe3040104020103041f301d040c0000000000000000000000020201000201000403616e6e04000400302b040c0000000000000000000000020400a019020102020100020100300e300c06082b060102010101000500";
+
+/// How many names are decided, asked again where a growth was refused.
+fn decided(agent: &Agent, taken: &Taken<'_>) -> Result<usize, AllocError> {
+    let answer = match agent.decide(taken) {
+        Ok(decision) => decision,
+        Err(_) => agent.decide(taken)?,
+    };
+    match answer {
+        Decision::ByName(answers) => Ok(answers.len()),
+        Decision::NotByName => Ok(0),
+    }
+}
+
+/// A Response without bindings, asked for again where a growth was refused.
+fn response(agent: &mut Agent, taken: &Taken<'_>) -> Result<Vec<u8>, TakeFault> {
+    match agent.respond(1000, taken, 0, 0, &[], SALT) {
+        Err(TakeFault::OutOfMemory) => agent.respond(1000, taken, 0, 0, &[], SALT),
+        answer => answer,
+    }
+}
+
+/// A trap without bindings, asked for again where a growth was refused.
+fn trap(agent: &mut Agent) -> Result<Vec<u8>, TakeFault> {
+    let body = Body {
+        context_engine: &ENGINE,
+        context_name: b"",
+        tag: 0xA7,
+        id: 5,
+        second: 0,
+        third: 0,
+        bindings: &[],
+    };
+    match agent.notify(1000, 5, b"ann", Level::AuthPriv, &body, SALT) {
+        Err(TakeFault::OutOfMemory) => {
+            agent.notify(1000, 5, b"ann", Level::AuthPriv, &body, SALT)
+        }
+        answer => answer,
+    }
+}
+
+#[test]
+fn a_refused_growth_decides_and_answers_nothing(rt: HostRuntime) -> Result<(), Fail> {
+    let mut agent = agent_after_refusal(rt.alloc())?;
+    let datagram = octets_after_refusal(rt.alloc(), GET_REQUEST)?;
+    let taken = accepted(&mut agent, 1000, &datagram)?;
+    assert_eq!(rt; decided(&agent, &taken)?, 1);
+    assert_eq!(rt; response(&mut agent, &taken)?.len(), 86);
+    assert_eq!(rt; trap(&mut agent)?.len(), 112);
+    assert_eq!(rt; counters(&agent), [0; 6].map(Some));
+    Ok(())
+}
