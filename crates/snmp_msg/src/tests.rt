@@ -107,6 +107,38 @@ fn a_broken_frame_is_no_message(rt: HostRuntime) -> Result<(), Fail> {
     Ok(())
 }
 
+#[test]
+fn a_datagram_that_ends_too_soon_is_no_message(rt: HostRuntime) -> Result<(), Fail> {
+    for end in 1..58 {
+        let fault = fault_of(&discovery()[..end]);
+        assert_eq!(rt; fault, Some(MsgFault::NotMessage { at: 0 }), "{end}");
+    }
+    Ok(())
+}
+
+/// The discovery request with another head of its outer element.
+fn headed(alloc: Global, head: &[u8]) -> Result<Vec<u8>, AllocError> {
+    let mut datagram = head.to_vec(alloc)?;
+    datagram.extend_from_slice(&discovery()[2..])?;
+    Ok(datagram)
+}
+
+#[test]
+fn a_length_has_one_to_five_octets(rt: HostRuntime) -> Result<(), Fail> {
+    let alloc = rt.alloc();
+    let long = headed(alloc, &[0x30, 0x84, 0, 0, 0, 0x38])?;
+    let spelled = canonical(alloc, &long)?;
+    assert_eq!(rt; spelled.as_slice(), discovery());
+    for head in [
+        [0x30, 0x84, 0xFF, 0xFF, 0xFF, 0xFF].as_slice(),
+        &[0x30, 0x85, 0, 0, 0, 0, 0x38],
+    ] {
+        let fault = fault_of(&headed(alloc, head)?);
+        assert_eq!(rt; fault, Some(MsgFault::NotMessage { at: 0 }));
+    }
+    Ok(())
+}
+
 /// Security parameters with a user name of this many octets.
 fn security_of(alloc: Global, size: usize) -> Result<Vec<u8>, AllocError>
     requires { size < 100 }

@@ -9,7 +9,7 @@ use std::process::Abort;
 use std::test::Fail;
 
 /// A place, the octet that stands there instead, and what refuses the datagram then.
-const CHANGES: [(usize, u8, Option<MsgFault>); 33] = [
+const CHANGES: [(usize, u8, Option<MsgFault>); 35] = [
     // the outer layout: no element, an element past its parent's end, another tag, a value that isn't allowed
     (0, 0x31, Some(MsgFault::NotMessage { at: 0 })),
     (2, 0x04, Some(MsgFault::NotMessage { at: 2 })),
@@ -38,12 +38,14 @@ const CHANGES: [(usize, u8, Option<MsgFault>); 33] = [
     (46, 0x0A, Some(MsgFault::NotScoped { at: 57 })),
     // the security parameters
     (24, 0x0D, Some(MsgFault::NotSecurity { at: 37 })),
+    (24, 0x0F, Some(MsgFault::NotSecurity { at: 23 })),
     (29, 0xFF, Some(MsgFault::NotSecurity { at: 27 })),
     (34, 0x21, Some(MsgFault::NotSecurity { at: 33 })),
     // the PDU
     (45, 0xA4, Some(MsgFault::NotPdu { at: 45 })),
     (48, 0x00, Some(MsgFault::NotPdu { at: 47 })),
     (56, 0x31, Some(MsgFault::NotPdu { at: 56 })),
+    (57, 0x01, Some(MsgFault::NotPdu { at: 56 })),
     (49, 0x80, None),
     // other bits of the flags are ignored
     (17, 0x0C, None),
@@ -65,7 +67,7 @@ fn unspelled(alloc: Global, datagram: &[u8]) -> Result<Option<CanonFault>, Canon
 
 #[test]
 fn a_fault_is_at_the_first_octet_of_its_element(rt: HostRuntime) -> Result<(), Fail> {
-    for index in 0..33 {
+    for index in 0..35 {
         let (place, octet, fault) = change(index).ok_or("a change")?;
         assert!(rt; *place < 58);
         let datagram = changed(rt.alloc(), *place, *octet)?;
