@@ -1,5 +1,5 @@
 -- Tables with the same rows.
-use Rattle.std.proofs.Common.{◌≡◌, List}
+use Rattle.std.proofs.Common.{List}
 use Rattle.vacm_core.specs.Tables.{Tables, IsSameSet, HaveSameRows}
 
 back : {R : Type 0} {a b : List R} → IsSameSet a b → IsSameSet b a

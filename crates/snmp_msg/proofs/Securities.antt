@@ -2,7 +2,7 @@
 use Rattle.std.proofs.Common.{◌≡◌, ℕ, ◌+◌, ◌-◌, ◌≤◌, ltb, List, [], ◌++◌, length, Some, refl, sym, ap, subst, ◌∙◌, append_assoc, arith}
 use Rattle.std.proofs.lemmas.Bool.{ltb-false, le-ltb}
 use Rattle.std.proofs.lemmas.List.{append-nil, length-append}
-use Rattle.snmp_ber.specs.Element.{IsHead, IsElement, Begins}
+use Rattle.snmp_ber.specs.Element.{IsElement, Begins}
 use Rattle.snmp_ber.specs.Reading.{Front}
 use Rattle.snmp_ber.proofs.Elements.{guard_some}
 use Rattle.snmp_msg.specs.Layout.{IsNumber}

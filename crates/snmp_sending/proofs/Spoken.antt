@@ -1,6 +1,6 @@
 -- What is spoken is for whoever allows its engine and has its user.
-use Rattle.std.proofs.Common.{◌≡◌, ℕ, ◌+◌, ◌≤◌, ◌-◌, List, ◌++◌, length, refl, sym, ap, subst, ◌∙◌, arith}
-use Rattle.std.specs.Prelude.{min, true, Option, Some, None, Result, Ok}
+use Rattle.std.proofs.Common.{◌≡◌, ℕ, ◌+◌, ◌≤◌, List, ◌++◌, length, refl, sym, subst, arith}
+use Rattle.std.specs.Prelude.{min, Option, Some, None, Ok}
 use Rattle.std.proofs.lemmas.List.{length-append}
 use Rattle.snmp_ber.specs.declared.level.Level.{Level}
 use Rattle.snmp_ber.specs.declared.level.Level.TheVariants.{NoAuthNoPriv, AuthNoPriv, AuthPriv}
@@ -10,7 +10,6 @@ use Rattle.snmp_msg.specs.Variables.{Variable, AllFit, AreBindings, variables_te
 use Rattle.snmp_msg.specs.Pdu.{PduParts, PduText, PduFits, pdu_content_text, pdu_text, signed}
 use Rattle.engine_clock.specs.Marks.{SeenPair}
 use Rattle.engine_clock.specs.Pairs.{IsPair}
-use Rattle.engine_clock.specs.Windows.{notion_at}
 use Rattle.usm_core.specs.User.{User}
 use Rattle.usm_core.specs.Users.{HasUser, HasUserAt}
 use Rattle.usm_core.specs.Verified.{AllowsEngine, AllowsUser}

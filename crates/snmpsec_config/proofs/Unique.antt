@@ -1,12 +1,7 @@
 -- A text stands for one list of rows, and a text whose rows load is refused by no cause.
-use Rattle.std.proofs.Common.{◌≡◌, ℕ, zero, suc, ◌<◌, Bool, true, false, List, [], ◌∷◌, length, map, take, Option, Some, None, is_some, is_none, option_map, slice_get, nat_eq, ◌⊎◌, Ok, refl, sym, ap, ◌∙◌, arith, inl, inr, cond}
-use Rattle.std.specs.Prelude.{◌||◌, ◌&&◌, nat_lt, string_bytes}
-use Rattle.std.specs.List.{list_any}
-use Rattle.std.specs.Option.{option_and_then, option_map_or}
-use Rattle.std.specs.Cmp.Lexicographic.{pointwise}
-use Rattle.toml.specs.Data.{Data, string, integer, float, boolean, datetime, array, table, Items, no_items, item, Members, no_members, member, get_item}
-use Rattle.toml.specs.Parse.{parse_document}
-use Rattle.snmp_ber.specs.Oid.{AreArcs, dotted}
+use Rattle.std.proofs.Common.{◌≡◌, ℕ, Bool, List, [], ◌∷◌, length, map, Option, Some, None, refl, sym, ap, ◌∙◌, arith, inl, inr}
+use Rattle.toml.specs.Data.{Data, string, integer, float, boolean, datetime, array, table, Items, no_items, item, Members}
+use Rattle.snmp_ber.specs.Oid.{dotted}
 use Rattle.snmp_ber.proofs.Dotted.{dotted_pieces, same_arcs}
 use Rattle.snmp_ber.specs.declared.level.Level.{Level}
 use Rattle.snmp_ber.specs.declared.level.Level.TheVariants.{NoAuthNoPriv, AuthNoPriv, AuthPriv}
@@ -21,7 +16,7 @@ use Rattle.vacm_core.specs.declared.rows.GroupRow.{GroupRow}
 use Rattle.vacm_core.specs.declared.rows.AccessRow.{AccessRow}
 use Rattle.vacm_core.specs.declared.rows.FamilyRow.{FamilyRow}
 use Rattle.snmpsec_config.specs.Words.{level_word, auth_word, matching_word}
-use Rattle.snmpsec_config.specs.Values.{IsText, IsTextIfAny, IsTextOrEmpty, IsName, IsNameOrEmpty, IsModel, IsLevel, IsMatching, IsOid, IsMask, IsFlag, AreAuth}
+use Rattle.snmpsec_config.specs.Values.{IsText, IsTextIfAny, IsTextOrEmpty, IsModel, IsLevel, IsMatching, IsOid, IsMask, IsFlag, AreAuth}
 use Rattle.snmpsec_config.specs.Rows.{IsUserRow, IsContextRow, IsGroupRow, IsAccessRow, IsFamilyRow, IsRow, AreRows, user_values}
 use Rattle.snmpsec_config.specs.Documents.{StandsFor}
 use Rattle.snmpsec_config.specs.Refusals.{IsDocument, Says}

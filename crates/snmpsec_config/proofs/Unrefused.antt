@@ -1,6 +1,6 @@
 -- A text whose rows load is refused by no cause.
-use Rattle.std.proofs.Common.{◌≡◌, ◌≢◌, ℕ, zero, suc, ◌<◌, Bool, true, false, List, [], ◌∷◌, length, map, take, Option, Some, None, is_some, is_none, option_map, slice_get, nat_eq, refl, sym, ap, ◌∙◌, inl, inr}
-use Rattle.std.specs.Prelude.{◌||◌, ◌&&◌, nat_lt, if◌then◌else◌}
+use Rattle.std.proofs.Common.{◌≡◌, ℕ, zero, suc, Bool, false, List, [], ◌∷◌, map, take, Option, Some, None, is_some, is_none, option_map, slice_get, nat_eq, refl, sym, ap, ◌∙◌, inl, inr}
+use Rattle.std.specs.Prelude.{◌||◌, ◌&&◌, if◌then◌else◌}
 use Rattle.std.specs.List.{list_any}
 use Rattle.std.specs.Option.{option_and_then, option_map_or}
 use Rattle.std.specs.Cmp.Lexicographic.{pointwise}
@@ -24,8 +24,8 @@ use Rattle.snmpsec_config.specs.declared.fault.ConfigFault.{ConfigFault}
 use Rattle.snmpsec_config.specs.declared.fault.ConfigFault.TheVariants as faults
 use Rattle.snmpsec_config.specs.Keys.{EachMember, FirstMember}
 use Rattle.snmpsec_config.specs.Rows.{IsUserRow, IsContextRow, IsGroupRow, IsAccessRow, IsFamilyRow, IsRow, AreRows, UserValues, user_values}
-use Rattle.snmpsec_config.specs.Documents.{IsTop, IsTopMember, IsFirstBad, IsFirstBadOf, StandsFor, values_of}
-use Rattle.snmpsec_config.specs.Refusals.{IsDocument, Says, SaysSound, Refuses, RefusesDocument, RefusesText, TellsUser, TellsAccess, TellsRow}
+use Rattle.snmpsec_config.specs.Documents.{IsTopMember, IsFirstBad, IsFirstBadOf, StandsFor}
+use Rattle.snmpsec_config.specs.Refusals.{Says, SaysSound, RefusesText, TellsUser, TellsAccess, TellsRow}
 use Rattle.snmpsec_config.proofs.Unique.{one_document, one_users, one_rows}
 
 -- ---- what is wrong with a user's row is told by what it says

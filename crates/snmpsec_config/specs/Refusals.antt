@@ -1,6 +1,6 @@
 -- What a configuration is, and why a text is none.
 use Rattle.std.specs.Prelude.{◌≡◌, ◌≢◌, ⊤, ℕ, List, ◌++◌, codes, decimal, map, if◌then◌else◌, Some, None, IsUtf8}
-use Rattle.toml.specs.Data.{Data, Members, table, get_item}
+use Rattle.toml.specs.Data.{Members, table, get_item}
 use Rattle.snmpsec_config.specs.declared.rows.RowFault.{RowFault}
 use Rattle.snmpsec_config.specs.declared.rows.RowFault.TheVariants as row_faults
 use Rattle.toml.specs.Parse.{parse_document}

@@ -1,4 +1,4 @@
-use Rattle.std.proofs.Common.{◌≡◌, ◌<◌, ℕ, List, length, Some, None, sym, ap, ◌∙◌, rules, arith, slice_range}
+use Rattle.std.proofs.Common.{◌≡◌, ◌<◌, length, None, sym, ap, ◌∙◌, rules, arith, slice_range}
 use Rattle.std.proofs.lemmas.List.Edits.{length-between}
 use Rattle.snmp_msg.specs.Variables.{binding_in, after_variables}
 use Rattle.snmp_msg.proofs.Variables.{no_variable, more_variables, nothing_after, none_skipped, one_skipped}
