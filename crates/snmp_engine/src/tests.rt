@@ -147,6 +147,12 @@ fn agent(alloc: Global, users: &Users) -> Result<Agent, Fail> {
     Ok(Agent::new(alloc, engine()?, 7, 0, users, tables))
 }
 
+/// The same of users of its own.
+fn made_agent(alloc: Global) -> Result<Agent, Fail> {
+    let users = users(alloc)?;
+    agent(alloc, &users)
+}
+
 /// A manager of these users that holds no pair.
 fn manager(alloc: Global, users: &Users) -> Result<Manager, AllocError> {
     Ok(Manager::new(alloc, users.try_clone()?, Clocks::new(alloc)))

@@ -64,8 +64,7 @@ pub(super) fn assert_told(
 
 /// One agent with boots 7 answers all rows.
 fn assert_rows(rt: &impl Abort, alloc: Global, table: &Table) -> Result<(), Fail> {
-    let users = users(alloc)?;
-    let mut agent = agent(alloc, &users)?;
+    let mut agent = made_agent(alloc)?;
     assert_told(rt, alloc, &mut agent, table)
 }
 

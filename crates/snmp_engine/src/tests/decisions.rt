@@ -27,14 +27,17 @@ fn assert_decided(
     Ok(())
 }
 
-#[test]
-fn requests_by_name_are_decided_for_each_name_in_order(rt: HostRuntime) -> Result<(), Fail> {
-    let users = users(rt.alloc())?;
-    let mut agent = agent(rt.alloc(), &users)?;
+fn assert_all_decided(rt: &impl Abort, alloc: Global, agent: &mut Agent) -> Result<(), Fail> {
     for row in decisions() {
-        assert_decided(&rt, rt.alloc(), &mut agent, row)?;
+        assert_decided(rt, alloc, agent, row)?;
     }
     Ok(())
+}
+
+#[test]
+fn requests_by_name_are_decided_for_each_name_in_order(rt: HostRuntime) -> Result<(), Fail> {
+    let mut agent = made_agent(rt.alloc())?;
+    assert_all_decided(&rt, rt.alloc(), &mut agent)
 }
 
 /// What is asked, the answer and its number.
@@ -156,19 +159,22 @@ fn answer_to(agent: &Agent, question: &Question) -> Option<Access> {
     ))
 }
 
-#[test]
-fn a_user_may_see_what_its_views_have(rt: HostRuntime) -> Result<(), Fail> {
-    let users = users(rt.alloc())?;
-    let agent = agent(rt.alloc(), &users)?;
+fn assert_all_answered(rt: &impl Abort, agent: &Agent) -> Result<(), Fail> {
     for (place, question) in questions().iter().enumerate() {
         assert_eq!(rt;
-            answer_to(&agent, question),
+            answer_to(agent, question),
             Some(question.answer),
             "question {place}"
         );
         assert_eq!(rt; question.answer.number(), question.number);
     }
     Ok(())
+}
+
+#[test]
+fn a_user_may_see_what_its_views_have(rt: HostRuntime) -> Result<(), Fail> {
+    let agent = made_agent(rt.alloc())?;
+    assert_all_answered(&rt, &agent)
 }
 
 /// Whether the sender of the message may see this.
@@ -181,12 +187,9 @@ fn allowed(agent: &Agent, taken: &Taken<'_>, view: ViewType, name: &[u32]) -> Op
 const GET_REQUEST: &str =
     "3061020103300e020102020300ffe3040104020103041f301d040c0000000000000000000000020201000201000403616e6e04000400302b040c0000000000000000000000020400a019020102020100020100300e300c06082b060102010101000500";
 
-#[test]
-fn a_sender_is_allowed_what_its_user_may_see(rt: HostRuntime) -> Result<(), Fail> {
-    let users = users(rt.alloc())?;
-    let mut agent = agent(rt.alloc(), &users)?;
-    let datagram = octets_of(rt.alloc(), GET_REQUEST)?;
-    let taken = accepted(&mut agent, 1000, &datagram)?;
+/// The sender of the request may see each of these names, or not, as it says.
+fn assert_allowed(rt: &impl Abort, agent: &mut Agent, datagram: &[u8]) -> Result<(), Fail> {
+    let taken = accepted(agent, 1000, datagram)?;
     for (view, name, answer) in [
         (
             ViewType::Read,
@@ -198,7 +201,14 @@ fn a_sender_is_allowed_what_its_user_may_see(rt: HostRuntime) -> Result<(), Fail
         (ViewType::Notify, &[1, 3, 6, 1, 2], Access::NotInView),
         (ViewType::Notify, &[1, 3, 6, 1, 6], Access::AccessAllowed),
     ] {
-        assert_eq!(rt; allowed(&agent, &taken, view, name), Some(answer));
+        assert_eq!(rt; allowed(agent, &taken, view, name), Some(answer));
     }
     Ok(())
+}
+
+#[test]
+fn a_sender_is_allowed_what_its_user_may_see(rt: HostRuntime) -> Result<(), Fail> {
+    let datagram = octets_of(rt.alloc(), GET_REQUEST)?;
+    let mut agent = made_agent(rt.alloc())?;
+    assert_allowed(&rt, &mut agent, &datagram)
 }

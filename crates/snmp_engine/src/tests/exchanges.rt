@@ -220,6 +220,21 @@ fn assert_second(
     Ok(())
 }
 
+/// Both requests of the exchange, and what is answered to them.
+fn assert_both(
+    rt: &impl Abort,
+    alloc: Global,
+    manager: &mut Manager,
+    agent: &mut Agent,
+    exchange: &Exchange,
+) -> Result<(), Fail> {
+    let (pending, report) = assert_first(rt, alloc, manager, agent, exchange)?;
+    if let Some(report) = report {
+        assert_learned(rt, alloc, manager, exchange, &pending, &report)?;
+    }
+    assert_second(rt, alloc, manager, agent, exchange, &pending)
+}
+
 fn assert_exchange(
     rt: &impl Abort,
     alloc: Global,
@@ -228,20 +243,20 @@ fn assert_exchange(
 ) -> Result<(), Fail> {
     let mut manager = manager(alloc, users)?;
     let mut agent = agent(alloc, users)?;
-    let (pending, report) = assert_first(rt, alloc, &mut manager, &mut agent, exchange)?;
-    if let Some(report) = report {
-        assert_learned(rt, alloc, &mut manager, exchange, &pending, &report)?;
+    assert_both(rt, alloc, &mut manager, &mut agent, exchange)
+}
+
+fn assert_exchanges(rt: &impl Abort, alloc: Global, users: &Users) -> Result<(), Fail> {
+    for exchange in exchanges() {
+        assert_exchange(rt, alloc, users, exchange)?;
     }
-    assert_second(rt, alloc, &mut manager, &mut agent, exchange, &pending)
+    Ok(())
 }
 
 #[test]
 fn a_request_is_answered_once_the_time_is_learned(rt: HostRuntime) -> Result<(), Fail> {
     let users = users(rt.alloc())?;
-    for exchange in exchanges() {
-        assert_exchange(&rt, rt.alloc(), &users, exchange)?;
-    }
-    Ok(())
+    assert_exchanges(&rt, rt.alloc(), &users)
 }
 
 const DISCOVERY: &str =
@@ -309,24 +324,21 @@ fn place_of_the_code(datagram: &[u8]) -> Option<usize> {
     }
 }
 
-/// How long the first request of the exchange is, and where its code stands.
-fn assert_length(
-    rt: &impl Abort,
-    alloc: Global,
-    users: &Users,
-    exchange: &Exchange,
-    length: usize,
-) -> Result<(), Fail> {
-    let mut manager = manager(alloc, users)?;
-    let (text, _pending) = request(&mut manager, 1000, 2, exchange)?;
+/// How long the text of a request is, and where its code stands.
+fn assert_length(rt: &impl Abort, text: &[u8], length: usize) -> Result<(), Fail> {
     assert_eq!(rt; text.len(), length);
-    assert_eq!(rt; place_of_the_code(&text), Some(52));
+    assert_eq!(rt; place_of_the_code(text), Some(52));
     Ok(())
 }
 
-#[test]
-fn a_longer_code_stands_at_the_same_place(rt: HostRuntime) -> Result<(), Fail> {
-    let users = users(rt.alloc())?;
+/// The first request of the exchange.
+fn first_request(alloc: Global, users: &Users, exchange: &Exchange) -> Result<Vec<u8>, Fail> {
+    let mut manager = manager(alloc, users)?;
+    let (text, _pending) = request(&mut manager, 1000, 2, exchange)?;
+    Ok(text)
+}
+
+fn assert_lengths(rt: &impl Abort, alloc: Global, users: &Users) -> Result<(), Fail> {
     for exchange in exchanges() {
         if exchange.level == Level::AuthNoPriv {
             let length = if exchange.user == b"sam".as_slice() {
@@ -334,8 +346,14 @@ fn a_longer_code_stands_at_the_same_place(rt: HostRuntime) -> Result<(), Fail> {
             } else {
                 111
             };
-            assert_length(&rt, rt.alloc(), &users, exchange, length)?;
+            assert_length(rt, &first_request(alloc, users, exchange)?, length)?;
         }
     }
     Ok(())
+}
+
+#[test]
+fn a_longer_code_stands_at_the_same_place(rt: HostRuntime) -> Result<(), Fail> {
+    let users = users(rt.alloc())?;
+    assert_lengths(&rt, rt.alloc(), &users)
 }

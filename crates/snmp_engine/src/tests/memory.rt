@@ -112,14 +112,24 @@ fn trap(agent: &mut Agent) -> Result<Vec<u8>, TakeFault> {
     }
 }
 
+/// The names that are decided of the request, and the octets of the Response to it.
+fn answers(agent: &mut Agent, datagram: &[u8]) -> Result<(usize, usize), Fail> {
+    let taken = accepted(agent, 1000, datagram)?;
+    let names = decided(agent, &taken)?;
+    Ok((names, response(agent, &taken)?.len()))
+}
+
+/// The agent decides and answers the request and sends a trap, and counts nothing.
+fn assert_answered(rt: &impl Abort, alloc: Global, agent: &mut Agent) -> Result<(), Fail> {
+    let datagram = octets_after_refusal(alloc, GET_REQUEST)?;
+    assert_eq!(rt; answers(agent, &datagram)?, (1, 86));
+    assert_eq!(rt; trap(agent)?.len(), 108);
+    assert_eq!(rt; counters(agent), [0; 6].map(Some));
+    Ok(())
+}
+
 #[test]
 fn a_refused_growth_decides_and_answers_nothing(rt: HostRuntime) -> Result<(), Fail> {
     let mut agent = agent_after_refusal(rt.alloc())?;
-    let datagram = octets_after_refusal(rt.alloc(), GET_REQUEST)?;
-    let taken = accepted(&mut agent, 1000, &datagram)?;
-    assert_eq!(rt; decided(&agent, &taken)?, 1);
-    assert_eq!(rt; response(&mut agent, &taken)?.len(), 86);
-    assert_eq!(rt; trap(&mut agent)?.len(), 112);
-    assert_eq!(rt; counters(&agent), [0; 6].map(Some));
-    Ok(())
+    assert_answered(&rt, rt.alloc(), &mut agent)
 }

@@ -56,11 +56,21 @@ fn assert_trap(
     let text = notified(agent, 1000, trap.user, trap.level, b"")?;
     assert_eq!(rt; hex_of(alloc, &text)?.as_str(), trap.text);
     let mut manager = manager(alloc, users)?;
+    assert_taken(rt, &mut manager, trap, &text)
+}
+
+/// The manager accepts the trap, and learns of it at a level with authentication.
+fn assert_taken(
+    rt: &impl Abort,
+    manager: &mut Manager,
+    trap: &Trap,
+    text: &[u8],
+) -> Result<(), Fail> {
     let accepted = Outcome::Accepted {
         level: trap.level,
         tag: 0xA7,
     };
-    assert_eq!(rt; took(&mut manager, 1000, &text)?, accepted);
+    assert_eq!(rt; took(manager, 1000, text)?, accepted);
     assert_eq!(rt;
         manager.pair(&engine()?).is_some(),
         trap.level != Level::NoAuthNoPriv
@@ -68,15 +78,25 @@ fn assert_trap(
     Ok(())
 }
 
+/// The agent sends each trap, and counts nothing.
+fn assert_traps(
+    rt: &impl Abort,
+    alloc: Global,
+    users: &Users,
+    agent: &mut Agent,
+) -> Result<(), Fail> {
+    for trap in traps() {
+        assert_trap(rt, alloc, users, agent, trap)?;
+    }
+    assert_eq!(rt; counters(agent), [0; 6].map(Some));
+    Ok(())
+}
+
 #[test]
 fn a_trap_is_taken_by_a_manager_at_each_level(rt: HostRuntime) -> Result<(), Fail> {
     let users = users(rt.alloc())?;
     let mut agent = agent(rt.alloc(), &users)?;
-    for trap in traps() {
-        assert_trap(&rt, rt.alloc(), &users, &mut agent, trap)?;
-    }
-    assert_eq!(rt; counters(&agent), [0; 6].map(Some));
-    Ok(())
+    assert_traps(&rt, rt.alloc(), &users, &mut agent)
 }
 
 /// Why the trap isn't sent, or None where it is.
@@ -98,13 +118,8 @@ fn refusal(
     }
 }
 
-#[test]
-fn a_trap_is_refused_for_its_clock_its_user_its_level_and_its_length(
-    rt: HostRuntime,
-) -> Result<(), Fail> {
-    let users = users(rt.alloc())?;
-    let mut agent = agent(rt.alloc(), &users)?;
-    let long = vec![in rt.alloc(); b'c'; 65_507]?;
+/// The agent refuses each of these traps, whose context has a name of 65,507 octets.
+fn assert_refused(rt: &impl Abort, agent: &mut Agent, long: &[u8]) -> Result<(), Fail> {
     let last = 2_147_483_647;
     for (now, user, level, answer) in [
         (
@@ -118,11 +133,17 @@ fn a_trap_is_refused_for_its_clock_its_user_its_level_and_its_length(
         (last, b"joe", Level::AuthNoPriv, TakeFault::TooLarge),
         (last, b"eve", Level::NoAuthNoPriv, TakeFault::TooLarge),
     ] {
-        assert_eq!(rt; refusal(&mut agent, now, user, level, &long)?, Some(answer));
+        assert_eq!(rt; refusal(agent, now, user, level, long)?, Some(answer));
     }
-    assert_eq!(rt;
-        refusal(&mut agent, last, b"joe", Level::AuthNoPriv, b"")?,
-        None
-    );
+    assert_eq!(rt; refusal(agent, last, b"joe", Level::AuthNoPriv, b"")?, None);
     Ok(())
+}
+
+#[test]
+fn a_trap_is_refused_for_its_clock_its_user_its_level_and_its_length(
+    rt: HostRuntime,
+) -> Result<(), Fail> {
+    let long = vec![in rt.alloc(); b'c'; 65_507]?;
+    let mut agent = made_agent(rt.alloc())?;
+    assert_refused(&rt, &mut agent, &long)
 }
