@@ -1,15 +1,20 @@
-/* How long net-snmp takes to read, authenticate and decrypt a message, for bench/beside-net-snmp.
+/* How long net-snmp takes to read, authenticate and decrypt a message, and to answer it, for bench/beside-net-snmp.
 
-   net_snmp_take USER AUTH-PASSWORD PRIV-PASSWORD ENGINE MESSAGE TIMES
+   net_snmp_take ROLE USER AUTH-PASSWORD PRIV-PASSWORD ENGINE MESSAGE TIMES
 
-   The message, of SHA-1 and AES, and the engine are in hex. It is parsed TIMES times by snmpv3_parse, with its look at the time;
-   the copy of the message that the parser writes over is made each time. It prints the nanoseconds of the processor that a message took. */
+   ROLE is `manager`, `agent`, whose own engine is ENGINE, or `answer`: an agent that also writes a response with the bindings of the
+   message. The message, of SHA-1 and AES, and the engine are in hex. It is parsed TIMES times by snmpv3_parse, with its look at the
+   time, and answered by snmp_build, as snmp_send does; the copy of the message that the parser writes over is made each time.
+   It prints the nanoseconds of the processor that a message took. */
 #include <net-snmp/net-snmp-config.h>
 #include <net-snmp/net-snmp-includes.h>
 #include <stdio.h>
 #include <stdlib.h>
 #include <string.h>
 #include <time.h>
+
+/* Of the library, and in none of its headers: it writes the message from the end of the room, which it makes larger where it has to. */
+int snmp_build(u_char **packet, size_t *room, size_t *written, netsnmp_session *session, netsnmp_pdu *pdu);
 
 static size_t from_hex(const char *text, u_char *octets)
 {
@@ -34,8 +39,9 @@ static void set_up(netsnmp_session *session, char **words)
     static u_char engine[32];
     snmp_sess_init(session);
     session->version = SNMP_VERSION_3;
-    session->securityName = words[1];
-    session->securityNameLen = strlen(words[1]);
+    session->sndMsgMaxSize = 65507;
+    session->securityName = words[2];
+    session->securityNameLen = strlen(words[2]);
     session->securityLevel = SNMP_SEC_LEVEL_AUTHPRIV;
     session->securityModel = SNMP_SEC_MODEL_USM;
     session->securityAuthProto = usmHMACSHA1AuthProtocol;
@@ -44,47 +50,59 @@ static void set_up(netsnmp_session *session, char **words)
     session->securityPrivProtoLen = USM_PRIV_PROTO_AES_LEN;
     session->securityAuthKeyLen = USM_AUTH_KU_LEN;
     session->securityPrivKeyLen = USM_PRIV_KU_LEN;
-    generate_Ku(session->securityAuthProto, USM_AUTH_PROTO_SHA_LEN, (u_char *) words[2], strlen(words[2]),
-                session->securityAuthKey, &session->securityAuthKeyLen);
     generate_Ku(session->securityAuthProto, USM_AUTH_PROTO_SHA_LEN, (u_char *) words[3], strlen(words[3]),
+                session->securityAuthKey, &session->securityAuthKeyLen);
+    generate_Ku(session->securityAuthProto, USM_AUTH_PROTO_SHA_LEN, (u_char *) words[4], strlen(words[4]),
                 session->securityPrivKey, &session->securityPrivKeyLen);
-    session->securityEngineIDLen = from_hex(words[4], engine);
+    session->securityEngineIDLen = from_hex(words[5], engine);
     session->securityEngineID = engine;
 }
 
-static int taken(netsnmp_session *session, const u_char *message, size_t count, u_char *room)
+/* Takes the message, and answers it where that is asked for: how many octets the answer has, 1 where there is none, and 0 for a refusal. */
+static size_t taken(netsnmp_session *session, const u_char *message, size_t count, u_char *room, int is_answered)
 {
-    size_t left = count;
+    static u_char *packet;
+    static size_t room_for_packet;
+    size_t left = count, written = 0;
     u_char *after;
     netsnmp_pdu *pdu = calloc(1, sizeof *pdu);
     memcpy(room, message, count);
     pdu->version = SNMP_VERSION_3;
     int is_well = snmpv3_parse(pdu, room, &left, &after, session) == SNMPERR_SUCCESS;
+    if (is_well && is_answered) {
+        pdu->command = SNMP_MSG_RESPONSE;
+        pdu->flags |= UCD_MSG_FLAG_RESPONSE_PDU;
+        is_well = snmp_build(&packet, &room_for_packet, &written, session, pdu) == 0;
+    }
     snmp_free_pdu(pdu);
-    return is_well;
+    return is_well ? (is_answered ? written : 1) : 0;
 }
 
 int main(int count, char **words)
 {
-    static u_char message[65536], room[65536];
+    static u_char message[65536], room[65536], own[32];
     netsnmp_session session;
-    if (count != 7) {
-        fprintf(stderr, "usage: net_snmp_take USER AUTH-PASSWORD PRIV-PASSWORD ENGINE MESSAGE TIMES\n");
+    if (count != 8) {
+        fprintf(stderr, "usage: net_snmp_take ROLE USER AUTH-PASSWORD PRIV-PASSWORD ENGINE MESSAGE TIMES\n");
         return 2;
     }
+    int is_agent = strcmp(words[1], "manager") != 0, is_answered = strcmp(words[1], "answer") == 0;
     init_snmp("net_snmp_take");
+    if (is_agent)
+        set_exact_engineID(own, from_hex(words[5], own));
     set_up(&session, words);
     if (create_user_from_session(&session) != SNMPERR_SUCCESS)
         return 1;
-    size_t octets = from_hex(words[5], message);
-    long times = atol(words[6]);
-    if (!taken(&session, message, octets, room)) {
+    size_t octets = from_hex(words[6], message);
+    long times = atol(words[7]);
+    size_t written = taken(&session, message, octets, room, is_answered);
+    if (written == 0) {
         fprintf(stderr, "net_snmp_take: the message is refused\n");
         return 1;
     }
     double start = seconds();
     for (long k = 0; k < times; k++)
-        if (!taken(&session, message, octets, room))
+        if (taken(&session, message, octets, room, is_answered) != written)
             return 1;
     printf("%.1f\n", (seconds() - start) * 1e9 / (double) times);
     return 0;

@@ -71,25 +71,53 @@ fn asked(vacm: &Vacm, questions: &[Question], asks: usize) -> (u64, u64) {
     (allowed, not_in_view)
 }
 
+/// What is measured.
+#[derive(Clone, Copy)]
+struct Wanted {
+    shape: Shape,
+    count: u32,
+    wild: u32,
+    arcs: usize,
+    is_hit: bool,
+    loads: u64,
+    asks: usize,
+}
+
+fn read_words(words: &[String]) -> Result<Wanted> {
+    let [_, shape, count, wild, arcs, kind, loads, asks] = words else {
+        bail!("usage: access_speed many|one ROWS WILD ARCS hit|miss LOADS ASKS");
+    };
+    Ok(Wanted {
+        shape: shape.as_str().parse()?,
+        count: count.as_str().parse().context("ROWS")?,
+        wild: wild.as_str().parse().context("WILD")?,
+        arcs: arcs.as_str().parse().context("ARCS")?,
+        is_hit: kind.as_str() == "hit",
+        loads: loads.as_str().parse().context("LOADS")?,
+        asks: asks.as_str().parse().context("ASKS")?,
+    })
+}
+
+/// Loads the rows so often, once at least, and answers what was loaded last.
+fn loaded_often(alloc: Global, rows: &Rows, loads: u64) -> Result<Vacm> {
+    for _ in 1..loads {
+        loaded(alloc, rows)?;
+    }
+    loaded(alloc, rows)
+}
+
+/// What the questions were answered.
+fn counted(alloc: Global, wanted: Wanted) -> Result<(u64, u64)> {
+    let questions = questions(alloc, wanted.count, wanted.arcs, wanted.is_hit)?;
+    let rows = rows_of(alloc, wanted.shape, wanted.count, wanted.wild)?;
+    let vacm = loaded_often(alloc, &rows, wanted.loads)?;
+    Ok(asked(&vacm, questions.as_slice(), wanted.asks))
+}
+
 fn main(rt: HostRuntime) -> Result<()> {
     let alloc = rt.alloc();
     let words: Vec<String> = env::args(&rt)?.collect(alloc)?;
-    let [_, shape, count, wild, arcs, kind, loads, asks] = words.as_slice() else {
-        bail!("usage: access_speed many|one ROWS WILD ARCS hit|miss LOADS ASKS");
-    };
-    let shape: Shape = shape.as_str().parse()?;
-    let count: u32 = count.as_str().parse().context("ROWS")?;
-    let wild: u32 = wild.as_str().parse().context("WILD")?;
-    let arcs: usize = arcs.as_str().parse().context("ARCS")?;
-    let loads: u64 = loads.as_str().parse().context("LOADS")?;
-    let asks: usize = asks.as_str().parse().context("ASKS")?;
-    let rows = rows_of(alloc, shape, count, wild)?;
-    let mut vacm = loaded(alloc, &rows)?;
-    for _ in 1..loads {
-        vacm = loaded(alloc, &rows)?;
-    }
-    let questions = questions(alloc, count, arcs, kind.as_str() == "hit")?;
-    let (allowed, not_in_view) = asked(&vacm, questions.as_slice(), asks);
+    let (allowed, not_in_view) = counted(alloc, read_words(words.as_slice())?)?;
     println!(rt; "{allowed} {not_in_view}")?;
     Ok(())
 }

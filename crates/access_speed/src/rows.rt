@@ -1,5 +1,7 @@
 //! The rows that are loaded, by an arithmetic rule.
-ghost use Rattle.std.specs.Prelude.{◌≡◌, ◌≤◌, length, IfOk};
+ghost use Rattle.std.specs.Prelude.{◌≡◌, ◌≤◌, length, IfOk, Ok};
+ghost use Rattle.access_speed.specs.declared.rows.Shape.{Shape as AShape};
+ghost use Rattle.access_speed.specs.Words.{shape_word};
 
 use anyhow::{Context, Result};
 use snmp_ber::{Level, Oid};
@@ -31,7 +33,10 @@ pub(crate) struct UnknownShape;
 impl FromStr for Shape {
     type Err = UnknownShape;
 
-    fn from_str(name: &str) -> Result<Shape, UnknownShape> {
+    fn from_str(name: &str) -> Result<Shape, UnknownShape>
+        ensures found { IfOk result (λ shape. name.now ≡ shape_word shape) }
+        ensures all { (shape : AShape) → name.now ≡ shape_word shape → result ≡ Ok shape }
+    {
         match name {
             "many" => Ok(Shape::Many),
             "one" => Ok(Shape::One),

@@ -2,7 +2,7 @@
 //!
 //! `speed OPERATION OCTETS TIMES` does the operation TIMES times, first on a text of OCTETS octets `a`, and
 //! then each time on that text with the last result over its first octets, so that no time can be left out.
-//! `speed OPERATION MESSAGE TIMES` opens or takes the message, given in hex, TIMES times.
+//! `speed OPERATION MESSAGE[,MESSAGE..] TIMES` opens, takes or answers the messages, given in hex, in turn, TIMES times in all.
 //! It prints the last result in lower-case hex.
 #![tactic(auto)]
 
@@ -17,13 +17,13 @@ fn main(rt: HostRuntime) -> Result<()> {
     let alloc = rt.alloc();
     let words: Vec<String> = env::args(&rt)?.collect(alloc)?;
     let [_, operation, text, times] = words.as_slice() else {
-        bail!("usage: speed OPERATION OCTETS|MESSAGE TIMES");
+        bail!("usage: speed OPERATION OCTETS|MESSAGE[,MESSAGE..] TIMES");
     };
     let operation: Operation = operation.as_str().parse()?;
-    let mut text = operation.text(alloc, text.as_str())?;
+    let mut texts = operation.texts(alloc, text.as_str())?;
     let times: u64 = times.as_str().parse().context("TIMES")?;
     let mut station = operation.station(alloc)?;
-    let result = operation.repeat(&mut station, &mut text, times)?;
+    let result = operation.repeat(alloc, &mut station, &mut texts, times)?;
     println!(rt; "{}", hex::encode(alloc, result.as_slice())?)?;
     Ok(())
 }

@@ -1,12 +1,19 @@
 //! The operations that can be timed.
 
-ghost use Rattle.std.specs.Prelude.{◌≡◌, ◌++◌, ◌-◌, [], IfOk, drop, length, take};
+ghost use Rattle.std.specs.Prelude.{◌≡◌, ◌++◌, ◌-◌, [], ◌∷◌, ℕ, false, All, IfOk, Ok, drop, length, map, replicate, take};
+ghost use Rattle.snmp_msg.specs.Variables.{CanBeWritten, variable_of};
+ghost use Rattle.speed.specs.declared.operation.Operation.{Operation as AnOperation};
+ghost use Rattle.speed.specs.Words.{operation_word};
+ghost use Rattle.speed.specs.Stations as count;
+ghost use Rattle.speed.specs.Stations.{HasUsers, number_of};
 
 use crate::station::Station;
 use anyhow::{Context, Result};
 use arrayvec::ArrayVec;
+use snmp_agent::Agent;
 use snmp_manager::Manager;
-use std::alloc::Global;
+use snmp_msg::{Binding, Pdu};
+use std::alloc::{AllocError, Global};
 use std::str::FromStr;
 use thiserror::Error;
 use usm_aes::{cfb_open, cfb_seal, expand, iv};
@@ -28,9 +35,29 @@ const SALT: [u8; 8] = [0, 1, 2, 3, 4, 5, 6, 7];
 /// The moment at which each message is taken.
 const MOMENT: u64 = 1000;
 
+/// How many other users a manager has.
+#[derive(Clone, Copy, PartialEq, Eq, Debug)]
+pub(crate) enum Others {
+    Nobody,
+    Thousand,
+    TenThousand,
+}
+
+impl Others {
+    fn number(self) -> u32
+        ensures { result ≡ number_of self }
+    {
+        match self {
+            Others::Nobody => 0,
+            Others::Thousand => 1000,
+            Others::TenThousand => 10000,
+        }
+    }
+}
+
 /// An operation on a text that can be timed.
 #[derive(Clone, Copy, PartialEq, Eq, Debug)]
-pub enum Operation {
+pub(crate) enum Operation {
     /// `password-key-md5`, `password-key-sha1`, `password-key-sha256`: the key of the text, taken as a password.
     PasswordKey(Auth),
     /// `mac-md5`, `mac-sha1`, `mac-sha256`: the text's message authentication code under 32 octets 0B.
@@ -46,18 +73,26 @@ pub enum Operation {
     /// `take`, `take-among-1000`, `take-among-10000`: the text, which is a message of the user `oak` with SHA-1 and AES and the
     /// passwords `oaktreepass` and `oakprivpass`, taken by a manager that has so many other users. The result is the last 16
     /// octets of its PDU.
-    TakeAmong(u32),
+    Take(Others),
+    /// `agent-take`: the text, which is such a message to the engine of the captured ones, taken by an agent. The result is the
+    /// last 16 octets of its PDU.
+    AgentTake,
+    /// `agent-answer`: the same, and then a Response with the bindings of what was taken. The result is its last 16 octets.
+    AgentAnswer,
 }
 
 /// No operation has this name.
 #[derive(Clone, Copy, PartialEq, Eq, Debug, Error)]
-#[error("OPERATION is password-key-HASH, mac-HASH, open-auth-HASH, cfb-seal, cfb-open, take, take-among-1000 or take-among-10000, HASH being md5, sha1 or sha256")]
-pub struct UnknownOperation;
+#[error("OPERATION is password-key-HASH, mac-HASH, open-auth-HASH, cfb-seal, cfb-open, take, take-among-1000, take-among-10000, agent-take or agent-answer, HASH being md5, sha1 or sha256")]
+pub(crate) struct UnknownOperation;
 
 impl FromStr for Operation {
     type Err = UnknownOperation;
 
-    fn from_str(name: &str) -> Result<Operation, UnknownOperation> {
+    fn from_str(name: &str) -> Result<Operation, UnknownOperation>
+        ensures found { IfOk result (λ operation. name.now ≡ operation_word operation) }
+        ensures all { (operation : AnOperation) → name.now ≡ operation_word operation → result ≡ Ok operation }
+    {
         match name {
             "password-key-md5" => Ok(Operation::PasswordKey(Auth::Md5)),
             "password-key-sha1" => Ok(Operation::PasswordKey(Auth::Sha1)),
@@ -70,60 +105,96 @@ impl FromStr for Operation {
             "open-auth-md5" => Ok(Operation::OpenAuth(Auth::Md5)),
             "open-auth-sha1" => Ok(Operation::OpenAuth(Auth::Sha1)),
             "open-auth-sha256" => Ok(Operation::OpenAuth(Auth::Sha256)),
-            "take" => Ok(Operation::TakeAmong(0)),
-            "take-among-1000" => Ok(Operation::TakeAmong(1000)),
-            "take-among-10000" => Ok(Operation::TakeAmong(10000)),
+            "take" => Ok(Operation::Take(Others::Nobody)),
+            "take-among-1000" => Ok(Operation::Take(Others::Thousand)),
+            "take-among-10000" => Ok(Operation::Take(Others::TenThousand)),
+            "agent-take" => Ok(Operation::AgentTake),
+            "agent-answer" => Ok(Operation::AgentAnswer),
             _ => Err(UnknownOperation),
         }
     }
 }
 
+/// The messages that the word gives in hex, with commas between them.
+fn messages(alloc: Global, word: &str) -> Result<Vec<Vec<u8>>> {
+    let mut texts = Vec::new(alloc);
+    for message in word.split(',') {
+        texts.push(hex::decode(alloc, message).context("MESSAGE")?)?;
+    }
+    Ok(texts)
+}
+
 impl Operation {
     /// Whether the text is a message, and stays as it is.
-    fn is_of_a_message(self) -> bool {
-        matches!(self, Operation::OpenAuth(_) | Operation::TakeAmong(_))
+    fn is_of_a_message(self) -> bool
+        ensures { result ≡ count.is_of_a_message self }
+    {
+        matches!(
+            self,
+            Operation::OpenAuth(_)
+                | Operation::Take(_)
+                | Operation::AgentTake
+                | Operation::AgentAnswer
+        )
     }
 
-    /// The text to begin with: the message that the word gives in hex, or as many octets `a` as the word says.
-    pub fn text(self, alloc: Global, word: &str) -> Result<Vec<u8>> {
+    /// The texts to begin with: the messages that the word gives in hex, with commas between them, or one text of as many octets
+    /// `a` as the word says.
+    pub(crate) fn texts(self, alloc: Global, word: &str) -> Result<Vec<Vec<u8>>>
+        ensures { count.is_of_a_message self ≡ false → IfOk result (λ texts. (n : ℕ) × (map (λ text. text.items) texts.items ≡ replicate n 97 ∷ [])) }
+    {
         if self.is_of_a_message() {
-            return Ok(hex::decode(alloc, word).context("MESSAGE")?);
+            return messages(alloc, word);
         }
         let octets: usize = word.parse().context("OCTETS")?;
-        Ok(vec![in alloc; b'a'; octets]?)
+        let mut texts = Vec::new(alloc);
+        texts.push(vec![in alloc; b'a'; octets]?)?;
+        Ok(texts)
     }
 
     /// What the operation is done with.
-    pub fn station(self, alloc: Global) -> Result<Station> {
+    pub(crate) fn station(self, alloc: Global) -> Result<Station>
+        ensures { IfOk result (λ station. HasUsers station (count.openers self) (count.takers self) (count.answerers self)) }
+    {
         match self {
             Operation::OpenAuth(auth) => Station::of_ann(alloc, auth),
-            Operation::TakeAmong(others) => Station::of_oak_among(alloc, others),
+            Operation::Take(others) => Station::of_oak_among(alloc, others.number()),
+            Operation::AgentTake | Operation::AgentAnswer => Station::of_agent(alloc),
             _ => Station::empty(alloc),
         }
     }
 
-    /// Does the operation on the text `times` times, and answers the last result: no octets for no times. Where the text
-    /// isn't a message, each result is written over its first octets for the next time.
-    pub fn repeat(
+    /// Does the operation `times` times, on the texts in turn, and answers the last result: no octets for no times. Where a text
+    /// isn't a message, each result is written over its first octets for the next time. Where there is no text, it is an error.
+    pub(crate) fn repeat(
         self,
+        alloc: Global,
         station: &mut Station,
-        text: &mut [u8],
+        texts: &mut [Vec<u8>],
         times: u64,
     ) -> Result<ArrayVec<u8, 32>>
         ensures { times ≡ 0 → IfOk result (λ last. last.items ≡ []) }
     {
         let mut result = ArrayVec::new();
+        let mut turn = 0;
         for _ in 0..times {
-            result = self.once(station, text)?;
+            let text = texts.get_mut(turn).context("a text")?;
+            result = self.once(alloc, station, text)?;
             if !self.is_of_a_message() {
                 overwrite(text, result.as_slice());
             }
+            turn = turn_after(turn, texts.len());
         }
         Ok(result)
     }
 
     /// The operation's result on the text.
-    fn once(self, station: &mut Station, text: &mut [u8]) -> Result<ArrayVec<u8, 32>> {
+    fn once(
+        self,
+        alloc: Global,
+        station: &mut Station,
+        text: &mut [u8],
+    ) -> Result<ArrayVec<u8, 32>> {
         match self {
             Operation::PasswordKey(auth) => {
                 let key = password_key(auth, text)?;
@@ -138,7 +209,9 @@ impl Operation {
             Operation::CfbSeal => Ok(sealed_end(text)),
             Operation::CfbOpen => Ok(opened_end(text)),
             Operation::OpenAuth(_) => code_of(&mut station.users, text),
-            Operation::TakeAmong(_) => taken_end(&mut station.manager, text),
+            Operation::Take(_) => taken_end(&mut station.manager, text),
+            Operation::AgentTake => asked_end(&mut station.agent, text),
+            Operation::AgentAnswer => answered_end(alloc, &mut station.agent, text),
         }
     }
 }
@@ -157,6 +230,45 @@ fn code_of(users: &mut Users, message: &[u8]) -> Result<ArrayVec<u8, 32>> {
 fn taken_end(manager: &mut Manager, message: &[u8]) -> Result<ArrayVec<u8, 32>> {
     let taken = manager.take(MOMENT, message)?;
     Ok(end_of(taken.scoped().pdu))
+}
+
+/// The end of the PDU of a message that an agent takes.
+fn asked_end(agent: &mut Agent, message: &[u8]) -> Result<ArrayVec<u8, 32>> {
+    match agent.take(MOMENT, message) {
+        Ok(taken) => Ok(end_of(taken.scoped().pdu)),
+        Err(refused) => Err(refused.why.into()),
+    }
+}
+
+/// The bindings of a PDU that can be written.
+fn bindings_of<'a>(alloc: Global, pdu: &Pdu<'a>) -> Result<Vec<Binding<'a>>, AllocError>
+    ensures { IfOk result (λ v. All (λ b. CanBeWritten (variable_of b)) v.items) }
+{
+    let mut bindings = Vec::new(alloc);
+    for binding in pdu.bindings() {
+        if binding.tag & 0x1F != 0x1F && binding.name.is_object_id() {
+            bindings.push(binding)?;
+        }
+    }
+    Ok(bindings)
+}
+
+/// The end of the Response to a message that an agent takes, with its bindings.
+fn answered_end(alloc: Global, agent: &mut Agent, message: &[u8]) -> Result<ArrayVec<u8, 32>> {
+    let taken = match agent.take(MOMENT, message) {
+        Ok(taken) => taken,
+        Err(refused) => return Err(refused.why.into()),
+    };
+    let pdu = taken.pdu();
+    let bindings = bindings_of(alloc, &pdu)?;
+    let response = agent.respond(MOMENT, &taken, 0, 0, &bindings, SALT)?;
+    Ok(end_of(&response))
+}
+
+/// The place of the next of so many texts, the first being behind the last.
+fn turn_after(turn: usize, count: usize) -> usize {
+    let next = turn.saturating_add(1);
+    if next < count { next } else { 0 }
 }
 
 /// Seals the text in place, and answers the end of what it is then.

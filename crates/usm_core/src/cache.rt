@@ -16,6 +16,9 @@ use usm_keys::KeptKey;
 /// The most localised keys that are kept.
 const MOST_KEYS: usize = 64;
 
+/// So many made keys are passed over before one takes the place of another.
+const PASSED_OVER: u8 = 4;
+
 /// What a key is for.
 #[derive(Clone, Copy, PartialEq, Eq, Hash, Debug)]
 pub enum Purpose {
@@ -48,6 +51,8 @@ impl KeyId {
 #[derive(Drop)]
 pub(crate) struct KeyCache {
     keys: LruCache<KeyId, KeptKey>,
+    /// How many made keys were passed over since one was entered.
+    passed_over: u8,
 }
 
 impl Model for KeyCache {
@@ -62,6 +67,17 @@ impl Model for KeyCache {
     ghost invariant = { λ cache. cache.keys.cap ≡ 64 };
 }
 
+/// Whether a made key is to be entered among so many: each while there is room, and of the others each fifth. With more engines
+/// in turn than fit, each key would else push out another before it is found again.
+fn has_turn(passed_over: &mut u8, count: usize) -> bool {
+    if count < MOST_KEYS || *passed_over >= PASSED_OVER {
+        *passed_over = 0;
+        return true;
+    }
+    *passed_over += 1;
+    false
+}
+
 impl KeyCache {
     /// No key.
     pub(crate) fn new(alloc: Global) -> Result<KeyCache, AllocError>
@@ -72,6 +88,7 @@ impl KeyCache {
         };
         Ok(KeyCache {
             keys: LruCache::new(alloc, most)?,
+            passed_over: 0,
         })
     }
 
@@ -90,8 +107,8 @@ impl KeyCache {
         self.keys.peek(&KeyId::of(name, engine, purpose)?)
     }
 
-    /// Notes that a key was used: one that was made is entered, and a kept one moved to the front, but for one of the last two.
-    /// Where there is no memory, and for engine IDs of other lengths than 5 to 32 octets, all stays as it was.
+    /// Notes that a key was used: one that was made is entered, where it has its turn, and a kept one moved to the front, but for
+    /// one of the last two. Where there is no memory, and for engine IDs of other lengths than 5 to 32 octets, all stays as it was.
     pub(crate) fn note_use(
         &mut self,
         name: &[u8],
@@ -106,7 +123,9 @@ impl KeyCache {
         };
         match made {
             Some(key) => {
-                let _ = self.keys.put(id, key);
+                if has_turn(&mut self.passed_over, self.keys.len()) {
+                    let _ = self.keys.put(id, key);
+                }
             }
             None => {
                 if !self.is_near_front(&id) {

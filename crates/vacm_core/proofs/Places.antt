@@ -1,5 +1,5 @@
--- Where the rows of each name begin.
-use Rattle.std.proofs.Common.{◌≡◌, ◌≢◌, ℕ, zero, suc, ◌+◌, ◌-◌, ◌<◌, ◌≤◌, Bool, true, false, cond, not, nat_eq, nat_lt, List, [], length, get_or, Some, None, MatchBool, sym, ap, subst, ◌∙◌, refl, inl, inr, arith}
+-- Where the rows of each name are.
+use Rattle.std.proofs.Common.{◌≡◌, ◌≢◌, ℕ, zero, suc, ◌+◌, ◌-◌, ◌<◌, ◌≤◌, Bool, true, false, cond, not, nat_eq, nat_lt, List, [], length, get_or, slice_range, Some, None, MatchBool, sym, ap, subst, ◌∙◌, refl, inl, inr, arith}
 use Rattle.std.specs.Map.{lookup}
 use Rattle.std.specs.Cmp.Lexicographic.{pointwise}
 use Rattle.std.specs.Ordering.{ordering_index}
@@ -11,7 +11,8 @@ use Rattle.std.proofs.lemmas.Bool.Decides.{nat_tests}
 use Rattle.std.proofs.lemmas.Option.{same_Some}
 use Rattle.std.proofs.lemmas.Map.Lookups.{exact_bytes}
 use Rattle.std.proofs.lemmas.Slice.Eq.{bytes_eq-Decides}
-use Rattle.vacm_core.specs.Place.{side_of, AreInPlace, IsFirstPlace, AreFirstPlaces, IsRunOf}
+use Rattle.vacm_core.specs.Place.{side_of, AreInPlace, IsFirstPlace, AreRuns, IsRunOf}
+use Rattle.vacm_core.specs.declared.table.Run.{Run}
 use Rattle.vacm_core.proofs.Runs.{at_name, sides_rise}
 
 same_only : (o : Ordering) → ordering_index o ≡ 1 → o ≡ Equal
@@ -66,19 +67,19 @@ module _ {R : Type 0} (name : R → List ℕ) (rank : R → R → Ordering) (row
       above n h = grind (arith, nat_tests)
 
 -- ---- rows that are looked at one by one
-module _ {R : Type 0} (name : R → List ℕ) (rows : List R) where
-  pub none_looked_at : (entries : List (List ℕ × ℕ)) → entries ≡ [] → AreFirstPlaces name rows 0 entries
-  none_looked_at entries none = subst (λ es. AreFirstPlaces name rows 0 es) (sym none) empty
+module _ {R : Type 0} (name : R → List ℕ) (rank : R → R → Ordering) (rows : List R) where
+  pub none_looked_at : (entries : List (List ℕ × Run)) → entries ≡ [] → AreRuns name rank rows 0 entries
+  none_looked_at entries none = subst (λ es. AreRuns name rank rows 0 es) (sym none) empty
     where
-      empty : AreFirstPlaces name rows 0 []
-      empty = record { within = λ w p e. absurd cc; first = λ w p e. absurd cc; missing = λ w e k d h. absurd (omega arith); short = λ k d h. absurd (omega arith) }
+      empty : AreRuns name rank rows 0 []
+      empty = record { within = λ w r e. absurd cc; is_run = λ w r e. absurd cc; missing = λ w e k d h. absurd (omega arith); short = λ k d h. absurd (omega arith) }
 
-  module _ (place : ℕ) (old : List (List ℕ × ℕ)) (known : AreFirstPlaces name rows place old) where
+  module _ (place : ℕ) (old : List (List ℕ × Run)) (known : AreRuns name rank rows place old) where
     -- a row of the same name as the one before it
-    pub same_more : 0 < place → ((d : R) → name (get_or rows (place - 1) d) ≡ name (get_or rows place d)) → AreFirstPlaces name rows (place + 1) old
+    pub same_more : 0 < place → ((d : R) → name (get_or rows (place - 1) d) ≡ name (get_or rows place d)) → AreRuns name rank rows (place + 1) old
     same_more some same = record {
-      within = λ w p e. let h = known.within w p e in omega arith;
-      first = known.first;
+      within = known.within;
+      is_run = known.is_run;
       missing = λ w e k d h. elim (cases_lt k place) [
         | inl lower ↦ known.missing w e k d lower
         | inr from ↦
@@ -94,21 +95,21 @@ module _ {R : Type 0} (name : R → List ℕ) (rows : List R) where
     }
 
     -- a row with a new name
-    module _ (new : List (List ℕ × ℕ)) (key : List ℕ) (fits : length key ≤ 32) (at : (d : R) → name (get_or rows place d) ≡ key)
-        (none : (k : ℕ) (d : R) → k < place → name (get_or rows k d) ≢ name (get_or rows place d))
-        (put : (w : List ℕ) → lookup (pointwise nat_eq w) new ≡ cond (pointwise nat_eq key w) (Some place) (lookup (pointwise nat_eq w) old)) where
-      within_by : (w : List ℕ) (p : ℕ) (b : Bool) → cond b (Some place) (lookup (pointwise nat_eq w) old) ≡ Some p → p < place + 1
-      within_by w p true e = let is : place ≡ p = same_Some _ _ e in omega arith
-      within_by w p false e = let h = known.within w p e in omega arith
+    module _ (new : List (List ℕ × Run)) (key : List ℕ) (run : Run) (fits : length key ≤ 32) (at : (d : R) → name (get_or rows place d) ≡ key)
+        (within : (run.first ≤ run.end) × (run.end ≤ length rows)) (is_run : IsRunOf name rank key rows (slice_range rows run.first run.end))
+        (put : (w : List ℕ) → lookup (pointwise nat_eq w) new ≡ cond (pointwise nat_eq key w) (Some run) (lookup (pointwise nat_eq w) old)) where
+      within_by : (w : List ℕ) (r : Run) (b : Bool) → cond b (Some run) (lookup (pointwise nat_eq w) old) ≡ Some r → (r.first ≤ r.end) × (r.end ≤ length rows)
+      within_by w r true e = subst (λ (x : Run). (x.first ≤ x.end) × (x.end ≤ length rows)) (same_Some _ _ e) within
+      within_by w r false e = known.within w r e
 
-      first_by : (w : List ℕ) (p : ℕ) (b : Bool) → pointwise nat_eq key w ≡ b → cond b (Some place) (lookup (pointwise nat_eq w) old) ≡ Some p → IsFirstPlace name rows w p
-      first_by w p true is e =
+      run_by : (w : List ℕ) (r : Run) (b : Bool) → pointwise nat_eq key w ≡ b → cond b (Some run) (lookup (pointwise nat_eq w) old) ≡ Some r → IsRunOf name rank w rows (slice_range rows r.first r.end)
+      run_by w r true is e =
           let same : key ≡ w = (bytes_eq-Decides key w).0 is in
-          let there : place ≡ p = same_Some _ _ e in
-          subst (λ n. IsFirstPlace name rows w n) there (record { named = λ d. at d ∙ same; none_before = λ k d before has. none k d before (has ∙ sym same ∙ sym (at d)) })
-      first_by w p false is e = known.first w p e
+          subst (λ (x : Run). IsRunOf name rank w rows (slice_range rows x.first x.end)) (same_Some _ _ e)
+          (subst (λ n. IsRunOf name rank n rows (slice_range rows run.first run.end)) same is_run)
+      run_by w r false is e = known.is_run w r e
 
-      missing_by : (w : List ℕ) (b : Bool) → pointwise nat_eq key w ≡ b → cond b (Some place) (lookup (pointwise nat_eq w) old) ≡ None → (k : ℕ) (d : R) → k < place + 1 → name (get_or rows k d) ≢ w
+      missing_by : (w : List ℕ) (b : Bool) → pointwise nat_eq key w ≡ b → cond b (Some run) (lookup (pointwise nat_eq w) old) ≡ None → (k : ℕ) (d : R) → k < place + 1 → name (get_or rows k d) ≢ w
       missing_by w true is e k d h has = absurd cc
       missing_by w false is e k d h has = elim (cases_lt k place) [
         | inl lower ↦ known.missing w e k d lower has
@@ -118,10 +119,10 @@ module _ {R : Type 0} (name : R → List ℕ) (rows : List R) where
             let yes : pointwise nat_eq key w ≡ true = (bytes_eq-Decides key w).1 same in cc
       ]
 
-      pub new_more : AreFirstPlaces name rows (place + 1) new
+      pub new_more : AreRuns name rank rows (place + 1) new
       new_more = record {
-        within = λ w p e. within_by w p (pointwise nat_eq key w) (sym (put w) ∙ e);
-        first = λ w p e. first_by w p (pointwise nat_eq key w) refl (sym (put w) ∙ e);
+        within = λ w r e. within_by w r (pointwise nat_eq key w) (sym (put w) ∙ e);
+        is_run = λ w r e. run_by w r (pointwise nat_eq key w) refl (sym (put w) ∙ e);
         missing = λ w e. missing_by w (pointwise nat_eq key w) refl (sym (put w) ∙ e);
         short = λ k d h. elim (cases_lt k place) [
           | inl lower ↦ known.short k d lower
@@ -132,22 +133,23 @@ module _ {R : Type 0} (name : R → List ℕ) (rows : List R) where
       }
 
 -- ---- what is kept of a name
-module _ {R : Type 0} (name : R → List ℕ) (wanted : List ℕ) (rows : List R) where
-  pub none_missing : (entries : List (List ℕ × ℕ)) → AreFirstPlaces name rows (length rows) entries → (key : List ℕ) → key ≡ wanted → None ≡ lookup (pointwise nat_eq key) entries
+module _ {R : Type 0} (name : R → List ℕ) (rank : R → R → Ordering) (wanted : List ℕ) (rows : List R) where
+  pub none_missing : (entries : List (List ℕ × Run)) → AreRuns name rank rows (length rows) entries → (key : List ℕ) → key ≡ wanted → None ≡ lookup (pointwise nat_eq key) entries
       → (k : ℕ) (d : R) → k < length rows → name (get_or rows k d) ≢ wanted
   none_missing entries known key is none = known.missing wanted (subst (λ w. lookup (pointwise nat_eq w) entries ≡ None) is (sym none))
 
-  pub none_long : (entries : List (List ℕ × ℕ)) → AreFirstPlaces name rows (length rows) entries → 32 < length wanted → (k : ℕ) (d : R) → k < length rows → name (get_or rows k d) ≢ wanted
+  pub none_long : (entries : List (List ℕ × Run)) → AreRuns name rank rows (length rows) entries → 32 < length wanted → (k : ℕ) (d : R) → k < length rows → name (get_or rows k d) ≢ wanted
   none_long entries known long k d h has = let s = subst (λ n. length n ≤ 32) has (known.short k d h) in absurd (omega (arith, s, long))
 
-  pub first_found : (entries : List (List ℕ × ℕ)) → AreFirstPlaces name rows (length rows) entries → (key : List ℕ) → key ≡ wanted → (place : ℕ) → Some place ≡ lookup (pointwise nat_eq key) entries
-      → (place < length rows) × IsFirstPlace name rows wanted place
-  first_found entries known key is place some =
-      let there : lookup (pointwise nat_eq wanted) entries ≡ Some place = subst (λ w. lookup (pointwise nat_eq w) entries ≡ Some place) is (sym some) in
-      (known.within wanted place there, known.first wanted place there)
+  pub run_found : (entries : List (List ℕ × Run)) → AreRuns name rank rows (length rows) entries → (key : List ℕ) → key ≡ wanted → (run : Run) → Some run ≡ lookup (pointwise nat_eq key) entries
+      → (run.first ≤ run.end) × (run.end ≤ length rows) × IsRunOf name rank wanted rows (slice_range rows run.first run.end)
+  run_found entries known key is run some =
+      let there : lookup (pointwise nat_eq wanted) entries ≡ Some run = subst (λ w. lookup (pointwise nat_eq w) entries ≡ Some run) is (sym some) in
+      let within = known.within wanted run there in
+      (within.0, within.1, known.is_run wanted run there)
 
-  pub no_run : (rank : R → R → Ordering) → ((k : ℕ) (d : R) → k < length rows → name (get_or rows k d) ≢ wanted) → IsRunOf name rank wanted rows []
-  no_run rank none = record {
+  pub no_run : ((k : ℕ) (d : R) → k < length rows → name (get_or rows k d) ≢ wanted) → IsRunOf name rank wanted rows []
+  no_run none = record {
     named = λ row c. absurd (omega (arith, c.1));
     among = λ row c. absurd (omega (arith, c.1));
     whole = λ row c named. absurd (none c.0 row c.1 (ap name c.2 ∙ named));

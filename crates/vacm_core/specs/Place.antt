@@ -1,11 +1,12 @@
 -- How the rows of the tables stand.
-use Rattle.std.specs.Prelude.{◌≡◌, ◌≢◌, ℕ, ◌<◌, ◌≤◌, List, length, get_or, Contains, Some, None, nat_eq}
+use Rattle.std.specs.Prelude.{◌≡◌, ◌≢◌, ℕ, ◌<◌, ◌≤◌, List, length, get_or, slice_range, Contains, Some, None, nat_eq}
 use Rattle.std.specs.Map.{lookup}
 use Rattle.std.specs.Ordering.{nat_cmp, ordering_then, ordering_index}
 use Rattle.std.specs.Cmp.Lexicographic.{slice_cmp, pointwise}
 use Rattle.std.specs.List.Sorted.{IsSorted}
 use Rattle.std.specs.declared.cmp.Ordering.{Ordering}
 use Rattle.std.specs.declared.cmp.Ordering.TheVariants.{Equal}
+use Rattle.vacm_core.specs.declared.table.Run.{Run}
 use Rattle.vacm_core.specs.declared.rows.ContextRow.{ContextRow}
 use Rattle.vacm_core.specs.declared.rows.GroupRow.{GroupRow}
 use Rattle.vacm_core.specs.declared.rows.AccessRow.{AccessRow}
@@ -65,9 +66,9 @@ pub record IsFirstPlace {R : Type 0} (name : R → List ℕ) (rows : List R) (wa
   pub named : (row : R) → name (get_or rows place row) ≡ wanted
   pub none_before : (k : ℕ) (row : R) → k < place → name (get_or rows k row) ≢ wanted
 
--- the entries give the first place of each name that one of so many rows has, and of no other name
-pub record AreFirstPlaces {R : Type 0} (name : R → List ℕ) (rows : List R) (many : ℕ) (entries : List (List ℕ × ℕ)) : Type 0 where
-  pub within : (wanted : List ℕ) (place : ℕ) → lookup (pointwise nat_eq wanted) entries ≡ Some place → place < many
-  pub first : (wanted : List ℕ) (place : ℕ) → lookup (pointwise nat_eq wanted) entries ≡ Some place → IsFirstPlace name rows wanted place
+-- the entries give the run of each name that one of so many rows has, and of no other name
+pub record AreRuns {R : Type 0} (name : R → List ℕ) (rank : R → R → Ordering) (rows : List R) (many : ℕ) (entries : List (List ℕ × Run)) : Type 0 where
+  pub within : (wanted : List ℕ) (run : Run) → lookup (pointwise nat_eq wanted) entries ≡ Some run → (run.first ≤ run.end) × (run.end ≤ length rows)
+  pub is_run : (wanted : List ℕ) (run : Run) → lookup (pointwise nat_eq wanted) entries ≡ Some run → IsRunOf name rank wanted rows (slice_range rows run.first run.end)
   pub missing : (wanted : List ℕ) → lookup (pointwise nat_eq wanted) entries ≡ None → (k : ℕ) (row : R) → k < many → name (get_or rows k row) ≢ wanted
   pub short : (k : ℕ) (row : R) → k < many → length (name (get_or rows k row)) ≤ 32

@@ -1,7 +1,7 @@
-//! A table whose rows stand by name, and where the rows of each name begin.
-ghost use Rattle.std.specs.Prelude.{◌≡◌, ◌≢◌, ℕ, ◌<◌, ◌≤◌, ◌-◌, length, get_or, MatchBool, MatchOption, IfOk, IfSome};
+//! A table whose rows stand by name, and where the rows of each name are.
+ghost use Rattle.std.specs.Prelude.{◌≡◌, ◌≢◌, ℕ, ◌<◌, ◌≤◌, ◌-◌, length, get_or, slice_range, MatchBool, MatchOption, IfOk};
 ghost use Rattle.std.specs.List.Sorted.{IsPermutation};
-ghost use Rattle.vacm_core.specs.Place.{AreInPlace, IsFirstPlace, AreFirstPlaces, IsRunOf};
+ghost use Rattle.vacm_core.specs.Place.{AreInPlace, AreRuns, IsRunOf};
 
 use crate::Name;
 use crate::place::{copies, count_near, sort};
@@ -10,22 +10,29 @@ use std::alloc::{AllocError, Global};
 use std::collections::HashMap;
 use std::marker::Model;
 
-/// Rows by name, those of a name from the best down. They are found through the place of the first, whatever their number.
+/// Where the rows of one name stand: from the place of the first up to the place behind the last.
+#[derive(Clone, Copy)]
+pub(crate) struct Run {
+    first: usize,
+    end: usize,
+}
+
+/// Rows by name, those of a name from the best down. They are found through their run, whatever their number.
 #[derive(Drop)]
 pub(crate) struct OrderedTable<R: Row> {
     rows: Vec<R>,
-    first_places: HashMap<Name, usize>,
+    runs: HashMap<Name, Run>,
 }
 
 impl<R: Row> Model for OrderedTable<R> {
     ghost use Rattle.std.specs.Prelude.{List, length};
-    ghost use Rattle.vacm_core.specs.Place.{AreInPlace, AreFirstPlaces};
+    ghost use Rattle.vacm_core.specs.Place.{AreRuns};
 
     ghost Value = { List R };
 
     ghost view = { λ t. t.rows.items };
 
-    ghost invariant = { λ t. AreInPlace R.name_of R.rank t.rows.items × AreFirstPlaces R.name_of t.rows.items (length t.rows.items) t.first_places.entries };
+    ghost invariant = { λ t. AreRuns R.name_of R.rank t.rows.items (length t.rows.items) t.runs.entries };
 }
 
 /// Whether the row at the place is the first of its name.
@@ -38,18 +45,34 @@ fn is_first<R: Row>(rows: &[R], place: usize) -> bool
     place == 0 || rows[place - 1].name() != rows[place].name()
 }
 
-/// Where the rows of each name begin.
-fn first_places_of<R: Row>(alloc: Global, rows: &[R]) -> Result<HashMap<Name, usize>, AllocError>
-    requires { AreInPlace R.name_of R.rank rows.now }
-    ensures { IfOk result (λ places. AreFirstPlaces R.name_of rows.now (length rows.now) places.entries) }
+/// The run of the rows that have the name of this one, the first that has it.
+fn run_at<R: Row>(rows: &[R], first: usize) -> Run
+    requires in_place { AreInPlace R.name_of R.rank rows.now }
+    requires within { first < length rows.now }
+    requires first { (k : ℕ) (d : R) → k < first → R.name_of (get_or rows.now k d) ≢ R.name_of (get_or rows.now first d) }
+    ensures within { (result.first ≤ result.end) × (result.end ≤ length rows.now) }
+    ensures run { (d : R) → IsRunOf R.name_of R.rank (R.name_of (get_or rows.now first d)) rows.now (slice_range rows.now result.first result.end) }
 {
-    let mut places = HashMap::new(alloc);
+    let wanted = rows[first].name().as_slice();
+    let count = count_near(&rows[first..], wanted);
+    Run {
+        first,
+        end: first + count,
+    }
+}
+
+/// The run of each name.
+fn runs_of<R: Row>(alloc: Global, rows: &[R]) -> Result<HashMap<Name, Run>, AllocError>
+    requires { AreInPlace R.name_of R.rank rows.now }
+    ensures { IfOk result (λ runs. AreRuns R.name_of R.rank rows.now (length rows.now) runs.entries) }
+{
+    let mut runs = HashMap::new(alloc);
     for place in 0..rows.len() {
         if is_first(rows, place) {
-            places.insert(rows[place].name().copy(), place)?;
+            runs.insert(rows[place].name().copy(), run_at(rows, place))?;
         }
     }
-    Ok(places)
+    Ok(runs)
 }
 
 impl<R: Row> OrderedTable<R> {
@@ -65,19 +88,18 @@ impl<R: Row> OrderedTable<R> {
         ensures { IfOk result (λ table. IsPermutation rows.items table) }
     {
         sort(&mut rows)?;
-        let first_places = first_places_of(alloc, &rows)?;
-        Ok(OrderedTable { rows, first_places })
+        let runs = runs_of(alloc, &rows)?;
+        Ok(OrderedTable { rows, runs })
     }
 
-    /// Where the rows of this name begin.
-    fn first_place_of(&self, wanted: &[u8]) -> Option<usize>
-        ensures within { IfSome result (λ first. first ≤ length self.now) }
-        ensures first { MatchOption result ((k : ℕ) (d : R) → k < length self.now → R.name_of (get_or self.now k d) ≢ wanted.now)
-            (λ first. (first < length self.now) × IsFirstPlace R.name_of self.now wanted.now first) }
+    /// The run of this name.
+    fn run_of(&self, wanted: &[u8]) -> Option<Run>
+        ensures { MatchOption result ((k : ℕ) (d : R) → k < length self.now → R.name_of (get_or self.now k d) ≢ wanted.now)
+            (λ run. (run.first ≤ run.end) × (run.end ≤ length self.now) × IsRunOf R.name_of R.rank wanted.now self.now (slice_range self.now run.first run.end)) }
     {
-        let first_places = &self.first_places;
+        let runs = &self.runs;
         let name = Name::of(wanted)?;
-        Some(*first_places.get(&name)?)
+        Some(*runs.get(&name)?)
     }
 
     /// The rows of this name, from the best down.
@@ -85,10 +107,9 @@ impl<R: Row> OrderedTable<R> {
         ensures { IsRunOf R.name_of R.rank wanted.now self.now result.now }
     {
         let rows = &self.rows;
-        let Some(first) = self.first_place_of(wanted) else {
+        let Some(run) = self.run_of(wanted) else {
             return &[];
         };
-        let rest = &rows[first..];
-        &rest[..count_near(rest, wanted)]
+        &rows[run.first..run.end]
     }
 }

@@ -9,7 +9,7 @@ use engine_clock::Pair;
 
 /// The digest of the datagram is right, for whoever takes messages of any engine.
 fn is_authentic(users: &mut Users, datagram: &[u8]) -> bool {
-    users.open_auth(Role::Manager, datagram).is_ok()
+    refusal(users, Role::Manager, datagram).is_none()
 }
 
 /// Whether a sample is authentic each time, of so many times.
@@ -44,19 +44,25 @@ fn sample(index: usize) -> Result<&'static Sample, Fail> {
 #[test]
 fn users_that_are_loaded_keep_no_key(rt: HostRuntime) -> Result<(), Fail> {
     let users = loaded(rt.alloc(), people())?;
-    assert_eq!(rt; users.cached(), 0);
+    assert_eq!(rt; cached(&users), 0);
     Ok(())
+}
+
+/// How many of a hundred equal datagrams are authentic.
+fn authentic_of_hundred(users: &mut Users, datagram: &[u8]) -> u8 {
+    let mut authentic = 0u8;
+    for _ in 0..100 {
+        authentic = authentic.saturating_add(u8::from(is_authentic(users, datagram)));
+    }
+    authentic
 }
 
 /// How many of a hundred spoiled datagrams are authentic, and how many keys are kept after them.
 fn spoiled_hundred(alloc: Global) -> Result<(u8, usize), Fail> {
-    let mut users = loaded(alloc, people())?;
     let datagram = spoiled(alloc, sample(0)?)?;
-    let mut authentic = 0u8;
-    for _ in 0..100 {
-        authentic = authentic.saturating_add(u8::from(is_authentic(&mut users, &datagram)));
-    }
-    Ok((authentic, users.cached()))
+    let mut users = loaded(alloc, people())?;
+    let authentic = authentic_of_hundred(&mut users, &datagram);
+    Ok((authentic, cached(&users)))
 }
 
 #[test]
@@ -68,14 +74,19 @@ fn a_wrong_digest_keeps_no_key(rt: HostRuntime) -> Result<(), Fail> {
 
 /// How many keys are kept after two equal authNoPriv messages, and then after two equal authPriv ones, of one user and one
 /// engine. Each comes twice, so that a growth that is refused leaves a key out once.
+fn kept_in_turn(users: &mut Users, alloc: Global) -> Result<(usize, usize), Fail> {
+    is_authentic_again(users, alloc, sample(0)?, 2)?;
+    let first = cached(users);
+    let datagram = hex::decode(alloc, sample(1)?.text)?;
+    opened(users, alloc, Role::Manager, &datagram)?;
+    opened(users, alloc, Role::Manager, &datagram)?;
+    Ok((first, cached(users)))
+}
+
+/// The same of users that were just loaded.
 fn kept_of_one_user(alloc: Global) -> Result<(usize, usize), Fail> {
     let mut users = loaded(alloc, people())?;
-    is_authentic_again(&mut users, alloc, sample(0)?, 2)?;
-    let first = users.cached();
-    let datagram = hex::decode(alloc, sample(1)?.text)?;
-    opened(&mut users, alloc, Role::Manager, &datagram)?;
-    opened(&mut users, alloc, Role::Manager, &datagram)?;
-    Ok((first, users.cached()))
+    kept_in_turn(&mut users, alloc)
 }
 
 #[test]
@@ -129,12 +140,22 @@ fn taken_of(
 }
 
 /// The same, and how many keys are kept then.
+fn taken_and_kept(
+    readers: &mut Users,
+    writers: &mut Users,
+    alloc: Global,
+    engines: u8,
+) -> Result<(u8, usize), Fail> {
+    let scoped = scoped_pdu(alloc)?;
+    let taken = taken_of(readers, writers, engines, &scoped)?;
+    Ok((taken, cached(readers)))
+}
+
+/// The same of users that were just loaded.
 fn kept_of_engines(alloc: Global, engines: u8) -> Result<(u8, usize), Fail> {
     let mut readers = loaded(alloc, people())?;
     let mut writers = loaded(alloc, people())?;
-    let scoped = scoped_pdu(alloc)?;
-    let taken = taken_of(&mut readers, &mut writers, engines, &scoped)?;
-    Ok((taken, readers.cached()))
+    taken_and_kept(&mut readers, &mut writers, alloc, engines)
 }
 
 #[test]
@@ -144,12 +165,17 @@ fn at_most_64_keys_are_kept(rt: HostRuntime) -> Result<(), Fail> {
     Ok(())
 }
 
-#[test]
-fn a_growth_refused_to_the_kept_keys_changes_no_answer(rt: HostRuntime) -> Result<(), Fail> {
-    let mut users = loaded(rt.alloc(), people())?;
+/// Each sample is authentic three times.
+fn assert_again(rt: &impl Abort, users: &mut Users, alloc: Global) -> Result<(), Fail> {
     for sample in samples() {
-        let again = is_authentic_again(&mut users, rt.alloc(), sample, 3)?;
+        let again = is_authentic_again(users, alloc, sample, 3)?;
         assert!(rt; again, "{}", sample.text);
     }
     Ok(())
+}
+
+#[test]
+fn a_growth_refused_to_the_kept_keys_changes_no_answer(rt: HostRuntime) -> Result<(), Fail> {
+    let mut users = loaded(rt.alloc(), people())?;
+    assert_again(&rt, &mut users, rt.alloc())
 }

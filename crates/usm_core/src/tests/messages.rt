@@ -7,7 +7,6 @@ ghost use Rattle.snmp_msg.specs.Spelling.{HeaderFits};
 
 use super::*;
 use engine_clock::{EngineId, Pair};
-use snmp_ber::Level;
 use snmp_msg::{Header, WriteFault, write_pdu, write_scoped};
 
 /// A GetRequest with request-id 2 and no bindings, in the engine's context of this name.
@@ -153,7 +152,7 @@ fn data_of(scoped: &[u8], level: Level) -> &[u8] {
 }
 
 /// The sample is what is sealed, and it is opened by its agent and by a manager.
-pub(super) fn assert_sample(
+fn assert_sample(
     rt: &impl Abort,
     users: &mut Users,
     alloc: Global,
@@ -176,11 +175,44 @@ pub(super) fn assert_sample(
     Ok(())
 }
 
+/// The same of each of the samples.
+pub(super) fn assert_samples(
+    rt: &impl Abort,
+    users: &mut Users,
+    alloc: Global,
+    samples: &[Sample],
+) -> Result<(), Fail> {
+    for sample in samples {
+        assert_sample(rt, users, alloc, sample)?;
+    }
+    Ok(())
+}
+
 #[test]
 fn messages_of_another_program_are_opened_and_sealed(rt: HostRuntime) -> Result<(), Fail> {
     let mut users = loaded(rt.alloc(), people())?;
+    assert_samples(&rt, &mut users, rt.alloc(), samples())
+}
+
+/// The sample says what it was made of.
+fn assert_said(
+    rt: &impl Abort,
+    users: &mut Users,
+    alloc: Global,
+    sample: &Sample,
+) -> Result<(), Fail> {
+    let datagram = hex::decode(alloc, sample.text)?;
+    let said = said_by(users, &datagram)?;
+    assert_eq!(rt; said.level, sample.level);
+    assert_eq!(rt; said.user, sample.user);
+    assert_eq!(rt; said.engine, ENGINE.as_slice());
+    assert_eq!(rt; (said.boots, said.time, said.id), (7, 1000, 3));
+    Ok(())
+}
+
+fn assert_all_said(rt: &impl Abort, users: &mut Users, alloc: Global) -> Result<(), Fail> {
     for sample in samples() {
-        assert_sample(&rt, &mut users, rt.alloc(), sample)?;
+        assert_said(rt, users, alloc, sample)?;
     }
     Ok(())
 }
@@ -188,16 +220,7 @@ fn messages_of_another_program_are_opened_and_sealed(rt: HostRuntime) -> Result<
 #[test]
 fn what_a_message_says_is_given(rt: HostRuntime) -> Result<(), Fail> {
     let mut users = loaded(rt.alloc(), people())?;
-    for sample in samples() {
-        let datagram = hex::decode(rt.alloc(), sample.text)?;
-        let checked = users.open_auth(Role::Manager, &datagram)?;
-        assert_eq!(rt; checked.level, sample.level);
-        assert_eq!(rt; checked.security.user, sample.user);
-        assert_eq!(rt; checked.security.engine, ENGINE.as_slice());
-        assert_eq!(rt; (checked.security.boots, checked.security.time), (7, 1000));
-        assert_eq!(rt; checked.message.header.id, 3);
-    }
-    Ok(())
+    assert_all_said(&rt, &mut users, rt.alloc())
 }
 
 /// A request that `snmpget` of net-snmp 5.9.3 sent, and its scoped PDU, deciphered by another program, or the content of it.
@@ -246,7 +269,7 @@ fn foreign_messages() -> &'static [Foreign] {
 }
 
 /// The message is opened by its agent and by a manager, as another program opened it.
-pub(super) fn assert_foreign(
+fn assert_foreign(
     rt: &impl Abort,
     users: &mut Users,
     alloc: Global,
@@ -255,11 +278,8 @@ pub(super) fn assert_foreign(
     let own = engine(&ENGINE)?;
     let datagram = hex::decode(alloc, foreign.text)?;
     let scoped = hex::decode(alloc, foreign.scoped)?;
-    let checked = users.open_auth(Role::Manager, &datagram)?;
-    assert_eq!(rt;
-        (checked.security.user, checked.level),
-        (foreign.user, foreign.level)
-    );
+    let said = said_by(users, &datagram)?;
+    assert_eq!(rt; (said.user, said.level), (foreign.user, foreign.level));
     let there = opened(users, alloc, Role::Manager, &datagram)?;
     assert_eq!(rt; there.as_slice(), scoped.as_slice());
     let here = opened(users, alloc, Role::Agent(&own), &datagram)?;
@@ -267,13 +287,23 @@ pub(super) fn assert_foreign(
     Ok(())
 }
 
+/// The same of each of the messages.
+pub(super) fn assert_all_foreign(
+    rt: &impl Abort,
+    users: &mut Users,
+    alloc: Global,
+    messages: &[Foreign],
+) -> Result<(), Fail> {
+    for foreign in messages {
+        assert_foreign(rt, users, alloc, foreign)?;
+    }
+    Ok(())
+}
+
 #[test]
 fn requests_of_net_snmp_are_opened(rt: HostRuntime) -> Result<(), Fail> {
     let mut users = loaded(rt.alloc(), people())?;
-    for foreign in foreign_messages() {
-        assert_foreign(&rt, &mut users, rt.alloc(), foreign)?;
-    }
-    Ok(())
+    assert_all_foreign(&rt, &mut users, rt.alloc(), foreign_messages())
 }
 
 /// The first sample with other octets at some places, and what an agent of its engine and a manager answer.
@@ -393,22 +423,38 @@ fn with_octets(alloc: Global, octets: &[(usize, u8)]) -> Result<Vec<u8>, Fail> {
     Ok(datagram)
 }
 
+/// An agent of the engine and a manager answer so.
+fn assert_spoiled(
+    rt: &impl Abort,
+    users: &mut Users,
+    alloc: Global,
+    number: usize,
+    spoiled: &Spoiled,
+) -> Result<(), Fail> {
+    let own = engine(&ENGINE)?;
+    let datagram = with_octets(alloc, spoiled.octets)?;
+    let agent = refusal(users, Role::Agent(&own), &datagram);
+    assert_eq!(rt; agent, Some(spoiled.agent), "case {number} at the agent");
+    let manager = refusal(users, Role::Manager, &datagram);
+    assert_eq!(rt;
+        manager,
+        Some(spoiled.manager),
+        "case {number} at the manager"
+    );
+    Ok(())
+}
+
+fn assert_all_spoiled(rt: &impl Abort, users: &mut Users, alloc: Global) -> Result<(), Fail> {
+    for (number, spoiled) in spoiled_messages().iter().enumerate() {
+        assert_spoiled(rt, users, alloc, number, spoiled)?;
+    }
+    Ok(())
+}
+
 #[test]
 fn the_first_fault_is_told(rt: HostRuntime) -> Result<(), Fail> {
     let mut users = loaded(rt.alloc(), people())?;
-    let own = engine(&ENGINE)?;
-    for (number, spoiled) in spoiled_messages().iter().enumerate() {
-        let datagram = with_octets(rt.alloc(), spoiled.octets)?;
-        let agent = users.open_auth(Role::Agent(&own), &datagram).err();
-        assert_eq!(rt; agent, Some(spoiled.agent), "case {number} at the agent");
-        let manager = users.open_auth(Role::Manager, &datagram).err();
-        assert_eq!(rt;
-            manager,
-            Some(spoiled.manager),
-            "case {number} at the manager"
-        );
-    }
-    Ok(())
+    assert_all_spoiled(&rt, &mut users, rt.alloc())
 }
 
 /// A message, and what an agent of its engine and a manager answer.
@@ -460,7 +506,7 @@ fn answered_messages() -> &'static [Answered] {
 }
 
 /// An agent of the engine and a manager answer so.
-pub(super) fn assert_answered(
+fn assert_answered(
     rt: &impl Abort,
     users: &mut Users,
     alloc: Global,
@@ -469,62 +515,85 @@ pub(super) fn assert_answered(
 ) -> Result<(), Fail> {
     let own = engine(&ENGINE)?;
     let datagram = hex::decode(alloc, answered.text)?;
-    let agent = users.open_auth(Role::Agent(&own), &datagram).err();
+    let agent = refusal(users, Role::Agent(&own), &datagram);
     assert_eq!(rt; agent, answered.agent, "case {number} at the agent");
-    let manager = users.open_auth(Role::Manager, &datagram).err();
+    let manager = refusal(users, Role::Manager, &datagram);
     assert_eq!(rt; manager, answered.manager, "case {number} at the manager");
+    Ok(())
+}
+
+/// The same of each of the messages.
+pub(super) fn assert_all_answered(
+    rt: &impl Abort,
+    users: &mut Users,
+    alloc: Global,
+    messages: &[Answered],
+) -> Result<(), Fail> {
+    for (number, answered) in messages.iter().enumerate() {
+        assert_answered(rt, users, alloc, number, answered)?;
+    }
     Ok(())
 }
 
 #[test]
 fn the_code_is_that_of_the_octets_received(rt: HostRuntime) -> Result<(), Fail> {
     let mut users = loaded(rt.alloc(), people())?;
-    for (number, answered) in answered_messages().iter().enumerate() {
-        assert_answered(&rt, &mut users, rt.alloc(), number, answered)?;
-    }
-    Ok(())
+    assert_all_answered(&rt, &mut users, rt.alloc(), answered_messages())
 }
 
 /// With privacy and a salt of 7 octets, and with the code of it.
 const SHORT_SALT: &str =
     "3052020103300e020103020300ffe304010702010304333031040c000000000000000000000002020107020203e80403616e6e040c50924ed468d6335990d6c67d04070001020304050604080000000000000000";
 
-#[test]
-fn a_salt_has_eight_octets(rt: HostRuntime) -> Result<(), Fail> {
-    let mut users = loaded(rt.alloc(), people())?;
-    let datagram = hex::decode(rt.alloc(), SHORT_SALT)?;
-    assert!(rt; users.open_auth(Role::Manager, &datagram).is_ok());
-    let answer = opened(&mut users, rt.alloc(), Role::Manager, &datagram);
+/// The message is authentic, and isn't decrypted.
+pub(super) fn assert_not_decrypted(
+    rt: &impl Abort,
+    users: &mut Users,
+    alloc: Global,
+    text: &str,
+) -> Result<(), Fail> {
+    let datagram = hex::decode(alloc, text)?;
+    assert_eq!(rt; refusal(users, Role::Manager, &datagram), None);
+    let answer = opened(users, alloc, Role::Manager, &datagram);
     assert_eq!(rt; answer.err(), Some(UsmFault::DecryptionError));
     Ok(())
 }
 
+#[test]
+fn a_salt_has_eight_octets(rt: HostRuntime) -> Result<(), Fail> {
+    let mut users = loaded(rt.alloc(), people())?;
+    assert_not_decrypted(&rt, &mut users, rt.alloc(), SHORT_SALT)
+}
+
 /// No octet of a message with privacy can be xored with this one.
-pub(super) fn assert_changes_seen(
-    rt: &impl Abort,
-    users: &mut Users,
-    datagram: &mut [u8],
-    change: u8,
-) {
+fn assert_changes_seen(rt: &impl Abort, users: &mut Users, datagram: &mut [u8], change: u8) {
     for place in 0..datagram.len() {
         datagram[place] ^= change;
-        assert!(rt;
-            users.open_auth(Role::Manager, datagram).is_err(),
-            "octet {place}"
-        );
+        let told = refusal(users, Role::Manager, datagram);
+        assert!(rt; told.is_some(), "octet {place}");
         datagram[place] ^= change;
     }
+}
+
+/// The second of the samples is authentic, and with a changed octet it isn't.
+pub(super) fn assert_second_guarded(
+    rt: &impl Abort,
+    users: &mut Users,
+    alloc: Global,
+    samples: &[Sample],
+) -> Result<(), Fail> {
+    let sample = samples.get(1).ok_or("a sample")?;
+    let mut datagram = hex::decode(alloc, sample.text)?;
+    assert_changes_seen(rt, users, &mut datagram, 0x01);
+    assert_changes_seen(rt, users, &mut datagram, 0x80);
+    assert_eq!(rt; refusal(users, Role::Manager, &datagram), None);
+    Ok(())
 }
 
 #[test]
 fn a_changed_octet_is_seen(rt: HostRuntime) -> Result<(), Fail> {
     let mut users = loaded(rt.alloc(), people())?;
-    let sample = samples().get(1).ok_or("a sample")?;
-    let mut datagram = hex::decode(rt.alloc(), sample.text)?;
-    assert_changes_seen(&rt, &mut users, &mut datagram, 0x01);
-    assert_changes_seen(&rt, &mut users, &mut datagram, 0x80);
-    assert!(rt; users.open_auth(Role::Manager, &datagram).is_ok());
-    Ok(())
+    assert_second_guarded(&rt, &mut users, rt.alloc(), samples())
 }
 
 /// What sealing answers to a user, with these flags of auth and priv.
@@ -541,22 +610,34 @@ fn refused() -> &'static [(&'static str, bool, bool, UsmFault)] {
     &REFUSED
 }
 
+/// What sealing to the user, with these flags of auth and priv, answers.
+fn sealing_refused(
+    users: &mut Users,
+    auth: bool,
+    privacy: bool,
+    user: &str,
+    scoped: &[u8],
+) -> Option<UsmFault>
+    requires { (content : List ℕ) × IsElement 48 content scoped.now }
+{
+    sealed(users, &header(auth, privacy), user.as_bytes(), scoped).err()
+}
+
+fn assert_all_refused(rt: &impl Abort, users: &mut Users, alloc: Global) -> Result<(), Fail> {
+    let scoped = scoped_pdu(alloc)?;
+    for (user, auth, privacy, fault) in refused() {
+        let told = sealing_refused(users, *auth, *privacy, user, &scoped);
+        assert_eq!(rt; told, Some(*fault), "{user} {auth} {privacy}");
+    }
+    // At noAuthNoPriv no user is looked for.
+    let _text = sealed(users, &header(false, false), b"nobody", &scoped)?;
+    Ok(())
+}
+
 #[test]
 fn sealing_needs_a_user_of_the_level(rt: HostRuntime) -> Result<(), Fail> {
     let mut users = loaded(rt.alloc(), people())?;
-    let scoped = scoped_pdu(rt.alloc())?;
-    for (user, auth, privacy, fault) in refused() {
-        let answer = sealed(
-            &mut users,
-            &header(*auth, *privacy),
-            user.as_bytes(),
-            &scoped,
-        );
-        assert_eq!(rt; answer.err(), Some(*fault), "{user} {auth} {privacy}");
-    }
-    // At noAuthNoPriv no user is looked for.
-    let _text = sealed(&mut users, &header(false, false), b"nobody", &scoped)?;
-    Ok(())
+    assert_all_refused(&rt, &mut users, rt.alloc())
 }
 
 /// A user, the flags of auth and priv, and how many octets a context name can have in a message to the user.
@@ -589,31 +670,39 @@ fn sealed_len(
     }
 }
 
-#[test]
-fn nothing_longer_than_a_datagram_is_sealed(rt: HostRuntime) -> Result<(), Fail> {
-    let mut users = loaded(rt.alloc(), people())?;
+fn assert_longest(rt: &impl Abort, users: &mut Users, alloc: Global) -> Result<(), Fail> {
     for (user, auth, privacy, most) in longest() {
         let header = header(*auth, *privacy);
-        let len = sealed_len(&mut users, rt.alloc(), &header, user, *most)?;
+        let len = sealed_len(users, alloc, &header, user, *most)?;
         assert_eq!(rt; len, Some(65_507), "{user} {privacy}");
         let longer = most.saturating_add(1);
-        let len = sealed_len(&mut users, rt.alloc(), &header, user, longer)?;
+        let len = sealed_len(users, alloc, &header, user, longer)?;
         assert_eq!(rt; len, None, "{user} {privacy}");
     }
     Ok(())
 }
 
+#[test]
+fn nothing_longer_than_a_datagram_is_sealed(rt: HostRuntime) -> Result<(), Fail> {
+    let mut users = loaded(rt.alloc(), people())?;
+    assert_longest(&rt, &mut users, rt.alloc())
+}
+
 // Run by `tools/refuse-memory`, this shows that a refused growth is answered as want of memory, and that
 // the same call succeeds afterwards.
-#[test]
-fn a_refused_growth_seals_and_opens_nothing(rt: HostRuntime) -> Result<(), Fail> {
-    let mut users = loaded_after_refusal(&rt, rt.alloc(), people())?;
-    let scoped = scoped_after_refusal(rt.alloc())?;
-    let text = sealed_after_refusal(&mut users, &scoped)?;
-    let plain = match opened(&mut users, rt.alloc(), Role::Manager, &text) {
-        Err(UsmFault::OutOfMemory) => opened(&mut users, rt.alloc(), Role::Manager, &text)?,
+fn assert_sealed_and_opened(rt: &impl Abort, users: &mut Users, alloc: Global) -> Result<(), Fail> {
+    let scoped = scoped_after_refusal(alloc)?;
+    let text = sealed_after_refusal(users, &scoped)?;
+    let plain = match opened(users, alloc, Role::Manager, &text) {
+        Err(UsmFault::OutOfMemory) => opened(users, alloc, Role::Manager, &text)?,
         other => other?,
     };
     assert_eq!(rt; plain.as_slice(), scoped.as_slice());
     Ok(())
+}
+
+#[test]
+fn a_refused_growth_seals_and_opens_nothing(rt: HostRuntime) -> Result<(), Fail> {
+    let mut users = loaded_after_refusal(&rt, rt.alloc(), people())?;
+    assert_sealed_and_opened(&rt, &mut users, rt.alloc())
 }

@@ -5,12 +5,12 @@ ghost use Rattle.std.specs.Prelude.{List, ℕ, IfOk};
 ghost use Rattle.snmp_ber.specs.Element.{IsElement};
 
 use super::messages::{
-    Answered, Foreign, Sample, assert_answered, assert_changes_seen, assert_foreign, assert_sample,
-    opened,
+    Answered, Foreign, Sample, assert_all_answered, assert_all_foreign, assert_not_decrypted,
+    assert_samples, assert_second_guarded,
 };
 use super::*;
 use engine_clock::Pair;
-use snmp_ber::{Level, Oid};
+use snmp_ber::Oid;
 use snmp_msg::{Binding, Header, write_pdu, write_scoped};
 
 /// `ann` with MD5, `sam` with SHA-256.
@@ -51,21 +51,13 @@ fn samples() -> &'static [Sample] {
 #[test]
 fn messages_of_another_program_are_opened_and_sealed(rt: HostRuntime) -> Result<(), Fail> {
     let mut users = loaded(rt.alloc(), people())?;
-    for sample in samples() {
-        assert_sample(&rt, &mut users, rt.alloc(), sample)?;
-    }
-    Ok(())
+    assert_samples(&rt, &mut users, rt.alloc(), samples())
 }
 
 #[test]
 fn a_changed_octet_is_seen(rt: HostRuntime) -> Result<(), Fail> {
     let mut users = loaded(rt.alloc(), people())?;
-    let sample = samples().get(1).ok_or("a sample")?;
-    let mut datagram = hex::decode(rt.alloc(), sample.text)?;
-    assert_changes_seen(&rt, &mut users, &mut datagram, 0x01);
-    assert_changes_seen(&rt, &mut users, &mut datagram, 0x80);
-    assert!(rt; users.open_auth(Role::Manager, &datagram).is_ok());
-    Ok(())
+    assert_second_guarded(&rt, &mut users, rt.alloc(), samples())
 }
 
 static FOREIGN: [Foreign; 2] = [
@@ -90,10 +82,7 @@ fn foreign_messages() -> &'static [Foreign] {
 #[test]
 fn requests_of_net_snmp_are_opened(rt: HostRuntime) -> Result<(), Fail> {
     let mut users = loaded(rt.alloc(), people())?;
-    for foreign in foreign_messages() {
-        assert_foreign(&rt, &mut users, rt.alloc(), foreign)?;
-    }
-    Ok(())
+    assert_all_foreign(&rt, &mut users, rt.alloc(), foreign_messages())
 }
 
 /// A GetRequest of 1.3.6.1.2.1.1.1.0 by each user, with boots 0, time 0 and authentication alone.
@@ -154,8 +143,15 @@ fn assert_request(
     let name = &name[..name.len().min(32)];
     let datagram = users.seal(&header, &ENGINE, pair, name, [0; 8], scoped)?;
     assert_eq!(rt; datagram.as_slice(), wanted.as_slice(), "{user}");
-    let checked = users.open_auth(Role::Manager, &datagram)?;
-    assert_eq!(rt; checked.security.auth_at, 52, "{user}");
+    assert_eq!(rt; said_by(users, &datagram)?.auth_at, 52, "{user}");
+    Ok(())
+}
+
+fn assert_requests(rt: &impl Abort, users: &mut Users, alloc: Global) -> Result<(), Fail> {
+    let scoped = scoped_request(alloc)?;
+    for request in requests() {
+        assert_request(rt, users, alloc, *request, &scoped)?;
+    }
     Ok(())
 }
 
@@ -163,11 +159,7 @@ fn assert_request(
 #[test]
 fn a_longer_code_is_sealed(rt: HostRuntime) -> Result<(), Fail> {
     let mut users = loaded(rt.alloc(), people())?;
-    let scoped = scoped_request(rt.alloc())?;
-    for request in requests() {
-        assert_request(&rt, &mut users, rt.alloc(), *request, &scoped)?;
-    }
-    Ok(())
+    assert_requests(&rt, &mut users, rt.alloc())
 }
 
 const WRONG_DIGEST: Option<UsmFault> = Some(UsmFault::WrongDigest);
@@ -235,10 +227,7 @@ fn answered_messages() -> &'static [Answered] {
 #[test]
 fn a_field_has_the_octets_of_its_protocol(rt: HostRuntime) -> Result<(), Fail> {
     let mut users = loaded(rt.alloc(), people())?;
-    for (number, answered) in answered_messages().iter().enumerate() {
-        assert_answered(&rt, &mut users, rt.alloc(), number, answered)?;
-    }
-    Ok(())
+    assert_all_answered(&rt, &mut users, rt.alloc(), answered_messages())
 }
 
 /// With privacy and a salt of 7 octets, and with the code of it.
@@ -248,9 +237,5 @@ const SHORT_SALT: &str =
 #[test]
 fn a_salt_has_eight_octets(rt: HostRuntime) -> Result<(), Fail> {
     let mut users = loaded(rt.alloc(), people())?;
-    let datagram = hex::decode(rt.alloc(), SHORT_SALT)?;
-    assert!(rt; users.open_auth(Role::Manager, &datagram).is_ok());
-    let answer = opened(&mut users, rt.alloc(), Role::Manager, &datagram);
-    assert_eq!(rt; answer.err(), Some(UsmFault::DecryptionError));
-    Ok(())
+    assert_not_decrypted(&rt, &mut users, rt.alloc(), SHORT_SALT)
 }

@@ -5,8 +5,8 @@ use Rattle.usm_core.specs.Cache.{AreCached, IsCachedAt, key_id}
 use Rattle.usm_core.proofs.Caching.{put_cached, promoted_cached}
 use Rattle.usm_core.proofs.cache.KeyCache.note_use.Goals as goal
 
-pub returns-in-Some-made : goal.returns-in-Some-made
-returns-in-Some-made c users are is =
+pub returns-then-has_turn : goal.returns-then-has_turn
+returns-then-has_turn c users are is =
     let key : AuthKey = c.in-Some-made.key in
     let here : IsCachedAt users (key_id c.args.name.now c.args.engine.now c.args.purpose) key =
     subst (λ (o : Option AuthKey). IfSome o (IsCachedAt users (key_id c.args.name.now c.args.engine.now c.args.purpose))) c.in-Some-made.is is in
