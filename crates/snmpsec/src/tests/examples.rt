@@ -263,8 +263,8 @@ fn questions_have_the_answers_beside_them(rt: HostRuntime) -> Result<(), Fail> {
 
 #[test]
 fn a_question_is_explained(rt: HostRuntime) -> Result<(), Fail> {
-    let (_answer, words) = &questions()[9];
-    let output = explain_text(rt.alloc(), ACCESS.as_bytes(), words)?;
+    let (_answer, words) = QUESTIONS[9];
+    let output = explain_text(rt.alloc(), ACCESS.as_bytes(), &words)?;
     assert_eq!(rt; output.out.as_slice(), EXPLAINED.as_bytes());
     Ok(())
 }
