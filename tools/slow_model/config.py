@@ -125,6 +125,11 @@ def read(text):
     return rows
 
 
+def best(rows, fits, rank):
+    """The position of the best of the rows that fit, or None."""
+    return max((k for k, row in enumerate(rows) if fits(row)), key=lambda k: rank(rows[k]), default=None)
+
+
 def best_access(rows, group, model, level, context):
     def fits(row):
         prefix = row["prefix"].encode()
@@ -138,13 +143,13 @@ def best_access(rows, group, model, level, context):
     def rank(row):
         return row["model"] != 0, len(row["prefix"].encode()), LEVELS[row["level"]]
 
-    return max(filter(fits, rows), key=rank, default=None)
+    return best(rows, fits, rank)
 
 
-def deciding_family(rows, variable):
+def deciding_family(rows, view, variable):
     def fits(row):
         subtree, mask = arcs_of(row["subtree"]), bytes.fromhex(row.get("mask", ""))
-        if len(subtree) > len(variable):
+        if row["view"] != view or len(subtree) > len(variable):
             return False
         bits = [mask[k // 8] >> (7 - k % 8) & 1 if k // 8 < len(mask) else 1 for k in range(len(subtree))]
         return all(not bit or arc == other for bit, arc, other in zip(bits, subtree, variable))
@@ -153,23 +158,34 @@ def deciding_family(rows, variable):
         subtree = arcs_of(row["subtree"])
         return len(subtree), subtree
 
-    return max(filter(fits, rows), key=rank, default=None)
+    return best(rows, fits, rank)
 
 
-def is_access_allowed(rows, model, name, level, view, context, variable):
-    if not any(row["name"].encode() == context for row in rows["context"]):
-        return "noSuchContext"
-    groups = [row["group"] for row in rows["group"] if row["model"] == model and row["name"].encode() == name]
-    if not groups:
-        return "noGroupName"
-    access = best_access(rows["access"], groups[0], model, level, context)
-    if access is None:
-        return "noAccessEntry"
-    families = [row for row in rows["family"] if row["view"] == access.get(view, "")]
-    if not access.get(view, "") or not families:
-        return "noSuchView"
-    family = deciding_family(families, variable)
-    return "accessAllowed" if family is not None and family["include"] else "notInView"
+def explained(rows, model, name, level, view, context, variable):
+    """The answer, and after it the lines of what decided."""
+    at = best(rows["context"], lambda row: row["name"].encode() == context, lambda row: 0)
+    if at is None:
+        return ["noSuchContext"]
+    lines = [f"context {at}"]
+    at = best(rows["group"], lambda row: row["model"] == model and row["name"].encode() == name, lambda row: 0)
+    if at is None:
+        return ["noGroupName", *lines]
+    group = rows["group"][at]["group"]
+    lines.append(f"group {at} {group}")
+    at = best_access(rows["access"], group, model, level, context)
+    if at is None:
+        return ["noAccessEntry", *lines]
+    lines.append(f"access {at}")
+    named = rows["access"][at].get(view, "")
+    if not named:
+        return ["noSuchView", *lines]
+    lines.append(f"view {named}")
+    if all(row["view"] != named for row in rows["family"]):
+        return ["noSuchView", *lines]
+    at = deciding_family(rows["family"], named, variable)
+    if at is None:
+        return ["notInView", *lines]
+    return ["accessAllowed" if rows["family"][at]["include"] else "notInView", *lines, f"family {at}"]
 
 
 def bad_word(words):
@@ -184,8 +200,8 @@ def bad_word(words):
     return "OID" if arcs_of(identifier) is None else None
 
 
-def check_access(text, words):
-    """What `check-access` prints, what it tells on standard error, and its status."""
+def asked(text, words, lines_of):
+    """What is printed where a question is asked, what is told on standard error, and the status."""
     bad = bad_word(words)
     if bad:
         return "", f"snmpsec: bad word {bad}\n", 2
@@ -195,8 +211,16 @@ def check_access(text, words):
         return str(refused), "", 1
     model, name, level, view, context, identifier = words
     context = b"" if context == "@" else context.encode()
-    answer = is_access_allowed(rows, int(model), name.encode(), LEVELS[level], view, context, arcs_of(identifier))
-    return answer + "\n", "", 0 if answer == "accessAllowed" else 1
+    lines = explained(rows, int(model), name.encode(), LEVELS[level], view, context, arcs_of(identifier))
+    return "".join(f"{line}\n" for line in lines_of(lines)), "", 0 if lines[0] == "accessAllowed" else 1
+
+
+def check_access(text, words):
+    return asked(text, words, lambda lines: lines[:1])
+
+
+def explain_access(text, words):
+    return asked(text, words, lambda lines: lines)
 
 
 def check_config(text):

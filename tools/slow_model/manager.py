@@ -5,7 +5,7 @@ import hmac
 
 from . import clocks
 from .ber import Element, Fault
-from .messages import MOST, NAMES, Message, Pdu, Refused, Scoped, refusing
+from .messages import MOST, NAMES, Message, Pdu, Refused, Scoped, message_lines, refusing, scoped_lines, text_of
 
 LEVEL_WORDS = {1: "noAuthNoPriv", 2: "authNoPriv", 3: "authPriv"}
 CODE_OCTETS = {"md5": 12, "sha1": 12, "sha256": 24}
@@ -144,15 +144,24 @@ class Manager:
         text = fed_back(key, iv_of(security), message.data.content, True)
         return refusing(12, lambda: Scoped(text, 0, Element(text, 0, len(text)).stop))
 
-    def take(self, now, octets):
+    def known(self, octets):
+        """A message whose user and code were looked at."""
         message = Message(octets)
         message.look_inside()
         self.look_at_the_user(message)
+        return message
+
+    def inside(self, message):
+        """The scoped PDU of such a message, and the PDU in it."""
+        scoped = self.opened(message) if message.has_privacy else message.scoped
+        return scoped, refusing(13, Pdu, scoped.data)
+
+    def take(self, now, octets):
+        message = self.known(octets)
         if message.has_auth:
             self.learn(message, now)
             self.look_at_the_window(message, now)
-        scoped = self.opened(message) if message.has_privacy else message.scoped
-        return message.level(), refusing(13, Pdu, scoped.data).tag
+        return message.level(), self.inside(message)[1].tag
 
     def answer(self, now, octets):
         try:
@@ -160,6 +169,17 @@ class Manager:
         except Refused as refused:
             return f"refused {refused.number} {NAMES[refused.number]}"
         return f"accepted {LEVEL_WORDS[level]} {tag:02x}"
+
+
+def open_message(users, octets):
+    """What `open` prints of a datagram by these users, and its status."""
+    manager = Manager(users, {})
+    try:
+        message = manager.known(octets)
+        scoped, pdu = manager.inside(message)
+    except Refused as refused:
+        return refused.line(), 1
+    return text_of([*message_lines(message), f"level {LEVEL_WORDS[message.level()]}", *scoped_lines(scoped, pdu)]), 0
 
 
 def replay(users, beginning, entries):

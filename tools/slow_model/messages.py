@@ -179,6 +179,38 @@ def flag_words(flags):
     return " ".join(word for bit, word in ((1, "auth"), (2, "priv"), (4, "reportable")) if flags & bit) or "-"
 
 
+def message_lines(message):
+    """The lines of the header and of the security parameters."""
+    security = message.security
+    return [
+        f"id {message.id}",
+        f"max-size {message.max_size}",
+        f"flags {flag_words(message.flags)}",
+        f"engine {shown(security.engine)}",
+        f"boots {security.boots}",
+        f"time {security.time}",
+        f"user {shown(security.user)}",
+        f"auth {shown(security.auth.content)}",
+        f"privacy {shown(security.salt)}",
+    ]
+
+
+def scoped_lines(scoped, pdu):
+    """The lines of a scoped PDU."""
+    lines = [
+        f"context-engine {shown(scoped.engine)}",
+        f"context {shown(scoped.name)}",
+        f"pdu {pdu.tag:02x} " + " ".join(map(str, pdu.numbers)),
+    ]
+    for _, arcs, value in pdu.bindings:
+        lines.append(f"binding {'.'.join(map(str, arcs))} {value.tag:02x} {shown(value.content)}")
+    return lines
+
+
+def text_of(lines):
+    return "".join(f"{line}\n" for line in lines)
+
+
 def show(octets):
     """What `snmpsec show` prints of a datagram, and its status."""
     try:
@@ -190,25 +222,5 @@ def show(octets):
             raise Refused(16)
     except Refused as refused:
         return refused.line(), 1
-    security = message.security
-    lines = [
-        f"id {message.id}",
-        f"max-size {message.max_size}",
-        f"flags {flag_words(message.flags)}",
-        f"engine {shown(security.engine)}",
-        f"boots {security.boots}",
-        f"time {security.time}",
-        f"user {shown(security.user)}",
-        f"auth {shown(security.auth.content)}",
-        f"privacy {shown(security.salt)}",
-    ]
-    if pdu is None:
-        lines.append(f"sealed {shown(message.data.content)}")
-    else:
-        lines.append(f"context-engine {shown(message.scoped.engine)}")
-        lines.append(f"context {shown(message.scoped.name)}")
-        lines.append(f"pdu {pdu.tag:02x} " + " ".join(map(str, pdu.numbers)))
-        for _, arcs, value in pdu.bindings:
-            lines.append(f"binding {'.'.join(map(str, arcs))} {value.tag:02x} {shown(value.content)}")
-    lines.append(f"canonical {text.hex()}")
-    return "".join(f"{line}\n" for line in lines), 0
+    contents = [f"sealed {shown(message.data.content)}"] if pdu is None else scoped_lines(message.scoped, pdu)
+    return text_of([*message_lines(message), *contents, f"canonical {text.hex()}"]), 0

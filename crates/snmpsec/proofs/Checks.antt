@@ -10,7 +10,7 @@ use Rattle.snmpsec_config.specs.Refusals.{SaysSound, RefusesText, refusal_line}
 use Rattle.snmpsec_config.specs.Told.{IsWhy}
 use Rattle.snmpsec_config.specs.declared.fault.ConfigFault.{ConfigFault}
 use Rattle.snmpsec.specs.CheckConfig.{ChecksConfig, counts_text}
-use Rattle.snmpsec.specs.Questions.{Asked, Asks, ChecksAccess}
+use Rattle.snmpsec.specs.Questions.{Asked, Asks, ChecksAccess, TellsSteps, ExplainsAccess}
 use Rattle.snmpsec.specs.Words.{access_word, access_status}
 
 -- an element of a list that is mapped
@@ -58,3 +58,16 @@ pub if_explained : {A E : Type 0} (r : Result A E) (out err : A → List ℕ) (s
     → IfOk r (λ x. ChecksConfig config (record { out = out x; err = err x; status = status x }))
 if_explained (Ok x) out err status config fault told o e s = inr (record { fault = fault; told = told; out = o; why = e.0; is_why = e.1; err = e.2; status = s })
 if_explained (Err x) out err status config fault told o e s = tt
+
+-- ---- explain-access
+
+pub if_reasoned : {A E : Type 0} (r : Result A E) (out err : A → List ℕ) (status : A → ℕ) (config : List ℕ) (words : List (List ℕ)) (asked : Asked) (users : List UserRow) (rows : Tables) (answer : Access)
+    → Asks words asked → SaysSound config users rows → Allowed rows asked.message asked.view asked.arcs answer
+    → IfOk r (λ x. TellsSteps rows asked (access_word answer ++ codes "\n") (out x)) → IfOk r (λ x. err x ≡ []) → IfOk r (λ x. status x ≡ access_status answer)
+    → IfOk r (λ x. ExplainsAccess config words (record { out = out x; err = err x; status = status x }))
+if_reasoned (Ok x) out err status config words asked users rows answer asks says allowed o e s = inr (
+  asked,
+  asks,
+  inr (users, rows, says, record { answer = answer; allowed = allowed; out = o; err = e; status = s }),
+)
+if_reasoned (Err x) out err status config words asked users rows answer asks says allowed o e s = tt

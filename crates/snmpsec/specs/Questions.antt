@@ -1,5 +1,5 @@
--- A question of `snmpsec check-access`, and what is printed for it.
-use Rattle.std.specs.Prelude.{◌≡◌, ◌≢◌, ◌⊎◌, ℕ, ◌≤◌, List, [], ◌++◌, codes, decimal, slice_index_or}
+-- A question of `snmpsec check-access` or `snmpsec explain-access`, and what is printed for it.
+use Rattle.std.specs.Prelude.{◌≡◌, ◌≢◌, ◌⊎◌, ℕ, ◌≤◌, List, [], ◌++◌, codes, decimal, slice_index_or, Option}
 use Rattle.snmp_ber.specs.Oid.{AreArcs, dotted}
 use Rattle.snmp_ber.specs.declared.level.Level.{Level}
 use Rattle.vacm_core.specs.Allowed.{Message, Allowed}
@@ -12,6 +12,10 @@ use Rattle.usm_core.specs.declared.load.UserRow.{UserRow}
 use Rattle.snmpsec_config.specs.declared.fault.ConfigFault.{ConfigFault}
 use Rattle.snmpsec_config.specs.Refusals.{SaysSound, RefusesText, refusal_line}
 use Rattle.snmpsec_config.specs.Words.{level_word}
+use Rattle.snmpsec_explain.specs.declared.steps.ContextStep.{ContextStep}
+use Rattle.snmpsec_explain.specs.Steps.{TellsContext}
+use Rattle.snmpsec_explain.specs.Lines.{context_lines}
+use Rattle.snmpsec.specs.declared.check.Question.{Question}
 use Rattle.snmpsec.specs.Words.{view_word, access_word, access_status}
 
 -- ---- the words
@@ -110,10 +114,41 @@ pub record TellsRefused (config : List ℕ) (printed : Printed) : Type 0 where
 
 -- The question is answered over the rows that the configuration stands for. None of them is at fault, so that of each index
 -- there is one.
-abbrev pub AnswersFrom : List ℕ → Asked → Printed → Type 0
-AnswersFrom config asked printed = (users : List UserRow) × (rows : Tables) × SaysSound config users rows × Answers rows asked printed
+abbrev pub AnswersFrom : (Tables → Asked → Printed → Type 0) → List ℕ → Asked → Printed → Type 0
+AnswersFrom Tells config asked printed = (users : List UserRow) × (rows : Tables) × SaysSound config users rows × Tells rows asked printed
 
 -- A word out of its form is told first, then a configuration that is refused, and else the question is answered.
+abbrev pub AnswersAs : (Tables → Asked → Printed → Type 0) → List ℕ → List (List ℕ) → Printed → Type 0
+AnswersAs Tells config words printed =
+    TellsWord words printed ⊎ ((asked : Asked) × Asks words asked × (TellsRefused config printed ⊎ AnswersFrom Tells config asked printed))
+
 abbrev pub ChecksAccess : List ℕ → List (List ℕ) → Printed → Type 0
-ChecksAccess config words printed =
-    TellsWord words printed ⊎ ((asked : Asked) × Asks words asked × (TellsRefused config printed ⊎ AnswersFrom config asked printed))
+ChecksAccess config words printed = AnswersAs Answers config words printed
+
+-- ---- what decided
+
+-- After the answer stand the lines of the rows that decided, as far as it came.
+pub record TellsSteps (rows : Tables) (asked : Asked) (answer out : List ℕ) : Type 0 where
+  pub steps : Option ContextStep
+  pub decided : TellsContext rows asked.message asked.view asked.arcs steps
+  pub text : out ≡ answer ++ context_lines steps
+
+-- The answer over these rows is printed, and after it what decided.
+pub record Explains (rows : Tables) (asked : Asked) (printed : Printed) : Type 0 where
+  pub answer : Access
+  pub allowed : Allowed rows asked.message asked.view asked.arcs answer
+  pub out : TellsSteps rows asked (access_word answer ++ codes "\n") printed.out
+  pub err : printed.err ≡ []
+  pub status : printed.status ≡ access_status answer
+
+abbrev pub ExplainsAccess : List ℕ → List (List ℕ) → Printed → Type 0
+ExplainsAccess config words printed = AnswersAs Explains config words printed
+
+-- ---- what the values of the code say
+
+abbrev pub asked_of : Question → Asked
+asked_of q = record {
+  message = record { model = q.model; name = q.name.now; level = q.level; context = q.context.now };
+  view = q.view;
+  arcs = q.variable;
+}

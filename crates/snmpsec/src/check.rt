@@ -16,18 +16,18 @@ use vacm_core::{Access, Vacm, ViewType};
 
 /// A question: who asks, for which view, and for which variable.
 #[derive(Drop)]
-struct Question<'a> {
-    model: u32,
-    name: &'a str,
-    level: Level,
-    view: ViewType,
-    context: &'a str,
-    variable: Oid,
+pub(crate) struct Question<'a> {
+    pub(crate) model: u32,
+    pub(crate) name: &'a str,
+    pub(crate) level: Level,
+    pub(crate) view: ViewType,
+    pub(crate) context: &'a str,
+    pub(crate) variable: Oid,
 }
 
 /// An argument whose word has a form.
 #[derive(Clone, Copy, Debug, PartialEq, Eq)]
-enum Argument {
+pub(crate) enum Argument {
     Model,
     Level,
     View,
@@ -72,7 +72,7 @@ pub fn check_text(alloc: Global, config: &[u8], words: &[&str; 6]) -> Result<Out
 }
 
 /// Reads the words of a question. The error is the first argument whose word is out of its form.
-fn question_of<'a>(words: &[&'a str; 6]) -> Result<Question<'a>, Argument>
+pub(crate) fn question_of<'a>(words: &[&'a str; 6]) -> Result<Question<'a>, Argument>
     ensures asks { IfOk result (λ q. let message : Message = record { model = q.model; name = q.name.now; level = q.level; context = q.context.now } in
         let asked : Asked = record { message = message; view = q.view; arcs = q.variable } in
         Asks (map (λ word. word.now) words.now) asked) }
@@ -109,7 +109,7 @@ fn context_of(word: &str) -> &str
 }
 
 /// The complaint of a word that is out of its form.
-fn bad_word(alloc: Global, argument: Argument) -> Result<Output, AllocError>
+pub(crate) fn bad_word(alloc: Global, argument: Argument) -> Result<Output, AllocError>
     ensures out { IfOk result (λ output. output.out.items ≡ []) }
     ensures err { IfOk result (λ output. output.err.items ≡ codes "snmpsec: " ++ ((codes "bad word " ++ argument_name argument) ++ codes "\n")) }
     ensures status { IfOk result (λ output. output.status ≡ 2) }
@@ -120,7 +120,7 @@ fn bad_word(alloc: Global, argument: Argument) -> Result<Output, AllocError>
 }
 
 /// The answer of these tables.
-fn answer_of(access: &Vacm, question: &Question<'_>) -> Access
+pub(crate) fn answer_of(access: &Vacm, question: &Question<'_>) -> Access
     ensures { let q = question.entry.now in
         let message : Message = record { model = q.model; name = q.name.now; level = q.level; context = q.context.now } in
         Allowed access.now message q.view q.variable result }

@@ -3,14 +3,15 @@
 ghost use Rattle.std.specs.Prelude.{◌≡◌, None};
 ghost use Rattle.snmp_msg.specs.declared.refusal.Refusal.TheVariants.{OutOfMemory};
 ghost use Rattle.snmp_msg.specs.Refusals.{write_refusal};
-ghost use Rattle.snmpsec.specs.Refusals.{msg_refused, plain_refused};
+ghost use Rattle.snmpsec.specs.Refusals.{msg_refused, take_refused, plain_refused};
 
 use snmp_msg::{MsgFault, Refusal, WriteFault};
+use snmp_outcome::TakeFault;
 use std::alloc::AllocError;
 use std::error::Error;
 use std::fmt;
 
-/// Why a message can't be shown. The text is what the program prints: the number and the name of the refusal, and its place
+/// Why a message can't be shown or opened. The text is what the program prints: the number and the name of the refusal, and its place
 /// where it has one, in octets from 0.
 #[derive(Clone, Copy, Debug, PartialEq, Eq, Drop)]
 pub struct Refused {
@@ -51,6 +52,17 @@ impl From<MsgFault> for Refused {
         Refused {
             refusal: fault.refusal(),
             at: fault.at(),
+        }
+    }
+}
+
+impl From<TakeFault> for Refused {
+    ghost from_gives = { λ fault e. e ≡ take_refused fault };
+
+    fn from(fault: TakeFault) -> Refused {
+        Refused {
+            refusal: fault.refusal(),
+            at: fault.place(),
         }
     }
 }

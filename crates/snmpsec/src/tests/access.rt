@@ -355,7 +355,7 @@ const BAD_WORDS: [(&str, &str); 15] = [
 const ASKED: [&str; 6] = ["3", "ann", "noAuthNoPriv", "read", "@", "1.3.6"];
 
 /// The words of a question, with one blank between each two.
-fn words_of(question: &str) -> [&str; 6] {
+pub(super) fn words_of(question: &str) -> [&str; 6] {
     let mut words = question.split(' ');
     [
         words.next().unwrap_or(""),

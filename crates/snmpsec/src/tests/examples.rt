@@ -2,6 +2,7 @@
 
 use crate::check::check_text;
 use crate::check_config::check_config_text;
+use crate::explain::explain_text;
 use crate::merge::merge_text;
 use std::alloc::Global;
 use std::test::Fail;
@@ -220,6 +221,15 @@ static QUESTIONS: [Question; 11] = [
     ),
 ];
 
+/// `examples/explained.txt`
+const EXPLAINED: &str = "notInView
+context 0
+group 1 netops
+access 2
+view mib2
+family 4
+";
+
 fn questions() -> &'static [Question] {
     &QUESTIONS
 }
@@ -248,6 +258,14 @@ fn questions_have_the_answers_beside_them(rt: HostRuntime) -> Result<(), Fail> {
         let output = check_text(rt.alloc(), ACCESS.as_bytes(), words)?;
         assert_eq!(rt; output.out.as_slice(), answer.as_bytes());
     }
+    Ok(())
+}
+
+#[test]
+fn a_question_is_explained(rt: HostRuntime) -> Result<(), Fail> {
+    let (_answer, words) = QUESTIONS[9];
+    let output = explain_text(rt.alloc(), ACCESS.as_bytes(), &words)?;
+    assert_eq!(rt; output.out.as_slice(), EXPLAINED.as_bytes());
     Ok(())
 }
 
