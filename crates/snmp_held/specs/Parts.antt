@@ -1,5 +1,5 @@
 -- What a caller gets of what a handle keeps, into buffers of its own.
-use Rattle.std.specs.Prelude.{◌≡◌, ◌<◌, ◌≤◌, ℕ, ℤ, pos, List, [], ◌∷◌, ◌++◌, length, drop, Option, Some, None, Result, Ok, Err}
+use Rattle.std.specs.Prelude.{◌==◌, if◌then◌else◌, ◌≡◌, ◌<◌, ◌≤◌, ℕ, ℤ, pos, List, [], ◌∷◌, ◌++◌, length, drop, Option, Some, None, Result, Ok, Err}
 use Rattle.snmp_ber.specs.Level.{level_number}
 use Rattle.snmp_msg.specs.Scoped.{Contexts, ScopedFront}
 use Rattle.snmp_msg.specs.Pdu.{PduParts, PduText}
@@ -25,6 +25,12 @@ IsPartOf g User octets = octets ≡ g.user
 IsPartOf g ContextEngine octets = (c : Contexts) → ScopedFront g.text c → octets ≡ c.engine
 IsPartOf g ContextName octets = (c : Contexts) → ScopedFront g.text c → octets ≡ c.name
 IsPartOf g Engine octets = octets ≡ g.engine
+
+-- the part of a number
+abbrev pub part_of : ℕ → Option Part
+part_of n =
+    if n == 0 then Some Bindings else if n == 1 then Some User else if n == 2 then Some ContextEngine else if n == 3 then Some ContextName else
+    if n == 4 then Some Engine else None
 
 -- A part of what is kept is copied.
 abbrev pub CopiesPart : {V : Type 0} → Option Given → Part → List ℕ → List ℕ → ℕ → Result V CallFault → Type 0

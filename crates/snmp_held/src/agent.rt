@@ -1,10 +1,11 @@
 //! An agent with what it accepted last and what it wrote last.
 
-ghost use Rattle.std.specs.Prelude.{◌≡◌, ◌≤◌, IfSome, MatchOption, None, length};
+ghost use Rattle.std.specs.Prelude.{◌≡◌, ◌≤◌, MatchOption, None, Some, length};
 ghost use Rattle.std.specs.Int.{to_be_bytes, w64};
 ghost use Rattle.snmp_msg.specs.Scoped.{Contexts, ScopedFront};
 ghost use Rattle.snmp_msg.specs.Pdu.{PduParts, PduText};
 ghost use Rattle.snmp_msg.specs.Variables.{CanBeWritten, variable_of};
+ghost use Rattle.snmp_outcome.specs.Outcome.{Given};
 ghost use Rattle.snmp_agent.specs.Decides.{question_of};
 ghost use Rattle.snmp_agent.specs.Sent.{responding, notifying, Sends};
 ghost use Rattle.snmp_sending.specs.Sends.{send_answer};
@@ -321,7 +322,7 @@ impl AgentHandle {
 
     /// The level, the PDU's tag, request-id, second and third number, and msgID of what is kept.
     pub fn numbers(&self) -> Option<[i32; 6]>
-        ensures { MatchOption result (self.now.last ≡ None) (λ numbers. IfSome self.now.last (λ g. AreNumbersOf g numbers)) }
+        ensures { MatchOption result (self.now.last ≡ None) (λ numbers. (g : Given) × (self.now.last ≡ Some g) × AreNumbersOf g numbers) }
     {
         match &self.last {
             Some(kept) => Some(numbers_of(kept)),

@@ -1,7 +1,7 @@
 //! What a caller gets of what a handle keeps, into buffers of its own.
 
-ghost use Rattle.std.specs.Prelude.{Some, option_map};
-ghost use Rattle.snmp_held.specs.Parts.{Copies, CopiesPart, CopiesMessage, IsPartOf, AreNumbersOf};
+ghost use Rattle.std.specs.Prelude.{◌≡◌, Some, option_map};
+ghost use Rattle.snmp_held.specs.Parts.{Copies, CopiesPart, CopiesMessage, AreNumbersOf, part_of};
 
 use crate::fault::CallFault;
 use snmp_msg::one_content;
@@ -20,6 +20,27 @@ pub enum Part {
     ContextName,
     /// msgAuthoritativeEngineID.
     Engine,
+}
+
+impl Part {
+    /// The part of this number: 0 bindings, 1 user, 2 contextEngineID, 3 contextName, 4 engine ID.
+    pub fn of(number: u32) -> Option<Part>
+        ensures { result ≡ part_of number }
+    {
+        if number == 0 {
+            Some(Part::Bindings)
+        } else if number == 1 {
+            Some(Part::User)
+        } else if number == 2 {
+            Some(Part::ContextEngine)
+        } else if number == 3 {
+            Some(Part::ContextName)
+        } else if number == 4 {
+            Some(Part::Engine)
+        } else {
+            None
+        }
+    }
 }
 
 /// Copies the octets to the front of the buffer, and tells how many they are. The error is ShortBuffer, which leaves the
