@@ -5,9 +5,10 @@ use Rattle.vacm_core.specs.declared.access.Access.{Access}
 use Rattle.snmp_held.specs.declared.fault.CallFault.{CallFault}
 use Rattle.snmp_held.specs.declared.fault.CallFault.TheVariants.{BadArgument, NothingTaken, ShortBuffer}
 use Rattle.snmp_held.specs.Faults.{code, access_code, value_code, fault_code}
+use Rattle.snmp_held.specs.Bindings.{ReadsAt, WritesBinding}
 use Rattle.snmp_held.specs.Parts.{part_of, CopiesPart, CopiesMessage, AreNumbersOf}
 use Rattle.snmp_outcome.specs.Outcome.{Given}
-use Rattle.snmp_held.specs.Agents.{AgentHeld, MakesAgent, TakesHeld, AllowsHeld, MaySee, Counts, RespondsHeld, Notice, NotifiesHeld}
+use Rattle.snmp_held.specs.Agents.{AgentHeld, Clears, MakesAgent, TakesHeld, AllowsHeld, MaySee, Counts, RespondsHeld, Notice, NotifiesHeld}
 
 -- The answer is the number of what is told, of which this is said.
 abbrev pub Done : (Result ⊤ CallFault → Type 0) → ℤ → Type 0
@@ -60,3 +61,16 @@ HasNumbers g out out_new answer =
 abbrev pub TellsNumbers : List ℤ → List ℤ → AgentHeld → AgentHeld → ℤ → Type 0
 TellsNumbers out out_new old new answer =
     (new ≡ old) × MatchOption old.last ((answer ≡ fault_code NothingTaken) × (out_new ≡ out)) (λ g. HasNumbers g out out_new answer)
+
+-- ---- giving back
+
+abbrev pub ClearsAgent : AgentHeld → AgentHeld → ℤ → Type 0
+ClearsAgent old new answer = Done (λ told. Clears old told new) answer
+
+-- ---- variable bindings
+
+abbrev pub ReadsBinding : List ℕ → ℕ → List ℕ → List ℕ → List ℕ → List ℕ → ℤ → Type 0
+ReadsBinding list at arcs arcs_new numbers numbers_new answer = Done (ReadsAt list at arcs arcs_new numbers numbers_new) answer
+
+abbrev pub Writes : List ℕ → ℕ → List ℕ → List ℕ → List ℕ → ℕ → ℤ → Type 0
+Writes arcs tag content out out_new written answer = Done (WritesBinding arcs tag content out out_new written) answer

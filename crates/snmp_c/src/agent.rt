@@ -4,9 +4,9 @@ ghost use Rattle.std.specs.Borrow.{full_share, sem};
 ghost use Rattle.std.specs.Ptr.{lies_at};
 ghost use Rattle.snmp_held.specs.contracts.agent.AgentHandle as agents;
 ghost use Rattle.snmp_held.specs.Agents.{AgentHeld};
-ghost use Rattle.snmp_c.specs.Calls.{Makes, Takes, Allows, May, Counter, RespondsTo, Notifies, TellsPart, TellsMessage, TellsNumbers};
+ghost use Rattle.snmp_c.specs.Calls.{Makes, ClearsAgent, Takes, Allows, May, Counter, RespondsTo, Notifies, TellsPart, TellsMessage, TellsNumbers};
 
-use crate::agent_calls::{allows, counter, may, message, notify, numbers, part, respond, take};
+use crate::agent_calls::{allows, clear, counter, may, message, notify, numbers, part, respond, take};
 use snmp_held::{AgentHandle, CallFault};
 use snmp_outcome::TakeFault;
 use std::alloc::Global;
@@ -38,6 +38,17 @@ pub extern "C" fn snmpsec_agent_new(
         }
         Err(_) => CallFault::Refused(TakeFault::OutOfMemory).code(),
     }
+}
+
+/// Gives back all memory but the block at the pointer, for which the caller then calls the heap's `rattle_dealloc`: it answers 14,
+/// and nothing is given back, for want of memory.
+#[unsafe(no_mangle)]
+pub unsafe extern "C" fn snmpsec_agent_clear(at: *mut u8) -> i32
+    ghost held: { AgentHeld }
+    requires* { sem 𝓛 (lies_at agents.the_row full_share at held) }
+    ensures* { ∃ₛ (λ (new : AgentHeld). sem 𝓛 (lies_at agents.the_row full_share at new) ∗ ⌜ ClearsAgent held new result ⌝) }
+{
+    clear(&mut *(at as *mut AgentHandle))
 }
 
 /// Takes a datagram at the moment `now`, in seconds. Where it answers 0 the message is accepted, and kept for the calls below; a

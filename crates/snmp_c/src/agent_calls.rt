@@ -1,7 +1,7 @@
 //! What the calls on an agent do, without pointers.
 
 ghost use Rattle.std.specs.Prelude.{◌≡◌};
-ghost use Rattle.snmp_c.specs.Calls.{Takes, Allows, May, Counter, RespondsTo, Notifies, TellsPart, TellsMessage, TellsNumbers};
+ghost use Rattle.snmp_c.specs.Calls.{ClearsAgent, Takes, Allows, May, Counter, RespondsTo, Notifies, TellsPart, TellsMessage, TellsNumbers};
 
 use snmp_held::{
     AgentHandle, CallFault, NoticeTo, Part, access_code_of, code_of, value_code_of,
@@ -116,4 +116,11 @@ pub(crate) fn numbers(handle: &mut AgentHandle, out: &mut [i32]) -> i32
     }
     out[..numbers.len()].copy_from_slice(&numbers);
     0
+}
+
+/// Gives back all memory but the block of the handle.
+pub(crate) fn clear(handle: &mut AgentHandle) -> i32
+    ensures { ClearsAgent handle.old handle.new result }
+{
+    code_of(handle.clear())
 }

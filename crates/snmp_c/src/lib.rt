@@ -7,6 +7,7 @@
 
 pub mod agent;
 mod agent_calls;
+pub mod bindings;
 
 #[cfg(test)]
 mod tests;

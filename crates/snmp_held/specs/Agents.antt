@@ -1,5 +1,5 @@
 -- An agent with what it accepted last and what it wrote last, and what its calls leave.
-use Rattle.std.specs.Prelude.{◌≡◌, ◌<◌, ◌≤◌, ◌⊎◌, ℕ, pos, List, length, replicate, Option, Some, None, Result, Ok, Err, IfSome, false}
+use Rattle.std.specs.Prelude.{◌≡◌, ◌<◌, ◌≤◌, ◌⊎◌, ℕ, pos, List, [], length, replicate, Option, Some, None, Result, Ok, Err, IfSome, false}
 use Rattle.snmp_ber.specs.declared.level.Level.{Level}
 use Rattle.snmp_msg.specs.Scoped.{Contexts, ScopedFront}
 use Rattle.snmp_msg.specs.Pdu.{PduParts, PduText, pdu_with}
@@ -58,6 +58,11 @@ abbrev pub MakesAgent : List ℕ → List ℕ → ℕ → ℕ → Result AgentHe
 MakesAgent config engine boots started (Ok made) =
     (users : List User) × (tables : Tables) × Loads config users tables × (made ≡ begins engine boots started users tables)
 MakesAgent config engine boots started (Err fault) = RefusesAgent config engine boots fault
+
+-- Nothing is held any more. A refusal changes nothing.
+abbrev pub Clears : {V : Type 0} → AgentHeld → Result V CallFault → AgentHeld → Type 0
+Clears old (Ok done) new = (new.agent.users ≡ []) × (new.last ≡ None) × (new.message ≡ None)
+Clears old (Err fault) new = (fault ≡ Refused OutOfMemory) × (new ≡ old)
 
 -- ---- taking
 

@@ -11,7 +11,7 @@ ghost use Rattle.snmp_agent.specs.Sent.{responding, notifying, Sends};
 ghost use Rattle.snmp_sending.specs.Sends.{send_answer};
 ghost use Rattle.snmp_sending.specs.Bodies.{BodyFits};
 ghost use Rattle.vacm_core.specs.Allowed.{Allowed};
-ghost use Rattle.snmp_held.specs.Agents.{MakesAgent, TakesHeld, AllowsHeld, MaySee, Counts, RespondsHeld, Notice, NotifiesHeld};
+ghost use Rattle.snmp_held.specs.Agents.{Clears, MakesAgent, TakesHeld, AllowsHeld, MaySee, Counts, RespondsHeld, Notice, NotifiesHeld};
 ghost use Rattle.snmp_held.specs.Parts.{CopiesPart, CopiesMessage, AreNumbersOf};
 ghost use Rattle.snmp_held.specs.Between.{AnswersResponse, AnswersNotice, notice_of};
 
@@ -27,7 +27,8 @@ use snmp_sending::{Body, is_confirmed};
 use snmpsec_config::{Config, ConfigFault};
 use std::alloc::Global;
 use std::marker::Model;
-use vacm_core::{Access, ViewType};
+use usm_core::{UserRow, Users};
+use vacm_core::{Access, Rows, Vacm, ViewType};
 
 /// An agent, the message that it accepted last, and the message that it wrote last.
 #[derive(Drop)]
@@ -159,6 +160,33 @@ impl AgentHandle {
             Err(ConfigFault::OutOfMemory) => Err(CallFault::Refused(TakeFault::OutOfMemory)),
             Err(_) => Err(CallFault::BadConfiguration),
         }
+    }
+
+    /// Gives back the memory of all that is held: the users, the tables, and what is kept. The error is want of memory, and
+    /// changes nothing.
+    pub fn clear(&mut self) -> Result<(), CallFault>
+        ensures { Clears self.old result self.new }
+    {
+        let Some(engine) = EngineId::of(&[0; 5]) else {
+            unreachable!();
+        };
+        let users: Vec<UserRow> = Vec::new(self.alloc);
+        let rows = Rows {
+            contexts: Vec::new(self.alloc),
+            groups: Vec::new(self.alloc),
+            access: Vec::new(self.alloc),
+            families: Vec::new(self.alloc),
+        };
+        let Ok(users) = Users::load(self.alloc, &users) else {
+            return Err(CallFault::Refused(TakeFault::OutOfMemory));
+        };
+        let Ok(tables) = Vacm::load(self.alloc, &rows) else {
+            return Err(CallFault::Refused(TakeFault::OutOfMemory));
+        };
+        self.agent = Agent::new(self.alloc, engine, 0, 0, users, tables);
+        self.last = None;
+        self.message = None;
+        Ok(())
     }
 
     /// Takes a datagram at the moment `now`, as `Agent::take` does. What is accepted is kept, for the calls below; of what is

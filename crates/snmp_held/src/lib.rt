@@ -12,6 +12,7 @@ mod numbers;
 mod parts;
 
 pub use agent::{AgentHandle, NoticeTo};
+pub use bindings::{read_binding_at, write_binding};
 pub use fault::{CallFault, access_code_of, code_of, value_code_of};
 pub use parts::Part;
 
