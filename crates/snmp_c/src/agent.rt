@@ -6,7 +6,9 @@ ghost use Rattle.snmp_held.specs.contracts.agent.AgentHandle as agents;
 ghost use Rattle.snmp_held.specs.Agents.{AgentHeld};
 ghost use Rattle.snmp_c.specs.Calls.{Makes, ClearsAgent, Takes, Allows, May, Counter, RespondsTo, Notifies, TellsPart, TellsMessage, TellsNumbers};
 
-use crate::agent_calls::{allows, clear, counter, may, message, notify, numbers, part, respond, take};
+use crate::agent_calls::{
+    allows, clear, counter, may, message, notify, numbers, part, respond, take,
+};
 use snmp_held::{AgentHandle, CallFault};
 use snmp_outcome::TakeFault;
 use std::alloc::Global;
@@ -90,7 +92,14 @@ pub unsafe extern "C" fn snmpsec_agent_may(
     requires* { sem 𝓛 (lies_at agents.the_row full_share at held) }
     ensures* { ∃ₛ (λ (new : AgentHeld). sem 𝓛 (lies_at agents.the_row full_share at new) ∗ ⌜ May user.now level context.now view arcs.now held new result ⌝) }
 {
-    may(&mut *(at as *mut AgentHandle), user, level, context, view, arcs)
+    may(
+        &mut *(at as *mut AgentHandle),
+        user,
+        level,
+        context,
+        view,
+        arcs,
+    )
 }
 
 /// The value of counter n, usmStats n of RFC 3414, section 5, or -1 where n isn't 1 to 6.
@@ -120,7 +129,14 @@ pub unsafe extern "C" fn snmpsec_agent_respond(
     requires* { sem 𝓛 (lies_at agents.the_row full_share at held) }
     ensures* { ∃ₛ (λ (new : AgentHeld). sem 𝓛 (lies_at agents.the_row full_share at new) ∗ ⌜ RespondsTo now status index list.now salt held new result ⌝) }
 {
-    respond(&mut *(at as *mut AgentHandle), now, status, index, list, salt)
+    respond(
+        &mut *(at as *mut AgentHandle),
+        now,
+        status,
+        index,
+        list,
+        salt,
+    )
 }
 
 /// Writes an SNMPv2-Trap (RFC 3416, section 4.2.6) for this user at the level 1 to 3, with this msgID and request-id, these

@@ -8,6 +8,5 @@
 pub mod agent;
 mod agent_calls;
 pub mod bindings;
-
 #[cfg(test)]
 mod tests;
