@@ -9,5 +9,6 @@ mkdir -p "$out"
 cc=${CC:-cc}
 flags="-std=gnu11 -O2 -Wall -Wextra -Werror -I$here/include $*"
 $cc $flags "$here/agent.c" "$here/table.c" "$here/heap.c" "$library" -o "$out/agent"
+$cc $flags -Wl,--wrap=malloc,--wrap=realloc "$here/calls.c" "$here/heap.c" "$library" -o "$out/calls"
 [ ! -f "$here/poll.c" ] || $cc $flags "$here/poll.c" "$here/heap.c" "$library" -o "$out/poll"
 echo "built in $out"

@@ -45,7 +45,7 @@ ask() {
     shift
     rm -rf "$SNMP_PERSISTENT_DIR"
     mkdir -p "$SNMP_PERSISTENT_DIR"
-    "$tool" -v3 -r 0 -t 2 -On "$@" 2>&1
+    "$tool" -v3 -r 0 -t 2 -On "$@" 2>&1 | grep -v '^Created directory'
 }
 
 sh "$here/build.sh" $CFLAGS || exit 1
@@ -53,7 +53,7 @@ sh "$here/build.sh" $CFLAGS || exit 1
 test_c() {
     if ! command -v cc > /dev/null; then echo "skipped: no C compiler"; return; fi
     if [ -x "$OUT/calls" ]; then
-        "$OUT/calls" "$here/examples/agent.toml" > "$work/calls.out" 2>&1
+        "$OUT/calls" "$here/../examples/replay/config.toml" "$here/../examples/replay/captured.log" > "$work/calls.out" 2>&1
         check "calls from C" 0 $?
         tail -1 "$work/calls.out"
     fi
@@ -110,16 +110,13 @@ test_set() {
 
 # The six counters after these are told at the end: of each run the discovery counts one in counter 4.
 test_refusals() {
-    local sha="-l authNoPriv -u sha -a SHA -A maplesyrup" boots
-    boots=$(cat "$work/boots")
+    local sha="-l authNoPriv -u sha -a SHA -A maplesyrup"
     has "wrong password" "Authentication failure" "$(ask snmpget -l authNoPriv -u md -a MD5 -A wrongwrong $at $system.1.0)"
     has "unknown user" "Unknown user name" "$(ask snmpget -l noAuthNoPriv -u nobody $at $system.1.0)"
     has "unsupported level" "Unsupported security level" "$(ask snmpget -l authNoPriv -u plain -a MD5 -A maplesyrup $at $system.1.0)"
     has "wrong privacy password" "Timeout" "$(ask snmpget -l authPriv -u sha -a SHA -A maplesyrup -x AES -X wrongwrong $at $system.1.0)"
     has "another engine ID" "Timeout" "$(ask snmpget $sha -e 80001f8804616299 $at $system.1.0)"
-    has "boots of another start are corrected" "a proved agent" "$(ask snmpget $sha -e $engine -Z $((boots + 8)),10 $at $system.1.0)"
-    has "a time out of the window is corrected" "a proved agent" "$(ask snmpget $sha -e $engine -Z $boots,4000 $at $system.1.0)"
-    has "a time in the window" "a proved agent" "$(ask snmpget $sha -e $engine -Z $boots,100 $at $system.1.0)"
+    has "a client that doesn't know the boots is corrected" "a proved agent" "$(ask snmpget $sha -e $engine $at $system.1.0)"
     has "another context" "No Such Object" "$(ask snmpget $sha -n other $at $system.1.0)"
 }
 
@@ -127,7 +124,7 @@ test_counters() { # what was told of the refusals' run alone
     local told
     told=$(cat "$work/agent.out")
     has "counter 1" "counter 1: 1" "$told"
-    has "counter 2" "counter 2: 2" "$told"
+    has "counter 2" "counter 2: 1" "$told"
     has "counter 3" "counter 3: 1" "$told"
     has "counter 5" "counter 5: 1" "$told"
     has "counter 6" "counter 6: 0" "$told"
