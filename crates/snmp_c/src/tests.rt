@@ -8,7 +8,10 @@ use std::test::Fail;
 #[test]
 fn an_engine_id_of_four_octets_is_answered_by_a_number(rt: HostRuntime) -> Result<(), Fail> {
     let mut agent = null_mut();
-    assert_eq!(rt; snmpsec_agent_new(rt.alloc(), b"", b"1234", 1, 0, &mut agent), -1);
+    assert_eq!(rt;
+        snmpsec_agent_new(rt.alloc(), b"", b"1234", 1, 0, &mut agent),
+        -1
+    );
     Ok(())
 }
 
@@ -22,10 +25,16 @@ const BINDING: [u8; 19] = [
 fn a_binding_is_read_with_its_places(rt: HostRuntime) -> Result<(), Fail> {
     let mut arcs = [0; 128];
     let mut numbers = [0; 5];
-    assert_eq!(rt; snmpsec_binding_read(&BINDING, 0, &mut arcs, &mut numbers), 0);
-    assert_eq!(rt; &arcs[..9], &[1, 3, 6, 1, 2, 1, 1, 1, 0]);
+    assert_eq!(rt;
+        snmpsec_binding_read(&BINDING, 0, &mut arcs, &mut numbers),
+        0
+    );
+    assert_eq!(rt; &arcs[..9], [1, 3, 6, 1, 2, 1, 1, 1, 0].as_slice());
     assert_eq!(rt; numbers, [9, 4, 14, 5, 19]);
-    assert_eq!(rt; snmpsec_binding_read(&BINDING, 1, &mut arcs, &mut numbers), -4);
+    assert_eq!(rt;
+        snmpsec_binding_read(&BINDING, 1, &mut arcs, &mut numbers),
+        -4
+    );
     Ok(())
 }
 
@@ -37,7 +46,7 @@ fn a_binding_is_written(rt: HostRuntime) -> Result<(), Fail> {
     let answer = snmpsec_binding_write(rt.alloc(), &arcs, 4, b"hello", &mut out, &mut written);
     if answer != 14 {
         assert_eq!(rt; answer, 0);
-        assert_eq!(rt; &out[..written], &BINDING);
+        assert_eq!(rt; &out[..written], BINDING.as_slice());
     }
     Ok(())
 }
