@@ -1,0 +1,76 @@
+-- What the calls on a handle answer and leave.
+use Rattle.std.specs.Prelude.{◌≡◌, ◌<◌, ◌≤◌, ◌⊎◌, ⊤, ℕ, ℤ, pos, List, length, drop, ◌++◌, Result, MatchOption}
+use Rattle.std.specs.Int.{to_be_bytes, w64}
+use Rattle.vacm_core.specs.declared.access.Access.{Access}
+use Rattle.snmp_held.specs.declared.fault.CallFault.{CallFault}
+use Rattle.snmp_held.specs.declared.fault.CallFault.TheVariants.{BadArgument, NothingTaken, ShortBuffer}
+use Rattle.snmp_held.specs.Faults.{code, access_code, value_code, fault_code}
+use Rattle.snmp_held.specs.Bindings.{ReadsAt, WritesBinding}
+use Rattle.snmp_held.specs.Parts.{part_of, CopiesPart, CopiesMessage, AreNumbersOf}
+use Rattle.snmp_outcome.specs.Outcome.{Given}
+use Rattle.snmp_held.specs.Agents.{AgentHeld, Clears, MakesAgent, TakesHeld, AllowsHeld, MaySee, Counts, RespondsHeld, Notice, NotifiesHeld}
+
+-- The answer is the number of what is told, of which this is said.
+abbrev pub Done : (Result ⊤ CallFault → Type 0) → ℤ → Type 0
+Done Says answer = (told : Result ⊤ CallFault) × (answer ≡ code told) × Says told
+
+abbrev pub Accesses : (Result Access CallFault → Type 0) → ℤ → Type 0
+Accesses Says answer = (told : Result Access CallFault) × (answer ≡ access_code told) × Says told
+
+-- ---- an agent
+
+abbrev pub Makes : List ℕ → List ℕ → ℕ → ℕ → ℤ → Type 0
+Makes config engine boots started answer = (told : Result AgentHeld CallFault) × (answer ≡ code told) × MakesAgent config engine boots started told
+
+abbrev pub Takes : ℕ → List ℕ → AgentHeld → AgentHeld → ℤ → Type 0
+Takes now w old new answer = Done (λ told. TakesHeld old now w told new) answer
+
+-- Nothing changes.
+abbrev pub Allows : ℕ → List ℕ → AgentHeld → AgentHeld → ℤ → Type 0
+Allows view arcs old new answer = (new ≡ old) × Accesses (AllowsHeld old view arcs) answer
+
+abbrev pub May : List ℕ → ℕ → List ℕ → ℕ → List ℕ → AgentHeld → AgentHeld → ℤ → Type 0
+May user level context view arcs old new answer = (new ≡ old) × Accesses (MaySee old user level context view arcs) answer
+
+abbrev pub Counter : ℕ → AgentHeld → AgentHeld → ℤ → Type 0
+Counter n old new answer = (new ≡ old) × ((told : Result ℕ CallFault) × (answer ≡ value_code told) × Counts old n told)
+
+abbrev pub RespondsTo : ℕ → ℕ → ℕ → List ℕ → ℕ → AgentHeld → AgentHeld → ℤ → Type 0
+RespondsTo now status index list salt old new answer = Done (λ told. RespondsHeld old now status index list (to_be_bytes w64 salt) told new) answer
+
+abbrev pub Notifies : ℕ → Notice → List ℕ → ℕ → AgentHeld → AgentHeld → ℤ → Type 0
+Notifies now n list salt old new answer = Done (λ told. NotifiesHeld old now n list (to_be_bytes w64 salt) told new) answer
+
+-- ---- what is kept
+
+-- the part of this number of what is kept is in the buffer
+abbrev pub TellsPart : ℕ → List ℕ → List ℕ → ℕ → AgentHeld → AgentHeld → ℤ → Type 0
+TellsPart n out out_new written old new answer =
+    (new ≡ old) × MatchOption (part_of n) ((answer ≡ fault_code BadArgument) × (out_new ≡ out)) (λ part. Done (λ told. CopiesPart old.last part out out_new written told) answer)
+
+-- the message to be sent is in the buffer
+abbrev pub TellsMessage : List ℕ → List ℕ → ℕ → AgentHeld → AgentHeld → ℤ → Type 0
+TellsMessage out out_new written old new answer = (new ≡ old) × Done (λ told. CopiesMessage old.message out out_new written told) answer
+
+-- the numbers of what is kept are in the front of the buffer, or it is too short
+abbrev pub HasNumbers : Given → List ℤ → List ℤ → ℤ → Type 0
+HasNumbers g out out_new answer =
+    ((answer ≡ pos 0) × (6 ≤ length out) × ((numbers : List ℤ) × AreNumbersOf g numbers × (out_new ≡ numbers ++ drop 6 out)))
+    ⊎ ((answer ≡ fault_code ShortBuffer) × (length out < 6) × (out_new ≡ out))
+
+abbrev pub TellsNumbers : List ℤ → List ℤ → AgentHeld → AgentHeld → ℤ → Type 0
+TellsNumbers out out_new old new answer =
+    (new ≡ old) × MatchOption old.last ((answer ≡ fault_code NothingTaken) × (out_new ≡ out)) (λ g. HasNumbers g out out_new answer)
+
+-- ---- giving back
+
+abbrev pub ClearsAgent : AgentHeld → AgentHeld → ℤ → Type 0
+ClearsAgent old new answer = Done (λ told. Clears old told new) answer
+
+-- ---- variable bindings
+
+abbrev pub ReadsBinding : List ℕ → ℕ → List ℕ → List ℕ → List ℕ → List ℕ → ℤ → Type 0
+ReadsBinding list at arcs arcs_new numbers numbers_new answer = Done (ReadsAt list at arcs arcs_new numbers numbers_new) answer
+
+abbrev pub Writes : List ℕ → ℕ → List ℕ → List ℕ → List ℕ → ℕ → ℤ → Type 0
+Writes arcs tag content out out_new written answer = Done (WritesBinding arcs tag content out out_new written) answer

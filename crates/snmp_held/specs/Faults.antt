@@ -1,0 +1,33 @@
+-- Why a call of a handle isn't done, and the numbers that tell it.
+use Rattle.std.specs.Prelude.{ℕ, ℤ, pos, negsuc, Result, Ok, Err}
+use Rattle.vacm_core.specs.declared.access.Access.{Access}
+use Rattle.vacm_core.specs.Numbers.{access_number}
+use Rattle.snmp_outcome.specs.Refusals.{number_of}
+use Rattle.snmp_held.specs.declared.fault.CallFault.{CallFault}
+use Rattle.snmp_held.specs.declared.fault.CallFault.TheVariants.{Refused, BadArgument, NothingTaken, NotAsked, BadBindings, ShortBuffer, BadConfiguration, BadClocks}
+
+-- a refusal has its own number, and a fault of the call a negative one
+abbrev pub fault_code : CallFault → ℤ
+fault_code (Refused fault) = pos (number_of fault)
+fault_code BadArgument = negsuc 0
+fault_code NothingTaken = negsuc 1
+fault_code NotAsked = negsuc 2
+fault_code BadBindings = negsuc 3
+fault_code ShortBuffer = negsuc 4
+fault_code BadConfiguration = negsuc 5
+fault_code BadClocks = negsuc 6
+
+-- 0 where the call was done
+abbrev pub code : {V : Type 0} → Result V CallFault → ℤ
+code (Ok done) = pos 0
+code (Err fault) = fault_code fault
+
+-- the number of an answer on access
+abbrev pub access_code : Result Access CallFault → ℤ
+access_code (Ok access) = pos (access_number access)
+access_code (Err fault) = fault_code fault
+
+-- a number that is told as it is
+abbrev pub value_code : Result ℕ CallFault → ℤ
+value_code (Ok value) = pos value
+value_code (Err fault) = fault_code fault

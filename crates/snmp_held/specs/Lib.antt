@@ -1,0 +1,6 @@
+pub mod Faults
+pub mod Numbers
+pub mod Bindings
+pub mod Agents
+pub mod Parts
+pub mod Between

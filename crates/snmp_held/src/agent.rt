@@ -1,0 +1,360 @@
+//! An agent with what it accepted last and what it wrote last.
+
+ghost use Rattle.std.specs.Prelude.{◌≡◌, ◌≤◌, MatchOption, None, Some, length};
+ghost use Rattle.std.specs.Int.{to_be_bytes, w64};
+ghost use Rattle.snmp_msg.specs.Scoped.{Contexts, ScopedFront};
+ghost use Rattle.snmp_msg.specs.Pdu.{PduParts, PduText};
+ghost use Rattle.snmp_msg.specs.Variables.{CanBeWritten, variable_of};
+ghost use Rattle.snmp_outcome.specs.Outcome.{Given};
+ghost use Rattle.snmp_agent.specs.Decides.{question_of};
+ghost use Rattle.snmp_agent.specs.Sent.{responding, notifying, Sends};
+ghost use Rattle.snmp_sending.specs.Sends.{send_answer};
+ghost use Rattle.snmp_sending.specs.Bodies.{BodyFits};
+ghost use Rattle.vacm_core.specs.Allowed.{Allowed};
+ghost use Rattle.snmp_held.specs.Agents.{Clears, MakesAgent, TakesHeld, AllowsHeld, MaySee, Counts, RespondsHeld, Notice, NotifiesHeld};
+ghost use Rattle.snmp_held.specs.Parts.{CopiesPart, CopiesMessage, AreNumbersOf};
+ghost use Rattle.snmp_held.specs.Between.{AnswersResponse, AnswersNotice, notice_of};
+
+use crate::bindings::bindings_of;
+use crate::fault::CallFault;
+use crate::numbers::{GREATEST, level_of, view_of};
+use crate::parts::{Part, copied_message, copied_part, numbers_of};
+use engine_clock::EngineId;
+use snmp_agent::Agent;
+use snmp_ber::{Level, Oid};
+use snmp_outcome::{Kept, TakeFault};
+use snmp_sending::{Body, is_confirmed};
+use snmpsec_config::{Config, ConfigFault};
+use std::alloc::Global;
+use std::marker::Model;
+use usm_core::{UserRow, Users};
+use vacm_core::{Access, Rows, Vacm, ViewType};
+
+/// An agent, the message that it accepted last, and the message that it wrote last.
+#[derive(Drop)]
+pub struct AgentHandle {
+    alloc: Global,
+    agent: Agent,
+    last: Option<Kept>,
+    message: Option<Vec<u8>>,
+}
+
+impl Model for AgentHandle {
+    ghost use Rattle.std.specs.Prelude.{option_map};
+    ghost use Rattle.snmp_held.specs.Agents.{AgentHeld};
+
+    ghost Value = { AgentHeld };
+
+    ghost view = { λ h. record { agent = h.agent; last = h.last; message = option_map (λ v. v.items) h.message } };
+}
+
+/// Whom a notification goes to, and what it says besides its bindings.
+#[derive(Clone, Copy, Debug)]
+pub struct NoticeTo<'a> {
+    /// msgID, at most 2147483647.
+    pub id: u32,
+    /// msgUserName, of at most 32 octets.
+    pub user: &'a [u8],
+    /// The level's number, 1 to 3.
+    pub level: u32,
+    /// request-id, at most 2147483647.
+    pub request_id: u32,
+    pub context_engine: &'a [u8],
+    pub context_name: &'a [u8],
+}
+
+/// Whether the sender of what was kept may see this variable.
+fn allowed(agent: &Agent, kept: &Kept, view: ViewType, variable: &Oid) -> Access
+    ensures { (c : Contexts) → ScopedFront kept.now.text c → Allowed agent.now.tables (question_of kept.now c) view variable.now result }
+{
+    let taken = kept.taken();
+    agent.allows(&taken, view, variable)
+}
+
+/// The Response to what was kept, with the bindings that these octets are.
+fn response(
+    alloc: Global,
+    agent: &mut Agent,
+    now: u64,
+    kept: &Kept,
+    status: u32,
+    index: u32,
+    list: &[u8],
+    salt: [u8; 8],
+) -> Result<Vec<u8>, CallFault>
+    requires status { status ≤ 2147483647 }
+    requires index { index ≤ 2147483647 }
+    ensures answer { AnswersResponse agent.old now kept.now status index list.now salt result }
+    ensures same { agent.new ≡ agent.old }
+{
+    if !is_confirmed(kept.taken().tag) {
+        return Err(CallFault::NotAsked);
+    }
+    let bindings = bindings_of(alloc, list)?;
+    let taken = kept.taken();
+    match agent.respond(now, &taken, status as i32, index as i32, &bindings, salt) {
+        Ok(text) => Ok(text),
+        Err(fault) => Err(CallFault::Refused(fault)),
+    }
+}
+
+/// The notification with the bindings that these octets are.
+fn notice(
+    alloc: Global,
+    agent: &mut Agent,
+    now: u64,
+    to: &NoticeTo<'_>,
+    level: Level,
+    list: &[u8],
+    salt: [u8; 8],
+) -> Result<Vec<u8>, CallFault>
+    requires id { to.now.id ≤ 2147483647 }
+    requires request { to.now.request_id ≤ 2147483647 }
+    requires user { length to.now.user.now ≤ 32 }
+    ensures answer { AnswersNotice agent.old now (notice_of to.now) level list.now salt result }
+    ensures same { agent.new ≡ agent.old }
+{
+    let bindings = bindings_of(alloc, list)?;
+    let body = Body {
+        context_engine: to.context_engine,
+        context_name: to.context_name,
+        tag: 0xA7,
+        id: to.request_id as i32,
+        second: 0,
+        third: 0,
+        bindings: &bindings,
+    };
+    match agent.notify(now, to.id, to.user, level, &body, salt) {
+        Ok(text) => Ok(text),
+        Err(fault) => Err(CallFault::Refused(fault)),
+    }
+}
+
+impl AgentHandle {
+    /// An agent of this configuration, in TOML, with this engine ID and these boots, which started at the moment `started`.
+    ///
+    /// The errors are BadArgument, where the engine ID hasn't 5 to 32 octets or boots are above 2147483647, then
+    /// BadConfiguration, or want of memory.
+    pub fn of(
+        alloc: Global,
+        config: &[u8],
+        engine: &[u8],
+        boots: u32,
+        started: u64,
+    ) -> Result<AgentHandle, CallFault>
+        ensures { MakesAgent config.now engine.now boots started result }
+    {
+        let Some(engine) = EngineId::of(engine) else {
+            return Err(CallFault::BadArgument);
+        };
+        if boots > GREATEST {
+            return Err(CallFault::BadArgument);
+        }
+        match Config::read(alloc, config) {
+            Ok(config) => Ok(AgentHandle {
+                alloc,
+                agent: Agent::new(alloc, engine, boots, started, config.users, config.access),
+                last: None,
+                message: None,
+            }),
+            Err(ConfigFault::OutOfMemory) => Err(CallFault::Refused(TakeFault::OutOfMemory)),
+            Err(_) => Err(CallFault::BadConfiguration),
+        }
+    }
+
+    /// Gives back the memory of all that is held: the users, the tables, and what is kept. The error is want of memory, and
+    /// changes nothing.
+    pub fn clear(&mut self) -> Result<(), CallFault>
+        ensures { Clears self.old result self.new }
+    {
+        let Some(engine) = EngineId::of(&[0; 5]) else {
+            unreachable!();
+        };
+        let users: Vec<UserRow> = Vec::new(self.alloc);
+        let rows = Rows {
+            contexts: Vec::new(self.alloc),
+            groups: Vec::new(self.alloc),
+            access: Vec::new(self.alloc),
+            families: Vec::new(self.alloc),
+        };
+        let Ok(users) = Users::load(self.alloc, &users) else {
+            return Err(CallFault::Refused(TakeFault::OutOfMemory));
+        };
+        let Ok(tables) = Vacm::load(self.alloc, &rows) else {
+            return Err(CallFault::Refused(TakeFault::OutOfMemory));
+        };
+        self.agent = Agent::new(self.alloc, engine, 0, 0, users, tables);
+        self.last = None;
+        self.message = None;
+        Ok(())
+    }
+
+    /// Takes a datagram at the moment `now`, as `Agent::take` does. What is accepted is kept, for the calls below; of what is
+    /// refused the report is left to be sent, where there is one.
+    ///
+    /// The errors are the refusals of `Agent::take`, and want of memory for what is kept, which leaves the agent as it was.
+    pub fn take(&mut self, now: u64, datagram: &[u8]) -> Result<(), CallFault>
+        ensures { TakesHeld self.old now datagram.now result self.new }
+    {
+        self.last = None;
+        self.message = None;
+        let taken = match self.agent.take(now, datagram) {
+            Ok(taken) => taken,
+            Err(refused) => {
+                self.message = refused.report;
+                return Err(CallFault::Refused(refused.why));
+            }
+        };
+        match Kept::of(self.alloc, &taken) {
+            Ok(kept) => {
+                self.last = Some(kept);
+                Ok(())
+            }
+            Err(_) => Err(CallFault::Refused(TakeFault::OutOfMemory)),
+        }
+    }
+
+    /// Whether the sender of what is kept may see the variable with these arcs, by the view of this number.
+    ///
+    /// The errors are BadArgument, where no view has the number or there aren't 1 to 128 arcs, and NothingTaken.
+    pub fn allows(&self, view: u32, arcs: &[u32]) -> Result<Access, CallFault>
+        ensures { AllowsHeld self.now view arcs.now result }
+    {
+        let (Some(view), Some(variable)) = (view_of(view), Oid::of(arcs)) else {
+            return Err(CallFault::BadArgument);
+        };
+        match &self.last {
+            Some(kept) => Ok(allowed(&self.agent, kept, view, &variable)),
+            None => Err(CallFault::NothingTaken),
+        }
+    }
+
+    /// Whether this user at the level of this number may see the variable with these arcs in this context, by the view of this
+    /// number. The error is BadArgument, where no level or no view has the number, or there aren't 1 to 128 arcs.
+    pub fn may(
+        &self,
+        user: &[u8],
+        level: u32,
+        context: &[u8],
+        view: u32,
+        arcs: &[u32],
+    ) -> Result<Access, CallFault>
+        ensures { MaySee self.now user.now level context.now view arcs.now result }
+    {
+        let Some(level) = level_of(level) else {
+            return Err(CallFault::BadArgument);
+        };
+        let (Some(view), Some(variable)) = (view_of(view), Oid::of(arcs)) else {
+            return Err(CallFault::BadArgument);
+        };
+        Ok(self.agent.may(user, level, context, view, &variable))
+    }
+
+    /// The value of counter n, usmStats n of RFC 3414, section 5. The error is BadArgument, where n isn't 1 to 6.
+    pub fn counter(&self, n: u32) -> Result<u32, CallFault>
+        ensures { Counts self.now n result }
+    {
+        if n > 6 {
+            return Err(CallFault::BadArgument);
+        }
+        match self.agent.counter(n as u8) {
+            Some(value) => Ok(value),
+            None => Err(CallFault::BadArgument),
+        }
+    }
+
+    /// Writes the Response to what is kept, with this error-status, error-index and the bindings that these octets are, as
+    /// `Agent::respond` does, and leaves it to be sent. On an error nothing changes.
+    ///
+    /// The errors are BadArgument, where status or index are above 2147483647; NothingTaken; NotAsked, where the PDU isn't
+    /// of the Confirmed Class; BadBindings; and the refusals of `Agent::respond`.
+    pub fn respond(
+        &mut self,
+        now: u64,
+        status: u32,
+        index: u32,
+        list: &[u8],
+        salt: u64,
+    ) -> Result<(), CallFault>
+        ensures { RespondsHeld self.old now status index list.now (to_be_bytes w64 salt) result self.new }
+    {
+        if status > GREATEST || index > GREATEST {
+            return Err(CallFault::BadArgument);
+        }
+        let Some(kept) = &self.last else {
+            return Err(CallFault::NothingTaken);
+        };
+        let salt = salt.to_be_bytes();
+        match response(
+            self.alloc,
+            &mut self.agent,
+            now,
+            kept,
+            status,
+            index,
+            list,
+            salt,
+        ) {
+            Ok(text) => {
+                self.message = Some(text);
+                Ok(())
+            }
+            Err(fault) => Err(fault),
+        }
+    }
+
+    /// Writes an SNMPv2-Trap with the bindings that these octets are, as `Agent::notify` does, and leaves it to be sent. On an
+    /// error nothing changes.
+    ///
+    /// The errors are BadArgument, where a number of `to` is out of its range or the name is longer than 32 octets;
+    /// BadBindings; and the refusals of `Agent::notify`.
+    pub fn notify(
+        &mut self,
+        now: u64,
+        to: &NoticeTo<'_>,
+        list: &[u8],
+        salt: u64,
+    ) -> Result<(), CallFault>
+        ensures { NotifiesHeld self.old now (notice_of to.now) list.now (to_be_bytes w64 salt) result self.new }
+    {
+        let Some(level) = level_of(to.level) else {
+            return Err(CallFault::BadArgument);
+        };
+        if to.id > GREATEST || to.request_id > GREATEST || to.user.len() > 32 {
+            return Err(CallFault::BadArgument);
+        }
+        let salt = salt.to_be_bytes();
+        match notice(self.alloc, &mut self.agent, now, to, level, list, salt) {
+            Ok(text) => {
+                self.message = Some(text);
+                Ok(())
+            }
+            Err(fault) => Err(fault),
+        }
+    }
+
+    /// Copies a part of what is kept to the front of the buffer, and tells how many octets it has. The errors are
+    /// NothingTaken, and ShortBuffer, which tells the octets too and leaves the buffer as it was.
+    pub fn part(&self, part: Part, out: &mut [u8], written: &mut usize) -> Result<(), CallFault>
+        ensures { CopiesPart self.now.last part out.old out.new written.new result }
+    {
+        copied_part(&self.last, part, out, written)
+    }
+
+    /// Copies the message that is to be sent in the same way: the report on what was taken last, or what was written since.
+    pub fn message(&self, out: &mut [u8], written: &mut usize) -> Result<(), CallFault>
+        ensures { CopiesMessage self.now.message out.old out.new written.new result }
+    {
+        copied_message(&self.message, out, written)
+    }
+
+    /// The level, the PDU's tag, request-id, second and third number, and msgID of what is kept.
+    pub fn numbers(&self) -> Option<[i32; 6]>
+        ensures { MatchOption result (self.now.last ≡ None) (λ numbers. (g : Given) × (self.now.last ≡ Some g) × AreNumbersOf g numbers) }
+    {
+        match &self.last {
+            Some(kept) => Some(numbers_of(kept)),
+            None => None,
+        }
+    }
+}

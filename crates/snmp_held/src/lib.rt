@@ -1,0 +1,20 @@
+//! Handles for callers in other languages: an agent and a manager, each with the message that it accepted last and the message
+//! that it wrote last.
+//!
+//! Their calls are total: they take plain numbers and octets, and what is out of range is a fault of the call. What they give goes
+//! into buffers of the caller's.
+#![tactic(auto)]
+
+mod agent;
+mod bindings;
+mod fault;
+mod numbers;
+mod parts;
+
+pub use agent::{AgentHandle, NoticeTo};
+pub use bindings::{read_binding_at, write_binding};
+pub use fault::{CallFault, access_code_of, code_of, value_code_of};
+pub use parts::Part;
+
+#[cfg(test)]
+mod tests;

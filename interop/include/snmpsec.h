@@ -1,0 +1,116 @@
+/* SNMPv3 user security and view access, for C and C++: the calls of libsnmp_c.a, which `rt lib` makes in crates/snmp_c.
+ *
+ * A number answers each call: 0 where it was done; 1 to 18, a refusal by its number (README, and SNMPSEC_UNKNOWN_ENGINE and
+ * the like below); or a negative one, a fault of the call. A buffer is the caller's: a pointer and its length, and the octets that
+ * are written are counted. No call hands out memory that the caller has to free, but for the handle itself.
+ *
+ * The caller's duties, which nothing checks:
+ * - a handle is one that its _new wrote, not yet freed, and no two calls use it at once;
+ * - a pointer to octets is not null and is readable, or writable, for its length; what is written overlaps nothing else;
+ * - moments are seconds from one beginning and don't go back; a salt never comes twice for a key;
+ * - malloc, realloc and free are one allocator, and align to 16;
+ * - no call is made from a signal handler, or in the forked child of a process with threads.
+ *
+ * This file is not proved. */
+#ifndef SNMPSEC_H
+#define SNMPSEC_H
+
+#include <stddef.h>
+#include <stdint.h>
+
+#ifdef __cplusplus
+extern "C" {
+#endif
+
+enum {
+    SNMPSEC_OK = 0,
+    /* refusals */
+    SNMPSEC_NOT_MESSAGE = 1, SNMPSEC_BAD_VERSION = 2, SNMPSEC_NOT_SECURITY = 3, SNMPSEC_NOT_SCOPED = 4,
+    SNMPSEC_UNKNOWN_ENGINE = 6, SNMPSEC_UNKNOWN_USER = 7, SNMPSEC_UNSUPPORTED_LEVEL = 8, SNMPSEC_WRONG_DIGEST = 9,
+    SNMPSEC_NOT_IN_WINDOW = 10, SNMPSEC_DECRYPTION_ERROR = 11, SNMPSEC_BAD_SCOPED = 12, SNMPSEC_BAD_PDU = 13,
+    SNMPSEC_OUT_OF_MEMORY = 14, SNMPSEC_CLOCK_EXHAUSTED = 15, SNMPSEC_TOO_LARGE = 16, SNMPSEC_UNKNOWN_MODEL = 17,
+    SNMPSEC_INVALID_FLAGS = 18,
+    /* faults of the call */
+    SNMPSEC_BAD_ARGUMENT = -1, SNMPSEC_NOTHING_TAKEN = -2, SNMPSEC_NOT_ASKED = -3, SNMPSEC_BAD_BINDINGS = -4,
+    SNMPSEC_SHORT_BUFFER = -5, SNMPSEC_BAD_CONFIGURATION = -6, SNMPSEC_BAD_CLOCKS = -7
+};
+
+/* the most octets of a datagram over UDP and IPv4 */
+#define SNMPSEC_LARGEST 65507
+
+/* levels, and views (RFC 3411, section 5; RFC 3415, section 3) */
+enum { SNMPSEC_NO_AUTH_NO_PRIV = 1, SNMPSEC_AUTH_NO_PRIV = 2, SNMPSEC_AUTH_PRIV = 3 };
+enum { SNMPSEC_READ = 0, SNMPSEC_WRITE = 1, SNMPSEC_NOTIFY = 2 };
+
+/* what _allows and _may answer besides faults of the call */
+enum {
+    SNMPSEC_ACCESS_ALLOWED = 0, SNMPSEC_NOT_IN_VIEW = 1, SNMPSEC_NO_SUCH_VIEW = 2, SNMPSEC_NO_ACCESS_ENTRY = 3,
+    SNMPSEC_NO_GROUP_NAME = 4, SNMPSEC_NO_SUCH_CONTEXT = 5
+};
+
+/* parts of the message that is kept, and the places of its numbers */
+enum { SNMPSEC_BINDINGS = 0, SNMPSEC_USER = 1, SNMPSEC_CONTEXT_ENGINE = 2, SNMPSEC_CONTEXT_NAME = 3, SNMPSEC_ENGINE = 4 };
+enum {
+    SNMPSEC_LEVEL = 0, SNMPSEC_TAG = 1, SNMPSEC_REQUEST_ID = 2, SNMPSEC_SECOND = 3, SNMPSEC_THIRD = 4, SNMPSEC_MESSAGE_ID = 5,
+    SNMPSEC_NUMBERS = 6
+};
+
+/* ---- an agent */
+
+typedef struct snmpsec_agent snmpsec_agent;
+
+/* Makes an agent of a configuration in TOML, with its engine ID (5 to 32 octets) and boots (at most 2147483647), that started
+ * at the moment `started`, and writes the pointer to it: -1, -6 or 14 where there is none. */
+int32_t snmpsec_agent_new(const uint8_t *config, size_t config_len, const uint8_t *engine, size_t engine_len, uint32_t boots,
+                          uint64_t started, snmpsec_agent **out);
+/* Frees it. */
+void snmpsec_agent_free(snmpsec_agent *agent);
+
+/* Takes a datagram. 0: it is accepted, and kept for the calls below. 1 to 18: it is refused; its report, if there is one, is the
+ * message to be sent. */
+int32_t snmpsec_agent_take(snmpsec_agent *agent, uint64_t now, const uint8_t *datagram, size_t datagram_len);
+
+/* The six numbers of what is kept, by the places above: -2 nothing is kept, -5 there is no room. */
+int32_t snmpsec_agent_numbers(snmpsec_agent *agent, int32_t *numbers, size_t numbers_len);
+/* A part of what is kept: -1 no such part, -2 nothing is kept, -5 there is no room, and *written says how much is wanted. */
+int32_t snmpsec_agent_part(snmpsec_agent *agent, uint32_t part, uint8_t *out, size_t out_len, size_t *written);
+/* The message to be sent, in the same way: the report on what was taken last, or what was written since; -2 where there is none. */
+int32_t snmpsec_agent_message(snmpsec_agent *agent, uint8_t *out, size_t out_len, size_t *written);
+
+/* Whether the sender of what is kept may see a variable in the message's context, by a view: 0 to 5, -1 no such view or not 1 to
+ * 128 arcs, -2 nothing is kept. An agent asks for each variable before it gives or sets it. */
+int32_t snmpsec_agent_allows(snmpsec_agent *agent, uint32_t view, const uint32_t *arcs, size_t arcs_len);
+/* The same for a user at a level in a context, without a message. */
+int32_t snmpsec_agent_may(snmpsec_agent *agent, const uint8_t *user, size_t user_len, uint32_t level, const uint8_t *context,
+                          size_t context_len, uint32_t view, const uint32_t *arcs, size_t arcs_len);
+
+/* Writes the Response to what is kept: -1 a number above 2147483647, -2 nothing is kept, -3 its PDU isn't one that is answered, -4
+ * the list isn't bindings one after another, or a refusal: 15, 7, 8, 16 (answer tooBig then: status 1 and no bindings), 14. */
+int32_t snmpsec_agent_respond(snmpsec_agent *agent, uint64_t now, uint32_t status, uint32_t index, const uint8_t *list,
+                              size_t list_len, uint64_t salt);
+/* Writes an SNMPv2-Trap. */
+int32_t snmpsec_agent_notify(snmpsec_agent *agent, uint64_t now, uint32_t id, const uint8_t *user, size_t user_len, uint32_t level,
+                             uint32_t request_id, const uint8_t *context_engine, size_t context_engine_len,
+                             const uint8_t *context_name, size_t context_name_len, const uint8_t *list, size_t list_len,
+                             uint64_t salt);
+
+/* Counter n, usmStats n of RFC 3414, section 5: 1 UnsupportedSecLevels, 2 NotInTimeWindows, 3 UnknownUserNames, 4
+ * UnknownEngineIDs, 5 WrongDigests, 6 DecryptionErrors; -1 where n is none of them. */
+int64_t snmpsec_agent_counter(snmpsec_agent *agent, uint32_t n);
+
+/* ---- variable bindings, as octets */
+
+/* Reads the binding at the place `at` of a list: its arcs, of at most 128, and in `numbers` how many they are, the value's tag, the
+ * place of its content, its length, and the place after the binding. -4: no binding begins there. */
+enum { SNMPSEC_ARCS = 0, SNMPSEC_VALUE_TAG = 1, SNMPSEC_VALUE_AT = 2, SNMPSEC_VALUE_LENGTH = 3, SNMPSEC_NEXT = 4, SNMPSEC_PLACES = 5 };
+int32_t snmpsec_binding_read(const uint8_t *list, size_t list_len, size_t at, uint32_t *arcs, size_t arcs_len, size_t *numbers,
+                             size_t numbers_len);
+/* Writes a binding: -1 the arcs are no identifier's, the tag's low five bits are all ones or the content is above 65507
+ * octets; -5 there is no room, and *written says how much is wanted. */
+int32_t snmpsec_binding_write(const uint32_t *arcs, size_t arcs_len, uint32_t tag, const uint8_t *content, size_t content_len,
+                              uint8_t *out, size_t out_len, size_t *written);
+
+#ifdef __cplusplus
+}
+#endif
+#endif

@@ -1,0 +1,175 @@
+#!/bin/bash
+# Runs the library from C and against net-snmp's tools, on 127.0.0.1 alone: test.sh [PORT]
+#
+# It wants a C compiler, and net-snmp: apt-get update; apt-get install snmp snmpd snmptrapd libsnmp-dev
+# What isn't installed is told by a line and left out. It prints what differs from what is expected, and at the end how many
+# checks passed; the status is 1 if any failed.
+here=$(cd "$(dirname "$0")" && pwd)
+export OUT=${OUT:-$here/out}
+work=$(mktemp -d)
+port=${1:-16161}
+passed=0 failed=0
+pids=()
+
+export MIBS="" SNMPCONFPATH=/nonexistent SNMP_PERSISTENT_DIR=$work/persist
+trap 'for p in "${pids[@]}"; do kill "$p" 2>/dev/null; done; rm -rf "$work"' EXIT
+
+check() { # NAME EXPECTED FOUND
+    if [ "$2" = "$3" ]; then passed=$((passed + 1)); else failed=$((failed + 1)); printf 'FAILED %s\n  expected: %s\n  found:    %s\n' "$1" "$2" "$3"; fi
+}
+
+# has NAME EXPECTED FOUND: the text is somewhere in it
+has() {
+    if [[ "$3" == *"$2"* ]]; then passed=$((passed + 1)); else failed=$((failed + 1)); printf 'FAILED %s\n  expected: %s\n  found:    %s\n' "$1" "$2" "$3"; fi
+}
+
+begin_agent() { # ARGUMENTS.. behind those that are always the same
+    "${AGENT:-$OUT/agent}" "$here/examples/agent.toml" "$here/examples/table.txt" "$engine" "$work/boots" "$port" "$@" > "$work/agent.out" 2> "$work/agent.err" &
+    agent=$!
+    pids+=("$agent")
+    sleep 0.4
+}
+
+end_agent() {
+    kill "$agent"
+    wait "$agent"
+}
+
+engine=80001f8804616263
+at=127.0.0.1:$port
+system=1.3.6.1.2.1.1
+
+# ask TOOL USER-OPTIONS.. : a tool of net-snmp that remembers nothing
+ask() {
+    local tool=$1
+    shift
+    rm -rf "$SNMP_PERSISTENT_DIR"
+    mkdir -p "$SNMP_PERSISTENT_DIR"
+    "$tool" -v3 -r 0 -t 2 -On "$@" 2>&1 | grep -v '^Created directory'
+}
+
+sh "$here/build.sh" $CFLAGS || exit 1
+
+test_c() {
+    if ! command -v cc > /dev/null; then echo "skipped: no C compiler"; return; fi
+    if [ -x "$OUT/calls" ]; then
+        "$OUT/calls" "$here/../examples/replay/config.toml" "$here/../examples/replay/captured.log" > "$work/calls.out" 2>&1
+        check "calls from C" 0 $?
+        tail -1 "$work/calls.out"
+    fi
+}
+
+expected_walk() { # the seven rows, or the six below system
+    cat << 'ROWS'
+.1.3.6.1.2.1.1.1.0 = STRING: "a proved agent"
+.1.3.6.1.2.1.1.2.0 = OID: .1.3.6.1.4.1.99999
+.1.3.6.1.2.1.1.3.0 = Timeticks: (256) 0:00:02.56
+.1.3.6.1.2.1.1.4.0 = STRING: "nobody"
+.1.3.6.1.2.1.1.5.0 = STRING: "loopback"
+.1.3.6.1.2.1.1.7.0 = INTEGER: 72
+ROWS
+    [ "$1" = all ] && echo '.1.3.6.1.4.1.99999.1.0 = STRING: "secret"'
+}
+
+test_levels() {
+    local name options rows secret
+    while read -r name rows options; do
+        secret='No Such Object available on this agent at this OID'
+        [ "$rows" = all ] && secret='STRING: "secret"'
+        check "$name get" '.1.3.6.1.2.1.1.1.0 = STRING: "a proved agent"
+.1.3.6.1.4.1.99999.1.0 = '"$secret" "$(ask snmpget $options $at $system.1.0 1.3.6.1.4.1.99999.1.0)"
+        check "$name getnext" '.1.3.6.1.2.1.1.7.0 = INTEGER: 72' "$(ask snmpgetnext $options $at $system.5.0)"
+        local walked
+        walked=$(ask snmpwalk $options $at 1.3.6.1 | grep -v 'No more variables')
+        check "$name walk" "$(expected_walk "$rows")" "$walked"
+        for n in 1 10 50; do
+            walked=$(ask snmpbulkwalk -Cr$n $options $at 1.3.6.1 | grep -v 'No more variables')
+            check "$name bulkwalk of $n" "$(expected_walk "$rows")" "$walked"
+        done
+    done << 'LEVELS'
+noAuthNoPriv system -l noAuthNoPriv -u plain
+md5 system -l authNoPriv -u md -a MD5 -A maplesyrup
+sha1 system -l authNoPriv -u sha -a SHA -A maplesyrup
+sha256 system -l authNoPriv -u sha256 -a SHA-256 -A maplesyrup
+md5+aes all -l authPriv -u md -a MD5 -A maplesyrup -x AES -X syrupmaple
+sha1+aes all -l authPriv -u sha -a SHA -A maplesyrup -x AES -X another-one
+sha256+aes all -l authPriv -u sha256 -a SHA-256 -A maplesyrup -x AES -X a-third-one
+LEVELS
+}
+
+test_set() {
+    local private="-l authPriv -u sha -a SHA -A maplesyrup -x AES -X another-one"
+    check "set" '.1.3.6.1.2.1.1.4.0 = STRING: "somebody"' "$(ask snmpset $private $at $system.4.0 s somebody)"
+    check "what was set" '.1.3.6.1.2.1.1.4.0 = STRING: "somebody"' "$(ask snmpget $private $at $system.4.0)"
+    has "set of another type" "wrongType" "$(ask snmpset $private $at $system.4.0 i 4)"
+    has "set of no row" "notWritable" "$(ask snmpset $private $at $system.9.0 s x)"
+    has "set outside of the view" "noAccess" "$(ask snmpset $private $at 1.3.6.1.4.1.99999.1.0 s x)"
+    has "set at a lower level" "noAccess" "$(ask snmpset -l authNoPriv -u sha -a SHA -A maplesyrup $at $system.4.0 s x)"
+    check "set back" '.1.3.6.1.2.1.1.4.0 = STRING: "nobody"' "$(ask snmpset $private $at $system.4.0 s nobody)"
+}
+
+# The six counters after these are told at the end: of each run the discovery counts one in counter 4.
+test_refusals() {
+    local sha="-l authNoPriv -u sha -a SHA -A maplesyrup"
+    has "wrong password" "Authentication failure" "$(ask snmpget -l authNoPriv -u md -a MD5 -A wrongwrong $at $system.1.0)"
+    has "unknown user" "Unknown user name" "$(ask snmpget -l noAuthNoPriv -u nobody $at $system.1.0)"
+    has "unsupported level" "Unsupported security level" "$(ask snmpget -l authNoPriv -u plain -a MD5 -A maplesyrup $at $system.1.0)"
+    has "wrong privacy password" "Timeout" "$(ask snmpget -l authPriv -u sha -a SHA -A maplesyrup -x AES -X wrongwrong $at $system.1.0)"
+    has "another engine ID" "Timeout" "$(ask snmpget $sha -e 80001f8804616299 $at $system.1.0)"
+    has "a client that doesn't know the boots is corrected" "a proved agent" "$(ask snmpget $sha -e $engine $at $system.1.0)"
+    has "another context" "No Such Object" "$(ask snmpget $sha -n other $at $system.1.0)"
+}
+
+test_counters() { # what was told of the refusals' run alone
+    local told
+    told=$(cat "$work/agent.out")
+    has "counter 1" "counter 1: 1" "$told"
+    has "counter 2" "counter 2: 1" "$told"
+    has "counter 3" "counter 3: 1" "$told"
+    has "counter 5" "counter 5: 1" "$told"
+    has "counter 6" "counter 6: 0" "$told"
+    has "counter 4" "counter 4: 6" "$told"
+}
+
+test_agent() {
+    if ! command -v snmpget > /dev/null; then echo "skipped: net-snmp's snmpget isn't installed (apt-get install snmp)"; return; fi
+    begin_agent
+    test_levels
+    test_set
+    end_agent
+    begin_agent
+    test_refusals
+    end_agent
+    test_counters
+    check "the agent says nothing wrong" "" "$(cat "$work/agent.err")"
+}
+
+test_traps() {
+    if ! command -v snmptrapd > /dev/null; then echo "skipped: net-snmp's snmptrapd isn't installed (apt-get install snmptrapd)"; return; fi
+    local trap_port=$((port + 1)) name level
+    for name in md:MD5:syrupmaple sha:SHA:another-one sha256:SHA-256:a-third-one; do
+        IFS=: read -r user hash password <<< "$name"
+        printf 'createUser -e 0x%s %s %s maplesyrup AES %s\nauthUser log %s auth\n' $engine "$user" "$hash" "$password" "$user" > "$work/trapd.conf"
+        for level in 2 3; do
+            rm -rf "$SNMP_PERSISTENT_DIR"; mkdir -p "$SNMP_PERSISTENT_DIR"
+            snmptrapd -f -On -Lf "$work/trapd.log" -C -c "$work/trapd.conf" -F '%V|%v\n' udp:127.0.0.1:$trap_port > /dev/null 2>&1 &
+            local trapd=$!
+            pids+=("$trapd")
+            sleep 0.6
+            begin_agent $trap_port "$user" $level
+            sleep 0.4
+            end_agent
+            kill $trapd; wait $trapd 2> /dev/null
+            has "a trap of $user at level $level" "1.3.6.1.6.3.1.1.5.1" "$(cat "$work/trapd.log")"
+            rm -f "$work/trapd.log"
+        done
+    done
+}
+
+test_c
+test_agent
+test_traps
+[ -f "$here/test_poll.sh" ] && . "$here/test_poll.sh"
+[ -f "$here/test_wrappers.sh" ] && . "$here/test_wrappers.sh"
+echo "$passed passed, $failed failed"
+[ $failed = 0 ]
