@@ -1,6 +1,6 @@
 -- What `snmpsec replay` does with a configuration, a clocks file and a log.
 use Rattle.std.specs.Prelude.{◌≡◌, ◌⊎◌, ⊤, ℕ, List, ◌++◌, codes, IfSome}
-use Rattle.std.specs.Io.KnownBytes.{Appends, Keeps}
+use Rattle.std.specs.Io.KnownBytes.{Appends}
 use Rattle.engine_clock.specs.Saved.{Saves, IsFirstFault}
 use Rattle.snmp_manager.specs.Views.{Held}
 use Rattle.snmpsec_replay.specs.Replay.{ReplayText, Streams, StopsBy}
