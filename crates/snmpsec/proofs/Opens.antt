@@ -1,19 +1,17 @@
 -- What is printed of a message that was opened, or refused.
-use Rattle.std.proofs.Common.{◌≡◌, ℕ, List, [], Option, Some, None, Result, Ok, Err, refl, subst, inl, inr}
+use Rattle.std.proofs.Common.{◌≡◌, ℕ, List, [], Option, Some, Result, Ok, Err, refl, subst, inr}
 use Rattle.std.specs.Prelude.{◌≢◌, IfOk, OnOk, IfSome}
 use Rattle.hex.specs.Hex.{decode_of}
 use Rattle.snmp_msg.specs.Numbers.{refusal_number}
 use Rattle.snmp_msg.specs.declared.refusal.Refusal.{Refusal}
 use Rattle.snmp_msg.specs.declared.refusal.Refusal.TheVariants as refusals
-use Rattle.snmp_outcome.specs.declared.fault.TakeFault.{TakeFault}
-use Rattle.snmp_outcome.specs.Refusals.{number_in_table, answer_number, refusal_of}
+use Rattle.snmp_outcome.specs.Refusals.{number_in_table}
 use Rattle.usm_core.specs.User.{User}
 use Rattle.vacm_core.specs.Tables.{Tables}
 use Rattle.snmpsec_config.specs.Refusals.{Loads}
 use Rattle.snmpsec_open.specs.Opening.{Opens, refused}
 use Rattle.snmpsec.specs.declared.refused.Refused.{Refused}
 use Rattle.snmpsec.specs.Refusals.{refused_line}
-use Rattle.snmpsec.specs.Questions.{TellsRefused}
 use Rattle.snmpsec.specs.Open.{OpensBy, OpensText}
 
 in_table : (r : Refusal) → r ≢ refusals.OutOfMemory → number_in_table r ≡ Some (refusal_number r)

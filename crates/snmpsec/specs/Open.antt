@@ -1,5 +1,5 @@
 -- What `snmpsec open` prints.
-use Rattle.std.specs.Prelude.{◌≡◌, ◌⊎◌, ℕ, List, [], ◌++◌, codes, Result, Ok, Err}
+use Rattle.std.specs.Prelude.{◌≡◌, ◌⊎◌, ℕ, List, [], ◌++◌, codes, Ok, Err}
 use Rattle.hex.specs.Hex.{decode_of}
 use Rattle.snmp_msg.specs.Numbers.{refusal_number}
 use Rattle.usm_core.specs.User.{User}
