@@ -10,6 +10,6 @@ cc=${CC:-cc}
 flags="-std=gnu11 -O2 -Wall -Wextra -Werror -I$here/include $*"
 $cc $flags "$here/agent.c" "$here/table.c" "$here/heap.c" "$library" -o "$out/agent"
 $cc $flags -Wl,--wrap=malloc,--wrap=realloc "$here/calls.c" "$here/heap.c" "$library" -o "$out/calls"
-[ ! -f "$here/poll.c" ] || $cc $flags "$here/poll.c" "$here/heap.c" "$library" -o "$out/poll"
+$cc $flags "$here/poll.c" "$here/table.c" "$here/heap.c" "$library" -o "$out/poll"
 $cc -std=gnu11 -O2 -fPIC -shared -I"$here/include" "$here/heap.c" -Wl,--whole-archive "$library" -Wl,--no-whole-archive -o "$out/libsnmpsec.so"
 echo "built in $out"

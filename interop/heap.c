@@ -48,15 +48,27 @@ void rattle_dealloc(void *block) {
     free(block);
 }
 
-/* Gives back all that a handle holds, and puts an empty one in its place. */
+/* They give back all that a handle holds, and put an empty one in its place. */
 int32_t snmpsec_agent_clear(snmpsec_agent *agent);
+int32_t snmpsec_manager_clear(snmpsec_manager *manager);
+
+static void give_back(void *handle) {
+    int len = taken_len;
+    taken_len = -1;
+    for (int i = 0; i < len; i++) free(taken[i]);
+    free(handle);
+}
 
 void snmpsec_agent_free(snmpsec_agent *agent) {
     if (!agent) return;
     taken_len = 0;
     snmpsec_agent_clear(agent);
-    int len = taken_len;
-    taken_len = -1;
-    for (int i = 0; i < len; i++) free(taken[i]);
-    free(agent);
+    give_back(agent);
+}
+
+void snmpsec_manager_free(snmpsec_manager *manager) {
+    if (!manager) return;
+    taken_len = 0;
+    snmpsec_manager_clear(manager);
+    give_back(manager);
 }

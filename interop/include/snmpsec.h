@@ -98,6 +98,44 @@ int32_t snmpsec_agent_notify(snmpsec_agent *agent, uint64_t now, uint32_t id, co
  * UnknownEngineIDs, 5 WrongDigests, 6 DecryptionErrors; -1 where n is none of them. */
 int64_t snmpsec_agent_counter(snmpsec_agent *agent, uint32_t n);
 
+/* ---- a manager */
+
+typedef struct snmpsec_manager snmpsec_manager;
+
+/* Makes a manager with the users of a configuration that begins with the clocks of a saved text (`snmp-clocks 2` and a line feed for
+ * none), where the marks of version 1 were seen at the moment `now`: -7, -6 or 14 where there is none. */
+int32_t snmpsec_manager_new(const uint8_t *config, size_t config_len, const uint8_t *clocks, size_t clocks_len, uint64_t now,
+                            snmpsec_manager **out);
+void snmpsec_manager_free(snmpsec_manager *manager);
+
+/* Takes a datagram, and learns its engine's boots and time where it is authentic. 0: it is accepted, and kept. */
+int32_t snmpsec_manager_take(snmpsec_manager *manager, uint64_t now, const uint8_t *datagram, size_t datagram_len);
+int32_t snmpsec_manager_numbers(snmpsec_manager *manager, int32_t *numbers, size_t numbers_len);
+int32_t snmpsec_manager_part(snmpsec_manager *manager, uint32_t part, uint8_t *out, size_t out_len, size_t *written);
+/* The request that was written last, or the saved text. */
+int32_t snmpsec_manager_message(snmpsec_manager *manager, uint8_t *out, size_t out_len, size_t *written);
+
+/* What is kept is to the request that was written last: its Response, neither, or a Report: of no counter, or 10 + n of counter n. */
+enum { SNMPSEC_RESPONSE = 0, SNMPSEC_NOT_FOR_IT = 1, SNMPSEC_REPORT = 10 };
+int32_t snmpsec_manager_answer(snmpsec_manager *manager);
+
+/* Writes the request by which an engine is discovered; its answer is a Report that has the engine's ID. */
+int32_t snmpsec_manager_discover(snmpsec_manager *manager, uint32_t id);
+/* Writes a request: -1 a number or a length is out of its range, -4 the list isn't bindings, or a refusal: 7, 8, 16, 14. One
+ * request is waited for at a time. */
+int32_t snmpsec_manager_request(snmpsec_manager *manager, uint64_t now, uint32_t id, const uint8_t *engine, size_t engine_len,
+                                const uint8_t *user, size_t user_len, uint32_t level, const uint8_t *context_engine,
+                                size_t context_engine_len, const uint8_t *context_name, size_t context_name_len, uint32_t tag,
+                                uint32_t request_id, uint32_t second, uint32_t third, const uint8_t *list, size_t list_len,
+                                uint64_t salt);
+
+/* Joins in the clocks of a saved text: -7, 14. */
+int32_t snmpsec_manager_absorb(snmpsec_manager *manager, const uint8_t *text, size_t text_len, uint64_t now);
+/* Leaves the saved text of the clocks as the message. */
+int32_t snmpsec_manager_save(snmpsec_manager *manager);
+/* The boots and time that are held of an engine: -1 no engine ID, -2 nothing is held. */
+int32_t snmpsec_manager_pair(snmpsec_manager *manager, const uint8_t *engine, size_t engine_len, uint32_t *boots, uint32_t *time);
+
 /* ---- variable bindings, as octets */
 
 /* Reads the binding at the place `at` of a list: its arcs, of at most 128, and in `numbers` how many they are, the value's tag, the

@@ -8,5 +8,7 @@
 pub mod agent;
 mod agent_calls;
 pub mod bindings;
+pub mod manager;
+mod manager_calls;
 #[cfg(test)]
 mod tests;

@@ -1,5 +1,7 @@
 -- Why a call of a handle isn't done, and the numbers that tell it.
-use Rattle.std.specs.Prelude.{ℕ, ℤ, pos, negsuc, Result, Ok, Err}
+use Rattle.std.specs.Prelude.{ℕ, ℤ, pos, negsuc, ◌+◌, Result, Ok, Err}
+use Rattle.snmp_manager.specs.declared.pending.Answer.{Answer}
+use Rattle.snmp_manager.specs.declared.pending.Answer.TheVariants.{Response, Report, NotForIt}
 use Rattle.vacm_core.specs.declared.access.Access.{Access}
 use Rattle.vacm_core.specs.Numbers.{access_number}
 use Rattle.snmp_outcome.specs.Refusals.{number_of}
@@ -31,3 +33,10 @@ access_code (Err fault) = fault_code fault
 abbrev pub value_code : Result ℕ CallFault → ℤ
 value_code (Ok value) = pos value
 value_code (Err fault) = fault_code fault
+
+-- what an accepted message is to a request
+abbrev pub answer_code : Result Answer CallFault → ℤ
+answer_code (Ok Response) = pos 0
+answer_code (Ok NotForIt) = pos 1
+answer_code (Ok (Report n)) = pos (10 + n)
+answer_code (Err fault) = fault_code fault

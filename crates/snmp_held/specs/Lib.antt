@@ -4,3 +4,5 @@ pub mod Bindings
 pub mod Agents
 pub mod Parts
 pub mod Between
+pub mod Managers
+pub mod Asked

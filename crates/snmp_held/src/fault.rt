@@ -1,8 +1,9 @@
 //! Why a call of a handle isn't done.
 
 ghost use Rattle.std.specs.Prelude.{◌≡◌, pos};
-ghost use Rattle.snmp_held.specs.Faults.{code, access_code, value_code, fault_code};
+ghost use Rattle.snmp_held.specs.Faults.{code, access_code, value_code, answer_code, fault_code};
 
+use snmp_manager::Answer;
 use snmp_outcome::TakeFault;
 use vacm_core::Access;
 
@@ -73,5 +74,18 @@ pub fn value_code_of(told: Result<u32, CallFault>) -> i64
     match told {
         Ok(value) => i64::from(value),
         Err(fault) => i64::from(fault.code()),
+    }
+}
+
+/// The number of what an accepted message is to a request: 0 its Response, 1 neither, 10 a Report that names no counter, and 11 to 16
+/// a Report of the counter 1 to 6; or the fault's.
+pub fn answer_code_of(told: Result<Answer, CallFault>) -> i32
+    ensures { result ≡ answer_code told }
+{
+    match told {
+        Ok(Answer::Response) => 0,
+        Ok(Answer::NotForIt) => 1,
+        Ok(Answer::Report(n)) => 10 + i32::from(n),
+        Err(fault) => fault.code(),
     }
 }

@@ -1,0 +1,58 @@
+-- What the calls on a manager's handle answer and leave.
+use Rattle.std.specs.Prelude.{◌≡◌, ℕ, ℤ, List, Result, Ok, Err, MatchOption}
+use Rattle.std.specs.Int.{to_be_bytes, w64}
+use Rattle.engine_clock.specs.Pairs.{BootsAndTime}
+use Rattle.snmp_manager.specs.declared.pending.Answer.{Answer}
+use Rattle.snmp_held.specs.declared.fault.CallFault.{CallFault}
+use Rattle.snmp_held.specs.declared.fault.CallFault.TheVariants.{BadArgument, NothingTaken}
+use Rattle.snmp_held.specs.Faults.{code, answer_code, fault_code}
+use Rattle.snmp_held.specs.Parts.{part_of, CopiesPart, CopiesMessage}
+use Rattle.snmp_held.specs.Managers.{ManagerHeld, Asking, MakesManager, ClearsManager, ManagerTakes, TellsAnswer, RequestsHeld, DiscoversHeld, AbsorbsHeld, SavesHeld, TellsPair}
+use Rattle.snmp_c.specs.Calls.{Done, HasNumbers}
+
+abbrev pub MakesAManager : List ℕ → List ℕ → ℕ → ℤ → Type 0
+MakesAManager config clocks now answer = (told : Result ManagerHeld CallFault) × (answer ≡ code told) × MakesManager config clocks now told
+
+abbrev pub Clears : ManagerHeld → ManagerHeld → ℤ → Type 0
+Clears old new answer = Done (λ told. ClearsManager old told new) answer
+
+abbrev pub ManagerTook : ℕ → List ℕ → ManagerHeld → ManagerHeld → ℤ → Type 0
+ManagerTook now w old new answer = Done (λ told. ManagerTakes old now w told new) answer
+
+-- Nothing changes.
+abbrev pub Answered : ManagerHeld → ManagerHeld → ℤ → Type 0
+Answered old new answer = (new ≡ old) × ((told : Result Answer CallFault) × (answer ≡ answer_code told) × TellsAnswer old told)
+
+abbrev pub Requested : ℕ → Asking → List ℕ → ℕ → ManagerHeld → ManagerHeld → ℤ → Type 0
+Requested now ask list salt old new answer = Done (λ told. RequestsHeld old now ask list (to_be_bytes w64 salt) told new) answer
+
+abbrev pub Discovered : ℕ → ManagerHeld → ManagerHeld → ℤ → Type 0
+Discovered id old new answer = Done (λ told. DiscoversHeld old id told new) answer
+
+abbrev pub Absorbed : List ℕ → ℕ → ManagerHeld → ManagerHeld → ℤ → Type 0
+Absorbed text now old new answer = Done (λ told. AbsorbsHeld old text now told new) answer
+
+abbrev pub Saved : ManagerHeld → ManagerHeld → ℤ → Type 0
+Saved old new answer = Done (λ told. SavesHeld old told new) answer
+
+-- the boots and the time are those of the pair, or as they were
+abbrev pub HasPair : ℕ → ℕ → ℕ → ℕ → Result BootsAndTime CallFault → Type 0
+HasPair boots boots_new time time_new (Ok pair) = (boots_new ≡ pair.boots) × (time_new ≡ pair.time)
+HasPair boots boots_new time time_new (Err fault) = (boots_new ≡ boots) × (time_new ≡ time)
+
+abbrev pub ToldPair : List ℕ → ℕ → ℕ → ℕ → ℕ → ManagerHeld → ManagerHeld → ℤ → Type 0
+ToldPair engine boots boots_new time time_new old new answer =
+    (new ≡ old) × ((told : Result BootsAndTime CallFault) × (answer ≡ code told) × TellsPair old engine told × HasPair boots boots_new time time_new told)
+
+-- ---- what is kept
+
+abbrev pub ManagerPart : ℕ → List ℕ → List ℕ → ℕ → ManagerHeld → ManagerHeld → ℤ → Type 0
+ManagerPart n out out_new written old new answer =
+    (new ≡ old) × MatchOption (part_of n) ((answer ≡ fault_code BadArgument) × (out_new ≡ out)) (λ part. Done (λ told. CopiesPart old.last part out out_new written told) answer)
+
+abbrev pub ManagerMessage : List ℕ → List ℕ → ℕ → ManagerHeld → ManagerHeld → ℤ → Type 0
+ManagerMessage out out_new written old new answer = (new ≡ old) × Done (λ told. CopiesMessage old.message out out_new written told) answer
+
+abbrev pub ManagerNumbers : List ℤ → List ℤ → ManagerHeld → ManagerHeld → ℤ → Type 0
+ManagerNumbers out out_new old new answer =
+    (new ≡ old) × MatchOption old.last ((answer ≡ fault_code NothingTaken) × (out_new ≡ out)) (λ g. HasNumbers g out out_new answer)
