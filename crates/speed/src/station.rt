@@ -13,7 +13,10 @@ use usm_keys::Auth;
 use vacm_core::{Rows, Vacm, VacmFault};
 
 /// The engine of the captured messages, which `oak` asked.
-const ENGINE: [u8; 11] = [0x80, 0, 0x1F, 0x88, 3, 2, 0xFC, 0, 0, 0, 1];
+pub(crate) const ENGINE: [u8; 11] = [0x80, 0, 0x1F, 0x88, 3, 2, 0xFC, 0, 0, 0, 1];
+
+/// The name of the user.
+pub(crate) const OAK: &[u8] = b"oak";
 
 /// Its boots in them.
 const BOOTS: u32 = 1;
@@ -24,7 +27,7 @@ const STARTED: u64 = 997;
 /// What the operations on messages are done with.
 #[derive(Drop)]
 pub(crate) struct Station {
-    /// Who opens messages: `ann`, or nobody.
+    /// Who opens messages or seals them: `ann`, `oak` or nobody.
     pub(crate) users: Users,
     /// Who takes messages: it has the user `oak`, or none.
     pub(crate) manager: Manager,
@@ -44,7 +47,7 @@ fn ann(alloc: Global, auth: Auth) -> Result<UserRow, AllocError> {
 /// The user `oak` with SHA-1 and AES, who sent the captured messages.
 fn oak(alloc: Global) -> Result<UserRow, AllocError> {
     Ok(UserRow {
-        name: b"oak".to_vec(alloc)?,
+        name: OAK.to_vec(alloc)?,
         auth: Some((Auth::Sha1, b"oaktreepass".to_vec(alloc)?)),
         privacy: Some(b"oakprivpass".to_vec(alloc)?),
     })
@@ -116,6 +119,13 @@ impl Station {
         let mut rows = others(alloc, count)?;
         rows.push(oak(alloc)?)?;
         Station::of(alloc, &[], &rows, &[])
+    }
+
+    /// A station whose users are `oak` alone.
+    pub(crate) fn of_sealer(alloc: Global) -> Result<Station>
+        ensures { IfOk result (λ station. HasUsers station 1 0 0) }
+    {
+        Station::of(alloc, &[oak(alloc)?], &[], &[])
     }
 
     /// A station whose agent has `oak`.
