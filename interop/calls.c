@@ -294,9 +294,9 @@ static int made_again(const char *user, uint32_t protocol, uint8_t code_size, co
     check("code", 0, snmpsec_mac(protocol, local, size, w, at, code_size, behind, len - at - code_size, code, sizeof code, &written));
     check("octets of the code", code_size, (long long)written);
     if (memcmp(code, w + at, code_size)) return WRONG_CODE;
-    if (behind[0] != 4 || behind[1] != 8) return CODED;
     const uint8_t *salt = behind + 2, *octets = behind + 12;
     size_t octets_len = len - (size_t)(octets - w);
+    if (behind[0] != 4 || behind[1] != 8 || octets_len > sizeof text) return CODED;
     check("octets that are sealed", (long long)octets_len, behind[11]);
     memcpy(text, octets, octets_len);
     check("open", 0, snmpsec_open(local, 16, BOOTS, TIME, salt, 8, text, octets_len));
