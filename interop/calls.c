@@ -120,7 +120,7 @@ static int32_t all_calls(size_t request) {
     if (!answer && !(answer = snmpsec_agent_part(agent, SNMPSEC_BINDINGS, out, sizeof out, &written))) answer = snmpsec_agent_respond(agent, NOW, 0, 0, out, written, 1);
     if (!answer) answer = snmpsec_agent_notify(agent, NOW, 1, (const uint8_t *)"ann", 3, 3, 1, engine, sizeof engine, (const uint8_t *)"", 0, out, written, 2);
     if (answer) for (uint32_t n = 1; n <= 6; n++) check("a counter of nothing", 0, snmpsec_agent_counter(agent, n));
-    left = -1;
+    left = 0;       /* freeing wants no memory, or the leak sanitizer tells */
     snmpsec_agent_free(agent);
     return answer;
 }

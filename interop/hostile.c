@@ -134,7 +134,9 @@ static int is_refused(const struct call *call, long n, const struct text *learne
     }
     struct text end = saved_of(manager);
     check("the clocks are those without want", 1, is_same(learned, &end));
+    left = 0;       /* freeing wants no memory, or the leak sanitizer tells */
     snmpsec_manager_free(manager);
+    left = -1;
     return answer != call->done;
 }
 

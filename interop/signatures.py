@@ -34,24 +34,35 @@ def of_header(text):
 
 
 def of_rust(text):
-    found = re.findall(rf"fn {NAMES}\(([^)]*)\)(?: -> (\w+))?;", text)
+    found = re.findall(rf"fn {NAMES}\(([^)]*)\)(?:\s*->\s*(\w+))?;", text)
     kinds = {name: [result or "void"] + [spelled(one.split(":")[1].strip(), RUST_WORDS) for one in arguments.split(",") if one.strip()]
              for name, arguments, result in found}
     return {name: [kind[1:] + "*" if kind[0] == "*" else kind for kind in signature] for name, signature in kinds.items()}
 
 
 def of_python(signatures):
-    return {name: [PYTHON_TYPES[getattr(kind, "kind", kind)] for kind in [result, *arguments]] for name, (result, arguments) in signatures.items()}
+    kinds = {name: [getattr(kind, "kind", kind) for kind in [result, *arguments]] for name, (result, arguments) in signatures.items()}
+    return {name: [PYTHON_TYPES[kind] for kind in signature] for name, signature in kinds.items()}
+
+
+def as_python_tells(signature):
+    """Where size_t has 64 bits, ctypes has one type for both."""
+    return [kind.replace("usize", PYTHON_TYPES[ctypes.c_size_t]).replace("u64", PYTHON_TYPES[ctypes.c_uint64]) for kind in signature]
+
+
+def compared(language, header, found):
+    """How many differ, which are printed."""
+    differ = [name for name in sorted(header.keys() | found.keys()) if header.get(name) != found.get(name)]
+    for name in differ:
+        print(f"{language}: {name}: {found.get(name)}, and in the header {header.get(name)}")
+    return len(differ)
 
 
 def main():
     header = of_header((here / "include/snmpsec.h").read_text())
-    differ = 0
-    for language, found in (("Python", of_python(snmpsec.SIGNATURES)), ("Rust", of_rust((here / "rust/src/calls.rs").read_text()))):
-        for name in sorted(header.keys() | found.keys()):
-            if header.get(name) != found.get(name):
-                differ += 1
-                print(f"{language}: {name}: {found.get(name)}, and in the header {header.get(name)}")
+    told_by_python = {name: as_python_tells(signature) for name, signature in header.items()}
+    rust = of_rust((here / "rust/src/calls.rs").read_text())
+    differ = compared("Python", told_by_python, of_python(snmpsec.SIGNATURES)) + compared("Rust", header, rust)
     print(f"{len(header)} signatures compared, {differ} differ")
     sys.exit(differ > 0)
 

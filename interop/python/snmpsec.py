@@ -10,7 +10,8 @@
     manager.take(now, datagram)
     manager.answer()                        # RESPONSE, NOT_FOR_IT, REPORT or REPORT + the counter's number, or None
 
-A refusal where something is to be written is Refused, want of memory MemoryError, and an argument out of its range ValueError.
+A refusal where something is to be written is Refused, want of memory MemoryError, and another fault of the call ValueError with its
+number. A number that its type can't have is ctypes.ArgumentError, and in arcs ValueError.
 """
 import ctypes
 import os
@@ -107,16 +108,21 @@ class Binding(NamedTuple):
 
 
 def _told(answer):
-    """The answer, where it is no fault of the call and not want of memory."""
-    if answer == _OUT_OF_MEMORY:
-        raise MemoryError
+    """The answer, where it is no fault of the call."""
     if answer < 0:
         raise ValueError(answer)
     return answer
 
 
+def _refusal(answer):
+    """0, or the number of the refusal."""
+    if answer == _OUT_OF_MEMORY:
+        raise MemoryError
+    return _told(answer)
+
+
 def _done(answer):
-    if _told(answer):
+    if _refusal(answer):
         raise Refused(answer)
 
 
@@ -184,7 +190,7 @@ class _Held:
 
     def take(self, now, datagram):
         """0 where the datagram is accepted, and else the number of the refusal."""
-        return _told(self._call("take", now, *_octets(datagram)))
+        return _refusal(self._call("take", now, *_octets(datagram)))
 
     def numbers(self):
         """The numbers of what is kept, or None."""
