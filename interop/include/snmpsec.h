@@ -102,8 +102,11 @@ int64_t snmpsec_agent_counter(snmpsec_agent *agent, uint32_t n);
 
 typedef struct snmpsec_manager snmpsec_manager;
 
-/* Makes a manager with the users of a configuration that begins with the clocks of a saved text (`snmp-clocks 2` and a line feed for
- * none), where the marks of version 1 were seen at the moment `now`: -7, -6 or 14 where there is none. */
+/* the saved text of no clocks */
+#define SNMPSEC_NO_CLOCKS "snmp-clocks 2\n"
+
+/* Makes a manager with the users of a configuration that begins with the clocks of a saved text, where the marks of version 1 were
+ * seen at the moment `now`: -7, -6 or 14 where there is none. */
 int32_t snmpsec_manager_new(const uint8_t *config, size_t config_len, const uint8_t *clocks, size_t clocks_len, uint64_t now,
                             snmpsec_manager **out);
 void snmpsec_manager_free(snmpsec_manager *manager);
