@@ -62,7 +62,7 @@ fi
 test_c() {
     local replay=$here/../examples/replay name folder
     for folder in $(printf '%s\n' "$OUT" "$programs" | sort -u); do
-        for name in calls manager_calls exchange hostile; do
+        for name in calls manager_calls bindings exchange hostile; do
             "$folder/$name" "$replay/config.toml" "$replay/captured.log" "$replay/printed.txt" > "$work/$name.out" 2>&1
             check "$name" 0 $?
             grep -m 9 FAILED "$work/$name.out"
