@@ -13,7 +13,7 @@ cc="${CC:-cc} -std=gnu11 -O2 -Wall -Wextra -Werror -I$here/include"
 for program in agent poll; do
     $cc "$@" "$here/$program.c" "$here/table.c" "$here/heap.c" "$library" -o "$out/$program"
 done
-for test in calls manager_calls key_calls exchange hostile; do
+for test in calls manager_calls bindings keys exchange hostile; do
     $cc "$@" -Wl,--wrap=malloc,--wrap=realloc "$here/$test.c" "$here/checks.c" "$here/table.c" "$here/heap.c" "$library" -o "$out/$test"
 done
 $cc -fPIC -shared "$here/heap.c" -Wl,--whole-archive "$library" -Wl,--no-whole-archive -o "$out/libsnmpsec.so"

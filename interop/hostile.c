@@ -1,8 +1,8 @@
 /* A manager under hostile octets and under want of memory: hostile CONFIG CAPTURED-LOG
  *
  * Each captured datagram, cut at every length and with each bit turned, is taken: none is authentic, so that the saved clocks stay.
- * And each growth of memory is refused in turn: the call answers so, the saved clocks stay, and the same call is done when there is
- * memory again. Not proved. */
+ * Saved texts are cut and turned, and the configuration is cut. And each growth of memory is refused in turn: the call answers so, the
+ * saved clocks stay, and the same call is done when there is memory again. Not proved. */
 #include "checks.h"
 #include <stdio.h>
 #include <string.h>
@@ -68,6 +68,50 @@ static void hostile(void) {
     struct text after = saved_of(manager);
     check("whole: the clocks are learned", 0, is_same(&before, &after));
     snmpsec_manager_free(manager);
+}
+
+/* Saved texts, cut and turned: one that is refused changes nothing, and what is then saved is a text of what is held. */
+static void absorb_changed(snmpsec_manager *manager, const uint8_t *octets, size_t len) {
+    struct text before = saved_of(manager);
+    int32_t answer = snmpsec_manager_absorb(manager, fenced(octets, len), len, NOW);
+    struct text after = saved_of(manager);
+    if (answer) {
+        check("no clocks", SNMPSEC_BAD_CLOCKS, answer);
+        check("refused: the clocks are as before", 1, is_same(&before, &after));
+    }
+    check("what is saved is read", 0, snmpsec_manager_absorb(manager, after.octets, after.len, NOW));
+    struct text again = saved_of(manager);
+    check("and changes nothing", 1, is_same(&after, &again));
+}
+
+static void hostile_clocks(void) {
+    static const char text[] = SNMPSEC_NO_CLOCKS "0102030405 1 2 3\n0102030406 1 2 3\n";
+    enum { TEXT = sizeof text - 1 };
+    snmpsec_manager *manager = begun();
+    uint8_t changed[TEXT];
+    for (size_t cut = 0; cut < TEXT; cut++) absorb_changed(manager, (const uint8_t *)text, cut);
+    memcpy(changed, text, TEXT);
+    for (size_t bit = 0; bit < 8 * TEXT; bit++) {
+        changed[bit / 8] ^= (uint8_t)(1 << (bit % 8));
+        absorb_changed(manager, changed, TEXT);
+        changed[bit / 8] ^= (uint8_t)(1 << (bit % 8));
+    }
+    snmpsec_manager_free(manager);
+}
+
+/* A configuration cut at each length: a manager and an agent are made of it, or it is refused. */
+static void hostile_configuration(void) {
+    static const char *const clocks = SNMPSEC_NO_CLOCKS;
+    for (size_t cut = 0; cut < config_len; cut++) {
+        snmpsec_manager *manager = NULL;
+        snmpsec_agent *agent = NULL;
+        const uint8_t *text = fenced(config, cut);
+        int32_t answer = snmpsec_manager_new(text, cut, (const uint8_t *)clocks, strlen(clocks), NOW, &manager);
+        check("a manager or none", 1, answer == SNMPSEC_OK ? manager != NULL : answer == SNMPSEC_BAD_CONFIGURATION && !manager);
+        check("an agent as well", answer, snmpsec_agent_new(text, cut, engine, sizeof engine, BOOTS, NOW, &agent));
+        snmpsec_manager_free(manager);
+        snmpsec_agent_free(agent);
+    }
 }
 
 static int32_t take_response(snmpsec_manager *manager) {
@@ -167,6 +211,8 @@ static void refused_new(void) {
 int main(int argc, char **argv) {
     read_capture(argc, argv);
     hostile();
+    hostile_clocks();
+    hostile_configuration();
     refused_new();
     for (size_t i = 0; i < sizeof calls / sizeof *calls; i++) refused_memory(&calls[i]);
     return checks_told();

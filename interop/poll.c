@@ -16,7 +16,8 @@
 #include <unistd.h>
 
 static snmpsec_manager *manager;
-static uint8_t octets[65536];
+/* a datagram, or the saved text */
+static uint8_t octets[1 << 20];
 
 static uint64_t now_in_seconds(void) { return (uint64_t)time(NULL); }
 

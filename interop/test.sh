@@ -1,10 +1,9 @@
 #!/bin/bash
 # Runs the library from C and against net-snmp's tools, on 127.0.0.1 alone: test.sh [PORT]
 #
-# It wants a C compiler, net-snmp (apt-get update; apt-get install snmp snmpd snmptrapd libsnmp-dev), python3 and cargo. What isn't
-# installed is told by a line and left out. The C is built twice, the second time with sanitizers, and those programs are run where
-# they can be built. It prints what differs from what is expected, and at the end how many checks passed; the status is 1 if any
-# failed.
+# It wants a C compiler, net-snmp (apt-get update; apt-get install snmp snmpd snmptrapd), python3 and cargo. What isn't installed is
+# told by a line and left out. The C is built twice, the second time with sanitizers, and those programs are run where they can be
+# built. It prints what differs from what is expected, and at the end how many checks passed; the status is 1 if any failed.
 here=$(cd "$(dirname "$0")" && pwd)
 export OUT=${OUT:-$here/out}
 work=$(mktemp -d)
@@ -63,7 +62,7 @@ fi
 test_c() {
     local replay=$here/../examples/replay name folder
     for folder in $(printf '%s\n' "$OUT" "$programs" | sort -u); do
-        for name in calls manager_calls key_calls exchange hostile; do
+        for name in calls manager_calls bindings keys exchange hostile; do
             "$folder/$name" "$replay/config.toml" "$replay/captured.log" "$replay/printed.txt" > "$work/$name.out" 2>&1
             check "$name" 0 $?
             grep -m 9 FAILED "$work/$name.out"
@@ -72,6 +71,8 @@ test_c() {
     done
     if command -v c++ > /dev/null; then
         check "the header in C++" "" "$(echo '#include "snmpsec.h"' | c++ -std=c++11 -Wall -Wextra -Werror -fsyntax-only -I"$here/include" -x c++ - 2>&1)"
+    else
+        echo "skipped: no C++ compiler"
     fi
 }
 

@@ -23,6 +23,7 @@ test_window() {
     begin_snmpd
     told=$(over_udp window $snmpd_port sha 2)
     check "snmpd's window" "$windows" "$(head -5 <<< "$told")"
+    if ! command -v snmpget > /dev/null; then end_snmpd; return; fi
     counted=$(ask snmpget -Oqv -l authNoPriv -u sha -a SHA -A maplesyrup 127.0.0.1:$snmpd_port 1.3.6.1.6.3.15.1.1.2.0)
     check "snmpd's counter 2 adds up" "reports of counter 2: $counted" "$(tail -1 <<< "$told")"
     end_snmpd

@@ -142,12 +142,13 @@ int32_t snmpsec_manager_pair(snmpsec_manager *manager, const uint8_t *engine, si
 /* ---- variable bindings, as octets */
 
 /* Reads the binding at the place `at` of a list: its arcs, of at most 128, and in `numbers` how many they are, the value's tag, the
- * place of its content, its length, and the place after the binding. -4: no binding begins there. */
+ * place of its content, its length, and the place after the binding: -1 the place is behind the list, -4 no binding begins there, -5
+ * there is no room for its arcs or the numbers. */
 enum { SNMPSEC_ARCS = 0, SNMPSEC_VALUE_TAG = 1, SNMPSEC_VALUE_AT = 2, SNMPSEC_VALUE_LENGTH = 3, SNMPSEC_NEXT = 4, SNMPSEC_PLACES = 5 };
 int32_t snmpsec_binding_read(const uint8_t *list, size_t list_len, size_t at, uint32_t *arcs, size_t arcs_len, size_t *numbers,
                              size_t numbers_len);
-/* Writes a binding: -1 the arcs are no identifier's, the tag's low five bits are all ones or the content is above 65507
- * octets; -5 there is no room, and *written says how much is wanted. */
+/* Writes a binding: -1 the arcs are no identifier's, the tag is above 255 or its low five bits are all ones, or the content is above
+ * 65507 octets; 14; -5 there is no room, and *written says how much is wanted. */
 int32_t snmpsec_binding_write(const uint32_t *arcs, size_t arcs_len, uint32_t tag, const uint8_t *content, size_t content_len,
                               uint8_t *out, size_t out_len, size_t *written);
 

@@ -24,7 +24,7 @@ NO_AUTH_NO_PRIV, AUTH_NO_PRIV, AUTH_PRIV = 1, 2, 3
 RESPONSE, NOT_FOR_IT, REPORT = 0, 1, 10
 LARGEST = 65507
 NO_CLOCKS = b"snmp-clocks 2\n"
-_NOTHING_TAKEN, _OUT_OF_MEMORY = -2, 14
+_NOTHING_TAKEN, _SHORT_BUFFER, _OUT_OF_MEMORY = -2, -5, 14
 
 
 
@@ -135,11 +135,15 @@ def _numbers(arcs):
 
 
 def _copied(call, *arguments):
-    """The octets that a call writes, or None where there are none."""
+    """The octets that a call writes, or None where there are none. There is room for a datagram, and where more is wanted, as for a
+    saved text, the call is made again."""
     out, written = ctypes.create_string_buffer(LARGEST), ctypes.c_size_t()
     answer = call(*arguments, out, LARGEST, ctypes.byref(written))
     if answer == _NOTHING_TAKEN:
         return None
+    if answer == _SHORT_BUFFER:
+        out = ctypes.create_string_buffer(written.value)
+        answer = call(*arguments, out, written.value, ctypes.byref(written))
     _done(answer)
     return out.raw[: written.value]
 
@@ -165,6 +169,7 @@ class _Held:
     """What an agent and a manager have in common. One thread uses it at a time."""
 
     _kind = ""
+    _handle = None
 
     def __init__(self, *arguments):
         self._handle = _handle()

@@ -110,6 +110,10 @@ def test_clocks():
         assert manager.message() == snmpsec.NO_CLOCKS + b"0102030405 1 9 7\n0102030406 2 3 1000\n"
         assert manager.answer() is None
         raises(ValueError, -7, manager.absorb, b"no", NOW)
+    many = snmpsec.NO_CLOCKS + b"".join(b"010203%04x 1 2 3\n" % i for i in range(5000))
+    with snmpsec.Manager(CONFIG, many, NOW) as manager:
+        manager.save()
+        assert len(many) > snmpsec.LARGEST and manager.message() == many
 
 
 def test_faults():

@@ -1,11 +1,14 @@
 //! The header's signatures again: `interop/signatures.py` compares them with the header.
+//!
+//! Why the calls of this crate are sound: a handle is a `Held`'s, which stays in one thread and is freed once; and each pointer is that of
+//! a slice beside its length, or of a number.
 
 #[repr(C)]
 pub struct Opaque {
     _private: [u8; 0],
 }
 
-unsafe extern "C" {
+extern "C" {
     pub fn snmpsec_agent_new(
         config: *const u8,
         config_len: usize,

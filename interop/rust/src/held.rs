@@ -21,13 +21,17 @@ pub struct Held {
     calls: &'static Calls,
 }
 
-/// The octets that a call writes.
-pub fn copied(call: impl FnOnce(*mut u8, usize, *mut usize) -> i32) -> Result<Vec<u8>, Error> {
+/// The octets that a call writes. There is room for a datagram, and where more is wanted, as for a saved text, the call is made again.
+pub fn copied(call: impl Fn(*mut u8, usize, *mut usize) -> i32) -> Result<Vec<u8>, Error> {
     let mut out = vec![0; LARGEST];
     let mut written = 0;
-    done(call(out.as_mut_ptr(), out.len(), &mut written))?;
+    let mut told = done(call(out.as_mut_ptr(), out.len(), &mut written));
+    if told == Err(Error::ShortBuffer) {
+        out.resize(written, 0);
+        told = done(call(out.as_mut_ptr(), out.len(), &mut written));
+    }
     out.truncate(written);
-    Ok(out)
+    told.map(|()| out)
 }
 
 impl Held {

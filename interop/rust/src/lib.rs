@@ -2,6 +2,20 @@
 //! isn't.
 //!
 //! A method does what the call of its name in `include/snmpsec.h` does. What a call writes is the message, which `message` copies.
+//!
+//! ```no_run
+//! use snmpsec::{Answer, Manager, Part, NO_CLOCKS};
+//! # fn exchanged(message: Vec<u8>) -> Vec<u8> { message }
+//! # fn main() -> Result<(), snmpsec::Error> {
+//! let mut manager = Manager::new(b"", NO_CLOCKS, 0)?;
+//! manager.discover(1)?;
+//! let datagram = exchanged(manager.message()?); // over a socket
+//! manager.take(0, &datagram)?;
+//! assert_eq!(manager.answer()?, Answer::Report(Some(4)));
+//! let engine = manager.part(Part::Engine)?;
+//! # Ok(())
+//! # }
+//! ```
 
 mod agent;
 mod bindings;

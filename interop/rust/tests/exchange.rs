@@ -5,7 +5,7 @@ mod common;
 use common::{file, ENGINE};
 use snmpsec::{
     binding, bindings, Agent, Answer, Error, Level, Manager, Notification, Pair, Part, Refusal,
-    Request, NO_CLOCKS,
+    Request, LARGEST, NO_CLOCKS,
 };
 
 const NOW: u64 = 1000;
@@ -133,6 +133,18 @@ fn saved_clocks_are_joined_in() {
     assert_eq!(both.manager.pair(b"1234"), Err(Error::BadArgument));
     assert_eq!(both.manager.discover(1 << 31), Err(Error::BadArgument));
     assert_eq!(Manager::new(b"", b"no", NOW).err(), Some(Error::BadClocks));
+}
+
+#[test]
+fn a_saved_text_may_be_longer_than_a_datagram() {
+    let engines: String = (0..5000)
+        .map(|i| format!("010203{i:04x} 1 2 3\n"))
+        .collect();
+    let text = [NO_CLOCKS, engines.as_bytes()].concat();
+    assert!(text.len() > LARGEST);
+    let mut both = both(&text);
+    both.manager.save().unwrap();
+    assert_eq!(both.manager.message().unwrap(), text);
 }
 
 #[test]

@@ -1,4 +1,4 @@
-/* Calls without a handle, on keys, codes and sealed texts: key_calls CONFIG CAPTURED-LOG
+/* Calls without a handle, on keys, codes and sealed texts: keys CONFIG CAPTURED-LOG
  *
  * Vectors, arguments out of their ranges, buffers that are too short, and the captured messages, whose codes and sealed texts are made
  * again. Not proved. */
