@@ -25,11 +25,20 @@ has() {
     if [[ "$3" == *"$2"* ]]; then passed=$((passed + 1)); else failed=$((failed + 1)); printf 'FAILED %s\n  expected: %s\n  found:    %s\n' "$1" "$2" "$3"; fi
 }
 
+bound() { # PORT: waits until a process has it, at most 5 seconds
+    local tries
+    for tries in {1..50}; do
+        sleep 0.1
+        grep -q ":$(printf %04X "$1") " /proc/net/udp && return
+    done
+    echo "port $1 isn't bound after $tries tries"
+}
+
 begin_agent() { # ARGUMENTS.. behind those that are always the same
     "$programs/agent" "$here/examples/agent.toml" "$here/examples/table.txt" "$engine" "$work/boots" "$port" "$@" > "$work/agent.out" 2> "$work/agent.err" &
     agent=$!
     pids+=("$agent")
-    sleep 0.4
+    bound "$port"
 }
 
 end_agent() {
@@ -167,7 +176,7 @@ begin_trapd() { # its configuration is in $work/trapd.conf
     snmptrapd -f -On -Lf "$work/trapd.log" -C -c "$work/trapd.conf" -F '%V|%v\n' udp:127.0.0.1:$trap_port > /dev/null 2>&1 &
     trapd=$!
     pids+=("$trapd")
-    sleep 0.6
+    bound "$trap_port"
 }
 
 end_trapd() {

@@ -5,7 +5,7 @@ begin_snmpd() {
     SNMPCONFPATH=$work/snmpd SNMP_PERSISTENT_DIR=$work/snmpd snmpd -f -c "$work/snmpd.conf" -Lf "$work/snmpd.log" -I -smux > /dev/null 2>&1 &
     snmpd=$!
     pids+=("$snmpd")
-    sleep 1.5
+    bound "$snmpd_port"
 }
 
 end_snmpd() {
