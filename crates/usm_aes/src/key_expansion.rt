@@ -57,11 +57,14 @@ impl Schedule {
 pub fn expand(key: &[u8; 16]) -> Schedule
     ensures { result ≡ schedule key.now }
 {
-    let mut words = [[0; 4]; WORDS];
-    expand_words(key, &mut words);
-    let mut lane_keys = [[0; 16]; LANE_KEYS];
-    fill_lane_keys(&words, &mut lane_keys);
-    Schedule { words, lane_keys }
+    // Words that are all 0 have keys for lanes that are all 0.
+    let mut schedule = Schedule {
+        words: [[0; 4]; WORDS],
+        lane_keys: [[0; 16]; LANE_KEYS],
+    };
+    expand_words(key, &mut schedule.words);
+    fill_lane_keys(&schedule.words, &mut schedule.lane_keys);
+    schedule
 }
 
 // Writes the round keys for lanes.
