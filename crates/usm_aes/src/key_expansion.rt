@@ -36,6 +36,16 @@ impl Model for Schedule {
 }
 
 impl Schedule {
+    /// The same schedule. This takes no memory.
+    pub fn copy(&self) -> Schedule
+        ensures { result ≡ self.now }
+    {
+        Schedule {
+            words: self.words,
+            lane_keys: self.lane_keys,
+        }
+    }
+
     // The words of a round, joined.
     pub(crate) fn round_key(&self, round: usize) -> [u8; 16]
         requires { round < 11 }
