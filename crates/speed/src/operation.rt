@@ -19,16 +19,14 @@ use snmp_msg::{Binding, Header, Pdu, USER_BASED, write_scoped};
 use std::alloc::{AllocError, Global};
 use std::str::FromStr;
 use thiserror::Error;
-use usm_aes::{cfb_open, cfb_seal, expand, iv};
+use usm_aes::{Schedule, cfb_open, cfb_seal, iv};
 use usm_core::{Role, Users};
 use usm_keys::{Auth, Key, mac, password_key};
 
 /// The key of the message authentication codes.
 const MAC_KEY: [u8; 32] = [0x0b; 32];
 
-/// The key, boots, time and salt of sealing and opening.
-const AES_KEY: [u8; 16] = [0, 1, 2, 3, 4, 5, 6, 7, 8, 9, 10, 11, 12, 13, 14, 15];
-
+/// The boots, time and salt of sealing and opening.
 const BOOTS: u32 = 7;
 
 const TIME: u32 = 1000;
@@ -75,8 +73,8 @@ pub(crate) enum Operation {
     PasswordKey(Auth),
     /// `mac-md5`, `mac-sha1`, `mac-sha256`: the text's message authentication code under 32 octets 0B.
     Mac(Auth),
-    /// `cfb-seal`: the text sealed in place under the key 00 to 0F, with boots 7, time 1000 and the salt 00 to 07. The result
-    /// is its last 16 octets, or all of a shorter one.
+    /// `cfb-seal`: the text sealed in place under the key 00 to 0F, which is expanded before, with boots 7, time 1000 and the salt
+    /// 00 to 07. The result is its last 16 octets, or all of a shorter one.
     CfbSeal,
     /// `cfb-open`: the text opened in place, and else as `cfb-seal`.
     CfbOpen,
@@ -224,8 +222,8 @@ impl Operation {
                 let key = Key::of(auth, &MAC_KEY).unwrap();
                 Ok(mac(&key, text, 0, &[]))
             }
-            Operation::CfbSeal => Ok(sealed_end(text)),
-            Operation::CfbOpen => Ok(opened_end(text)),
+            Operation::CfbSeal => Ok(sealed_end(&station.schedule, text)),
+            Operation::CfbOpen => Ok(opened_end(&station.schedule, text)),
             Operation::OpenAuth(_) => code_of(&mut station.users, text),
             Operation::Take(_) => taken_end(&mut station.manager, text),
             Operation::AgentTake => asked_end(&mut station.agent, text),
@@ -310,14 +308,14 @@ fn turn_after(turn: usize, count: usize) -> usize {
 }
 
 /// Seals the text in place, and answers the end of what it is then.
-fn sealed_end(text: &mut [u8]) -> ArrayVec<u8, 32> {
-    cfb_seal(&expand(&AES_KEY), iv(BOOTS, TIME, &SALT), text);
+fn sealed_end(schedule: &Schedule, text: &mut [u8]) -> ArrayVec<u8, 32> {
+    cfb_seal(schedule, iv(BOOTS, TIME, &SALT), text);
     end_of(text)
 }
 
 /// Opens the text in place, and answers the end of what it is then.
-fn opened_end(text: &mut [u8]) -> ArrayVec<u8, 32> {
-    cfb_open(&expand(&AES_KEY), iv(BOOTS, TIME, &SALT), text);
+fn opened_end(schedule: &Schedule, text: &mut [u8]) -> ArrayVec<u8, 32> {
+    cfb_open(schedule, iv(BOOTS, TIME, &SALT), text);
     end_of(text)
 }
 

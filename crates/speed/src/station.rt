@@ -8,6 +8,7 @@ use engine_clock::{Clocks, EngineId};
 use snmp_agent::Agent;
 use snmp_manager::Manager;
 use std::alloc::{AllocError, Global};
+use usm_aes::{Schedule, expand};
 use usm_core::{UserRow, Users};
 use usm_keys::Auth;
 use vacm_core::{Rows, Vacm, VacmFault};
@@ -24,7 +25,10 @@ const BOOTS: u32 = 1;
 /// The moment at which it started.
 const STARTED: u64 = 997;
 
-/// What the operations on messages are done with.
+/// The key of sealing and opening.
+const AES_KEY: [u8; 16] = [0, 1, 2, 3, 4, 5, 6, 7, 8, 9, 10, 11, 12, 13, 14, 15];
+
+/// What the operations are done with.
 #[derive(Drop)]
 pub(crate) struct Station {
     /// Who opens messages or seals them: `ann`, `oak` or nobody.
@@ -33,6 +37,8 @@ pub(crate) struct Station {
     pub(crate) manager: Manager,
     /// Who takes messages and answers them: it has the user `oak`, or none.
     pub(crate) agent: Agent,
+    /// The key of sealing and opening, expanded.
+    pub(crate) schedule: Schedule,
 }
 
 /// The user `ann` with a password for the codes.
@@ -147,6 +153,7 @@ impl Station {
             users: Users::load(alloc, openers)?,
             manager: manager_of(alloc, takers)?,
             agent: agent_of(alloc, answerers)?,
+            schedule: expand(&AES_KEY),
         })
     }
 }
