@@ -163,6 +163,8 @@ def test_sealed_texts():
     for length in range(len(PLAIN) + 1):
         assert snmpsec.seal(KEY, 0x00010203, 0x04050607, SALT, PLAIN[:length]) == SEALED[:length]
         assert snmpsec.open(KEY, 0x00010203, 0x04050607, SALT, SEALED[:length]) == PLAIN[:length]
+    zeros = bytearray(20)
+    assert snmpsec.open(KEY, 1, 2, SALT, snmpsec.seal(KEY, 1, 2, SALT, zeros)) == zeros == bytes(20)
 
 
 def test_faults_without_a_handle():
