@@ -1,4 +1,5 @@
-"""SNMPv3 user security and view access: an agent and a manager, by libsnmpsec.so, which interop/build.sh makes. Not proved.
+"""SNMPv3 user security and view access: an agent and a manager, and keys, codes and sealed texts, by libsnmpsec.so, which
+interop/build.sh makes. Not proved.
 
     agent = Agent(config, engine, boots, started)
     answer = agent.take(now, datagram)      # 0, or the number of the refusal
@@ -9,6 +10,13 @@
     manager.message()                       # the request that is to be sent
     manager.take(now, datagram)
     manager.answer()                        # RESPONSE, NOT_FOR_IT, REPORT or REPORT + the counter's number, or None
+
+Five functions keep nothing: they are for programs that spell messages themselves. A message that came is checked by take.
+
+    key = localise(SHA1, password_key(SHA1, b"maplesyrup"), engine)
+    sealed = seal(key[:16], boots, time, salt, text)
+    text = open(key[:16], boots, time, salt, sealed)
+    code = mac(SHA1, key, front, 12, back)  # of what stands before and behind the code
 
 A refusal where something is to be written is Refused, want of memory MemoryError, and another fault of the call ValueError with its
 number. A number that its type can't have is ctypes.ArgumentError, and in arcs ValueError.
@@ -23,6 +31,8 @@ BINDINGS, USER, CONTEXT_ENGINE, CONTEXT_NAME, ENGINE = range(5)
 NO_AUTH_NO_PRIV, AUTH_NO_PRIV, AUTH_PRIV = 1, 2, 3
 RESPONSE, NOT_FOR_IT, REPORT = 0, 1, 10
 LARGEST = 65507
+MD5, SHA1, SHA256 = 2, 3, 5
+LARGEST_KEY = 32
 NO_CLOCKS = b"snmp-clocks 2\n"
 _NOTHING_TAKEN, _SHORT_BUFFER, _OUT_OF_MEMORY = -2, -5, 14
 
@@ -46,6 +56,7 @@ _u32_at, _size_at = ctypes.POINTER(ctypes.c_uint32), ctypes.POINTER(ctypes.c_siz
 _slice = [ctypes.c_char_p, _size]
 _arcs = [_u32_at, _size]
 _out = [ctypes.c_char_p, _size, _size_at]
+_sealing = _slice + [_u32, _u32] + _slice * 2
 _kept = {
     "free": (None, [_handle]),
     "take": (_i32, [_handle, _u64] + _slice),
@@ -71,6 +82,11 @@ SIGNATURES = {
     "manager_pair": (_i32, [_handle] + _slice + [_u32_at] * 2),
     "binding_read": (_i32, _slice + [_size] + _arcs + [_size_at, _size]),
     "binding_write": (_i32, _arcs + [_u32] + _slice + _out),
+    "password_key": (_i32, [_u32] + _slice + _out),
+    "localise": (_i32, [_u32] + _slice * 2 + _out),
+    "mac": (_i32, [_u32] + _slice * 2 + [_size] + _slice + _out),
+    "seal": (_i32, _sealing),
+    "open": (_i32, _sealing),
 } | {f"{kind}_{name}": signature for kind in ("agent", "manager") for name, signature in _kept.items()}
 
 _library = ctypes.CDLL(os.environ.get("SNMPSEC_LIBRARY", str(pathlib.Path(__file__).resolve().parent.parent / "out/libsnmpsec.so")))
@@ -134,11 +150,11 @@ def _numbers(arcs):
     return (ctypes.c_uint32 * len(arcs))(*map(_u32.from_param, arcs)), len(arcs)
 
 
-def _copied(call, *arguments):
+def _copied(call, *arguments, room=LARGEST):
     """The octets that a call writes, or None where there are none. There is room for a datagram, and where more is wanted, as for a
     saved text, the call is made again."""
-    out, written = ctypes.create_string_buffer(LARGEST), ctypes.c_size_t()
-    answer = call(*arguments, out, LARGEST, ctypes.byref(written))
+    out, written = ctypes.create_string_buffer(room), ctypes.c_size_t()
+    answer = call(*arguments, out, room, ctypes.byref(written))
     if answer == _NOTHING_TAKEN:
         return None
     if answer == _SHORT_BUFFER:
@@ -163,6 +179,47 @@ def bindings(octets):
         found.append(Binding(name, tag, octets[begin : begin + length]))
         at = after
     return found
+
+
+def password_key(protocol, password):
+    """The key of a password, the same for all engines (RFC 3414, section A.2; RFC 7860, section 5): 16 octets (MD5), 20 (SHA1) or 32
+    (SHA256). The password has 8 octets or more. It hashes 1,048,576 octets."""
+    return _copied(_CALLS["password_key"], protocol, *_octets(password), room=LARGEST_KEY)
+
+
+def localise(protocol, key, engine):
+    """The key localised to an engine (RFC 3414, section 2.6; RFC 7860, section 5). The key has at most 32 octets, and the engine ID 5
+    to 32."""
+    return _copied(_CALLS["localise"], protocol, *_octets(key, engine), room=LARGEST_KEY)
+
+
+def mac(protocol, key, front, zeros, back):
+    """The message authentication code, under a localised key, of front, this many zero octets and back, joined: 12 octets (MD5 and
+    SHA1; RFC 3414, sections 6.3.1 and 7.3.1) or 24 (SHA256; RFC 7860, section 4.2.1). The zeros stand in the code's own place, so in a
+    message they are as many as the code has octets. The key has at most 32 octets, and there are at most 24 zeros."""
+    return _copied(_CALLS["mac"], protocol, *_octets(key, front), zeros, *_octets(back), room=LARGEST_KEY)
+
+
+def _changed(call, key, boots, time, salt, text):
+    """A copy of the text, which the call changes."""
+    out = ctypes.create_string_buffer(*_octets(text))
+    _done(call(*_octets(key), boots, time, *_octets(salt), out, len(out)))
+    return out.raw
+
+
+def seal(key, boots, time, salt, text):
+    """The text sealed by AES-128 in cipher feedback mode (RFC 3826, section 3.1.3), which has as many octets.
+
+    The key is the first 16 octets of a localised key. Boots and time, in seconds, are the authoritative engine's that the message
+    says. The salt is the content of its msgPrivacyParameters, 8 octets (section 3.1.2.1), and never comes twice for a key, which is
+    your duty."""
+    return _changed(_CALLS["seal"], key, boots, time, salt, text)
+
+
+def open(key, boots, time, salt, text):
+    """The text that was sealed with these (RFC 3826, section 3.1.4). It can't tell a wrong key: whatever the octets are, they open to
+    some text."""
+    return _changed(_CALLS["open"], key, boots, time, salt, text)
 
 
 class _Held:

@@ -1,5 +1,8 @@
-"""Takes what net-snmp's tools sent each other, and lets a manager and an agent talk: test_snmpsec.py REPLAY-FOLDER"""
+"""Takes what net-snmp's tools sent each other, lets a manager and an agent talk, and makes keys, codes and sealed texts:
+test_snmpsec.py REPLAY-FOLDER"""
 import ctypes
+import hashlib
+import hmac
 import pathlib
 import sys
 
@@ -125,6 +128,62 @@ def test_faults():
     raises(ctypes.ArgumentError, None, snmpsec.Agent, CONFIG, ENGINE, 1, -1)
     with snmpsec.Manager(CONFIG, snmpsec.NO_CLOCKS, NOW) as manager:
         raises(snmpsec.Refused, "refused: 7", ask, manager, 1, b"eve", snmpsec.AUTH_PRIV)
+
+
+# Of the password maplesyrup the key, and that key localised to the engine 00..02 (RFC 3414, sections A.3.1 and A.3.2; the third row by
+# hashlib); and of a key of octets 0b how many they are and the code of Hi There (RFC 2202, sections 2 and 3; RFC 4231, section 4.2).
+VECTORS = {
+    snmpsec.MD5: ("9faf3283884e92834ebc9847d8edd963", "526f5eed9fcce26f8964c2930787d82b", 16, "9294727a3638bb1c13f48ef8"),
+    snmpsec.SHA1: ("9fb5cc0381497b3793528939ff788d5d79145211", "6695febc9288e36282235fc7151f128497b38f3f", 20, "b617318655057264e28bc0b6"),
+    snmpsec.SHA256: ("ab51014d1e077f6017df2b12bee5f5aa72993177e9bb569c4dff5a4ca0b4afac",
+                     "8982e0e549e866db361a6b625d84cccc11162d453ee8ce3a6445c2d6776f0f8b", 20,
+                     "b0344c61d8db38535ca8afceaf0bf12b881dc200c9833da7"),
+}
+HASHES = {snmpsec.MD5: hashlib.md5, snmpsec.SHA1: hashlib.sha1, snmpsec.SHA256: hashlib.sha256}
+
+
+def test_keys_and_codes():
+    for protocol, (key, localised, key_len, code) in VECTORS.items():
+        assert snmpsec.password_key(protocol, b"maplesyrup").hex() == key
+        assert snmpsec.localise(protocol, bytes.fromhex(key), bytes(11) + b"\2").hex() == localised
+        assert snmpsec.mac(protocol, b"\x0b" * key_len, b"Hi ", 0, b"There").hex() == code
+        for zeros in range(25):
+            whole = hmac.new(ENGINE, b"front" + bytes(zeros) + b"back", HASHES[protocol]).digest()
+            assert snmpsec.mac(protocol, ENGINE, b"front", zeros, b"back") == whole[: len(code) // 2]
+
+
+# NIST SP 800-38A, section F.3.13: the initialization vector 00 01 to 0f is boots, time and salt. Each front is sealed to the front.
+KEY = bytes.fromhex("2b7e151628aed2a6abf7158809cf4f3c")
+SALT = bytes(range(8, 16))
+PLAIN = bytes.fromhex("6bc1bee22e409f96e93d7e117393172aae2d8a571e03ac9c9eb76fac45af8e51")
+SEALED = bytes.fromhex("3b3fd92eb72dad20333449f8e83cfb4ac8a64537a0b3a93fcde3cdad9f1ce58b")
+
+
+def test_sealed_texts():
+    for length in range(len(PLAIN) + 1):
+        assert snmpsec.seal(KEY, 0x00010203, 0x04050607, SALT, PLAIN[:length]) == SEALED[:length]
+        assert snmpsec.open(KEY, 0x00010203, 0x04050607, SALT, SEALED[:length]) == PLAIN[:length]
+    zeros = bytearray(20)
+    assert snmpsec.open(KEY, 1, 2, SALT, snmpsec.seal(KEY, 1, 2, SALT, zeros)) == zeros == bytes(20)
+
+
+def test_faults_without_a_handle():
+    for protocol in (0, 1, 4, 6, 0x10002):
+        raises(ValueError, -1, snmpsec.password_key, protocol, b"maplesyrup")
+        raises(ValueError, -1, snmpsec.localise, protocol, KEY, ENGINE)
+        raises(ValueError, -1, snmpsec.mac, protocol, KEY, b"", 0, b"")
+    for protocol in VECTORS:
+        raises(ValueError, -1, snmpsec.password_key, protocol, b"maplesy")
+        raises(ValueError, -1, snmpsec.localise, protocol, bytes(33), ENGINE)
+        raises(ValueError, -1, snmpsec.localise, protocol, KEY, ENGINE[:4])
+        raises(ValueError, -1, snmpsec.localise, protocol, KEY, bytes(33))
+        raises(ValueError, -1, snmpsec.mac, protocol, bytes(33), b"", 0, b"")
+        raises(ValueError, -1, snmpsec.mac, protocol, KEY, b"", 25, b"")
+    raises(ctypes.ArgumentError, None, snmpsec.mac, snmpsec.MD5, KEY, b"", -1, b"")
+    for call in (snmpsec.seal, snmpsec.open):
+        for key_len, salt_len in ((15, 8), (17, 8), (0, 8), (16, 7), (16, 9), (16, 0)):
+            raises(ValueError, -1, call, bytes(key_len), 1, 2, bytes(salt_len), PLAIN)
+        raises(ctypes.ArgumentError, None, call, KEY, 1 << 32, 2, SALT, PLAIN)
 
 
 for name, test in list(globals().items()):

@@ -159,4 +159,55 @@ extern "C" {
         len: usize,
         written: *mut usize,
     ) -> i32;
+    pub fn snmpsec_password_key(
+        protocol: u32,
+        password: *const u8,
+        password_len: usize,
+        out: *mut u8,
+        len: usize,
+        written: *mut usize,
+    ) -> i32;
+    pub fn snmpsec_localise(
+        protocol: u32,
+        key: *const u8,
+        key_len: usize,
+        engine: *const u8,
+        engine_len: usize,
+        out: *mut u8,
+        len: usize,
+        written: *mut usize,
+    ) -> i32;
+    pub fn snmpsec_mac(
+        protocol: u32,
+        key: *const u8,
+        key_len: usize,
+        front: *const u8,
+        front_len: usize,
+        zeros: usize,
+        back: *const u8,
+        back_len: usize,
+        out: *mut u8,
+        len: usize,
+        written: *mut usize,
+    ) -> i32;
+    pub fn snmpsec_seal(
+        key: *const u8,
+        key_len: usize,
+        boots: u32,
+        time: u32,
+        salt: *const u8,
+        salt_len: usize,
+        text: *mut u8,
+        text_len: usize,
+    ) -> i32;
+    pub fn snmpsec_open(
+        key: *const u8,
+        key_len: usize,
+        boots: u32,
+        time: u32,
+        salt: *const u8,
+        salt_len: usize,
+        text: *mut u8,
+        text_len: usize,
+    ) -> i32;
 }
