@@ -1,9 +1,9 @@
-/* How long net-snmp takes to read, authenticate and decrypt a message, and to answer it, for bench/beside-net-snmp.
+/* How long net-snmp takes to read, authenticate and decrypt a message, to answer it, and to write one, for bench/beside-net-snmp.
 
    net_snmp_take ROLE USER AUTH-PASSWORD PRIV-PASSWORD ENGINE MESSAGE TIMES
 
-   ROLE is `manager`, `agent`, whose own engine is ENGINE, or `answer`: an agent that also writes a response with the bindings of the
-   message. The message, of SHA-1 and AES, and the engine are in hex. It is parsed TIMES times by snmpv3_parse, with its look at the
+   ROLE is `manager`, `agent`, whose own engine is ENGINE, `answer`: an agent that also writes a response with the bindings of the
+   message, or `build`: an agent that took the message once and writes the response each time. The message, of SHA-1 and AES, and the engine are in hex. It is parsed TIMES times by snmpv3_parse, with its look at the
    time, and answered by snmp_build, as snmp_send does; the copy of the message that the parser writes over is made each time.
    It prints the nanoseconds of the processor that a message took. */
 #include <net-snmp/net-snmp-config.h>
@@ -58,52 +58,80 @@ static void set_up(netsnmp_session *session, char **words)
     session->securityEngineID = engine;
 }
 
-/* Takes the message, and answers it where that is asked for: how many octets the answer has, 1 where there is none, and 0 for a refusal. */
-static size_t taken(netsnmp_session *session, const u_char *message, size_t count, u_char *room, int is_answered)
+typedef enum { TAKES, ANSWERS, WRITES } Work;
+
+/* The message as it was parsed, or NULL for a refusal. */
+static netsnmp_pdu *parsed(netsnmp_session *session, const u_char *message, size_t count, u_char *room)
 {
-    static u_char *packet;
-    static size_t room_for_packet;
-    size_t left = count, written = 0;
+    size_t left = count;
     u_char *after;
     netsnmp_pdu *pdu = calloc(1, sizeof *pdu);
     memcpy(room, message, count);
     pdu->version = SNMP_VERSION_3;
-    int is_well = snmpv3_parse(pdu, room, &left, &after, session) == SNMPERR_SUCCESS;
-    if (is_well && is_answered) {
-        pdu->command = SNMP_MSG_RESPONSE;
-        pdu->flags |= UCD_MSG_FLAG_RESPONSE_PDU;
-        is_well = snmp_build(&packet, &room_for_packet, &written, session, pdu) == 0;
-    }
+    if (snmpv3_parse(pdu, room, &left, &after, session) == SNMPERR_SUCCESS)
+        return pdu;
     snmp_free_pdu(pdu);
-    return is_well ? (is_answered ? written : 1) : 0;
+    return NULL;
+}
+
+/* How many octets the response has that is written with these bindings, and 0 where there is none. */
+static size_t answered(netsnmp_session *session, netsnmp_pdu *pdu)
+{
+    static u_char *packet;
+    static size_t room;
+    size_t written = 0;
+    pdu->command = SNMP_MSG_RESPONSE;
+    pdu->flags |= UCD_MSG_FLAG_RESPONSE_PDU;
+    return snmp_build(&packet, &room, &written, session, pdu) == 0 ? written : 0;
+}
+
+/* Takes the message, and answers it where that is asked for: how many octets the answer has, 1 where there is none, and 0 for a refusal. */
+static size_t taken(netsnmp_session *session, const u_char *message, size_t count, u_char *room, Work work)
+{
+    netsnmp_pdu *pdu = parsed(session, message, count, room);
+    if (pdu == NULL)
+        return 0;
+    size_t written = work == ANSWERS ? answered(session, pdu) : 1;
+    snmp_free_pdu(pdu);
+    return written;
+}
+
+/* Does the work so many times: the nanoseconds of the processor for each, or less than 0 for a refusal. */
+static double measured(netsnmp_session *session, const u_char *message, size_t count, Work work, long times)
+{
+    static u_char room[65536];
+    netsnmp_pdu *pdu = parsed(session, message, count, room);
+    if (pdu == NULL)
+        return -1;
+    double start = seconds();
+    for (long k = 0; k < times; k++)
+        if ((work == WRITES ? answered(session, pdu) : taken(session, message, count, room, work)) == 0)
+            return -1;
+    double spent = seconds() - start;
+    snmp_free_pdu(pdu);
+    return spent * 1e9 / (double) times;
 }
 
 int main(int count, char **words)
 {
-    static u_char message[65536], room[65536], own[32];
+    static u_char message[65536], own[32];
     netsnmp_session session;
     if (count != 8) {
         fprintf(stderr, "usage: net_snmp_take ROLE USER AUTH-PASSWORD PRIV-PASSWORD ENGINE MESSAGE TIMES\n");
         return 2;
     }
-    int is_agent = strcmp(words[1], "manager") != 0, is_answered = strcmp(words[1], "answer") == 0;
+    Work work = strcmp(words[1], "answer") == 0 ? ANSWERS : strcmp(words[1], "build") == 0 ? WRITES : TAKES;
     init_snmp("net_snmp_take");
-    if (is_agent)
+    if (strcmp(words[1], "manager") != 0)
         set_exact_engineID(own, from_hex(words[5], own));
     set_up(&session, words);
     if (create_user_from_session(&session) != SNMPERR_SUCCESS)
         return 1;
-    size_t octets = from_hex(words[6], message);
-    long times = atol(words[7]);
-    size_t written = taken(&session, message, octets, room, is_answered);
-    if (written == 0) {
+    double nanoseconds = measured(&session, message, from_hex(words[6], message), work, atol(words[7]));
+    if (nanoseconds < 0) {
         fprintf(stderr, "net_snmp_take: the message is refused\n");
         return 1;
     }
-    double start = seconds();
-    for (long k = 0; k < times; k++)
-        if (taken(&session, message, octets, room, is_answered) != written)
-            return 1;
-    printf("%.1f\n", (seconds() - start) * 1e9 / (double) times);
+    printf("%.1f\n", nanoseconds);
     return 0;
 }

@@ -75,6 +75,13 @@ def decrypted(text):
     return opening.update(text[places(text)[2] :]) + opening.finalize()
 
 
+def pdu(text):
+    """The PDU of a captured message: what stands behind the two contexts in its ScopedPDU."""
+    scoped = decrypted(text)
+    context = element(0x04, ENGINE) + element(0x04)
+    return scoped[scoped.index(context) + len(context) :]
+
+
 def coded(text, engine=ENGINE):
     """The message with the code of its octets."""
     at = places(text)[0]

@@ -1,15 +1,20 @@
 #!/bin/sh
-# Proves and builds the library, where it isn't built from these sources, and the examples, into interop/out: build.sh [CFLAGS..]
+# Proves and builds the library, where it isn't built from these sources, and what stands in this folder, into interop/out:
+# build.sh [CFLAGS..]
+#
+# OUT is another folder than interop/out, CC another compiler than cc. With NO_LIBRARY the library is taken as it lies there.
 set -e
 here=$(cd "$(dirname "$0")" && pwd)
 out=${OUT:-$here/out}
 library=$here/../crates/snmp_c/out/libsnmp_c.a
 mkdir -p "$out"
 [ -n "$NO_LIBRARY" ] || (cd "$here/../crates/snmp_c" && rt lib >"$out/library.log" 2>&1) || { tail -20 "$out/library.log"; exit 1; }
-cc=${CC:-cc}
-flags="-std=gnu11 -O2 -Wall -Wextra -Werror -I$here/include $*"
-$cc $flags "$here/agent.c" "$here/table.c" "$here/heap.c" "$library" -o "$out/agent"
-$cc $flags -Wl,--wrap=malloc,--wrap=realloc "$here/calls.c" "$here/heap.c" "$library" -o "$out/calls"
-$cc $flags "$here/poll.c" "$here/table.c" "$here/heap.c" "$library" -o "$out/poll"
-$cc -std=gnu11 -O2 -fPIC -shared -I"$here/include" "$here/heap.c" -Wl,--whole-archive "$library" -Wl,--no-whole-archive -o "$out/libsnmpsec.so"
+cc="${CC:-cc} -std=gnu11 -O2 -Wall -Wextra -Werror -I$here/include"
+for program in agent poll; do
+    $cc "$@" "$here/$program.c" "$here/table.c" "$here/heap.c" "$library" -o "$out/$program"
+done
+for test in calls manager_calls bindings keys exchange hostile; do
+    $cc "$@" -Wl,--wrap=malloc,--wrap=realloc "$here/$test.c" "$here/checks.c" "$here/table.c" "$here/heap.c" "$library" -o "$out/$test"
+done
+$cc -fPIC -shared "$here/heap.c" -Wl,--whole-archive "$library" -Wl,--no-whole-archive -o "$out/libsnmpsec.so"
 echo "built in $out"

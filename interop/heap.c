@@ -1,27 +1,26 @@
 /* The heap that the archive calls: the C library's, for all blocks. And the freeing of handles. Not proved. */
 #include "snmpsec.h"
 #include <stdlib.h>
+#include <string.h>
 
 /* what a growth gives, in two registers */
 struct tried { unsigned long ok; void *block; };
 
 static char nothing[16] __attribute__((aligned(16)));
 
-/* The blocks that were taken since a handle began to be emptied and are not given back: those of the empty handle. */
-enum { MOST_TAKEN = 64 };
-static _Thread_local void *taken[MOST_TAKEN];
-static _Thread_local int taken_len = -1;
+/* While a handle is emptied, blocks come from this room: the empty handle is made in it, so that freeing wants no memory and leaves no
+ * block. It is NULL at other times. */
+enum { ROOM = 4096 };
+static _Thread_local char *room;
+static _Thread_local size_t room_used;
 
-static int place_of(const void *block) {
-    int i = 0;
-    while (i < taken_len && taken[i] != block) i++;
-    return i;
-}
+static int is_in_room(const void *block) { return room && (uintptr_t)block - (uintptr_t)room < ROOM; }
 
-static void note(int place, void *block) {
-    if (taken_len < 0 || place >= MOST_TAKEN) return;
-    taken[place] = block;
-    if (place >= taken_len) taken_len = place + 1;
+static void *from_room(size_t size) {
+    size_t begin = room_used;
+    if (size > ROOM - begin) return NULL;
+    room_used += (size + 15) / 16 * 16;
+    return room + begin;
 }
 
 static struct tried tried(void *block) {
@@ -29,46 +28,38 @@ static struct tried tried(void *block) {
 }
 
 struct tried rattle_alloc(size_t size, size_t align) {
-    void *block = malloc(size ? size : align);
-    if (block) note(taken_len, block);
-    return tried(block);
+    size_t wanted = size ? size : align;
+    return tried(room ? from_room(wanted) : malloc(wanted));
 }
 
 struct tried rattle_realloc(void *old, size_t kept, size_t size, size_t align) {
-    (void)kept;
-    int place = place_of(old);
-    void *block = realloc(old, size ? size : align);
-    if (block) note(place, block);
-    return tried(block);
+    size_t wanted = size ? size : align;
+    if (!is_in_room(old)) return tried(realloc(old, wanted));
+    void *block = from_room(wanted);
+    return tried(block ? memcpy(block, old, kept < wanted ? kept : wanted) : NULL);
 }
 
 void rattle_dealloc(void *block) {
-    int place = place_of(block);
-    if (place < taken_len) taken[place] = NULL;
-    free(block);
+    if (!is_in_room(block)) free(block);
 }
 
 /* They give back all that a handle holds, and put an empty one in its place. */
-int32_t snmpsec_agent_clear(snmpsec_agent *agent);
-int32_t snmpsec_manager_clear(snmpsec_manager *manager);
+int32_t snmpsec_agent_clear(void *agent);
+int32_t snmpsec_manager_clear(void *manager);
 
-static void give_back(void *handle) {
-    int len = taken_len;
-    taken_len = -1;
-    for (int i = 0; i < len; i++) free(taken[i]);
+static void give_back(void *handle, int32_t (*clear)(void *handle)) {
+    _Alignas(16) char empty[ROOM];
+    room = empty;
+    room_used = 0;
+    clear(handle);
+    room = NULL;
     free(handle);
 }
 
 void snmpsec_agent_free(snmpsec_agent *agent) {
-    if (!agent) return;
-    taken_len = 0;
-    snmpsec_agent_clear(agent);
-    give_back(agent);
+    if (agent) give_back(agent, snmpsec_agent_clear);
 }
 
 void snmpsec_manager_free(snmpsec_manager *manager) {
-    if (!manager) return;
-    taken_len = 0;
-    snmpsec_manager_clear(manager);
-    give_back(manager);
+    if (manager) give_back(manager, snmpsec_manager_clear);
 }

@@ -16,7 +16,8 @@
 #include <unistd.h>
 
 static snmpsec_manager *manager;
-static uint8_t octets[65536];
+/* a datagram, or the saved text */
+static uint8_t octets[1 << 20];
 
 static uint64_t now_in_seconds(void) { return (uint64_t)time(NULL); }
 
@@ -102,7 +103,7 @@ int main(int argc, char **argv) {
         list_len += written;
     }
     size_t config_len = read_file(argv[1], config, sizeof config), clocks_len = read_file(argv[2], clocks, sizeof clocks);
-    if (!clocks_len) { memcpy(clocks, "snmp-clocks 2\n", 14); clocks_len = 14; }
+    if (!clocks_len) { clocks_len = strlen(SNMPSEC_NO_CLOCKS); memcpy(clocks, SNMPSEC_NO_CLOCKS, clocks_len); }
     int32_t answer = snmpsec_manager_new(config, config_len, clocks, clocks_len, now_in_seconds(), &manager);
     if (answer) { fprintf(stderr, "poll: not made (%d)\n", answer); return 2; }
     int at = socket(AF_INET, SOCK_DGRAM, 0);

@@ -1,18 +1,20 @@
 #!/bin/bash
 # Runs the library from C and against net-snmp's tools, on 127.0.0.1 alone: test.sh [PORT]
 #
-# It wants a C compiler, and net-snmp: apt-get update; apt-get install snmp snmpd snmptrapd libsnmp-dev
-# What isn't installed is told by a line and left out. It prints what differs from what is expected, and at the end how many
-# checks passed; the status is 1 if any failed.
+# It wants a C compiler, net-snmp (apt-get update; apt-get install snmp snmpd snmptrapd), python3 and cargo. What isn't installed is
+# told by a line and left out. The C is built twice, the second time with sanitizers, and those programs are run where they can be
+# built. It prints what differs from what is expected, and at the end how many checks passed; the status is 1 if any failed.
 here=$(cd "$(dirname "$0")" && pwd)
 export OUT=${OUT:-$here/out}
 work=$(mktemp -d)
 port=${1:-16161}
+trap_port=$((port + 1)) snmpd_port=$((port + 2))
 passed=0 failed=0
 pids=()
 
 export MIBS="" SNMPCONFPATH=/nonexistent SNMP_PERSISTENT_DIR=$work/persist
 trap 'for p in "${pids[@]}"; do kill "$p" 2>/dev/null; done; rm -rf "$work"' EXIT
+if ! command -v cc > /dev/null; then echo "skipped: no C compiler"; exit 0; fi
 
 check() { # NAME EXPECTED FOUND
     if [ "$2" = "$3" ]; then passed=$((passed + 1)); else failed=$((failed + 1)); printf 'FAILED %s\n  expected: %s\n  found:    %s\n' "$1" "$2" "$3"; fi
@@ -23,11 +25,20 @@ has() {
     if [[ "$3" == *"$2"* ]]; then passed=$((passed + 1)); else failed=$((failed + 1)); printf 'FAILED %s\n  expected: %s\n  found:    %s\n' "$1" "$2" "$3"; fi
 }
 
+bound() { # PORT: waits until a process has it, at most 5 seconds
+    local tries
+    for tries in {1..50}; do
+        sleep 0.1
+        grep -q ":$(printf %04X "$1") " /proc/net/udp && return
+    done
+    echo "port $1 isn't bound after $tries tries"
+}
+
 begin_agent() { # ARGUMENTS.. behind those that are always the same
-    "${AGENT:-$OUT/agent}" "$here/examples/agent.toml" "$here/examples/table.txt" "$engine" "$work/boots" "$port" "$@" > "$work/agent.out" 2> "$work/agent.err" &
+    "$programs/agent" "$here/examples/agent.toml" "$here/examples/table.txt" "$engine" "$work/boots" "$port" "$@" > "$work/agent.out" 2> "$work/agent.err" &
     agent=$!
     pids+=("$agent")
-    sleep 0.4
+    bound "$port"
 }
 
 end_agent() {
@@ -48,14 +59,29 @@ ask() {
     "$tool" -v3 -r 0 -t 2 -On "$@" 2>&1 | grep -v '^Created directory'
 }
 
-sh "$here/build.sh" $CFLAGS || exit 1
+sh "$here/build.sh" || exit 1
+
+# The programs with the address and undefined behaviour sanitizers, which end at what they find.
+programs=$OUT/sanitized
+if ! NO_LIBRARY=1 OUT=$programs sh "$here/build.sh" -g -fsanitize=address,undefined -fno-sanitize-recover=all > "$work/sanitized.log" 2>&1; then
+    echo "skipped: the C compiler has no sanitizers"
+    programs=$OUT
+fi
 
 test_c() {
-    if ! command -v cc > /dev/null; then echo "skipped: no C compiler"; return; fi
-    if [ -x "$OUT/calls" ]; then
-        "$OUT/calls" "$here/../examples/replay/config.toml" "$here/../examples/replay/captured.log" > "$work/calls.out" 2>&1
-        check "calls from C" 0 $?
-        tail -1 "$work/calls.out"
+    local replay=$here/../examples/replay name folder
+    for folder in $(printf '%s\n' "$OUT" "$programs" | sort -u); do
+        for name in calls manager_calls bindings keys exchange hostile; do
+            "$folder/$name" "$replay/config.toml" "$replay/captured.log" "$replay/printed.txt" > "$work/$name.out" 2>&1
+            check "$name" 0 $?
+            grep -m 9 FAILED "$work/$name.out"
+            echo "$name: $(tail -1 "$work/$name.out")"
+        done
+    done
+    if command -v c++ > /dev/null; then
+        check "the header in C++" "" "$(echo '#include "snmpsec.h"' | c++ -std=c++11 -Wall -Wextra -Werror -fsyntax-only -I"$here/include" -x c++ - 2>&1)"
+    else
+        echo "skipped: no C++ compiler"
     fi
 }
 
@@ -144,32 +170,44 @@ test_agent() {
     check "the agent says nothing wrong" "" "$(cat "$work/agent.err")"
 }
 
+begin_trapd() { # its configuration is in $work/trapd.conf
+    rm -rf "$SNMP_PERSISTENT_DIR" "$work/trapd.log"
+    mkdir -p "$SNMP_PERSISTENT_DIR"
+    snmptrapd -f -On -Lf "$work/trapd.log" -C -c "$work/trapd.conf" -F '%V|%v\n' udp:127.0.0.1:$trap_port > /dev/null 2>&1 &
+    trapd=$!
+    pids+=("$trapd")
+    bound "$trap_port"
+}
+
+end_trapd() {
+    sleep 0.4
+    kill "$trapd"
+    wait "$trapd" 2> /dev/null
+}
+
+trap_users() { # NAME HASH PRIVACY-PASSWORD of each user that can be notified
+    printf '%s\n' "md MD5 syrupmaple" "sha SHA another-one" "sha256 SHA-256 a-third-one"
+}
+
 test_traps() {
     if ! command -v snmptrapd > /dev/null; then echo "skipped: net-snmp's snmptrapd isn't installed (apt-get install snmptrapd)"; return; fi
-    local trap_port=$((port + 1)) name level
-    for name in md:MD5:syrupmaple sha:SHA:another-one sha256:SHA-256:a-third-one; do
-        IFS=: read -r user hash password <<< "$name"
+    local user hash password level
+    while read -r user hash password; do
         printf 'createUser -e 0x%s %s %s maplesyrup AES %s\nauthUser log %s auth\n' $engine "$user" "$hash" "$password" "$user" > "$work/trapd.conf"
         for level in 2 3; do
-            rm -rf "$SNMP_PERSISTENT_DIR"; mkdir -p "$SNMP_PERSISTENT_DIR"
-            snmptrapd -f -On -Lf "$work/trapd.log" -C -c "$work/trapd.conf" -F '%V|%v\n' udp:127.0.0.1:$trap_port > /dev/null 2>&1 &
-            local trapd=$!
-            pids+=("$trapd")
-            sleep 0.6
+            begin_trapd
             begin_agent $trap_port "$user" $level
-            sleep 0.4
+            end_trapd
             end_agent
-            kill $trapd; wait $trapd 2> /dev/null
             has "a trap of $user at level $level" "1.3.6.1.6.3.1.1.5.1" "$(cat "$work/trapd.log")"
-            rm -f "$work/trapd.log"
         done
-    done
+    done < <(trap_users)
 }
 
 test_c
 test_agent
 test_traps
-[ -f "$here/test_poll.sh" ] && . "$here/test_poll.sh"
-[ -f "$here/test_wrappers.sh" ] && . "$here/test_wrappers.sh"
+. "$here/test_poll.sh"
+. "$here/test_wrappers.sh"
 echo "$passed passed, $failed failed"
 [ $failed = 0 ]

@@ -1,10 +1,60 @@
-# The poller, against the example agent and against net-snmp's snmpd. test.sh runs this.
-poll() { "$OUT/poll" "$here/examples/agent.toml" "$1" "$2" "$3" "$4" $system.1.0 2> "$work/poll.err"; }
+# The poller, against net-snmp's snmpd and against the example agent. test.sh runs this.
+poll() { "$programs/poll" "$here/examples/agent.toml" "$1" "$2" "$3" "$4" $system.1.0 2> "$work/poll.err"; }
 
+begin_snmpd() {
+    SNMPCONFPATH=$work/snmpd SNMP_PERSISTENT_DIR=$work/snmpd snmpd -f -c "$work/snmpd.conf" -Lf "$work/snmpd.log" -I -smux > /dev/null 2>&1 &
+    snmpd=$!
+    pids+=("$snmpd")
+    bound "$snmpd_port"
+}
+
+end_snmpd() {
+    kill "$snmpd"
+    wait "$snmpd" 2> /dev/null
+}
+
+test_snmpd_polled() {
+    local described="1.3.6.1.2.1.1.1.0 04 6c6f6f706261636b" user level boots
+    begin_snmpd
+    for user in md sha sha256; do
+        for level in 2 3; do
+            rm -f "$work/first"
+            check "polls snmpd as $user at level $level" "$described" "$(poll "$work/first" $snmpd_port $user $level)"
+            has "the first time by a report" "report of counter 2" "$(cat "$work/poll.err")"
+            check "polls it again, begun anew" "$described" "$(poll "$work/first" $snmpd_port $user $level)"
+            check "with what it kept" "" "$(cat "$work/poll.err")"
+        done
+    done
+    boots=$(tail -1 "$work/first" | cut -d' ' -f2)
+    end_snmpd
+    begin_snmpd
+    cp "$work/first" "$work/second"
+    check "polls snmpd after its restart" "$described" "$(poll "$work/second" $snmpd_port sha 3)"
+    has "by a report" "report of counter 2" "$(cat "$work/poll.err")"
+    check "the boots went up" $((boots + 1)) "$(tail -1 "$work/second" | cut -d" " -f2)"
+    end_snmpd
+}
+
+# The first poller knows snmpd before its restart, and the example agent; the second knows snmpd after it.
+test_merged() {
+    local program=$here/../crates/snmpsec/out/snmpsec
+    if [ ! -x "$program" ]; then echo "skipped: the program isn't built, which ./snmpsec merge-clocks does"; return; fi
+    "$program" merge-clocks "$work/first" "$work/second" > "$work/merged"
+    check "two pollers' clocks merged: the later of each engine" "$(head -2 "$work/first"; tail -1 "$work/second")" "$(cat "$work/merged")"
+    check "and in the other order" "$(cat "$work/merged")" "$("$program" merge-clocks "$work/second" "$work/first")"
+    begin_snmpd
+    poll "$work/merged" $snmpd_port sha 3 > /dev/null
+    has "snmpd, restarted again, is learned again" "report of counter 2" "$(cat "$work/poll.err")"
+    end_snmpd
+    check "polls the example agent with the merged clocks" "$polled" "$(poll "$work/merged" $port sha256 3)"
+    check "which need no report" "" "$(cat "$work/poll.err")"
+}
+
+polled="1.3.6.1.2.1.1.1.0 04 612070726f766564206167656e74"
 if ! command -v snmpd > /dev/null; then
     echo "skipped: net-snmp's snmpd isn't installed (apt-get install snmpd)"
 else
-    snmpd_port=$((port + 2))
+    mkdir -p "$work/snmpd"
     cat > "$work/snmpd.conf" << CONF
 agentAddress udp:127.0.0.1:$snmpd_port
 exactEngineID 0x80001f888001020304
@@ -16,38 +66,9 @@ rouser md auth
 rouser sha auth
 rouser sha256 auth
 CONF
-    mkdir -p "$work/snmpd"
-    begin_snmpd() {
-        SNMPCONFPATH=$work/snmpd SNMP_PERSISTENT_DIR=$work/snmpd snmpd -f -c "$work/snmpd.conf" -Lf "$work/snmpd.log" -I -smux > /dev/null 2>&1 &
-        snmpd=$!
-        pids+=("$snmpd")
-        sleep 1.5
-    }
-    end_snmpd() { kill "$snmpd"; wait "$snmpd" 2> /dev/null; }
-    described="1.3.6.1.2.1.1.1.0 04 6c6f6f706261636b"
-    begin_snmpd
-    for user in md sha sha256; do
-        for level in 2 3; do
-            rm -f "$work/clocks"
-            check "polls snmpd as $user at level $level" "$described" "$(poll "$work/clocks" $snmpd_port $user $level)"
-            has "the first time by a report" "report of counter 2" "$(cat "$work/poll.err")"
-            check "polls it again, begun anew" "$described" "$(poll "$work/clocks" $snmpd_port $user $level)"
-            check "with what it kept" "" "$(cat "$work/poll.err")"
-        done
-    done
-    boots=$(tail -1 "$work/clocks" | cut -d' ' -f2)
-    cp "$work/clocks" "$work/before"
-    end_snmpd
-    begin_snmpd
-    check "polls snmpd after its restart" "$described" "$(poll "$work/clocks" $snmpd_port sha 3)"
-    has "by a report" "report of counter 2" "$(cat "$work/poll.err")"
-    check "the boots went up" $((boots + 1)) "$(tail -1 "$work/clocks" | cut -d" " -f2)"
-    if [ -x "$here/../snmpsec" ] && [ -n "$MERGE" ]; then
-        check "two pollers' clocks merged are the later" "$(cat "$work/clocks")" "$("$here/../snmpsec" merge-clocks "$work/before" "$work/clocks")"
-    fi
-    end_snmpd
+    test_snmpd_polled
 fi
 begin_agent
-rm -f "$work/clocks"
-check "polls the example agent" "1.3.6.1.2.1.1.1.0 04 612070726f766564206167656e74" "$(poll "$work/clocks" $port sha256 3)"
+check "polls the example agent" "$polled" "$(poll "$work/first" $port sha256 3)"
+[ -f "$work/second" ] && test_merged
 end_agent

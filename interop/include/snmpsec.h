@@ -102,8 +102,11 @@ int64_t snmpsec_agent_counter(snmpsec_agent *agent, uint32_t n);
 
 typedef struct snmpsec_manager snmpsec_manager;
 
-/* Makes a manager with the users of a configuration that begins with the clocks of a saved text (`snmp-clocks 2` and a line feed for
- * none), where the marks of version 1 were seen at the moment `now`: -7, -6 or 14 where there is none. */
+/* the saved text of no clocks */
+#define SNMPSEC_NO_CLOCKS "snmp-clocks 2\n"
+
+/* Makes a manager with the users of a configuration that begins with the clocks of a saved text, where the marks of version 1 were
+ * seen at the moment `now`: -7, -6 or 14 where there is none. */
 int32_t snmpsec_manager_new(const uint8_t *config, size_t config_len, const uint8_t *clocks, size_t clocks_len, uint64_t now,
                             snmpsec_manager **out);
 void snmpsec_manager_free(snmpsec_manager *manager);
@@ -139,14 +142,54 @@ int32_t snmpsec_manager_pair(snmpsec_manager *manager, const uint8_t *engine, si
 /* ---- variable bindings, as octets */
 
 /* Reads the binding at the place `at` of a list: its arcs, of at most 128, and in `numbers` how many they are, the value's tag, the
- * place of its content, its length, and the place after the binding. -4: no binding begins there. */
+ * place of its content, its length, and the place after the binding: -1 the place is behind the list, -4 no binding begins there, -5
+ * there is no room for its arcs or the numbers. */
 enum { SNMPSEC_ARCS = 0, SNMPSEC_VALUE_TAG = 1, SNMPSEC_VALUE_AT = 2, SNMPSEC_VALUE_LENGTH = 3, SNMPSEC_NEXT = 4, SNMPSEC_PLACES = 5 };
 int32_t snmpsec_binding_read(const uint8_t *list, size_t list_len, size_t at, uint32_t *arcs, size_t arcs_len, size_t *numbers,
                              size_t numbers_len);
-/* Writes a binding: -1 the arcs are no identifier's, the tag's low five bits are all ones or the content is above 65507
- * octets; -5 there is no room, and *written says how much is wanted. */
+/* Writes a binding: -1 the arcs are no identifier's, the tag is above 255 or its low five bits are all ones, or the content is above
+ * 65507 octets; 14; -5 there is no room, and *written says how much is wanted. */
 int32_t snmpsec_binding_write(const uint32_t *arcs, size_t arcs_len, uint32_t tag, const uint8_t *content, size_t content_len,
                               uint8_t *out, size_t out_len, size_t *written);
+
+/* ---- keys, codes and sealed texts
+ *
+ * These calls keep nothing and want no handle: they are for programs that spell messages themselves. A message that came is checked by a
+ * handle's _take. A protocol for authentication has its number below snmpAuthProtocols (RFC 3414, section 5; RFC 7860, section 8).
+ *
+ * Each answers 0, -1 or -5, and -1 comes before -5. A call that doesn't answer 0 writes nothing: *written stays as it was too. */
+enum { SNMPSEC_MD5 = 2, SNMPSEC_SHA1 = 3, SNMPSEC_SHA256 = 5 };
+
+/* the most octets of a key, and of a code */
+#define SNMPSEC_LARGEST_KEY 32
+#define SNMPSEC_LARGEST_CODE 24
+
+/* Writes the key of a password, the same for all engines (RFC 3414, section A.2; RFC 7860, section 5), and how many octets it has: 16
+ * (MD5), 20 (SHA-1) or 32 (SHA-256). -1: no such protocol, or the password has fewer than 8 octets; -5: there is no room. It hashes
+ * 1,048,576 octets. */
+int32_t snmpsec_password_key(uint32_t protocol, const uint8_t *password, size_t password_len, uint8_t *out, size_t out_len,
+                             size_t *written);
+/* Writes the key localised to an engine (RFC 3414, section 2.6; RFC 7860, section 5), which has as many octets. -1: no such protocol, the
+ * key has more than 32 octets, or the engine ID not 5 to 32; -5: there is no room. */
+int32_t snmpsec_localise(uint32_t protocol, const uint8_t *key, size_t key_len, const uint8_t *engine, size_t engine_len,
+                         uint8_t *out, size_t out_len, size_t *written);
+/* Writes the message authentication code, under a localised key, of `front`, this many zero octets and `back`, joined, and how many
+ * octets it has: 12 (MD5 and SHA-1; RFC 3414, sections 6.3.1 and 7.3.1) or 24 (SHA-256; RFC 7860, section 4.2.1). The zeros stand in the
+ * code's own place, so in a message they are as many as the code has octets. -1: no such protocol, the key has more than 32 octets, or
+ * there are more than 24 zeros; -5: there is no room. */
+int32_t snmpsec_mac(uint32_t protocol, const uint8_t *key, size_t key_len, const uint8_t *front, size_t front_len, size_t zeros,
+                    const uint8_t *back, size_t back_len, uint8_t *out, size_t out_len, size_t *written);
+
+/* Seals a text of any length in its place, by AES-128 in cipher feedback mode (RFC 3826, section 3.1.3). The key is the first 16 octets
+ * of a localised key. Boots and time, in seconds, are the authoritative engine's that the message says; any are taken. The salt is the
+ * content of its msgPrivacyParameters, 8 octets (section 3.1.2.1). -1: the key hasn't 16 octets or the salt hasn't 8, and the text
+ * stays as it was. */
+int32_t snmpsec_seal(const uint8_t *key, size_t key_len, uint32_t boots, uint32_t time, const uint8_t *salt, size_t salt_len,
+                     uint8_t *text, size_t text_len);
+/* Opens a text in its place that was sealed with these (RFC 3826, section 3.1.4). -1: as with _seal. It can't tell a wrong key: whatever
+ * the octets are, they open to some text. */
+int32_t snmpsec_open(const uint8_t *key, size_t key_len, uint32_t boots, uint32_t time, const uint8_t *salt, size_t salt_len,
+                     uint8_t *text, size_t text_len);
 
 #ifdef __cplusplus
 }

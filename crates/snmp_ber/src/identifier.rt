@@ -181,10 +181,16 @@ fn split_first(oid: &Oid) -> (u32, &[u32])
 }
 
 /// Appends the groups of a number.
+#[tactic(auto, unfolding(crate::specs::Oid::subidentifier))]
 fn push_groups(content: &mut ArrayVec<u8, 635>, number: u32)
     requires { length content.old.items ≤ 630 }
     ensures { content.new.items ≡ content.old.items ++ subidentifier number }
 {
+    // Most arcs are below 128.
+    if number < 0x80 {
+        content.push(number as u8);
+        return;
+    }
     let Ok(()) = content.try_extend_from_slice(&groups(number)) else {
         unreachable!();
     };

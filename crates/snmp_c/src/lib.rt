@@ -3,12 +3,15 @@
 //! An export on a handle takes a pointer that its `_new` wrote; what lies there is lent to one call and comes back as its
 //! contract says. All other arguments may be anything: what is out of range is answered by a number. A number answers each call: 0
 //! where it was done, 1 to 18 for a refusal by its number, and a negative one for a fault of the call.
+//! Keys, codes, sealed texts and bindings need no handle: those exports keep nothing between two calls.
 #![tactic(auto)]
 
 pub mod agent;
 mod agent_calls;
 pub mod bindings;
+pub mod keys;
 pub mod manager;
 mod manager_calls;
+pub mod privacy;
 #[cfg(test)]
 mod tests;

@@ -5,6 +5,9 @@ use super::bindings::{snmpsec_binding_read, snmpsec_binding_write};
 use std::ptr::null_mut;
 use std::test::Fail;
 
+mod keys;
+mod privacy;
+
 #[test]
 fn an_engine_id_of_four_octets_is_answered_by_a_number(rt: HostRuntime) -> Result<(), Fail> {
     let mut agent = null_mut();

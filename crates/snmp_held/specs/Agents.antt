@@ -19,7 +19,7 @@ use Rattle.engine_clock.specs.Pairs.{BootsAndTime, pair_max}
 use Rattle.usm_core.specs.Authentic.{HasEngineLength}
 use Rattle.usm_core.specs.User.{User}
 use Rattle.vacm_core.specs.Allowed.{Allowed}
-use Rattle.vacm_core.specs.Tables.{Tables}
+use Rattle.vacm_core.specs.Tables.{Tables, HaveSameRows}
 use Rattle.vacm_core.specs.declared.access.Access.{Access}
 use Rattle.vacm_core.specs.declared.access.ViewType.{ViewType}
 use Rattle.snmpsec_config.specs.Refusals.{Loads, RefusesText}
@@ -59,9 +59,14 @@ MakesAgent config engine boots started (Ok made) =
     (users : List User) × (tables : Tables) × Loads config users tables × (made ≡ begins engine boots started users tables)
 MakesAgent config engine boots started (Err fault) = RefusesAgent config engine boots fault
 
--- Nothing is held any more. A refusal changes nothing.
+-- no row in any table
+abbrev pub no_rows : Tables
+no_rows = record { contexts = []; groups = []; access = []; families = [] }
+
+-- Nothing is held any more: it is as one that began with an engine ID of five zeros, no users and no rows. A refusal changes
+-- nothing.
 abbrev pub Clears : {V : Type 0} → AgentHeld → Result V CallFault → AgentHeld → Type 0
-Clears old (Ok done) new = (new.agent.users ≡ []) × (new.last ≡ None) × (new.message ≡ None)
+Clears old (Ok done) new = (tables : Tables) × HaveSameRows no_rows tables × (new ≡ begins (replicate 5 0) 0 0 [] tables)
 Clears old (Err fault) new = (fault ≡ Refused OutOfMemory) × (new ≡ old)
 
 -- ---- taking

@@ -36,12 +36,21 @@ AreLeft arcs arcs_new numbers numbers_new = (arcs_new ≡ arcs) × (numbers_new 
 abbrev pub BeginsNone : List ℕ → ℕ → Type 0
 BeginsNone list at = (v : Variable) (text rest : List ℕ) → IsBinding text v → slice_range list at (length list) ≡ text ++ rest → ⊥
 
+-- A binding begins at the place, and a buffer has no room: one for its arcs, or the other for the five numbers.
+pub record LacksRoom (list : List ℕ) (at : ℕ) (arcs numbers : List ℕ) : Type 0 where
+  pub says : Variable
+  pub text : List ℕ
+  pub rest : List ℕ
+  pub is_binding : IsBinding text says
+  pub begins : slice_range list at (length list) ≡ text ++ rest
+  pub short : (length arcs < length says.name) ⊎ (length numbers < 5)
+
 abbrev pub ReadsAt : {V : Type 0} → List ℕ → ℕ → List ℕ → List ℕ → List ℕ → List ℕ → Result V CallFault → Type 0
 ReadsAt list at arcs arcs_new numbers numbers_new (Ok done) = ReadsOne list at arcs arcs_new numbers numbers_new
 ReadsAt list at arcs arcs_new numbers numbers_new (Err BadArgument) = (length list < at) × AreLeft arcs arcs_new numbers numbers_new
 ReadsAt list at arcs arcs_new numbers numbers_new (Err BadBindings) = BeginsNone list at × AreLeft arcs arcs_new numbers numbers_new
 ReadsAt list at arcs arcs_new numbers numbers_new (Err ShortBuffer) =
-    ((length arcs < 128) ⊎ (length numbers < 5)) × AreLeft arcs arcs_new numbers numbers_new
+    LacksRoom list at arcs numbers × AreLeft arcs arcs_new numbers numbers_new
 ReadsAt list at arcs arcs_new numbers numbers_new (Err _) = ⊥
 
 -- The binding is in the front of the buffer.

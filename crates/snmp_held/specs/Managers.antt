@@ -1,4 +1,5 @@
 -- A manager with what it accepted last, what it wrote last and the request that it waits for, and what its calls leave.
+use Rattle.std.specs.FinMap as map
 use Rattle.std.specs.Prelude.{◌≡◌, ◌<◌, ◌⊎◌, ℕ, pos, List, [], length, Option, Some, None, Result, Ok, Err, IfSome}
 use Rattle.snmp_ber.specs.declared.level.Level.{Level}
 use Rattle.snmp_ber.specs.declared.level.Level.TheVariants.{NoAuthNoPriv}
@@ -20,7 +21,7 @@ use Rattle.snmp_sending.specs.Classes.{is_confirmed}
 use Rattle.snmp_sending.specs.Bodies.{header_at}
 use Rattle.snmp_sending.specs.Sends.{send_refusal}
 use Rattle.snmp_sending.specs.Requests.{written_pair, discovering}
-use Rattle.snmp_manager.specs.Views.{Held}
+use Rattle.snmp_manager.specs.Views.{Held, held_by}
 use Rattle.snmp_manager.specs.Takes as manager
 use Rattle.snmp_manager.specs.Pendings.{Remembers}
 use Rattle.snmp_manager.specs.Replies.{IsAnswer}
@@ -57,9 +58,9 @@ MakesManager config text now (Ok made) =
     × (made ≡ record { manager = record { users = users; clocks = clocks }; last = None; message = None; pending = None })
 MakesManager config text now (Err fault) = RefusesManager config text now fault
 
--- Nothing is held any more.
+-- Nothing is held any more. A refusal changes nothing.
 abbrev pub ClearsManager : {V : Type 0} → ManagerHeld → Result V CallFault → ManagerHeld → Type 0
-ClearsManager old (Ok done) new = (new.manager.users ≡ []) × (new.last ≡ None) × (new.message ≡ None) × (new.pending ≡ None)
+ClearsManager old (Ok done) new = new ≡ record { manager = held_by [] map.empty; last = None; message = None; pending = None }
 ClearsManager old (Err fault) new = (fault ≡ Refused OutOfMemory) × (new ≡ old)
 
 -- ---- taking

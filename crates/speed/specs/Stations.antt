@@ -1,9 +1,9 @@
--- How many users open messages, take them and answer them.
+-- How many users open or seal messages, take them and answer them.
 use Rattle.std.specs.Prelude.{◌≡◌, ℕ, ◌+◌, Bool, true, false, length}
 use Rattle.speed.specs.declared.operation.Others.{Others}
 use Rattle.speed.specs.declared.operation.Others.TheVariants.{Nobody, Thousand, TenThousand}
 use Rattle.speed.specs.declared.operation.Operation.{Operation}
-use Rattle.speed.specs.declared.operation.Operation.TheVariants.{PasswordKey, Mac, CfbSeal, CfbOpen, OpenAuth, Take, AgentTake, AgentAnswer}
+use Rattle.speed.specs.declared.operation.Operation.TheVariants.{PasswordKey, Mac, CfbSeal, CfbOpen, OpenAuth, Take, AgentTake, AgentAnswer, Seal}
 use Rattle.speed.specs.declared.station.Station.{Station}
 
 abbrev pub number_of : Others → ℕ
@@ -20,6 +20,7 @@ openers (OpenAuth auth) = 1
 openers (Take others) = 0
 openers AgentTake = 0
 openers AgentAnswer = 0
+openers Seal = 1
 
 abbrev pub takers : Operation → ℕ
 takers (PasswordKey auth) = 0
@@ -30,6 +31,7 @@ takers (OpenAuth auth) = 0
 takers (Take others) = number_of others + 1
 takers AgentTake = 0
 takers AgentAnswer = 0
+takers Seal = 0
 
 abbrev pub answerers : Operation → ℕ
 answerers (PasswordKey auth) = 0
@@ -40,12 +42,13 @@ answerers (OpenAuth auth) = 0
 answerers (Take others) = 0
 answerers AgentTake = 1
 answerers AgentAnswer = 1
+answerers Seal = 0
 
 -- so many users open messages, take them, and take and answer them
 abbrev pub HasUsers : Station → ℕ → ℕ → ℕ → Type 0
 HasUsers station opening taking answering = (length station.users.users ≡ opening) × (length station.manager.users ≡ taking) × (length station.agent.users ≡ answering)
 
--- the operation is done on a message
+-- the operation is done on a message or a part of one
 abbrev pub is_of_a_message : Operation → Bool
 is_of_a_message (PasswordKey auth) = false
 is_of_a_message (Mac auth) = false
@@ -55,3 +58,4 @@ is_of_a_message (OpenAuth auth) = true
 is_of_a_message (Take others) = true
 is_of_a_message AgentTake = true
 is_of_a_message AgentAnswer = true
+is_of_a_message Seal = true

@@ -3,7 +3,7 @@ use Rattle.std.specs.Prelude.{ℕ, List, codes}
 use Rattle.usm_keys.specs.declared.auth.Auth.TheVariants.{Md5, Sha1, Sha256}
 use Rattle.speed.specs.declared.operation.Others.TheVariants.{Nobody, Thousand, TenThousand}
 use Rattle.speed.specs.declared.operation.Operation.{Operation}
-use Rattle.speed.specs.declared.operation.Operation.TheVariants.{PasswordKey, Mac, CfbSeal, CfbOpen, OpenAuth, Take, AgentTake, AgentAnswer}
+use Rattle.speed.specs.declared.operation.Operation.TheVariants.{PasswordKey, Mac, CfbSeal, CfbOpen, OpenAuth, Take, AgentTake, AgentAnswer, Seal}
 
 abbrev pub operation_word : Operation → List ℕ
 operation_word (PasswordKey Md5) = codes "password-key-md5"
@@ -22,3 +22,4 @@ operation_word (Take Thousand) = codes "take-among-1000"
 operation_word (Take TenThousand) = codes "take-among-10000"
 operation_word AgentTake = codes "agent-take"
 operation_word AgentAnswer = codes "agent-answer"
+operation_word Seal = codes "seal"

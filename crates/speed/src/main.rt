@@ -2,7 +2,8 @@
 //!
 //! `speed OPERATION OCTETS TIMES` does the operation TIMES times, first on a text of OCTETS octets `a`, and
 //! then each time on that text with the last result over its first octets, so that no time can be left out.
-//! `speed OPERATION MESSAGE[,MESSAGE..] TIMES` opens, takes or answers the messages, given in hex, in turn, TIMES times in all.
+//! `speed OPERATION MESSAGE[,MESSAGE..] TIMES` opens, takes or answers the messages, given in hex, in turn, TIMES times in all;
+//! `seal` seals PDUs likewise.
 //! It prints the last result in lower-case hex.
 #![tactic(auto)]
 

@@ -1,36 +1,47 @@
 //! The operations that can be timed.
 
-ghost use Rattle.std.specs.Prelude.{◌≡◌, ◌++◌, ◌-◌, [], ◌∷◌, ℕ, false, All, IfOk, Ok, drop, length, map, replicate, take};
+ghost use Rattle.std.specs.Prelude.{◌≡◌, ◌++◌, ◌-◌, [], ◌∷◌, ℕ, IsTrue, false, All, IfOk, Ok, drop, length, map, replicate, take};
+ghost use Rattle.snmp_msg.specs.Scoped.{IsOneElement};
 ghost use Rattle.snmp_msg.specs.Variables.{CanBeWritten, variable_of};
 ghost use Rattle.speed.specs.declared.operation.Operation.{Operation as AnOperation};
 ghost use Rattle.speed.specs.Words.{operation_word};
 ghost use Rattle.speed.specs.Stations as count;
 ghost use Rattle.speed.specs.Stations.{HasUsers, number_of};
 
-use crate::station::Station;
-use anyhow::{Context, Result};
+use crate::station::{ENGINE, OAK, Station};
+use anyhow::{Context, Result, ensure};
 use arrayvec::ArrayVec;
+use engine_clock::Pair;
 use snmp_agent::Agent;
+use snmp_ber::read_tlv;
 use snmp_manager::Manager;
-use snmp_msg::{Binding, Pdu};
+use snmp_msg::{Binding, Header, Pdu, USER_BASED, write_scoped};
 use std::alloc::{AllocError, Global};
 use std::str::FromStr;
 use thiserror::Error;
-use usm_aes::{cfb_open, cfb_seal, expand, iv};
+use usm_aes::{Schedule, cfb_open, cfb_seal, iv};
 use usm_core::{Role, Users};
 use usm_keys::{Auth, Key, mac, password_key};
 
 /// The key of the message authentication codes.
 const MAC_KEY: [u8; 32] = [0x0b; 32];
 
-/// The key, boots, time and salt of sealing and opening.
-const AES_KEY: [u8; 16] = [0, 1, 2, 3, 4, 5, 6, 7, 8, 9, 10, 11, 12, 13, 14, 15];
-
+/// The boots, time and salt of sealing and opening.
 const BOOTS: u32 = 7;
 
 const TIME: u32 = 1000;
 
 const SALT: [u8; 8] = [0, 1, 2, 3, 4, 5, 6, 7];
+
+/// The header of the messages that are sealed.
+const HEADER: Header = Header {
+    id: 1,
+    max_size: 65507,
+    auth: true,
+    privacy: true,
+    reportable: false,
+    model: USER_BASED,
+};
 
 /// The moment at which each message is taken.
 const MOMENT: u64 = 1000;
@@ -62,8 +73,8 @@ pub(crate) enum Operation {
     PasswordKey(Auth),
     /// `mac-md5`, `mac-sha1`, `mac-sha256`: the text's message authentication code under 32 octets 0B.
     Mac(Auth),
-    /// `cfb-seal`: the text sealed in place under the key 00 to 0F, with boots 7, time 1000 and the salt 00 to 07. The result
-    /// is its last 16 octets, or all of a shorter one.
+    /// `cfb-seal`: the text sealed in place under the key 00 to 0F, which is expanded before, with boots 7, time 1000 and the salt
+    /// 00 to 07. The result is its last 16 octets, or all of a shorter one.
     CfbSeal,
     /// `cfb-open`: the text opened in place, and else as `cfb-seal`.
     CfbOpen,
@@ -79,11 +90,13 @@ pub(crate) enum Operation {
     AgentTake,
     /// `agent-answer`: the same, and then a Response with the bindings of what was taken. The result is its last 16 octets.
     AgentAnswer,
+    /// `seal`: the text, which is a PDU, sealed by `oak` as a message at authPriv. The result is its last 16 octets.
+    Seal,
 }
 
 /// No operation has this name.
 #[derive(Clone, Copy, PartialEq, Eq, Debug, Error)]
-#[error("OPERATION is password-key-HASH, mac-HASH, open-auth-HASH, cfb-seal, cfb-open, take, take-among-1000, take-among-10000, agent-take or agent-answer, HASH being md5, sha1 or sha256")]
+#[error("OPERATION is password-key-HASH, mac-HASH, open-auth-HASH, cfb-seal, cfb-open, take, take-among-1000, take-among-10000, agent-take, agent-answer or seal, HASH being md5, sha1 or sha256")]
 pub(crate) struct UnknownOperation;
 
 impl FromStr for Operation {
@@ -110,6 +123,7 @@ impl FromStr for Operation {
             "take-among-10000" => Ok(Operation::Take(Others::TenThousand)),
             "agent-take" => Ok(Operation::AgentTake),
             "agent-answer" => Ok(Operation::AgentAnswer),
+            "seal" => Ok(Operation::Seal),
             _ => Err(UnknownOperation),
         }
     }
@@ -125,7 +139,7 @@ fn messages(alloc: Global, word: &str) -> Result<Vec<Vec<u8>>> {
 }
 
 impl Operation {
-    /// Whether the text is a message, and stays as it is.
+    /// Whether the text is a message or a part of one, and stays as it is.
     fn is_of_a_message(self) -> bool
         ensures { result ≡ count.is_of_a_message self }
     {
@@ -135,6 +149,7 @@ impl Operation {
                 | Operation::Take(_)
                 | Operation::AgentTake
                 | Operation::AgentAnswer
+                | Operation::Seal
         )
     }
 
@@ -160,6 +175,7 @@ impl Operation {
             Operation::OpenAuth(auth) => Station::of_ann(alloc, auth),
             Operation::Take(others) => Station::of_oak_among(alloc, others.number()),
             Operation::AgentTake | Operation::AgentAnswer => Station::of_agent(alloc),
+            Operation::Seal => Station::of_sealer(alloc),
             _ => Station::empty(alloc),
         }
     }
@@ -206,12 +222,13 @@ impl Operation {
                 let key = Key::of(auth, &MAC_KEY).unwrap();
                 Ok(mac(&key, text, 0, &[]))
             }
-            Operation::CfbSeal => Ok(sealed_end(text)),
-            Operation::CfbOpen => Ok(opened_end(text)),
+            Operation::CfbSeal => Ok(sealed_end(&station.schedule, text)),
+            Operation::CfbOpen => Ok(opened_end(&station.schedule, text)),
             Operation::OpenAuth(_) => code_of(&mut station.users, text),
             Operation::Take(_) => taken_end(&mut station.manager, text),
             Operation::AgentTake => asked_end(&mut station.agent, text),
             Operation::AgentAnswer => answered_end(alloc, &mut station.agent, text),
+            Operation::Seal => sealed_message_end(alloc, &mut station.users, text),
         }
     }
 }
@@ -265,6 +282,25 @@ fn answered_end(alloc: Global, agent: &mut Agent, message: &[u8]) -> Result<Arra
     Ok(end_of(&response))
 }
 
+/// Whether the text is one element.
+fn is_element(text: &[u8]) -> bool
+    ensures { IsTrue result → IsOneElement text.now }
+{
+    match read_tlv(text, 0, text.len()) {
+        Ok(found) => found.end == text.len(),
+        Err(_) => false,
+    }
+}
+
+/// The end of the message at authPriv in which `oak` sends this PDU.
+fn sealed_message_end(alloc: Global, users: &mut Users, pdu: &[u8]) -> Result<ArrayVec<u8, 32>> {
+    ensure!(is_element(pdu), "a PDU");
+    let pair = Pair::of(BOOTS, TIME).context("a pair")?;
+    let scoped = write_scoped(alloc, &ENGINE, &[], pdu)?;
+    let message = users.seal(&HEADER, &ENGINE, pair, OAK, SALT, &scoped)?;
+    Ok(end_of(&message))
+}
+
 /// The place of the next of so many texts, the first being behind the last.
 fn turn_after(turn: usize, count: usize) -> usize {
     let next = turn.saturating_add(1);
@@ -272,14 +308,14 @@ fn turn_after(turn: usize, count: usize) -> usize {
 }
 
 /// Seals the text in place, and answers the end of what it is then.
-fn sealed_end(text: &mut [u8]) -> ArrayVec<u8, 32> {
-    cfb_seal(&expand(&AES_KEY), iv(BOOTS, TIME, &SALT), text);
+fn sealed_end(schedule: &Schedule, text: &mut [u8]) -> ArrayVec<u8, 32> {
+    cfb_seal(schedule, iv(BOOTS, TIME, &SALT), text);
     end_of(text)
 }
 
 /// Opens the text in place, and answers the end of what it is then.
-fn opened_end(text: &mut [u8]) -> ArrayVec<u8, 32> {
-    cfb_open(&expand(&AES_KEY), iv(BOOTS, TIME, &SALT), text);
+fn opened_end(schedule: &Schedule, text: &mut [u8]) -> ArrayVec<u8, 32> {
+    cfb_open(schedule, iv(BOOTS, TIME, &SALT), text);
     end_of(text)
 }
 

@@ -8,12 +8,16 @@ use engine_clock::{Clocks, EngineId};
 use snmp_agent::Agent;
 use snmp_manager::Manager;
 use std::alloc::{AllocError, Global};
+use usm_aes::{Schedule, expand};
 use usm_core::{UserRow, Users};
 use usm_keys::Auth;
 use vacm_core::{Rows, Vacm, VacmFault};
 
 /// The engine of the captured messages, which `oak` asked.
-const ENGINE: [u8; 11] = [0x80, 0, 0x1F, 0x88, 3, 2, 0xFC, 0, 0, 0, 1];
+pub(crate) const ENGINE: [u8; 11] = [0x80, 0, 0x1F, 0x88, 3, 2, 0xFC, 0, 0, 0, 1];
+
+/// The name of the user.
+pub(crate) const OAK: &[u8] = b"oak";
 
 /// Its boots in them.
 const BOOTS: u32 = 1;
@@ -21,15 +25,20 @@ const BOOTS: u32 = 1;
 /// The moment at which it started.
 const STARTED: u64 = 997;
 
-/// What the operations on messages are done with.
+/// The key of sealing and opening.
+const AES_KEY: [u8; 16] = [0, 1, 2, 3, 4, 5, 6, 7, 8, 9, 10, 11, 12, 13, 14, 15];
+
+/// What the operations are done with.
 #[derive(Drop)]
 pub(crate) struct Station {
-    /// Who opens messages: `ann`, or nobody.
+    /// Who opens messages or seals them: `ann`, `oak` or nobody.
     pub(crate) users: Users,
     /// Who takes messages: it has the user `oak`, or none.
     pub(crate) manager: Manager,
     /// Who takes messages and answers them: it has the user `oak`, or none.
     pub(crate) agent: Agent,
+    /// The key of sealing and opening, expanded.
+    pub(crate) schedule: Schedule,
 }
 
 /// The user `ann` with a password for the codes.
@@ -44,7 +53,7 @@ fn ann(alloc: Global, auth: Auth) -> Result<UserRow, AllocError> {
 /// The user `oak` with SHA-1 and AES, who sent the captured messages.
 fn oak(alloc: Global) -> Result<UserRow, AllocError> {
     Ok(UserRow {
-        name: b"oak".to_vec(alloc)?,
+        name: OAK.to_vec(alloc)?,
         auth: Some((Auth::Sha1, b"oaktreepass".to_vec(alloc)?)),
         privacy: Some(b"oakprivpass".to_vec(alloc)?),
     })
@@ -118,6 +127,13 @@ impl Station {
         Station::of(alloc, &[], &rows, &[])
     }
 
+    /// A station whose users are `oak` alone.
+    pub(crate) fn of_sealer(alloc: Global) -> Result<Station>
+        ensures { IfOk result (λ station. HasUsers station 1 0 0) }
+    {
+        Station::of(alloc, &[oak(alloc)?], &[], &[])
+    }
+
     /// A station whose agent has `oak`.
     pub(crate) fn of_agent(alloc: Global) -> Result<Station>
         ensures { IfOk result (λ station. HasUsers station 0 0 1) }
@@ -137,6 +153,7 @@ impl Station {
             users: Users::load(alloc, openers)?,
             manager: manager_of(alloc, takers)?,
             agent: agent_of(alloc, answerers)?,
+            schedule: expand(&AES_KEY),
         })
     }
 }

@@ -51,30 +51,23 @@ joined_from : (xs ys : List ℕ) → map from_tower (xs ++ ys) ≡ map from_towe
 joined_from [] ys = refl
 joined_from (x ∷ xs) ys = ap (λ l. from_tower x ∷ l) (joined_from xs ys)
 
-moved : (xs ks : List ℕ) → map from_tower (pick_l 0 (xs ++ xs) ks) ≡ pick_l 0 (map from_tower xs ++ map from_tower xs) ks
+pub moved : (xs ks : List ℕ) → map from_tower (pick_l 0 (xs ++ xs) ks) ≡ pick_l 0 (map from_tower xs ++ map from_tower xs) ks
 moved xs ks = picked_from (xs ++ xs) ks ∙ ap (λ l. pick_l 0 l ks) (joined_from xs xs)
 
 -- a round goes through
-pub mixed_from : (once twice : List ℕ) → map from_tower (mixed_lanes once twice) ≡ mixed_lanes (map from_tower once) (map from_tower twice)
-mixed_from once twice =
-    let a : List ℕ = 0 ∷ 5 ∷ 10 ∷ 15 ∷ 4 ∷ 9 ∷ 14 ∷ 3 ∷ 8 ∷ 13 ∷ 2 ∷ 7 ∷ 12 ∷ 1 ∷ 6 ∷ 11 ∷ [] in
-    let b : List ℕ = 5 ∷ 10 ∷ 15 ∷ 0 ∷ 9 ∷ 14 ∷ 3 ∷ 4 ∷ 13 ∷ 2 ∷ 7 ∷ 8 ∷ 1 ∷ 6 ∷ 11 ∷ 12 ∷ [] in
-    let c : List ℕ = 10 ∷ 15 ∷ 0 ∷ 5 ∷ 14 ∷ 3 ∷ 4 ∷ 9 ∷ 2 ∷ 7 ∷ 8 ∷ 13 ∷ 6 ∷ 11 ∷ 12 ∷ 1 ∷ [] in
-    let d : List ℕ = 15 ∷ 0 ∷ 5 ∷ 10 ∷ 3 ∷ 4 ∷ 9 ∷ 14 ∷ 7 ∷ 8 ∷ 13 ∷ 2 ∷ 11 ∷ 12 ∷ 1 ∷ 6 ∷ [] in
-    let thrice : List ℕ = zip2 bit_xor once twice in
-    let at_a : List ℕ = pick_l 0 (twice ++ twice) a in
-    let at_b : List ℕ = pick_l 0 (thrice ++ thrice) b in
-    let at_c : List ℕ = pick_l 0 (once ++ once) c in
-    let at_d : List ℕ = pick_l 0 (once ++ once) d in
-    let third : map from_tower at_b ≡ pick_l 0 (zip2 bit_xor (map from_tower once) (map from_tower twice) ++ zip2 bit_xor (map from_tower once) (map from_tower twice)) b =
-    moved thrice b ∙ ap (λ l. pick_l 0 (l ++ l) b) (summed once twice) in
-    summed (zip2 bit_xor (zip2 bit_xor at_a at_b) at_c) at_d
-    ∙ ap (λ l. zip2 bit_xor l (map from_tower at_d)) (summed (zip2 bit_xor at_a at_b) at_c)
-    ∙ ap (λ l. zip2 bit_xor (zip2 bit_xor l (map from_tower at_c)) (map from_tower at_d)) (summed at_a at_b)
-    ∙ ap (λ l. zip2 bit_xor (zip2 bit_xor (zip2 bit_xor l (map from_tower at_b)) (map from_tower at_c)) (map from_tower at_d)) (moved twice a)
-    ∙ ap (λ l. zip2 bit_xor (zip2 bit_xor (zip2 bit_xor (pick_l 0 (map from_tower twice ++ map from_tower twice) a) l) (map from_tower at_c)) (map from_tower at_d)) third
-    ∙ ap (λ l. zip2 bit_xor (zip2 bit_xor (zip2 bit_xor (pick_l 0 (map from_tower twice ++ map from_tower twice) a) (pick_l 0 (zip2 bit_xor (map from_tower once) (map from_tower twice) ++ zip2 bit_xor (map from_tower once) (map from_tower twice)) b)) l) (map from_tower at_d)) (moved once c)
-    ∙ ap (λ l. zip2 bit_xor (zip2 bit_xor (zip2 bit_xor (pick_l 0 (map from_tower twice ++ map from_tower twice) a) (pick_l 0 (zip2 bit_xor (map from_tower once) (map from_tower twice) ++ zip2 bit_xor (map from_tower once) (map from_tower twice)) b)) (pick_l 0 (map from_tower once ++ map from_tower once) c)) l) (moved once d)
+pub mixed_from : (below above once twice : List ℕ)
+    → map from_tower (mixed_lanes below above once twice) ≡ mixed_lanes below above (map from_tower once) (map from_tower twice)
+mixed_from below above once twice =
+    let two_rows : List ℕ = zip2 bit_xor twice (pick_l 0 once below) in
+    let under : List ℕ = pick_l 0 two_rows below in
+    let over : List ℕ = pick_l 0 once above in
+    let pairs : map from_tower two_rows ≡ zip2 bit_xor (map from_tower twice) (pick_l 0 (map from_tower once) below) =
+    summed twice (pick_l 0 once below) ∙ ap (zip2 bit_xor (map from_tower twice)) (picked_from once below) in
+    summed (zip2 bit_xor two_rows under) over
+    ∙ ap (λ l. zip2 bit_xor l (map from_tower over)) (summed two_rows under)
+    ∙ ap (λ l. zip2 bit_xor (zip2 bit_xor (map from_tower two_rows) l) (map from_tower over)) (picked_from two_rows below)
+    ∙ ap (λ l. zip2 bit_xor (zip2 bit_xor (map from_tower two_rows) (pick_l 0 (map from_tower two_rows) below)) l) (picked_from once above)
+    ∙ ap (λ l. zip2 bit_xor (zip2 bit_xor l (pick_l 0 l below)) (pick_l 0 (map from_tower once) above)) pairs
 
 -- what comes out are octets
 pub fits_from : (v : List ℕ) → Each1 (Fits w8) v → (k : ℕ) → get_or (map from_tower v) k 0 < 256

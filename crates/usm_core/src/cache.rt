@@ -5,13 +5,13 @@ ghost use Rattle.std.specs.Option.{option_copied};
 ghost use Rattle.usm_core.specs.User.{User};
 ghost use Rattle.usm_core.specs.Cache.{AreCached, IsCachedAt, key_id};
 
+use crate::cached_key::CachedKey;
 use crate::user::UserName;
 use engine_clock::EngineId;
 use lru::LruCache;
 use std::alloc::{AllocError, Global};
 use std::marker::Model;
 use std::num::NonZeroUsize;
-use usm_keys::KeptKey;
 
 /// The most localised keys that are kept.
 const MOST_KEYS: usize = 64;
@@ -50,7 +50,7 @@ impl KeyId {
 /// At most 64 localised keys, in the order of their last use, the last used first.
 #[derive(Drop)]
 pub(crate) struct KeyCache {
-    keys: LruCache<KeyId, KeptKey>,
+    keys: LruCache<KeyId, CachedKey>,
     /// How many made keys were passed over since one was entered.
     passed_over: u8,
 }
@@ -101,7 +101,7 @@ impl KeyCache {
     }
 
     /// The key that is kept under this. The order stays as it is, and no memory is taken.
-    pub(crate) fn find(&self, name: &[u8], engine: &[u8], purpose: Purpose) -> Option<&KeptKey>
+    pub(crate) fn find(&self, name: &[u8], engine: &[u8], purpose: Purpose) -> Option<&CachedKey>
         ensures { (users : List User) → AreCached users self.now → IfSome (option_copied result) (IsCachedAt users (key_id name.now engine.now purpose)) }
     {
         self.keys.peek(&KeyId::of(name, engine, purpose)?)
@@ -114,7 +114,7 @@ impl KeyCache {
         name: &[u8],
         engine: &[u8],
         purpose: Purpose,
-        made: Option<KeptKey>,
+        made: Option<CachedKey>,
     )
         ensures { (users : List User) → AreCached users self.old → IfSome made (IsCachedAt users (key_id name.now engine.now purpose)) → AreCached users self.new }
     {

@@ -13,6 +13,7 @@ ghost use Rattle.usm_core.specs.Sealed.{SendingFits, spelled_with, digest_of};
 ghost use Rattle.usm_core.specs.Writing.{sending_of, IsSecured, FieldAt};
 
 use crate::cache::{KeyCache, Purpose};
+use crate::cached_key::CachedKey;
 use crate::spell::Outgoing;
 use crate::user::User;
 use snmp_msg::{Data, Message, Security, cut, field_filled, one_cut, read_message, read_security};
@@ -64,7 +65,7 @@ pub(crate) fn is_digest_right(
     datagram: &[u8],
     message: &Message<'_>,
     security: &Security<'_>,
-    made: &mut Option<KeptKey>,
+    made: &mut Option<CachedKey>,
 ) -> bool
     requires cut { IsCut datagram.now (parts message.now) (fields_of security.now)
         (take security.now.auth_at datagram.now) (drop (security.now.auth_at + length security.now.auth.now) datagram.now) }
@@ -81,10 +82,10 @@ pub(crate) fn is_digest_right(
         return false;
     };
     if let Some(local) = cache.find(security.user, security.engine, Purpose::Authentication) {
-        return is_mac(key, local, datagram, message, security);
+        return is_mac(key, local.key(), datagram, message, security);
     }
-    let local = KeptKey::with_pads(localise(key, security.engine));
-    let right = is_mac(key, &local, datagram, message, security);
+    let local = CachedKey::for_authentication(localise(key, security.engine));
+    let right = is_mac(key, local.key(), datagram, message, security);
     *made = Some(local);
     right
 }

@@ -3,6 +3,7 @@
 #![tactic(auto)]
 
 mod cache;
+mod cached_key;
 mod checked;
 mod credentials;
 mod digest;

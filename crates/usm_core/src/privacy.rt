@@ -15,24 +15,15 @@ ghost use Rattle.usm_core.specs.Sealed.{UserKey, IsPlaintext};
 ghost use Rattle.usm_core.specs.declared.fault.UsmFault.TheVariants.{DecryptionError, OutOfMemory};
 
 use crate::cache::{KeyCache, Purpose};
+use crate::cached_key::CachedKey;
 use crate::checked::Checked;
 use crate::fault::UsmFault;
 use crate::spell::Outgoing;
 use crate::user_table::UserTable;
 use snmp_msg::Security;
 use std::alloc::{AllocError, Global};
-use usm_aes::{Schedule, cfb_open, cfb_seal, expand, iv};
-use usm_keys::{KeptKey, Key, localise};
-
-/// The first 16 octets of the localised key, expanded.
-fn schedule_of(local: &Key) -> Schedule
-    requires { 16 ≤ length local.now.octets }
-    ensures { result ≡ schedule (take 16 local.now.octets) }
-{
-    let mut octets = [0; 16];
-    octets.copy_from_slice(&local.as_slice()[..16]);
-    expand(&octets)
-}
+use usm_aes::{Schedule, cfb_open, cfb_seal, iv};
+use usm_keys::{Key, localise};
 
 /// The first 16 octets of the key localised to the engine, expanded, of a user's privacy key. The localised key is the kept
 /// one, which becomes the last used, or one that is made and kept.
@@ -49,10 +40,10 @@ pub(crate) fn schedule_under(
     ensures cache { AreCached users.now cache.new }
 {
     let (schedule, made) = match cache.find(name, engine, Purpose::Privacy) {
-        Some(local) => (schedule_of(local.key()), None),
+        Some(local) => (local.schedule(), None),
         None => {
-            let local = localise(key, engine);
-            (schedule_of(&local), Some(KeptKey::of(local)))
+            let local = CachedKey::for_privacy(localise(key, engine));
+            (local.schedule(), Some(local))
         }
     };
     cache.note_use(name, engine, Purpose::Privacy, made);

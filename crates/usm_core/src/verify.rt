@@ -11,13 +11,13 @@ ghost use Rattle.usm_core.specs.Cache.{AreCached, IsCachedAt, key_id};
 ghost use Rattle.usm_core.specs.declared.cache.Purpose.TheVariants.{Authentication};
 
 use crate::cache::KeyCache;
+use crate::cached_key::CachedKey;
 use crate::checked::{Checked, Role};
 use crate::digest::is_digest_right;
 use crate::fault::UsmFault;
 use crate::layout::read_layout;
 use crate::user_table::UserTable;
 use snmp_ber::Level;
-use usm_keys::KeptKey;
 
 /// The engine's own identifier at an agent, and any of 5 to 32 octets at a manager.
 fn allows_engine(role: Role<'_>, engine: &[u8]) -> bool
@@ -47,7 +47,7 @@ pub(crate) fn verify<'a>(
     cache: &KeyCache,
     role: Role<'_>,
     datagram: &'a [u8],
-    made: &mut Option<KeptKey>,
+    made: &mut Option<CachedKey>,
 ) -> Result<Checked<'a>, UsmFault>
     requires cache { AreCached users.now cache.now }
     requires none { made.old ≡ None }

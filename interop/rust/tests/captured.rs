@@ -1,39 +1,112 @@
-//! What net-snmp's tools sent is taken and answered.
-use snmpsec::{binding, bindings, Agent, Error, Part, View};
+//! What net-snmp's tools sent each other is taken, and answered.
 
-const ENGINE: [u8; 17] = [0x80, 0, 0x1f, 0x88, 0x80, 0xc9, 0x32, 0x47, 0x2d, 0x51, 0xb8, 0x03, 0x6b, 0, 0, 0, 0];
+mod common;
+
+use common::{file, ENGINE};
+use snmpsec::{binding, bindings, Access, Agent, Error, Level, Manager, Pair, Part, Refusal, View};
 
 fn octets(hex: &str) -> Vec<u8> {
-    (0..hex.len() / 2).map(|i| u8::from_str_radix(&hex[2 * i..2 * i + 2], 16).unwrap()).collect()
+    (0..hex.len() / 2)
+        .map(|i| u8::from_str_radix(&hex[2 * i..2 * i + 2], 16).unwrap())
+        .collect()
+}
+
+/// The moments and the datagrams of the log.
+fn log() -> Vec<(u64, Vec<u8>)> {
+    let words = |line: &str| {
+        line.split_once(' ')
+            .map(|(moment, hex)| (moment.parse().unwrap(), octets(hex)))
+    };
+    file("captured.log")
+        .lines()
+        .map(|line| words(line).unwrap())
+        .collect()
+}
+
+fn agent() -> Agent {
+    Agent::new(file("config.toml").as_bytes(), &ENGINE, 1, 997).unwrap()
 }
 
 #[test]
-fn captured_requests_are_answered() {
-    let here = concat!(env!("CARGO_MANIFEST_DIR"), "/../../examples/replay/");
-    let config = std::fs::read(format!("{here}config.toml")).unwrap();
-    let log = std::fs::read_to_string(format!("{here}captured.log")).unwrap();
-    let mut agent = Agent::new(&config, &ENGINE, 1, 997).unwrap();
+fn an_agent_answers_the_requests() {
+    let mut agent = agent();
     assert_eq!(agent.message(), Err(Error::NothingTaken));
+    assert_eq!(agent.numbers(), Err(Error::NothingTaken));
     let mut accepted = 0;
-    for line in log.lines() {
-        let datagram = octets(line.split(' ').nth(1).unwrap());
+    for (_, datagram) in log() {
         if agent.take(1000, &datagram).is_err() || agent.numbers().unwrap().tag != 0xA0 {
             continue;
         }
         accepted += 1;
         let list = agent.part(Part::Bindings).unwrap();
         for asked in bindings(&list).unwrap() {
-            assert_eq!(agent.allows(View::Read, &asked.name), Ok(5));
+            assert_eq!(
+                agent.allows(View::Read, &asked.name),
+                Ok(Access::NoSuchContext)
+            );
             let text = binding(&asked.name, 4, b"hello").unwrap();
             agent.respond(1000, 0, 0, &text, accepted).unwrap();
             assert!(!agent.message().unwrap().is_empty());
         }
-        assert_eq!(agent.respond(1000, 0, 0, b"no", accepted), Err(Error::BadBindings));
+        assert_eq!(
+            agent.respond(1000, 0, 0, b"no", accepted),
+            Err(Error::BadBindings)
+        );
     }
     assert_eq!(accepted, 5);
-    assert!(agent.counter(4).unwrap() > 0);
+    assert_eq!(agent.counter(4), Some(6));
     assert_eq!(agent.counter(7), None);
-    assert_eq!(agent.may(b"ann", 1, b"", View::Read, &[1, 3]), Ok(5));
-    assert_eq!(Agent::new(&config, b"1234", 1, 0).err(), Some(Error::BadArgument));
-    assert_eq!(Agent::new(b"no", &ENGINE, 1, 0).err(), Some(Error::BadConfiguration));
+}
+
+#[test]
+fn an_agent_refuses_what_is_out_of_range() {
+    let config = file("config.toml");
+    assert_eq!(
+        agent().may(b"ann", Level::NoAuthNoPriv, b"", View::Read, &[1, 3]),
+        Ok(Access::NoSuchContext)
+    );
+    assert_eq!(
+        agent().allows(View::Read, &[1, 3]),
+        Err(Error::NothingTaken)
+    );
+    assert_eq!(
+        Agent::new(config.as_bytes(), b"1234", 1, 0).err(),
+        Some(Error::BadArgument)
+    );
+    assert_eq!(
+        Agent::new(b"no", &ENGINE, 1, 0).err(),
+        Some(Error::BadConfiguration)
+    );
+    assert_eq!(binding(&[3, 1], 4, b""), Err(Error::BadArgument));
+    assert_eq!(
+        Error::Refused(Refusal::WrongDigest).to_string(),
+        "refused: its digest is wrong"
+    );
+}
+
+/// The lines that the program's replay prints of the same.
+#[test]
+fn a_manager_tells_what_replay_prints() {
+    let mut manager = Manager::new(
+        file("config.toml").as_bytes(),
+        file("begin.clocks").as_bytes(),
+        0,
+    )
+    .unwrap();
+    let mut printed = String::new();
+    for (i, (moment, datagram)) in log().iter().enumerate() {
+        let line = match manager.take(*moment, datagram) {
+            Ok(()) => manager
+                .numbers()
+                .map(|numbers| format!("accepted {} {:x}", numbers.level, numbers.tag))
+                .unwrap(),
+            Err(Error::Refused(refusal)) => format!("refused {} {refusal:?}", refusal as i32),
+            Err(error) => panic!("{error}"),
+        };
+        printed += &format!("{} {moment} {line}\n", i + 1);
+    }
+    manager.save().unwrap();
+    printed += &String::from_utf8(manager.message().unwrap()).unwrap();
+    assert_eq!(printed, file("printed.txt"));
+    assert_eq!(manager.pair(&ENGINE), Ok(Pair { boots: 1, time: 3 }));
 }

@@ -36,6 +36,6 @@ returns-clause-cache c =
     let made : IfSome c.match-find.written.1 (IsCachedAt users (key_id m.user m.engine Authentication)) = elim c.match-find.branch [
       | in-Some-find w ↦ subst (λ (x : Result (Vec ℕ) UsmFault × Option AuthKey). IfSome x.1 (IsCachedAt users (key_id m.user m.engine Authentication))) (sym w.written-is) tt
       | in-None-find w ↦ subst (λ (x : Result (Vec ℕ) UsmFault × Option AuthKey). IfSome x.1 (IsCachedAt users (key_id m.user m.engine Authentication))) (sym w.written-is)
-          (is_cached users m.user m.engine Authentication u.0 c.args.key.now _ u.1 u.2 (w.with_pads-local.ensures ∙ w.localise.ensures.key))
+          (is_cached users m.user m.engine Authentication u.0 c.args.key.now _ u.1 u.2 (w.for_authentication-local.ensures ∙ w.localise.ensures.key))
     ] in
     c.note_use.ensures users before made

@@ -1,0 +1,219 @@
+/* A manager under hostile octets and under want of memory: hostile CONFIG CAPTURED-LOG
+ *
+ * Each captured datagram, cut at every length and with each bit turned, is taken: none is authentic, so that the saved clocks stay.
+ * Saved texts are cut and turned, and the configuration is cut. And each growth of memory is refused in turn: the call answers so, the
+ * saved clocks stay, and the same call is done when there is memory again. Not proved. */
+#include "checks.h"
+#include <stdio.h>
+#include <string.h>
+
+/* A manager that holds another engine's clocks. */
+static int32_t begin(snmpsec_manager **manager) {
+    static const char *const clocks = SNMPSEC_NO_CLOCKS "0102030405 1 2 3\n";
+    return snmpsec_manager_new(config, config_len, (const uint8_t *)clocks, strlen(clocks), NOW, manager);
+}
+
+static snmpsec_manager *begun(void) {
+    snmpsec_manager *manager = NULL;
+    check("new", 0, begin(&manager));
+    check("discover", 0, snmpsec_manager_discover(manager, 1));
+    return manager;
+}
+
+/* Each part of what is kept goes into a buffer of its length, and what it is to the request that was written is told. */
+static void look_at_kept(snmpsec_manager *manager) {
+    static const uint8_t empty[MOST_OCTETS];
+    int32_t answer = snmpsec_manager_answer(manager);
+    int is_report = answer >= SNMPSEC_REPORT && answer <= SNMPSEC_REPORT + 6;
+    check("an answer to a request", 1, answer == SNMPSEC_NOT_FOR_IT || answer == SNMPSEC_RESPONSE || is_report);
+    for (uint32_t part = SNMPSEC_BINDINGS; part <= SNMPSEC_ENGINE; part++) {
+        size_t wanted = 0, written = 0;
+        uint8_t *nothing = fenced(empty, 0);
+        int32_t short_of = snmpsec_manager_part(manager, part, nothing, 0, &wanted);
+        check("no room for a part", wanted ? SNMPSEC_SHORT_BUFFER : SNMPSEC_OK, short_of);
+        check("room for it", 0, snmpsec_manager_part(manager, part, fenced(empty, wanted), wanted, &written));
+        check("all of it", (long long)wanted, (long long)written);
+    }
+}
+
+static void take(snmpsec_manager *manager, const uint8_t *octets, size_t len) {
+    int32_t answer = snmpsec_manager_take(manager, NOW, fenced(octets, len), len);
+    check("an answer of the table", 1, answer >= SNMPSEC_OK && answer <= SNMPSEC_INVALID_FLAGS);
+    if (answer == SNMPSEC_OK) look_at_kept(manager);
+    else check("nothing is kept", SNMPSEC_NOTHING_TAKEN, snmpsec_manager_answer(manager));
+}
+
+static void cut_and_turned(snmpsec_manager *manager, size_t i, const struct text *before) {
+    uint8_t changed[MOST_OCTETS];
+    for (size_t cut = 0; cut < lengths[i]; cut++) {
+        take(manager, datagrams[i], cut);
+        struct text after = saved_of(manager);
+        check("cut: the clocks are as before", 1, is_same(before, &after));
+    }
+    memcpy(changed, datagrams[i], lengths[i]);
+    for (size_t bit = 0; bit < 8 * lengths[i]; bit++) {
+        changed[bit / 8] ^= (uint8_t)(1 << (bit % 8));
+        take(manager, changed, lengths[i]);
+        struct text after = saved_of(manager);
+        check("turned: the clocks are as before", 1, is_same(before, &after));
+        changed[bit / 8] ^= (uint8_t)(1 << (bit % 8));
+    }
+}
+
+static void hostile(void) {
+    snmpsec_manager *manager = begun();
+    struct text before = saved_of(manager);
+    for (size_t i = 0; i < datagrams_len; i++) cut_and_turned(manager, i, &before);
+    for (size_t i = 0; i < datagrams_len; i++) take(manager, datagrams[i], lengths[i]);
+    struct text after = saved_of(manager);
+    check("whole: the clocks are learned", 0, is_same(&before, &after));
+    snmpsec_manager_free(manager);
+}
+
+/* Saved texts, cut and turned: one that is refused changes nothing, and what is then saved is a text of what is held. */
+static void absorb_changed(snmpsec_manager *manager, const uint8_t *octets, size_t len) {
+    struct text before = saved_of(manager);
+    int32_t answer = snmpsec_manager_absorb(manager, fenced(octets, len), len, NOW);
+    struct text after = saved_of(manager);
+    if (answer) {
+        check("no clocks", SNMPSEC_BAD_CLOCKS, answer);
+        check("refused: the clocks are as before", 1, is_same(&before, &after));
+    }
+    check("what is saved is read", 0, snmpsec_manager_absorb(manager, after.octets, after.len, NOW));
+    struct text again = saved_of(manager);
+    check("and changes nothing", 1, is_same(&after, &again));
+}
+
+static void hostile_clocks(void) {
+    static const char text[] = SNMPSEC_NO_CLOCKS "0102030405 1 2 3\n0102030406 1 2 3\n";
+    enum { TEXT = sizeof text - 1 };
+    snmpsec_manager *manager = begun();
+    uint8_t changed[TEXT];
+    for (size_t cut = 0; cut < TEXT; cut++) absorb_changed(manager, (const uint8_t *)text, cut);
+    memcpy(changed, text, TEXT);
+    for (size_t bit = 0; bit < 8 * TEXT; bit++) {
+        changed[bit / 8] ^= (uint8_t)(1 << (bit % 8));
+        absorb_changed(manager, changed, TEXT);
+        changed[bit / 8] ^= (uint8_t)(1 << (bit % 8));
+    }
+    snmpsec_manager_free(manager);
+}
+
+/* A configuration cut at each length: a manager and an agent are made of it, or it is refused. */
+static void hostile_configuration(void) {
+    static const char *const clocks = SNMPSEC_NO_CLOCKS;
+    for (size_t cut = 0; cut < config_len; cut++) {
+        snmpsec_manager *manager = NULL;
+        snmpsec_agent *agent = NULL;
+        const uint8_t *text = fenced(config, cut);
+        int32_t answer = snmpsec_manager_new(text, cut, (const uint8_t *)clocks, strlen(clocks), NOW, &manager);
+        check("a manager or none", 1, answer == SNMPSEC_OK ? manager != NULL : answer == SNMPSEC_BAD_CONFIGURATION && !manager);
+        check("an agent as well", answer, snmpsec_agent_new(text, cut, engine, sizeof engine, BOOTS, NOW, &agent));
+        snmpsec_manager_free(manager);
+        snmpsec_agent_free(agent);
+    }
+}
+
+static int32_t take_response(snmpsec_manager *manager) {
+    enum { AUTH_PRIV_RESPONSE = 15 };
+    return snmpsec_manager_take(manager, NOW, datagrams[AUTH_PRIV_RESPONSE], lengths[AUTH_PRIV_RESPONSE]);
+}
+
+static int32_t take_and_answer(snmpsec_manager *manager) {
+    int32_t answer = take_response(manager);
+    return answer ? answer : snmpsec_manager_answer(manager);
+}
+
+static int32_t request(snmpsec_manager *manager) {
+    static const uint8_t *const nothing = (const uint8_t *)"";
+    return snmpsec_manager_request(manager, NOW, 1, engine, sizeof engine, (const uint8_t *)"sam", 3, SNMPSEC_AUTH_PRIV, engine, sizeof engine,
+                                   nothing, 0, 0xA0, 1, 0, 0, nothing, 0, 1);
+}
+
+static int32_t discover(snmpsec_manager *manager) { return snmpsec_manager_discover(manager, 2); }
+
+static int32_t absorb(snmpsec_manager *manager) {
+    static const char *const clocks = SNMPSEC_NO_CLOCKS "0102030405 1 9 3\n0102030406 1 2 3\n";
+    return snmpsec_manager_absorb(manager, (const uint8_t *)clocks, strlen(clocks), NOW);
+}
+
+/* A call, what it answers when it is done, and whether it takes: then it may have learned, and leaves no message. */
+struct call { const char *name; int32_t (*call)(snmpsec_manager *manager); int32_t done; int takes; };
+
+static const struct call calls[] = {
+    {"take", take_response, SNMPSEC_OK, 1},
+    {"take and answer", take_and_answer, SNMPSEC_NOT_FOR_IT, 1},
+    {"request", request, SNMPSEC_OK, 0},
+    {"discover", discover, SNMPSEC_OK, 0},
+    {"absorb", absorb, SNMPSEC_OK, 0},
+    {"save", snmpsec_manager_save, SNMPSEC_OK, 0},
+};
+
+/* The saved text after the call, where there is memory. */
+static struct text saved_after(const struct call *call) {
+    snmpsec_manager *manager = begun();
+    check(call->name, call->done, call->call(manager));
+    struct text text = saved_of(manager);
+    snmpsec_manager_free(manager);
+    return text;
+}
+
+/* The call where the Nth growth is refused; whether it was. */
+static int is_refused(const struct call *call, long n, const struct text *learned) {
+    snmpsec_manager *manager = begun();
+    struct text before = saved_of(manager);
+    left = n;
+    int32_t answer = call->call(manager);
+    left = -1;
+    if (answer != call->done) {
+        check(call->name, SNMPSEC_OUT_OF_MEMORY, answer);
+        if (!call->takes) {
+            struct text message = message_of(manager);
+            check("the message is as before", 1, is_same(&before, &message));
+        }
+        struct text after = saved_of(manager);
+        int may_have_learned = call->takes && is_same(learned, &after);
+        check("the clocks are as before", 1, is_same(&before, &after) || may_have_learned);
+        check("done with memory", call->done, call->call(manager));
+    }
+    struct text end = saved_of(manager);
+    check("the clocks are those without want", 1, is_same(learned, &end));
+    left = 0;       /* freeing wants no memory, or the leak sanitizer tells */
+    snmpsec_manager_free(manager);
+    left = -1;
+    return answer != call->done;
+}
+
+static void refused_memory(const struct call *call) {
+    struct text learned = saved_after(call);
+    long n = 0;
+    while (n < 100000 && is_refused(call, n, &learned)) n++;
+    printf("%s: %ld growths of memory refused in turn\n", call->name, n);
+    check("some growths", 1, n > 0);
+}
+
+static void refused_new(void) {
+    snmpsec_manager *manager = NULL;
+    long n = 0;
+    for (; n < 100000; n++) {
+        left = n;
+        int32_t answer = begin(&manager);
+        left = -1;
+        if (!answer) break;
+        check("new", SNMPSEC_OUT_OF_MEMORY, answer);
+        check("no pointer was written", 1, manager == NULL);
+    }
+    printf("new: %ld growths of memory refused in turn\n", n);
+    check("some growths", 1, n > 10);
+    snmpsec_manager_free(manager);
+}
+
+int main(int argc, char **argv) {
+    read_capture(argc, argv);
+    hostile();
+    hostile_clocks();
+    hostile_configuration();
+    refused_new();
+    for (size_t i = 0; i < sizeof calls / sizeof *calls; i++) refused_memory(&calls[i]);
+    return checks_told();
+}

@@ -1,0 +1,182 @@
+//! A manager and an agent of the library talk to each other.
+
+mod common;
+
+use common::{file, ENGINE};
+use snmpsec::{
+    binding, bindings, Agent, Answer, Error, Level, Manager, Notification, Pair, Part, Refusal,
+    Request, LARGEST, NO_CLOCKS,
+};
+
+const NOW: u64 = 1000;
+const BOOTS: u32 = 5;
+const TIME: u32 = 900;
+const SYS_DESCR: [u32; 9] = [1, 3, 6, 1, 2, 1, 1, 1, 0];
+const LEVELS: [Level; 3] = [Level::NoAuthNoPriv, Level::AuthNoPriv, Level::AuthPriv];
+
+struct Both {
+    agent: Agent,
+    manager: Manager,
+}
+
+fn both(clocks: &[u8]) -> Both {
+    let config = file("config.toml");
+    let agent = Agent::new(config.as_bytes(), &ENGINE, BOOTS, NOW - u64::from(TIME)).unwrap();
+    let manager = Manager::new(config.as_bytes(), clocks, NOW).unwrap();
+    Both { agent, manager }
+}
+
+impl Both {
+    fn agent_takes(&mut self) -> Result<(), Error> {
+        self.agent.take(NOW, &self.manager.message().unwrap())
+    }
+
+    /// What the agent's message is to the manager's request.
+    fn manager_takes(&mut self) -> Result<Answer, Error> {
+        self.manager.take(NOW, &self.agent.message()?)?;
+        self.manager.answer()
+    }
+
+    fn ask(&mut self, message_id: u32, user: &[u8], level: Level) {
+        let list = binding(&SYS_DESCR, 5, b"").unwrap();
+        let of = Request {
+            message_id,
+            engine: &ENGINE,
+            user,
+            level,
+            context_engine: &ENGINE,
+            context_name: b"",
+            tag: 0xA0,
+            request_id: message_id,
+            second: 0,
+            third: 0,
+            bindings: &list,
+        };
+        self.manager.request(NOW, &of, message_id.into()).unwrap();
+    }
+
+    fn discover(&mut self) {
+        self.manager.discover(1).unwrap();
+        assert_eq!(
+            self.agent_takes(),
+            Err(Error::Refused(Refusal::UnknownEngine))
+        );
+        assert_eq!(self.manager_takes(), Ok(Answer::Report(Some(4))));
+        assert_eq!(self.manager.part(Part::Engine).unwrap(), ENGINE);
+    }
+
+    fn learn(&mut self) {
+        assert_eq!(self.manager.pair(&ENGINE), Err(Error::NothingTaken));
+        assert_eq!(
+            self.agent_takes(),
+            Err(Error::Refused(Refusal::NotInWindow))
+        );
+        assert_eq!(self.manager_takes(), Ok(Answer::Report(Some(2))));
+        assert_eq!(
+            self.manager.pair(&ENGINE),
+            Ok(Pair {
+                boots: BOOTS,
+                time: TIME
+            })
+        );
+    }
+
+    fn respond(&mut self) {
+        let list = binding(&SYS_DESCR, 4, b"hello").unwrap();
+        self.agent.respond(NOW, 0, 0, &list, 7).unwrap();
+        assert_eq!(self.manager_takes(), Ok(Answer::Response));
+        let back = self.manager.part(Part::Bindings).unwrap();
+        assert_eq!(back, list);
+        assert_eq!(bindings(&back).unwrap()[0].content, b"hello");
+    }
+}
+
+fn exchanged(user: &[u8], level: Level) {
+    let mut both = both(NO_CLOCKS);
+    both.discover();
+    both.ask(2, user, level);
+    if level != Level::NoAuthNoPriv {
+        both.learn();
+        both.ask(3, user, level);
+    }
+    assert_eq!(both.agent_takes(), Ok(()));
+    assert_eq!(both.agent.numbers().unwrap().level, level);
+    assert_eq!(both.agent.part(Part::User).unwrap(), user);
+    both.respond();
+    assert_eq!(
+        both.agent.counter(2),
+        Some(u32::from(level != Level::NoAuthNoPriv))
+    );
+}
+
+#[test]
+fn each_user_is_answered_at_each_level() {
+    for user in [b"ann", b"bob", b"sam"] {
+        for level in LEVELS {
+            exchanged(user, level);
+        }
+    }
+}
+
+#[test]
+fn saved_clocks_are_joined_in() {
+    let mut both = both(b"snmp-clocks 2\n0102030405 1 9 7\n");
+    assert_eq!(both.manager.absorb(b"no", NOW), Err(Error::BadClocks));
+    both.manager
+        .absorb(b"snmp-clocks 1\n0102030405 1 8\n0102030406 2 3\n", NOW)
+        .unwrap();
+    both.manager.save().unwrap();
+    assert_eq!(
+        both.manager.message().unwrap(),
+        b"snmp-clocks 2\n0102030405 1 9 7\n0102030406 2 3 1000\n"
+    );
+    assert_eq!(both.manager.pair(b"1234"), Err(Error::BadArgument));
+    assert_eq!(both.manager.discover(1 << 31), Err(Error::BadArgument));
+    assert_eq!(Manager::new(b"", b"no", NOW).err(), Some(Error::BadClocks));
+}
+
+#[test]
+fn a_saved_text_may_be_longer_than_a_datagram() {
+    let engines: String = (0..5000)
+        .map(|i| format!("010203{i:04x} 1 2 3\n"))
+        .collect();
+    let text = [NO_CLOCKS, engines.as_bytes()].concat();
+    assert!(text.len() > LARGEST);
+    let mut both = both(&text);
+    both.manager.save().unwrap();
+    assert_eq!(both.manager.message().unwrap(), text);
+}
+
+#[test]
+fn a_trap_is_taken() {
+    for level in LEVELS {
+        let mut both = both(NO_CLOCKS);
+        let list = binding(&SYS_DESCR, 4, b"hello").unwrap();
+        let of = Notification {
+            message_id: 9,
+            user: b"bob",
+            level,
+            request_id: 8,
+            context_engine: &ENGINE,
+            context_name: b"",
+            bindings: &list,
+        };
+        both.agent.notify(NOW, &of, 1).unwrap();
+        assert_eq!(both.manager_takes(), Err(Error::NothingTaken));
+        let numbers = both.manager.numbers().unwrap();
+        assert_eq!(
+            (
+                numbers.tag,
+                numbers.level,
+                numbers.message_id,
+                numbers.request_id
+            ),
+            (0xA7, level, 9, 8)
+        );
+        assert_eq!(both.manager.part(Part::Bindings).unwrap(), list);
+        assert_eq!(
+            both.manager.pair(&ENGINE).is_ok(),
+            level != Level::NoAuthNoPriv
+        );
+    }
+}
