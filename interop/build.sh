@@ -2,13 +2,14 @@
 # Proves and builds the library, where it isn't built from these sources, and what stands in this folder, into interop/out:
 # build.sh [CFLAGS..]
 #
-# OUT is another folder than interop/out, CC another compiler than cc. With NO_LIBRARY the library is taken as it lies there.
+# OUT is another folder than interop/out, CC another compiler than cc. With NO_LIBRARY the library is taken as it lies there, and with
+# OVER_CI it is built over the libraries that rt ci has left.
 set -e
 here=$(cd "$(dirname "$0")" && pwd)
 out=${OUT:-$here/out}
 library=$here/../crates/snmp_c/out/libsnmp_c.a
 mkdir -p "$out"
-[ -n "$NO_LIBRARY" ] || (cd "$here/../crates/snmp_c" && rt lib >"$out/library.log" 2>&1) || { tail -20 "$out/library.log"; exit 1; }
+[ -n "$NO_LIBRARY" ] || (cd "$here/.." && tools/build ${OVER_CI:+--over-ci} snmp_c)
 cc="${CC:-cc} -std=gnu11 -O2 -Wall -Wextra -Werror -I$here/include"
 for program in agent poll; do
     $cc "$@" "$here/$program.c" "$here/table.c" "$here/heap.c" "$library" -o "$out/$program"

@@ -18,6 +18,3 @@ pub use mark::Mark;
 pub use pair::Pair;
 pub use saved::ClockFault;
 pub use window::{in_window_agent, in_window_manager};
-
-#[cfg(test)]
-mod tests;

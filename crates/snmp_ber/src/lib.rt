@@ -23,8 +23,3 @@ pub use level::{Level, levels_rise};
 pub use number::{int_content, put_int, read_int};
 pub use oid::Oid;
 pub use split::{find, split_once};
-
-#[cfg(test)]
-mod identifier_tests;
-#[cfg(test)]
-mod tests;

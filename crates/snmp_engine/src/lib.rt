@@ -11,6 +11,3 @@ pub use snmp_agent::{Agent, Decision, Refused};
 pub use snmp_manager::{Answer, Manager, Outcome, Pending, Stopped, answer_of};
 pub use snmp_outcome::{Kept, TakeFault, Taken};
 pub use snmp_sending::Body;
-
-#[cfg(test)]
-mod tests;

@@ -17,6 +17,3 @@ pub use bindings::{read_binding_at, write_binding};
 pub use fault::{CallFault, access_code_of, answer_code_of, code_of, value_code_of};
 pub use manager::{AskedOf, ManagerHandle};
 pub use parts::Part;
-
-#[cfg(test)]
-mod tests;

@@ -15,6 +15,3 @@ pub use manager::Manager;
 pub use outcome::{Outcome, Stopped};
 pub use pending::{Answer, Pending};
 pub use replies::answer_of;
-
-#[cfg(test)]
-mod tests;

@@ -31,6 +31,3 @@ pub use refusal::Refusal;
 pub use scoped::{Scoped, read_scoped, read_scoped_front, write_scoped};
 pub use security::{Cut, Security, read_security, write_security};
 pub use whole::{Layer, Layers, canonical, read_layers, write_layers};
-
-#[cfg(test)]
-mod tests;

@@ -15,6 +15,3 @@ pub use laws::{bad_scoped_is_sealed, one_answer, one_text, replay_bound};
 pub use octets::Octets;
 pub use reading::{open_text, read_text};
 pub use taken::Taken;
-
-#[cfg(test)]
-mod tests;

@@ -14,6 +14,3 @@ pub use laws::{
     no_pair_goes_back,
 };
 pub use world::World;
-
-#[cfg(test)]
-mod tests;

@@ -16,6 +16,3 @@ pub use config::{AccessConfig, Config, ConfigRows};
 pub use fault::{ConfigFault, ConfigTable, Key, KeyFault, Wanted, Wrong};
 pub use laws::one_configuration;
 pub use words::{MODEL_MAX, level_of, level_word};
-
-#[cfg(test)]
-mod tests;

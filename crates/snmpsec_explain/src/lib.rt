@@ -10,6 +10,3 @@ mod steps;
 pub use laws::one_choice;
 pub use lines::put_steps;
 pub use steps::{AccessStep, Asking, ContextStep, GroupStep, ViewStep, steps_of};
-
-#[cfg(test)]
-mod tests;

@@ -6,6 +6,3 @@ mod opened;
 
 pub use lines::{message_lines, octets_line, scoped_lines};
 pub use opened::opened_lines;
-
-#[cfg(test)]
-mod tests;

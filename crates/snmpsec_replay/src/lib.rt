@@ -11,6 +11,3 @@ pub use fault::ReplayFault;
 pub use laws::one_log;
 pub use replay::replay_log;
 pub use transfer::{Failed, read_some, write_whole};
-
-#[cfg(test)]
-mod tests;

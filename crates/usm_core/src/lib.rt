@@ -27,6 +27,3 @@ pub use laws::{
 };
 pub use load::{UserFault, UserRow};
 pub use users::Users;
-
-#[cfg(test)]
-mod tests;

@@ -22,6 +22,3 @@ pub use mask::Mask;
 pub use name::Name;
 pub use rows::{AccessRow, ContextRow, FamilyRow, GroupRow, Matching, Rows};
 pub use vacm::Vacm;
-
-#[cfg(test)]
-mod tests;

@@ -1,0 +1,6 @@
+use Rattle.std.proofs.Common.{sym, subst}
+use Rattle.snmp_msg.specs.Scoped.{IsOneElement}
+use Rattle.usm_tests.proofs.usm_core_tests.sha256.scoped_request.Goals as goal
+
+pub write_scoped-requires : goal.write_scoped-requires
+write_scoped-requires c = subst IsOneElement (sym c.deref.ensures.value) c.in_ok-pdu.ensures.element

@@ -1,0 +1,46 @@
+"""The kit's command rt as a module, for the tools that prove many crates, or many wrong bodies, side by side."""
+import importlib.machinery
+import importlib.util
+import os
+import shutil
+import sys
+
+sys.dont_write_bytecode = True
+
+
+def load_rt():
+    """rt's own code: it reads crates.txt, knows the words of a check, and what may run side by side."""
+    path = os.path.realpath(shutil.which("rt") or sys.exit("there is no command rt: the Rattle kit isn't on the path"))
+    sys.path.insert(0, os.path.dirname(path))
+    loader = importlib.machinery.SourceFileLoader("rt_main", path)
+    rt = importlib.util.module_from_spec(importlib.util.spec_from_loader("rt_main", loader))
+    loader.exec_module(rt)
+    # as rt ci has them: the links that they make are held to the handles that are allowed
+    rt.rtlib.Crate = rt.Crate
+    rt.Crate.allowed = rt.handles_of(os.getcwd())
+    made = rt.Crate.__init__
+
+    def make(crate, *words, **named):
+        made(crate, *words, **named)
+        rt.read_files(crate)
+
+    rt.Crate.__init__ = make
+    # (its first call sets a signal's handler, which only the main thread may)
+    rt.rtlib.guarded()
+    return rt
+
+
+def crates_named(rt, names):
+    """The crates of these names, or all of the repository."""
+    crates = rt.rtlib.crates_below(os.getcwd())
+    lost = sorted({*names} - {it.name for it in crates})
+    if lost:
+        sys.exit(f"crates.txt names no crate {lost[0]}")
+    return [it for it in crates if not names or it.name in names]
+
+
+def is_there(rt, crate):
+    """Whether the library is built: by what rt notes of it, or as rt ci leaves it, which is newer than each source of it or below it."""
+    files = [file for it in [crate, *crate.below()] for file in rt.rtlib.files_of(it.folder)]
+    made = f"{crate.rlib}/format"
+    return crate.is_built() or os.path.exists(made) and os.path.getmtime(made) > max(map(os.path.getmtime, files))
