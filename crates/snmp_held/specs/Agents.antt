@@ -1,16 +1,16 @@
 -- An agent with what it accepted last and what it wrote last, and what its calls leave.
-use Rattle.std.specs.Prelude.{◌≡◌, ◌<◌, ◌≤◌, ◌⊎◌, ℕ, pos, List, [], length, replicate, Option, Some, None, Result, Ok, Err, IfSome, false}
+use Rattle.std.specs.Prelude.{◌≡◌, ◌<◌, ◌≤◌, ◌⊎◌, All, ℕ, pos, List, [], length, replicate, Option, Some, None, Result, Ok, Err, IfSome, false, true}
 use Rattle.snmp_ber.specs.declared.level.Level.{Level}
 use Rattle.snmp_msg.specs.Scoped.{Contexts, ScopedFront}
 use Rattle.snmp_msg.specs.Pdu.{PduParts, PduText, pdu_with}
 use Rattle.snmp_msg.specs.Variables.{Variable, AreBindings}
-use Rattle.snmp_outcome.specs.Outcome.{Given}
+use Rattle.snmp_outcome.specs.Outcome.{Given, Outcome}
 use Rattle.snmp_outcome.specs.Answers.{refused}
 use Rattle.snmp_outcome.specs.Refusals.{answer_number}
 use Rattle.snmp_sending.specs.Classes.{is_confirmed}
 use Rattle.snmp_sending.specs.Sends.{send_refusal}
-use Rattle.snmp_agent.specs.Agent.{AgentState, AgentTakes}
-use Rattle.snmp_agent.specs.Report.{AgentReports}
+use Rattle.snmp_agent.specs.Agent.{AgentState, AgentTakes, IsOpened, taker_of}
+use Rattle.snmp_agent.specs.Report.{AgentReports, OffersOnAnswer}
 use Rattle.snmp_sending.specs.Speaks.{Speech, spoken}
 use Rattle.snmp_agent.specs.Counting.{counter_at}
 use Rattle.snmp_agent.specs.Decides.{question, question_of}
@@ -46,17 +46,25 @@ begins engine boots started users tables = record {
   message = None;
 }
 
--- why none is made
+-- an identifier that an engine may have: 5 to 32 octets, not all of them 0 and not all of them 255 (SnmpEngineID, RFC 3411, section 5)
+abbrev pub IsOwnEngine : List ℕ → Type 0
+IsOwnEngine octets = HasEngineLength octets × (All (λ octet. octet ≡ 0) octets → ⊥) × (All (λ octet. octet ≡ 255) octets → ⊥)
+
+-- an identifier that an engine may have, and boots that it can have
+abbrev pub IsEngineAt : List ℕ → ℕ → Type 0
+IsEngineAt engine boots = IsOwnEngine engine × (boots ≤ pair_max)
+
+-- why none is made, the first that applies
 abbrev pub RefusesAgent : List ℕ → List ℕ → ℕ → CallFault → Type 0
-RefusesAgent config engine boots BadArgument = (HasEngineLength engine → ⊥) ⊎ (pair_max < boots)
-RefusesAgent config engine boots BadConfiguration = (fault : ConfigFault) × RefusesText config fault
-RefusesAgent config engine boots (Refused fault) = fault ≡ OutOfMemory
+RefusesAgent config engine boots BadArgument = (IsOwnEngine engine → ⊥) ⊎ (pair_max < boots)
+RefusesAgent config engine boots BadConfiguration = IsEngineAt engine boots × ((fault : ConfigFault) × RefusesText config fault)
+RefusesAgent config engine boots (Refused fault) = IsEngineAt engine boots × (fault ≡ OutOfMemory)
 RefusesAgent config engine boots _ = ⊥
 
 -- an agent of the configuration, with this engine and these boots, which started at this moment
 abbrev pub MakesAgent : List ℕ → List ℕ → ℕ → ℕ → Result AgentHeld CallFault → Type 0
 MakesAgent config engine boots started (Ok made) =
-    (users : List User) × (tables : Tables) × Loads config users tables × (made ≡ begins engine boots started users tables)
+    IsEngineAt engine boots × ((users : List User) × (tables : Tables) × Loads config users tables × (made ≡ begins engine boots started users tables))
 MakesAgent config engine boots started (Err fault) = RefusesAgent config engine boots fault
 
 -- no row in any table
@@ -70,6 +78,12 @@ Clears old (Ok done) new = (tables : Tables) × HaveSameRows no_rows tables × (
 Clears old (Err fault) new = (fault ≡ Refused OutOfMemory) × (new ≡ old)
 
 -- ---- taking
+
+-- The datagram is refused, isn't opened, and no report on it is offered, so that no memory is wanted to take it.
+pub record TakesNoMemory (agent : AgentState) (now : ℕ) (w : List ℕ) : Type 0 where
+  pub unopened : IsOpened (taker_of agent) agent.users now w → ⊥
+  pub unreported : OffersOnAnswer (taker_of agent) agent.users now w → ⊥
+  pub refused : (g : Given) → Outcome (taker_of agent) agent.users now w (Ok g) → ⊥
 
 -- An accepted datagram is kept, and nothing is to be sent. A refused one leaves its report to be sent, where there is one.
 abbrev pub TakesHeld : {V : Type 0} → AgentHeld → ℕ → List ℕ → Result V CallFault → AgentHeld → Type 0
@@ -119,13 +133,17 @@ Responds agent now g status index list salt answer =
     × ((c : Contexts) (p : PduParts) → ScopedFront g.text c → PduText c.pdu p
     → Sends agent now (λ own. responding agent.engine own g c p (pos status) (pos index) vs salt) answer)
 
+-- what is kept, where it has a PDU of the Confirmed Class
+abbrev pub IsAsked : AgentHeld → Given → Type 0
+IsAsked held g = (held.last ≡ Some g) × (is_confirmed g.tag ≡ true)
+
 abbrev pub RefusesResponse : AgentHeld → ℕ → ℕ → ℕ → List ℕ → List ℕ → CallFault → Type 0
 RefusesResponse held now status index list salt (Refused fault) =
-    (g : Given) × (held.last ≡ Some g) × IfSome (send_refusal fault) (Responds held.agent now g status index list salt)
+    (g : Given) × IsAsked held g × IfSome (send_refusal fault) (Responds held.agent now g status index list salt)
 RefusesResponse held now status index list salt BadArgument = (2147483647 < status) ⊎ (2147483647 < index)
 RefusesResponse held now status index list salt NothingTaken = held.last ≡ None
 RefusesResponse held now status index list salt NotAsked = (g : Given) × (held.last ≡ Some g) × (is_confirmed g.tag ≡ false)
-RefusesResponse held now status index list salt BadBindings = (vs : List Variable) → AreBindings vs list → ⊥
+RefusesResponse held now status index list salt BadBindings = ((g : Given) × IsAsked held g) × ((vs : List Variable) → AreBindings vs list → ⊥)
 RefusesResponse held now status index list salt _ = ⊥
 
 -- A message is to be sent, and nothing else changes.
@@ -135,7 +153,7 @@ LeavesMessage old text new = new ≡ record old { message = Some text }
 -- The Response to what is kept is to be sent. A refusal changes nothing.
 abbrev pub RespondsHeld : {V : Type 0} → AgentHeld → ℕ → ℕ → ℕ → List ℕ → List ℕ → Result V CallFault → AgentHeld → Type 0
 RespondsHeld old now status index list salt (Ok done) new =
-    (g : Given) × (text : List ℕ) × (old.last ≡ Some g) × Responds old.agent now g status index list salt (Ok text) × LeavesMessage old text new
+    (g : Given) × (text : List ℕ) × IsAsked old g × Responds old.agent now g status index list salt (Ok text) × LeavesMessage old text new
 RespondsHeld old now status index list salt (Err fault) new = RefusesResponse old now status index list salt fault × (new ≡ old)
 
 -- whom a notification goes to, and what it says besides its bindings

@@ -1,5 +1,5 @@
 -- Between the functions: what is written for a caller, before it is left to be sent.
-use Rattle.std.specs.Prelude.{◌≡◌, ℕ, List, Result, Ok, Err, IfSome, false}
+use Rattle.std.specs.Prelude.{◌≡◌, ℕ, List, Result, Ok, Err, IfSome, false, true}
 use Rattle.std.specs.Global.{Vec}
 use Rattle.snmp_ber.specs.declared.level.Level.{Level}
 use Rattle.snmp_msg.specs.Variables.{Variable, AreBindings}
@@ -15,10 +15,10 @@ use Rattle.snmp_held.specs.declared.fault.CallFault.{CallFault}
 use Rattle.snmp_held.specs.declared.fault.CallFault.TheVariants.{Refused, NotAsked, BadBindings}
 
 abbrev pub AnswersResponse : AgentState → ℕ → Given → ℕ → ℕ → List ℕ → List ℕ → Result (Vec ℕ) CallFault → Type 0
-AnswersResponse agent now g status index list salt (Ok text) = Responds agent now g status index list salt (Ok text.items)
-AnswersResponse agent now g status index list salt (Err (Refused fault)) = IfSome (send_refusal fault) (Responds agent now g status index list salt)
+AnswersResponse agent now g status index list salt (Ok text) = (is_confirmed g.tag ≡ true) × Responds agent now g status index list salt (Ok text.items)
+AnswersResponse agent now g status index list salt (Err (Refused fault)) = (is_confirmed g.tag ≡ true) × IfSome (send_refusal fault) (Responds agent now g status index list salt)
 AnswersResponse agent now g status index list salt (Err NotAsked) = is_confirmed g.tag ≡ false
-AnswersResponse agent now g status index list salt (Err BadBindings) = (vs : List Variable) → AreBindings vs list → ⊥
+AnswersResponse agent now g status index list salt (Err BadBindings) = (is_confirmed g.tag ≡ true) × ((vs : List Variable) → AreBindings vs list → ⊥)
 AnswersResponse agent now g status index list salt (Err _) = ⊥
 
 abbrev pub notice_of : NoticeTo → Notice

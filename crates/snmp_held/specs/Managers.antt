@@ -13,7 +13,8 @@ use Rattle.usm_core.specs.Authentic.{HasEngineLength}
 use Rattle.usm_core.specs.User.{User}
 use Rattle.usm_core.specs.Sealed.{Sending, Seals}
 use Rattle.snmp_outcome.specs.Outcome.{Given}
-use Rattle.snmp_outcome.specs.Answers.{refused}
+use Rattle.snmp_outcome.specs.Answers.{refused, IsPlain}
+use Rattle.usm_core.specs.Verified.{manager as manager_side}
 use Rattle.snmp_outcome.specs.Refusals.{answer_number}
 use Rattle.snmp_outcome.specs.declared.fault.TakeFault.{TakeFault}
 use Rattle.snmp_outcome.specs.declared.fault.TakeFault.TheVariants.{OutOfMemory}
@@ -69,6 +70,13 @@ ClearsManager old (Err fault) new = (fault ≡ Refused OutOfMemory) × (new ≡ 
 abbrev pub TakesOrStops : Held → ℕ → List ℕ → TakeFault → Held → Type 0
 TakesOrStops old now w fault new =
     manager.Takes old now w (refused (answer_number fault)) new ⊎ ((fault ≡ OutOfMemory) × ((g : Given) × manager.Takes old now w (Some (Ok g)) new))
+
+-- The datagram is refused, isn't sealed where it passes its digest, and its engine is held where it is authentic, so that no memory is
+-- wanted to take it.
+pub record TakesNoMemory (held : Held) (now : ℕ) (w : List ℕ) : Type 0 where
+  pub plain : IsPlain manager_side held.users w
+  pub holds : manager.HoldsAuthentic held w
+  pub refused : (g : Given) (new : Held) → manager.Takes held now w (Some (Ok g)) new → ⊥
 
 -- An accepted datagram is kept. The request that is waited for stays.
 abbrev pub ManagerTakes : {V : Type 0} → ManagerHeld → ℕ → List ℕ → Result V CallFault → ManagerHeld → Type 0

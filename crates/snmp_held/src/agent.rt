@@ -1,6 +1,6 @@
 //! An agent with what it accepted last and what it wrote last.
 
-ghost use Rattle.std.specs.Prelude.{◌≡◌, ◌≤◌, MatchOption, None, Some, length};
+ghost use Rattle.std.specs.Prelude.{◌≡◌, ◌≢◌, ◌≤◌, ◌↔◌, All, IsTrue, MatchOption, None, Some, Err, length};
 ghost use Rattle.std.specs.Int.{to_be_bytes, w64};
 ghost use Rattle.snmp_msg.specs.Scoped.{Contexts, ScopedFront};
 ghost use Rattle.snmp_msg.specs.Pdu.{PduParts, PduText};
@@ -11,7 +11,7 @@ ghost use Rattle.snmp_agent.specs.Sent.{responding, notifying, Sends};
 ghost use Rattle.snmp_sending.specs.Sends.{send_answer};
 ghost use Rattle.snmp_sending.specs.Bodies.{BodyFits};
 ghost use Rattle.vacm_core.specs.Allowed.{Allowed};
-ghost use Rattle.snmp_held.specs.Agents.{Clears, MakesAgent, TakesHeld, AllowsHeld, MaySee, Counts, RespondsHeld, Notice, NotifiesHeld};
+ghost use Rattle.snmp_held.specs.Agents.{Clears, MakesAgent, TakesHeld, TakesNoMemory, AllowsHeld, MaySee, Counts, RespondsHeld, Notice, NotifiesHeld};
 ghost use Rattle.snmp_held.specs.Parts.{CopiesPart, CopiesMessage, AreNumbersOf};
 ghost use Rattle.snmp_held.specs.Between.{AnswersResponse, AnswersNotice, notice_of};
 
@@ -61,6 +61,13 @@ pub struct NoticeTo<'a> {
     pub request_id: u32,
     pub context_engine: &'a [u8],
     pub context_name: &'a [u8],
+}
+
+/// Whether each of the octets is this one.
+fn is_all(octets: &[u8], octet: u8) -> bool
+    ensures { IsTrue result ↔ All (λ o. o ≡ octet) octets.now }
+{
+    octets.iter().all(|o| *o == octet)
 }
 
 /// Whether the sender of what was kept may see this variable.
@@ -133,8 +140,8 @@ fn notice(
 impl AgentHandle {
     /// An agent of this configuration, in TOML, with this engine ID and these boots, which started at the moment `started`.
     ///
-    /// The errors are BadArgument, where the engine ID hasn't 5 to 32 octets or boots are above 2147483647, then
-    /// BadConfiguration, or want of memory.
+    /// The errors are BadArgument, where the engine ID hasn't 5 to 32 octets, or all of them are 0 or all are 255 (SnmpEngineID, RFC 3411,
+    /// section 5), or boots are above 2147483647; then BadConfiguration, or want of memory.
     pub fn of(
         alloc: Global,
         config: &[u8],
@@ -144,6 +151,9 @@ impl AgentHandle {
     ) -> Result<AgentHandle, CallFault>
         ensures { MakesAgent config.now engine.now boots started result }
     {
+        if is_all(engine, 0) || is_all(engine, 255) {
+            return Err(CallFault::BadArgument);
+        }
         let Some(engine) = EngineId::of(engine) else {
             return Err(CallFault::BadArgument);
         };
@@ -194,7 +204,8 @@ impl AgentHandle {
     ///
     /// The errors are the refusals of `Agent::take`, and want of memory for what is kept, which leaves the agent as it was.
     pub fn take(&mut self, now: u64, datagram: &[u8]) -> Result<(), CallFault>
-        ensures { TakesHeld self.old now datagram.now result self.new }
+        ensures takes { TakesHeld self.old now datagram.now result self.new }
+        ensures no_memory { TakesNoMemory self.old.agent now datagram.now → result ≢ Err (CallFault.Refused TakeFault.OutOfMemory) }
     {
         self.last = None;
         self.message = None;

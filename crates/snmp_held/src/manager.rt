@@ -1,12 +1,12 @@
 //! A manager with what it accepted last, what it wrote last and the request that it waits for.
 
-ghost use Rattle.std.specs.Prelude.{◌≡◌, ◌≤◌, ◌↔◌, IsTrue, MatchOption, None, Some, length};
+ghost use Rattle.std.specs.Prelude.{◌≡◌, ◌≢◌, ◌≤◌, ◌↔◌, IsTrue, MatchOption, None, Some, Err, length};
 ghost use Rattle.std.specs.Int.{to_be_bytes, w64};
 ghost use Rattle.snmp_msg.specs.Scoped.{Contexts, ScopedFront};
 ghost use Rattle.snmp_msg.specs.Pdu.{PduParts, PduText, IsPduTag};
 ghost use Rattle.snmp_outcome.specs.Outcome.{Given};
 ghost use Rattle.snmp_manager.specs.Replies.{IsAnswer};
-ghost use Rattle.snmp_held.specs.Managers.{MakesManager, ClearsManager, ManagerTakes, TellsAnswer, DiscoversHeld, RequestsHeld, AbsorbsHeld, SavesHeld, TellsPair};
+ghost use Rattle.snmp_held.specs.Managers.{MakesManager, ClearsManager, ManagerTakes, TakesNoMemory, TellsAnswer, DiscoversHeld, RequestsHeld, AbsorbsHeld, SavesHeld, TellsPair};
 ghost use Rattle.snmp_held.specs.Parts.{CopiesPart, CopiesMessage, AreNumbersOf};
 ghost use Rattle.snmp_held.specs.Asked.{AnswersRequest, asking_of};
 
@@ -176,7 +176,8 @@ impl ManagerHandle {
     /// The errors are the refusals of `Manager::take`, and want of memory for what is kept; then the pair of what was accepted
     /// is learned all the same.
     pub fn take(&mut self, now: u64, datagram: &[u8]) -> Result<(), CallFault>
-        ensures { ManagerTakes self.old now datagram.now result self.new }
+        ensures takes { ManagerTakes self.old now datagram.now result self.new }
+        ensures no_memory { TakesNoMemory self.old.manager now datagram.now → result ≢ Err (CallFault.Refused TakeFault.OutOfMemory) }
     {
         self.last = None;
         self.message = None;

@@ -13,9 +13,9 @@ use Rattle.engine_clock.proofs.Greatest.{pair_order}
 use Rattle.usm_core.specs.User.{User}
 use Rattle.usm_core.specs.Authentic.{Authentic}
 use Rattle.snmp_manager.specs.Learning.{LearnsFrom}
-use Rattle.snmp_manager.specs.Known.{Known, IsLatest, HaveSameAuthentic, datagrams_of}
+use Rattle.snmp_manager.specs.Known.{Known, IsLatest, HaveSameAuthentic, datagrams_of, octets_of}
 use Rattle.snmp_manager.specs.Views.{Held, BeginAlike, HoldSamePairs}
-use Rattle.snmp_manager.specs.Runs.{TakesOne, Runs, HasRun}
+use Rattle.snmp_manager.specs.Runs.{TakesOne, Runs, HasTaken, moments_of}
 use Rattle.snmp_manager.specs.declared.outcome.Outcome.{Outcome}
 
 -- A set of pairs of an engine is what it was, and what an authentic datagram adds. Its greatest is then held.
@@ -90,34 +90,43 @@ same_latest users begin xs ys engine p q same h k =
     (λ r m. elim m [ inl b ↦ inl b | inr w ↦ inr (w.0, (same w.0 engine r w.2).0 w.1, w.2) ])
     (λ r m. elim m [ inl b ↦ inl b | inr w ↦ inr (w.0, (same w.0 engine r w.2).1 w.1, w.2) ]) h) k
 
--- ---- whole runs
+-- ---- all that was taken
 
--- a run behind another
-pub runs_behind : (old mid new : Held) (xs ys : List (ℕ × Vec ℕ)) (os ps : List Outcome) → Runs old xs os mid → Runs mid ys ps new → Runs old (xs ++ ys) (os ++ ps) new
-runs_behind old mid new [] ys [] ps runs more = subst (λ (h : Held). Runs h ys ps new) runs more
-runs_behind old mid new [] ys (o ∷ os) ps runs more = absurd runs
-runs_behind old mid new (x ∷ xs) ys [] ps runs more = absurd runs
-runs_behind old mid new (x ∷ xs) ys (o ∷ os) ps runs more = (runs.0, runs.1, runs_behind runs.0 mid new xs ys os ps runs.2 more)
+-- a run takes its datagrams
+pub runs_taken : (old new : Held) (ts : List (ℕ × Vec ℕ)) (os : List Outcome) → Runs old ts os new → HasTaken old (moments_of ts) new
+runs_taken old new [] [] runs = runs
+runs_taken old new [] (o ∷ os) runs = absurd runs
+runs_taken old new (t ∷ ts) [] runs = absurd runs
+runs_taken old new (t ∷ ts) (o ∷ os) runs = (runs.0, (runs.1.0, runs.1.2), runs_taken runs.0 new ts os runs.2)
 
--- the greatest that is known after a run over a list, where it was held after the datagrams before
-runs_latest : (begin mid new : Held) (done : List (List ℕ)) (ts : List (ℕ × Vec ℕ)) (os : List Outcome) (engine : List ℕ) → mid.users ≡ begin.users → Runs mid ts os new
+-- datagrams behind others
+pub taken_behind : (old mid new : Held) (xs ys : List (ℕ × List ℕ)) → HasTaken old xs mid → HasTaken mid ys new → HasTaken old (xs ++ ys) new
+taken_behind old mid new [] ys first more = subst (λ (h : Held). HasTaken h ys new) first more
+taken_behind old mid new (x ∷ xs) ys first more = (first.0, first.1, taken_behind first.0 mid new xs ys first.2 more)
+
+-- the users stay
+pub taken_users : (old new : Held) (ts : List (ℕ × List ℕ)) → HasTaken old ts new → new.users ≡ old.users
+taken_users old new [] taken = ap (λ (h : Held). h.users) taken
+taken_users old new (t ∷ ts) taken = taken_users taken.0 new ts taken.2 ∙ taken.1.1.0
+
+-- the greatest that is known after a list was taken, where it was held after the datagrams before
+taken_latest : (begin mid new : Held) (done : List (List ℕ)) (ts : List (ℕ × List ℕ)) (engine : List ℕ) → mid.users ≡ begin.users → HasTaken mid ts new
     → IsLatest begin.users (pair_at begin.clocks engine) done engine (pair_at mid.clocks engine)
-    → IsLatest begin.users (pair_at begin.clocks engine) (done ++ datagrams_of ts) engine (pair_at new.clocks engine)
-runs_latest begin mid new done [] [] engine same runs latest =
-    rw append-nil (subst (λ (h : Held). IsLatest begin.users (pair_at begin.clocks engine) done engine (pair_at h.clocks engine)) (sym runs) latest)
-runs_latest begin mid new done [] (o ∷ os) engine same runs latest = absurd runs
-runs_latest begin mid new done (t ∷ ts) [] engine same runs latest = absurd runs
-runs_latest begin mid new done (t ∷ ts) (o ∷ os) engine same runs latest =
-    let learns = subst (λ users. LearnsFrom users t.0 t.1.items mid.clocks runs.0.clocks) same runs.1.2.1 in
-    let more = known_more begin.users (pair_at begin.clocks engine) done t.0 t.1.items mid.clocks runs.0.clocks engine learns latest in
-    subst (λ ws. IsLatest begin.users (pair_at begin.clocks engine) ws engine (pair_at new.clocks engine)) (append_assoc done (t.1.items ∷ []) (datagrams_of ts))
-    (runs_latest begin runs.0 new (done ++ t.1.items ∷ []) ts os engine (runs.1.2.0 ∙ same) runs.2 more)
+    → IsLatest begin.users (pair_at begin.clocks engine) (done ++ octets_of ts) engine (pair_at new.clocks engine)
+taken_latest begin mid new done [] engine same taken latest =
+    rw append-nil (subst (λ (h : Held). IsLatest begin.users (pair_at begin.clocks engine) done engine (pair_at h.clocks engine)) (sym taken) latest)
+taken_latest begin mid new done (t ∷ ts) engine same taken latest =
+    let takes = taken.1.1 in
+    let learns = subst (λ users. LearnsFrom users t.0 t.1 mid.clocks taken.0.clocks) same takes.1 in
+    let more = known_more begin.users (pair_at begin.clocks engine) done t.0 t.1 mid.clocks taken.0.clocks engine learns latest in
+    subst (λ ws. IsLatest begin.users (pair_at begin.clocks engine) ws engine (pair_at new.clocks engine)) (append_assoc done (t.1 ∷ []) (octets_of ts))
+    (taken_latest begin taken.0 new (done ++ t.1 ∷ []) ts engine (takes.0 ∙ same) taken.2 more)
 
--- after a run the greatest that is known is held
-has_run_latest : (old new : Held) (ts : List (ℕ × Vec ℕ)) (engine : List ℕ) → HasRun old ts new → IsLatest old.users (pair_at old.clocks engine) (datagrams_of ts) engine (pair_at new.clocks engine)
-has_run_latest old new ts engine run = runs_latest old old new [] ts run.0 engine refl run.1 (known_none old.users (pair_at old.clocks engine) engine)
+-- after a list was taken the greatest that is known is held
+pub all_latest : (old new : Held) (ts : List (ℕ × List ℕ)) (engine : List ℕ) → HasTaken old ts new → IsLatest old.users (pair_at old.clocks engine) (octets_of ts) engine (pair_at new.clocks engine)
+all_latest old new ts engine taken = taken_latest old old new [] ts engine refl taken (known_none old.users (pair_at old.clocks engine) engine)
 
-pub same_pairs : (a b a_after b_after : Held) (xs ys : List (ℕ × Vec ℕ)) → BeginAlike a b → HaveSameAuthentic a.users (datagrams_of xs) (datagrams_of ys) → HasRun a xs a_after → HasRun b ys b_after → HoldSamePairs a_after b_after
+pub same_pairs : (a b a_after b_after : Held) (xs ys : List (ℕ × List ℕ)) → BeginAlike a b → HaveSameAuthentic a.users (octets_of xs) (octets_of ys) → HasTaken a xs a_after → HasTaken b ys b_after → HoldSamePairs a_after b_after
 same_pairs a b a_after b_after xs ys alike same run other engine =
-    same_latest a.users (pair_at a.clocks engine) (datagrams_of xs) (datagrams_of ys) engine (pair_at a_after.clocks engine) (pair_at b_after.clocks engine) same (has_run_latest a a_after xs engine run)
-    (rw (alike.0, alike.1 engine) (has_run_latest b b_after ys engine other))
+    same_latest a.users (pair_at a.clocks engine) (octets_of xs) (octets_of ys) engine (pair_at a_after.clocks engine) (pair_at b_after.clocks engine) same (all_latest a a_after xs engine run)
+    (rw (alike.0, alike.1 engine) (all_latest b b_after ys engine other))

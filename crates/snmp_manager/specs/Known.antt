@@ -5,6 +5,10 @@ use Rattle.engine_clock.specs.Pairs.{BootsAndTime, IsGreatestOf}
 use Rattle.usm_core.specs.User.{User}
 use Rattle.usm_core.specs.Authentic.{Authentic}
 
+-- the same of a list as contracts see it
+abbrev pub octets_of : List (ℕ × List ℕ) → List (List ℕ)
+octets_of taken = map (λ t. t.1) taken
+
 -- the datagrams of a list that has the moment of each
 abbrev pub datagrams_of : List (ℕ × Vec ℕ) → List (List ℕ)
 datagrams_of taken = map (λ t. t.1.items) taken

@@ -1,5 +1,5 @@
 -- A run of a manager over datagrams, each with its moment.
-use Rattle.std.specs.Prelude.{◌≡◌, ℕ, List, [], ◌∷◌, take, Some, Result, Ok, Err}
+use Rattle.std.specs.Prelude.{◌≡◌, ℕ, List, [], ◌∷◌, take, map, Some, Result, Ok, Err}
 use Rattle.std.specs.Global.{Vec}
 use Rattle.snmp_outcome.specs.Refusals.{answer_number}
 use Rattle.snmp_outcome.specs.Outcome.{Given}
@@ -27,9 +27,14 @@ Runs old (t ∷ ts) (outcome ∷ outcomes) new = (mid : Held) × TakesOne old t.
 Runs old [] (outcome ∷ outcomes) new = ⊥
 Runs old (t ∷ ts) [] new = ⊥
 
--- the datagrams were taken, with some outcomes
-abbrev pub HasRun : Held → List (ℕ × Vec ℕ) → Held → Type 0
-HasRun old datagrams new = (outcomes : List Outcome) × Runs old datagrams outcomes new
+-- Datagrams were taken one after another, each at its moment, whatever they were answered.
+abbrev pub HasTaken : Held → List (ℕ × List ℕ) → Held → Type 0
+HasTaken old [] new = new ≡ old
+HasTaken old (t ∷ ts) new = (mid : Held) × ((answer : Result Given ℕ) × Takes old t.0 t.1 (Some answer) mid) × HasTaken mid ts new
+
+-- moments and datagrams, as contracts see them
+abbrev pub moments_of : List (ℕ × Vec ℕ) → List (ℕ × List ℕ)
+moments_of datagrams = map (λ t. (t.0, t.1.items)) datagrams
 
 -- the datagrams that were taken: all, or those before the stop
 abbrev pub taken_of : {A V : Type 0} → Result V Stopped → List A → List A

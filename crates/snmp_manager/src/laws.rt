@@ -1,12 +1,16 @@
 //! Laws of what managers come to hold. Each function does nothing: its contract is the law.
 
-ghost use Rattle.std.specs.Prelude.{◌≡◌, ◌++◌, ℕ, List, Option};
+ghost use Rattle.std.specs.Prelude.{◌≡◌, ◌++◌, ◌∷◌, [], ℕ, List, Option, Some, Result};
 ghost use Rattle.std.specs.Global.{Vec};
 ghost use Rattle.engine_clock.specs.Pairs.{BootsAndTime};
 ghost use Rattle.usm_core.specs.User.{User};
 ghost use Rattle.snmp_manager.specs.Views.{Held, BeginAlike, HoldSamePairs};
-ghost use Rattle.snmp_manager.specs.Known.{IsLatest, HaveSameAuthentic, datagrams_of};
-ghost use Rattle.snmp_manager.specs.Runs.{HasRun};
+ghost use Rattle.snmp_outcome.specs.Outcome.{Given};
+ghost use Rattle.engine_clock.specs.Marks.{pair_at};
+ghost use Rattle.snmp_manager.specs.declared.outcome.Outcome.{Outcome as Answered};
+ghost use Rattle.snmp_manager.specs.Known.{IsLatest, HaveSameAuthentic, octets_of};
+ghost use Rattle.snmp_manager.specs.Takes.{Takes};
+ghost use Rattle.snmp_manager.specs.Runs.{TakesOne, Runs, HasTaken, moments_of};
 
 /// Lists with the same authentic datagrams, in any order, with any repeats and anything else between, have the same latest
 /// pair of each engine.
@@ -15,15 +19,25 @@ pub fn same_authentic_same_latest()
         → HaveSameAuthentic users xs ys → IsLatest users begin xs engine p → IsLatest users begin ys engine q → p ≡ q }
 {}
 
-/// Two managers that begin with the same users and the same pairs, and run over lists with the same authentic datagrams, in
-/// any order, at any moments, with any repeats and any other octets between, hold the same pair of each engine.
-/// `Manager::run` says which list it ran over.
+/// Two managers that begin with the same users and the same pairs, and take lists with the same authentic datagrams, in any
+/// order, at any moments, with any repeats and any other octets between, hold the same pair of each engine. A datagram is taken by
+/// `take`, `take_one` or `run` wherever the answer isn't want of memory.
 pub fn same_authentic_same_pairs()
-    ensures { (a b a_after b_after : Held) (xs ys : List (ℕ × Vec ℕ)) → BeginAlike a b → HaveSameAuthentic a.users (datagrams_of xs) (datagrams_of ys)
-        → HasRun a xs a_after → HasRun b ys b_after → HoldSamePairs a_after b_after }
+    ensures { (a b a_after b_after : Held) (xs ys : List (ℕ × List ℕ)) → BeginAlike a b → HaveSameAuthentic a.users (octets_of xs) (octets_of ys)
+        → HasTaken a xs a_after → HasTaken b ys b_after → HoldSamePairs a_after b_after }
 {}
 
-/// A run after a run is one over both lists, so that the laws are of all that a manager took.
-pub fn runs_are_joined()
-    ensures { (a b c : Held) (xs ys : List (ℕ × Vec ℕ)) → HasRun a xs b → HasRun b ys c → HasRun a (xs ++ ys) c }
+/// What each call that takes says comes to datagrams taken: one call of `take` or `take_one`, what was taken before and after it, and
+/// so the laws are of all that a manager took.
+pub fn takes_are_joined()
+    ensures take { (a b : Held) (now : ℕ) (w : List ℕ) (answer : Result Given ℕ) → Takes a now w (Some answer) b → HasTaken a ((now, w) ∷ []) b }
+    ensures take_one { (a b : Held) (now : ℕ) (w : List ℕ) (outcome : Answered) → TakesOne a now w outcome b → HasTaken a ((now, w) ∷ []) b }
+    ensures run { (a b : Held) (ts : List (ℕ × Vec ℕ)) (outcomes : List Answered) → Runs a ts outcomes b → HasTaken a (moments_of ts) b }
+    ensures joined { (a b c : Held) (xs ys : List (ℕ × List ℕ)) → HasTaken a xs b → HasTaken b ys c → HasTaken a (xs ++ ys) c }
+{}
+
+/// After datagrams were taken each engine's pair is the greatest that was authenticated in them, or was held before; the users stay.
+pub fn taken_holds_the_latest()
+    ensures latest { (a b : Held) (ts : List (ℕ × List ℕ)) (engine : List ℕ) → HasTaken a ts b → IsLatest a.users (pair_at a.clocks engine) (octets_of ts) engine (pair_at b.clocks engine) }
+    ensures users { (a b : Held) (ts : List (ℕ × List ℕ)) → HasTaken a ts b → b.users ≡ a.users }
 {}

@@ -14,7 +14,7 @@ ghost use Rattle.snmp_sending.specs.Requests.{requesting, discovering};
 ghost use Rattle.snmp_manager.specs.Pendings.{Remembers, IsPending, request_answer};
 ghost use Rattle.snmp_manager.specs.Known.{IsLatest, datagrams_of};
 ghost use Rattle.snmp_manager.specs.Takes.{Takes, HoldsAuthentic};
-ghost use Rattle.snmp_manager.specs.Runs.{TakesOne, Runs, HasRun, taken_of};
+ghost use Rattle.snmp_manager.specs.Runs.{TakesOne, Runs, HasTaken, moments_of, taken_of};
 
 use crate::learning::learn;
 use crate::outcome::{Outcome, Stopped};
@@ -171,7 +171,7 @@ impl Manager {
         ensures latest { (engine : List ℕ) → IsLatest self.old.users (pair_at self.old.clocks engine) (datagrams_of (taken_of result datagrams.now)) engine (pair_at self.new.clocks engine) }
         ensures users { self.new.users ≡ self.old.users }
         ensures stopped { IfErr result (λ stopped. stopped.taken < length datagrams.now) }
-        ensures ran { HasRun self.old (taken_of result datagrams.now) self.new }
+        ensures ran { HasTaken self.old (moments_of (taken_of result datagrams.now)) self.new }
     {
         let Ok(mut outcomes) = Vec::with_capacity(self.alloc, datagrams.len()) else {
             return Err(Stopped { taken: 0 });

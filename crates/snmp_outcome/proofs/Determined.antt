@@ -37,7 +37,7 @@ text_one users w v a b =
 -- ---- one answer
 
 -- one row gives one answer, if what stands below it does
-needs_one : {X : Type 0} (P : Type 0) (n : ℕ) (below : P → Result X ℕ → Type 0) → ((p q : P) (a b : Result X ℕ) → below p a → below q b → a ≡ b)
+pub needs_one : {X : Type 0} (P : Type 0) (n : ℕ) (below : P → Result X ℕ → Type 0) → ((p q : P) (a b : Result X ℕ) → below p a → below q b → a ≡ b)
     → (a b : Result X ℕ) → Needs P n below a → Needs P n below b → a ≡ b
 needs_one P n below one a b (holds p x) (holds q y) = one p q a b x y
 needs_one P n below one a b (holds p x) (fails never) = absurd (never p)
@@ -45,7 +45,7 @@ needs_one P n below one a b (fails never) (holds q y) = absurd (never q)
 needs_one P n below one a b (fails x) (fails y) = refl
 
 -- one table after another gives one answer, if each of them does
-then_one : {X Y : Type 0} (first : Result X ℕ → Type 0) (below : X → Result Y ℕ → Type 0) → ((a b : Result X ℕ) → first a → first b → a ≡ b)
+pub then_one : {X Y : Type 0} (first : Result X ℕ → Type 0) (below : X → Result Y ℕ → Type 0) → ((a b : Result X ℕ) → first a → first b → a ≡ b)
     → ((x : X) (a b : Result Y ℕ) → below x a → below x b → a ≡ b) → (a b : Result Y ℕ) → Then first below a → Then first below b → a ≡ b
 then_one {X} {Y} first below one next a b (gives x p q) (gives y r s) =
     let e : ◌≡◌ {A = Result X ℕ} (Ok x) (Ok y) = one (Ok x) (Ok y) p r in
@@ -67,7 +67,7 @@ module _ (front : (z : List ℕ) (s t : Contexts) → ScopedFront z s → Scoped
       (subst (λ (z : List ℕ). Needs (PduOf z) 13 (λ p c. c ≡ Ok (record { engine = v.fields.engine; user = v.fields.user; level = level_of v.parts.header; id = v.parts.header.id; tag = p.pdu.tag; text = text })) a) same x)
       y)
 
-  message_one : (users : List User) (w : List ℕ) (v : Verified) (a b : Result Given ℕ) → ReadsMessage users w v a → ReadsMessage users w v b → a ≡ b
+  pub message_one : (users : List User) (w : List ℕ) (v : Verified) (a b : Result Given ℕ) → ReadsMessage users w v a → ReadsMessage users w v b → a ≡ b
   message_one users w v a b x y =
       text_answer_one v y.0 a b (subst (λ (z : List ℕ). ReadsText v z a) (text_one users w v x.0 y.0 x.1 y.1) x.2) y.2
 

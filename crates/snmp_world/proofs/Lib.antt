@@ -1,3 +1,4 @@
 pub mod Lists
 pub mod Worlds
 pub mod Origins
+pub mod Runs

@@ -5,10 +5,15 @@ use Rattle.engine_clock.specs.Marks.{SeenPair, Marks, mark_at, pair_at, IsGreate
 use Rattle.engine_clock.specs.Saved.{AreMarks, listing}
 use Rattle.usm_core.specs.User.{User}
 use Rattle.usm_core.specs.Authentic.{Authentic}
+use Rattle.usm_core.specs.Verified.{manager}
+use Rattle.snmp_outcome.specs.Answers.{IsPlain}
 use Rattle.snmp_manager.specs.Views.{Held}
 use Rattle.snmp_manager.specs.Learning.{LearnsFrom}
+use Rattle.snmp_manager.specs.Takes.{HoldsAuthentic}
 use Rattle.snmp_world.specs.declared.event.Event.{Event}
 use Rattle.snmp_world.specs.declared.event.Event.TheVariants.{Take, Save, Absorb, Restart}
+use Rattle.snmp_world.specs.declared.event.WorldFault.{WorldFault}
+use Rattle.snmp_world.specs.declared.event.WorldFault.TheVariants.{NoSuch, OutOfMemory}
 use Rattle.snmp_world.specs.declared.event.WorldStopped.{WorldStopped}
 use Rattle.snmp_world.specs.State.{WorldState}
 
@@ -106,6 +111,32 @@ NamesMissing (Take i now w) world = length world.managers ≤ i
 NamesMissing (Save i) world = length world.managers ≤ i
 NamesMissing (Absorb i f now) world = (length world.managers ≤ i) ⊎ (length world.files ≤ f)
 NamesMissing (Restart i f now) world = (length world.managers ≤ i) ⊎ (length world.files ≤ f)
+
+-- A take for which no memory is asked for: by a manager that is there, of a datagram that isn't sealed where it passes its digest,
+-- and whose engine is held where it is authentic.
+abbrev pub TakesNoMemory : Event → WorldState → Type 0
+TakesNoMemory (Take i now w) world = (held : Held) × (slice_get world.managers i ≡ Some held) × IsPlain manager held.users w.items × HoldsAuthentic held w.items
+TakesNoMemory (Save i) world = ⊥
+TakesNoMemory (Absorb i f now) world = ⊥
+TakesNoMemory (Restart i f now) world = ⊥
+
+-- why the world refuses the event
+abbrev pub RefusesEvent : WorldFault → Event → WorldState → Type 0
+RefusesEvent NoSuch event world = NamesMissing event world
+RefusesEvent OutOfMemory event world = (NamesMissing event world → ⊥) × (TakesNoMemory event world → ⊥)
+
+-- ---- runs
+
+-- the events happened one after another
+abbrev pub StepsAll : WorldState → List Event → WorldState → Type 0
+StepsAll old [] new = new ≡ old
+StepsAll old (event ∷ events) new = (mid : WorldState) × Steps old event mid × StepsAll mid events new
+
+-- The event that stands behind those that counted is refused by the world that they left, for this reason.
+pub record StopsAt (events : List Event) (world : WorldState) (stopped : WorldStopped) : Type 0 where
+  pub event : Event
+  pub next : slice_get events stopped.done ≡ Some event
+  pub why : RefusesEvent stopped.why event world
 
 -- the events that counted: all, or those before the refused one
 abbrev pub counted : Result (Unit {0}) WorldStopped → List Event → List Event

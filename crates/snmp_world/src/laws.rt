@@ -1,12 +1,12 @@
 //! Laws of worlds: what managers that share saved marks come to hold. Each function does nothing: its contract is the law.
 
-ghost use Rattle.std.specs.Prelude.{◌≡◌, ℕ, List, Some, slice_get};
+ghost use Rattle.std.specs.Prelude.{◌≡◌, ◌++◌, ◌∷◌, [], ℕ, List, Some, slice_get};
 ghost use Rattle.engine_clock.specs.Pairs.{BootsAndTime, IsBelow};
 ghost use Rattle.engine_clock.specs.Marks.{SeenPair, pair_at};
 ghost use Rattle.usm_core.specs.User.{User};
 ghost use Rattle.snmp_manager.specs.Views.{Held};
 ghost use Rattle.snmp_world.specs.State.{WorldState};
-ghost use Rattle.snmp_world.specs.Knowledge.{HasGreatest, HasOrigin, IsNeverRestarted, SameKnowledge, SamePairsKnown, at_first, knows_after_all};
+ghost use Rattle.snmp_world.specs.Knowledge.{HasGreatest, HasOrigin, HaveUsers, IsNeverRestarted, SameKnowledge, SamePairsKnown, Steps, StepsAll, at_first, knows_after_all};
 ghost use Rattle.snmp_world.specs.declared.event.Event.{Event};
 
 /// Managers of equal knowledge hold equal marks, so that they save equal octets.
@@ -39,4 +39,14 @@ pub fn no_pair_goes_back()
         → HasGreatest (knows_after_all users events (at_first begin)) world → IsNeverRestarted i events
         → slice_get begin.managers i ≡ Some a → slice_get world.managers i ≡ Some b → pair_at a.clocks engine ≡ Some p
         → (q : BootsAndTime) × (pair_at b.clocks engine ≡ Some q) × ¬ (IsBelow q p) }
+{}
+
+/// Whatever calls of `step` and `run` did them: after events that happened one after another each manager and each file has the
+/// greatest of what is known there, and the managers have the users that they had. Events after events are events.
+pub fn steps_leave_the_greatest()
+    ensures greatest { (users : List User) (events : List Event) (begin world : WorldState) → HaveUsers users begin → StepsAll begin events world
+        → HasGreatest (knows_after_all users events (at_first begin)) world }
+    ensures users { (users : List User) (events : List Event) (begin world : WorldState) → HaveUsers users begin → StepsAll begin events world → HaveUsers users world }
+    ensures one { (begin world : WorldState) (event : Event) → Steps begin event world → StepsAll begin (event ∷ []) world }
+    ensures joined { (a b c : WorldState) (xs ys : List Event) → StepsAll a xs b → StepsAll b ys c → StepsAll a (xs ++ ys) c }
 {}

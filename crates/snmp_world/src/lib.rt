@@ -11,6 +11,6 @@ mod world;
 pub use event::{Event, WorldFault, WorldStopped};
 pub use laws::{
     equal_knowledge_equal_marks, equal_pairs_known_equal_pairs, every_mark_has_an_origin,
-    no_pair_goes_back,
+    no_pair_goes_back, steps_leave_the_greatest,
 };
 pub use world::World;

@@ -1,8 +1,12 @@
 //! What an event does to one manager.
 
-ghost use Rattle.std.specs.Prelude.{◌≡◌, ◌≢◌, ◌↔◌, ◌≤◌, ◌<◌, length, OnOk, OnErr, Err};
+ghost use Rattle.std.specs.Prelude.{◌≡◌, ◌≢◌, ◌↔◌, ◌≤◌, ◌<◌, length, slice_get, IsOk, OnOk, OnErr, Some, Err};
 ghost use Rattle.engine_clock.specs.Marks.{IsMarkJoinOf};
+ghost use Rattle.usm_core.specs.Verified.{manager};
+ghost use Rattle.snmp_outcome.specs.Answers.{IsPlain};
+ghost use Rattle.snmp_manager.specs.Views.{Held};
 ghost use Rattle.snmp_manager.specs.Learning.{LearnsFrom};
+ghost use Rattle.snmp_manager.specs.Takes.{HoldsAuthentic};
 ghost use Rattle.snmp_world.specs.Knowledge.{Changes, Writes};
 
 use crate::event::WorldFault;
@@ -20,6 +24,7 @@ pub(crate) fn take(
     ensures ok { OnOk result (Changes number (λ before after. LearnsFrom before.users now datagram.now before.clocks after.clocks) managers.old.items managers.new.items) }
     ensures err { OnErr result (managers.new.items ≡ managers.old.items) }
     ensures no_such { (result ≡ Err WorldFault.NoSuch) ↔ (length managers.old.items ≤ number) }
+    ensures no_memory { (held : Held) → slice_get managers.old.items number ≡ Some held → IsPlain manager held.users datagram.now → HoldsAuthentic held datagram.now → IsOk result }
 {
     if number >= managers.len() {
         return Err(WorldFault::NoSuch);

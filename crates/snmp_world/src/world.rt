@@ -1,11 +1,11 @@
 //! A world of managers that share saved marks through files.
 
-ghost use Rattle.std.specs.Prelude.{◌≡◌, ◌↔◌, ◌<◌, [], List, length, map, slice_get, OnOk, OnErr, IfOk, IfErr, Err};
+ghost use Rattle.std.specs.Prelude.{◌≡◌, ◌↔◌, [], List, length, map, slice_get, IsOk, OnOk, OnErr, IfOk, IfErr, Err};
 ghost use Rattle.std.specs.Option.{option_and_then, option_copied};
 ghost use Rattle.engine_clock.specs.Marks.{pair_at};
 ghost use Rattle.usm_core.specs.User.{User};
 ghost use Rattle.snmp_manager.specs.Views.{held_by};
-ghost use Rattle.snmp_world.specs.Knowledge.{HasGreatest, HasGreatestPairs, HaveUsers, NamesMissing, Steps, at_first, counted, knows_after_all};
+ghost use Rattle.snmp_world.specs.Knowledge.{HasGreatest, HasGreatestPairs, HaveUsers, NamesMissing, Steps, StepsAll, StopsAt, TakesNoMemory, at_first, counted, knows_after_all};
 
 use crate::event::{Event, WorldFault, WorldStopped};
 use crate::file::{File, read};
@@ -60,11 +60,12 @@ impl World {
     /// Does one event. A datagram that is refused is an event all the same.
     ///
     /// The errors are NoSuch, exactly where the event names a manager or a file that isn't there, and OutOfMemory. Each leaves
-    /// all as before.
+    /// all as before. No memory is wanted to take a datagram that isn't sealed, of an engine that is held, or that no digest passes.
     pub fn step(&mut self, event: &Event) -> Result<(), WorldFault>
         ensures ok { OnOk result (Steps self.old event.now self.new) }
         ensures err { OnErr result (self.new ≡ self.old) }
         ensures no_such { (result ≡ Err WorldFault.NoSuch) ↔ NamesMissing event.now self.old }
+        ensures no_memory { TakesNoMemory event.now self.old → IsOk result }
     {
         match event {
             Event::Take {
@@ -101,7 +102,10 @@ impl World {
 
         // So it is the greatest pair of its knowledge too.
         ensures pairs { (users : List User) → HaveUsers users self.old → HasGreatestPairs (knows_after_all users (counted result events.now) (at_first self.old)) self.new }
-        ensures stopped { IfErr result (λ stopped. stopped.done < length events.now) }
+
+        // The events that counted happened one after another; the next one is refused by what they left.
+        ensures steps { StepsAll self.old (counted result events.now) self.new }
+        ensures stopped { IfErr result (StopsAt events.now self.new) }
     {
         for (done, event) in events.iter().enumerate() {
             if let Err(why) = self.step(event) {

@@ -1,8 +1,8 @@
 use Rattle.std.specs.Prelude.{vec_capacity}
-use Rattle.std.proofs.Common.{sym, ◌<◌, vec_len, ◌≡◌, ◌∙◌, ◌++◌, ◌∷◌, [], arith}
+use Rattle.std.proofs.Common.{sym, take, ◌<◌, vec_len, ◌≡◌, ◌∙◌, ◌++◌, ◌∷◌, [], arith}
 use Rattle.std.proofs.lemmas.Grind.{common_steps}
 use Rattle.std.proofs.lemmas.List.{take_all}
-use Rattle.snmp_manager.proofs.Learned.{latest_more, outcomes_more, is_not_err}
+use Rattle.snmp_manager.proofs.Learned.{latest_more, outcomes_more, is_not_err, runs_taken}
 use Rattle.snmp_manager.proofs.manager.Manager.run.Goals as goal
 
 pub unreachable-requires : goal.unreachable-requires
@@ -28,3 +28,14 @@ loop-i-preserved c =
 
 pub returns-clause-latest : goal.returns-clause-latest
 returns-clause-latest c = λ engine. let end = c.loop-i-test.false in rw take_all at (c.loop-i.invariant.latest engine)
+
+pub returns-clause-ran : goal.returns-clause-ran
+returns-clause-ran c =
+    let end = c.loop-i-test.false in
+    let runs = rw take_all at c.loop-i.invariant.outcomes in
+    runs_taken c.args.self.now c.loop-i.self c.args.datagrams.now c.loop-i.outcomes.items runs
+
+pub returns-in_default-take_one-clause-ran : goal.returns-in_default-take_one-clause-ran
+returns-in_default-take_one-clause-ran c =
+    rw c.in_default-take_one.ensures.err
+    (runs_taken c.args.self.now c.loop-i.self (take c.loop-i.i c.args.datagrams.now) c.loop-i.outcomes.items c.loop-i.invariant.outcomes)

@@ -45,3 +45,8 @@ read-requires c = rw c.deref-in-Absorb.ensures.value c.self.invariant
 
 pub read-requires-in-Restart : goal.read-requires-in-Restart
 read-requires-in-Restart c = rw c.deref-in-Restart.ensures.value c.self.invariant
+
+pub returns-in-Take-clause-no_memory : goal.returns-in-Take-clause-no_memory
+returns-in-Take-clause-no_memory c =
+    let taken = rw c.deref.ensures.value at c.take.ensures.no_memory in
+    rw (← c.self.view_is, c.in-Take.is) (λ t. taken t.0 t.1 t.2 t.3)

@@ -1,0 +1,15 @@
+//! What the definitions of opened messages come to. Each function does nothing: its contract is the law.
+
+ghost use Rattle.std.specs.Prelude.{◌≡◌, List, ℕ, Result};
+ghost use Rattle.usm_core.specs.User.{User};
+ghost use Rattle.snmpsec_open.specs.Opening.{Opens};
+
+use snmp_msg::one_content;
+
+/// A datagram that is opened by the keys of users has one answer at most: its lines, or one refusal.
+pub fn one_opening()
+    ensures { (users : List User) (w : List ℕ) (a b : Result (List ℕ) ℕ) → Opens users w a → Opens users w b → a ≡ b }
+{
+    usm_core::one_answer();
+    one_content();
+}
