@@ -1,7 +1,7 @@
 //! Whole datagrams, where faults stand in them, and growths that are refused.
 
 ghost use Rattle.std.specs.Prelude.{◌≡◌, ◌<◌, length};
-ghost use Rattle.snmp_msg.specs.Spelling.{HeaderFits};
+ghost use Rattle.snmp_message.specs.Spelling.{HeaderFits};
 
 use snmp_msg::*;
 use std::alloc::{AllocError, Global};

@@ -2,7 +2,7 @@
 
 ghost use Rattle.std.specs.Prelude.{◌≡◌, ◌≤◌, ℕ, List, length, IfOk};
 ghost use Rattle.snmp_ber.specs.Element.{IsElement};
-ghost use Rattle.snmp_msg.specs.Spelling.{HeaderFits};
+ghost use Rattle.snmp_message.specs.Spelling.{HeaderFits};
 
 use snmp_world::*;
 use engine_clock::{Clocks, EngineId, Pair};

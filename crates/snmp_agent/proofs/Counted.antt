@@ -3,10 +3,10 @@ use Rattle.std.proofs.Common.{◌≡◌, ◌⊎◌, ℕ, List, Bool, true, false
 use Rattle.std.specs.Prelude.{◌≢◌, ◌&&◌, Option, Some, None, Result, Ok, Err, IfSome, IsSomeAnd, IsSome, is_some}
 use Rattle.snmp_ber.specs.declared.level.Level.{Level}
 use Rattle.snmp_ber.specs.declared.level.Level.TheVariants.{AuthNoPriv, AuthPriv}
-use Rattle.snmp_msg.specs.Level.{level_of}
-use Rattle.snmp_msg.specs.declared.header.Header.{Header}
-use Rattle.snmp_msg.specs.Layout.{Parts, Outer}
-use Rattle.snmp_msg.specs.Security.{Fields, SecText}
+use Rattle.snmp_message.specs.Level.{level_of}
+use Rattle.snmp_message.specs.declared.header.Header.{Header}
+use Rattle.snmp_message.specs.Layout.{Parts, Outer}
+use Rattle.snmp_message.specs.Security.{Fields, SecText}
 use Rattle.usm_core.specs.User.{User}
 use Rattle.usm_core.specs.Users.{user_named, HasUserAt}
 use Rattle.usm_core.specs.Table.{Needs, Then, holds, fails, gives, refuses}

@@ -4,7 +4,7 @@ use Rattle.std.specs.Prelude.{◌==◌, ◌≢◌, if◌then◌else◌, Option, 
 use Rattle.std.proofs.lemmas.Bool.{eqb-true}
 use Rattle.snmp_ber.specs.declared.level.Level.{Level}
 use Rattle.snmp_ber.specs.declared.level.Level.TheVariants.{NoAuthNoPriv, AuthNoPriv}
-use Rattle.snmp_msg.specs.Level.{level_of}
+use Rattle.snmp_message.specs.Level.{level_of}
 use Rattle.engine_clock.specs.Pairs.{BootsAndTime}
 use Rattle.usm_core.specs.User.{User}
 use Rattle.usm_core.specs.Users.{user_named, supports, HasUser, HasUserAt}

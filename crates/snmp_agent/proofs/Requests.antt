@@ -1,8 +1,8 @@
 -- Messages that ask for reports.
 use Rattle.std.proofs.Common.{◌≡◌, ℕ, List, true, false, sym, ap, subst, ◌∙◌}
-use Rattle.snmp_msg.specs.Layout.{Parts, Outer}
-use Rattle.snmp_msg.specs.Security.{Fields, SecText}
-use Rattle.snmp_msg.specs.Scoped.{Contexts, HasScoped}
+use Rattle.snmp_message.specs.Layout.{Parts, Outer}
+use Rattle.snmp_message.specs.Security.{Fields, SecText}
+use Rattle.snmp_message.specs.Scoped.{Contexts, HasScoped}
 use Rattle.snmp_msg.specs.Pdu.{PduParts, PduText}
 use Rattle.snmp_sending.specs.Classes.{is_confirmed}
 use Rattle.snmp_agent.specs.Report.{PlainPdu, AsksForReport}

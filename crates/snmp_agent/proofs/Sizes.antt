@@ -6,10 +6,11 @@ use Rattle.snmp_ber.specs.Element.{IsTag, IsElement}
 use Rattle.snmp_ber.specs.Oid.{identifier}
 use Rattle.snmp_ber.specs.Spelling.{element, integer, octet_count}
 use Rattle.snmp_ber.proofs.Identifiers.{identifier-short}
-use Rattle.snmp_msg.specs.Scoped.{contexts_text, scoped_text}
+use Rattle.snmp_message.specs.Scoped.{contexts_text, scoped_text}
 use Rattle.snmp_msg.specs.Variables.{variable_content, variable_text, variables_text}
-use Rattle.snmp_msg.specs.Pdu.{pdu_with, signed, pdu_content_text, pdu_text}
-use Rattle.snmp_msg.proofs.Lengths.{element_between}
+use Rattle.snmp_message.specs.Spelling.{signed}
+use Rattle.snmp_msg.specs.Pdu.{pdu_with, pdu_content_text, pdu_text}
+use Rattle.snmp_message.proofs.Lengths.{element_between}
 use Rattle.snmp_sending.specs.Counters.{counter_name}
 use Rattle.engine_clock.specs.Pairs.{BootsAndTime, IsPair}
 use Rattle.usm_core.specs.Sealed.{SendingFits}

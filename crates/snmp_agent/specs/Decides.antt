@@ -2,7 +2,7 @@
 use Rattle.std.specs.Prelude.{◌≡◌, ◌≢◌, ◌⊎◌, ℕ, List}
 use Rattle.std.specs.List.{AllZip}
 use Rattle.snmp_ber.specs.declared.level.Level.{Level}
-use Rattle.snmp_msg.specs.Scoped.{Contexts}
+use Rattle.snmp_message.specs.Scoped.{Contexts}
 use Rattle.snmp_msg.specs.Variables.{Variable, AreBindings}
 use Rattle.snmp_msg.specs.Pdu.{PduParts}
 use Rattle.vacm_core.specs.Tables.{Tables, HaveSameRows}

@@ -4,8 +4,8 @@ use Rattle.std.specs.Global.{Vec}
 use Rattle.snmp_ber.specs.declared.level.Level.{Level}
 use Rattle.snmp_ber.specs.declared.level.Level.TheVariants.{NoAuthNoPriv, AuthNoPriv}
 use Rattle.snmp_ber.specs.Spelling.{integer}
-use Rattle.snmp_msg.specs.Layout.{Parts}
-use Rattle.snmp_msg.specs.Scoped.{Contexts, HasScoped, scoped_text}
+use Rattle.snmp_message.specs.Layout.{Parts}
+use Rattle.snmp_message.specs.Scoped.{Contexts, HasScoped, scoped_text}
 use Rattle.snmp_msg.specs.Variables.{Variable}
 use Rattle.snmp_msg.specs.Pdu.{PduParts, PduText, pdu_with, pdu_text}
 use Rattle.engine_clock.specs.Pairs.{BootsAndTime}

@@ -2,7 +2,7 @@
 -- sending it.
 use Rattle.std.specs.Prelude.{◌≤◌, ◌-◌, ℕ, ℤ, false, List, Result}
 use Rattle.snmp_ber.specs.declared.level.Level.{Level}
-use Rattle.snmp_msg.specs.Scoped.{Contexts}
+use Rattle.snmp_message.specs.Scoped.{Contexts}
 use Rattle.snmp_msg.specs.Variables.{Variable}
 use Rattle.snmp_msg.specs.Pdu.{PduParts, pdu_with}
 use Rattle.engine_clock.specs.Pairs.{BootsAndTime, pair_max}

@@ -18,7 +18,7 @@ use crate::report::report;
 use crate::response::{Response, send_response};
 use engine_clock::EngineId;
 use snmp_ber::{Level, Oid};
-use snmp_msg::{Binding, USER_BASED, one_content};
+use snmp_msg::{Binding, USER_BASED, one_content, one_pdu};
 use snmp_outcome::{TakeFault, Taken};
 use snmp_sending::Body;
 use std::alloc::{AllocError, Global};
@@ -47,7 +47,7 @@ impl Model for Agent {
 
 impl Agent {
     ghost use Rattle.std.specs.Prelude.{◌≢◌, ℕ, List, All, map, length, IfOk, IsOk, IfSome, IsErrOf};
-    ghost use Rattle.snmp_msg.specs.Scoped.{Contexts, ScopedFront};
+    ghost use Rattle.snmp_message.specs.Scoped.{Contexts, ScopedFront};
     ghost use Rattle.snmp_msg.specs.Pdu.{PduParts, PduText};
     ghost use Rattle.snmp_msg.specs.Variables.{CanBeWritten, variable_of};
     ghost use Rattle.vacm_core.specs.Allowed.{Allowed};
@@ -178,6 +178,7 @@ impl Agent {
         ensures no_memory { taken.now.tag ≢ 160 → taken.now.tag ≢ 163 → IsOk result }
     {
         one_content();
+        one_pdu();
         let pdu = taken.pdu();
         let view = match view_for(pdu.tag) {
             Some(view) => view,

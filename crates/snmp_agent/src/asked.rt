@@ -1,15 +1,15 @@
 //! Whether a message asks for reports (RFC 3412, section 7.1, step 3).
 
 ghost use Rattle.std.specs.Prelude.{◌≡◌, true, false, MatchOption};
-ghost use Rattle.snmp_msg.specs.Layout.{Outer};
-ghost use Rattle.snmp_msg.specs.Message.{parts};
+ghost use Rattle.snmp_message.specs.Layout.{Outer};
+ghost use Rattle.snmp_message.specs.Message.{parts};
 ghost use Rattle.snmp_msg.specs.Pdu.{pdu_of};
 ghost use Rattle.snmp_sending.specs.Classes.{is_confirmed};
 ghost use Rattle.snmp_agent.specs.Report.{PlainPdu, AsksForReport, IsCopied, IsAsking};
 
 use crate::asking::Asking;
 use snmp_msg::{
-    Message, Pdu, one_content, one_cut, one_message, read_message, read_pdu, read_scoped,
+    Message, Pdu, one_content, one_cut, one_message, one_pdu, read_message, read_pdu, read_scoped,
     read_security,
 };
 use snmp_sending::is_confirmed;
@@ -37,6 +37,7 @@ fn copied_id(datagram: &[u8], message: &Message<'_>) -> Option<i32>
     ensures { MatchOption result ((plain : PlainPdu datagram.now (parts message.now)) × (is_confirmed plain.pdu.tag ≡ false)) (IsCopied datagram.now (parts message.now)) }
 {
     one_content();
+    one_pdu();
     match plain_pdu(datagram, message) {
         Some(pdu) => {
             if is_confirmed(pdu.tag) {

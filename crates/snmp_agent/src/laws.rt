@@ -2,7 +2,7 @@
 
 ghost use Rattle.std.specs.Prelude.{◌≡◌, ◌≤◌, ℕ, ℤ, List, length, Ok};
 ghost use Rattle.snmp_ber.specs.declared.level.Level.{Level};
-ghost use Rattle.snmp_msg.specs.Scoped.{Contexts};
+ghost use Rattle.snmp_message.specs.Scoped.{Contexts};
 ghost use Rattle.snmp_msg.specs.Variables.{Variable};
 ghost use Rattle.snmp_msg.specs.Pdu.{PduParts, pdu_with};
 ghost use Rattle.engine_clock.specs.Pairs.{BootsAndTime, IsPair};

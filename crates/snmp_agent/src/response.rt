@@ -1,7 +1,7 @@
 //! Responses.
 
 ghost use Rattle.std.specs.Prelude.{◌≡◌, All, map, IfSome, IsErrOf};
-ghost use Rattle.snmp_msg.specs.Scoped.{Contexts, ScopedFront};
+ghost use Rattle.snmp_message.specs.Scoped.{Contexts, ScopedFront};
 ghost use Rattle.snmp_msg.specs.Pdu.{PduParts, PduText};
 ghost use Rattle.snmp_msg.specs.Variables.{CanBeWritten, variable_of};
 ghost use Rattle.usm_core.specs.Sealed.{Seals, IsSealable};
@@ -11,7 +11,7 @@ ghost use Rattle.snmp_sending.specs.Sends.{send_answer};
 ghost use Rattle.snmp_agent.specs.Sent.{responding};
 
 use engine_clock::{EngineId, Pair};
-use snmp_msg::{Binding, one_content};
+use snmp_msg::{Binding, one_content, one_pdu};
 use snmp_outcome::{TakeFault, Taken};
 use snmp_sending::{Body, Envelope, send};
 use std::alloc::Global;
@@ -45,6 +45,7 @@ pub(crate) fn send_response(
     ensures users { users.new.users ≡ users.old.users }
 {
     one_content();
+    one_pdu();
     let scoped = taken.scoped();
     let pdu = taken.pdu();
     let body = Body {

@@ -1,7 +1,7 @@
 -- An agent with what it accepted last and what it wrote last, and what its calls leave.
 use Rattle.std.specs.Prelude.{◌≡◌, ◌<◌, ◌≤◌, ◌⊎◌, All, ℕ, pos, List, [], length, replicate, Option, Some, None, Result, Ok, Err, IfSome, false, true}
 use Rattle.snmp_ber.specs.declared.level.Level.{Level}
-use Rattle.snmp_msg.specs.Scoped.{Contexts, ScopedFront}
+use Rattle.snmp_message.specs.Scoped.{Contexts, ScopedFront}
 use Rattle.snmp_msg.specs.Pdu.{PduParts, PduText, pdu_with}
 use Rattle.snmp_msg.specs.Variables.{Variable, AreBindings}
 use Rattle.snmp_outcome.specs.Outcome.{Given, Outcome}

@@ -3,7 +3,7 @@ use Rattle.std.specs.FinMap as map
 use Rattle.std.specs.Prelude.{◌≡◌, ◌<◌, ◌⊎◌, ℕ, pos, List, [], length, Option, Some, None, Result, Ok, Err, IfSome}
 use Rattle.snmp_ber.specs.declared.level.Level.{Level}
 use Rattle.snmp_ber.specs.declared.level.Level.TheVariants.{NoAuthNoPriv}
-use Rattle.snmp_msg.specs.Scoped.{Contexts, ScopedFront, scoped_text}
+use Rattle.snmp_message.specs.Scoped.{Contexts, ScopedFront, scoped_text}
 use Rattle.snmp_msg.specs.Pdu.{PduParts, PduText, IsPduTag, pdu_with, pdu_text}
 use Rattle.snmp_msg.specs.Variables.{Variable, AreBindings}
 use Rattle.engine_clock.specs.Pairs.{BootsAndTime}

@@ -1,7 +1,7 @@
 -- What a caller gets of what a handle keeps, into buffers of its own.
 use Rattle.std.specs.Prelude.{◌==◌, if◌then◌else◌, ◌≡◌, ◌<◌, ◌≤◌, ℕ, ℤ, pos, List, [], ◌∷◌, ◌++◌, length, drop, Option, Some, None, Result, Ok, Err}
 use Rattle.snmp_ber.specs.Level.{level_number}
-use Rattle.snmp_msg.specs.Scoped.{Contexts, ScopedFront}
+use Rattle.snmp_message.specs.Scoped.{Contexts, ScopedFront}
 use Rattle.snmp_msg.specs.Pdu.{PduParts, PduText}
 use Rattle.snmp_outcome.specs.Outcome.{Given}
 use Rattle.snmp_held.specs.declared.fault.CallFault.{CallFault}

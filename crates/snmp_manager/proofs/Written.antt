@@ -4,9 +4,10 @@ use Rattle.std.specs.Prelude.{Ok}
 use Rattle.std.specs.Int.{w64, to_be_bytes, cast_unsigned}
 use Rattle.std.proofs.lemmas.List.{length-append, length-drop}
 use Rattle.snmp_ber.specs.Spelling.{octet_count, element, integer}
-use Rattle.snmp_msg.specs.Scoped.{contexts_text, scoped_text}
-use Rattle.snmp_msg.specs.Pdu.{PduParts, signed, pdu_content_text, pdu_text}
-use Rattle.snmp_msg.proofs.Lengths.{element_between}
+use Rattle.snmp_message.specs.Scoped.{contexts_text, scoped_text}
+use Rattle.snmp_message.specs.Spelling.{signed}
+use Rattle.snmp_msg.specs.Pdu.{PduParts, pdu_content_text, pdu_text}
+use Rattle.snmp_message.proofs.Lengths.{element_between}
 use Rattle.usm_core.specs.User.{User}
 use Rattle.usm_core.specs.Table.{holds}
 use Rattle.usm_core.specs.Sealed.{Sending, Seals, IsSealable}

@@ -1,6 +1,6 @@
 -- What an accepted message is to a request (RFC 3412, section 7.2, steps 10 to 12; RFC 3414, section 4).
 use Rattle.std.specs.Prelude.{◌≡◌, ◌≤◌, ◌⊎◌, ℕ, List, [], ◌∷◌}
-use Rattle.snmp_msg.specs.Scoped.{Contexts}
+use Rattle.snmp_message.specs.Scoped.{Contexts}
 use Rattle.snmp_msg.specs.Variables.{Variable, AreBindings}
 use Rattle.snmp_msg.specs.Pdu.{PduParts}
 use Rattle.snmp_outcome.specs.Outcome.{Given}

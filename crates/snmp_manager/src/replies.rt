@@ -1,7 +1,7 @@
 //! What an accepted message is to a request.
 
 ghost use Rattle.std.specs.Prelude.{List, MatchBool};
-ghost use Rattle.snmp_msg.specs.Scoped.{Contexts, ScopedFront, contexts_of};
+ghost use Rattle.snmp_message.specs.Scoped.{Contexts, ScopedFront, contexts_of};
 ghost use Rattle.snmp_msg.specs.Pdu.{PduParts, PduText, pdu_of};
 ghost use Rattle.snmp_msg.specs.Variables.{Variable, AreBindings};
 ghost use Rattle.snmp_outcome.specs.Texts.{text_of};
@@ -9,7 +9,7 @@ ghost use Rattle.snmp_outcome.specs.Answers.{given_of};
 ghost use Rattle.snmp_manager.specs.Replies.{IsResponseTo, IsCounterOf, IsNameOf, IsAnswer};
 
 use crate::pending::{Answer, Pending};
-use snmp_msg::{Pdu, Scoped, one_content};
+use snmp_msg::{Pdu, Scoped, one_content, one_pdu};
 use snmp_outcome::Taken;
 use snmp_sending::counter_name;
 
@@ -78,6 +78,7 @@ pub fn answer_of(pending: &Pending, taken: &Taken<'_>) -> Answer
     ensures { (c : Contexts) (p : PduParts) → ScopedFront (text_of taken.now.text) c → PduText c.pdu p → IsAnswer pending.now (given_of taken.now) c p result }
 {
     one_content();
+    one_pdu();
     let scoped = taken.scoped();
     let pdu = taken.pdu();
     if is_response(pending, taken, &scoped, &pdu) {

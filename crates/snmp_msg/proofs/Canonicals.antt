@@ -2,25 +2,26 @@
 use Rattle.std.proofs.Common.{◌≡◌, ◌⊎◌, ℕ, ◌+◌, ◌-◌, ◌≤◌, ◌<◌, true, false, List, length, Option, Some, None, Result, Ok, Err, refl, sym, ap, subst, ◌∙◌, arith, inl, inr}
 use Rattle.std.specs.Prelude.{MatchResult, MatchOption, IsErrAnd}
 use Rattle.snmp_ber.specs.Spelling.{head_size}
-use Rattle.snmp_msg.specs.declared.header.Header.{Header}
-use Rattle.snmp_msg.specs.declared.scoped.Scoped.{Scoped}
-use Rattle.snmp_msg.specs.declared.fault.MsgFault.{MsgFault}
-use Rattle.snmp_msg.specs.declared.fault.MsgFault.TheVariants as faults
-use Rattle.snmp_msg.specs.declared.fault.WriteFault.{WriteFault}
-use Rattle.snmp_msg.specs.declared.fault.WriteFault.TheVariants as writes
-use Rattle.snmp_msg.specs.Layout.{Parts, Outer, IsGlobal}
-use Rattle.snmp_msg.specs.Security.{Fields, SecText, FieldsFit, IsShort, fields_text, security_text, placed}
-use Rattle.snmp_msg.specs.Scoped.{Contexts, ScopedContent, HasScoped, HasSealed, IsOneElement, contexts_of, contexts_placed}
+use Rattle.snmp_message.specs.declared.header.Header.{Header}
+use Rattle.snmp_message.specs.declared.scoped.Scoped.{Scoped}
+use Rattle.snmp_message.specs.declared.fault.MsgFault.{MsgFault}
+use Rattle.snmp_message.specs.declared.fault.MsgFault.TheVariants as faults
+use Rattle.snmp_message.specs.declared.fault.WriteFault.{WriteFault}
+use Rattle.snmp_message.specs.declared.fault.WriteFault.TheVariants as writes
+use Rattle.snmp_message.specs.Layout.{Parts, Outer, IsGlobal}
+use Rattle.snmp_message.specs.Security.{Fields, SecText, FieldsFit, IsShort, fields_text, security_text, placed}
+use Rattle.snmp_message.specs.Scoped.{Contexts, ScopedContent, HasScoped, HasSealed, IsOneElement, contexts_of, contexts_placed}
 use Rattle.snmp_msg.specs.Pdu.{PduParts, PduText, SaysPdu, pdu_text}
-use Rattle.snmp_msg.specs.Spelling.{HeaderFits, content_size, message_text, written}
+use Rattle.snmp_message.specs.Spelling.{HeaderFits, content_size, message_text, written}
 use Rattle.snmp_msg.specs.Canonical.{DataParts, sealed, plain, Whole, SaysData, Says, data_tag_of, data_content_of, whole_text, IsCanonical, DataFits, WholeFits, IsShortData}
-use Rattle.snmp_msg.specs.Refusals.{RefusesSecurity, RefusesPdu, RefusesWhole, RefusesCanonical, AgreesWithPriv, canon_fault}
-use Rattle.snmp_msg.proofs.Outers.{one_outer}
-use Rattle.snmp_msg.proofs.Securities.{one_security}
-use Rattle.snmp_msg.proofs.Scopeds.{one_scoped, contexts_text-length, contexts_text-is}
+use Rattle.snmp_message.specs.Refusals.{RefusesSecurity}
+use Rattle.snmp_msg.specs.Refusals.{RefusesPdu, RefusesWhole, RefusesCanonical, AgreesWithPriv, canon_fault}
+use Rattle.snmp_message.proofs.Outers.{one_outer}
+use Rattle.snmp_message.proofs.Securities.{one_security}
+use Rattle.snmp_message.proofs.Scopeds.{one_scoped, contexts_text-length, contexts_text-is}
 use Rattle.snmp_msg.proofs.Pdus.{one_said, said_spelled, says_itself, pdu_text-longer}
-use Rattle.snmp_msg.proofs.Filled.{fields_text-longer, security_text-is}
-use Rattle.snmp_msg.proofs.Writes.{measured_message, message_text-longer, message_text-is}
+use Rattle.snmp_message.proofs.Filled.{fields_text-longer, security_text-is}
+use Rattle.snmp_message.proofs.Writes.{measured_message, message_text-longer, message_text-is}
 
 -- ---- faults
 
@@ -90,12 +91,6 @@ measured_whole m size security_size data_size security_is data_is measured =
     measured_message m.header (security_text m.security) (data_tag_of m.contents) (data_content_of m.contents) size data_size (measured ∙ at_security) data_is
 
 -- ---- one canonical spelling
-
-pub not_both : (w : List ℕ) (m : Parts) (s : Contexts) → HasSealed m → HasScoped w m s → ⊥
-not_both w m s h k = let e : true ≡ false = sym h.0 ∙ k.0 in absurd cc
-
-pub same_scoped : (w : List ℕ) (m : Parts) (s t : Contexts) → HasScoped w m s → HasScoped w m t → s ≡ t
-same_scoped w m s t a b = one_scoped (length w - length m.data_content) m.data_content s t a.2 b.2
 
 same_plain : (w : List ℕ) (m : Parts) (a b c d : List ℕ) (p q : PduParts) → SaysData w m (plain a b p) → SaysData w m (plain c d q) → plain a b p ≡ plain c d q
 same_plain w m a b c d p q h k =

@@ -1,15 +1,4 @@
-pub mod Steps
-pub mod Headers
-pub mod Outers
-pub mod Writes
-pub mod Securities
-pub mod Cuts
-pub mod Scopeds
-pub mod Filled
 pub mod Pdus
-pub mod Appends
 pub mod Canonicals
 pub mod Variables
 pub mod Written
-pub mod Plain
-pub mod Lengths

@@ -14,15 +14,17 @@ use Rattle.std.proofs.Common.{bit_and, ◌%◌}
 use Rattle.std.proofs.lemmas.Nat.{and_mask}
 use Rattle.snmp_ber.proofs.Uniques.{shortest_within}
 use Rattle.snmp_ber.specs.Spelling.{shortest_length}
-use Rattle.snmp_msg.specs.Steps.{when_ended}
-use Rattle.snmp_msg.specs.Reading.{element_in}
+use Rattle.snmp_message.specs.Steps.{when_ended}
+use Rattle.snmp_message.specs.Reading.{element_in}
 use Rattle.snmp_msg.specs.Variables.{Variable, AreBindings, variables_of, after_variables, variables_text}
-use Rattle.snmp_msg.specs.Pdu.{IsPduTag, IsInRange, IsSigned, AreInRange, PduParts, PduContent, PduText, PduFits, SaysPdu, IsSpelled, with_variables, respelled, signed, pdu_content_text, pdu_text, pdu_content_size, pdu_front_text, signed_in, with_list, pdu_content_in, with_pdu_tag, pdu_in}
-use Rattle.snmp_msg.proofs.Steps.{after_some, same_some, guard_then, element_in-is, element_in-again, begins_from_element}
-use Rattle.snmp_msg.proofs.Headers.{ended}
-use Rattle.snmp_msg.proofs.Scopeds.{whole_element}
+use Rattle.snmp_message.specs.Spelling.{signed}
+use Rattle.snmp_message.specs.Reading.{signed_in}
+use Rattle.snmp_msg.specs.Pdu.{IsPduTag, IsInRange, IsSigned, AreInRange, PduParts, PduContent, PduText, PduFits, SaysPdu, IsSpelled, with_variables, respelled, pdu_content_text, pdu_text, pdu_content_size, pdu_front_text, with_list, pdu_content_in, with_pdu_tag, pdu_in}
+use Rattle.snmp_message.proofs.Steps.{after_some, same_some, guard_then, element_in-is, element_in-again, begins_from_element}
+use Rattle.snmp_message.proofs.Headers.{ended}
+use Rattle.snmp_message.proofs.Scopeds.{whole_element}
 use Rattle.snmp_msg.proofs.Variables.{Octets, octets_back, variables_of-is, variables_of-again, one_list, all_fit, variables_text-is}
-use Rattle.snmp_msg.proofs.Writes.{element-length, element_length}
+use Rattle.snmp_message.proofs.Writes.{element-length, element_length}
 
 signed_last : (octets : List ℕ) (x : ℤ × List ℕ) (f : Front) (z : ℤ) → IsInRange x.0 → element_in 2 octets ≡ Some f → integer32_of f.content ≡ Some z → ◌≡◌ {A = Option (ℤ × List ℕ)} (Some (z, f.rest)) (Some x) → (text : List ℕ) × IsSigned x.0 text × (octets ≡ text ++ x.1)
 signed_last octets x f z range e1 e2 e3 =

@@ -2,7 +2,7 @@
 use Rattle.std.proofs.Common.{◌≡◌, ℕ, zero, suc, ◌+◌, ◌-◌, ◌*◌, ◌≤◌, ◌<◌, ◌^◌, ltb, List, [], ◌∷◌, ◌++◌, length, take, drop, Option, Some, None, refl, sym, ap, subst, ◌∙◌, append_assoc, arith}
 use Rattle.std.specs.List.{AllByRecursion, flat_map}
 use Rattle.std.specs.Prelude.{slice_range, option_map, is_some, true}
-use Rattle.std.proofs.lemmas.List.{append-nil, length-append, nil_from_length, take_all}
+use Rattle.std.proofs.lemmas.List.{append-nil, length-append, nil_from_length}
 use Rattle.snmp_ber.specs.Element.{Begins}
 use Rattle.snmp_ber.specs.Oid.{AreArcs, IsIdentifier, AreSubidentifiers, identifier_in, identifier}
 use Rattle.snmp_ber.specs.Reading.{Front, front_of}
@@ -11,13 +11,14 @@ use Rattle.snmp_ber.proofs.Elements.{guard_some, front_of-begun}
 use Rattle.snmp_ber.proofs.Identifiers.{identifier-is, identifier-short}
 use Rattle.snmp_ber.proofs.Oids.{identifier_in-is, identifier_in-again}
 use Rattle.snmp_ber.proofs.Spellings.{element-is}
-use Rattle.snmp_msg.specs.Reading.{element_in}
+use Rattle.snmp_message.specs.Reading.{element_in}
 use Rattle.snmp_msg.specs.declared.binding.VarBind.{VarBind}
 use Rattle.snmp_msg.specs.Variables.{Variable, IsBinding, IsReadBinding, variable_with, AreBindings, with_value, binding_in, with_binding, bindings_taken, variables_of, after_variables, VariableFits, AllFit, variable_content, variable_text, variables_text}
-use Rattle.snmp_msg.proofs.Headers.{ended}
-use Rattle.snmp_msg.proofs.Scopeds.{whole_element}
-use Rattle.snmp_msg.proofs.Steps.{after_some, same_some, element_in-is, element_in-again, begins_from_element}
-use Rattle.snmp_msg.proofs.Writes.{element_length}
+use Rattle.snmp_message.proofs.Cuts.{whole_slice}
+use Rattle.snmp_message.proofs.Headers.{ended}
+use Rattle.snmp_message.proofs.Scopeds.{whole_element}
+use Rattle.snmp_message.proofs.Steps.{after_some, same_some, element_in-is, element_in-again, begins_from_element}
+use Rattle.snmp_message.proofs.Writes.{element_length}
 
 -- Each number of the list is an octet.
 abbrev pub Octets : List ℕ → Type 0
@@ -288,9 +289,6 @@ variables_text-is (v ∷ vs) fit size =
     (variable_text v, flat_map variable_text vs, variable_text-is v fit.0 (omega arith), refl, variables_text-is vs fit.1 (omega arith))
 
 -- ---- places
-
-pub whole_slice : (xs : List ℕ) → slice_range xs 0 (length xs) ≡ xs
-whole_slice xs = let n : length xs - 0 ≡ length xs = omega arith in rw n (take_all (length xs) xs (omega arith))
 
 pub octets_slice : (xs : List ℕ) (i j : ℕ) → Octets xs → Octets (slice_range xs i j)
 octets_slice xs i j h = octets_take (j - i) (drop i xs) (octets_drop i xs h)

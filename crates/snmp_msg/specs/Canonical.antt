@@ -1,19 +1,19 @@
 -- A message with all its layers, and its canonical spelling.
 use Rattle.std.specs.Prelude.{◌≡◌, ℕ, ◌≤◌, List, [], length}
-use Rattle.snmp_msg.specs.declared.message.TheConstants.{LARGEST}
-use Rattle.snmp_msg.specs.declared.header.Header.{Header}
+use Rattle.snmp_message.specs.declared.message.TheConstants.{LARGEST}
+use Rattle.snmp_message.specs.declared.header.Header.{Header}
 use Rattle.snmp_msg.specs.declared.whole.Layers.{Layers}
 use Rattle.snmp_msg.specs.declared.whole.Layer.{Layer}
 use Rattle.snmp_msg.specs.declared.whole.Layer.TheVariants as layers
 use Rattle.snmp_msg.specs.declared.whole.Measured.{Measured}
 use Rattle.snmp_msg.specs.declared.whole.Measured.TheVariants as measures
 use Rattle.snmp_msg.specs.declared.pdu.Pdu.{Pdu}
-use Rattle.snmp_msg.specs.Layout.{Parts, Outer}
-use Rattle.snmp_msg.specs.Security.{Fields, SecText, FieldsFit, fields_of, security_text}
-use Rattle.snmp_msg.specs.Scoped.{Contexts, HasScoped, HasSealed, contexts_text}
+use Rattle.snmp_message.specs.Layout.{Parts, Outer}
+use Rattle.snmp_message.specs.Security.{Fields, SecText, FieldsFit, fields_of, security_text}
+use Rattle.snmp_message.specs.Scoped.{Contexts, HasScoped, HasSealed, contexts_text}
 use Rattle.snmp_msg.specs.Variables.{variables_of, after_variables, variables_text}
 use Rattle.snmp_msg.specs.Pdu.{PduParts, SaysPdu, IsSpelled, pdu_of, pdu_text, respelled}
-use Rattle.snmp_msg.specs.Spelling.{HeaderFits, message_text}
+use Rattle.snmp_message.specs.Spelling.{HeaderFits, message_text}
 
 -- What msgData says: sealed octets, or the contexts and the PDU, whose list is in its canonical spelling.
 pub data DataParts : Type 0 where

@@ -1,13 +1,4 @@
-pub mod Steps
-pub mod Layout
-pub mod Reading
-pub mod Message
-pub mod Level
-pub mod Spelling
-pub mod Security
-pub mod Scoped
 pub mod Variables
 pub mod Pdu
 pub mod Canonical
 pub mod Refusals
-pub mod Numbers

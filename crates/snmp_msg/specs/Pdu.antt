@@ -4,8 +4,9 @@ use Rattle.snmp_ber.specs.Number.{IsInteger32}
 use Rattle.snmp_ber.specs.Element.{IsElement}
 use Rattle.snmp_ber.specs.Reading.{Front, front_of, integer32_of}
 use Rattle.snmp_ber.specs.Spelling.{head_of, head_size, element, integer}
-use Rattle.snmp_msg.specs.Steps.{◌>>=◌, when_ended}
-use Rattle.snmp_msg.specs.Reading.{element_in}
+use Rattle.snmp_message.specs.Steps.{◌>>=◌, when_ended}
+use Rattle.snmp_message.specs.Reading.{element_in, signed_in}
+use Rattle.snmp_message.specs.Spelling.{signed}
 use Rattle.snmp_msg.specs.Variables.{Variable, AreBindings, AllFit, variables_of, after_variables, variables_text}
 use Rattle.snmp_msg.specs.declared.pdu.Pdu.{Pdu}
 
@@ -67,13 +68,6 @@ pub record AreInRange (p : PduParts) : Type 0 where
 
 -- ---- the one reading
 
--- an INTEGER of 32 bits with sign, and the octets after it
-unfoldable pub signed_in : List ℕ → Option (ℤ × List ℕ)
-signed_in octets = do
-  f ← element_in 2 octets
-  z ← integer32_of f.content
-  Some (z, f.rest)
-
 abbrev pub with_list : ℕ → ℤ → ℤ → ℤ → Front → Option PduParts
 with_list tag id second third f =
     if nat_lt 0 (length (after_variables f.content)) then None
@@ -116,9 +110,6 @@ pub record PduFits (p : PduParts) : Type 0 where
   pub numbers : AreInRange p
   pub variables : List Variable
   pub are_bindings : AreBindings variables p.list
-
-abbrev pub signed : ℤ → List ℕ
-signed z = element 2 (integer z)
 
 unfoldable pub pdu_content_text : PduParts → List ℕ
 pdu_content_text p = signed p.id ++ (signed p.second ++ (signed p.third ++ element 48 p.list))

@@ -7,11 +7,10 @@ ghost use Rattle.snmp_ber.specs.Oid.{AreArcs, identifier_in};
 ghost use Rattle.snmp_ber.specs.Element.{StandsAt};
 ghost use Rattle.snmp_msg.specs.Variables.{Variable, IsBinding, IsReadBinding, variable_with, AreBindings, CanBeWritten, AllFit, binding_in, variables_of, after_variables, variable_of, bindings_left, variable_content, variable_text, variables_text};
 
-use crate::field::{OBJECT_IDENTIFIER, SEQUENCE, element_len, read_element};
-use crate::message::LARGEST;
 use snmp_ber::{
     BerFault, Oid, Tlv, is_oid, oid_len, put_head, put_oid, put_tlv, read_oid, read_tlv,
 };
+use snmp_message::{LARGEST, OBJECT_IDENTIFIER, SEQUENCE, element_len, read_element};
 use std::alloc::AllocError;
 
 /// What a VarBind says.

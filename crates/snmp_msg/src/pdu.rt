@@ -5,14 +5,14 @@ ghost use Rattle.std.specs.Result.{result_ok};
 ghost use Rattle.snmp_ber.specs.Spelling.{head_size};
 ghost use Rattle.snmp_msg.specs.Pdu.{IsPduTag, AreInRange, PduParts, PduText, PduFits, pdu_in, pdu_content_in, pdu_of, pdu_with, with_variables, pdu_content_size, pdu_front_text, pdu_text};
 ghost use Rattle.snmp_msg.specs.Variables.{Variable, AreBindings, CanBeWritten, variable_of, variables_of, bindings_left, variables_text};
-ghost use Rattle.snmp_msg.specs.Scoped.{IsOneElement};
+ghost use Rattle.snmp_message.specs.Scoped.{IsOneElement};
 ghost use Rattle.snmp_msg.specs.Refusals.{RefusesPdu};
 
 use crate::binding::{Binding, Bindings, bindings_len, check_bindings, put_bindings};
-use crate::fault::{MsgFault, WriteFault};
-use crate::field::{SEQUENCE, element_len, integer_len, read_element, read_signed};
-use crate::message::LARGEST;
 use snmp_ber::{BerFault, put_head, put_int, read_tlv};
+use snmp_message::{
+    LARGEST, MsgFault, SEQUENCE, WriteFault, element_len, integer_len, read_element, read_signed,
+};
 use std::alloc::{AllocError, Global};
 
 /// What a PDU says.

@@ -2,23 +2,23 @@
 
 ghost use Rattle.std.specs.Prelude.{◌≡◌, [], ◌+◌, ◌*◌, ◌<◌, ◌≤◌, ◌++◌, length, IfOk, IfSome, IfNone, OnOk, OnErr, IsErrOf, MatchResult};
 ghost use Rattle.snmp_ber.specs.Spelling.{head_size, element};
-ghost use Rattle.snmp_msg.specs.Layout.{Outer};
-ghost use Rattle.snmp_msg.specs.Message.{parts};
-ghost use Rattle.snmp_msg.specs.Security.{IsShort, fields_of};
+ghost use Rattle.snmp_message.specs.Layout.{Outer};
+ghost use Rattle.snmp_message.specs.Message.{parts};
+ghost use Rattle.snmp_message.specs.Security.{IsShort, fields_of};
 ghost use Rattle.snmp_msg.specs.Canonical.{Says, IsCanonical, WholeFits, IsReadLayer, IsMeasured, whole_of, whole_text, message_with, data_parts, measured_parts, data_tag_of, data_content_of};
 ghost use Rattle.snmp_msg.specs.Variables.{variables_of, after_variables, variables_text};
 ghost use Rattle.snmp_msg.specs.Pdu.{pdu_of, pdu_text, respelled};
 ghost use Rattle.snmp_msg.specs.Refusals.{RefusesWhole, RefusesCanonical};
 
 use crate::binding::{list_len, put_list};
-use crate::fault::{CanonFault, MsgFault, WriteFault};
-use crate::field::{OCTET_STRING, SEQUENCE};
-use crate::header::Header;
-use crate::message::{LARGEST, Message, message_len, put_front, read_message};
+use crate::fault::CanonFault;
 use crate::pdu::{Pdu, pdu_len, put_pdu_front, read_pdu};
-use crate::scoped::{Scoped, contexts_len, put_contexts, read_scoped};
-use crate::security::{Security, is_short, put_security, read_security, security_len};
 use snmp_ber::{put_head, put_tlv};
+use snmp_message::{
+    Header, LARGEST, Message, MsgFault, OCTET_STRING, SEQUENCE, Scoped, Security, WriteFault,
+    contexts_len, is_short, message_len, put_contexts, put_front, put_security, read_message,
+    read_scoped, read_security, security_len,
+};
 use std::alloc::{AllocError, Global};
 
 /// What msgData says: ScopedPduData of RFC 3412, section 6, with the PDU read.

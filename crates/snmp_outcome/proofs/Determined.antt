@@ -1,10 +1,10 @@
 -- The table gives one answer, and its row 12 is of a sealed message.
 use Rattle.std.proofs.Common.{◌≡◌, ℕ, ◌-◌, List, [], ◌++◌, append-nil, Bool, true, false, Option, Some, None, drop, refl, sym, ap, subst, ◌∙◌, inl, inr}
 use Rattle.std.specs.Prelude.{Result, Ok, Err, IsSomeAnd, MatchBool}
-use Rattle.snmp_msg.specs.Layout.{Parts, Outer}
-use Rattle.snmp_msg.specs.Scoped.{Contexts, HasScoped, ScopedFront, ScopedText}
+use Rattle.snmp_message.specs.Layout.{Parts, Outer}
+use Rattle.snmp_message.specs.Scoped.{Contexts, HasScoped, ScopedFront, ScopedText}
 use Rattle.snmp_msg.specs.Pdu.{PduParts, PduText}
-use Rattle.snmp_msg.specs.Level.{level_of}
+use Rattle.snmp_message.specs.Level.{level_of}
 use Rattle.usm_core.specs.User.{User}
 use Rattle.usm_core.specs.Users.{user_named}
 use Rattle.usm_core.specs.Sealed.{IsPlaintext}

@@ -2,10 +2,10 @@
 use Rattle.std.proofs.Common.{◌≡◌, ◌≤◌, ◌+◌, ◌-◌, ℕ, List, Bool, true, false, refl, sym, ap, ◌∙◌, subst, arith}
 use Rattle.std.specs.Prelude.{◌≢◌, Result, Ok}
 use Rattle.snmp_ber.specs.declared.level.Level.TheVariants.{NoAuthNoPriv}
-use Rattle.snmp_msg.specs.Layout.{Parts, Outer}
-use Rattle.snmp_msg.specs.Security.{Fields, SecText}
-use Rattle.snmp_msg.specs.Level.{level_of}
-use Rattle.snmp_msg.specs.declared.header.Header.{Header}
+use Rattle.snmp_message.specs.Layout.{Parts, Outer}
+use Rattle.snmp_message.specs.Security.{Fields, SecText}
+use Rattle.snmp_message.specs.Level.{level_of}
+use Rattle.snmp_message.specs.declared.header.Header.{Header}
 use Rattle.usm_core.specs.User.{User}
 use Rattle.usm_core.specs.Table.{holds, gives}
 use Rattle.usm_core.specs.Verified.{Side, Verified, Verifies, IsReadAs}

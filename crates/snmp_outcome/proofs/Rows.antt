@@ -1,8 +1,8 @@
 -- Rows of the table, for the functions that answer them.
 use Rattle.std.proofs.Common.{◌≡◌, ℕ, List, Option, Some, None, refl, sym, subst, ap, ◌∙◌, inl, inr}
 use Rattle.std.specs.Prelude.{◌≢◌, Ok, Err, IsSomeAnd}
-use Rattle.snmp_msg.specs.Level.{level_of}
-use Rattle.snmp_msg.specs.declared.refusal.Refusal.{Refusal}
+use Rattle.snmp_message.specs.Level.{level_of}
+use Rattle.snmp_message.specs.declared.refusal.Refusal.{Refusal}
 use Rattle.usm_core.specs.declared.fault.UsmFault.{UsmFault}
 use Rattle.usm_core.specs.declared.fault.UsmFault.TheVariants as usm
 use Rattle.usm_core.specs.Refusals as usm_refusals

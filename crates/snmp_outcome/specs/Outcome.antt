@@ -2,7 +2,7 @@
 -- answers (after RFC 3412, section 7.2, and RFC 3414, section 3.2).
 use Rattle.std.specs.Prelude.{◌≡◌, ◌≤◌, ◌-◌, ℕ, List, length, drop, true, Result, Some, MatchBool}
 use Rattle.snmp_ber.specs.declared.level.Level.{Level}
-use Rattle.snmp_msg.specs.Level.{level_of}
+use Rattle.snmp_message.specs.Level.{level_of}
 use Rattle.engine_clock.specs.Pairs.{BootsAndTime, pair_max}
 use Rattle.engine_clock.specs.Marks.{SeenPair, Marks, mark_at}
 use Rattle.engine_clock.specs.Windows.{InAgentWindow, InManagerWindow, notion_at}

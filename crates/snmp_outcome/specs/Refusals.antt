@@ -1,8 +1,8 @@
 -- The numbers, names and places of refusals.
 use Rattle.std.specs.Prelude.{◌≡◌, ◌≢◌, ℕ, List, Bool, Option, Some, None, MatchBool}
-use Rattle.snmp_msg.specs.declared.refusal.Refusal.{Refusal}
-use Rattle.snmp_msg.specs.declared.refusal.Refusal.TheVariants as refusals
-use Rattle.snmp_msg.specs.Numbers.{refusal_number, refusal_name}
+use Rattle.snmp_message.specs.declared.refusal.Refusal.{Refusal}
+use Rattle.snmp_message.specs.declared.refusal.Refusal.TheVariants as refusals
+use Rattle.snmp_message.specs.Numbers.{refusal_number, refusal_name}
 use Rattle.usm_core.specs.declared.fault.UsmFault.{UsmFault}
 use Rattle.usm_core.specs.Refusals as usm
 use Rattle.snmp_outcome.specs.declared.fault.TakeFault.{TakeFault}

@@ -1,6 +1,6 @@
 -- Octets that begin with a ScopedPDU.
 use Rattle.std.specs.Prelude.{◌≡◌, ℕ, List}
-use Rattle.snmp_msg.specs.Scoped.{Contexts, ScopedFront}
+use Rattle.snmp_message.specs.Scoped.{Contexts, ScopedFront}
 use Rattle.snmp_msg.specs.Pdu.{PduParts, PduText}
 use Rattle.snmp_outcome.specs.declared.octets.Octets.{Octets}
 use Rattle.snmp_outcome.specs.declared.octets.Octets.TheVariants.{Borrowed, Owned}

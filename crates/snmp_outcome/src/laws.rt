@@ -6,7 +6,7 @@ ghost use Rattle.usm_core.specs.User.{User};
 ghost use Rattle.usm_core.specs.Verified.{Verified, Verifies};
 ghost use Rattle.snmp_outcome.specs.Outcome.{Given, Taker, as_agent, side_at, IsTextOf, Outcome};
 
-use snmp_msg::{one_content, one_cut, one_message, plain_from_data};
+use snmp_msg::{one_content, one_cut, one_message, one_pdu, plain_from_data};
 
 /// A message has one text at most.
 pub fn one_text()
@@ -19,6 +19,7 @@ pub fn one_answer()
 {
     usm_core::one_answer();
     one_content();
+    one_pdu();
 }
 
 /// Where the answer is 12 the message is sealed: what isn't was found to be a ScopedPDU before its digest was looked at.

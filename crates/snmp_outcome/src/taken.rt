@@ -6,7 +6,7 @@ ghost use Rattle.snmp_outcome.specs.Texts.{text_of, HasTag};
 use crate::octets::Octets;
 use engine_clock::EngineId;
 use snmp_ber::Level;
-use snmp_msg::{Pdu, Scoped, one_content, read_pdu, read_scoped_front, whole_slice};
+use snmp_msg::{Pdu, Scoped, one_content, one_pdu, read_pdu, read_scoped_front, whole_slice};
 
 /// An accepted datagram: from whom it is, and its ScopedPDU.
 #[derive(Drop)]
@@ -28,7 +28,7 @@ pub struct Taken<'a> {
 
 impl<'a> Taken<'a> {
     ghost use Rattle.std.specs.Prelude.{◌≡◌, List, ℕ};
-    ghost use Rattle.snmp_msg.specs.Scoped.{ScopedFront, Contexts, contexts_of};
+    ghost use Rattle.snmp_message.specs.Scoped.{ScopedFront, Contexts, contexts_of};
     ghost use Rattle.snmp_msg.specs.Pdu.{PduText, pdu_of};
 
     /// The ScopedPDU (RFC 3412, section 6.8). The place of its data counts from its own first octet. It takes no memory.
@@ -47,6 +47,7 @@ impl<'a> Taken<'a> {
         ensures tag { result.tag ≡ self.now.tag }
     {
         one_content();
+        one_pdu();
         whole_slice();
         let scoped = self.scoped();
         match read_pdu(scoped.pdu, 0, scoped.pdu.len()) {

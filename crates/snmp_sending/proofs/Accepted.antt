@@ -2,12 +2,12 @@
 use Rattle.std.proofs.Common.{◌≡◌, ℕ, ◌-◌, List, [], ◌+◌, ◌++◌, Bool, true, false, length, drop, refl, sym, ap, subst, ◌∙◌, inl, inr, append-nil}
 use Rattle.std.specs.Prelude.{if◌then◌else◌, ◌&&◌, Result, Ok, Err, Option, Some, None, is_some, IsSomeAnd, MatchBool}
 use Rattle.snmp_ber.specs.Element.{IsElement}
-use Rattle.snmp_msg.specs.Layout.{Parts, Outer}
-use Rattle.snmp_msg.specs.Security.{Fields, SecText}
-use Rattle.snmp_msg.specs.Scoped.{Contexts, ScopedContent, ScopedText, ScopedFront, HasScoped}
+use Rattle.snmp_message.specs.Layout.{Parts, Outer}
+use Rattle.snmp_message.specs.Security.{Fields, SecText}
+use Rattle.snmp_message.specs.Scoped.{Contexts, ScopedContent, ScopedText, ScopedFront, HasScoped}
 use Rattle.snmp_msg.specs.Pdu.{PduParts, PduText}
-use Rattle.snmp_msg.specs.declared.header.Header.{Header}
-use Rattle.snmp_msg.specs.Level.{level_of}
+use Rattle.snmp_message.specs.declared.header.Header.{Header}
+use Rattle.snmp_message.specs.Level.{level_of}
 use Rattle.engine_clock.specs.Pairs.{BootsAndTime}
 use Rattle.engine_clock.specs.Windows.{InAgentWindow}
 use Rattle.snmp_ber.specs.declared.level.Level.{Level}

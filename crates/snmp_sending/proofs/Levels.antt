@@ -4,8 +4,8 @@ use Rattle.std.proofs.lemmas.List.{length-append}
 use Rattle.snmp_ber.specs.declared.level.Level.{Level}
 use Rattle.snmp_ber.specs.declared.level.Level.TheVariants.{NoAuthNoPriv, AuthNoPriv, AuthPriv}
 use Rattle.snmp_ber.specs.Spelling.{element}
-use Rattle.snmp_msg.specs.Level.{level_of}
-use Rattle.snmp_msg.specs.Scoped.{contexts_text, scoped_text}
+use Rattle.snmp_message.specs.Level.{level_of}
+use Rattle.snmp_message.specs.Scoped.{contexts_text, scoped_text}
 use Rattle.snmp_sending.specs.Bodies.{has_auth, has_privacy, header_at}
 
 pub flags_at : (l : Level) → has_privacy l ≡ true → has_auth l ≡ true

@@ -3,11 +3,11 @@ use Rattle.std.proofs.Common.{◌≡◌, ℕ, ◌<◌, ◌≤◌, List, true, le
 use Rattle.std.specs.Prelude.{Result, Ok, Err, Option, Some, None, IfSome, IsSomeAnd, IsErrOf, IsErrAnd, option_map}
 use Rattle.std.specs.Global.{Vec}
 use Rattle.snmp_ber.specs.declared.level.Level.{Level}
-use Rattle.snmp_msg.specs.declared.fault.WriteFault.{WriteFault}
-use Rattle.snmp_msg.specs.declared.fault.WriteFault.TheVariants as write
-use Rattle.snmp_msg.specs.declared.refusal.Refusal.{Refusal}
-use Rattle.snmp_msg.specs.declared.refusal.Refusal.TheVariants as refusals
-use Rattle.snmp_msg.specs.Level.{level_of}
+use Rattle.snmp_message.specs.declared.fault.WriteFault.{WriteFault}
+use Rattle.snmp_message.specs.declared.fault.WriteFault.TheVariants as write
+use Rattle.snmp_message.specs.declared.refusal.Refusal.{Refusal}
+use Rattle.snmp_message.specs.declared.refusal.Refusal.TheVariants as refusals
+use Rattle.snmp_message.specs.Level.{level_of}
 use Rattle.usm_core.specs.User.{User}
 use Rattle.usm_core.specs.declared.fault.UsmFault.{UsmFault}
 use Rattle.usm_core.specs.declared.fault.UsmFault.TheVariants.{NotMessage, BadVersion, NotSecurity, NotScoped, UnknownEngine, UnknownUser, UnsupportedLevel, WrongDigest, DecryptionError, OutOfMemory, TooLarge, UnknownModel, InvalidFlags}

@@ -5,9 +5,10 @@ use Rattle.std.proofs.lemmas.List.{length-append}
 use Rattle.snmp_ber.specs.declared.level.Level.{Level}
 use Rattle.snmp_ber.specs.declared.level.Level.TheVariants.{NoAuthNoPriv, AuthNoPriv, AuthPriv}
 use Rattle.snmp_ber.specs.Spelling.{head_size, element}
-use Rattle.snmp_msg.specs.Scoped.{IsOneElement, ScopedText, contexts_text, scoped_text, contexts_placed}
+use Rattle.snmp_message.specs.Scoped.{IsOneElement, ScopedText, contexts_text, scoped_text, contexts_placed}
 use Rattle.snmp_msg.specs.Variables.{Variable, AllFit, AreBindings, variables_text}
-use Rattle.snmp_msg.specs.Pdu.{PduParts, PduText, PduFits, pdu_content_text, pdu_text, signed}
+use Rattle.snmp_message.specs.Spelling.{signed}
+use Rattle.snmp_msg.specs.Pdu.{PduParts, PduText, PduFits, pdu_content_text, pdu_text}
 use Rattle.engine_clock.specs.Marks.{SeenPair}
 use Rattle.engine_clock.specs.Pairs.{IsPair}
 use Rattle.usm_core.specs.User.{User}

@@ -1,7 +1,7 @@
 -- When what was sealed is accepted by who takes it.
 use Rattle.std.specs.Prelude.{◌≡◌, ℕ, true, List, Result, Ok, Err}
-use Rattle.snmp_msg.specs.Level.{level_of}
-use Rattle.snmp_msg.specs.Scoped.{Contexts, ScopedText, ScopedFront}
+use Rattle.snmp_message.specs.Level.{level_of}
+use Rattle.snmp_message.specs.Scoped.{Contexts, ScopedText, ScopedFront}
 use Rattle.snmp_msg.specs.Pdu.{PduParts, PduText}
 use Rattle.engine_clock.specs.Pairs.{BootsAndTime}
 use Rattle.engine_clock.specs.Windows.{InAgentWindow}

@@ -2,8 +2,8 @@
 use Rattle.std.specs.Prelude.{ℕ, Bool, true, false, List, map, All}
 use Rattle.snmp_ber.specs.declared.level.Level.{Level}
 use Rattle.snmp_ber.specs.declared.level.Level.TheVariants.{NoAuthNoPriv, AuthNoPriv, AuthPriv}
-use Rattle.snmp_msg.specs.declared.header.Header.{Header}
-use Rattle.snmp_msg.specs.Scoped.{scoped_text}
+use Rattle.snmp_message.specs.declared.header.Header.{Header}
+use Rattle.snmp_message.specs.Scoped.{scoped_text}
 use Rattle.snmp_msg.specs.Variables.{CanBeWritten, variable_of}
 use Rattle.snmp_msg.specs.Pdu.{PduParts, IsPduTag, pdu_with, pdu_text}
 use Rattle.snmp_sending.specs.declared.body.Body.{Body}

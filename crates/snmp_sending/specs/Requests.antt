@@ -2,7 +2,7 @@
 use Rattle.std.specs.Prelude.{◌≡◌, ◌≤◌, ℕ, pos, true, List, [], length, map, replicate, Option, Some, None}
 use Rattle.snmp_ber.specs.declared.level.Level.{Level}
 use Rattle.snmp_ber.specs.declared.level.Level.TheVariants.{NoAuthNoPriv, AuthNoPriv, AuthPriv}
-use Rattle.snmp_msg.specs.Scoped.{scoped_text}
+use Rattle.snmp_message.specs.Scoped.{scoped_text}
 use Rattle.snmp_msg.specs.Variables.{AllFit, variable_of}
 use Rattle.snmp_msg.specs.Pdu.{IsPduTag, AreInRange, pdu_with, pdu_text}
 use Rattle.engine_clock.specs.Pairs.{BootsAndTime, IsPair}

@@ -2,7 +2,7 @@
 use Rattle.std.specs.Prelude.{◌≡◌, ◌≤◌, ℕ, Bool, true, List, length}
 use Rattle.snmp_ber.specs.declared.level.Level.{Level}
 use Rattle.snmp_ber.specs.Spelling.{head_size}
-use Rattle.snmp_msg.specs.Scoped.{Contexts, contexts_text, contexts_placed, scoped_text}
+use Rattle.snmp_message.specs.Scoped.{Contexts, contexts_text, contexts_placed, scoped_text}
 use Rattle.snmp_msg.specs.Variables.{Variable, AllFit, variables_text}
 use Rattle.snmp_msg.specs.Pdu.{PduParts, IsPduTag, AreInRange, pdu_text}
 use Rattle.engine_clock.specs.Pairs.{BootsAndTime, IsPair}

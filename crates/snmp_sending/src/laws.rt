@@ -2,7 +2,7 @@
 
 ghost use Rattle.std.specs.Prelude.{◌≤◌, ◌-◌, ℕ, List, Option, Ok};
 ghost use Rattle.snmp_ber.specs.declared.level.Level.{Level};
-ghost use Rattle.snmp_msg.specs.Scoped.{Contexts};
+ghost use Rattle.snmp_message.specs.Scoped.{Contexts};
 ghost use Rattle.snmp_msg.specs.Pdu.{PduParts};
 ghost use Rattle.usm_core.specs.User.{User};
 ghost use Rattle.usm_core.specs.Sealed.{Sending, Seals};
@@ -17,7 +17,7 @@ ghost use Rattle.snmp_sending.specs.Speaks.{Speech, spoken, spoken_contexts, Spe
 ghost use Rattle.snmp_sending.specs.Requests.{requesting, request, RequestFits};
 
 use snmp_ber::one_element;
-use snmp_msg::{one_cut, one_message, plain_from_data, written_again};
+use snmp_msg::{one_cut, one_message, pdu_written_again, plain_from_data, written_again};
 use snmp_outcome::one_answer;
 use usm_core::{sealed_is_authentic, sealed_is_opened, sealed_is_read, sealed_size};
 
@@ -44,6 +44,7 @@ pub fn spoken_is_accepted()
         → Seals senders (spoken s) (Ok text) → IsTakenInTime taker users now text (spoken s) (spoken_contexts s) s.pdu }
 {
     written_again();
+    pdu_written_again();
     sealed_size();
     sealed_is_accepted();
 }

@@ -2,9 +2,9 @@
 use Rattle.std.proofs.Common.{◌≡◌, ℕ, List, [], Option, Some, Result, Ok, Err, refl, subst, inr}
 use Rattle.std.specs.Prelude.{◌≢◌, IfOk, OnOk, IfSome}
 use Rattle.hex.specs.Hex.{decode_of}
-use Rattle.snmp_msg.specs.Numbers.{refusal_number}
-use Rattle.snmp_msg.specs.declared.refusal.Refusal.{Refusal}
-use Rattle.snmp_msg.specs.declared.refusal.Refusal.TheVariants as refusals
+use Rattle.snmp_message.specs.Numbers.{refusal_number}
+use Rattle.snmp_message.specs.declared.refusal.Refusal.{Refusal}
+use Rattle.snmp_message.specs.declared.refusal.Refusal.TheVariants as refusals
 use Rattle.snmp_outcome.specs.Refusals.{number_in_table}
 use Rattle.usm_core.specs.User.{User}
 use Rattle.vacm_core.specs.Tables.{Tables}

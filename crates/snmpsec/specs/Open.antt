@@ -1,7 +1,7 @@
 -- What `snmpsec open` prints.
 use Rattle.std.specs.Prelude.{◌≡◌, ◌⊎◌, ℕ, List, [], ◌++◌, codes, Ok, Err}
 use Rattle.hex.specs.Hex.{decode_of}
-use Rattle.snmp_msg.specs.Numbers.{refusal_number}
+use Rattle.snmp_message.specs.Numbers.{refusal_number}
 use Rattle.usm_core.specs.User.{User}
 use Rattle.vacm_core.specs.Tables.{Tables}
 use Rattle.snmpsec_config.specs.Refusals.{Loads}

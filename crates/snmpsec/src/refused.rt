@@ -1,8 +1,8 @@
 //! Why a message is refused, as the program prints it.
 
 ghost use Rattle.std.specs.Prelude.{◌≡◌, None};
-ghost use Rattle.snmp_msg.specs.declared.refusal.Refusal.TheVariants.{OutOfMemory};
-ghost use Rattle.snmp_msg.specs.Refusals.{write_refusal};
+ghost use Rattle.snmp_message.specs.declared.refusal.Refusal.TheVariants.{OutOfMemory};
+ghost use Rattle.snmp_message.specs.Refusals.{write_refusal};
 ghost use Rattle.snmpsec.specs.Refusals.{msg_refused, take_refused, plain_refused};
 
 use snmp_msg::{MsgFault, Refusal, WriteFault};

@@ -1,7 +1,7 @@
 -- A datagram that is opened has one answer.
 use Rattle.std.proofs.Common.{◌≡◌, ℕ, List, refl, sym, ap, subst, ◌∙◌}
 use Rattle.std.specs.Prelude.{Result, Ok, Err}
-use Rattle.snmp_msg.specs.Scoped.{Contexts, ScopedFront}
+use Rattle.snmp_message.specs.Scoped.{Contexts, ScopedFront}
 use Rattle.snmp_msg.specs.Pdu.{PduParts, PduText}
 use Rattle.usm_core.specs.User.{User}
 use Rattle.usm_core.specs.Verified.{Side, Verified, Verifies, manager}

@@ -4,8 +4,8 @@ use Rattle.std.specs.List.{flat_map}
 use Rattle.std.specs.Fmt.{signed_decimal}
 use Rattle.hex.specs.Hex.{encode_lower}
 use Rattle.snmp_ber.specs.Oid.{dotted}
-use Rattle.snmp_msg.specs.declared.header.Header.{Header}
-use Rattle.snmp_msg.specs.Security.{Fields}
+use Rattle.snmp_message.specs.declared.header.Header.{Header}
+use Rattle.snmp_message.specs.Security.{Fields}
 use Rattle.snmp_msg.specs.Variables.{Variable, variables_of}
 use Rattle.snmp_msg.specs.Pdu.{PduParts}
 

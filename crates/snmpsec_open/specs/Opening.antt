@@ -1,7 +1,7 @@
 -- What a message says that is opened by the keys of users.
 use Rattle.std.specs.Prelude.{◌≡◌, ℕ, List, ◌++◌, codes, length, true, Option, Some, None, Result, Ok, Err, String, string_bytes}
-use Rattle.snmp_msg.specs.Level.{level_of}
-use Rattle.snmp_msg.specs.Scoped.{Contexts}
+use Rattle.snmp_message.specs.Level.{level_of}
+use Rattle.snmp_message.specs.Scoped.{Contexts}
 use Rattle.snmp_msg.specs.Pdu.{PduParts}
 use Rattle.usm_core.specs.User.{User}
 use Rattle.usm_core.specs.Table.{Needs, Then}

@@ -4,7 +4,7 @@ ghost use Rattle.std.specs.Prelude.{◌≡◌, List, ℕ, Result};
 ghost use Rattle.usm_core.specs.User.{User};
 ghost use Rattle.snmpsec_open.specs.Opening.{Opens};
 
-use snmp_msg::one_content;
+use snmp_msg::{one_content, one_pdu};
 
 /// A datagram that is opened by the keys of users has one answer at most: its lines, or one refusal.
 pub fn one_opening()
@@ -12,4 +12,5 @@ pub fn one_opening()
 {
     usm_core::one_answer();
     one_content();
+    one_pdu();
 }

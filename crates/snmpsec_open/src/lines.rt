@@ -2,7 +2,7 @@
 
 ghost use Rattle.std.specs.Prelude.{◌≡◌, IfOk, string_bytes};
 ghost use Rattle.std.specs.List.{flat_map};
-ghost use Rattle.snmp_msg.specs.Security.{fields_of};
+ghost use Rattle.snmp_message.specs.Security.{fields_of};
 ghost use Rattle.snmp_msg.specs.Variables.{variable_of, variables_of};
 ghost use Rattle.snmp_msg.specs.Pdu.{pdu_of};
 ghost use Rattle.snmpsec_open.specs.Lines as spec;

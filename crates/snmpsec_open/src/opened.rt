@@ -1,7 +1,7 @@
 //! A message, opened by the keys of users.
 
 ghost use Rattle.std.specs.Prelude.{◌≡◌, IfOk, IfSome, string_bytes};
-ghost use Rattle.snmp_msg.specs.Level.{level_of};
+ghost use Rattle.snmp_message.specs.Level.{level_of};
 ghost use Rattle.usm_core.specs.Answers.{verified_of};
 ghost use Rattle.snmp_outcome.specs.Texts.{text_of};
 ghost use Rattle.snmpsec_open.specs.Opening.{TellsText, Opens, lines_answer};

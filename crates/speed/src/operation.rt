@@ -1,7 +1,7 @@
 //! The operations that can be timed.
 
 ghost use Rattle.std.specs.Prelude.{◌≡◌, ◌++◌, ◌-◌, [], ◌∷◌, ℕ, IsTrue, false, All, IfOk, Ok, drop, length, map, replicate, take};
-ghost use Rattle.snmp_msg.specs.Scoped.{IsOneElement};
+ghost use Rattle.snmp_message.specs.Scoped.{IsOneElement};
 ghost use Rattle.snmp_msg.specs.Variables.{CanBeWritten, variable_of};
 ghost use Rattle.speed.specs.declared.operation.Operation.{Operation as AnOperation};
 ghost use Rattle.speed.specs.Words.{operation_word};

@@ -1,10 +1,10 @@
 -- The table down to the digest gives one answer, and says what was read where it refuses below the layout.
 use Rattle.std.proofs.Common.{◌≡◌, ◌≤◌, ℕ, List, [], Bool, true, false, Option, Some, None, refl, sym, ap, subst, ◌∙◌, arith}
 use Rattle.std.specs.Prelude.{◌≢◌, Result, Ok, Err, IfOk, IfErr, IsSomeAnd, MatchBool, if◌then◌else◌}
-use Rattle.snmp_msg.specs.Layout.{Parts, Outer}
-use Rattle.snmp_msg.specs.Security.{Fields, SecText}
+use Rattle.snmp_message.specs.Layout.{Parts, Outer}
+use Rattle.snmp_message.specs.Security.{Fields, SecText}
 use Rattle.snmp_msg.specs.Refusals.{AgreesWithPriv}
-use Rattle.snmp_msg.specs.Level.{level_of}
+use Rattle.snmp_message.specs.Level.{level_of}
 use Rattle.snmp_ber.specs.Element.{IsElement}
 use Rattle.snmp_ber.specs.declared.level.Level.TheVariants.{NoAuthNoPriv, AuthNoPriv, AuthPriv}
 use Rattle.usm_keys.specs.AuthKey.{AuthKey}

@@ -4,9 +4,9 @@ use Rattle.std.specs.Prelude.{Result, Err, IfSome, IsErrOf, IsSomeAnd, MatchBool
 use Rattle.std.specs.Global.{Vec}
 use Rattle.std.proofs.lemmas.List.{length-append}
 use Rattle.snmp_ber.specs.Element.{IsElement, IsLength}
-use Rattle.snmp_msg.specs.declared.header.Header.{Header}
-use Rattle.snmp_msg.specs.Security.{Fields, FieldsFit, security_text}
-use Rattle.snmp_msg.specs.Spelling.{HeaderFits, message_text}
+use Rattle.snmp_message.specs.declared.header.Header.{Header}
+use Rattle.snmp_message.specs.Security.{Fields, FieldsFit, security_text}
+use Rattle.snmp_message.specs.Spelling.{HeaderFits, message_text}
 use Rattle.usm_keys.specs.declared.auth.Auth.{Auth}
 use Rattle.usm_keys.specs.Keys.{kul}
 use Rattle.usm_keys.specs.Protocols.{hash_of, mac_octets}

@@ -1,9 +1,9 @@
 //! The digest of a message (RFC 3414, sections 6.3 and 7.3): whether it is right, and putting it in its place.
 
 ghost use Rattle.std.specs.Prelude.{◌≡◌, ◌+◌, ◌≤◌, ◌↔◌, ◌++◌, vec_len, replicate, take, drop, length, IsTrue, IsSomeAnd, IfSome, Some, None, List, true};
-ghost use Rattle.snmp_msg.specs.declared.message.TheConstants.{LARGEST};
-ghost use Rattle.snmp_msg.specs.Message.{parts, tag_of, content_of};
-ghost use Rattle.snmp_msg.specs.Security.{IsCut, fields_of};
+ghost use Rattle.snmp_message.specs.declared.message.TheConstants.{LARGEST};
+ghost use Rattle.snmp_message.specs.Message.{parts, tag_of, content_of};
+ghost use Rattle.snmp_message.specs.Security.{IsCut, fields_of};
 ghost use Rattle.usm_keys.specs.Protocols.{mac as mac_by, mac_octets};
 ghost use Rattle.usm_core.specs.User.{User as UserOf};
 ghost use Rattle.usm_core.specs.Users.{user_named};
@@ -16,7 +16,7 @@ use crate::cache::{KeyCache, Purpose};
 use crate::cached_key::CachedKey;
 use crate::spell::Outgoing;
 use crate::user::User;
-use snmp_msg::{Data, Message, Security, cut, field_filled, one_cut, read_message, read_security};
+use snmp_message::{Data, Message, Security, cut, field_filled, one_cut, read_message, read_security};
 use usm_keys::{KeptKey, Key, localise};
 
 /// Whether the octets are the same. It looks at each of them wherever they differ, so that the time tells nothing of the place.

@@ -2,8 +2,8 @@
 
 ghost use Rattle.std.specs.Prelude.{◌≡◌, ◌≢◌, ℕ, List, Some, length, take, IfOk, IfErr, IsErrOf, ◌≤◌, ◌⊎◌};
 ghost use Rattle.snmp_ber.specs.declared.level.Level.TheVariants.{AuthPriv};
-ghost use Rattle.snmp_msg.specs.Message.{tag_of, content_of};
-ghost use Rattle.snmp_msg.specs.Security.{fields_of};
+ghost use Rattle.snmp_message.specs.Message.{tag_of, content_of};
+ghost use Rattle.snmp_message.specs.Security.{fields_of};
 ghost use Rattle.usm_keys.specs.Keys.{kul};
 ghost use Rattle.usm_keys.specs.Protocols.{hash_of};
 ghost use Rattle.usm_aes.specs.Aes.{enciphered, schedule};
@@ -20,7 +20,7 @@ use crate::checked::Checked;
 use crate::fault::UsmFault;
 use crate::spell::Outgoing;
 use crate::user_table::UserTable;
-use snmp_msg::Security;
+use snmp_message::Security;
 use std::alloc::{AllocError, Global};
 use usm_aes::{Schedule, cfb_open, cfb_seal, iv};
 use usm_keys::{Key, localise};

@@ -2,10 +2,10 @@
 
 ghost use Rattle.std.specs.Prelude.{◌+◌, ◌<◌, ◌≤◌, false, replicate, ◌≡◌, ◌≢◌, ◌↔◌, ◌⊎◌, ℕ, List, [], map, length, IfOk, IfErr, IfSome, OnOk, OnErr, IsErrOf};
 ghost use Rattle.snmp_ber.specs.declared.level.Level.TheVariants.{AuthPriv};
-ghost use Rattle.snmp_msg.specs.declared.message.TheConstants.{LARGEST};
-ghost use Rattle.snmp_msg.specs.Message.{tag_of, content_of};
-ghost use Rattle.snmp_msg.specs.Security.{fields_of};
-ghost use Rattle.snmp_msg.specs.Level.{level_of};
+ghost use Rattle.snmp_message.specs.declared.message.TheConstants.{LARGEST};
+ghost use Rattle.snmp_message.specs.Message.{tag_of, content_of};
+ghost use Rattle.snmp_message.specs.Security.{fields_of};
+ghost use Rattle.snmp_message.specs.Level.{level_of};
 ghost use Rattle.engine_clock.specs.Pairs.{BootsAndTime};
 ghost use Rattle.usm_core.specs.Users.{AreUsers, HasUserAt};
 ghost use Rattle.usm_core.specs.Cache.{AreCached};
@@ -30,7 +30,7 @@ use crate::user_table::UserTable;
 use crate::verify::verify;
 use engine_clock::Pair;
 use snmp_ber::Level;
-use snmp_msg::{Header, one_cut, one_message};
+use snmp_message::{Header, one_cut, one_message};
 use std::alloc::{AllocError, Global};
 use std::marker::Model;
 

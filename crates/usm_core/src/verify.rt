@@ -3,7 +3,7 @@
 ghost use Rattle.std.specs.Prelude.{◌≡◌, ◌≤◌, ◌⊎◌, ◌↔◌, ℕ, List, [], length, IsTrue, IfOk, IfSome, None};
 ghost use Rattle.std.specs.Bool.{OnTrue};
 ghost use Rattle.snmp_ber.specs.declared.level.Level.TheVariants.{NoAuthNoPriv};
-ghost use Rattle.snmp_msg.specs.Level.{level_of};
+ghost use Rattle.snmp_message.specs.Level.{level_of};
 ghost use Rattle.usm_core.specs.Authentic.{HasEngineLength};
 ghost use Rattle.usm_core.specs.Verified.{Verifies, AllowsEngine, manager};
 ghost use Rattle.usm_core.specs.Answers.{side_of, checked_answer};

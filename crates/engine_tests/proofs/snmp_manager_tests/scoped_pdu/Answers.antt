@@ -1,5 +1,5 @@
 use Rattle.std.proofs.Common.{sym, subst}
-use Rattle.snmp_msg.specs.Scoped.{IsOneElement}
+use Rattle.snmp_message.specs.Scoped.{IsOneElement}
 use Rattle.engine_tests.proofs.snmp_manager_tests.scoped_pdu.Goals as goal
 
 pub write_scoped-requires : goal.write_scoped-requires

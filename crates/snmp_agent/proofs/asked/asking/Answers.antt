@@ -1,7 +1,7 @@
 use Rattle.std.proofs.Common.{rules, ◌≡◌, ℤ, sym, subst, refl, to_z, of_z, w32, SFits}
 use Rattle.std.proofs.lemmas.Int.{to_z-of_z}
-use Rattle.snmp_msg.specs.Message.{parts}
-use Rattle.snmp_msg.specs.Security.{fields_of}
+use Rattle.snmp_message.specs.Message.{parts}
+use Rattle.snmp_message.specs.Security.{fields_of}
 use Rattle.snmp_agent.specs.Report.{IsCopiedId}
 use Rattle.snmp_agent.proofs.Requests.{no_fields, not_reportable, not_answered}
 use Rattle.snmp_agent.proofs.asked.asking.Goals as goal

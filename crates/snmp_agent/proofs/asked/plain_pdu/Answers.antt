@@ -1,6 +1,6 @@
 use Rattle.std.proofs.Common.{List, ℕ, sym, subst, refl}
-use Rattle.snmp_msg.specs.Message.{parts}
-use Rattle.snmp_msg.specs.Scoped.{Contexts, contexts_of}
+use Rattle.snmp_message.specs.Message.{parts}
+use Rattle.snmp_message.specs.Scoped.{Contexts, contexts_of}
 use Rattle.snmp_msg.specs.Pdu.{PduText, pdu_of}
 use Rattle.snmp_agent.proofs.asked.plain_pdu.Goals as goal
 

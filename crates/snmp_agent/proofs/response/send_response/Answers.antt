@@ -1,7 +1,7 @@
 use Rattle.std.proofs.Common.{rules, ◌≡◌, subst, w32, SFits}
 use Rattle.std.specs.Prelude.{map, IfSome}
 use Rattle.std.proofs.lemmas.Int.{to_z-of_z}
-use Rattle.snmp_msg.specs.Scoped.{Contexts, contexts_of}
+use Rattle.snmp_message.specs.Scoped.{Contexts, contexts_of}
 use Rattle.snmp_msg.specs.Pdu.{PduParts, pdu_of}
 use Rattle.snmp_msg.specs.Variables.{variable_of}
 use Rattle.usm_core.specs.Sealed.{Seals}
@@ -14,7 +14,7 @@ use Rattle.snmp_agent.proofs.response.send_response.Goals as goal
 pub returns-clause-rows : goal.returns-clause-rows
 returns-clause-rows c s p front is_pdu =
     let same : contexts_of c.scoped-scoped.result ≡ s = c.one_content.ensures.front (text_of c.args.taken.now.text) (contexts_of c.scoped-scoped.result) s c.scoped-scoped.ensures front in
-    let same_pdu : pdu_of c.pdu-pdu.result ≡ p = c.one_content.ensures.pdu s.pdu (pdu_of c.pdu-pdu.result) p (c.pdu-pdu.ensures.is_pdu s front) is_pdu in
+    let same_pdu : pdu_of c.pdu-pdu.result ≡ p = c.one_pdu.ensures.pdu s.pdu (pdu_of c.pdu-pdu.result) p (c.pdu-pdu.ensures.is_pdu s front) is_pdu in
     let fits : SFits w32 c.pdu-pdu.result.id = search rules in
     let fits_status : SFits w32 c.args.response.now.status = search rules in
     let fits_index : SFits w32 c.args.response.now.index = search rules in

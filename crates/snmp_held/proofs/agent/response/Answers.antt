@@ -1,6 +1,6 @@
 use Rattle.std.proofs.Common.{◌≡◌, ℕ, pos, List, Option, Result, Ok, true, map, subst, ap, rules, w32, to_z}
 use Rattle.std.specs.Prelude.{IfSome}
-use Rattle.snmp_msg.specs.Scoped.{Contexts, ScopedFront}
+use Rattle.snmp_message.specs.Scoped.{Contexts, ScopedFront}
 use Rattle.snmp_msg.specs.Pdu.{PduParts, PduText}
 use Rattle.snmp_msg.specs.Variables.{Variable, variable_of}
 use Rattle.snmp_msg.specs.declared.binding.Binding.{Binding}

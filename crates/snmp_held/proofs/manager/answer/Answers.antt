@@ -1,5 +1,5 @@
 use Rattle.std.proofs.Common.{subst}
-use Rattle.snmp_msg.specs.Scoped.{Contexts, ScopedFront}
+use Rattle.snmp_message.specs.Scoped.{Contexts, ScopedFront}
 use Rattle.snmp_msg.specs.Pdu.{PduParts, PduText}
 use Rattle.snmp_outcome.specs.Outcome.{Given}
 use Rattle.snmp_manager.specs.Replies.{IsAnswer}

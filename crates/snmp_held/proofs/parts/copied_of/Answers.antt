@@ -1,5 +1,5 @@
 use Rattle.std.proofs.Common.{List, ℕ, refl, sym, ap, subst}
-use Rattle.snmp_msg.specs.Scoped.{Contexts, contexts_of}
+use Rattle.snmp_message.specs.Scoped.{Contexts, contexts_of}
 use Rattle.snmp_msg.specs.Pdu.{pdu_of}
 use Rattle.snmp_outcome.specs.Outcome.{Given}
 use Rattle.snmp_outcome.specs.Answers.{given_of}

@@ -1,6 +1,6 @@
 use Rattle.std.proofs.Common.{rules, arith, FitsSigned, w32, ◌≡◌, length}
 use Rattle.std.proofs.lemmas.Int.{to_z-of_z}
-use Rattle.snmp_msg.specs.Pdu.{signed}
+use Rattle.snmp_message.specs.Spelling.{signed}
 use Rattle.snmp_msg.proofs.pdu.pdu_content_len.Goals as goal
 
 pub returns-clause-size : goal.returns-clause-size

@@ -1,8 +1,9 @@
 use Rattle.std.proofs.Common.{rules, FitsSigned, w32, ◌≡◌, ◌++◌}
 use Rattle.std.proofs.lemmas.Int.{to_z-of_z}
 use Rattle.snmp_ber.specs.Spelling.{head_of}
-use Rattle.snmp_msg.specs.Pdu.{pdu_of, signed, pdu_content_size, pdu_front_text}
-use Rattle.snmp_msg.proofs.Appends.{five_appended}
+use Rattle.snmp_message.specs.Spelling.{signed}
+use Rattle.snmp_msg.specs.Pdu.{pdu_of, pdu_content_size, pdu_front_text}
+use Rattle.snmp_message.proofs.Appends.{five_appended}
 use Rattle.snmp_msg.proofs.pdu.put_pdu_front.Goals as goal
 
 pub returns : goal.returns

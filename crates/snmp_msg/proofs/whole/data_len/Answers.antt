@@ -1,7 +1,7 @@
 use Rattle.std.proofs.Common.{◌≡◌, ℕ, length, ap, sym, ◌∙◌}
-use Rattle.snmp_msg.specs.Scoped.{contexts_size}
+use Rattle.snmp_message.specs.Scoped.{contexts_size}
 use Rattle.snmp_msg.specs.Pdu.{pdu_of, pdu_text, respelled}
-use Rattle.snmp_msg.proofs.Scopeds.{contexts_text-length}
+use Rattle.snmp_message.proofs.Scopeds.{contexts_text-length}
 use Rattle.snmp_msg.proofs.Pdus.{measured_pdu}
 use Rattle.snmp_msg.proofs.whole.data_len.Goals as goal
 

@@ -1,9 +1,9 @@
 use Rattle.std.proofs.Common.{◌≡◌, ℕ, List, ◌++◌, length, ap, sym, ◌∙◌}
 use Rattle.snmp_ber.specs.Spelling.{head_of, element}
-use Rattle.snmp_msg.specs.Scoped.{contexts_text}
+use Rattle.snmp_message.specs.Scoped.{contexts_text}
 use Rattle.snmp_msg.specs.Pdu.{pdu_of, pdu_text, respelled}
-use Rattle.snmp_msg.proofs.Appends.{three_appended}
-use Rattle.snmp_msg.proofs.Scopeds.{contexts_joined}
+use Rattle.snmp_message.proofs.Appends.{three_appended}
+use Rattle.snmp_message.proofs.Scopeds.{contexts_joined}
 use Rattle.snmp_msg.proofs.whole.put_data.Goals as goal
 
 pub returns-in_ok-put_pdu-in-Plain : goal.returns-in_ok-put_pdu-in-Plain

@@ -1,9 +1,9 @@
 use Rattle.std.proofs.Common.{◌≡◌, ℕ, List, length, refl, sym, subst}
 use Rattle.std.specs.Prelude.{slice_range}
 use Rattle.snmp_msg.specs.Pdu.{PduText, pdu_of}
-use Rattle.snmp_msg.specs.Message.{parts}
-use Rattle.snmp_msg.specs.Security.{fields_of}
-use Rattle.snmp_msg.specs.Scoped.{contexts_of, HasScoped}
+use Rattle.snmp_message.specs.Message.{parts}
+use Rattle.snmp_message.specs.Security.{fields_of}
+use Rattle.snmp_message.specs.Scoped.{contexts_of, HasScoped}
 use Rattle.snmp_msg.proofs.Canonicals.{refused_as, agrees_from, security_refused, pdu_refused, whole_fits}
 use Rattle.snmp_msg.proofs.Pdus.{says_respelled}
 use Rattle.snmp_msg.proofs.Variables.{variables_of-again}

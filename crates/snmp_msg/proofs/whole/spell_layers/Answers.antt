@@ -1,10 +1,10 @@
 use Rattle.std.proofs.Common.{arith, ◌≡◌, ℕ, List, [], ◌++◌, length, ap, sym, ◌∙◌, rules}
 use Rattle.snmp_ber.specs.Spelling.{element}
-use Rattle.snmp_msg.specs.Security.{fields_of, security_text}
-use Rattle.snmp_msg.specs.Spelling.{front_text, content_size}
+use Rattle.snmp_message.specs.Security.{fields_of, security_text}
+use Rattle.snmp_message.specs.Spelling.{front_text, content_size}
 use Rattle.snmp_msg.specs.Canonical.{message_with, measured_parts, data_tag_of, data_content_of, whole_text}
-use Rattle.snmp_msg.proofs.Appends.{three_appended}
-use Rattle.snmp_msg.proofs.Writes.{message_text-front}
+use Rattle.snmp_message.proofs.Appends.{three_appended}
+use Rattle.snmp_message.proofs.Writes.{message_text-front}
 use Rattle.snmp_msg.proofs.Canonicals.{whole_text-longer}
 use Rattle.snmp_msg.proofs.whole.spell_layers.Goals as goal
 

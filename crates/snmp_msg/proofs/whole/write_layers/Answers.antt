@@ -1,10 +1,10 @@
 use Rattle.std.proofs.Common.{◌≡◌, ◌+◌, ℕ, length, arith, ap, sym, subst, ◌∙◌, inl, inr}
 use Rattle.std.proofs.lemmas.Bool.{cases_lt}
 use Rattle.snmp_ber.specs.Spelling.{head_size}
-use Rattle.snmp_msg.specs.Security.{IsShort, security_text}
-use Rattle.snmp_msg.specs.Spelling.{content_size}
+use Rattle.snmp_message.specs.Security.{IsShort, security_text}
+use Rattle.snmp_message.specs.Spelling.{content_size}
 use Rattle.snmp_msg.specs.Canonical.{DataParts, Whole, WholeFits, whole_of, whole_text, message_with, measured_parts, data_content_of}
-use Rattle.snmp_msg.proofs.Scopeds.{not_so}
+use Rattle.snmp_message.proofs.Scopeds.{not_so}
 use Rattle.snmp_msg.proofs.Canonicals.{short_security, measured_whole, whole_text-longer}
 use Rattle.snmp_msg.proofs.whole.write_layers.Goals as goal
 

@@ -1,5 +1,5 @@
 use Rattle.std.proofs.Common.{refl, sym, subst, inl, inr, List, ℕ}
-use Rattle.snmp_msg.specs.Scoped.{contexts_of}
+use Rattle.snmp_message.specs.Scoped.{contexts_of}
 use Rattle.snmp_msg.specs.Pdu.{pdu_of, PduText}
 use Rattle.snmp_outcome.proofs.reading.read_tag.Goals as goal
 

@@ -1,7 +1,7 @@
 use Rattle.std.proofs.Common.{rules, sym, subst, arith, w32, SFits}
 use Rattle.std.proofs.lemmas.Int.{to_z-of_z}
 use Rattle.snmp_msg.specs.Pdu.{pdu_text}
-use Rattle.snmp_msg.specs.Scoped.{IsOneElement}
+use Rattle.snmp_message.specs.Scoped.{IsOneElement}
 use Rattle.snmp_sending.specs.Bodies.{pdu_in}
 use Rattle.snmp_sending.proofs.Levels.{scoped_longer}
 use Rattle.snmp_sending.proofs.body.write_body.Goals as goal

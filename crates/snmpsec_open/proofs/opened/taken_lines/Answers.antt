@@ -1,6 +1,6 @@
 use Rattle.std.proofs.Common.{◌≡◌, rules}
 use Rattle.std.specs.Prelude.{IfOk, string_bytes}
-use Rattle.snmp_msg.specs.Scoped.{contexts_of}
+use Rattle.snmp_message.specs.Scoped.{contexts_of}
 use Rattle.snmp_msg.specs.Pdu.{pdu_of}
 use Rattle.usm_core.specs.Answers.{verified_of}
 use Rattle.snmpsec_open.specs.Opening.{opened_lines}

@@ -1,6 +1,6 @@
 use Rattle.std.proofs.Common.{◌≡◌, ◌+◌, ap, sym, ◌∙◌, ℕ, List, length, take, drop, replicate, ◌++◌}
-use Rattle.snmp_msg.specs.Message.{parts}
-use Rattle.snmp_msg.specs.Security.{fields_of}
+use Rattle.snmp_message.specs.Message.{parts}
+use Rattle.snmp_message.specs.Security.{fields_of}
 use Rattle.usm_keys.specs.AuthKey.{AuthKey}
 use Rattle.usm_keys.specs.Keys.{kul}
 use Rattle.usm_keys.specs.Protocols.{hash_of, mac, mac_octets}

@@ -1,5 +1,5 @@
 use Rattle.std.proofs.Common.{◌≡◌, subst, ap}
-use Rattle.snmp_msg.specs.Scoped.{Contexts, contexts_of}
+use Rattle.snmp_message.specs.Scoped.{Contexts, contexts_of}
 use Rattle.vacm_core.specs.Tables.{Tables}
 use Rattle.vacm_core.specs.Allowed.{Allowed}
 use Rattle.snmp_outcome.specs.Texts.{text_of}

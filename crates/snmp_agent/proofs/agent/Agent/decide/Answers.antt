@@ -1,5 +1,5 @@
 use Rattle.std.proofs.Common.{◌≡◌, ◌≢◌, sym, subst, ap, List, ℕ}
-use Rattle.snmp_msg.specs.Scoped.{Contexts, contexts_of}
+use Rattle.snmp_message.specs.Scoped.{Contexts, contexts_of}
 use Rattle.snmp_msg.specs.Pdu.{PduParts, pdu_of}
 use Rattle.snmp_msg.specs.Variables.{AreBindings}
 use Rattle.vacm_core.specs.Tables.{Tables}
@@ -11,13 +11,13 @@ use Rattle.snmp_agent.proofs.agent.Agent.decide.Goals as goal
 
 pub returns-in-None-clause-decision : goal.returns-in-None-clause-decision
 returns-in-None-clause-decision c s p front is_pdu =
-    let same_pdu : pdu_of c.pdu-pdu.result ≡ p = c.one_content.ensures.pdu s.pdu (pdu_of c.pdu-pdu.result) p (c.pdu-pdu.ensures.is_pdu s front) is_pdu in
+    let same_pdu : pdu_of c.pdu-pdu.result ≡ p = c.one_pdu.ensures.pdu s.pdu (pdu_of c.pdu-pdu.result) p (c.pdu-pdu.ensures.is_pdu s front) is_pdu in
     subst (λ (y : PduParts). (y.tag ≢ 160) × (y.tag ≢ 163)) same_pdu c.in-None.ensures
 
 pub returns-clause-decision : goal.returns-clause-decision
 returns-clause-decision c s p front is_pdu =
     let same : contexts_of c.scoped-scoped.result ≡ s = c.one_content.ensures.front (text_of c.args.taken.now.text) (contexts_of c.scoped-scoped.result) s c.scoped-scoped.ensures front in
-    let same_pdu : pdu_of c.pdu-pdu.result ≡ p = c.one_content.ensures.pdu s.pdu (pdu_of c.pdu-pdu.result) p (c.pdu-pdu.ensures.is_pdu s front) is_pdu in
+    let same_pdu : pdu_of c.pdu-pdu.result ≡ p = c.one_pdu.ensures.pdu s.pdu (pdu_of c.pdu-pdu.result) p (c.pdu-pdu.ensures.is_pdu s front) is_pdu in
     let tables = ap (λ (a : AgentState). a.tables) c.self.view_is in
     let list = ap (λ (y : PduParts). y.list) same_pdu in
     let bindings : AreBindings is_pdu.says.variables c.pdu-pdu.result.list.now = subst (λ (l : List ℕ). AreBindings is_pdu.says.variables l) (sym list) is_pdu.says.are_bindings in

@@ -1,5 +1,5 @@
 use Rattle.std.proofs.Common.{◌≡◌, Some, subst, rules}
-use Rattle.snmp_msg.specs.Scoped.{Contexts, ScopedFront}
+use Rattle.snmp_message.specs.Scoped.{Contexts, ScopedFront}
 use Rattle.snmp_agent.specs.Decides.{question_of}
 use Rattle.vacm_core.specs.Allowed.{Allowed}
 use Rattle.snmp_held.specs.Agents.{AgentHeld}

@@ -1,5 +1,5 @@
 use Rattle.std.proofs.Common.{◌≤◌, arith, refl, pos, [], length, to_z, w32}
-use Rattle.snmp_msg.specs.Scoped.{scoped_text}
+use Rattle.snmp_message.specs.Scoped.{scoped_text}
 use Rattle.snmp_msg.specs.Variables.{variables_text}
 use Rattle.snmp_msg.specs.Pdu.{pdu_with, pdu_text}
 use Rattle.snmp_manager.proofs.Written.{scoped_most}

@@ -1,6 +1,7 @@
 use Rattle.std.proofs.Common.{◌≡◌, None, sym, ap, ◌∙◌, length, rules}
 use Rattle.snmp_msg.specs.Variables.{binding_in, variable_of}
-use Rattle.snmp_msg.proofs.Variables.{no_variable, left_after, whole_slice}
+use Rattle.snmp_message.proofs.Cuts.{whole_slice}
+use Rattle.snmp_msg.proofs.Variables.{no_variable, left_after}
 use Rattle.snmp_msg.proofs.binding.BindingsIterator.next.Goals as goal
 
 pub returns-in_default-clause-steps : goal.returns-in_default-clause-steps

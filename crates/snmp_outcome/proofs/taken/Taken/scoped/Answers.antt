@@ -1,6 +1,6 @@
 use Rattle.std.proofs.Common.{sym, subst, List, ℕ}
 use Rattle.std.proofs.lemmas.Grind.{not_there}
-use Rattle.snmp_msg.specs.Scoped.{ScopedFront}
+use Rattle.snmp_message.specs.Scoped.{ScopedFront}
 use Rattle.snmp_outcome.proofs.taken.Taken.scoped.Goals as goal
 
 pub unreachable-requires : goal.unreachable-requires

@@ -1,5 +1,5 @@
 use Rattle.std.proofs.Common.{sym, subst}
-use Rattle.snmp_msg.specs.Scoped.{IsOneElement}
+use Rattle.snmp_message.specs.Scoped.{IsOneElement}
 use Rattle.usm_tests.proofs.usm_core_tests.messages.scoped_pdu_in.Goals as goal
 
 pub write_scoped-requires : goal.write_scoped-requires

@@ -1,0 +1,11 @@
+pub mod Steps
+pub mod Headers
+pub mod Outers
+pub mod Writes
+pub mod Securities
+pub mod Cuts
+pub mod Scopeds
+pub mod Filled
+pub mod Appends
+pub mod Plain
+pub mod Lengths

@@ -1,0 +1,10 @@
+pub mod Steps
+pub mod Layout
+pub mod Reading
+pub mod Message
+pub mod Level
+pub mod Spelling
+pub mod Security
+pub mod Scoped
+pub mod Refusals
+pub mod Numbers

@@ -1,0 +1,44 @@
+-- The refusals' numbers and names, which the whole engine shares.
+use Rattle.std.specs.Prelude.{ℕ, List, codes}
+use Rattle.snmp_message.specs.declared.refusal.Refusal.{Refusal}
+use Rattle.snmp_message.specs.declared.refusal.Refusal.TheVariants.{NotMessage, BadVersion, NotSecurity, NotScoped, NotPdu, UnknownEngine, UnknownUser, UnsupportedLevel, WrongDigest, NotInWindow, DecryptionError, BadScoped, BadPdu, OutOfMemory, ClockExhausted, TooLarge, UnknownModel, InvalidFlags}
+
+abbrev pub refusal_number : Refusal → ℕ
+refusal_number NotMessage = 1
+refusal_number BadVersion = 2
+refusal_number NotSecurity = 3
+refusal_number NotScoped = 4
+refusal_number NotPdu = 5
+refusal_number UnknownEngine = 6
+refusal_number UnknownUser = 7
+refusal_number UnsupportedLevel = 8
+refusal_number WrongDigest = 9
+refusal_number NotInWindow = 10
+refusal_number DecryptionError = 11
+refusal_number BadScoped = 12
+refusal_number BadPdu = 13
+refusal_number OutOfMemory = 14
+refusal_number ClockExhausted = 15
+refusal_number TooLarge = 16
+refusal_number UnknownModel = 17
+refusal_number InvalidFlags = 18
+
+abbrev pub refusal_name : Refusal → List ℕ
+refusal_name NotMessage = codes "NotMessage"
+refusal_name BadVersion = codes "BadVersion"
+refusal_name NotSecurity = codes "NotSecurity"
+refusal_name NotScoped = codes "NotScoped"
+refusal_name NotPdu = codes "NotPdu"
+refusal_name UnknownEngine = codes "UnknownEngine"
+refusal_name UnknownUser = codes "UnknownUser"
+refusal_name UnsupportedLevel = codes "UnsupportedLevel"
+refusal_name WrongDigest = codes "WrongDigest"
+refusal_name NotInWindow = codes "NotInWindow"
+refusal_name DecryptionError = codes "DecryptionError"
+refusal_name BadScoped = codes "BadScoped"
+refusal_name BadPdu = codes "BadPdu"
+refusal_name OutOfMemory = codes "OutOfMemory"
+refusal_name ClockExhausted = codes "ClockExhausted"
+refusal_name TooLarge = codes "TooLarge"
+refusal_name UnknownModel = codes "UnknownModel"
+refusal_name InvalidFlags = codes "InvalidFlags"

@@ -1,0 +1,183 @@
+//! ScopedPDU (RFC 3412, section 6.8).
+
+ghost use Rattle.std.specs.Prelude.{◌≡◌, ℕ, List, ◌+◌, ◌*◌, ◌<◌, ◌≤◌, ◌++◌, length, slice_range, option_map, IfOk, IfSome, IfNone, IfErr, OnOk, OnErr, IsErrOf, MatchOption, MatchResult};
+ghost use Rattle.std.specs.Result.{result_ok};
+ghost use Rattle.snmp_ber.specs.Element.{IsElement};
+ghost use Rattle.snmp_ber.specs.Spelling.{element, head_size};
+ghost use Rattle.snmp_message.specs.Layout.{Outer};
+ghost use Rattle.snmp_message.specs.Message.{parts};
+ghost use Rattle.snmp_message.specs.Scoped.{Contexts, ScopedText, HasScoped, HasSealed, ScopedFront, contexts_in, contexts_of, scoped_front_in, IsOneElement, contexts_size, contexts_text, scoped_text, contexts_placed};
+ghost use Rattle.snmp_message.specs.Refusals.{RefusesScoped, RefusesFront};
+
+use crate::fault::{MsgFault, WriteFault};
+use crate::field::{OCTET_STRING, SEQUENCE, element_len, read_element};
+use crate::message::{Data, LARGEST, Message};
+use snmp_ber::{BerFault, put_head, put_tlv, read_tlv};
+use std::alloc::{AllocError, Global};
+
+/// What a ScopedPDU says.
+#[derive(Clone, Copy, Debug, PartialEq, Eq)]
+pub struct Scoped<'a> {
+    /// contextEngineID.
+    pub engine: &'a [u8],
+    /// contextName.
+    pub name: &'a [u8],
+    /// The data, one whole element.
+    pub pdu: &'a [u8],
+    /// The place of the data's first octet, counted from 0 in what was read.
+    pub data_at: usize,
+}
+
+/// The ScopedPDU whose content stands between two places.
+#[tactic(auto, unfolding(crate::specs::Scoped::contexts_in))]
+fn read_contexts(octets: &[u8], at: usize, end: usize) -> Result<Scoped<'_>, BerFault>
+    requires start { at ≤ end }
+    requires within { end ≤ length octets.now }
+    ensures value { option_map contexts_of (result_ok result) ≡ contexts_in end (slice_range octets.now at end) }
+    ensures ends { IfOk result (λ s. s.data_at + length s.pdu.now ≡ end) }
+    ensures place { IfOk result (λ s. s.pdu.now ≡ slice_range octets.now s.data_at end) }
+{
+    let engine = read_element(octets, at, end, OCTET_STRING)?;
+    let name = read_element(octets, engine.end, end, OCTET_STRING)?;
+    let pdu = read_tlv(octets, name.end, end)?;
+    if pdu.end < end {
+        return Err(BerFault { at: pdu.end });
+    }
+    Ok(Scoped {
+        engine: engine.content,
+        name: name.content,
+        pdu: &octets[name.end..end],
+        data_at: name.end,
+    })
+}
+
+/// The ScopedPDU of a message whose priv flag is clear, and None for the sealed octets of one whose priv flag is set. The
+/// message is `read_message`'s of this datagram.
+///
+/// The error is NotScoped, exactly where msgData isn't an OCTET STRING though priv is set, isn't a SEQUENCE though priv is
+/// clear, or is a SEQUENCE that isn't one ScopedPDU. No memory is taken.
+pub fn read_scoped<'a>(
+    datagram: &'a [u8],
+    message: &Message<'_>,
+) -> Result<Option<Scoped<'a>>, MsgFault>
+    requires { Outer datagram.now (parts message.now) }
+    ensures exact { MatchResult result
+        (λ found. MatchOption found (HasSealed (parts message.now)) (λ s. HasScoped datagram.now (parts message.now) (contexts_of s)))
+        (RefusesScoped datagram.now (parts message.now)) }
+    ensures none { OnErr result ((HasSealed (parts message.now) → ⊥) × ((s : Contexts) → HasScoped datagram.now (parts message.now) s → ⊥)) }
+    ensures within { IfOk result (λ found. IfSome found (λ s. s.data_at + length s.pdu.now ≡ length datagram.now)) }
+    ensures place { IfOk result (λ found. IfSome found (λ s. s.pdu.now ≡ slice_range datagram.now s.data_at (length datagram.now))) }
+    ensures element { IfOk result (λ found. IfSome found (λ s. IsOneElement s.pdu.now)) }
+{
+    match (message.header.privacy, message.body) {
+        (true, Data::Sealed(_)) => Ok(None),
+        (false, Data::Plain(content)) => {
+            match read_contexts(datagram, datagram.len() - content.len(), datagram.len()) {
+                Ok(scoped) => Ok(Some(scoped)),
+                Err(fault) => Err(MsgFault::NotScoped { at: fault.at }),
+            }
+        }
+        _ => Err(MsgFault::NotScoped {
+            at: message.data_at,
+        }),
+    }
+}
+
+/// The ScopedPDU in front of the octets.
+#[tactic(auto, unfolding(crate::specs::Scoped::scoped_front_in))]
+fn read_front(plaintext: &[u8]) -> Result<Scoped<'_>, BerFault>
+    ensures value { option_map contexts_of (result_ok result) ≡ scoped_front_in plaintext.now }
+    ensures within { IfOk result (λ s. s.data_at + length s.pdu.now ≤ length plaintext.now) }
+    ensures place { IfOk result (λ s. s.pdu.now ≡ slice_range plaintext.now s.data_at (s.data_at + length s.pdu.now)) }
+{
+    let whole = read_element(plaintext, 0, plaintext.len(), SEQUENCE)?;
+    read_contexts(plaintext, whole.body, whole.end)
+}
+
+/// The ScopedPDU that decrypted octets begin with. What follows it is padding, and isn't looked at.
+///
+/// The error is NotScoped, exactly where no front of the octets is a ScopedPDU; its place counts in the plaintext. No
+/// memory is taken.
+pub fn read_scoped_front(plaintext: &[u8]) -> Result<Scoped<'_>, MsgFault>
+    ensures exact { MatchResult result (λ s. ScopedFront plaintext.now (contexts_of s)) (RefusesFront plaintext.now) }
+    ensures none { OnErr result ((s : Contexts) → ScopedFront plaintext.now s → ⊥) }
+    ensures within { IfOk result (λ s. s.data_at + length s.pdu.now ≤ length plaintext.now) }
+    ensures place { IfOk result (λ s. s.pdu.now ≡ slice_range plaintext.now s.data_at (s.data_at + length s.pdu.now)) }
+    ensures element { IfOk result (λ s. IsOneElement s.pdu.now) }
+{
+    match read_front(plaintext) {
+        Ok(scoped) => Ok(scoped),
+        Err(fault) => Err(MsgFault::NotScoped { at: fault.at }),
+    }
+}
+
+/// How many octets the content of a ScopedPDU has whose data has `pdu_len` octets.
+pub fn contexts_len(engine: &[u8], name: &[u8], pdu_len: usize) -> usize
+    requires engine { length engine.now ≤ LARGEST }
+    requires name { length name.now ≤ LARGEST }
+    requires pdu { pdu_len ≤ 3 * LARGEST }
+    ensures size { result ≡ contexts_size (length engine.now) (length name.now) pdu_len }
+    ensures most { result ≤ 6 * LARGEST }
+{
+    element_len(engine.len()) + element_len(name.len()) + pdu_len
+}
+
+/// Appends contextEngineID and contextName.
+pub fn put_contexts(out: &mut Vec<u8>, engine: &[u8], name: &[u8]) -> Result<(), AllocError>
+    requires engine { length engine.now ≤ LARGEST }
+    requires name { length name.now ≤ LARGEST }
+    ensures ok { OnOk result (out.new.items ≡ out.old.items ++ (element 4 engine.now ++ element 4 name.now)) }
+{
+    put_tlv(out, OCTET_STRING, engine)?;
+    put_tlv(out, OCTET_STRING, name)
+}
+
+/// Writes the ScopedPDU into `size` octets of memory.
+#[tactic(auto, unfolding(crate::specs::Scoped::scoped_text))]
+fn spell_scoped(
+    alloc: Global,
+    engine: &[u8],
+    name: &[u8],
+    pdu: &[u8],
+    size: usize,
+) -> Result<Vec<u8>, AllocError>
+    requires engine { length engine.now ≤ LARGEST }
+    requires name { length name.now ≤ LARGEST }
+    requires pdu { length pdu.now ≤ LARGEST }
+    ensures { IfOk result (λ v. v.items ≡ scoped_text engine.now name.now pdu.now) }
+{
+    let mut out = Vec::with_capacity(alloc, size)?;
+    put_head(&mut out, SEQUENCE, contexts_len(engine, name, pdu.len()))?;
+    put_contexts(&mut out, engine, name)?;
+    out.extend_from_slice(pdu)?;
+    Ok(out)
+}
+
+/// A ScopedPDU, in the shortest spelling, around its data, which is one whole element.
+///
+/// The error TooLarge (16) comes exactly where the text would be longer than 65,507 octets, unless there is want of memory,
+/// which is the other error.
+pub fn write_scoped(
+    alloc: Global,
+    engine: &[u8],
+    name: &[u8],
+    pdu: &[u8],
+) -> Result<Vec<u8>, WriteFault>
+    requires { IsOneElement pdu.now }
+    ensures ok { IfOk result (λ v. v.items ≡ scoped_text engine.now name.now pdu.now) }
+    ensures size { IfOk result (λ v. length v.items ≤ LARGEST) }
+    ensures element { IfOk result (λ v. (content : List ℕ) × IsElement 48 content v.items) }
+    ensures spelled { IfOk result (λ v. ScopedText 0 v.items (contexts_placed (head_size (length (contexts_text engine.now name.now pdu.now))) engine.now name.now pdu.now)) }
+    ensures too_large { IsErrOf result WriteFault.TooLarge → LARGEST < length (scoped_text engine.now name.now pdu.now) }
+    ensures memory { IsErrOf result WriteFault.OutOfMemory → length (scoped_text engine.now name.now pdu.now) ≤ LARGEST }
+{
+    if engine.len().max(name.len()).max(pdu.len()) > LARGEST {
+        return Err(WriteFault::TooLarge);
+    }
+    let size = element_len(contexts_len(engine, name, pdu.len()));
+    if size > LARGEST {
+        return Err(WriteFault::TooLarge);
+    }
+    let out = spell_scoped(alloc, engine, name, pdu, size)?;
+    Ok(out)
+}

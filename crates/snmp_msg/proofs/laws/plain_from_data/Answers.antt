@@ -1,9 +1,0 @@
-use Rattle.std.proofs.Common.{arith}
-use Rattle.snmp_msg.proofs.Plain.{plain_from, size_of}
-use Rattle.snmp_msg.proofs.laws.plain_from_data.Goals as goal
-
-pub returns-clause-within : goal.returns-clause-within
-returns-clause-within c = λ w m o. let size = size_of w m o in omega arith
-
-pub returns-clause-scoped : goal.returns-clause-scoped
-returns-clause-scoped c = plain_from
