@@ -11,7 +11,7 @@ use Rattle.snmp_ber.specs.Spelling.{head_of, head_size, element}
 use Rattle.snmp_ber.proofs.Spellings.{head_of-is, element-is}
 use Rattle.snmp_message.proofs.Writes.{element-length}
 use Rattle.snmp_ber.proofs.Places.{range_rest}
-use Rattle.snmp_message.specs.Scoped.{Contexts, ScopedContent, ScopedText, HasScoped, ScopedFront, IsOneElement, contexts_size, contexts_text, scoped_text, contexts_placed, with_pdu, contexts_in, scoped_front_in}
+use Rattle.snmp_message.specs.Scoped.{Contexts, ScopedContent, ScopedText, HasScoped, HasSealed, ScopedFront, IsOneElement, contexts_size, contexts_text, scoped_text, contexts_placed, with_pdu, contexts_in, scoped_front_in}
 use Rattle.snmp_message.proofs.Steps.{after_some, same_some, TakesElement, element_in-is, element_in-again, begins_from_element}
 use Rattle.snmp_message.proofs.Headers.{ended}
 use Rattle.snmp_message.proofs.Cuts.{piece_at}
