@@ -7,8 +7,8 @@ use Rattle.snmp_message.specs.Level.{level_of}
 use Rattle.snmp_message.specs.declared.header.Header.{Header}
 use Rattle.snmp_message.specs.Layout.{Parts, Outer}
 use Rattle.snmp_message.specs.Security.{Fields, SecText}
-use Rattle.usm_core.specs.User.{User}
-use Rattle.usm_core.specs.Users.{user_named, HasUserAt}
+use Rattle.usm_users.specs.User.{User}
+use Rattle.usm_users.specs.Users.{user_named, HasUserAt}
 use Rattle.usm_core.specs.Table.{Needs, Then, holds, fails, gives, refuses}
 use Rattle.usm_core.specs.Verified.{Side, agent, Verified, Verifies, ReadsLayout, Judges, IsReadAs}
 use Rattle.snmp_outcome.specs.declared.fault.TakeFault.{TakeFault}

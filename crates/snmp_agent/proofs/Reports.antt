@@ -6,8 +6,8 @@ use Rattle.snmp_ber.specs.declared.level.Level.{Level}
 use Rattle.snmp_ber.specs.declared.level.Level.TheVariants.{NoAuthNoPriv, AuthNoPriv}
 use Rattle.snmp_message.specs.Level.{level_of}
 use Rattle.engine_clock.specs.Pairs.{BootsAndTime}
-use Rattle.usm_core.specs.User.{User}
-use Rattle.usm_core.specs.Users.{user_named, supports, HasUser, HasUserAt}
+use Rattle.usm_users.specs.User.{User}
+use Rattle.usm_users.specs.Users.{user_named, supports, HasUser, HasUserAt}
 use Rattle.usm_core.specs.Table.{Needs, holds, fails}
 use Rattle.usm_core.specs.Sealed.{Sending, SealedText, Seals, IsSealable}
 use Rattle.snmp_outcome.specs.declared.fault.TakeFault.{TakeFault}

@@ -1,6 +1,6 @@
 -- An agent, and what its taking of a datagram answers and leaves.
 use Rattle.std.specs.Prelude.{◌≡◌, ℕ, List, Option, Some, None, Result, Ok, Err, true}
-use Rattle.usm_core.specs.User.{User}
+use Rattle.usm_users.specs.User.{User}
 use Rattle.usm_core.specs.Verified.{Verified, Verifies}
 use Rattle.vacm_core.specs.Tables.{Tables}
 use Rattle.snmp_outcome.specs.declared.taken.Taken.{Taken}

@@ -9,7 +9,7 @@ use Rattle.snmp_message.specs.Scoped.{Contexts, HasScoped, scoped_text}
 use Rattle.snmp_msg.specs.Variables.{Variable}
 use Rattle.snmp_msg.specs.Pdu.{PduParts, PduText, pdu_with, pdu_text}
 use Rattle.engine_clock.specs.Pairs.{BootsAndTime}
-use Rattle.usm_core.specs.User.{User}
+use Rattle.usm_users.specs.User.{User}
 use Rattle.usm_core.specs.Verified.{OuterOf, SecurityOf}
 use Rattle.usm_core.specs.Sealed.{Sending, SealedText}
 use Rattle.snmp_outcome.specs.Outcome.{Taker, own_pair, Outcome}

@@ -12,7 +12,7 @@ ghost use Rattle.vacm_core.specs.Faults.{AreSound};
 ghost use Rattle.vacm_core.specs.Allowed.{Message, Allowed};
 ghost use Rattle.vacm_core.specs.declared.access.ViewType.{ViewType as Asked};
 ghost use Rattle.vacm_core.specs.declared.access.Access.{Access as Answer};
-ghost use Rattle.usm_core.specs.User.{User};
+ghost use Rattle.usm_users.specs.User.{User};
 ghost use Rattle.usm_core.specs.Verified.{manager};
 ghost use Rattle.usm_core.specs.Sealed.{Seals, SealedText};
 ghost use Rattle.snmp_outcome.specs.Outcome.{Given, as_manager};

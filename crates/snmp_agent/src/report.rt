@@ -2,7 +2,7 @@
 
 ghost use Rattle.std.specs.Prelude.{◌≡◌, ◌≤◌, length, Some, IfOk, OnErr, IfSome, true};
 ghost use Rattle.snmp_ber.specs.declared.level.Level.TheVariants.{AuthNoPriv};
-ghost use Rattle.usm_core.specs.Users.{HasUserAt};
+ghost use Rattle.usm_users.specs.Users.{HasUserAt};
 ghost use Rattle.usm_core.specs.Sealed.{SealedText};
 ghost use Rattle.snmp_outcome.specs.Refusals.{number_of, answer_number};
 ghost use Rattle.snmp_outcome.specs.Outcome.{Outcome, own_pair};

@@ -17,7 +17,7 @@ use Rattle.snmp_agent.specs.Decides.{question, question_of}
 use Rattle.snmp_agent.specs.Sent.{responding, Sends}
 use Rattle.engine_clock.specs.Pairs.{BootsAndTime, pair_max}
 use Rattle.usm_core.specs.Authentic.{HasEngineLength}
-use Rattle.usm_core.specs.User.{User}
+use Rattle.usm_users.specs.User.{User}
 use Rattle.vacm_core.specs.Allowed.{Allowed}
 use Rattle.vacm_core.specs.Tables.{Tables, HaveSameRows}
 use Rattle.vacm_core.specs.declared.access.Access.{Access}

@@ -10,7 +10,7 @@ use Rattle.engine_clock.specs.Pairs.{BootsAndTime}
 use Rattle.engine_clock.specs.Marks.{Marks, SeenPair, mark_at, pair_at, IsMarkJoinOf}
 use Rattle.engine_clock.specs.Saved.{Saves, listing}
 use Rattle.usm_core.specs.Authentic.{HasEngineLength}
-use Rattle.usm_core.specs.User.{User}
+use Rattle.usm_users.specs.User.{User}
 use Rattle.usm_core.specs.Sealed.{Sending, Seals}
 use Rattle.snmp_outcome.specs.Outcome.{Given}
 use Rattle.snmp_outcome.specs.Answers.{refused, IsPlain}

@@ -10,7 +10,7 @@ use Rattle.engine_clock.specs.Marks.{Marks, pair_at}
 use Rattle.engine_clock.proofs.Greatest.{IsGreatestOf-same, IsGreatestOf-unique}
 use Rattle.engine_clock.proofs.MapJoins.{IsGreatestOf-learned, greatest-held}
 use Rattle.engine_clock.proofs.Greatest.{pair_order}
-use Rattle.usm_core.specs.User.{User}
+use Rattle.usm_users.specs.User.{User}
 use Rattle.usm_core.specs.Authentic.{Authentic}
 use Rattle.snmp_manager.specs.Learning.{LearnsFrom}
 use Rattle.snmp_manager.specs.Known.{Known, IsLatest, HaveSameAuthentic, datagrams_of, octets_of}

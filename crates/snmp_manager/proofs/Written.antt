@@ -8,7 +8,7 @@ use Rattle.snmp_message.specs.Scoped.{contexts_text, scoped_text}
 use Rattle.snmp_message.specs.Spelling.{signed}
 use Rattle.snmp_msg.specs.Pdu.{PduParts, pdu_content_text, pdu_text}
 use Rattle.snmp_message.proofs.Lengths.{element_between}
-use Rattle.usm_core.specs.User.{User}
+use Rattle.usm_users.specs.User.{User}
 use Rattle.usm_core.specs.Table.{holds}
 use Rattle.usm_core.specs.Sealed.{Sending, Seals, IsSealable}
 

@@ -2,7 +2,7 @@
 use Rattle.std.specs.Prelude.{◌≡◌, ◌⊎◌, ◌↔◌, ℕ, List, map, Contains, Option, Some}
 use Rattle.std.specs.Global.{Vec}
 use Rattle.engine_clock.specs.Pairs.{BootsAndTime, IsGreatestOf}
-use Rattle.usm_core.specs.User.{User}
+use Rattle.usm_users.specs.User.{User}
 use Rattle.usm_core.specs.Authentic.{Authentic}
 
 -- the same of a list as contracts see it

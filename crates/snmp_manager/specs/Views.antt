@@ -1,7 +1,7 @@
 -- What contracts see of a manager.
 use Rattle.std.specs.Prelude.{◌≡◌, ℕ, List}
 use Rattle.engine_clock.specs.Marks.{Marks, pair_at}
-use Rattle.usm_core.specs.User.{User}
+use Rattle.usm_users.specs.User.{User}
 
 -- its users, and the marks that it holds
 pub record Held : Type 0 where

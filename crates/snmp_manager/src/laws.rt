@@ -3,7 +3,7 @@
 ghost use Rattle.std.specs.Prelude.{◌≡◌, ◌++◌, ◌∷◌, [], ℕ, List, Option, Some, Result};
 ghost use Rattle.std.specs.Global.{Vec};
 ghost use Rattle.engine_clock.specs.Pairs.{BootsAndTime};
-ghost use Rattle.usm_core.specs.User.{User};
+ghost use Rattle.usm_users.specs.User.{User};
 ghost use Rattle.snmp_manager.specs.Views.{Held, BeginAlike, HoldSamePairs};
 ghost use Rattle.snmp_outcome.specs.Outcome.{Given};
 ghost use Rattle.engine_clock.specs.Marks.{pair_at};

@@ -5,8 +5,8 @@ use Rattle.snmp_message.specs.Layout.{Parts, Outer}
 use Rattle.snmp_message.specs.Scoped.{Contexts, HasScoped, ScopedFront, ScopedText}
 use Rattle.snmp_msg.specs.Pdu.{PduParts, PduText}
 use Rattle.snmp_message.specs.Level.{level_of}
-use Rattle.usm_core.specs.User.{User}
-use Rattle.usm_core.specs.Users.{user_named}
+use Rattle.usm_users.specs.User.{User}
+use Rattle.usm_users.specs.Users.{user_named}
 use Rattle.usm_core.specs.Sealed.{IsPlaintext}
 use Rattle.usm_core.specs.Table.{Needs, Then, holds, fails, gives, refuses}
 use Rattle.usm_core.specs.Verified.{Side, Verified, Verifies, ReadsLayout, Judges, IsReadAs}

@@ -6,7 +6,7 @@ use Rattle.snmp_message.specs.Layout.{Parts, Outer}
 use Rattle.snmp_message.specs.Security.{Fields, SecText}
 use Rattle.snmp_message.specs.Level.{level_of}
 use Rattle.snmp_message.specs.declared.header.Header.{Header}
-use Rattle.usm_core.specs.User.{User}
+use Rattle.usm_users.specs.User.{User}
 use Rattle.usm_core.specs.Table.{holds, gives}
 use Rattle.usm_core.specs.Verified.{Side, Verified, Verifies, IsReadAs}
 use Rattle.snmp_outcome.specs.Outcome.{Given, Taker, as_agent, side_at, IsFresh, ReadsText, Weighs, Outcome}

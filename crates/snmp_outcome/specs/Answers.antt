@@ -1,6 +1,6 @@
 -- The answers of the code, as the table has them.
 use Rattle.std.specs.Prelude.{◌≡◌, ◌≢◌, ◌⊎◌, ℕ, List, Option, Some, None, Result, Ok, Err, true, false, length}
-use Rattle.usm_core.specs.User.{User}
+use Rattle.usm_users.specs.User.{User}
 use Rattle.usm_core.specs.Verified.{Side, Verified, Verifies}
 use Rattle.snmp_outcome.specs.declared.taken.Taken.{Taken}
 use Rattle.snmp_outcome.specs.declared.fault.TakeFault.{TakeFault}

@@ -6,7 +6,7 @@ use Rattle.snmp_message.specs.Level.{level_of}
 use Rattle.engine_clock.specs.Pairs.{BootsAndTime, pair_max}
 use Rattle.engine_clock.specs.Marks.{SeenPair, Marks, mark_at}
 use Rattle.engine_clock.specs.Windows.{InAgentWindow, InManagerWindow, notion_at}
-use Rattle.usm_core.specs.User.{User}
+use Rattle.usm_users.specs.User.{User}
 use Rattle.usm_core.specs.Table.{Needs, Then, Gives}
 use Rattle.usm_core.specs.Sealed.{IsPlaintext}
 use Rattle.usm_core.specs.Verified.{Side, agent, manager, Verified, Verifies}

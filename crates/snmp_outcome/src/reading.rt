@@ -5,7 +5,7 @@ ghost use Rattle.std.specs.Option.{option_map};
 ghost use Rattle.snmp_ber.specs.declared.level.Level.TheVariants.{AuthPriv};
 ghost use Rattle.snmp_message.specs.Message.{tag_of};
 ghost use Rattle.snmp_message.specs.Level.{level_of};
-ghost use Rattle.usm_core.specs.Users.{HasUserAt};
+ghost use Rattle.usm_users.specs.Users.{HasUserAt};
 ghost use Rattle.usm_core.specs.Verified.{IsReadAs};
 ghost use Rattle.usm_core.specs.Answers.{verified_of};
 ghost use Rattle.snmp_outcome.specs.Texts.{text_of, HasTag};

@@ -12,8 +12,8 @@ use Rattle.engine_clock.specs.Pairs.{BootsAndTime}
 use Rattle.engine_clock.specs.Windows.{InAgentWindow}
 use Rattle.snmp_ber.specs.declared.level.Level.{Level}
 use Rattle.snmp_ber.specs.declared.level.Level.TheVariants.{NoAuthNoPriv, AuthPriv}
-use Rattle.usm_core.specs.User.{User}
-use Rattle.usm_core.specs.Users.{user_named, supports, HasUser, HasUserAt}
+use Rattle.usm_users.specs.User.{User}
+use Rattle.usm_users.specs.Users.{user_named, supports, HasUser, HasUserAt}
 use Rattle.usm_core.specs.Table.{holds, fails, gives}
 use Rattle.usm_core.specs.Authentic.{Authentic, IsMac, IsDigestRight}
 use Rattle.usm_core.specs.Verified.{Side, agent, manager, AllowsEngine, AllowsUser, Verified, ReadsLayout, Judges, Verifies}

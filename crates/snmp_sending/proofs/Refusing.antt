@@ -8,10 +8,10 @@ use Rattle.snmp_message.specs.declared.fault.WriteFault.TheVariants as write
 use Rattle.snmp_message.specs.declared.refusal.Refusal.{Refusal}
 use Rattle.snmp_message.specs.declared.refusal.Refusal.TheVariants as refusals
 use Rattle.snmp_message.specs.Level.{level_of}
-use Rattle.usm_core.specs.User.{User}
+use Rattle.usm_users.specs.User.{User}
 use Rattle.usm_core.specs.declared.fault.UsmFault.{UsmFault}
 use Rattle.usm_core.specs.declared.fault.UsmFault.TheVariants.{NotMessage, BadVersion, NotSecurity, NotScoped, UnknownEngine, UnknownUser, UnsupportedLevel, WrongDigest, DecryptionError, OutOfMemory, TooLarge, UnknownModel, InvalidFlags}
-use Rattle.usm_core.specs.Users.{user_named, HasUserAt}
+use Rattle.usm_users.specs.Users.{user_named, HasUserAt}
 use Rattle.usm_core.specs.Refusals.{Supports, refusal_of}
 use Rattle.usm_core.specs.Table.{holds, fails}
 use Rattle.usm_core.specs.Answers.{seal_answer, write_fault}

@@ -1,7 +1,7 @@
 -- At noAuthNoPriv no salt is sent, so it doesn't matter which is handed over.
 use Rattle.std.proofs.Common.{◌≡◌, ℕ, List, [], Bool, true, false, Option, Some, None, refl, ◌∙◌}
 use Rattle.std.specs.Prelude.{Result, Ok, Err, IfSome, MatchBool, if◌then◌else◌}
-use Rattle.usm_core.specs.User.{User}
+use Rattle.usm_users.specs.User.{User}
 use Rattle.usm_core.specs.Table.{holds, fails}
 use Rattle.usm_core.specs.Sealed.{Sending, SealedText, Seals, Writes, spelled_with}
 

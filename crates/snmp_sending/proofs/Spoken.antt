@@ -11,8 +11,8 @@ use Rattle.snmp_message.specs.Spelling.{signed}
 use Rattle.snmp_msg.specs.Pdu.{PduParts, PduText, PduFits, pdu_content_text, pdu_text}
 use Rattle.engine_clock.specs.Marks.{SeenPair}
 use Rattle.engine_clock.specs.Pairs.{IsPair}
-use Rattle.usm_core.specs.User.{User}
-use Rattle.usm_core.specs.Users.{HasUser, HasUserAt}
+use Rattle.usm_users.specs.User.{User}
+use Rattle.usm_users.specs.Users.{HasUser, HasUserAt}
 use Rattle.usm_core.specs.Verified.{AllowsEngine, AllowsUser}
 use Rattle.usm_core.specs.Table.{holds}
 use Rattle.usm_core.specs.Sealed.{Sending, SealedText, Seals}

@@ -5,8 +5,8 @@ use Rattle.snmp_message.specs.Scoped.{Contexts, ScopedText, ScopedFront}
 use Rattle.snmp_msg.specs.Pdu.{PduParts, PduText}
 use Rattle.engine_clock.specs.Pairs.{BootsAndTime}
 use Rattle.engine_clock.specs.Windows.{InAgentWindow}
-use Rattle.usm_core.specs.User.{User}
-use Rattle.usm_core.specs.Users.{user_named, HasUser, HasUserAt}
+use Rattle.usm_users.specs.User.{User}
+use Rattle.usm_users.specs.Users.{user_named, HasUser, HasUserAt}
 use Rattle.usm_core.specs.Authentic.{HasEngineLength}
 use Rattle.usm_core.specs.Verified.{AllowsEngine, AllowsUser}
 use Rattle.usm_core.specs.Sealed.{Sending, SendingFits}

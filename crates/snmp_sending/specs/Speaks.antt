@@ -6,8 +6,8 @@ use Rattle.snmp_message.specs.Scoped.{Contexts, contexts_text, contexts_placed, 
 use Rattle.snmp_msg.specs.Variables.{Variable, AllFit, variables_text}
 use Rattle.snmp_msg.specs.Pdu.{PduParts, IsPduTag, AreInRange, pdu_text}
 use Rattle.engine_clock.specs.Pairs.{BootsAndTime, IsPair}
-use Rattle.usm_core.specs.User.{User}
-use Rattle.usm_core.specs.Users.{user_named, HasUser, HasUserAt}
+use Rattle.usm_users.specs.User.{User}
+use Rattle.usm_users.specs.Users.{user_named, HasUser, HasUserAt}
 use Rattle.usm_core.specs.Authentic.{HasEngineLength}
 use Rattle.usm_core.specs.Verified.{Side, AllowsUser}
 use Rattle.usm_core.specs.Sealed.{Sending}

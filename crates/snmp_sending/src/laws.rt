@@ -4,7 +4,7 @@ ghost use Rattle.std.specs.Prelude.{◌≤◌, ◌-◌, ℕ, List, Option, Ok};
 ghost use Rattle.snmp_ber.specs.declared.level.Level.{Level};
 ghost use Rattle.snmp_message.specs.Scoped.{Contexts};
 ghost use Rattle.snmp_msg.specs.Pdu.{PduParts};
-ghost use Rattle.usm_core.specs.User.{User};
+ghost use Rattle.usm_users.specs.User.{User};
 ghost use Rattle.usm_core.specs.Sealed.{Sending, Seals};
 ghost use Rattle.engine_clock.specs.Pairs.{pair_max};
 ghost use Rattle.engine_clock.specs.Marks.{SeenPair};

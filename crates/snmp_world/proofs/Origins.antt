@@ -5,7 +5,7 @@ use Rattle.std.proofs.lemmas.List.Elements.{Contains-append_left, Contains-appen
 use Rattle.engine_clock.specs.Pairs.{BootsAndTime, IsBelow, IsGreatestOf}
 use Rattle.std.specs.Option.{option_map}
 use Rattle.engine_clock.specs.Marks.{SeenPair}
-use Rattle.usm_core.specs.User.{User}
+use Rattle.usm_users.specs.User.{User}
 use Rattle.snmp_world.specs.Knowledge.{AuthenticAt, Knowing, knows_after, knows_after_all, taken_in, IsNeverRestarted}
 use Rattle.snmp_world.specs.declared.event.Event.{Event}
 use Rattle.snmp_world.specs.declared.event.Event.TheVariants.{Take, Save, Absorb, Restart}

@@ -2,7 +2,7 @@
 use Rattle.std.proofs.Common.{◌≡◌, ◌<◌, ◌+◌, ℕ, List, [], ◌∷◌, ◌++◌, length, take, get_or, refl, sym, subst, false, true}
 use Rattle.std.specs.Prelude.{Result, Err}
 use Rattle.std.proofs.lemmas.List.{take_more}
-use Rattle.usm_core.specs.User.{User}
+use Rattle.usm_users.specs.User.{User}
 use Rattle.snmp_world.specs.State.{WorldState}
 use Rattle.snmp_world.specs.Knowledge.{Knowing, HasGreatest, HaveUsers, Steps, StepsAll, NamesMissing, TakesNoMemory, RefusesEvent, knows_after, knows_after_all}
 use Rattle.snmp_world.proofs.Worlds.{greatest_after, users_after}

@@ -13,7 +13,7 @@ use Rattle.engine_clock.specs.Saved.{AreMarks, listing}
 use Rattle.engine_clock.proofs.Greatest.{IsGreatestOfBy-same, mark_order}
 use Rattle.engine_clock.proofs.MapJoins.{greatest-held, IsGreatestMarkOf-learned, IsGreatestMarkOf-absorbed}
 use Rattle.engine_clock.proofs.SavedTexts.{one_listing}
-use Rattle.usm_core.specs.User.{User}
+use Rattle.usm_users.specs.User.{User}
 use Rattle.usm_core.specs.Authentic.{Authentic}
 use Rattle.snmp_manager.specs.Views.{Held}
 use Rattle.snmp_manager.specs.Learning.{LearnsFrom}

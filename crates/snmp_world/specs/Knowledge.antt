@@ -3,7 +3,7 @@ use Rattle.std.specs.Prelude.{◌↔◌, Contains, ◌≡◌, ◌≢◌, ◌≤�
 use Rattle.engine_clock.specs.Pairs.{BootsAndTime, IsGreatestOf}
 use Rattle.engine_clock.specs.Marks.{SeenPair, Marks, mark_at, pair_at, IsGreatestMarkOf, IsMarkJoinOf}
 use Rattle.engine_clock.specs.Saved.{AreMarks, listing}
-use Rattle.usm_core.specs.User.{User}
+use Rattle.usm_users.specs.User.{User}
 use Rattle.usm_core.specs.Authentic.{Authentic}
 use Rattle.usm_core.specs.Verified.{manager}
 use Rattle.snmp_outcome.specs.Answers.{IsPlain}

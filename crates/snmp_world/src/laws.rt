@@ -3,7 +3,7 @@
 ghost use Rattle.std.specs.Prelude.{◌≡◌, ◌++◌, ◌∷◌, [], ℕ, List, Some, slice_get};
 ghost use Rattle.engine_clock.specs.Pairs.{BootsAndTime, IsBelow};
 ghost use Rattle.engine_clock.specs.Marks.{SeenPair, pair_at};
-ghost use Rattle.usm_core.specs.User.{User};
+ghost use Rattle.usm_users.specs.User.{User};
 ghost use Rattle.snmp_manager.specs.Views.{Held};
 ghost use Rattle.snmp_world.specs.State.{WorldState};
 ghost use Rattle.snmp_world.specs.Knowledge.{HasGreatest, HasOrigin, HaveUsers, IsNeverRestarted, SameKnowledge, SamePairsKnown, Steps, StepsAll, at_first, knows_after_all};

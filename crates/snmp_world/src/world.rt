@@ -3,7 +3,7 @@
 ghost use Rattle.std.specs.Prelude.{◌≡◌, ◌↔◌, [], List, length, map, slice_get, IsOk, OnOk, OnErr, IfOk, IfErr, Err};
 ghost use Rattle.std.specs.Option.{option_and_then, option_copied};
 ghost use Rattle.engine_clock.specs.Marks.{pair_at};
-ghost use Rattle.usm_core.specs.User.{User};
+ghost use Rattle.usm_users.specs.User.{User};
 ghost use Rattle.snmp_manager.specs.Views.{held_by};
 ghost use Rattle.snmp_world.specs.Knowledge.{HasGreatest, HasGreatestPairs, HaveUsers, NamesMissing, Steps, StepsAll, StopsAt, TakesNoMemory, at_first, counted, knows_after_all};
 

@@ -5,7 +5,7 @@ use Rattle.vacm_core.specs.Allowed.{Allowed}
 use Rattle.vacm_core.specs.Tables.{Tables}
 use Rattle.vacm_core.specs.declared.access.Access.{Access}
 use Rattle.vacm_core.specs.declared.access.Access.TheVariants as answers
-use Rattle.usm_core.specs.declared.load.UserRow.{UserRow}
+use Rattle.usm_users.specs.declared.load.UserRow.{UserRow}
 use Rattle.snmpsec_config.specs.Refusals.{SaysSound, RefusesText, refusal_line}
 use Rattle.snmpsec_config.specs.Told.{IsWhy}
 use Rattle.snmpsec_config.specs.declared.fault.ConfigFault.{ConfigFault}

@@ -3,7 +3,7 @@ use Rattle.std.proofs.Common.{ℕ, List, inr}
 use Rattle.engine_clock.specs.Faults.{IsFaultOf}
 use Rattle.engine_clock.specs.declared.saved.ClockFault.{ClockFault}
 use Rattle.engine_clock.specs.declared.saved.ClockFault.TheVariants as clock_faults
-use Rattle.usm_core.specs.User.{User}
+use Rattle.usm_users.specs.User.{User}
 use Rattle.vacm_core.specs.Tables.{Tables}
 use Rattle.snmpsec_config.specs.Refusals.{Loads}
 use Rattle.snmpsec.specs.Merge.{TellsFault}

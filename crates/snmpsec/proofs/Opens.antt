@@ -6,7 +6,7 @@ use Rattle.snmp_message.specs.Numbers.{refusal_number}
 use Rattle.snmp_message.specs.declared.refusal.Refusal.{Refusal}
 use Rattle.snmp_message.specs.declared.refusal.Refusal.TheVariants as refusals
 use Rattle.snmp_outcome.specs.Refusals.{number_in_table}
-use Rattle.usm_core.specs.User.{User}
+use Rattle.usm_users.specs.User.{User}
 use Rattle.vacm_core.specs.Tables.{Tables}
 use Rattle.snmpsec_config.specs.Refusals.{Loads}
 use Rattle.snmpsec_open.specs.Opening.{Opens, refused}

@@ -1,6 +1,6 @@
 -- What `snmpsec check-config` prints.
 use Rattle.std.specs.Prelude.{◌≡◌, ◌⊎◌, ℕ, List, [], ◌++◌, length, codes, decimal}
-use Rattle.usm_core.specs.declared.load.UserRow.{UserRow}
+use Rattle.usm_users.specs.declared.load.UserRow.{UserRow}
 use Rattle.vacm_core.specs.Tables.{Tables}
 use Rattle.snmpsec_config.specs.declared.fault.ConfigFault.{ConfigFault}
 use Rattle.snmpsec_config.specs.Refusals.{SaysSound, RefusesText, refusal_line}

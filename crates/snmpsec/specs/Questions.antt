@@ -8,7 +8,7 @@ use Rattle.vacm_core.specs.declared.access.ViewType.{ViewType}
 use Rattle.vacm_core.specs.declared.access.Access.{Access}
 use Rattle.snmpsec.specs.declared.check.Argument.{Argument}
 use Rattle.snmpsec.specs.declared.check.Argument.TheVariants.{Model, Level as LevelWord, View, Oid}
-use Rattle.usm_core.specs.declared.load.UserRow.{UserRow}
+use Rattle.usm_users.specs.declared.load.UserRow.{UserRow}
 use Rattle.snmpsec_config.specs.declared.fault.ConfigFault.{ConfigFault}
 use Rattle.snmpsec_config.specs.Refusals.{SaysSound, RefusesText, refusal_line}
 use Rattle.snmpsec_config.specs.Words.{level_word}

@@ -7,7 +7,7 @@ use Rattle.snmpsec_replay.specs.Replay.{ReplayText, Streams, StopsBy}
 use Rattle.snmpsec_replay.specs.Transfer.{WritesFront}
 use Rattle.snmpsec_replay.specs.declared.fault.ReplayFault.{ReplayFault}
 use Rattle.snmpsec_replay.specs.declared.fault.ReplayFault.TheVariants as faults
-use Rattle.usm_core.specs.User.{User}
+use Rattle.usm_users.specs.User.{User}
 use Rattle.vacm_core.specs.Tables.{Tables}
 use Rattle.snmpsec_config.specs.Refusals.{Loads, RefusesText, refusal_line}
 use Rattle.snmpsec_config.specs.declared.fault.ConfigFault.{ConfigFault}

@@ -7,7 +7,7 @@ use Rattle.snmp_ber.specs.declared.level.Level.{Level}
 use Rattle.snmp_ber.specs.declared.level.Level.TheVariants.{NoAuthNoPriv, AuthNoPriv, AuthPriv}
 use Rattle.usm_keys.specs.declared.auth.Auth.{Auth}
 use Rattle.usm_keys.specs.declared.auth.Auth.TheVariants.{Md5, Sha1, Sha256}
-use Rattle.usm_core.specs.declared.load.UserRow.{UserRow}
+use Rattle.usm_users.specs.declared.load.UserRow.{UserRow}
 use Rattle.vacm_core.specs.Tables.{Tables}
 use Rattle.vacm_core.specs.declared.rows.Matching.{Matching}
 use Rattle.vacm_core.specs.declared.rows.Matching.TheVariants.{Exact, Prefix}

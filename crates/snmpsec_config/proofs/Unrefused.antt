@@ -7,11 +7,11 @@ use Rattle.std.specs.Cmp.Lexicographic.{pointwise}
 use Rattle.std.proofs.lemmas.List.{take-map}
 use Rattle.std.proofs.lemmas.Option.{slice_get-map}
 use Rattle.toml.specs.Data.{Data, Items, no_items, item, Members, no_members, member, get_item}
-use Rattle.usm_core.specs.declared.load.UserRow.{UserRow}
-use Rattle.usm_core.specs.declared.load.UserFault.{UserFault}
-use Rattle.usm_core.specs.declared.load.UserFault.TheVariants as user_faults
-use Rattle.usm_core.specs.Rows as user_rows
-use Rattle.usm_core.specs.Rows.{is_bad_name, is_short_password, is_bad_user, has_short_password, has_name, row_fault}
+use Rattle.usm_users.specs.declared.load.UserRow.{UserRow}
+use Rattle.usm_users.specs.declared.load.UserFault.{UserFault}
+use Rattle.usm_users.specs.declared.load.UserFault.TheVariants as user_faults
+use Rattle.usm_users.specs.Rows as user_rows
+use Rattle.usm_users.specs.Rows.{is_bad_name, is_short_password, is_bad_user, has_short_password, has_name, row_fault}
 use Rattle.vacm_core.specs.Tables.{Tables}
 use Rattle.vacm_core.specs.Faults as access_rows
 use Rattle.vacm_core.specs.declared.fault.Table.{Table}

@@ -4,11 +4,11 @@ use Rattle.toml.specs.Data.{Members, table, get_item}
 use Rattle.snmpsec_config.specs.declared.rows.RowFault.{RowFault}
 use Rattle.snmpsec_config.specs.declared.rows.RowFault.TheVariants as row_faults
 use Rattle.toml.specs.Parse.{parse_document}
-use Rattle.usm_core.specs.declared.load.UserRow.{UserRow}
-use Rattle.usm_core.specs.declared.load.UserFault.{UserFault}
-use Rattle.usm_core.specs.declared.load.UserFault.TheVariants as user_faults
-use Rattle.usm_core.specs.Rows as user_rows
-use Rattle.usm_core.specs.User.{User as AUser}
+use Rattle.usm_users.specs.declared.load.UserRow.{UserRow}
+use Rattle.usm_users.specs.declared.load.UserFault.{UserFault}
+use Rattle.usm_users.specs.declared.load.UserFault.TheVariants as user_faults
+use Rattle.usm_users.specs.Rows as user_rows
+use Rattle.usm_users.specs.User.{User as AUser}
 use Rattle.vacm_core.specs.Tables.{Tables, HaveSameRows}
 use Rattle.vacm_core.specs.Faults as access_rows
 use Rattle.vacm_core.specs.declared.fault.Table.{Table}

@@ -1,7 +1,7 @@
 //! Laws over the definitions.
 
 ghost use Rattle.std.specs.Prelude.{◌≡◌, ℕ, List, map};
-ghost use Rattle.usm_core.specs.declared.load.UserRow.{UserRow};
+ghost use Rattle.usm_users.specs.declared.load.UserRow.{UserRow};
 ghost use Rattle.vacm_core.specs.Tables.{Tables};
 ghost use Rattle.snmpsec_config.specs.Rows.{user_values};
 ghost use Rattle.snmpsec_config.specs.Refusals.{Says, SaysSound, RefusesText};

@@ -3,7 +3,7 @@ use Rattle.std.proofs.Common.{◌≡◌, ℕ, List, refl, sym, ap, subst, ◌∙
 use Rattle.std.specs.Prelude.{Result, Ok, Err}
 use Rattle.snmp_message.specs.Scoped.{Contexts, ScopedFront}
 use Rattle.snmp_msg.specs.Pdu.{PduParts, PduText}
-use Rattle.usm_core.specs.User.{User}
+use Rattle.usm_users.specs.User.{User}
 use Rattle.usm_core.specs.Verified.{Side, Verified, Verifies, manager}
 use Rattle.snmp_outcome.proofs.Determined.{needs_one, then_one, message_one}
 use Rattle.snmpsec_open.specs.Opening.{TellsText, Tells, Opens, opened_lines}

@@ -1,7 +1,7 @@
 //! What the definitions of opened messages come to. Each function does nothing: its contract is the law.
 
 ghost use Rattle.std.specs.Prelude.{◌≡◌, List, ℕ, Result};
-ghost use Rattle.usm_core.specs.User.{User};
+ghost use Rattle.usm_users.specs.User.{User};
 ghost use Rattle.snmpsec_open.specs.Opening.{Opens};
 
 use snmp_msg::{one_content, one_pdu};

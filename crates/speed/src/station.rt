@@ -1,6 +1,6 @@
 //! Who opens, takes and answers the messages.
 ghost use Rattle.std.specs.Prelude.{◌≡◌, ◌+◌, length, map, IfOk};
-ghost use Rattle.usm_core.specs.Rows.{user_of};
+ghost use Rattle.usm_users.specs.Rows.{user_of};
 ghost use Rattle.speed.specs.Stations.{HasUsers};
 
 use anyhow::{Context, Result};

@@ -10,8 +10,8 @@ use Rattle.lru.proofs.CallerLemmas.{Contains-lookup, Contains-promoted, Contains
 use Rattle.lru.proofs.Splits.{Contains-nil}
 use Rattle.usm_keys.specs.AuthKey.{AuthKey}
 use Rattle.usm_keys.proofs.Sizes.{length-hash_of, key_octets_least}
-use Rattle.usm_core.specs.Users.{user_named}
-use Rattle.usm_core.specs.User.{User}
+use Rattle.usm_users.specs.Users.{user_named}
+use Rattle.usm_users.specs.User.{User}
 use Rattle.usm_core.specs.declared.cache.KeyId.{KeyId}
 use Rattle.usm_core.specs.declared.cache.Purpose.{Purpose}
 use Rattle.usm_core.specs.declared.cache.Purpose.TheVariants.{Authentication, Privacy}

@@ -9,8 +9,8 @@ use Rattle.snmp_ber.specs.Element.{IsElement}
 use Rattle.snmp_ber.specs.declared.level.Level.TheVariants.{NoAuthNoPriv, AuthNoPriv, AuthPriv}
 use Rattle.usm_keys.specs.AuthKey.{AuthKey}
 use Rattle.usm_aes.specs.Feedback.{IsSealed, iv_of}
-use Rattle.usm_core.specs.User.{User}
-use Rattle.usm_core.specs.Users.{user_named, supports}
+use Rattle.usm_users.specs.User.{User}
+use Rattle.usm_users.specs.Users.{user_named, supports}
 use Rattle.usm_core.specs.Table.{Needs, Gives, holds, fails, gives, refuses}
 use Rattle.usm_core.specs.Authentic.{Authentic, IsMac}
 use Rattle.engine_clock.specs.Pairs.{BootsAndTime}

@@ -1,5 +1,3 @@
-pub mod Loaded
-pub mod Named
 pub mod Tables
 pub mod Authentics
 pub mod Places
@@ -9,5 +7,4 @@ pub mod Again
 pub mod Determined
 pub mod Same
 pub mod SealedSizes
-pub mod Indexing
 pub mod Caching

@@ -11,10 +11,10 @@ use Rattle.usm_keys.specs.declared.auth.Auth.{Auth}
 use Rattle.usm_keys.specs.Keys.{kul}
 use Rattle.usm_keys.specs.Protocols.{hash_of, mac_octets}
 use Rattle.usm_keys.proofs.Sizes.{length-mac, mac_octets-most}
-use Rattle.usm_core.specs.User.{User}
+use Rattle.usm_users.specs.User.{User}
 use Rattle.usm_core.specs.declared.fault.UsmFault.{UsmFault}
 use Rattle.usm_core.specs.declared.fault.UsmFault.TheVariants.{TooLarge}
-use Rattle.usm_core.specs.Users.{user_named}
+use Rattle.usm_users.specs.Users.{user_named}
 use Rattle.usm_core.specs.Table.{Needs, holds, fails}
 use Rattle.usm_core.specs.Answers.{seal_answer}
 use Rattle.usm_core.specs.Sealed.{Sending, SendingFits, SealedText, Writes, Seals, IsSealable, IsSentData, IsSentText, sent_fields, spelled_with, digest_of}

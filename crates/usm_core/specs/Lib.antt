@@ -1,7 +1,3 @@
-pub mod User
-pub mod Credentials
-pub mod Users
-pub mod Rows
 pub mod Refusals
 pub mod Table
 pub mod Authentic
@@ -10,5 +6,4 @@ pub mod Answers
 pub mod Sealed
 pub mod Writing
 pub mod Says
-pub mod Index
 pub mod Cache

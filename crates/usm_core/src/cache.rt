@@ -2,16 +2,16 @@
 
 ghost use Rattle.std.specs.Prelude.{◌≡◌, ◌≤◌, List, [], length, IfOk, IfSome};
 ghost use Rattle.std.specs.Option.{option_copied};
-ghost use Rattle.usm_core.specs.User.{User};
+ghost use Rattle.usm_users.specs.User.{User};
 ghost use Rattle.usm_core.specs.Cache.{AreCached, IsCachedAt, key_id};
 
 use crate::cached_key::CachedKey;
-use crate::user::UserName;
 use engine_clock::EngineId;
 use lru::LruCache;
 use std::alloc::{AllocError, Global};
 use std::marker::Model;
 use std::num::NonZeroUsize;
+use usm_users::UserName;
 
 /// The most localised keys that are kept.
 const MOST_KEYS: usize = 64;

@@ -5,8 +5,8 @@ ghost use Rattle.snmp_message.specs.declared.message.TheConstants.{LARGEST};
 ghost use Rattle.snmp_message.specs.Message.{parts, tag_of, content_of};
 ghost use Rattle.snmp_message.specs.Security.{IsCut, fields_of};
 ghost use Rattle.usm_keys.specs.Protocols.{mac as mac_by, mac_octets};
-ghost use Rattle.usm_core.specs.User.{User as UserOf};
-ghost use Rattle.usm_core.specs.Users.{user_named};
+ghost use Rattle.usm_users.specs.User.{User as UserOf};
+ghost use Rattle.usm_users.specs.Users.{user_named};
 ghost use Rattle.usm_core.specs.Cache.{AreCached, localised_to};
 ghost use Rattle.usm_core.specs.Authentic.{IsMac};
 ghost use Rattle.usm_core.specs.Sealed.{SendingFits, spelled_with, digest_of};
@@ -15,9 +15,9 @@ ghost use Rattle.usm_core.specs.Writing.{sending_of, IsSecured, FieldAt};
 use crate::cache::{KeyCache, Purpose};
 use crate::cached_key::CachedKey;
 use crate::spell::Outgoing;
-use crate::user::User;
 use snmp_message::{Data, Message, Security, cut, field_filled, one_cut, read_message, read_security};
 use usm_keys::{KeptKey, Key, localise};
+use usm_users::User;
 
 /// Whether the octets are the same. It looks at each of them wherever they differ, so that the time tells nothing of the place.
 fn are_same(a: &[u8], b: &[u8]) -> bool

@@ -1,21 +1,17 @@
-//! The user-based security model for SNMPv3 (RFC 3414): users with the keys of their passwords, and what they make of a
-//! message that comes in or goes out.
+//! The user-based security model for SNMPv3 (RFC 3414): what users with the keys of their passwords make of a message that comes
+//! in or goes out.
 #![tactic(auto)]
 
 mod cache;
 mod cached_key;
 mod checked;
-mod credentials;
 mod digest;
 mod fault;
 mod laws;
 mod layout;
-mod load;
 mod privacy;
 mod seal;
 mod spell;
-mod user;
-mod user_table;
 mod users;
 mod verify;
 
@@ -25,5 +21,5 @@ pub use laws::{
     one_answer, one_authentic, sealed_is_authentic, sealed_is_opened, sealed_is_read, sealed_says,
     sealed_size, some_sealed, users_by_name, verified_was_read,
 };
-pub use load::{UserFault, UserRow};
+pub use usm_users::{UserFault, UserRow};
 pub use users::Users;

@@ -8,8 +8,8 @@ ghost use Rattle.usm_keys.specs.Keys.{kul};
 ghost use Rattle.usm_keys.specs.Protocols.{hash_of};
 ghost use Rattle.usm_aes.specs.Aes.{enciphered, schedule};
 ghost use Rattle.usm_aes.specs.Feedback.{IsSealed, iv_of, opened};
-ghost use Rattle.usm_core.specs.User.{User as UserOf};
-ghost use Rattle.usm_core.specs.Users.{HasUserAt, user_named};
+ghost use Rattle.usm_users.specs.User.{User as UserOf};
+ghost use Rattle.usm_users.specs.Users.{HasUserAt, user_named};
 ghost use Rattle.usm_core.specs.Cache.{AreCached};
 ghost use Rattle.usm_core.specs.Sealed.{UserKey, IsPlaintext};
 ghost use Rattle.usm_core.specs.declared.fault.UsmFault.TheVariants.{DecryptionError, OutOfMemory};
@@ -19,11 +19,11 @@ use crate::cached_key::CachedKey;
 use crate::checked::Checked;
 use crate::fault::UsmFault;
 use crate::spell::Outgoing;
-use crate::user_table::UserTable;
 use snmp_message::Security;
 use std::alloc::{AllocError, Global};
 use usm_aes::{Schedule, cfb_open, cfb_seal, iv};
 use usm_keys::{Key, localise};
+use usm_users::UserTable;
 
 /// The first 16 octets of the key localised to the engine, expanded, of a user's privacy key. The localised key is the kept
 /// one, which becomes the last used, or one that is made and kept.

@@ -7,12 +7,12 @@ ghost use Rattle.snmp_message.specs.Message.{tag_of, content_of};
 ghost use Rattle.snmp_message.specs.Security.{fields_of};
 ghost use Rattle.snmp_message.specs.Level.{level_of};
 ghost use Rattle.engine_clock.specs.Pairs.{BootsAndTime};
-ghost use Rattle.usm_core.specs.Users.{AreUsers, HasUserAt};
+ghost use Rattle.usm_users.specs.Users.{AreUsers, HasUserAt};
 ghost use Rattle.usm_core.specs.Cache.{AreCached};
 ghost use Rattle.usm_core.specs.Authentic.{Authentic};
 ghost use Rattle.usm_core.specs.Verified.{Verifies, AllowsEngine, IsReadAs, IsJudged};
 ghost use Rattle.usm_core.specs.Answers.{side_of, checked_answer, verified_of, seal_answer, IsAuthenticatedAs};
-ghost use Rattle.usm_core.specs.Rows.{AreSound, IsTold, user_of};
+ghost use Rattle.usm_users.specs.Rows.{AreSound, IsTold, user_of};
 ghost use Rattle.usm_core.specs.Refusals.{Supports};
 ghost use Rattle.usm_core.specs.Sealed.{sending, Seals, IsSendable, IsSealable, IsPlaintext};
 ghost use Rattle.usm_core.specs.Writing.{IsWriteFault};
@@ -22,17 +22,16 @@ use crate::cache::{KeyCache, Purpose};
 use crate::checked::{Checked, Role};
 use crate::fault::UsmFault;
 use crate::laws::{has_engine, sealed_size, some_sealed};
-use crate::load::{UserFault, UserRow, places_of, table_of};
 use crate::privacy::open_for;
 use crate::seal::{seal_for, seal_open};
 use crate::spell::Outgoing;
-use crate::user_table::UserTable;
 use crate::verify::verify;
 use engine_clock::Pair;
 use snmp_ber::Level;
 use snmp_message::{Header, one_cut, one_message};
 use std::alloc::{AllocError, Global};
 use std::marker::Model;
+use usm_users::{UserFault, UserRow, UserTable, places_of, table_of};
 
 /// Users, each with the keys of its passwords, not yet localised to an engine (RFC 3414, section 2.6). Their names are
 /// distinct.
@@ -44,7 +43,8 @@ pub struct Users {
 }
 
 impl Model for Users {
-    ghost use Rattle.usm_core.specs.Users.{Known, AreUsers};
+    ghost use Rattle.usm_core.specs.Cache.{Known};
+    ghost use Rattle.usm_users.specs.Users.{AreUsers};
     ghost use Rattle.usm_core.specs.Cache.{AreCached};
 
     ghost Value = { Known };

@@ -16,8 +16,8 @@ use crate::checked::{Checked, Role};
 use crate::digest::is_digest_right;
 use crate::fault::UsmFault;
 use crate::layout::read_layout;
-use crate::user_table::UserTable;
 use snmp_ber::Level;
+use usm_users::UserTable;
 
 /// The engine's own identifier at an agent, and any of 5 to 32 octets at a manager.
 fn allows_engine(role: Role<'_>, engine: &[u8]) -> bool

@@ -1,5 +1,5 @@
 use Rattle.std.proofs.Common.{List, take}
-use Rattle.usm_core.specs.User.{User}
+use Rattle.usm_users.specs.User.{User}
 use Rattle.snmp_world.specs.Knowledge.{HasGreatest, HaveUsers, StepsAll, at_first, knows_after_all}
 use Rattle.snmp_world.proofs.world.World.run.Given as goal
 

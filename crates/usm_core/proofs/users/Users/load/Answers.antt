@@ -1,7 +1,7 @@
 use Rattle.std.proofs.Common.{sym, subst}
-use Rattle.usm_core.specs.Users.{AreUsers}
+use Rattle.usm_users.specs.Users.{AreUsers}
 use Rattle.usm_core.proofs.Caching.{none_cached}
-use Rattle.usm_core.proofs.Loaded.{users_of_sound}
+use Rattle.usm_users.proofs.Loaded.{users_of_sound}
 use Rattle.usm_core.proofs.users.Users.load.Goals as goal
 
 pub invariant_of-result : goal.invariant_of-result

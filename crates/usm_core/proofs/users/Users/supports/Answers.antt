@@ -1,6 +1,6 @@
 use Rattle.std.proofs.Common.{◌≡◌, Some, sym}
-use Rattle.usm_core.specs.Users.{user_named}
-use Rattle.usm_core.proofs.Named.{no_empty}
+use Rattle.usm_users.specs.Users.{user_named}
+use Rattle.usm_users.proofs.Named.{no_empty}
 use Rattle.usm_core.proofs.users.Users.supports.Goals as goal
 
 pub returns-in-Some-clause-empty : goal.returns-in-Some-clause-empty

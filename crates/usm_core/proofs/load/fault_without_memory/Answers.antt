@@ -1,5 +1,0 @@
-use Rattle.usm_core.proofs.Loaded.{told}
-use Rattle.usm_core.proofs.load.fault_without_memory.Goals as goal
-
-pub returns-in-Some : goal.returns-in-Some
-returns-in-Some c = told c.args.rows.now c.in-Some.fault c.in-Some.ensures

@@ -1,0 +1,5 @@
+pub mod User
+pub mod Credentials
+pub mod Users
+pub mod Rows
+pub mod Index
