@@ -18,7 +18,7 @@ use Rattle.snmp_message.specs.Refusals.{RefusesSecurity}
 use Rattle.snmp_msg.specs.Refusals.{RefusesPdu, RefusesWhole, RefusesCanonical, AgreesWithPriv, canon_fault}
 use Rattle.snmp_message.proofs.Outers.{one_outer}
 use Rattle.snmp_message.proofs.Securities.{one_security}
-use Rattle.snmp_message.proofs.Scopeds.{one_scoped, contexts_text-length, contexts_text-is}
+use Rattle.snmp_message.proofs.Scopeds.{not_both, one_scoped, contexts_text-length, contexts_text-is}
 use Rattle.snmp_msg.proofs.Pdus.{one_said, said_spelled, says_itself, pdu_text-longer}
 use Rattle.snmp_message.proofs.Filled.{fields_text-longer, security_text-is}
 use Rattle.snmp_message.proofs.Writes.{measured_message, message_text-longer, message_text-is}
