@@ -1,0 +1,235 @@
+//! From the command line to what is written.
+
+use crate::check::check_text;
+use crate::check_config::check_config_text;
+use crate::explain::explain_text;
+use crate::files::{FileFault, open_log, read_file};
+use crate::merge::merge_text;
+use crate::open::open_text;
+use crate::output::Output;
+use crate::replay::replay;
+use crate::show::show_text;
+use crate::words::moment_of;
+use clap::error::ErrorKind;
+use snmpsec_replay::{ReplayFault, write_whole};
+use snmpsec_words::{Command, ReplayWords, not_text, parse};
+use std::alloc::{AllocError, Global};
+use std::io::Write;
+use std::rt::{Env, Files};
+use std::{env, io};
+
+const OUT_OF_MEMORY: &[u8] = b"snmpsec: out of memory\n";
+
+const CANNOT_WRITE: &[u8] = b"snmpsec: cannot write\n";
+
+/// Runs the program over its arguments, and answers its status.
+pub fn run<R: Files + Env + AllocGlobal, O: Write, E: Write>(
+    rt: &R,
+    out: &mut O,
+    err: &mut E,
+) -> u8 {
+    match answer(rt, out) {
+        Ok(output) => print(&output, out, err),
+        Err(_) => {
+            let _ = write_whole(err, OUT_OF_MEMORY);
+            2
+        }
+    }
+}
+
+/// Writes what a command prints. A write that fails gives status 2.
+fn print<O: Write, E: Write>(output: &Output, out: &mut O, err: &mut E) -> u8 {
+    if write_whole(out, &output.out).is_err() {
+        let _ = write_whole(err, CANNOT_WRITE);
+        return 2;
+    }
+    if write_whole(err, &output.err).is_err() {
+        return 2;
+    }
+    output.status
+}
+
+/// What the program prints, beside what a command wrote as it went.
+fn answer<R: Files + Env + AllocGlobal, O: Write>(
+    rt: &R,
+    out: &mut O,
+) -> Result<Output, AllocError> {
+    let alloc = rt.alloc();
+    let words = match env::args(rt) {
+        Ok(words) => words,
+        Err(e) if e.kind() == io::ErrorKind::OutOfMemory => return Err(AllocError),
+        Err(_) => return usage(alloc, &not_text(alloc)?),
+    };
+    let words: Vec<String> = words.collect(alloc)?;
+    match parse(alloc, words.as_slice()) {
+        Ok(asked) => command(rt, &asked, out),
+        Err(fault) => usage(alloc, &fault),
+    }
+}
+
+/// The parser's text, on standard error whatever was asked, with status 2.
+fn usage(alloc: Global, fault: &clap::Error) -> Result<Output, AllocError> {
+    if fault.kind() == ErrorKind::OutOfMemory {
+        return Err(AllocError);
+    }
+    let text = fault.to_string(alloc)?;
+    Ok(Output {
+        out: Vec::new(alloc),
+        err: text.into_bytes(),
+        status: 2,
+    })
+}
+
+/// What the command that was given prints. That of replay is written as it goes, but for a fault.
+pub fn command<R: Files + AllocGlobal, O: Write>(
+    rt: &R,
+    command: &Command<'_>,
+    out: &mut O,
+) -> Result<Output, AllocError> {
+    match command {
+        Command::Show { digits } => show_text(rt.alloc(), digits),
+        Command::Open { config, digits } => open_message(rt, config, digits),
+        Command::CheckAccess(words) => check_access(rt, words.config, &words.question),
+        Command::ExplainAccess(words) => explain_access(rt, words.config, &words.question),
+        Command::CheckConfig { config } => check_config(rt, config),
+        Command::Replay(words) => replay_log(rt, words, out),
+        Command::MergeClocks { moment, files } => merge_clocks(rt, moment.unwrap_or("0"), files),
+    }
+}
+
+/// Reads the configuration whole, before it looks at another word, and then asks it.
+fn check_access<R: Files + AllocGlobal>(
+    rt: &R,
+    name: &str,
+    question: &[&str; 6],
+) -> Result<Output, AllocError> {
+    let alloc = rt.alloc();
+    match read_file(rt, name) {
+        Ok(config) => check_text(alloc, &config, question),
+        Err(fault) => unread(alloc, fault, name),
+    }
+}
+
+/// The same, for what decided.
+fn explain_access<R: Files + AllocGlobal>(
+    rt: &R,
+    name: &str,
+    question: &[&str; 6],
+) -> Result<Output, AllocError> {
+    let alloc = rt.alloc();
+    match read_file(rt, name) {
+        Ok(config) => explain_text(alloc, &config, question),
+        Err(fault) => unread(alloc, fault, name),
+    }
+}
+
+/// Reads the configuration whole, before it looks at the datagram, and then opens that.
+fn open_message<R: Files + AllocGlobal>(
+    rt: &R,
+    name: &str,
+    digits: &str,
+) -> Result<Output, AllocError> {
+    let alloc = rt.alloc();
+    match read_file(rt, name) {
+        Ok(config) => open_text(alloc, &config, digits),
+        Err(fault) => unread(alloc, fault, name),
+    }
+}
+
+/// Reads the configuration, and says how many rows it has or what is wrong with it.
+fn check_config<R: Files + AllocGlobal>(rt: &R, name: &str) -> Result<Output, AllocError> {
+    let alloc = rt.alloc();
+    match read_file(rt, name) {
+        Ok(config) => check_config_text(alloc, &config),
+        Err(fault) => unread(alloc, fault, name),
+    }
+}
+
+/// Looks at the moment before it opens a file, and then merges the files.
+fn merge_clocks<R: Files + AllocGlobal>(
+    rt: &R,
+    moment: &str,
+    names: &[&str],
+) -> Result<Output, AllocError> {
+    match moment_of(moment) {
+        Some(moment) => merge_files(rt, moment, names),
+        None => Output::complaint(rt.alloc(), "bad word MOMENT"),
+    }
+}
+
+/// Reads the files whole, in the order of their names, and then merges them.
+fn merge_files<R: Files + AllocGlobal>(
+    rt: &R,
+    moment: u64,
+    names: &[&str],
+) -> Result<Output, AllocError> {
+    let alloc = rt.alloc();
+    let mut files: Vec<(String, Vec<u8>)> = Vec::new(alloc);
+    for name in names {
+        match read_file(rt, name) {
+            Ok(octets) => files.push((name.to_string(alloc)?, octets))?,
+            Err(fault) => return unread(alloc, fault, name),
+        }
+    }
+    merge_text(alloc, moment, &files)
+}
+
+/// Looks at the moment before it opens a file, and then replays the log.
+fn replay_log<R: Files + AllocGlobal, O: Write>(
+    rt: &R,
+    words: &ReplayWords<'_>,
+    out: &mut O,
+) -> Result<Output, AllocError> {
+    match moment_of(words.moment.unwrap_or("0")) {
+        Some(moment) => replay_files(rt, moment, words, out),
+        None => Output::complaint(rt.alloc(), "bad word MOMENT"),
+    }
+}
+
+/// Reads the configuration and the clocks file whole and opens the log, before it looks at what they say.
+fn replay_files<R: Files + AllocGlobal, O: Write>(
+    rt: &R,
+    moment: u64,
+    words: &ReplayWords<'_>,
+    out: &mut O,
+) -> Result<Output, AllocError> {
+    let alloc = rt.alloc();
+    let config = match read_file(rt, words.config) {
+        Ok(octets) => octets,
+        Err(fault) => return unread(alloc, fault, words.config),
+    };
+    let clocks = match read_file(rt, words.clocks) {
+        Ok(octets) => octets,
+        Err(fault) => return unread(alloc, fault, words.clocks),
+    };
+    let mut log = match open_log(rt, words.log) {
+        Ok(log) => log,
+        Err(fault) => return unread(alloc, fault, words.log),
+    };
+    match replay(alloc, moment, &config, words.clocks, &clocks, &mut log, out) {
+        Ok(status) => Ok(Output::out(alloc, Vec::new(alloc), status)),
+        Err(fault) => stopped(alloc, fault, words.log),
+    }
+}
+
+/// What is printed where a replay stops.
+fn stopped(alloc: Global, fault: ReplayFault, log: &str) -> Result<Output, AllocError> {
+    match fault {
+        ReplayFault::LogLine(number) => {
+            Output::complaint(alloc, format!(in alloc; "log line {number}")?.as_str())
+        }
+        ReplayFault::CannotRead => unread(alloc, FileFault::CannotRead, log),
+        ReplayFault::CannotWrite => Output::complaint(alloc, "cannot write"),
+        ReplayFault::OutOfMemory => Err(AllocError),
+    }
+}
+
+/// What is printed of a file that wasn't read.
+fn unread(alloc: Global, fault: FileFault, name: &str) -> Result<Output, AllocError> {
+    match fault {
+        FileFault::CannotRead => {
+            Output::complaint(alloc, format!(in alloc; "cannot read {name}")?.as_str())
+        }
+        FileFault::OutOfMemory => Err(AllocError),
+    }
+}

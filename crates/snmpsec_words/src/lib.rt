@@ -1,0 +1,297 @@
+//! The command line: the commands, their words, and what help says of them.
+#![tactic(auto)]
+
+use clap::error::ErrorKind;
+use clap::{Arg, ArgAction, ArgMatches, Error};
+use std::alloc::{AllocError, Global};
+
+const SHOW_STATUS: &str =
+    "Status: 0 shown, 1 refused (a line 'refused N NAME at PLACE'), 2 a fault of the command line.";
+
+const OPEN_STATUS: &str =
+    "The time window isn't looked at. Example: snmpsec open examples/replay/config.toml HEX, with a datagram of examples/replay/captured.log
+Status: 0 opened, 1 refused (a line 'refused N NAME at PLACE') or a refused configuration, 2 a fault of the command line or a file that can't be read.";
+
+const CHECK_STATUS: &str =
+    "Example: snmpsec check-access examples/access.toml 3 nagios authPriv read @ 1.3.6.1.2.1.1.5.0
+Status: 0 accessAllowed, 1 another answer or a refused configuration, 2 a fault of the command line or a file that can't be read.";
+
+const EXPLAIN_STATUS: &str =
+    "After the answer come, as far as it got: context POSITION, group POSITION NAME, access POSITION, view NAME, family POSITION.
+Positions are those of rows in their table of CONFIG, from 0.
+Example: snmpsec explain-access examples/access.toml 3 nagios authPriv read @ 1.3.6.1.2.1.1.5.0
+Status: 0 accessAllowed, 1 another answer or a refused configuration, 2 a fault of the command line or a file that can't be read.";
+
+const CONFIG_STATUS: &str = "Example: snmpsec check-config examples/access.toml
+Status: 0 read, 1 refused (what is wrong is told on standard error), 2 a fault of the command line or a file that can't be read.";
+
+const MERGE_STATUS: &str =
+    "Example: snmpsec merge-clocks examples/station-a.clocks examples/station-b.clocks
+Status: 0 merged, 1 a file is refused (its first faulty line is told), 2 a fault of the command line or a file that can't be read.";
+
+const REPLAY_STATUS: &str =
+    "Example: snmpsec replay examples/replay/config.toml examples/replay/begin.clocks examples/replay/captured.log
+Status: 0 replayed, 1 a refused configuration or clocks file, 2 a fault of the command line or of a line of the log, or a file that can't be read.";
+
+/// A command with its words. None of them has been looked at beyond what the parser asks.
+#[derive(Drop)]
+pub enum Command<'a> {
+    /// `show HEX`
+    Show {
+        digits: &'a str,
+    },
+    /// `open CONFIG HEX`
+    Open {
+        config: &'a str,
+        digits: &'a str,
+    },
+    /// `check-access CONFIG MODEL NAME LEVEL VIEW CONTEXT OID`
+    CheckAccess(AccessWords<'a>),
+    /// `explain-access CONFIG MODEL NAME LEVEL VIEW CONTEXT OID`
+    ExplainAccess(AccessWords<'a>),
+    /// `check-config CONFIG`
+    CheckConfig {
+        config: &'a str,
+    },
+    /// `replay [--moment MOMENT] CONFIG CLOCKS LOG`
+    Replay(ReplayWords<'a>),
+    /// `merge-clocks [--moment MOMENT] FILE..`
+    MergeClocks {
+        moment: Option<&'a str>,
+        files: Vec<&'a str>,
+    },
+}
+
+/// The words of check-access and explain-access.
+#[derive(Clone, Copy)]
+pub struct AccessWords<'a> {
+    /// The name of the configuration's file.
+    pub config: &'a str,
+    /// MODEL, NAME, LEVEL, VIEW, CONTEXT and OID.
+    pub question: [&'a str; 6],
+}
+
+/// The words of replay.
+#[derive(Clone, Copy)]
+pub struct ReplayWords<'a> {
+    /// When the clocks of a file without moments were seen.
+    pub moment: Option<&'a str>,
+    /// The name of the configuration's file.
+    pub config: &'a str,
+    /// The name of the clocks file.
+    pub clocks: &'a str,
+    /// The name of the log's file.
+    pub log: &'a str,
+}
+
+/// A word that must be given, and what it is.
+fn word<'a>(alloc: Global, name: &'a str, help: &'a str) -> Arg<'a> {
+    Arg::new(alloc, name)
+        .required(true)
+        .action(ArgAction::Set)
+        .help(help)
+}
+
+/// The moment that marks get which have none of their own. A number below 0 is a word of the option too.
+fn moment<'a>(alloc: Global) -> Arg<'a> {
+    Arg::new(alloc, "MOMENT")
+        .long("moment")
+        .action(ArgAction::Set)
+        .allow_negative_numbers(true)
+        .help(
+            "When the clocks of a file without moments were seen, in whole seconds; 0 if left out",
+        )
+}
+
+/// The datagram of a command.
+fn hex_word<'a>(alloc: Global) -> Arg<'a> {
+    word(
+        alloc,
+        "HEX",
+        "The datagram: one or more pairs of hex digits, without blanks, colons or 0x",
+    )
+}
+
+fn show<'a>(alloc: Global) -> Result<clap::Command<'a>, AllocError> {
+    clap::Command::new(alloc, "show")
+        .about("Print the fields of an SNMPv3 message, a field a line, and its canonical spelling")
+        .after_help(SHOW_STATUS)
+        .arg(hex_word(alloc))
+}
+
+fn open<'a>(alloc: Global) -> Result<clap::Command<'a>, AllocError> {
+    clap::Command::new(alloc, "open")
+        .about(
+            "Authenticate and decrypt an SNMPv3 message with the users' passwords, and print its fields",
+        )
+        .after_help(OPEN_STATUS)
+        .arg(word(alloc, "CONFIG", "TOML file with the users"))?
+        .arg(hex_word(alloc))
+}
+
+/// A question of who may see what.
+fn with_question<'a>(
+    alloc: Global,
+    command: clap::Command<'a>,
+) -> Result<clap::Command<'a>, AllocError> {
+    command
+        .arg(word(
+            alloc,
+            "CONFIG",
+            "TOML file with users, contexts, groups, access rows and families",
+        ))?
+        .arg(word(
+            alloc,
+            "MODEL",
+            "Number of the security model: 3 is the user-based one",
+        ))?
+        .arg(word(alloc, "NAME", "Security name: with model 3 the user's name"))?
+        .arg(word(alloc, "LEVEL", "noAuthNoPriv, authNoPriv or authPriv"))?
+        .arg(word(alloc, "VIEW", "read, write or notify"))?
+        .arg(word(
+            alloc,
+            "CONTEXT",
+            "Name of the context; @ is the default one, with the empty name",
+        ))?
+        .arg(word(
+            alloc,
+            "OID",
+            "The variable, as 1.3.6.1.2.1.1.5.0: no name, no dot in front",
+        ))
+}
+
+fn check_access<'a>(alloc: Global) -> Result<clap::Command<'a>, AllocError> {
+    let command = clap::Command::new(alloc, "check-access")
+        .about("Ask whether a user may read, write or be notified of a variable (RFC 3415)")
+        .after_help(CHECK_STATUS);
+    with_question(alloc, command)
+}
+
+fn explain_access<'a>(alloc: Global) -> Result<clap::Command<'a>, AllocError> {
+    let command = clap::Command::new(alloc, "explain-access")
+        .about("Ask as check-access does, and print which rows of the configuration decided")
+        .after_help(EXPLAIN_STATUS);
+    with_question(alloc, command)
+}
+
+fn check_config<'a>(alloc: Global) -> Result<clap::Command<'a>, AllocError> {
+    clap::Command::new(alloc, "check-config")
+        .about("Read a configuration: print how many rows each table has, or what is wrong with it")
+        .after_help(CONFIG_STATUS)
+        .arg(word(
+            alloc,
+            "CONFIG",
+            "TOML file with users, contexts, groups, access rows and families",
+        ))
+}
+
+fn replay<'a>(alloc: Global) -> Result<clap::Command<'a>, AllocError> {
+    clap::Command::new(alloc, "replay")
+        .about(
+            "Take a log of datagrams as a manager does: print what each comes to, and then the clocks",
+        )
+        .after_help(REPLAY_STATUS)
+        .arg(moment(alloc))?
+        .arg(word(alloc, "CONFIG", "TOML file with the manager's users"))?
+        .arg(word(
+            alloc,
+            "CLOCKS",
+            "Saved clocks that the manager begins with, at most 16 MiB",
+        ))?
+        .arg(word(
+            alloc,
+            "LOG",
+            "Lines MOMENT HEX: when a datagram came, in whole seconds, and its octets",
+        ))
+}
+
+fn merge_clocks<'a>(alloc: Global) -> Result<clap::Command<'a>, AllocError> {
+    let files = word(alloc, "FILE", "Saved clocks, each at most 16 MiB")
+        .num_args(1..)
+        .action(ArgAction::Append);
+    clap::Command::new(alloc, "merge-clocks")
+        .about("Print the join of saved clocks: of each engine the greatest boots and time")
+        .after_help(MERGE_STATUS)
+        .arg(moment(alloc))?
+        .arg(files)
+}
+
+/// The parser of the command line.
+fn parser<'a>(alloc: Global) -> Result<clap::Command<'a>, AllocError> {
+    clap::Command::new(alloc, "snmpsec")
+        .about("Looks into SNMPv3 messages, view-based access, logs of datagrams and saved clocks")
+        .subcommand_required(true)
+        .subcommand(show(alloc)?)?
+        .subcommand(open(alloc)?)?
+        .subcommand(check_access(alloc)?)?
+        .subcommand(explain_access(alloc)?)?
+        .subcommand(check_config(alloc)?)?
+        .subcommand(replay(alloc)?)?
+        .subcommand(merge_clocks(alloc)?)
+}
+
+/// The word of an argument that the parser requires.
+fn given<'a>(alloc: Global, words: &ArgMatches<'a>, name: &str) -> Result<&'a str, Error> {
+    match words.get_str(name) {
+        Some(word) => Ok(word),
+        None => Err(parser(alloc)?.error(ErrorKind::MissingRequiredArgument, name)?),
+    }
+}
+
+/// The words of check-access and explain-access.
+fn access_words<'a>(alloc: Global, words: &ArgMatches<'a>) -> Result<AccessWords<'a>, Error> {
+    Ok(AccessWords {
+        config: given(alloc, words, "CONFIG")?,
+        question: [
+            given(alloc, words, "MODEL")?,
+            given(alloc, words, "NAME")?,
+            given(alloc, words, "LEVEL")?,
+            given(alloc, words, "VIEW")?,
+            given(alloc, words, "CONTEXT")?,
+            given(alloc, words, "OID")?,
+        ],
+    })
+}
+
+/// The words of replay.
+fn replay_words<'a>(alloc: Global, words: &ArgMatches<'a>) -> Result<ReplayWords<'a>, Error> {
+    Ok(ReplayWords {
+        moment: words.get_str("MOMENT"),
+        config: given(alloc, words, "CONFIG")?,
+        clocks: given(alloc, words, "CLOCKS")?,
+        log: given(alloc, words, "LOG")?,
+    })
+}
+
+/// Reads the words of a command line, the program's name first. A request for help is an error too.
+pub fn parse<'a>(alloc: Global, words: &'a [String]) -> Result<Command<'a>, Error> {
+    let matches = parser(alloc)?.try_get_matches_from(words)?;
+    match matches.subcommand() {
+        Some(("show", words)) => Ok(Command::Show {
+            digits: given(alloc, words, "HEX")?,
+        }),
+        Some(("open", words)) => Ok(Command::Open {
+            config: given(alloc, words, "CONFIG")?,
+            digits: given(alloc, words, "HEX")?,
+        }),
+        Some(("check-access", words)) => Ok(Command::CheckAccess(access_words(alloc, words)?)),
+        Some(("explain-access", words)) => Ok(Command::ExplainAccess(access_words(alloc, words)?)),
+        Some(("check-config", words)) => Ok(Command::CheckConfig {
+            config: given(alloc, words, "CONFIG")?,
+        }),
+        Some(("replay", words)) => Ok(Command::Replay(replay_words(alloc, words)?)),
+        Some(("merge-clocks", words)) => Ok(Command::MergeClocks {
+            moment: words.get_str("MOMENT"),
+            files: words.get_strs("FILE").unwrap_or(&[]).to_vec(alloc)?,
+        }),
+        _ => Err(parser(alloc)?.error(ErrorKind::MissingSubcommand, "a command is missing")?),
+    }
+}
+
+/// The refusal of words that are no text.
+pub fn not_text(alloc: Global) -> Result<Error, AllocError> {
+    parser(alloc)?.error(
+        ErrorKind::InvalidValue,
+        "invalid UTF-8 was detected in one or more arguments",
+    )
+}
