@@ -9,13 +9,17 @@ use Rattle.std.proofs.lemmas.List.{length-append, map-append, take_more}
 use Rattle.std.proofs.lemmas.List.Folds.{find-append}
 use Rattle.std.proofs.lemmas.Option.{slice_get_read, slice_get_past, same_Some}
 use Rattle.std.proofs.lemmas.Slice.Eq.{bytes_eq-Decides}
-use Rattle.lru.proofs.Pairs.{slice_get-cut}
 use Rattle.usm_users.specs.User.{User}
 use Rattle.usm_users.specs.declared.load.UserRow.{UserRow}
 use Rattle.usm_users.specs.declared.load.UserFault.{UserFault}
 use Rattle.usm_users.specs.Index.{IsIndex}
 use Rattle.usm_users.specs.Users.{user_named}
 use Rattle.usm_users.specs.Rows.{has_name, row_fault, fault_at, AreSound, user_of}
+
+-- an element stands at the length of what is in front of it
+slice_get-cut : {X : Type 0} (xs : List X) (x : X) (ys : List X) → slice_get (xs ++ x ∷ ys) (length xs) ≡ Some x
+slice_get-cut [] x ys = refl
+slice_get-cut (z ∷ xs) x ys = let more : length (z ∷ xs) ≡ suc (length xs) = omega arith in ap (slice_get (z ∷ xs ++ x ∷ ys)) more ∙ slice_get-cut xs x ys
 
 -- a clone's entries are the same
 pub same_entries : (es fs : List (List ℕ × ℕ)) → AllZip (λ p q. (q.0 ≡ p.0) × (q.1 ≡ p.1)) es fs → fs ≡ es
