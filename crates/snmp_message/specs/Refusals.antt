@@ -1,5 +1,5 @@
 -- Why octets are refused: for each call the faults that it answers, each with its cause.
-use Rattle.std.specs.Prelude.{ℕ, List, Option, Some, None}
+use Rattle.std.specs.Prelude.{◌⊎◌, ℕ, List, Option, Some, None}
 use Rattle.snmp_message.specs.declared.fault.MsgFault.{MsgFault}
 use Rattle.snmp_message.specs.declared.fault.MsgFault.TheVariants as faults
 use Rattle.snmp_message.specs.declared.fault.WriteFault.{WriteFault}
@@ -50,3 +50,7 @@ RefusesScoped w m _ = ⊥
 abbrev pub RefusesFront : List ℕ → MsgFault → Type 0
 RefusesFront z (faults.NotScoped at) = (s : Contexts) → ScopedFront z s → ⊥
 RefusesFront z _ = ⊥
+
+-- msgData is what the priv flag says
+abbrev pub AgreesWithPriv : List ℕ → Parts → Type 0
+AgreesWithPriv w m = HasSealed m ⊎ ((s : Contexts) × HasScoped w m s)

@@ -15,7 +15,8 @@ use Rattle.snmp_msg.specs.Pdu.{PduParts, PduText, SaysPdu, pdu_text}
 use Rattle.snmp_message.specs.Spelling.{HeaderFits, content_size, message_text, written}
 use Rattle.snmp_msg.specs.Canonical.{DataParts, sealed, plain, Whole, SaysData, Says, data_tag_of, data_content_of, whole_text, IsCanonical, DataFits, WholeFits, IsShortData}
 use Rattle.snmp_message.specs.Refusals.{RefusesSecurity}
-use Rattle.snmp_msg.specs.Refusals.{RefusesPdu, RefusesWhole, RefusesCanonical, AgreesWithPriv, canon_fault}
+use Rattle.snmp_message.specs.Refusals.{AgreesWithPriv}
+use Rattle.snmp_msg.specs.Refusals.{RefusesPdu, RefusesWhole, RefusesCanonical, canon_fault}
 use Rattle.snmp_message.proofs.Outers.{one_outer}
 use Rattle.snmp_message.proofs.Securities.{one_security}
 use Rattle.snmp_message.proofs.Scopeds.{not_both, one_scoped, contexts_text-length, contexts_text-is}

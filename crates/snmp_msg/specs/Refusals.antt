@@ -1,5 +1,5 @@
 -- Why octets are refused: for each call the faults that it answers, each with its cause.
-use Rattle.std.specs.Prelude.{◌<◌, ◌≤◌, ◌⊎◌, ℕ, List, length, Option, Some, None}
+use Rattle.std.specs.Prelude.{◌<◌, ◌≤◌, ℕ, List, length, Option, Some, None}
 use Rattle.snmp_message.specs.declared.message.TheConstants.{LARGEST}
 use Rattle.snmp_message.specs.declared.fault.MsgFault.{MsgFault}
 use Rattle.snmp_message.specs.declared.fault.MsgFault.TheVariants as faults
@@ -9,7 +9,7 @@ use Rattle.snmp_msg.specs.declared.fault.CanonFault.{CanonFault}
 use Rattle.snmp_msg.specs.declared.fault.CanonFault.TheVariants as canons
 use Rattle.snmp_message.specs.declared.refusal.Refusal.{Refusal}
 use Rattle.snmp_message.specs.declared.refusal.Refusal.TheVariants as refusals
-use Rattle.snmp_message.specs.Refusals.{msg_refusal, place_of}
+use Rattle.snmp_message.specs.Refusals.{AgreesWithPriv, msg_refusal, place_of}
 use Rattle.snmp_message.specs.Layout.{Parts, Outer, WrongVersion}
 use Rattle.snmp_message.specs.Security.{Fields, SecText}
 use Rattle.snmp_message.specs.Scoped.{Contexts, HasScoped, HasSealed, ScopedFront}
@@ -20,10 +20,6 @@ use Rattle.snmp_msg.specs.Canonical.{IsCanonical}
 abbrev pub RefusesPdu : List ℕ → MsgFault → Type 0
 RefusesPdu z (faults.NotPdu at) = (p : PduParts) → PduText z p → ⊥
 RefusesPdu z _ = ⊥
-
--- msgData is what the priv flag says
-abbrev pub AgreesWithPriv : List ℕ → Parts → Type 0
-AgreesWithPriv w m = HasSealed m ⊎ ((s : Contexts) × HasScoped w m s)
 
 -- The fault is the first of a message's layers, in the order message, msgData, msgSecurityParameters and PDU.
 abbrev pub RefusesWhole : List ℕ → MsgFault → Type 0

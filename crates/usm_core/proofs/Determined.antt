@@ -3,7 +3,7 @@ use Rattle.std.proofs.Common.{◌≡◌, ◌≤◌, ℕ, List, [], Bool, true, f
 use Rattle.std.specs.Prelude.{◌≢◌, Result, Ok, Err, IfOk, IfErr, IsSomeAnd, MatchBool, if◌then◌else◌}
 use Rattle.snmp_message.specs.Layout.{Parts, Outer}
 use Rattle.snmp_message.specs.Security.{Fields, SecText}
-use Rattle.snmp_msg.specs.Refusals.{AgreesWithPriv}
+use Rattle.snmp_message.specs.Refusals.{AgreesWithPriv}
 use Rattle.snmp_message.specs.Level.{level_of}
 use Rattle.snmp_ber.specs.Element.{IsElement}
 use Rattle.snmp_ber.specs.declared.level.Level.TheVariants.{NoAuthNoPriv, AuthNoPriv, AuthPriv}
