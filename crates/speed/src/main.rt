@@ -7,11 +7,8 @@
 //! It prints the last result in lower-case hex.
 #![tactic(auto)]
 
-mod operation;
-mod station;
-
 use anyhow::{Context, Result, bail};
-use operation::Operation;
+use speed_cases::Operation;
 use std::env;
 
 fn main(rt: HostRuntime) -> Result<()> {

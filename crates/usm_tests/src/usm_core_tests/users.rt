@@ -1,6 +1,8 @@
 //! Users that are loaded, refused, copied and asked for a level, and growths that are refused.
 
 use super::*;
+use usm_keys::{Key, localise};
+use usm_users::{UserTable, table_of};
 
 /// Rows, and what is wrong with the first of them at fault.
 struct Case {
@@ -129,6 +131,36 @@ fn the_first_row_at_fault_is_told(rt: HostRuntime) -> Result<(), Fail> {
         let told = fault_of(rt.alloc(), &rows)?;
         assert_eq!(rt; told, case.told, "case {number}");
     }
+    Ok(())
+}
+
+/// The key localised to the engine, where there is one.
+fn at_engine(key: Option<&Key>) -> Option<Key> {
+    Some(localise(key?, &ENGINE))
+}
+
+/// Both keys of a user are this one at the engine.
+fn assert_keys(rt: &impl Abort, users: &UserTable, name: &[u8], localised: &[u8]) {
+    let Some(user) = users.user_named(name) else {
+        panic!(rt; "no user");
+    };
+    for key in [at_engine(user.auth()), at_engine(user.privacy())] {
+        let Some(key) = key else {
+            panic!(rt; "no key");
+        };
+        assert_eq!(rt; key.as_slice(), localised);
+    }
+}
+
+/// RFC 3414, sections A.3.1 and A.3.2.
+#[test]
+fn both_keys_are_made_with_the_hash_of_authentication(rt: HostRuntime) -> Result<(), Fail> {
+    let rows = rows_of(rt.alloc(), people())?;
+    let users = table_of(rt.alloc(), &rows)?;
+    let md5 = b"\x52\x6f\x5e\xed\x9f\xcc\xe2\x6f\x89\x64\xc2\x93\x07\x87\xd8\x2b";
+    let sha1 = b"\x66\x95\xfe\xbc\x92\x88\xe3\x62\x82\x23\x5f\xc7\x15\x1f\x12\x84\x97\xb3\x8f\x3f";
+    assert_keys(&rt, &users, b"ann", md5.as_slice());
+    assert_keys(&rt, &users, b"bob", sha1.as_slice());
     Ok(())
 }
 

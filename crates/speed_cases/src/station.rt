@@ -1,7 +1,7 @@
 //! Who opens, takes and answers the messages.
 ghost use Rattle.std.specs.Prelude.{◌≡◌, ◌+◌, length, map, IfOk};
 ghost use Rattle.usm_users.specs.Rows.{user_of};
-ghost use Rattle.speed.specs.Stations.{HasUsers};
+ghost use Rattle.speed_cases.specs.Stations.{HasUsers};
 
 use anyhow::{Context, Result};
 use engine_clock::{Clocks, EngineId};
@@ -14,10 +14,10 @@ use usm_keys::Auth;
 use vacm_core::{Rows, Vacm, VacmFault};
 
 /// The engine of the captured messages, which `oak` asked.
-pub(crate) const ENGINE: [u8; 11] = [0x80, 0, 0x1F, 0x88, 3, 2, 0xFC, 0, 0, 0, 1];
+pub const ENGINE: [u8; 11] = [0x80, 0, 0x1F, 0x88, 3, 2, 0xFC, 0, 0, 0, 1];
 
 /// The name of the user.
-pub(crate) const OAK: &[u8] = b"oak";
+pub const OAK: &[u8] = b"oak";
 
 /// Its boots in them.
 const BOOTS: u32 = 1;
@@ -30,15 +30,15 @@ const AES_KEY: [u8; 16] = [0, 1, 2, 3, 4, 5, 6, 7, 8, 9, 10, 11, 12, 13, 14, 15]
 
 /// What the operations are done with.
 #[derive(Drop)]
-pub(crate) struct Station {
+pub struct Station {
     /// Who opens messages or seals them: `ann`, `oak` or nobody.
-    pub(crate) users: Users,
+    pub users: Users,
     /// Who takes messages: it has the user `oak`, or none.
-    pub(crate) manager: Manager,
+    pub manager: Manager,
     /// Who takes messages and answers them: it has the user `oak`, or none.
-    pub(crate) agent: Agent,
+    pub agent: Agent,
     /// The key of sealing and opening, expanded.
-    pub(crate) schedule: Schedule,
+    pub schedule: Schedule,
 }
 
 /// The user `ann` with a password for the codes.
@@ -105,21 +105,21 @@ fn agent_of(alloc: Global, rows: &[UserRow]) -> Result<Agent>
 
 impl Station {
     /// A station without users.
-    pub(crate) fn empty(alloc: Global) -> Result<Station>
+    pub fn empty(alloc: Global) -> Result<Station>
         ensures { IfOk result (λ station. HasUsers station 0 0 0) }
     {
         Station::of(alloc, &[], &[], &[])
     }
 
     /// A station with `ann`, who has this protocol for the codes.
-    pub(crate) fn of_ann(alloc: Global, auth: Auth) -> Result<Station>
+    pub fn of_ann(alloc: Global, auth: Auth) -> Result<Station>
         ensures { IfOk result (λ station. HasUsers station 1 0 0) }
     {
         Station::of(alloc, &[ann(alloc, auth)?], &[], &[])
     }
 
     /// A station whose manager has `oak`, behind so many other users.
-    pub(crate) fn of_oak_among(alloc: Global, count: u32) -> Result<Station>
+    pub fn of_oak_among(alloc: Global, count: u32) -> Result<Station>
         ensures { IfOk result (λ station. HasUsers station 0 (count + 1) 0) }
     {
         let mut rows = others(alloc, count)?;
@@ -128,14 +128,14 @@ impl Station {
     }
 
     /// A station whose users are `oak` alone.
-    pub(crate) fn of_sealer(alloc: Global) -> Result<Station>
+    pub fn of_sealer(alloc: Global) -> Result<Station>
         ensures { IfOk result (λ station. HasUsers station 1 0 0) }
     {
         Station::of(alloc, &[oak(alloc)?], &[], &[])
     }
 
     /// A station whose agent has `oak`.
-    pub(crate) fn of_agent(alloc: Global) -> Result<Station>
+    pub fn of_agent(alloc: Global) -> Result<Station>
         ensures { IfOk result (λ station. HasUsers station 0 0 1) }
     {
         Station::of(alloc, &[], &[], &[oak(alloc)?])

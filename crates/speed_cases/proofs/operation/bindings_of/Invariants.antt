@@ -1,7 +1,7 @@
 use Rattle.std.specs.Prelude.{All}
 use Rattle.snmp_msg.specs.Variables.{CanBeWritten, variable_of}
 use Rattle.snmp_msg.specs.declared.binding.Binding.{Binding}
-use Rattle.speed.proofs.operation.bindings_of.Given as goal
+use Rattle.speed_cases.proofs.operation.bindings_of.Given as goal
 
 abbrev pub invariant-loop-binding : goal.invariant-loop-binding
 invariant-loop-binding l = record {

@@ -3,10 +3,10 @@
 ghost use Rattle.std.specs.Prelude.{◌≡◌, ◌++◌, ◌-◌, [], ◌∷◌, ℕ, IsTrue, false, All, IfOk, Ok, drop, length, map, replicate, take};
 ghost use Rattle.snmp_message.specs.Scoped.{IsOneElement};
 ghost use Rattle.snmp_msg.specs.Variables.{CanBeWritten, variable_of};
-ghost use Rattle.speed.specs.declared.operation.Operation.{Operation as AnOperation};
-ghost use Rattle.speed.specs.Words.{operation_word};
-ghost use Rattle.speed.specs.Stations as count;
-ghost use Rattle.speed.specs.Stations.{HasUsers, number_of};
+ghost use Rattle.speed_cases.specs.declared.operation.Operation.{Operation as AnOperation};
+ghost use Rattle.speed_cases.specs.Words.{operation_word};
+ghost use Rattle.speed_cases.specs.Stations as count;
+ghost use Rattle.speed_cases.specs.Stations.{HasUsers, number_of};
 
 use crate::station::{ENGINE, OAK, Station};
 use anyhow::{Context, Result, ensure};
@@ -48,7 +48,7 @@ const MOMENT: u64 = 1000;
 
 /// How many other users a manager has.
 #[derive(Clone, Copy, PartialEq, Eq, Debug)]
-pub(crate) enum Others {
+pub enum Others {
     Nobody,
     Thousand,
     TenThousand,
@@ -68,7 +68,7 @@ impl Others {
 
 /// An operation on a text that can be timed.
 #[derive(Clone, Copy, PartialEq, Eq, Debug)]
-pub(crate) enum Operation {
+pub enum Operation {
     /// `password-key-md5`, `password-key-sha1`, `password-key-sha256`: the key of the text, taken as a password.
     PasswordKey(Auth),
     /// `mac-md5`, `mac-sha1`, `mac-sha256`: the text's message authentication code under 32 octets 0B.
@@ -97,7 +97,7 @@ pub(crate) enum Operation {
 /// No operation has this name.
 #[derive(Clone, Copy, PartialEq, Eq, Debug, Error)]
 #[error("OPERATION is password-key-HASH, mac-HASH, open-auth-HASH, cfb-seal, cfb-open, take, take-among-1000, take-among-10000, agent-take, agent-answer or seal, HASH being md5, sha1 or sha256")]
-pub(crate) struct UnknownOperation;
+pub struct UnknownOperation;
 
 impl FromStr for Operation {
     type Err = UnknownOperation;
@@ -155,7 +155,7 @@ impl Operation {
 
     /// The texts to begin with: the messages that the word gives in hex, with commas between them, or one text of as many octets
     /// `a` as the word says.
-    pub(crate) fn texts(self, alloc: Global, word: &str) -> Result<Vec<Vec<u8>>>
+    pub fn texts(self, alloc: Global, word: &str) -> Result<Vec<Vec<u8>>>
         ensures { count.is_of_a_message self ≡ false → IfOk result (λ texts. (n : ℕ) × (map (λ text. text.items) texts.items ≡ replicate n 97 ∷ [])) }
     {
         if self.is_of_a_message() {
@@ -168,7 +168,7 @@ impl Operation {
     }
 
     /// What the operation is done with.
-    pub(crate) fn station(self, alloc: Global) -> Result<Station>
+    pub fn station(self, alloc: Global) -> Result<Station>
         ensures { IfOk result (λ station. HasUsers station (count.openers self) (count.takers self) (count.answerers self)) }
     {
         match self {
@@ -182,7 +182,7 @@ impl Operation {
 
     /// Does the operation `times` times, on the texts in turn, and answers the last result: no octets for no times. Where a text
     /// isn't a message, each result is written over its first octets for the next time. Where there is no text, it is an error.
-    pub(crate) fn repeat(
+    pub fn repeat(
         self,
         alloc: Global,
         station: &mut Station,

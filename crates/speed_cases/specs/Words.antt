@@ -1,9 +1,9 @@
 -- The words of the operations.
 use Rattle.std.specs.Prelude.{ℕ, List, codes}
 use Rattle.usm_keys.specs.declared.auth.Auth.TheVariants.{Md5, Sha1, Sha256}
-use Rattle.speed.specs.declared.operation.Others.TheVariants.{Nobody, Thousand, TenThousand}
-use Rattle.speed.specs.declared.operation.Operation.{Operation}
-use Rattle.speed.specs.declared.operation.Operation.TheVariants.{PasswordKey, Mac, CfbSeal, CfbOpen, OpenAuth, Take, AgentTake, AgentAnswer, Seal}
+use Rattle.speed_cases.specs.declared.operation.Others.TheVariants.{Nobody, Thousand, TenThousand}
+use Rattle.speed_cases.specs.declared.operation.Operation.{Operation}
+use Rattle.speed_cases.specs.declared.operation.Operation.TheVariants.{PasswordKey, Mac, CfbSeal, CfbOpen, OpenAuth, Take, AgentTake, AgentAnswer, Seal}
 
 abbrev pub operation_word : Operation → List ℕ
 operation_word (PasswordKey Md5) = codes "password-key-md5"

@@ -1,7 +1,7 @@
 use Rattle.std.proofs.Common.{length}
 use Rattle.std.proofs.lemmas.Bool.{eqb-true}
-use Rattle.speed.proofs.Elements.{is_whole}
-use Rattle.speed.proofs.operation.is_element.Goals as goal
+use Rattle.speed_cases.proofs.Elements.{is_whole}
+use Rattle.speed_cases.proofs.operation.is_element.Goals as goal
 
 -- src/operation.rt:288:1
 pub returns-in-Ok : goal.returns-in-Ok

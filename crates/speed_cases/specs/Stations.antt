@@ -1,10 +1,10 @@
 -- How many users open or seal messages, take them and answer them.
 use Rattle.std.specs.Prelude.{◌≡◌, ℕ, ◌+◌, Bool, true, false, length}
-use Rattle.speed.specs.declared.operation.Others.{Others}
-use Rattle.speed.specs.declared.operation.Others.TheVariants.{Nobody, Thousand, TenThousand}
-use Rattle.speed.specs.declared.operation.Operation.{Operation}
-use Rattle.speed.specs.declared.operation.Operation.TheVariants.{PasswordKey, Mac, CfbSeal, CfbOpen, OpenAuth, Take, AgentTake, AgentAnswer, Seal}
-use Rattle.speed.specs.declared.station.Station.{Station}
+use Rattle.speed_cases.specs.declared.operation.Others.{Others}
+use Rattle.speed_cases.specs.declared.operation.Others.TheVariants.{Nobody, Thousand, TenThousand}
+use Rattle.speed_cases.specs.declared.operation.Operation.{Operation}
+use Rattle.speed_cases.specs.declared.operation.Operation.TheVariants.{PasswordKey, Mac, CfbSeal, CfbOpen, OpenAuth, Take, AgentTake, AgentAnswer, Seal}
+use Rattle.speed_cases.specs.declared.station.Station.{Station}
 
 abbrev pub number_of : Others → ℕ
 number_of Nobody = 0
