@@ -9,8 +9,8 @@ mod merge;
 mod open;
 mod output;
 mod refused;
-mod replay;
-mod run;
+pub mod replay;
+pub mod run;
 mod show;
 mod words;
 
@@ -21,6 +21,4 @@ pub use files::{FileFault, read_whole};
 pub use merge::merge_text;
 pub use open::{open_text, opened};
 pub use output::Output;
-pub use replay::replay;
-pub use run::{command, run};
 pub use show::show_text;

@@ -13,13 +13,10 @@ use crate::user_table::UserTable;
 use std::alloc::{AllocError, Global};
 use std::collections::HashMap;
 use thiserror::Error;
-use usm_keys::{Auth, Key, password_key};
+use usm_keys::{Auth, Key, MIN_PASSWORD, password_key};
 
 /// The most octets of a user's name (RFC 3414, section 2.4).
 const MAX_NAME: usize = 32;
-
-/// The fewest octets of a password (RFC 3414, section 11.2).
-const MIN_PASSWORD: usize = 8;
 
 /// A user: a name of 1 to 32 octets, and passwords of at least 8. A user with a privacy password has one for
 /// authentication too, and both keys are made with the hash that stands beside that.

@@ -1,7 +1,7 @@
 //! Commands over real files: in which order files and words are looked at.
 
 use super::*;
-use snmpsec_commands::command;
+use snmpsec_commands::run::command;
 use std::alloc::Global;
 
 /// A command line without the program's name, the status, standard output and standard error.

@@ -2,7 +2,7 @@
 
 use super::access::refused_configurations;
 use super::streams::{Choppy, Slow};
-use snmpsec_commands::replay;
+use snmpsec_commands::replay::replay;
 use snmpsec_replay::ReplayFault;
 use std::alloc::{AllocError, Global};
 use std::io::{BufRead, BufReader, Write};
