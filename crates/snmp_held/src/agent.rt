@@ -11,7 +11,7 @@ ghost use Rattle.snmp_agent.specs.Sent.{responding, notifying, Sends};
 ghost use Rattle.snmp_sending.specs.Sends.{send_answer};
 ghost use Rattle.snmp_sending.specs.Bodies.{BodyFits};
 ghost use Rattle.vacm_core.specs.Allowed.{Allowed};
-ghost use Rattle.snmp_held.specs.Agents.{Clears, MakesAgent, TakesHeld, TakesNoMemory, AllowsHeld, MaySee, Counts, RespondsHeld, Notice, NotifiesHeld};
+ghost use Rattle.snmp_held.specs.Agents.{Clears, IsOwnEngine, MakesAgent, TakesHeld, TakesNoMemory, AllowsHeld, MaySee, Counts, RespondsHeld, Notice, NotifiesHeld};
 ghost use Rattle.snmp_held.specs.Parts.{CopiesPart, CopiesMessage, AreNumbersOf};
 ghost use Rattle.snmp_held.specs.Between.{AnswersResponse, AnswersNotice, notice_of};
 
@@ -68,6 +68,17 @@ fn is_all(octets: &[u8], octet: u8) -> bool
     ensures { IsTrue result ↔ All (λ o. o ≡ octet) octets.now }
 {
     octets.iter().all(|o| *o == octet)
+}
+
+/// The identifier that an engine has for its own: 5 to 32 octets, not all of them 0 and not all of them 255 (SnmpEngineID, RFC 3411,
+/// section 5).
+fn own_engine(octets: &[u8]) -> Option<EngineId>
+    ensures { MatchOption result (IsOwnEngine octets.now → ⊥) (λ engine. IsOwnEngine octets.now × (engine ≡ octets.now)) }
+{
+    if is_all(octets, 0) || is_all(octets, 255) {
+        return None;
+    }
+    EngineId::of(octets)
 }
 
 /// Whether the sender of what was kept may see this variable.
@@ -151,10 +162,7 @@ impl AgentHandle {
     ) -> Result<AgentHandle, CallFault>
         ensures { MakesAgent config.now engine.now boots started result }
     {
-        if is_all(engine, 0) || is_all(engine, 255) {
-            return Err(CallFault::BadArgument);
-        }
-        let Some(engine) = EngineId::of(engine) else {
+        let Some(engine) = own_engine(engine) else {
             return Err(CallFault::BadArgument);
         };
         if boots > GREATEST {
