@@ -46,8 +46,9 @@ pub record ManagerHeld : Type 0 where
 
 -- ---- making one
 
+-- why none is made, the first that applies
 abbrev pub RefusesManager : List ℕ → List ℕ → ℕ → CallFault → Type 0
-RefusesManager config text now BadConfiguration = (fault : ConfigFault) × RefusesText config fault
+RefusesManager config text now BadConfiguration = ((clocks : Marks) × Saves now text clocks) × ((fault : ConfigFault) × RefusesText config fault)
 RefusesManager config text now BadClocks = (clocks : Marks) → Saves now text clocks → ⊥
 RefusesManager config text now (Refused fault) = fault ≡ OutOfMemory
 RefusesManager config text now _ = ⊥

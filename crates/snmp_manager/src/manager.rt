@@ -2,7 +2,7 @@
 
 ghost use Rattle.std.specs.Prelude.{◌≡◌, ◌<◌, ◌≤◌, ℕ, pos, List, [], length, Ok, IfOk, IfErr, IfSome, IsErrOf, IsOk, IsSome, OnErr, OnOk};
 ghost use Rattle.std.specs.Option.{option_map};
-ghost use Rattle.engine_clock.specs.Marks.{mark_at, pair_at, IsMarkJoinOf, IsJoinOf};
+ghost use Rattle.engine_clock.specs.Marks.{HoldsAll, mark_at, pair_at, IsMarkJoinOf, IsJoinOf};
 ghost use Rattle.engine_clock.specs.Saved.{AreMarks, listing};
 ghost use Rattle.engine_clock.specs.Windows.{notion_at};
 ghost use Rattle.snmp_ber.specs.declared.level.Level.TheVariants.{NoAuthNoPriv};
@@ -83,12 +83,15 @@ impl Manager {
     }
 
     /// Joins the marks of `clocks` in. On an error, which is want of memory, all is as before.
+    ///
+    /// No memory is wanted where each engine of the clocks is held.
     pub fn absorb(&mut self, clocks: &Clocks) -> Result<(), AllocError>
         ensures marks { OnOk result (IsMarkJoinOf self.old.clocks clocks.now self.new.clocks) }
         // So it is the join of the pairs.
         ensures joined { OnOk result (IsJoinOf self.old.clocks clocks.now self.new.clocks) }
         ensures users { self.new.users ≡ self.old.users }
         ensures err { OnErr result (self.new ≡ self.old) }
+        ensures held { HoldsAll self.old.clocks clocks.now → IsOk result }
     {
         self.clocks.absorb(clocks)
     }
