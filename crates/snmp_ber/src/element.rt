@@ -169,12 +169,19 @@ fn head(tag: u8, size: u32) -> ArrayVec<u8, 6>
 /// Appends the tag and the shortest length of a content of `size` octets, which is to follow.
 ///
 /// The error is want of memory: it comes only where the room that is left is too small, and changes nothing.
+#[tactic(auto, unfolding(crate::specs::Spelling::shortest_length))]
 pub fn put_head(out: &mut Vec<u8>, tag: u8, size: usize) -> Result<(), AllocError>
     requires { size < 2 ^ 32 }
     ensures ok { OnOk result (out.new.items ≡ out.old.items ++ head_of tag size) }
     ensures err { OnErr result (out.new.items ≡ out.old.items) }
     ensures full { OnErr result (vec_capacity out.old < vec_len out.old + length (head_of tag size)) }
+    ensures capacity { vec_capacity out.old ≤ vec_capacity out.new }
 {
+    // Most contents are short.
+    if size < 0x80 {
+        out.extend_from_slice(&[tag, size as u8])?;
+        return Ok(());
+    }
     let head = head(tag, size as u32);
     out.extend_from_slice(&head)?;
     Ok(())
@@ -192,9 +199,8 @@ pub fn put_tlv(out: &mut Vec<u8>, tag: u8, content: &[u8]) -> Result<(), AllocEr
     ensures full { OnErr result (vec_capacity out.old < vec_len out.old + length (element tag content.now)) }
     ensures size { OnOk result (vec_len out.new ≤ vec_len out.old + (6 + length content.now)) }
 {
-    let head = head(tag, content.len() as u32);
-    out.try_reserve(head.len() + content.len())?;
-    out.extend_from_slice(&head)?;
+    out.try_reserve(head_len(content.len()) + content.len())?;
+    put_head(out, tag, content.len())?;
     out.extend_from_slice(content)?;
     Ok(())
 }
