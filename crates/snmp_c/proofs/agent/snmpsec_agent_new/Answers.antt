@@ -7,4 +7,4 @@ use Rattle.snmp_c.proofs.agent.snmpsec_agent_new.Goals as goal
 pub returns : goal.returns
 returns c =
     let fits : SFits w32 c.code-in-Err-new.result = search rules in
-    (Err (Refused OutOfMemory), to_z-of_z w32 c.code-in-Err-new.result fits ∙ c.code-in-Err-new.ensures, refl)
+    (Err (Refused OutOfMemory), to_z-of_z w32 c.code-in-Err-new.result fits ∙ c.code-in-Err-new.ensures, (c.in-Ok.ensures.0, refl))
