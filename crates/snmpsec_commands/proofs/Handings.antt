@@ -6,7 +6,7 @@ use Rattle.engine_clock.specs.declared.saved.ClockFault.TheVariants as clock_fau
 use Rattle.usm_users.specs.User.{User}
 use Rattle.vacm_core.specs.Tables.{Tables}
 use Rattle.snmpsec_config.specs.Refusals.{Loads}
-use Rattle.snmpsec_commands.specs.Merge.{TellsFault}
+use Rattle.snmpsec_texts.specs.Merge.{TellsFault}
 use Rattle.snmpsec_commands.specs.Replay.{Handed, Refuses}
 
 pub clocks_refused : (h : Handed) (users : List User) (tables : Tables) (fault : ClockFault) (status : ℕ) (out : List ℕ) → Loads h.config users tables → IsFaultOf h.moment h.clocks fault → TellsFault h.name fault status out → Refuses h out

@@ -11,7 +11,7 @@ use Rattle.usm_users.specs.User.{User}
 use Rattle.vacm_core.specs.Tables.{Tables}
 use Rattle.snmpsec_config.specs.Refusals.{Loads, RefusesText, refusal_line}
 use Rattle.snmpsec_config.specs.declared.fault.ConfigFault.{ConfigFault}
-use Rattle.snmpsec_commands.specs.Merge.{refused_line}
+use Rattle.snmpsec_texts.specs.Merge.{refused_line}
 use Rattle.snmpsec_commands.specs.declared.replay.NoManager.{NoManager}
 use Rattle.snmpsec_commands.specs.declared.replay.NoManager.TheVariants.{Refused, OutOfMemory}
 

@@ -1,24 +1,11 @@
-//! The commands of `snmpsec`: what each prints, and its status.
+//! The commands of `snmpsec`: from the command line and the files that it names to what is printed, and the status.
 #![tactic(auto)]
 
-mod check;
-mod check_config;
-mod explain;
 mod files;
-mod merge;
-mod open;
-mod output;
-mod refused;
 pub mod replay;
 pub mod run;
-mod show;
-mod words;
 
-pub use check::check_text;
-pub use check_config::check_config_text;
-pub use explain::explain_text;
 pub use files::{FileFault, read_whole};
-pub use merge::merge_text;
-pub use open::{open_text, opened};
-pub use output::Output;
-pub use show::show_text;
+pub use snmpsec_texts::{
+    Output, check_config_text, check_text, explain_text, merge_text, open_text, opened, show_text,
+};

@@ -4,12 +4,11 @@ ghost use Rattle.std.specs.Prelude.{◌≡◌, IfErr, IfOk};
 ghost use Rattle.snmpsec_commands.specs.Replay.{Begins, Handed, ReplayAnswers, ReplayStopsBy, TellsNoManager};
 ghost use Rattle.snmpsec_commands.specs.declared.replay.NoManager.TheVariants as none;
 
-use crate::merge::refused_clocks;
-use crate::output::Output;
 use engine_clock::Clocks;
 use snmp_manager::Manager;
 use snmpsec_config::Config;
 use snmpsec_replay::{ReplayFault, replay_log, write_whole};
+use snmpsec_texts::{Output, refused_clocks};
 use std::alloc::{AllocError, Global};
 use std::io::{BufRead, Write};
 use thiserror::Error;

@@ -1,17 +1,12 @@
 //! From the command line to what is written.
 
-use crate::check::check_text;
-use crate::check_config::check_config_text;
-use crate::explain::explain_text;
 use crate::files::{FileFault, open_log, read_file};
-use crate::merge::merge_text;
-use crate::open::open_text;
-use crate::output::Output;
 use crate::replay::replay;
-use crate::show::show_text;
-use crate::words::moment_of;
 use clap::error::ErrorKind;
 use snmpsec_replay::{ReplayFault, write_whole};
+use snmpsec_texts::{
+    Output, check_config_text, check_text, explain_text, merge_text, moment_of, open_text, show_text,
+};
 use snmpsec_words::{Command, ReplayWords, not_text, parse};
 use std::alloc::{AllocError, Global};
 use std::io::Write;

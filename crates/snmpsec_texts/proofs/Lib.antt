@@ -1,0 +1,4 @@
+pub mod Merges
+pub mod Shows
+pub mod Checks
+pub mod Opens

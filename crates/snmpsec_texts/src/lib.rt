@@ -1,0 +1,22 @@
+//! What the commands of `snmpsec` print that take no log, and their status: show, open, check-access, explain-access, check-config
+//! and merge-clocks.
+#![tactic(auto)]
+
+mod check;
+mod check_config;
+mod explain;
+mod merge;
+mod open;
+mod output;
+mod refused;
+mod show;
+mod words;
+
+pub use check::check_text;
+pub use check_config::check_config_text;
+pub use explain::explain_text;
+pub use merge::{merge_text, refused_clocks};
+pub use open::{open_text, opened};
+pub use output::Output;
+pub use show::show_text;
+pub use words::moment_of;
