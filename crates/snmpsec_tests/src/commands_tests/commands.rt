@@ -258,7 +258,7 @@ fn line_of(alloc: Global, line: &str) -> Result<Vec<String>, Fail> {
 fn files_are_read_before_words_are_looked_at(rt: HostRuntime) -> Result<(), Fail> {
     for (line, status, out, err) in commands() {
         let words = line_of(rt.alloc(), line)?;
-        let asked = arguments::parse(rt.alloc(), &words)?;
+        let asked = parse(rt.alloc(), &words)?;
         let mut written = Vec::new(rt.alloc());
         let output = command(&rt, &asked, &mut written)?;
         written.extend_from_slice(&output.out)?;
