@@ -59,8 +59,8 @@ enum {
 
 typedef struct snmpsec_agent snmpsec_agent;
 
-/* Makes an agent of a configuration in TOML, with its engine ID (5 to 32 octets) and boots (at most 2147483647), that started
- * at the moment `started`, and writes the pointer to it: -1, -6 or 14 where there is none. */
+/* Makes an agent of a configuration in TOML, with its engine ID (5 to 32 octets, not all 0 and not all 255: RFC 3411, section 5)
+ * and boots (at most 2147483647), that started at the moment `started`, and writes the pointer to it: -1, -6 or 14 where there is none. */
 int32_t snmpsec_agent_new(const uint8_t *config, size_t config_len, const uint8_t *engine, size_t engine_len, uint32_t boots,
                           uint64_t started, snmpsec_agent **out);
 /* Frees it. */

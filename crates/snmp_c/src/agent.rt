@@ -16,8 +16,8 @@ use std::alloc::Global;
 /// Makes an agent of this configuration, in TOML, with this engine ID and these boots, which started at the moment `started`, in
 /// seconds, and writes the pointer to it. Where it answers another number than 0, nothing is written.
 ///
-/// It answers -1 where the engine ID hasn't 5 to 32 octets or boots are above 2147483647, -6 where the configuration is refused,
-/// and 14 for want of memory.
+/// It answers -1 where the engine ID hasn't 5 to 32 octets, or has only 0 or only 255 (SnmpEngineID, RFC 3411, section 5), or boots are
+/// above 2147483647, -6 where the configuration is refused, and 14 for want of memory.
 #[unsafe(no_mangle)]
 pub extern "C" fn snmpsec_agent_new(
     alloc: Global,
