@@ -2,10 +2,10 @@
 #![tactic(auto)]
 
 #[cfg(test)]
+mod engine_clock_tests;
+#[cfg(test)]
 mod snmp_ber_tests;
 #[cfg(test)]
 mod snmp_msg_tests;
-#[cfg(test)]
-mod engine_clock_tests;
 #[cfg(test)]
 mod vacm_core_tests;

@@ -3,10 +3,10 @@
 mod questions;
 mod slow;
 
-use vacm_core::*;
 use snmp_ber::{Level, Oid};
 use std::alloc::{AllocError, Global};
 use std::test::Fail;
+use vacm_core::*;
 
 fn name(text: &[u8]) -> Result<Name, Fail> {
     Ok(Name::of(text).ok_or("at most 32 octets")?)

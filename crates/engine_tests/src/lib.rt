@@ -4,11 +4,11 @@
 #[cfg(test)]
 mod snmp_engine_tests;
 #[cfg(test)]
+mod snmp_held_tests;
+#[cfg(test)]
 mod snmp_manager_tests;
 #[cfg(test)]
 mod snmp_world_tests;
-#[cfg(test)]
-mod snmp_held_tests;
 #[cfg(test)]
 mod snmpsec_open_tests;
 #[cfg(test)]

@@ -1,8 +1,8 @@
 //! Agents, and managers that ask them.
 
-use snmp_engine::*;
 use engine_clock::{Clocks, EngineId};
 use snmp_ber::{Level, Oid, read_decimal};
+use snmp_engine::*;
 use std::alloc::{AllocError, Global};
 use std::process::Abort;
 use std::test::Fail;

@@ -4,9 +4,9 @@ ghost use Rattle.std.specs.Prelude.{◌≡◌, ◌≤◌, ℕ, List, length, IfO
 ghost use Rattle.snmp_ber.specs.Element.{IsElement};
 ghost use Rattle.snmp_message.specs.Spelling.{HeaderFits};
 
-use snmp_manager::*;
 use engine_clock::{ClockFault, Clocks, EngineId, Pair};
 use snmp_ber::Level;
+use snmp_manager::*;
 use snmp_msg::{Header, WriteFault, write_pdu, write_scoped};
 use snmp_outcome::{TakeFault, Taken};
 use std::alloc::{AllocError, Global};

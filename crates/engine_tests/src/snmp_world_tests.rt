@@ -4,9 +4,9 @@ ghost use Rattle.std.specs.Prelude.{◌≡◌, ◌≤◌, ℕ, List, length, IfO
 ghost use Rattle.snmp_ber.specs.Element.{IsElement};
 ghost use Rattle.snmp_message.specs.Spelling.{HeaderFits};
 
-use snmp_world::*;
 use engine_clock::{Clocks, EngineId, Pair};
 use snmp_msg::{Header, WriteFault, write_pdu, write_scoped};
+use snmp_world::*;
 use std::alloc::{AllocError, Global};
 use std::process::Abort;
 use std::test::Fail;

@@ -1,7 +1,7 @@
 //! Lines, and a message that is opened. Each refusal of `open` is a test of the program.
 
-use snmpsec_open::*;
 use snmp_outcome::TakeFault;
+use snmpsec_open::*;
 use std::alloc::{AllocError, Global};
 use std::test::Fail;
 use usm_core::{UserRow, Users};

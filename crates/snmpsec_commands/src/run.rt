@@ -5,7 +5,8 @@ use crate::replay::replay;
 use clap::error::ErrorKind;
 use snmpsec_replay::{ReplayFault, write_whole};
 use snmpsec_texts::{
-    Output, check_config_text, check_text, explain_text, merge_text, moment_of, open_text, show_text,
+    Output, check_config_text, check_text, explain_text, merge_text, moment_of, open_text,
+    show_text,
 };
 use snmpsec_words::{Command, ReplayWords, not_text, parse};
 use std::alloc::{AllocError, Global};

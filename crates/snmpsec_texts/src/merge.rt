@@ -32,11 +32,7 @@ pub fn merge_text(
 }
 
 /// The line for a file that isn't a saved text.
-pub fn refused_clocks(
-    alloc: Global,
-    name: &str,
-    fault: ClockFault,
-) -> Result<Output, AllocError>
+pub fn refused_clocks(alloc: Global, name: &str, fault: ClockFault) -> Result<Output, AllocError>
     ensures { IfOk result (λ output. TellsFault name.now fault output.status output.out.items) }
 {
     match fault {

@@ -15,7 +15,9 @@ ghost use Rattle.usm_core.specs.Writing.{sending_of, IsSecured, FieldAt};
 use crate::cache::{KeyCache, Purpose};
 use crate::cached_key::CachedKey;
 use crate::spell::Outgoing;
-use snmp_message::{Data, Message, Security, cut, field_filled, one_cut, read_message, read_security};
+use snmp_message::{
+    Data, Message, Security, cut, field_filled, one_cut, read_message, read_security,
+};
 use usm_keys::{KeptKey, Key, localise};
 use usm_users::User;
 

@@ -21,5 +21,5 @@ pub use laws::{
     one_answer, one_authentic, sealed_is_authentic, sealed_is_opened, sealed_is_read, sealed_says,
     sealed_size, some_sealed, users_by_name, verified_was_read,
 };
-pub use usm_users::{UserFault, UserRow};
 pub use users::Users;
+pub use usm_users::{UserFault, UserRow};

@@ -2,10 +2,10 @@
 #![tactic(auto)]
 
 #[cfg(test)]
-mod usm_core_tests;
-#[cfg(test)]
 mod snmp_outcome_tests;
 #[cfg(test)]
 mod snmpsec_config_tests;
 #[cfg(test)]
 mod snmpsec_explain_tests;
+#[cfg(test)]
+mod usm_core_tests;

@@ -1,7 +1,7 @@
 //! Refusals, and messages that are read.
 
-use snmp_outcome::*;
 use snmp_msg::Refusal;
+use snmp_outcome::*;
 use std::alloc::{AllocError, Global};
 use std::process::Abort;
 use std::test::Fail;

@@ -1,7 +1,7 @@
 //! Configurations that are read, and typical mistakes with what is told of them.
 
-use snmpsec_config::*;
 use snmp_ber::{Level, Oid};
+use snmpsec_config::*;
 use std::alloc::{AllocError, Global};
 use std::test::Fail;
 use vacm_core::{Access, ViewType};

@@ -1,7 +1,7 @@
 //! Rows that decide. Each kind of answer is a test of the program.
 
-use snmpsec_explain::*;
 use snmp_ber::Level;
+use snmpsec_explain::*;
 use std::alloc::{AllocError, Global};
 use std::test::Fail;
 use vacm_core::{AccessRow, ContextRow, GroupRow, Matching, Name, Rows, ViewType};

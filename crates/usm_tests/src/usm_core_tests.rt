@@ -1,10 +1,10 @@
 //! Users, and messages that are opened and sealed for them.
 
-use usm_core::*;
 use snmp_ber::Level;
 use std::alloc::{AllocError, Global};
 use std::process::Abort;
 use std::test::Fail;
+use usm_core::*;
 use usm_keys::Auth;
 
 mod cache;

@@ -132,10 +132,7 @@ fn user_of(row: &UserRow) -> User
 }
 
 /// Where each name of the rows stands, or what is wrong with the first row at fault.
-pub fn places_of(
-    alloc: Global,
-    rows: &[UserRow],
-) -> Result<HashMap<UserName, usize>, UserFault>
+pub fn places_of(alloc: Global, rows: &[UserRow]) -> Result<HashMap<UserName, usize>, UserFault>
     ensures sound { OnOk result (AreSound rows.now) }
     ensures places { IfOk result (λ places. IsIndex (map spec.user_of rows.now) places.entries) }
     ensures told { IfErr result (IsTold rows.now) }

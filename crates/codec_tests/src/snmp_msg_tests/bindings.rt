@@ -5,8 +5,8 @@ ghost use Rattle.snmp_ber.specs.Element.{IsTag};
 ghost use Rattle.snmp_msg.specs.Variables.{Variable, AreBindings, CanBeWritten, variable_of};
 
 use super::is_too_large;
-use snmp_msg::*;
 use snmp_ber::Oid;
+use snmp_msg::*;
 use std::alloc::{AllocError, Global};
 use std::test::Fail;
 

@@ -36,6 +36,8 @@ returns-clause-answer c =
     let refusal = send_refusal c.in-Err.fault in
     let R : Given → List Variable → Type 0 = λ g xs. (k : Contexts) (p : PduParts) → ScopedFront g.text k → PduText k.pdu p → IfSome refusal (Sends c.args.agent.now c.args.now (λ own. responding c.args.agent.now.engine own g k p (pos c.args.status) (pos c.args.index) xs c.args.salt)) in
     let rows : R (given_of c.taken-taken.result) (map variable_of c.deref.result.now) = rw (status, index) at c.in-Err.ensures.answer in
-    let of_kept : R c.args.kept.now vs = subst (λ (g : Given). R g vs) c.taken-taken.ensures (subst (R (given_of c.taken-taken.result)) lent rows) in
-    (confirmed, if_told refusal (Responds c.args.agent.now c.args.now c.args.kept.now c.args.status c.args.index c.args.list.now c.args.salt)
-    (λ a is. (vs, c.in_ok-bindings.ensures.all, λ k p f q. subst (λ (o : Option (Result (List ℕ) ℕ)). IfSome o (Sends c.args.agent.now c.args.now (λ own. responding c.args.agent.now.engine own c.args.kept.now k p (pos c.args.status) (pos c.args.index) vs c.args.salt))) is (of_kept k p f q))))
+    let of_kept : R c.args.kept.now vs = subst (λ (g : Given). R g vs) c.taken-taken.ensures (subst (R (given_of c.taken-taken.result)) lent rows) in (
+      confirmed,
+      if_told refusal (Responds c.args.agent.now c.args.now c.args.kept.now c.args.status c.args.index c.args.list.now c.args.salt)
+          (λ a is. (vs, c.in_ok-bindings.ensures.all, λ k p f q. subst (λ (o : Option (Result (List ℕ) ℕ)). IfSome o (Sends c.args.agent.now c.args.now (λ own. responding c.args.agent.now.engine own c.args.kept.now k p (pos c.args.status) (pos c.args.index) vs c.args.salt))) is (of_kept k p f q))),
+    )
