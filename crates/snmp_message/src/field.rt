@@ -10,6 +10,7 @@ ghost use Rattle.snmp_message.specs.Reading.{signed_in};
 
 use snmp_ber::{BerFault, Tlv, head_len, int_content, read_int, read_tlv};
 
+/// The tags of X.690, section 8, that SNMP uses (RFC 3416, section 3).
 pub const INTEGER: u8 = 0x02;
 
 pub const OCTET_STRING: u8 = 0x04;

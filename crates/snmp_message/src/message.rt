@@ -148,7 +148,8 @@ fn content_len(header: &Header, security_len: usize, data_len: usize) -> usize
         + element_len(data_len)
 }
 
-/// How many octets a message has.
+/// How many octets a message has (RFC 3412, section 6) whose msgSecurityParameters and msgData have contents of these sizes in octets, each
+/// at most 65,507.
 pub fn message_len(header: &Header, security_len: usize, data_len: usize) -> usize
     requires header { HeaderFits header.now }
     requires security { security_len ≤ LARGEST }
@@ -159,7 +160,9 @@ pub fn message_len(header: &Header, security_len: usize, data_len: usize) -> usi
     element_len(content_len(header, security_len, data_len))
 }
 
-/// Appends what stands in a message before the content of msgSecurityParameters.
+/// Appends what stands in a message before the content of msgSecurityParameters (RFC 3412, section 6), the sizes as for `message_len`.
+///
+/// The error is want of memory, and a front of this may have been appended.
 #[tactic(auto, unfolding(crate::specs::Spelling::front_text))]
 pub fn put_front(
     out: &mut Vec<u8>,

@@ -111,7 +111,7 @@ pub fn read_scoped_front(plaintext: &[u8]) -> Result<Scoped<'_>, MsgFault>
     }
 }
 
-/// How many octets the content of a ScopedPDU has whose data has `pdu_len` octets.
+/// How many octets the content of a ScopedPDU has (RFC 3412, section 6.8) whose data has `pdu_len` octets.
 pub fn contexts_len(engine: &[u8], name: &[u8], pdu_len: usize) -> usize
     requires engine { length engine.now ≤ LARGEST }
     requires name { length name.now ≤ LARGEST }
@@ -122,7 +122,7 @@ pub fn contexts_len(engine: &[u8], name: &[u8], pdu_len: usize) -> usize
     element_len(engine.len()) + element_len(name.len()) + pdu_len
 }
 
-/// Appends contextEngineID and contextName.
+/// Appends contextEngineID and contextName. The error is want of memory, and a front of these may have been appended.
 pub fn put_contexts(out: &mut Vec<u8>, engine: &[u8], name: &[u8]) -> Result<(), AllocError>
     requires engine { length engine.now ≤ LARGEST }
     requires name { length name.now ≤ LARGEST }

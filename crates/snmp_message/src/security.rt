@@ -116,7 +116,7 @@ pub struct Cut<'a> {
     pub back: &'a [u8],
 }
 
-/// Each field is short enough for a datagram.
+/// Whether each field has at most 65,507 octets, so that it can stand in a datagram.
 pub fn is_short(security: &Security<'_>) -> bool
     ensures { IsTrue result ↔ IsShort (fields_of security.now) }
 {
@@ -156,7 +156,7 @@ fn put_fields(out: &mut Vec<u8>, security: &Security<'_>) -> Result<(), AllocErr
     put_tlv(out, OCTET_STRING, security.salt)
 }
 
-/// How many octets `put_security` appends.
+/// How many octets `put_security` appends (RFC 3414, section 2.4).
 #[tactic(auto, unfolding(crate::specs::Security::security_text))]
 pub fn security_len(security: &Security<'_>) -> usize
     requires fits { FieldsFit (fields_of security.now) }
@@ -167,7 +167,8 @@ pub fn security_len(security: &Security<'_>) -> usize
     element_len(fields_len(security))
 }
 
-/// Appends the fields, in the shortest spelling.
+/// Appends the fields as UsmSecurityParameters (RFC 3414, section 2.4), in the shortest spelling. The error is want of memory, and a front
+/// of these may have been appended.
 #[tactic(auto, unfolding(crate::specs::Security::security_text))]
 pub fn put_security(out: &mut Vec<u8>, security: &Security<'_>) -> Result<(), AllocError>
     requires fits { FieldsFit (fields_of security.now) }

@@ -1,6 +1,10 @@
 //! The command line: the commands, their words, and what help says of them.
 #![tactic(auto)]
 
+ghost use Rattle.std.specs.Prelude.{◌≡◌, IfOk};
+ghost use Rattle.clap.specs.Values.{kind_of};
+ghost use Rattle.clap.specs.declared.error.kind.ErrorKind.TheVariants.{InvalidValue};
+
 use clap::error::ErrorKind;
 use clap::{Arg, ArgAction, ArgMatches, Error};
 use std::alloc::{AllocError, Global};
@@ -289,7 +293,9 @@ pub fn parse<'a>(alloc: Global, words: &'a [String]) -> Result<Command<'a>, Erro
 }
 
 /// The refusal of words that are no text.
-pub fn not_text(alloc: Global) -> Result<Error, AllocError> {
+pub fn not_text(alloc: Global) -> Result<Error, AllocError>
+    ensures kind { IfOk result (λ fault. kind_of fault ≡ InvalidValue) }
+{
     parser(alloc)?.error(
         ErrorKind::InvalidValue,
         "invalid UTF-8 was detected in one or more arguments",
