@@ -1,14 +1,17 @@
-/* A small agent over UDP: agent CONFIG TABLE ENGINE-ID-HEX BOOTS-FILE PORT [TRAP-PORT USER LEVEL]
+/* A small agent over UDP: agent [--must-exist] CONFIG TABLE ENGINE-ID BOOTS-FILE PORT [TRAP-PORT USER LEVEL]
  *
  * It answers GetRequest, GetNextRequest, GetBulkRequest and SetRequest on 127.0.0.1 from a table in a file, as the configuration
  * allows, and sends a coldStart trap to a port where one is given. The library decides who sent a message, whether it is fresh and
  * who may see what. Here stand the socket, the clock, the boots, the salts and the values. It ends at SIGTERM or SIGINT, and prints what
  * it answered and the six counters. Not proved. */
+#define _GNU_SOURCE
 #include "snmpsec.h"
+#include "files.h"
 #include "table.h"
+#include "words_of.h"
 #include <arpa/inet.h>
 #include <errno.h>
-#include <fcntl.h>
+#include <getopt.h>
 #include <signal.h>
 #include <stdio.h>
 #include <stdlib.h>
@@ -18,10 +21,12 @@
 #include <time.h>
 #include <unistd.h>
 
-enum { GET = 0xA0, GET_NEXT = 0xA1, SET = 0xA3, GET_BULK = 0xA5 };
 enum { NO_SUCH_OBJECT = 0x80, END_OF_MIB_VIEW = 0x82 };
 /* error-status (RFC 3416, section 3) */
 enum { TOO_BIG = 1, GEN_ERR = 5, NO_ACCESS = 6, WRONG_TYPE = 7, WRONG_LENGTH = 8, NOT_WRITABLE = 17 };
+
+/* the most octets of a configuration */
+#define MOST_CONFIG (16u << 20)
 
 static volatile sig_atomic_t ended;
 static struct table table;
@@ -45,41 +50,30 @@ static uint64_t new_salt(void) {
     return salt;
 }
 
-/* One more than the boots in the file, written there before anything is answered. */
-static long next_boots(const char *path) {
-    long boots = 0;
-    FILE *file = fopen(path, "r");
-    if (file) { if (fscanf(file, "%ld", &boots) != 1) boots = 0; fclose(file); }
-    boots++;
-    file = fopen(path, "w");
-    if (!file || fprintf(file, "%ld\n", boots) < 0 || fflush(file) || fsync(fileno(file)) || fclose(file)) return -1;
-    return boots;
-}
-
 /* Appends a binding: 0, or SNMPSEC_SHORT_BUFFER where the answer has no room for it. */
-static int32_t put(const uint32_t *arcs, size_t arcs_len, uint8_t tag, const uint8_t *value, size_t value_len) {
+static int put(const uint32_t *arcs, size_t arcs_len, uint8_t tag, const uint8_t *value, size_t value_len) {
     size_t written = 0;
-    int32_t answer = snmpsec_binding_write(arcs, arcs_len, tag, value, value_len, list + list_len, sizeof list - list_len, &written);
+    int answer = snmpsec_binding_write(arcs, arcs_len, tag, value, value_len, list + list_len, sizeof list - list_len, &written);
     if (!answer) list_len += written;
     return answer;
 }
 
-static int32_t put_row(const struct row *row) { return put(row->arcs, row->arcs_len, row->tag, row->value, row->value_len); }
+static int put_row(const struct row *row) { return put(row->arcs, row->arcs_len, row->tag, row->value, row->value_len); }
 
-static int may_read(const uint32_t *arcs, size_t arcs_len) { return snmpsec_agent_allows(agent, SNMPSEC_READ, arcs, arcs_len) == SNMPSEC_ACCESS_ALLOWED; }
+static bool may_read(const uint32_t *arcs, size_t arcs_len) { return snmpsec_agent_allows(agent, SNMPSEC_READ, arcs, arcs_len); }
 
-static int32_t put_exact(const uint32_t *arcs, size_t arcs_len) {
+static int put_exact(const uint32_t *arcs, size_t arcs_len) {
     const struct row *row = table_at(&table, arcs, arcs_len);
     if (row && may_read(arcs, arcs_len)) return put_row(row);
     return put(arcs, arcs_len, NO_SUCH_OBJECT, (const uint8_t *)"", 0);
 }
 
 /* Appends the first readable row after a name, and makes it the name. */
-static int32_t put_next(uint32_t *arcs, size_t *arcs_len) {
+static int put_next(uint32_t *arcs, size_t *arcs_len) {
     for (size_t i = table_after(&table, arcs, *arcs_len); i < table.rows_len; i++) {
         const struct row *row = &table.rows[i];
         if (!may_read(row->arcs, row->arcs_len)) continue;
-        int32_t answer = put_row(row);
+        int answer = put_row(row);
         memcpy(arcs, row->arcs, row->arcs_len * sizeof *arcs);
         *arcs_len = row->arcs_len;
         return answer;
@@ -87,21 +81,14 @@ static int32_t put_next(uint32_t *arcs, size_t *arcs_len) {
     return put(arcs, *arcs_len, END_OF_MIB_VIEW, (const uint8_t *)"", 0);
 }
 
-struct asked { uint32_t arcs[MOST_ARCS]; size_t arcs_len; uint8_t tag; const uint8_t *value; size_t value_len; };
-static struct asked asked[256];
+static snmpsec_binding asked[256];
 
 /* The bindings that are asked for, how many they are, or -1. */
 static long asked_of(const uint8_t *octets, size_t octets_len) {
     long len = 0;
     for (size_t at = 0; at < octets_len; len++) {
-        size_t n[SNMPSEC_PLACES];
         if (len == (long)(sizeof asked / sizeof *asked)) return -1;
-        if (snmpsec_binding_read(octets, octets_len, at, asked[len].arcs, MOST_ARCS, n, SNMPSEC_PLACES)) return -1;
-        asked[len].arcs_len = n[SNMPSEC_ARCS];
-        asked[len].tag = (uint8_t)n[SNMPSEC_VALUE_TAG];
-        asked[len].value = octets + n[SNMPSEC_VALUE_AT];
-        asked[len].value_len = n[SNMPSEC_VALUE_LENGTH];
-        at = n[SNMPSEC_NEXT];
+        if (snmpsec_binding_read(octets, octets_len, &at, &asked[len])) return -1;
     }
     return len;
 }
@@ -120,16 +107,16 @@ static void bulk(long len, int32_t non_repeaters, int32_t repetitions) {
 static uint32_t set(long len, uint32_t *index) {
     for (long i = 0; i < len; i++) {
         *index = (uint32_t)i + 1;
-        if (snmpsec_agent_allows(agent, SNMPSEC_WRITE, asked[i].arcs, asked[i].arcs_len) != SNMPSEC_ACCESS_ALLOWED) return NO_ACCESS;
+        if (!snmpsec_agent_allows(agent, SNMPSEC_WRITE, asked[i].arcs, asked[i].arcs_len)) return NO_ACCESS;
         const struct row *row = table_at(&table, asked[i].arcs, asked[i].arcs_len);
         if (!row) return NOT_WRITABLE;
         if (row->tag != asked[i].tag) return WRONG_TYPE;
-        if (asked[i].value_len > MOST_VALUE) return WRONG_LENGTH;
+        if (asked[i].content_len > MOST_VALUE) return WRONG_LENGTH;
     }
     for (long i = 0; i < len; i++) {
         struct row *row = table_at(&table, asked[i].arcs, asked[i].arcs_len);
-        memcpy(row->value, asked[i].value, asked[i].value_len);
-        row->value_len = asked[i].value_len;
+        memcpy(row->value, asked[i].content, asked[i].content_len);
+        row->value_len = asked[i].content_len;
         if (put_row(row)) return GEN_ERR;
     }
     *index = 0;
@@ -137,34 +124,35 @@ static uint32_t set(long len, uint32_t *index) {
 }
 
 /* Fills the bindings of the answer: an error-status and an error-index. */
-static uint32_t fill(const int32_t *numbers, const uint8_t *octets, size_t octets_len, uint32_t *index) {
+static uint32_t fill(const snmpsec_info *info, const uint8_t *octets, size_t octets_len, uint32_t *index) {
     long len = asked_of(octets, octets_len);
     list_len = 0;
     *index = 0;
     if (len < 0) return GEN_ERR;
-    if (numbers[SNMPSEC_TAG] == SET) return set(len, index);
-    if (numbers[SNMPSEC_TAG] == GET_BULK) { bulk(len, numbers[SNMPSEC_SECOND], numbers[SNMPSEC_THIRD]); return 0; }
+    if (info->pdu == SNMPSEC_SET_REQUEST) return set(len, index);
+    if (info->pdu == SNMPSEC_GET_BULK_REQUEST) { bulk(len, info->non_repeaters, info->max_repetitions); return 0; }
     for (long i = 0; i < len; i++) {
-        int32_t answer = numbers[SNMPSEC_TAG] == GET ? put_exact(asked[i].arcs, asked[i].arcs_len) : put_next(asked[i].arcs, &asked[i].arcs_len);
+        int answer = info->pdu == SNMPSEC_GET_REQUEST ? put_exact(asked[i].arcs, asked[i].arcs_len) : put_next(asked[i].arcs, &asked[i].arcs_len);
         if (answer) return TOO_BIG;
     }
     return 0;
 }
 
 /* Answers what is kept: the Response is the message to be sent. */
-static int32_t respond(uint64_t now) {
+static int respond(uint64_t now) {
     static uint8_t octets[SNMPSEC_LARGEST];
-    int32_t numbers[SNMPSEC_NUMBERS];
+    snmpsec_info info;
     size_t octets_len = 0;
     uint32_t index = 0;
-    if (snmpsec_agent_numbers(agent, numbers, SNMPSEC_NUMBERS) || snmpsec_agent_part(agent, SNMPSEC_BINDINGS, octets, sizeof octets, &octets_len))
+    if (snmpsec_agent_info(agent, &info) || snmpsec_agent_part(agent, SNMPSEC_BINDINGS, octets, sizeof octets, &octets_len))
         return SNMPSEC_NOTHING_TAKEN;
-    if (numbers[SNMPSEC_TAG] != GET && numbers[SNMPSEC_TAG] != GET_NEXT && numbers[SNMPSEC_TAG] != SET && numbers[SNMPSEC_TAG] != GET_BULK)
+    if (info.pdu != SNMPSEC_GET_REQUEST && info.pdu != SNMPSEC_GET_NEXT_REQUEST && info.pdu != SNMPSEC_SET_REQUEST
+        && info.pdu != SNMPSEC_GET_BULK_REQUEST)
         return SNMPSEC_NOT_ASKED;
-    uint32_t status = fill(numbers, octets, octets_len, &index);
+    uint32_t status = fill(&info, octets, octets_len, &index);
     if (status && status != TOO_BIG) { memcpy(list, octets, octets_len); list_len = octets_len; }
     if (status == TOO_BIG) list_len = 0;
-    int32_t answer = snmpsec_agent_respond(agent, now, status, index, list, list_len, new_salt());
+    int answer = snmpsec_agent_respond(agent, now, status, index, list, list_len, new_salt());
     if (answer == SNMPSEC_TOO_LARGE) answer = snmpsec_agent_respond(agent, now, TOO_BIG, 0, list, 0, new_salt());
     return answer;
 }
@@ -177,19 +165,21 @@ static void send_message(int socket, const struct sockaddr_in *to) {
 }
 
 /* A coldStart trap (RFC 3418): sysUpTime.0, and snmpTrapOID.0 with coldStart. */
-static void send_trap(int socket, uint16_t port, const char *user, uint32_t level, const uint8_t *engine, size_t engine_len) {
+static void send_trap(int socket, uint16_t port, const char *user, snmpsec_level level, const uint8_t *engine, size_t engine_len) {
     static const uint32_t up_time[] = {1, 3, 6, 1, 2, 1, 1, 3, 0}, trap_oid[] = {1, 3, 6, 1, 6, 3, 1, 1, 4, 1, 0};
     static const uint8_t ticks[] = {100}, cold_start[] = {0x2b, 6, 1, 6, 3, 1, 1, 5, 1};
     struct sockaddr_in to = {.sin_family = AF_INET, .sin_port = htons(port), .sin_addr = {htonl(INADDR_LOOPBACK)}};
     list_len = 0;
-    if (snmpsec_agent_may(agent, (const uint8_t *)user, strlen(user), level, (const uint8_t *)"", 0, SNMPSEC_NOTIFY, trap_oid, 11)) {
+    snmpsec_octets whom = {(const uint8_t *)user, strlen(user)}, no_context = {NULL, 0};
+    if (!snmpsec_agent_user_allows(agent, whom, level, no_context, SNMPSEC_NOTIFY, trap_oid, 11)) {
         fprintf(stderr, "agent: %s may not be notified\n", user);
         return;
     }
     if (put(up_time, 9, 0x43, ticks, sizeof ticks) || put(trap_oid, 11, 0x06, cold_start, sizeof cold_start)) return;
-    int32_t answer = snmpsec_agent_notify(agent, now_in_seconds(), 1, (const uint8_t *)user, strlen(user), level, 1, engine, engine_len,
-                                          (const uint8_t *)"", 0, list, list_len, new_salt());
-    if (answer) fprintf(stderr, "agent: trap %d\n", answer); else send_message(socket, &to);
+    snmpsec_notice notice = {.message_id = 1, .request_id = 1, .level = level, .user = whom, .context_engine = {engine, engine_len},
+                             .context_name = no_context, .list = {list, list_len}, .salt = new_salt()};
+    int answer = snmpsec_agent_notify(agent, now_in_seconds(), &notice);
+    if (answer) fprintf(stderr, "agent: trap: %s\n", snmpsec_strerror(answer)); else send_message(socket, &to);
 }
 
 static int serve(int socket, long *told) {
@@ -200,7 +190,7 @@ static int serve(int socket, long *told) {
         ssize_t len = recvfrom(socket, datagram, sizeof datagram, 0, (struct sockaddr *)&from, &from_len);
         if (len < 0) { if (errno == EINTR) continue; perror("agent: receive"); return 2; }
         uint64_t now = now_in_seconds();
-        int32_t answer = snmpsec_agent_take(agent, now, datagram, (size_t)len);
+        int answer = snmpsec_agent_take(agent, now, datagram, (size_t)len);
         if (answer >= 0 && answer <= 18) told[answer]++;
         if (answer == SNMPSEC_OK && respond(now)) continue;
         send_message(socket, &from);
@@ -209,34 +199,116 @@ static int serve(int socket, long *told) {
 }
 
 static void print_counts(const long *told) {
+    snmpsec_counters n;
     for (int i = 0; i <= 18; i++) if (told[i]) printf("answer %d: %ld\n", i, told[i]);
-    for (uint32_t n = 1; n <= 6; n++) printf("counter %u: %lld\n", n, (long long)snmpsec_agent_counter(agent, n));
+    if (snmpsec_agent_counters(agent, &n)) return;
+    printf("counter 1: %u\ncounter 2: %u\ncounter 3: %u\n", n.unsupported_levels, n.not_in_windows, n.unknown_users);
+    printf("counter 4: %u\ncounter 5: %u\ncounter 6: %u\n", n.unknown_engines, n.wrong_digests, n.decryption_errors);
     fflush(stdout);
 }
 
-int main(int argc, char **argv) {
-    static uint8_t config[1 << 20];
+static int bad_word(const char *what, const char *word) {
+    fprintf(stderr, "agent: %s: not %s\n", word, what);
+    return 2;
+}
+
+/* What the command line says. */
+struct words {
+    const char *config, *table, *engine_word, *boots, *user;
     uint8_t engine[32];
+    size_t engine_len;
+    uint32_t port, trap_port, level;
+    bool must_exist, has_trap;
+};
+
+static int print_usage(FILE *to, int status) {
+    fputs("agent [--must-exist] CONFIG TABLE ENGINE-ID BOOTS-FILE PORT [TRAP-PORT USER LEVEL]\n"
+          "  --must-exist  a boots file that is absent is refused, in the place of boots 1\n"
+          "  --version     the version of the library\n", to);
+    return status;
+}
+
+/* Reads the options: -1 where the words follow, or the status to end with. */
+static int read_options(int argc, char **argv, struct words *words) {
+    static const struct option options[] = {{"must-exist", no_argument, NULL, 'm'}, {"version", no_argument, NULL, 'v'},
+                                            {"help", no_argument, NULL, 'h'}, {0}};
+    for (int option; (option = getopt_long(argc, argv, "+", options, NULL)) != -1;)
+        switch (option) {
+        case 'm': words->must_exist = true; break;
+        case 'v': puts(snmpsec_version()); return 0;
+        case 'h': return print_usage(stdout, 0);
+        default: return print_usage(stderr, 2);
+        }
+    return -1;
+}
+
+static int read_trap_words(char **word, struct words *words) {
+    if (number_of(word[0], 1, 65535, &words->trap_port)) return bad_word("a port, 1 to 65535", word[0]);
+    if (!word[1][0] || strlen(word[1]) > 32) return bad_word("a user's name, 1 to 32 octets", word[1]);
+    if (number_of(word[2], SNMPSEC_NO_AUTH_NO_PRIV, SNMPSEC_AUTH_PRIV, &words->level)) return bad_word("a level, 1 to 3", word[2]);
+    words->user = word[1];
+    words->has_trap = true;
+    return -1;
+}
+
+/* Reads all of it, likewise. */
+static int read_words(int argc, char **argv, struct words *words) {
+    int status = read_options(argc, argv, words), len = argc - optind;
+    char **word = argv + optind;
+    if (status != -1) return status;
+    if (len != 5 && len != 8) return print_usage(stderr, 2);
+    words->config = word[0];
+    words->table = word[1];
+    words->engine_word = word[2];
+    words->boots = word[3];
+    if (engine_of(word[2], words->engine, &words->engine_len))
+        return bad_word("an engine ID, 5 to 32 octets in pairs of hex digits, neither all 00 nor all ff", word[2]);
+    if (number_of(word[4], 1, 65535, &words->port)) return bad_word("a port, 1 to 65535", word[4]);
+    return len == 8 ? read_trap_words(word + 5, words) : -1;
+}
+
+/* Takes the boots, and makes the agent: 0, or the status to end with. */
+static int begin_agent(const struct words *words) {
+    uint8_t *config;
+    size_t config_len;
+    uint32_t boots;
+    if (file_read(words->config, MOST_CONFIG, &config, &config_len)) return 2;
+    if (!config_len) { file_free(config, config_len); return bad_word("a configuration: the file is empty", words->config); }
+    if (boots_next(words->boots, words->must_exist, &boots)) { file_free(config, config_len); return 2; }
+    if (boots == BOOTS_LATCHED)
+        fprintf(stderr, "agent: %s: boots are used up, so each authenticated message is refused: give the engine another ID, or all its users "
+                        "other passwords, and remove the file\n", words->boots);
+    int answer = snmpsec_agent_new(config, config_len, words->engine, words->engine_len, boots, now_in_seconds(), &agent);
+    file_free(config, config_len);
+    if (!answer) return 0;
+    fprintf(stderr, "agent: %s: %s\n", answer == SNMPSEC_BAD_CONFIGURATION ? words->config : words->engine_word, snmpsec_strerror(answer));
+    return 1;
+}
+
+/* The port is taken before the boots, so that a start that fails costs none. */
+static int begin_socket(uint32_t port) {
+    int made = socket(AF_INET, SOCK_DGRAM | SOCK_CLOEXEC, 0);
+    struct sockaddr_in here = {.sin_family = AF_INET, .sin_port = htons((uint16_t)port), .sin_addr = {htonl(INADDR_LOOPBACK)}};
+    if (made >= 0 && !bind(made, (struct sockaddr *)&here, sizeof here)) return made;
+    fprintf(stderr, "agent: port %u: %s\n", port, strerror(errno));
+    return -1;
+}
+
+int main(int argc, char **argv) {
+    struct words words = {0};
     long told[19] = {0};
-    if (argc != 6 && argc != 9) { fprintf(stderr, "agent CONFIG TABLE ENGINE-ID-HEX BOOTS-FILE PORT [TRAP-PORT USER LEVEL]\n"); return 2; }
-    FILE *file = fopen(argv[1], "rb");
-    if (!file) { perror(argv[1]); return 2; }
-    size_t config_len = fread(config, 1, sizeof config, file);
-    fclose(file);
-    int line = table_load(&table, argv[2]);
-    if (line) { fprintf(stderr, "agent: %s: line %d\n", argv[2], line); return 2; }
-    long engine_len = octets_of(argv[3], engine, sizeof engine), boots = next_boots(argv[4]);
-    if (engine_len < 0 || boots < 0) { fprintf(stderr, "agent: no engine ID, or no boots\n"); return 2; }
-    int32_t answer = snmpsec_agent_new(config, config_len, engine, (size_t)engine_len, (uint32_t)boots, now_in_seconds(), &agent);
-    if (answer) { fprintf(stderr, "agent: not made (%d)\n", answer); return 1; }
-    int socket_in = socket(AF_INET, SOCK_DGRAM, 0);
-    struct sockaddr_in here = {.sin_family = AF_INET, .sin_port = htons((uint16_t)atoi(argv[5])), .sin_addr = {htonl(INADDR_LOOPBACK)}};
-    if (socket_in < 0 || bind(socket_in, (struct sockaddr *)&here, sizeof here)) { perror("agent"); return 2; }
+    keep_secrets();
+    int status = read_words(argc, argv, &words);
+    if (status != -1) return status;
+    if (table_load(&table, words.table)) return 2;
+    int socket_in = begin_socket(words.port);
+    if (socket_in < 0) return 2;
+    if ((status = begin_agent(&words))) return status;
     struct sigaction action = {.sa_handler = end};
     sigaction(SIGTERM, &action, NULL);
     sigaction(SIGINT, &action, NULL);
-    if (argc == 9) send_trap(socket_in, (uint16_t)atoi(argv[6]), argv[7], (uint32_t)atoi(argv[8]), engine, (size_t)engine_len);
-    int status = serve(socket_in, told);
+    if (words.has_trap) send_trap(socket_in, (uint16_t)words.trap_port, words.user, (snmpsec_level)words.level, words.engine, words.engine_len);
+    status = serve(socket_in, told);
     print_counts(told);
     snmpsec_agent_free(agent);
     free(table.rows);

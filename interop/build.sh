@@ -3,19 +3,43 @@
 # build.sh [CFLAGS..]
 #
 # OUT is another folder than interop/out, CC another compiler than cc. With NO_LIBRARY the library is taken as it lies there, and with
-# OVER_CI it is built over the libraries that rt ci has left.
+# OVER_CI it is built over the libraries that rt ci has left. CMakeLists.txt builds what is installed; this wants a C compiler alone.
 set -e
 here=$(cd "$(dirname "$0")" && pwd)
 out=${OUT:-$here/out}
-library=$here/../crates/snmp_c/out/libsnmp_c.a
+archive=$here/../crates/snmp_c/out/libsnmp_c.a
 mkdir -p "$out"
 [ -n "$NO_LIBRARY" ] || (cd "$here/.." && tools/build ${OVER_CI:+--over-ci} snmp_c)
-cc="${CC:-cc} -std=gnu11 -O2 -Wall -Wextra -Werror -I$here/include"
+cc="${CC:-cc} -std=c11 -O2 -Wall -Wextra -Werror -I$here/include -I$here"
+
+# the archive's calls under the names that api.c wraps
+ld -r --whole-archive "$archive" -o "$out/archive.o"
+objcopy --redefine-syms "$here/proved.syms" "$out/archive.o" "$out/proved.o"
+rm "$out/archive.o"
+library=$out/proved.o
+for part in api heap wipe words; do
+    $cc -fPIC -fvisibility=hidden -Wconversion "$@" -c "$here/$part.c" -o "$out/$part.o"
+    library="$library $out/$part.o"
+done
+for part in files words_of table; do
+    $cc -Wconversion "$@" -c "$here/$part.c" -o "$out/$part.o"
+done
+beside="$out/files.o $out/words_of.o $out/table.o"
 for program in agent poll; do
-    $cc "$@" "$here/$program.c" "$here/table.c" "$here/heap.c" "$library" -o "$out/$program"
+    $cc -Wconversion "$@" "$here/$program.c" $beside $library -o "$out/$program"
 done
 for test in calls manager_calls bindings keys exchange hostile; do
-    $cc "$@" -Wl,--wrap=malloc,--wrap=realloc "$here/$test.c" "$here/checks.c" "$here/table.c" "$here/heap.c" "$library" -o "$out/$test"
+    $cc "$@" -Wl,--wrap=malloc,--wrap=realloc "$here/tests/$test.c" "$here/tests/checks.c" "$out/words_of.o" $library -o "$out/$test"
 done
-$cc -fPIC -shared "$here/heap.c" -Wl,--whole-archive "$library" -Wl,--no-whole-archive -o "$out/libsnmpsec.so"
+$cc "$@" "$here/tests/hold.c" "$out/words_of.o" $library -o "$out/hold"
+$cc "$@" -pthread "$here/tests/threads.c" $library -o "$out/threads"
+$cc "$@" "$here/tests/cost.c" $library -o "$out/cost"
+# with nothing wiped
+plain="$here/tests/plain.c $out/proved.o $out/api.o $out/words.o"
+$cc "$@" "$here/tests/cost.c" $plain -o "$out/cost_plain"
+$cc "$@" "$here/tests/stack.c" $plain -o "$out/stack"
+$cc "$@" "$here/tests/boots.c" "$out/files.o" -o "$out/boots"
+$cc -shared "$@" $library -Wl,-soname,libsnmpsec.so.0 -Wl,--version-script="$here/snmpsec.map" -o "$out/libsnmpsec.so.0"
+# what a linker finds by -lsnmpsec
+echo 'INPUT(-l:libsnmpsec.so.0)' > "$out/libsnmpsec.so"
 echo "built in $out"

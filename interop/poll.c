@@ -1,11 +1,14 @@
-/* A poller: poll CONFIG CLOCKS-FILE PORT USER LEVEL OID..
+/* A poller: poll [--must-exist] CONFIG CLOCKS-FILE PORT USER LEVEL OID..
  *
  * It discovers the agent on 127.0.0.1, asks it for the variables (GetRequest) and prints them, and keeps what it knows of engines'
  * clocks in a file. Level is 1, 2 or 3. Where the agent reports that the message isn't in the time window, it asks again with what
  * it learned. Not proved. */
+#define _GNU_SOURCE
 #include "snmpsec.h"
-#include "table.h"
+#include "files.h"
+#include "words_of.h"
 #include <arpa/inet.h>
+#include <getopt.h>
 #include <stdio.h>
 #include <stdlib.h>
 #include <string.h>
@@ -14,6 +17,9 @@
 #include <sys/time.h>
 #include <time.h>
 #include <unistd.h>
+
+/* the most octets of a configuration */
+#define MOST_CONFIG (16u << 20)
 
 static snmpsec_manager *manager;
 /* a datagram, or the saved text */
@@ -27,92 +33,170 @@ static uint64_t random_octets(void) {
     return value;
 }
 
-static size_t read_file(const char *path, uint8_t *out, size_t most) {
-    FILE *file = fopen(path, "rb");
-    if (!file) return 0;
-    size_t len = fread(out, 1, most, file);
-    fclose(file);
-    return len;
-}
-
-/* Sends the message and takes what comes: what it is to the request, or -100 minus the refusal, or -200 where nothing comes. */
-static int32_t exchange(int socket) {
+/* Sends the message and takes what comes, up to what is a reply to the request: 0, or -1 and says why not. */
+static int exchange(int socket, snmpsec_reply *reply) {
     size_t len = 0;
-    if (snmpsec_manager_message(manager, octets, sizeof octets, &len) || send(socket, octets, len, 0) < 0) return -200;
+    if (snmpsec_manager_message(manager, octets, sizeof octets, &len) || send(socket, octets, len, 0) < 0) { perror("poll: send"); return -1; }
     for (int tries = 0; tries < 4; tries++) {
         ssize_t got = recv(socket, octets, sizeof octets, 0);
-        if (got < 0) return -200;
-        int32_t answer = snmpsec_manager_take(manager, now_in_seconds(), octets, (size_t)got);
-        if (answer) return -100 - answer;
-        answer = snmpsec_manager_answer(manager);
-        if (answer != SNMPSEC_NOT_FOR_IT) return answer;
+        if (got < 0) break;
+        int answer = snmpsec_manager_take(manager, now_in_seconds(), octets, (size_t)got);
+        if (answer) { fprintf(stderr, "poll: refused: %s\n", snmpsec_strerror(answer)); return -1; }
+        if (!snmpsec_manager_reply(manager, reply) && reply->kind != SNMPSEC_REPLY_OTHER) return 0;
     }
-    return -200;
+    fprintf(stderr, "poll: no answer\n");
+    return -1;
 }
 
 static int print_bindings(void) {
     size_t len = 0;
+    snmpsec_binding one;
     if (snmpsec_manager_part(manager, SNMPSEC_BINDINGS, octets, sizeof octets, &len)) return 1;
     for (size_t at = 0; at < len;) {
-        uint32_t arcs[128];
-        size_t n[SNMPSEC_PLACES];
-        if (snmpsec_binding_read(octets, len, at, arcs, 128, n, SNMPSEC_PLACES)) return 1;
-        for (size_t i = 0; i < n[SNMPSEC_ARCS]; i++) printf(i ? ".%u" : "%u", arcs[i]);
-        printf(" %02zx ", n[SNMPSEC_VALUE_TAG]);
-        for (size_t i = 0; i < n[SNMPSEC_VALUE_LENGTH]; i++) printf("%02x", octets[n[SNMPSEC_VALUE_AT] + i]);
+        if (snmpsec_binding_read(octets, len, &at, &one)) return 1;
+        for (size_t i = 0; i < one.arcs_len; i++) printf(i ? ".%u" : "%u", one.arcs[i]);
+        printf(" %02x ", one.tag);
+        for (size_t i = 0; i < one.content_len; i++) printf("%02x", one.content[i]);
         printf("\n");
-        at = n[SNMPSEC_NEXT];
     }
     return 0;
 }
 
-static int poll_once(int socket, const char *user, uint32_t level, const uint8_t *list, size_t list_len) {
+static int poll_once(int socket, const char *user, snmpsec_level level, const uint8_t *list, size_t list_len) {
     uint8_t engine[32];
     size_t engine_len = 0;
+    snmpsec_reply reply;
     uint32_t id = (uint32_t)(random_octets() & 0x3fffffff);
-    if (snmpsec_manager_discover(manager, id) || exchange(socket) != SNMPSEC_REPORT + 4
-        || snmpsec_manager_part(manager, SNMPSEC_ENGINE, engine, sizeof engine, &engine_len)) { fprintf(stderr, "poll: no engine\n"); return 1; }
+    if (snmpsec_manager_discover(manager, id) || exchange(socket, &reply)) return 1;
+    if (reply.counter != SNMPSEC_UNKNOWN_ENGINES || snmpsec_manager_part(manager, SNMPSEC_ENGINE, engine, sizeof engine, &engine_len)) {
+        fprintf(stderr, "poll: no engine\n");
+        return 1;
+    }
     for (int tries = 0; tries < 3; tries++) {
         id++;
-        int32_t answer = snmpsec_manager_request(manager, now_in_seconds(), id, engine, engine_len, (const uint8_t *)user, strlen(user), level,
-                                                 engine, engine_len, (const uint8_t *)"", 0, 0xA0, id, 0, 0, list, list_len, random_octets());
-        if (answer) { fprintf(stderr, "poll: request %d\n", answer); return 1; }
-        answer = exchange(socket);
-        if (answer == SNMPSEC_RESPONSE) return print_bindings();
-        if (answer > SNMPSEC_REPORT) fprintf(stderr, "poll: report of counter %d\n", answer - SNMPSEC_REPORT);
-        if (answer != SNMPSEC_REPORT + 2) { fprintf(stderr, "poll: answer %d\n", answer); return 1; }
+        snmpsec_request request = {.pdu = SNMPSEC_GET_REQUEST, .message_id = id, .request_id = id, .level = level, .engine = {engine, engine_len},
+                                   .user = {(const uint8_t *)user, strlen(user)}, .context_engine = {engine, engine_len},
+                                   .list = {list, list_len}, .salt = random_octets()};
+        int answer = snmpsec_manager_request(manager, now_in_seconds(), &request);
+        if (answer) { fprintf(stderr, "poll: request: %s\n", snmpsec_strerror(answer)); return 1; }
+        if (exchange(socket, &reply)) return 1;
+        if (reply.kind == SNMPSEC_REPLY_RESPONSE) return print_bindings();
+        fprintf(stderr, "poll: report of counter %d\n", reply.counter);
+        if (reply.counter != SNMPSEC_NOT_IN_WINDOWS) return 1;
     }
     return 1;
 }
 
+/* The old clocks are there until the new ones are there whole. */
 static int save(const char *path) {
     size_t len = 0;
-    if (snmpsec_manager_save(manager) || snmpsec_manager_message(manager, octets, sizeof octets, &len)) return 1;
-    FILE *file = fopen(path, "wb");
-    return !file || fwrite(octets, 1, len, file) != len || fflush(file) || fsync(fileno(file)) || fclose(file);
+    int answer = snmpsec_manager_save(manager, octets, sizeof octets, &len);
+    if (!answer) return file_replace(path, octets, len);
+    fprintf(stderr, "poll: %s: %s\n", path, snmpsec_strerror(answer));
+    return -1;
+}
+
+/* The clocks of a file, or no clocks where there is none and none must be. */
+static int read_clocks(const char *path, bool must_exist, uint8_t **text, size_t *text_len) {
+    if (must_exist || !file_is_absent(path)) return file_read(path, sizeof octets, text, text_len);
+    *text = (uint8_t *)strdup(SNMPSEC_NO_CLOCKS);
+    *text_len = strlen(SNMPSEC_NO_CLOCKS);
+    return *text ? 0 : -1;
+}
+
+static int bad_word(const char *what, const char *word) {
+    fprintf(stderr, "poll: %s: not %s\n", word, what);
+    return 2;
+}
+
+/* What the command line says, and the bindings that are asked for. */
+struct words {
+    const char *config, *clocks, *user;
+    uint32_t port, level;
+    uint8_t list[SNMPSEC_LARGEST];
+    size_t list_len;
+    bool must_exist;
+};
+
+static int begin_manager(const struct words *words) {
+    uint8_t *config, *clocks;
+    size_t config_len, clocks_len;
+    if (file_lock(words->clocks) || file_read(words->config, MOST_CONFIG, &config, &config_len)) return -1;
+    if (read_clocks(words->clocks, words->must_exist, &clocks, &clocks_len)) { file_free(config, config_len); return -1; }
+    int answer = snmpsec_manager_new(config, config_len, clocks, clocks_len, now_in_seconds(), &manager);
+    file_free(config, config_len);
+    file_free(clocks, clocks_len);
+    if (answer) fprintf(stderr, "poll: %s: %s\n", answer == SNMPSEC_BAD_CLOCKS ? words->clocks : words->config, snmpsec_strerror(answer));
+    return answer;
+}
+
+static int print_usage(FILE *to, int status) {
+    fputs("poll [--must-exist] CONFIG CLOCKS-FILE PORT USER LEVEL OID..\n"
+          "  --must-exist  a clocks file that is absent is refused, in the place of no clocks\n"
+          "  --version     the version of the library\n", to);
+    return status;
+}
+
+/* Reads the options: -1 where the words follow, or the status to end with. */
+static int read_options(int argc, char **argv, struct words *words) {
+    static const struct option options[] = {{"must-exist", no_argument, NULL, 'm'}, {"version", no_argument, NULL, 'v'},
+                                            {"help", no_argument, NULL, 'h'}, {0}};
+    for (int option; (option = getopt_long(argc, argv, "+", options, NULL)) != -1;)
+        switch (option) {
+        case 'm': words->must_exist = true; break;
+        case 'v': puts(snmpsec_version()); return 0;
+        case 'h': return print_usage(stdout, 0);
+        default: return print_usage(stderr, 2);
+        }
+    return -1;
+}
+
+/* Reads a name, and appends its binding. */
+static int read_name(const char *word, struct words *words) {
+    uint32_t arcs[SNMPSEC_MOST_ARCS];
+    size_t arcs_len, written = 0;
+    if (arcs_of(word, SNMPSEC_MOST_ARCS, arcs, &arcs_len)) return bad_word("a name in dotted decimal", word);
+    int answer = snmpsec_binding_write(arcs, arcs_len, 0x05, NULL, 0, words->list + words->list_len, sizeof words->list - words->list_len, &written);
+    if (answer) { fprintf(stderr, "poll: %s: %s\n", word, snmpsec_strerror(answer)); return 2; }
+    words->list_len += written;
+    return -1;
+}
+
+/* Reads all of it, likewise. */
+static int read_words(int argc, char **argv, struct words *words) {
+    int status = read_options(argc, argv, words), len = argc - optind;
+    char **word = argv + optind;
+    if (status != -1) return status;
+    if (len < 6) return print_usage(stderr, 2);
+    words->config = word[0];
+    words->clocks = word[1];
+    words->user = word[3];
+    if (number_of(word[2], 1, 65535, &words->port)) return bad_word("a port, 1 to 65535", word[2]);
+    if (!word[3][0] || strlen(word[3]) > 32) return bad_word("a user's name, 1 to 32 octets", word[3]);
+    if (number_of(word[4], SNMPSEC_NO_AUTH_NO_PRIV, SNMPSEC_AUTH_PRIV, &words->level)) return bad_word("a level, 1 to 3", word[4]);
+    for (int i = 5; i < len && status == -1; i++) status = read_name(word[i], words);
+    return status;
+}
+
+static int begin_socket(uint32_t port) {
+    int made = socket(AF_INET, SOCK_DGRAM | SOCK_CLOEXEC, 0);
+    struct sockaddr_in to = {.sin_family = AF_INET, .sin_port = htons((uint16_t)port), .sin_addr = {htonl(INADDR_LOOPBACK)}};
+    struct timeval wait = {.tv_sec = 2};
+    if (made >= 0 && !connect(made, (struct sockaddr *)&to, sizeof to) && !setsockopt(made, SOL_SOCKET, SO_RCVTIMEO, &wait, sizeof wait)) return made;
+    perror("poll");
+    return -1;
 }
 
 int main(int argc, char **argv) {
-    static uint8_t config[1 << 20], clocks[1 << 20], list[SNMPSEC_LARGEST];
-    size_t list_len = 0, written = 0;
-    if (argc < 7) { fprintf(stderr, "poll CONFIG CLOCKS-FILE PORT USER LEVEL OID..\n"); return 2; }
-    for (int i = 6; i < argc; i++) {
-        uint32_t arcs[MOST_ARCS];
-        size_t arcs_len = arcs_of(argv[i], arcs);
-        if (snmpsec_binding_write(arcs, arcs_len, 0x05, (const uint8_t *)"", 0, list + list_len, sizeof list - list_len, &written)) { fprintf(stderr, "poll: %s\n", argv[i]); return 2; }
-        list_len += written;
-    }
-    size_t config_len = read_file(argv[1], config, sizeof config), clocks_len = read_file(argv[2], clocks, sizeof clocks);
-    if (!clocks_len) { clocks_len = strlen(SNMPSEC_NO_CLOCKS); memcpy(clocks, SNMPSEC_NO_CLOCKS, clocks_len); }
-    int32_t answer = snmpsec_manager_new(config, config_len, clocks, clocks_len, now_in_seconds(), &manager);
-    if (answer) { fprintf(stderr, "poll: not made (%d)\n", answer); return 2; }
-    int at = socket(AF_INET, SOCK_DGRAM, 0);
-    struct sockaddr_in to = {.sin_family = AF_INET, .sin_port = htons((uint16_t)atoi(argv[3])), .sin_addr = {htonl(INADDR_LOOPBACK)}};
-    struct timeval wait = {.tv_sec = 2};
-    if (at < 0 || connect(at, (struct sockaddr *)&to, sizeof to) || setsockopt(at, SOL_SOCKET, SO_RCVTIMEO, &wait, sizeof wait)) { perror("poll"); return 2; }
-    int status = poll_once(at, argv[4], (uint32_t)atoi(argv[5]), list, list_len);
-    if (save(argv[2])) { fprintf(stderr, "poll: clocks not saved\n"); status = 2; }
+    static struct words words;
+    keep_secrets();
+    int status = read_words(argc, argv, &words);
+    if (status != -1) return status;
+    if (begin_manager(&words)) return 2;
+    int at = begin_socket(words.port);
+    status = at < 0 ? 2 : poll_once(at, words.user, (snmpsec_level)words.level, words.list, words.list_len);
+    if (save(words.clocks)) status = 2;
     snmpsec_manager_free(manager);
-    close(at);
+    if (at >= 0) close(at);
     return status;
 }

@@ -1,5 +1,5 @@
 /* A table of variables in a file, for the example agent. A line is OID TYPE VALUE, in any order: i an INTEGER, u a Gauge32, c a
- * Counter32, t TimeTicks, o an OBJECT IDENTIFIER, s a text, x octets in hex. Not proved. */
+ * Counter32, t TimeTicks, o an OBJECT IDENTIFIER, s a text, x octets in hex. A line that begins with # is none. Not proved. */
 #ifndef TABLE_H
 #define TABLE_H
 
@@ -14,6 +14,7 @@ struct row {
     uint8_t tag;
     uint8_t value[MOST_VALUE];
     size_t value_len;
+    size_t line;
 };
 
 struct table {
@@ -21,15 +22,11 @@ struct table {
     size_t rows_len;
 };
 
-/* Loads it, in the order of the names; 0, or the number of the first line that isn't one, or -1 where there is no such file. */
+/* Loads it, in the order of the names: 0, or -1 and says on standard error which line isn't a row, or why there is no table. */
 int table_load(struct table *table, const char *path);
 /* The row of this name, or NULL. */
 struct row *table_at(struct table *table, const uint32_t *arcs, size_t arcs_len);
 /* The place of the first row after this name. */
 size_t table_after(const struct table *table, const uint32_t *arcs, size_t arcs_len);
-/* The arcs of a text in dotted decimal, how many they are, or 0. */
-size_t arcs_of(const char *text, uint32_t *arcs);
-/* The octets of a text in hex, how many they are, or -1. */
-long octets_of(const char *hex, uint8_t *octets, size_t most);
 
 #endif

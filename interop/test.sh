@@ -1,12 +1,14 @@
 #!/bin/bash
-# Runs the library from C and against net-snmp's tools, on 127.0.0.1 alone: test.sh [PORT]
+# Runs the library from C, Rust and Python, against net-snmp's tools, and installed, on 127.0.0.1 alone: test.sh [PORT]
 #
-# It wants a C compiler, net-snmp (apt-get update; apt-get install snmp snmpd snmptrapd), python3 and cargo. What isn't installed is
-# told by a line and left out. The C is built twice, the second time with sanitizers, and those programs are run where they can be
-# built. It prints what differs from what is expected, and at the end how many checks passed; the status is 1 if any failed.
+# It wants a C compiler; README.md has the line that installs all else that it can use. What isn't installed is told by a line that begins
+# with `skipped:` and left out. The C is built twice, the second time with sanitizers, and those programs are run where they can be built. It
+# prints what differs from what is expected, and at the end how many checks passed; the status is 1 if any failed. Each part is a script in
+# tests/. Ports from PORT (16161) to PORT + 14 are used.
 here=$(cd "$(dirname "$0")" && pwd)
 export OUT=${OUT:-$here/out}
 work=$(mktemp -d)
+replay=$here/../examples/replay
 port=${1:-16161}
 trap_port=$((port + 1)) snmpd_port=$((port + 2))
 passed=0 failed=0
@@ -69,7 +71,7 @@ if ! NO_LIBRARY=1 OUT=$programs sh "$here/build.sh" -g -fsanitize=address,undefi
 fi
 
 test_c() {
-    local replay=$here/../examples/replay name folder
+    local name folder
     for folder in $(printf '%s\n' "$OUT" "$programs" | sort -u); do
         for name in calls manager_calls bindings keys exchange hostile; do
             "$folder/$name" "$replay/config.toml" "$replay/captured.log" "$replay/printed.txt" > "$work/$name.out" 2>&1
@@ -207,7 +209,6 @@ test_traps() {
 test_c
 test_agent
 test_traps
-. "$here/test_poll.sh"
-. "$here/test_wrappers.sh"
+for part in poll wrappers boots words memory install packages; do . "$here/tests/$part.sh"; done
 echo "$passed passed, $failed failed"
 [ $failed = 0 ]

@@ -1,102 +1,156 @@
-/* SNMPv3 user security and view access, for C and C++: the calls of libsnmp_c.a, which `rt lib` makes in crates/snmp_c.
+/* SNMPv3 user security and view access, for C and C++: libsnmpsec.
  *
- * A number answers each call: 0 where it was done; 1 to 18, a refusal by its number (README, and SNMPSEC_UNKNOWN_ENGINE and
- * the like below); or a negative one, a fault of the call. A buffer is the caller's: a pointer and its length, and the octets that
- * are written are counted. No call hands out memory that the caller has to free, but for the handle itself.
+ * Each call that answers an int answers SNMPSEC_OK, a refusal (above 0) or a fault of the call (below 0); snmpsec_strerror says each in words.
+ * A call that doesn't answer SNMPSEC_OK writes no result; where a text's length isn't known before, a too short buffer is told it. A buffer is
+ * the caller's. What the library makes is freed by the _free of its name and by nothing else.
  *
- * The caller's duties, which nothing checks:
- * - a handle is one that its _new wrote, not yet freed, and no two calls use it at once;
- * - a pointer to octets is not null and is readable, or writable, for its length; what is written overlaps nothing else;
- * - moments are seconds from one beginning and don't go back; a salt never comes twice for a key;
- * - malloc, realloc and free are one allocator, and align to 16;
- * - no call is made from a signal handler, or in the forked child of a process with threads.
+ * Threads: a handle is used by one thread at a time, by any thread; the caller locks where two could meet, and a call that only reads is no
+ * exception. Handles share nothing, so threads with handles of their own need no lock. Calls without a handle may be made by any
+ * thread at any time. No call is made from a signal handler, and in a forked child of a process with threads only after exec.
+ *
+ * Secrets: what the library frees is wiped first, and so is the stack that its calls used. The caller wipes the configuration that it handed in.
+ * Keys lie in memory as long as their handle does.
+ *
+ * The caller's duties, which nothing checks: a pointer is valid for its length and what is written overlaps nothing else; moments are seconds
+ * from one beginning and don't go back; a salt never comes twice for a key, also not after a restart. A length of 0 may come with a null
+ * pointer, and a null handle answers SNMPSEC_BAD_ARGUMENT.
  *
  * This file is not proved. */
 #ifndef SNMPSEC_H
 #define SNMPSEC_H
 
+#include <stdbool.h>
 #include <stddef.h>
 #include <stdint.h>
+
+#define SNMPSEC_VERSION_MAJOR 0
+#define SNMPSEC_VERSION_MINOR 1
+#define SNMPSEC_VERSION_PATCH 0
+#define SNMPSEC_VERSION "0.1.0"
+
+#if defined(__GNUC__)
+#define SNMPSEC_CALL __attribute__((visibility("default")))
+#define SNMPSEC_CHECK __attribute__((visibility("default"), warn_unused_result))
+#else
+#define SNMPSEC_CALL
+#define SNMPSEC_CHECK
+#endif
 
 #ifdef __cplusplus
 extern "C" {
 #endif
 
-enum {
+typedef enum snmpsec_answer {
     SNMPSEC_OK = 0,
-    /* refusals */
+    /* refusals of a message */
     SNMPSEC_NOT_MESSAGE = 1, SNMPSEC_BAD_VERSION = 2, SNMPSEC_NOT_SECURITY = 3, SNMPSEC_NOT_SCOPED = 4,
     SNMPSEC_UNKNOWN_ENGINE = 6, SNMPSEC_UNKNOWN_USER = 7, SNMPSEC_UNSUPPORTED_LEVEL = 8, SNMPSEC_WRONG_DIGEST = 9,
     SNMPSEC_NOT_IN_WINDOW = 10, SNMPSEC_DECRYPTION_ERROR = 11, SNMPSEC_BAD_SCOPED = 12, SNMPSEC_BAD_PDU = 13,
     SNMPSEC_OUT_OF_MEMORY = 14, SNMPSEC_CLOCK_EXHAUSTED = 15, SNMPSEC_TOO_LARGE = 16, SNMPSEC_UNKNOWN_MODEL = 17,
     SNMPSEC_INVALID_FLAGS = 18,
-    /* faults of the call */
+    /* faults of a call */
     SNMPSEC_BAD_ARGUMENT = -1, SNMPSEC_NOTHING_TAKEN = -2, SNMPSEC_NOT_ASKED = -3, SNMPSEC_BAD_BINDINGS = -4,
     SNMPSEC_SHORT_BUFFER = -5, SNMPSEC_BAD_CONFIGURATION = -6, SNMPSEC_BAD_CLOCKS = -7
-};
+} snmpsec_answer;
 
-/* the most octets of a datagram over UDP and IPv4 */
+/* The version of the library that runs, as SNMPSEC_VERSION is that of this header. */
+SNMPSEC_CALL const char *snmpsec_version(void);
+/* An answer in words, never null, nor to be freed: "unknown answer" where it is none. */
+SNMPSEC_CALL const char *snmpsec_strerror(int answer);
+/* Its name, as "WRONG_DIGEST"; null where it is none. */
+SNMPSEC_CALL const char *snmpsec_error_name(int answer);
+
+/* the most octets of a datagram over UDP and IPv4, and the most arcs of a name */
 #define SNMPSEC_LARGEST 65507
+#define SNMPSEC_MOST_ARCS 128
 
-/* levels, and views (RFC 3411, section 5; RFC 3415, section 3) */
-enum { SNMPSEC_NO_AUTH_NO_PRIV = 1, SNMPSEC_AUTH_NO_PRIV = 2, SNMPSEC_AUTH_PRIV = 3 };
-enum { SNMPSEC_READ = 0, SNMPSEC_WRITE = 1, SNMPSEC_NOTIFY = 2 };
+typedef enum snmpsec_level { SNMPSEC_NO_AUTH_NO_PRIV = 1, SNMPSEC_AUTH_NO_PRIV = 2, SNMPSEC_AUTH_PRIV = 3 } snmpsec_level;
+typedef enum snmpsec_view { SNMPSEC_READ = 0, SNMPSEC_WRITE = 1, SNMPSEC_NOTIFY = 2 } snmpsec_view;
 
-/* what _allows and _may answer besides faults of the call */
-enum {
+/* isAccessAllowed (RFC 3415, section 3) */
+typedef enum snmpsec_access {
     SNMPSEC_ACCESS_ALLOWED = 0, SNMPSEC_NOT_IN_VIEW = 1, SNMPSEC_NO_SUCH_VIEW = 2, SNMPSEC_NO_ACCESS_ENTRY = 3,
     SNMPSEC_NO_GROUP_NAME = 4, SNMPSEC_NO_SUCH_CONTEXT = 5
-};
+} snmpsec_access;
 
-/* parts of the message that is kept, and the places of its numbers */
-enum { SNMPSEC_BINDINGS = 0, SNMPSEC_USER = 1, SNMPSEC_CONTEXT_ENGINE = 2, SNMPSEC_CONTEXT_NAME = 3, SNMPSEC_ENGINE = 4 };
-enum {
-    SNMPSEC_LEVEL = 0, SNMPSEC_TAG = 1, SNMPSEC_REQUEST_ID = 2, SNMPSEC_SECOND = 3, SNMPSEC_THIRD = 4, SNMPSEC_MESSAGE_ID = 5,
-    SNMPSEC_NUMBERS = 6
-};
+/* PDUs by their tags (RFC 3416) */
+typedef enum snmpsec_pdu {
+    SNMPSEC_GET_REQUEST = 0xA0, SNMPSEC_GET_NEXT_REQUEST = 0xA1, SNMPSEC_RESPONSE_PDU = 0xA2, SNMPSEC_SET_REQUEST = 0xA3,
+    SNMPSEC_GET_BULK_REQUEST = 0xA5, SNMPSEC_INFORM_REQUEST = 0xA6, SNMPSEC_TRAP = 0xA7, SNMPSEC_REPORT_PDU = 0xA8
+} snmpsec_pdu;
+
+/* The numbers of a message that is kept. Of a GetBulkRequest the second and third are non-repeaters and max-repetitions, of other PDUs
+ * error-status and error-index. */
+typedef struct snmpsec_info {
+    int32_t level;
+    int32_t pdu;
+    int32_t request_id;
+    union { int32_t error_status, non_repeaters; };
+    union { int32_t error_index, max_repetitions; };
+    int32_t message_id;
+} snmpsec_info;
+
+/* the parts of a message that is kept */
+typedef enum snmpsec_part {
+    SNMPSEC_BINDINGS = 0, SNMPSEC_USER = 1, SNMPSEC_CONTEXT_ENGINE = 2, SNMPSEC_CONTEXT_NAME = 3, SNMPSEC_ENGINE = 4
+} snmpsec_part;
+
+/* octets of the caller */
+typedef struct snmpsec_octets { const uint8_t *at; size_t len; } snmpsec_octets;
 
 /* ---- an agent */
 
 typedef struct snmpsec_agent snmpsec_agent;
 
-/* Makes an agent of a configuration in TOML, with its engine ID (5 to 32 octets, not all 0 and not all 255: RFC 3411, section 5)
- * and boots (at most 2147483647), that started at the moment `started`, and writes the pointer to it: -1, -6 or 14 where there is none. */
-int32_t snmpsec_agent_new(const uint8_t *config, size_t config_len, const uint8_t *engine, size_t engine_len, uint32_t boots,
-                          uint64_t started, snmpsec_agent **out);
-/* Frees it. */
-void snmpsec_agent_free(snmpsec_agent *agent);
+SNMPSEC_CALL void snmpsec_agent_free(snmpsec_agent *agent);
+/* Makes an agent of a configuration in TOML, with its engine ID (5 to 32 octets, neither all 00 nor all ff) and boots (at most 2147483647), that
+ * started at the moment `started`: SNMPSEC_BAD_ARGUMENT, SNMPSEC_BAD_CONFIGURATION (`snmpsec check-config` says where),
+ * SNMPSEC_OUT_OF_MEMORY; *out is then null. */
+SNMPSEC_CHECK int snmpsec_agent_new(const uint8_t *config, size_t config_len, const uint8_t *engine, size_t engine_len, uint32_t boots,
+                                    uint64_t started, snmpsec_agent **out);
 
-/* Takes a datagram. 0: it is accepted, and kept for the calls below. 1 to 18: it is refused; its report, if there is one, is the
- * message to be sent. */
-int32_t snmpsec_agent_take(snmpsec_agent *agent, uint64_t now, const uint8_t *datagram, size_t datagram_len);
+/* Takes a datagram. SNMPSEC_OK: it is accepted, and kept for the calls below. A refusal: its report, if there is one, is the message. */
+SNMPSEC_CHECK int snmpsec_agent_take(snmpsec_agent *agent, uint64_t now, const uint8_t *datagram, size_t datagram_len);
+/* SNMPSEC_NOTHING_TAKEN: no message is kept. */
+SNMPSEC_CHECK int snmpsec_agent_info(snmpsec_agent *agent, snmpsec_info *out);
+/* SNMPSEC_NOTHING_TAKEN; SNMPSEC_SHORT_BUFFER, and *written says how much is wanted; SNMPSEC_BAD_ARGUMENT: no such part. */
+SNMPSEC_CHECK int snmpsec_agent_part(snmpsec_agent *agent, snmpsec_part part, uint8_t *out, size_t out_len, size_t *written);
+/* The message to be sent, in the same way: the report on what was taken last, or what was written since. */
+SNMPSEC_CHECK int snmpsec_agent_message(snmpsec_agent *agent, uint8_t *out, size_t out_len, size_t *written);
 
-/* The six numbers of what is kept, by the places above: -2 nothing is kept, -5 there is no room. */
-int32_t snmpsec_agent_numbers(snmpsec_agent *agent, int32_t *numbers, size_t numbers_len);
-/* A part of what is kept: -1 no such part, -2 nothing is kept, -5 there is no room, and *written says how much is wanted. */
-int32_t snmpsec_agent_part(snmpsec_agent *agent, uint32_t part, uint8_t *out, size_t out_len, size_t *written);
-/* The message to be sent, in the same way: the report on what was taken last, or what was written since; -2 where there is none. */
-int32_t snmpsec_agent_message(snmpsec_agent *agent, uint8_t *out, size_t out_len, size_t *written);
+/* Whether the sender of what is kept may see a variable in the message's context. It is false on each fault too. An agent asks for each
+ * variable before it gives or sets it. */
+SNMPSEC_CHECK bool snmpsec_agent_allows(snmpsec_agent *agent, snmpsec_view view, const uint32_t *arcs, size_t arcs_len);
+/* The same with the reason: SNMPSEC_BAD_ARGUMENT: no such view, or not 1 to 128 arcs; SNMPSEC_NOTHING_TAKEN. */
+SNMPSEC_CHECK int snmpsec_agent_access(snmpsec_agent *agent, snmpsec_view view, const uint32_t *arcs, size_t arcs_len, snmpsec_access *out);
+/* Both for a user at a level in a context, without a message. */
+SNMPSEC_CHECK bool snmpsec_agent_user_allows(snmpsec_agent *agent, snmpsec_octets user, snmpsec_level level, snmpsec_octets context,
+                                             snmpsec_view view, const uint32_t *arcs, size_t arcs_len);
+SNMPSEC_CHECK int snmpsec_agent_user_access(snmpsec_agent *agent, snmpsec_octets user, snmpsec_level level, snmpsec_octets context,
+                                            snmpsec_view view, const uint32_t *arcs, size_t arcs_len, snmpsec_access *out);
 
-/* Whether the sender of what is kept may see a variable in the message's context, by a view: 0 to 5, -1 no such view or not 1 to
- * 128 arcs, -2 nothing is kept. An agent asks for each variable before it gives or sets it. */
-int32_t snmpsec_agent_allows(snmpsec_agent *agent, uint32_t view, const uint32_t *arcs, size_t arcs_len);
-/* The same for a user at a level in a context, without a message. */
-int32_t snmpsec_agent_may(snmpsec_agent *agent, const uint8_t *user, size_t user_len, uint32_t level, const uint8_t *context,
-                          size_t context_len, uint32_t view, const uint32_t *arcs, size_t arcs_len);
+/* Writes the Response to what is kept: SNMPSEC_BAD_ARGUMENT: a number above 2147483647; SNMPSEC_NOTHING_TAKEN; SNMPSEC_NOT_ASKED: its PDU
+ * isn't one that is answered; SNMPSEC_BAD_BINDINGS; or a refusal: SNMPSEC_CLOCK_EXHAUSTED, SNMPSEC_UNKNOWN_USER, SNMPSEC_UNSUPPORTED_LEVEL,
+ * SNMPSEC_TOO_LARGE (answer tooBig then: error-status 1 and no bindings), SNMPSEC_OUT_OF_MEMORY. */
+SNMPSEC_CHECK int snmpsec_agent_respond(snmpsec_agent *agent, uint64_t now, uint32_t error_status, uint32_t error_index, const uint8_t *list,
+                                        size_t list_len, uint64_t salt);
 
-/* Writes the Response to what is kept: -1 a number above 2147483647, -2 nothing is kept, -3 its PDU isn't one that is answered, -4
- * the list isn't bindings one after another, or a refusal: 15, 7, 8, 16 (answer tooBig then: status 1 and no bindings), 14. */
-int32_t snmpsec_agent_respond(snmpsec_agent *agent, uint64_t now, uint32_t status, uint32_t index, const uint8_t *list,
-                              size_t list_len, uint64_t salt);
+typedef struct snmpsec_notice {
+    uint32_t message_id, request_id;
+    snmpsec_level level;
+    snmpsec_octets user, context_engine, context_name;
+    snmpsec_octets list;
+    uint64_t salt;
+} snmpsec_notice;
+
 /* Writes an SNMPv2-Trap. */
-int32_t snmpsec_agent_notify(snmpsec_agent *agent, uint64_t now, uint32_t id, const uint8_t *user, size_t user_len, uint32_t level,
-                             uint32_t request_id, const uint8_t *context_engine, size_t context_engine_len,
-                             const uint8_t *context_name, size_t context_name_len, const uint8_t *list, size_t list_len,
-                             uint64_t salt);
+SNMPSEC_CHECK int snmpsec_agent_notify(snmpsec_agent *agent, uint64_t now, const snmpsec_notice *notice);
 
-/* Counter n, usmStats n of RFC 3414, section 5: 1 UnsupportedSecLevels, 2 NotInTimeWindows, 3 UnknownUserNames, 4
- * UnknownEngineIDs, 5 WrongDigests, 6 DecryptionErrors; -1 where n is none of them. */
-int64_t snmpsec_agent_counter(snmpsec_agent *agent, uint32_t n);
+/* usmStats (RFC 3414, section 5) */
+typedef struct snmpsec_counters {
+    uint32_t unsupported_levels, not_in_windows, unknown_users, unknown_engines, wrong_digests, decryption_errors;
+} snmpsec_counters;
+SNMPSEC_CHECK int snmpsec_agent_counters(snmpsec_agent *agent, snmpsec_counters *out);
 
 /* ---- a manager */
 
@@ -105,91 +159,112 @@ typedef struct snmpsec_manager snmpsec_manager;
 /* the saved text of no clocks */
 #define SNMPSEC_NO_CLOCKS "snmp-clocks 2\n"
 
-/* Makes a manager with the users of a configuration that begins with the clocks of a saved text, where the marks of version 1 were
- * seen at the moment `now`: -7, -6 or 14 where there is none. */
-int32_t snmpsec_manager_new(const uint8_t *config, size_t config_len, const uint8_t *clocks, size_t clocks_len, uint64_t now,
-                            snmpsec_manager **out);
-void snmpsec_manager_free(snmpsec_manager *manager);
+SNMPSEC_CALL void snmpsec_manager_free(snmpsec_manager *manager);
+/* Makes a manager with the users of a configuration, that begins with the clocks of a saved text, where the marks of version 1 were
+ * seen at the moment `now`: SNMPSEC_BAD_CLOCKS, SNMPSEC_BAD_CONFIGURATION, SNMPSEC_OUT_OF_MEMORY; *out is then null. */
+SNMPSEC_CHECK int snmpsec_manager_new(const uint8_t *config, size_t config_len, const uint8_t *clocks, size_t clocks_len, uint64_t now,
+                                      snmpsec_manager **out);
 
-/* Takes a datagram, and learns its engine's boots and time where it is authentic. 0: it is accepted, and kept. */
-int32_t snmpsec_manager_take(snmpsec_manager *manager, uint64_t now, const uint8_t *datagram, size_t datagram_len);
-int32_t snmpsec_manager_numbers(snmpsec_manager *manager, int32_t *numbers, size_t numbers_len);
-int32_t snmpsec_manager_part(snmpsec_manager *manager, uint32_t part, uint8_t *out, size_t out_len, size_t *written);
-/* The request that was written last, or the saved text. */
-int32_t snmpsec_manager_message(snmpsec_manager *manager, uint8_t *out, size_t out_len, size_t *written);
+/* Takes a datagram, and learns its engine's boots and time where it is authentic. SNMPSEC_OK: it is accepted, and kept. */
+SNMPSEC_CHECK int snmpsec_manager_take(snmpsec_manager *manager, uint64_t now, const uint8_t *datagram, size_t datagram_len);
+SNMPSEC_CHECK int snmpsec_manager_info(snmpsec_manager *manager, snmpsec_info *out);
+SNMPSEC_CHECK int snmpsec_manager_part(snmpsec_manager *manager, snmpsec_part part, uint8_t *out, size_t out_len, size_t *written);
+/* The request that was written last: SNMPSEC_NOTHING_TAKEN: none was since the last _take. */
+SNMPSEC_CHECK int snmpsec_manager_message(snmpsec_manager *manager, uint8_t *out, size_t out_len, size_t *written);
 
-/* What is kept is to the request that was written last: its Response, neither, or a Report: of no counter, or 10 + n of counter n. */
-enum { SNMPSEC_RESPONSE = 0, SNMPSEC_NOT_FOR_IT = 1, SNMPSEC_REPORT = 10 };
-int32_t snmpsec_manager_answer(snmpsec_manager *manager);
+/* What a message is to the request that was written last: its Response, a Report (of the counter 1 to 6, by the order of
+ * snmpsec_counters, or 0 of none), or neither. */
+typedef enum snmpsec_reply_kind { SNMPSEC_REPLY_RESPONSE = 0, SNMPSEC_REPLY_OTHER = 1, SNMPSEC_REPLY_REPORT = 2 } snmpsec_reply_kind;
+enum {
+    SNMPSEC_UNSUPPORTED_LEVELS = 1, SNMPSEC_NOT_IN_WINDOWS = 2, SNMPSEC_UNKNOWN_USERS = 3, SNMPSEC_UNKNOWN_ENGINES = 4,
+    SNMPSEC_WRONG_DIGESTS = 5, SNMPSEC_DECRYPTION_ERRORS = 6
+};
+typedef struct snmpsec_reply { snmpsec_reply_kind kind; int counter; } snmpsec_reply;
+/* SNMPSEC_NOTHING_TAKEN: no message is kept, or nothing was asked. */
+SNMPSEC_CHECK int snmpsec_manager_reply(snmpsec_manager *manager, snmpsec_reply *out);
 
 /* Writes the request by which an engine is discovered; its answer is a Report that has the engine's ID. */
-int32_t snmpsec_manager_discover(snmpsec_manager *manager, uint32_t id);
-/* Writes a request: -1 a number or a length is out of its range, -4 the list isn't bindings, or a refusal: 7, 8, 16, 14. One
- * request is waited for at a time. */
-int32_t snmpsec_manager_request(snmpsec_manager *manager, uint64_t now, uint32_t id, const uint8_t *engine, size_t engine_len,
-                                const uint8_t *user, size_t user_len, uint32_t level, const uint8_t *context_engine,
-                                size_t context_engine_len, const uint8_t *context_name, size_t context_name_len, uint32_t tag,
-                                uint32_t request_id, uint32_t second, uint32_t third, const uint8_t *list, size_t list_len,
-                                uint64_t salt);
+SNMPSEC_CHECK int snmpsec_manager_discover(snmpsec_manager *manager, uint32_t message_id);
 
-/* Joins in the clocks of a saved text: -7, 14. */
-int32_t snmpsec_manager_absorb(snmpsec_manager *manager, const uint8_t *text, size_t text_len, uint64_t now);
-/* Leaves the saved text of the clocks as the message. */
-int32_t snmpsec_manager_save(snmpsec_manager *manager);
-/* The boots and time that are held of an engine: -1 no engine ID, -2 nothing is held. */
-int32_t snmpsec_manager_pair(snmpsec_manager *manager, const uint8_t *engine, size_t engine_len, uint32_t *boots, uint32_t *time);
+typedef struct snmpsec_request {
+    snmpsec_pdu pdu;
+    uint32_t message_id, request_id;
+    union { uint32_t error_status, non_repeaters; };
+    union { uint32_t error_index, max_repetitions; };
+    snmpsec_level level;
+    snmpsec_octets engine, user, context_engine, context_name;
+    snmpsec_octets list;
+    uint64_t salt;
+} snmpsec_request;
+
+/* Writes a request: SNMPSEC_BAD_ARGUMENT: a number or a length is out of its range; SNMPSEC_BAD_BINDINGS; or a refusal:
+ * SNMPSEC_UNKNOWN_USER, SNMPSEC_UNSUPPORTED_LEVEL, SNMPSEC_TOO_LARGE, SNMPSEC_OUT_OF_MEMORY. One request is waited for at a time. */
+SNMPSEC_CHECK int snmpsec_manager_request(snmpsec_manager *manager, uint64_t now, const snmpsec_request *request);
+
+/* Joins in the clocks of a saved text: SNMPSEC_BAD_CLOCKS, SNMPSEC_OUT_OF_MEMORY. */
+SNMPSEC_CHECK int snmpsec_manager_absorb(snmpsec_manager *manager, const uint8_t *text, size_t text_len, uint64_t now);
+/* The saved text of the clocks, in the same way as the message, which stays: SNMPSEC_SHORT_BUFFER, and *written says how much is wanted;
+ * SNMPSEC_OUT_OF_MEMORY. */
+SNMPSEC_CHECK int snmpsec_manager_save(snmpsec_manager *manager, uint8_t *out, size_t out_len, size_t *written);
+
+typedef struct snmpsec_clock { uint32_t boots, time; } snmpsec_clock;
+/* What is held of an engine: SNMPSEC_BAD_ARGUMENT: no engine ID; SNMPSEC_NOTHING_TAKEN: nothing is held. */
+SNMPSEC_CHECK int snmpsec_manager_clock(snmpsec_manager *manager, const uint8_t *engine, size_t engine_len, snmpsec_clock *out);
 
 /* ---- variable bindings, as octets */
 
-/* Reads the binding at the place `at` of a list: its arcs, of at most 128, and in `numbers` how many they are, the value's tag, the
- * place of its content, its length, and the place after the binding: -1 the place is behind the list, -4 no binding begins there, -5
- * there is no room for its arcs or the numbers. */
-enum { SNMPSEC_ARCS = 0, SNMPSEC_VALUE_TAG = 1, SNMPSEC_VALUE_AT = 2, SNMPSEC_VALUE_LENGTH = 3, SNMPSEC_NEXT = 4, SNMPSEC_PLACES = 5 };
-int32_t snmpsec_binding_read(const uint8_t *list, size_t list_len, size_t at, uint32_t *arcs, size_t arcs_len, size_t *numbers,
-                             size_t numbers_len);
-/* Writes a binding: -1 the arcs are no identifier's, the tag is above 255 or its low five bits are all ones, or the content is above
- * 65507 octets; 14; -5 there is no room, and *written says how much is wanted. */
-int32_t snmpsec_binding_write(const uint32_t *arcs, size_t arcs_len, uint32_t tag, const uint8_t *content, size_t content_len,
-                              uint8_t *out, size_t out_len, size_t *written);
+typedef struct snmpsec_binding {
+    uint32_t arcs[SNMPSEC_MOST_ARCS];
+    size_t arcs_len;
+    uint8_t tag;
+    /* in the list that was read */
+    const uint8_t *content;
+    size_t content_len;
+} snmpsec_binding;
 
-/* ---- keys, codes and sealed texts
- *
- * These calls keep nothing and want no handle: they are for programs that spell messages themselves. A message that came is checked by a
- * handle's _take. A protocol for authentication has its number below snmpAuthProtocols (RFC 3414, section 5; RFC 7860, section 8).
- *
- * Each answers 0, -1 or -5, and -1 comes before -5. A call that doesn't answer 0 writes nothing: *written stays as it was too. */
-enum { SNMPSEC_MD5 = 2, SNMPSEC_SHA1 = 3, SNMPSEC_SHA256 = 5 };
+/* Reads the binding at the place *at of a list and moves *at behind it: SNMPSEC_BAD_ARGUMENT: *at isn't in the list; SNMPSEC_BAD_BINDINGS. So
+ * `for (size_t at = 0; at < len;)` goes through them. */
+SNMPSEC_CHECK int snmpsec_binding_read(const uint8_t *list, size_t list_len, size_t *at, snmpsec_binding *out);
+/* Writes a binding: SNMPSEC_BAD_ARGUMENT: the arcs are no identifier's, the tag's low five bits are all ones, or the content is above
+ * 65507 octets; SNMPSEC_OUT_OF_MEMORY; SNMPSEC_SHORT_BUFFER, and *written says how much is wanted. */
+SNMPSEC_CHECK int snmpsec_binding_write(const uint32_t *arcs, size_t arcs_len, uint8_t tag, const uint8_t *content, size_t content_len,
+                                        uint8_t *out, size_t out_len, size_t *written);
 
-/* the most octets of a key, and of a code */
+/* ---- keys, codes and sealed texts, for programs that spell messages themselves
+ *
+ * They keep nothing. A message that came is checked by a handle's _take. A protocol for authentication has its number below
+ * snmpAuthProtocols (RFC 3414, section 5; RFC 7860, section 8). SNMPSEC_BAD_ARGUMENT comes before SNMPSEC_SHORT_BUFFER, and neither writes
+ * anything: *written stays as it was too. */
+typedef enum snmpsec_protocol { SNMPSEC_MD5 = 2, SNMPSEC_SHA1 = 3, SNMPSEC_SHA256 = 5 } snmpsec_protocol;
+
 #define SNMPSEC_LARGEST_KEY 32
 #define SNMPSEC_LARGEST_CODE 24
 
-/* Writes the key of a password, the same for all engines (RFC 3414, section A.2; RFC 7860, section 5), and how many octets it has: 16
- * (MD5), 20 (SHA-1) or 32 (SHA-256). -1: no such protocol, or the password has fewer than 8 octets; -5: there is no room. It hashes
- * 1,048,576 octets. */
-int32_t snmpsec_password_key(uint32_t protocol, const uint8_t *password, size_t password_len, uint8_t *out, size_t out_len,
-                             size_t *written);
-/* Writes the key localised to an engine (RFC 3414, section 2.6; RFC 7860, section 5), which has as many octets. -1: no such protocol, the
- * key has more than 32 octets, or the engine ID not 5 to 32; -5: there is no room. */
-int32_t snmpsec_localise(uint32_t protocol, const uint8_t *key, size_t key_len, const uint8_t *engine, size_t engine_len,
-                         uint8_t *out, size_t out_len, size_t *written);
-/* Writes the message authentication code, under a localised key, of `front`, this many zero octets and `back`, joined, and how many
- * octets it has: 12 (MD5 and SHA-1; RFC 3414, sections 6.3.1 and 7.3.1) or 24 (SHA-256; RFC 7860, section 4.2.1). The zeros stand in the
- * code's own place, so in a message they are as many as the code has octets. -1: no such protocol, the key has more than 32 octets, or
- * there are more than 24 zeros; -5: there is no room. */
-int32_t snmpsec_mac(uint32_t protocol, const uint8_t *key, size_t key_len, const uint8_t *front, size_t front_len, size_t zeros,
-                    const uint8_t *back, size_t back_len, uint8_t *out, size_t out_len, size_t *written);
+/* The key of a password, the same for all engines (RFC 3414, section A.2; RFC 7860, section 5): 16, 20 or 32 octets. SNMPSEC_BAD_ARGUMENT: no such
+ * protocol, or fewer than 8 octets; SNMPSEC_SHORT_BUFFER. It hashes 1,048,576 octets. */
+SNMPSEC_CHECK int snmpsec_password_key(snmpsec_protocol protocol, const uint8_t *password, size_t password_len, uint8_t *out, size_t out_len,
+                                       size_t *written);
+/* The key localised to an engine (RFC 3414, section 2.6; RFC 7860, section 5). SNMPSEC_BAD_ARGUMENT: no such protocol, the key has more than 32
+ * octets, or the engine ID not 5 to 32; SNMPSEC_SHORT_BUFFER. */
+SNMPSEC_CHECK int snmpsec_localise(snmpsec_protocol protocol, const uint8_t *key, size_t key_len, const uint8_t *engine, size_t engine_len,
+                                   uint8_t *out, size_t out_len, size_t *written);
+/* The code, under a localised key, of `front`, this many zero octets and `back`, joined: 12 octets (MD5 and SHA-1; RFC 3414, sections 6.3.1
+ * and 7.3.1) or 24 (SHA-256; RFC 7860, section 4.2.1). The zeros stand in the code's own place, so in a message they are as many as the code has
+ * octets. SNMPSEC_BAD_ARGUMENT: no such protocol, the key has more than 32 octets, or there are more than 24 zeros; SNMPSEC_SHORT_BUFFER. */
+SNMPSEC_CHECK int snmpsec_mac(snmpsec_protocol protocol, const uint8_t *key, size_t key_len, const uint8_t *front, size_t front_len, size_t zeros,
+                              const uint8_t *back, size_t back_len, uint8_t *out, size_t out_len, size_t *written);
 
-/* Seals a text of any length in its place, by AES-128 in cipher feedback mode (RFC 3826, section 3.1.3). The key is the first 16 octets
- * of a localised key. Boots and time, in seconds, are the authoritative engine's that the message says; any are taken. The salt is the
- * content of its msgPrivacyParameters, 8 octets (section 3.1.2.1). -1: the key hasn't 16 octets or the salt hasn't 8, and the text
- * stays as it was. */
-int32_t snmpsec_seal(const uint8_t *key, size_t key_len, uint32_t boots, uint32_t time, const uint8_t *salt, size_t salt_len,
-                     uint8_t *text, size_t text_len);
-/* Opens a text in its place that was sealed with these (RFC 3826, section 3.1.4). -1: as with _seal. It can't tell a wrong key: whatever
- * the octets are, they open to some text. */
-int32_t snmpsec_open(const uint8_t *key, size_t key_len, uint32_t boots, uint32_t time, const uint8_t *salt, size_t salt_len,
-                     uint8_t *text, size_t text_len);
+/* Seals, and opens, a text of any length in its place, by AES-128 in cipher feedback mode (RFC 3826, section 3.1). The key is the first 16
+ * octets of a localised key. Boots and time, in seconds, are the authoritative engine's that the message says; any are taken. The salt is the
+ * content of its msgPrivacyParameters, 8 octets. SNMPSEC_BAD_ARGUMENT: the key hasn't 16 octets or the salt hasn't 8, and the text stays as it
+ * was. _open can't tell a wrong key: whatever the octets are, they open to some text. */
+SNMPSEC_CHECK int snmpsec_seal(const uint8_t *key, size_t key_len, uint32_t boots, uint32_t time, const uint8_t *salt, size_t salt_len,
+                               uint8_t *text, size_t text_len);
+SNMPSEC_CHECK int snmpsec_open(const uint8_t *key, size_t key_len, uint32_t boots, uint32_t time, const uint8_t *salt, size_t salt_len,
+                               uint8_t *text, size_t text_len);
+
+/* Wipes octets, as a configuration or a password, also where a compiler sees that nobody reads them again. */
+SNMPSEC_CALL void snmpsec_wipe(void *octets, size_t octets_len);
 
 #ifdef __cplusplus
 }

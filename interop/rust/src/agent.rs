@@ -1,23 +1,23 @@
 //! An agent.
 
 use crate::calls::{
-    snmpsec_agent_allows, snmpsec_agent_counter, snmpsec_agent_free, snmpsec_agent_may,
-    snmpsec_agent_message, snmpsec_agent_new, snmpsec_agent_notify, snmpsec_agent_numbers,
-    snmpsec_agent_part, snmpsec_agent_respond, snmpsec_agent_take,
+    self, snmpsec_agent_access, snmpsec_agent_counters, snmpsec_agent_free, snmpsec_agent_info,
+    snmpsec_agent_message, snmpsec_agent_new, snmpsec_agent_notify, snmpsec_agent_part,
+    snmpsec_agent_respond, snmpsec_agent_take, snmpsec_agent_user_access,
 };
-use crate::fault::{done, told, Error};
+use crate::fault::{done, Error};
 use crate::held::{Calls, Held};
-use crate::words::{Access, Level, Numbers, Part, View};
+use crate::words::{Access, Info, Level, Part, View};
 
 static CALLS: Calls = Calls {
     free: snmpsec_agent_free,
     take: snmpsec_agent_take,
-    numbers: snmpsec_agent_numbers,
+    info: snmpsec_agent_info,
     part: snmpsec_agent_part,
     message: snmpsec_agent_message,
 };
 
-/// An agent, of one thread.
+/// An agent, which one thread uses at a time.
 pub struct Agent {
     held: Held,
 }
@@ -34,8 +34,29 @@ pub struct Notification<'a> {
     pub bindings: &'a [u8],
 }
 
+/// How often a message was refused: usmStats (RFC 3414, section 5).
+#[derive(Clone, Copy, Debug, PartialEq, Eq)]
+pub struct Counters {
+    pub unsupported_levels: u32,
+    pub not_in_windows: u32,
+    pub unknown_users: u32,
+    pub unknown_engines: u32,
+    pub wrong_digests: u32,
+    pub decryption_errors: u32,
+}
+
+/// Whether a call answers that access is allowed, or why not.
+fn told(call: impl FnOnce(*mut u32) -> i32) -> Result<Access, Error> {
+    let mut access = 0;
+    done(call(&mut access))?;
+    Access::of(access).ok_or(Error::Other(access as i32))
+}
+
 impl Agent {
     /// An agent of a configuration, with its engine ID and boots, that started at this moment in seconds.
+    ///
+    /// The errors are BadArgument, where the engine ID hasn't 5 to 32 octets or is all 00 or all ff, or boots are above 2147483647;
+    /// BadConfiguration; and want of memory.
     pub fn new(config: &[u8], engine: &[u8], boots: u32, started: u64) -> Result<Agent, Error> {
         let held = Held::of(&CALLS, |at| unsafe {
             snmpsec_agent_new(
@@ -57,8 +78,8 @@ impl Agent {
     }
 
     /// The numbers of what is kept.
-    pub fn numbers(&self) -> Result<Numbers, Error> {
-        self.held.numbers()
+    pub fn info(&self) -> Result<Info, Error> {
+        self.held.info()
     }
 
     /// A part of what is kept.
@@ -71,15 +92,19 @@ impl Agent {
         self.held.message()
     }
 
-    /// Whether the sender of what is kept may see the variable.
-    pub fn allows(&self, view: View, arcs: &[u32]) -> Result<Access, Error> {
-        let answer =
-            unsafe { snmpsec_agent_allows(self.held.at(), view as u32, arcs.as_ptr(), arcs.len()) };
-        told(answer, Access::of)
+    /// Whether the sender of what is kept may see the variable, or why not.
+    pub fn access(&self, view: View, arcs: &[u32]) -> Result<Access, Error> {
+        let at = self.held.at();
+        told(|out| unsafe { snmpsec_agent_access(at, view as u32, arcs.as_ptr(), arcs.len(), out) })
     }
 
-    /// The same for a user at a level in a context.
-    pub fn may(
+    /// Whether the sender of what is kept may see the variable; false on each error too.
+    pub fn allows(&self, view: View, arcs: &[u32]) -> bool {
+        self.access(view, arcs) == Ok(Access::Allowed)
+    }
+
+    /// As `access`, for a user at a level in a context.
+    pub fn user_access(
         &self,
         user: &[u8],
         level: Level,
@@ -88,28 +113,26 @@ impl Agent {
         arcs: &[u32],
     ) -> Result<Access, Error> {
         let at = self.held.at();
-        let answer = unsafe {
-            snmpsec_agent_may(
+        told(|out| unsafe {
+            snmpsec_agent_user_access(
                 at,
-                user.as_ptr(),
-                user.len(),
+                user.into(),
                 level as u32,
-                context.as_ptr(),
-                context.len(),
+                context.into(),
                 view as u32,
                 arcs.as_ptr(),
                 arcs.len(),
+                out,
             )
-        };
-        told(answer, Access::of)
+        })
     }
 
     /// Writes the Response to what is kept.
     pub fn respond(
         &mut self,
         now: u64,
-        status: u32,
-        index: u32,
+        error_status: u32,
+        error_index: u32,
         bindings: &[u8],
         salt: u64,
     ) -> Result<(), Error> {
@@ -117,8 +140,8 @@ impl Agent {
             snmpsec_agent_respond(
                 self.held.at(),
                 now,
-                status,
-                index,
+                error_status,
+                error_index,
                 bindings.as_ptr(),
                 bindings.len(),
                 salt,
@@ -128,28 +151,30 @@ impl Agent {
 
     /// Writes an SNMPv2-Trap.
     pub fn notify(&mut self, now: u64, of: &Notification<'_>, salt: u64) -> Result<(), Error> {
-        done(unsafe {
-            snmpsec_agent_notify(
-                self.held.at(),
-                now,
-                of.message_id,
-                of.user.as_ptr(),
-                of.user.len(),
-                of.level as u32,
-                of.request_id,
-                of.context_engine.as_ptr(),
-                of.context_engine.len(),
-                of.context_name.as_ptr(),
-                of.context_name.len(),
-                of.bindings.as_ptr(),
-                of.bindings.len(),
-                salt,
-            )
-        })
+        let notice = calls::Notice {
+            message_id: of.message_id,
+            request_id: of.request_id,
+            level: of.level as u32,
+            user: of.user.into(),
+            context_engine: of.context_engine.into(),
+            context_name: of.context_name.into(),
+            list: of.bindings.into(),
+            salt,
+        };
+        done(unsafe { snmpsec_agent_notify(self.held.at(), now, &notice) })
     }
 
-    /// Counter n, 1 to 6.
-    pub fn counter(&self, n: u32) -> Option<u32> {
-        u32::try_from(unsafe { snmpsec_agent_counter(self.held.at(), n) }).ok()
+    /// The counters of refused messages.
+    pub fn counters(&self) -> Result<Counters, Error> {
+        let mut n = calls::Counters::default();
+        done(unsafe { snmpsec_agent_counters(self.held.at(), &mut n) })?;
+        Ok(Counters {
+            unsupported_levels: n.unsupported_levels,
+            not_in_windows: n.not_in_windows,
+            unknown_users: n.unknown_users,
+            unknown_engines: n.unknown_engines,
+            wrong_digests: n.wrong_digests,
+            decryption_errors: n.decryption_errors,
+        })
     }
 }

@@ -1,6 +1,6 @@
 //! Variable bindings, as octets.
 
-use crate::calls::{snmpsec_binding_read, snmpsec_binding_write};
+use crate::calls::{snmpsec_binding_read, snmpsec_binding_write, BindingRead};
 use crate::fault::{done, Error};
 use crate::held::copied;
 
@@ -18,7 +18,7 @@ pub fn binding(arcs: &[u32], tag: u8, content: &[u8]) -> Result<Vec<u8>, Error> 
         snmpsec_binding_write(
             arcs.as_ptr(),
             arcs.len(),
-            tag.into(),
+            tag,
             content.as_ptr(),
             content.len(),
             out,
@@ -28,30 +28,31 @@ pub fn binding(arcs: &[u32], tag: u8, content: &[u8]) -> Result<Vec<u8>, Error> 
     })
 }
 
+/// The binding at a place of a list, which then is the place behind it.
+fn read<'a>(list: &'a [u8], at: &mut usize) -> Result<Binding<'a>, Error> {
+    let mut one = BindingRead {
+        arcs: [0; 128],
+        arcs_len: 0,
+        tag: 0,
+        content: list.as_ptr(),
+        content_len: 0,
+    };
+    done(unsafe { snmpsec_binding_read(list.as_ptr(), list.len(), at, &mut one) })?;
+    // SAFETY: the content lies in the list.
+    let place = unsafe { one.content.offset_from(list.as_ptr()) } as usize;
+    Ok(Binding {
+        name: one.arcs[..one.arcs_len].to_vec(),
+        tag: one.tag,
+        content: &list[place..place + one.content_len],
+    })
+}
+
 /// The bindings that the octets are.
 pub fn bindings(list: &[u8]) -> Result<Vec<Binding<'_>>, Error> {
     let mut found = Vec::new();
     let mut at = 0;
     while at < list.len() {
-        let (mut arcs, mut n) = ([0; 128], [0; 5]);
-        done(unsafe {
-            snmpsec_binding_read(
-                list.as_ptr(),
-                list.len(),
-                at,
-                arcs.as_mut_ptr(),
-                arcs.len(),
-                n.as_mut_ptr(),
-                n.len(),
-            )
-        })?;
-        let [arcs_len, tag, value_at, value_len, next] = n;
-        found.push(Binding {
-            name: arcs[..arcs_len].to_vec(),
-            tag: tag as u8,
-            content: &list[value_at..value_at + value_len],
-        });
-        at = next;
+        found.push(read(list, &mut at)?);
     }
     Ok(found)
 }

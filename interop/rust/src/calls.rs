@@ -1,14 +1,111 @@
-//! The header's signatures again: `interop/signatures.py` compares them with the header.
+//! The header's signatures again: `interop/signatures.py` has the C compiler compare them with the header. An enumeration is a `u32`.
 //!
-//! Why the calls of this crate are sound: a handle is a `Held`'s, which stays in one thread and is freed once; and each pointer is that of
-//! a slice beside its length, or of a number.
+//! Why the calls of this crate are sound: a handle is a `Held`'s, which one thread uses at a time and which is freed once; and each pointer
+//! is that of a slice beside its length, or of a number or a struct.
+
+use std::ffi::{c_char, c_void};
+use std::marker::PhantomData;
 
 #[repr(C)]
 pub struct Opaque {
     _private: [u8; 0],
 }
 
+/// Octets of a slice.
+#[repr(C)]
+#[derive(Clone, Copy)]
+pub struct Octets<'a> {
+    at: *const u8,
+    len: usize,
+    _of: PhantomData<&'a [u8]>,
+}
+
+impl<'a> From<&'a [u8]> for Octets<'a> {
+    fn from(octets: &'a [u8]) -> Self {
+        Octets {
+            at: octets.as_ptr(),
+            len: octets.len(),
+            _of: PhantomData,
+        }
+    }
+}
+
+#[repr(C)]
+#[derive(Default)]
+pub struct Info {
+    pub level: i32,
+    pub pdu: i32,
+    pub request_id: i32,
+    pub error_status: i32,
+    pub error_index: i32,
+    pub message_id: i32,
+}
+
+#[repr(C)]
+#[derive(Default)]
+pub struct Counters {
+    pub unsupported_levels: u32,
+    pub not_in_windows: u32,
+    pub unknown_users: u32,
+    pub unknown_engines: u32,
+    pub wrong_digests: u32,
+    pub decryption_errors: u32,
+}
+
+#[repr(C)]
+#[derive(Default)]
+pub struct Reply {
+    pub kind: u32,
+    pub counter: i32,
+}
+
+#[repr(C)]
+#[derive(Default)]
+pub struct Clock {
+    pub boots: u32,
+    pub time: u32,
+}
+
+#[repr(C)]
+pub struct Notice<'a> {
+    pub message_id: u32,
+    pub request_id: u32,
+    pub level: u32,
+    pub user: Octets<'a>,
+    pub context_engine: Octets<'a>,
+    pub context_name: Octets<'a>,
+    pub list: Octets<'a>,
+    pub salt: u64,
+}
+
+#[repr(C)]
+pub struct Request<'a> {
+    pub pdu: u32,
+    pub message_id: u32,
+    pub request_id: u32,
+    pub error_status: u32,
+    pub error_index: u32,
+    pub level: u32,
+    pub engine: Octets<'a>,
+    pub user: Octets<'a>,
+    pub context_engine: Octets<'a>,
+    pub context_name: Octets<'a>,
+    pub list: Octets<'a>,
+    pub salt: u64,
+}
+
+#[repr(C)]
+pub struct BindingRead {
+    pub arcs: [u32; 128],
+    pub arcs_len: usize,
+    pub tag: u8,
+    pub content: *const u8,
+    pub content_len: usize,
+}
+
 extern "C" {
+    pub fn snmpsec_version() -> *const c_char;
+    pub fn snmpsec_strerror(answer: i32) -> *const c_char;
     pub fn snmpsec_agent_new(
         config: *const u8,
         config_len: usize,
@@ -21,7 +118,7 @@ extern "C" {
     pub fn snmpsec_agent_free(agent: *mut Opaque);
     pub fn snmpsec_agent_take(agent: *mut Opaque, now: u64, datagram: *const u8, len: usize)
         -> i32;
-    pub fn snmpsec_agent_numbers(agent: *mut Opaque, numbers: *mut i32, len: usize) -> i32;
+    pub fn snmpsec_agent_info(agent: *mut Opaque, out: *mut Info) -> i32;
     pub fn snmpsec_agent_part(
         agent: *mut Opaque,
         part: u32,
@@ -35,45 +132,34 @@ extern "C" {
         len: usize,
         written: *mut usize,
     ) -> i32;
-    pub fn snmpsec_agent_allows(agent: *mut Opaque, view: u32, arcs: *const u32, len: usize)
-        -> i32;
-    pub fn snmpsec_agent_may(
+    pub fn snmpsec_agent_access(
         agent: *mut Opaque,
-        user: *const u8,
-        user_len: usize,
-        level: u32,
-        context: *const u8,
-        context_len: usize,
         view: u32,
         arcs: *const u32,
         len: usize,
+        out: *mut u32,
+    ) -> i32;
+    pub fn snmpsec_agent_user_access(
+        agent: *mut Opaque,
+        user: Octets<'_>,
+        level: u32,
+        context: Octets<'_>,
+        view: u32,
+        arcs: *const u32,
+        len: usize,
+        out: *mut u32,
     ) -> i32;
     pub fn snmpsec_agent_respond(
         agent: *mut Opaque,
         now: u64,
-        status: u32,
-        index: u32,
+        error_status: u32,
+        error_index: u32,
         list: *const u8,
         len: usize,
         salt: u64,
     ) -> i32;
-    pub fn snmpsec_agent_notify(
-        agent: *mut Opaque,
-        now: u64,
-        id: u32,
-        user: *const u8,
-        user_len: usize,
-        level: u32,
-        request_id: u32,
-        context_engine: *const u8,
-        context_engine_len: usize,
-        context_name: *const u8,
-        context_name_len: usize,
-        list: *const u8,
-        list_len: usize,
-        salt: u64,
-    ) -> i32;
-    pub fn snmpsec_agent_counter(agent: *mut Opaque, n: u32) -> i64;
+    pub fn snmpsec_agent_notify(agent: *mut Opaque, now: u64, notice: *const Notice<'_>) -> i32;
+    pub fn snmpsec_agent_counters(agent: *mut Opaque, out: *mut Counters) -> i32;
     pub fn snmpsec_manager_new(
         config: *const u8,
         config_len: usize,
@@ -89,7 +175,7 @@ extern "C" {
         datagram: *const u8,
         len: usize,
     ) -> i32;
-    pub fn snmpsec_manager_numbers(manager: *mut Opaque, numbers: *mut i32, len: usize) -> i32;
+    pub fn snmpsec_manager_info(manager: *mut Opaque, out: *mut Info) -> i32;
     pub fn snmpsec_manager_part(
         manager: *mut Opaque,
         part: u32,
@@ -103,28 +189,12 @@ extern "C" {
         len: usize,
         written: *mut usize,
     ) -> i32;
-    pub fn snmpsec_manager_answer(manager: *mut Opaque) -> i32;
-    pub fn snmpsec_manager_discover(manager: *mut Opaque, id: u32) -> i32;
+    pub fn snmpsec_manager_reply(manager: *mut Opaque, out: *mut Reply) -> i32;
+    pub fn snmpsec_manager_discover(manager: *mut Opaque, message_id: u32) -> i32;
     pub fn snmpsec_manager_request(
         manager: *mut Opaque,
         now: u64,
-        id: u32,
-        engine: *const u8,
-        engine_len: usize,
-        user: *const u8,
-        user_len: usize,
-        level: u32,
-        context_engine: *const u8,
-        context_engine_len: usize,
-        context_name: *const u8,
-        context_name_len: usize,
-        tag: u32,
-        request_id: u32,
-        second: u32,
-        third: u32,
-        list: *const u8,
-        list_len: usize,
-        salt: u64,
+        request: *const Request<'_>,
     ) -> i32;
     pub fn snmpsec_manager_absorb(
         manager: *mut Opaque,
@@ -132,27 +202,28 @@ extern "C" {
         len: usize,
         now: u64,
     ) -> i32;
-    pub fn snmpsec_manager_save(manager: *mut Opaque) -> i32;
-    pub fn snmpsec_manager_pair(
+    pub fn snmpsec_manager_save(
+        manager: *mut Opaque,
+        out: *mut u8,
+        len: usize,
+        written: *mut usize,
+    ) -> i32;
+    pub fn snmpsec_manager_clock(
         manager: *mut Opaque,
         engine: *const u8,
         engine_len: usize,
-        boots: *mut u32,
-        time: *mut u32,
+        out: *mut Clock,
     ) -> i32;
     pub fn snmpsec_binding_read(
         list: *const u8,
         list_len: usize,
-        at: usize,
-        arcs: *mut u32,
-        arcs_len: usize,
-        numbers: *mut usize,
-        numbers_len: usize,
+        at: *mut usize,
+        out: *mut BindingRead,
     ) -> i32;
     pub fn snmpsec_binding_write(
         arcs: *const u32,
         arcs_len: usize,
-        tag: u32,
+        tag: u8,
         content: *const u8,
         content_len: usize,
         out: *mut u8,
@@ -210,4 +281,5 @@ extern "C" {
         text: *mut u8,
         text_len: usize,
     ) -> i32;
+    pub fn snmpsec_wipe(octets: *mut c_void, octets_len: usize);
 }

@@ -1,5 +1,7 @@
 //! Why a call isn't done.
 
+use crate::calls::snmpsec_strerror;
+use std::ffi::CStr;
 use std::fmt;
 
 /// Why a message is refused that was taken, or that was to be written.
@@ -50,33 +52,17 @@ impl Refusal {
             .into_iter()
             .find(|refusal| *refusal as i32 == number)
     }
+}
 
-    fn words(self) -> &'static str {
-        match self {
-            Refusal::NotMessage => "it is no SNMPv3 message",
-            Refusal::BadVersion => "its version isn't 3",
-            Refusal::NotSecurity => "its security parameters can't be read",
-            Refusal::NotScoped => "its data isn't what its flags say",
-            Refusal::UnknownEngine => "its engine ID isn't known",
-            Refusal::UnknownUser => "its user isn't known",
-            Refusal::UnsupportedLevel => "the user has no key for the level",
-            Refusal::WrongDigest => "its digest is wrong",
-            Refusal::NotInWindow => "it isn't in the time window",
-            Refusal::DecryptionError => "it can't be decrypted",
-            Refusal::BadScoped => "what was decrypted is no scoped PDU",
-            Refusal::BadPdu => "its PDU can't be read",
-            Refusal::OutOfMemory => "there is no memory",
-            Refusal::ClockExhausted => "the engine's boots or time can't grow",
-            Refusal::TooLarge => "it is too large",
-            Refusal::UnknownModel => "its security model isn't the user-based one",
-            Refusal::InvalidFlags => "its flags ask for privacy without authentication",
-        }
-    }
+/// What the library says of an answer.
+fn words(answer: i32) -> &'static str {
+    let words = unsafe { CStr::from_ptr(snmpsec_strerror(answer)) };
+    words.to_str().unwrap_or("unknown answer")
 }
 
 impl fmt::Display for Refusal {
     fn fmt(&self, f: &mut fmt::Formatter<'_>) -> fmt::Result {
-        write!(f, "refused: {}", self.words())
+        f.write_str(words(*self as i32))
     }
 }
 
@@ -101,21 +87,33 @@ pub enum Error {
     Other(i32),
 }
 
-impl fmt::Display for Error {
-    fn fmt(&self, f: &mut fmt::Formatter<'_>) -> fmt::Result {
+impl Error {
+    fn answer(&self) -> i32 {
         match self {
-            Error::Refused(refusal) => refusal.fmt(f),
-            Error::BadArgument => f.write_str("an argument is outside of its range"),
-            Error::NothingTaken => f.write_str("there is no such message"),
-            Error::NotAsked => f.write_str("the message doesn't ask for a Response"),
-            Error::BadBindings => f.write_str("the octets aren't variable bindings"),
-            Error::ShortBuffer => f.write_str("the buffer is too short"),
-            Error::BadConfiguration => f.write_str("the text is no configuration"),
-            Error::BadClocks => f.write_str("the text saves no clocks"),
-            Error::Other(number) => write!(f, "the library answered {number}"),
+            Error::Refused(refusal) => *refusal as i32,
+            Error::BadArgument => -1,
+            Error::NothingTaken => -2,
+            Error::NotAsked => -3,
+            Error::BadBindings => -4,
+            Error::ShortBuffer => -5,
+            Error::BadConfiguration => -6,
+            Error::BadClocks => -7,
+            Error::Other(answer) => *answer,
         }
     }
 }
+
+impl fmt::Display for Error {
+    fn fmt(&self, f: &mut fmt::Formatter<'_>) -> fmt::Result {
+        match self {
+            Error::Refused(refusal) => write!(f, "refused: {refusal}"),
+            Error::Other(answer) => write!(f, "the library answered {answer}"),
+            known => f.write_str(words(known.answer())),
+        }
+    }
+}
+
+impl std::error::Error for Refusal {}
 
 impl std::error::Error for Error {}
 
@@ -132,12 +130,4 @@ pub(crate) fn done(answer: i32) -> Result<(), Error> {
         -7 => Error::BadClocks,
         _ => Refusal::of(answer).map_or(Error::Other(answer), Error::Refused),
     })
-}
-
-/// What a call answers that has numbers of its own from 0 on, which `of` reads.
-pub(crate) fn told<T>(answer: i32, of: impl FnOnce(i32) -> Option<T>) -> Result<T, Error> {
-    if answer < 0 {
-        done(answer)?;
-    }
-    of(answer).ok_or(Error::Other(answer))
 }

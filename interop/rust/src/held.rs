@@ -1,8 +1,8 @@
 //! What an agent and a manager have in common: a handle, what was taken and the message to be sent.
 
-use crate::calls::Opaque;
+use crate::calls::{self, Opaque};
 use crate::fault::{done, Error};
-use crate::words::{Level, Numbers, Part};
+use crate::words::{Info, Level, Part};
 use crate::LARGEST;
 use std::ptr::{null_mut, NonNull};
 
@@ -10,16 +10,20 @@ use std::ptr::{null_mut, NonNull};
 pub struct Calls {
     pub free: unsafe extern "C" fn(*mut Opaque),
     pub take: unsafe extern "C" fn(*mut Opaque, u64, *const u8, usize) -> i32,
-    pub numbers: unsafe extern "C" fn(*mut Opaque, *mut i32, usize) -> i32,
+    pub info: unsafe extern "C" fn(*mut Opaque, *mut calls::Info) -> i32,
     pub part: unsafe extern "C" fn(*mut Opaque, u32, *mut u8, usize, *mut usize) -> i32,
     pub message: unsafe extern "C" fn(*mut Opaque, *mut u8, usize, *mut usize) -> i32,
 }
 
-/// A handle of one thread, which frees it.
+/// A handle, which is freed with it. It goes from thread to thread, and one uses it at a time: so it is `Send` and not `Sync`.
 pub struct Held {
     at: NonNull<Opaque>,
     calls: &'static Calls,
 }
+
+// SAFETY: the library has no data but the handle's and the heap's (malloc, which threads share): it keeps nothing of the thread that made
+// the handle. `interop/test.sh` looks for races between handles.
+unsafe impl Send for Held {}
 
 /// The octets that a call writes. There is room for a datagram, and where more is wanted, as for a saved text, the call is made again.
 pub fn copied(call: impl Fn(*mut u8, usize, *mut usize) -> i32) -> Result<Vec<u8>, Error> {
@@ -54,18 +58,16 @@ impl Held {
         done(unsafe { (self.calls.take)(self.at(), now, datagram.as_ptr(), datagram.len()) })
     }
 
-    pub fn numbers(&self) -> Result<Numbers, Error> {
-        let mut n = [0; 6];
-        done(unsafe { (self.calls.numbers)(self.at(), n.as_mut_ptr(), n.len()) })?;
-        let [level, tag, request_id, second, third, message_id] = n;
-        let level = Level::of(level).ok_or(Error::Other(level))?;
-        Ok(Numbers {
-            level,
-            tag,
-            request_id,
-            second,
-            third,
-            message_id,
+    pub fn info(&self) -> Result<Info, Error> {
+        let mut info = calls::Info::default();
+        done(unsafe { (self.calls.info)(self.at(), &mut info) })?;
+        Ok(Info {
+            level: Level::of(info.level).ok_or(Error::Other(info.level))?,
+            pdu: info.pdu,
+            request_id: info.request_id,
+            error_status: info.error_status,
+            error_index: info.error_index,
+            message_id: info.message_id,
         })
     }
 

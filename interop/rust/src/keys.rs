@@ -1,7 +1,7 @@
-//! Keys, codes and sealed texts, for programs that spell messages themselves. Nothing is kept, and nothing wipes a key that is given back.
+//! Keys, codes and sealed texts, for programs that spell messages themselves. Nothing is kept, and whoever is given a key wipes it.
 
 use crate::calls::{
-    snmpsec_localise, snmpsec_mac, snmpsec_open, snmpsec_password_key, snmpsec_seal,
+    snmpsec_localise, snmpsec_mac, snmpsec_open, snmpsec_password_key, snmpsec_seal, snmpsec_wipe,
 };
 use crate::fault::{done, Error};
 use crate::LARGEST_KEY;
@@ -21,8 +21,15 @@ pub enum Protocol {
 fn written(call: impl FnOnce(*mut u8, usize, *mut usize) -> i32) -> Result<Vec<u8>, Error> {
     let mut out = [0; LARGEST_KEY];
     let mut len = 0;
-    done(call(out.as_mut_ptr(), out.len(), &mut len))?;
-    Ok(out[..len].to_vec())
+    let told = done(call(out.as_mut_ptr(), out.len(), &mut len));
+    let written = out[..len].to_vec();
+    wipe(&mut out);
+    told.map(|()| written)
+}
+
+/// Wipes octets, as a configuration, a password or a key, also where the compiler sees that nobody reads them again.
+pub fn wipe(octets: &mut [u8]) {
+    unsafe { snmpsec_wipe(octets.as_mut_ptr().cast(), octets.len()) }
 }
 
 /// The key of a password, the same for all engines (RFC 3414, section A.2; RFC 7860, section 5). It hashes 1,048,576 octets.

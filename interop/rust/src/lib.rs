@@ -1,18 +1,21 @@
 //! SNMPv3 user security and view access: an agent and a manager, and keys, codes and sealed texts. The calls are safe; the library behind
 //! them is proved, and this crate isn't.
 //!
-//! A method does what the call of its name in `include/snmpsec.h` does. What a call writes is the message, which `message` copies.
+//! A method does what the call of its name in `include/snmpsec.h` does. What a call writes is the message, which `message` copies. Here a
+//! manager discovers an agent; between the two there would be a socket.
 //!
-//! ```no_run
-//! use snmpsec::{Answer, Manager, Part, NO_CLOCKS};
-//! # fn exchanged(message: Vec<u8>) -> Vec<u8> { message }
-//! # fn main() -> Result<(), snmpsec::Error> {
+//! ```
+//! use snmpsec::{Agent, Error, Manager, Part, Refusal, Reply, NO_CLOCKS};
+//! # fn main() -> Result<(), Error> {
+//! let engine = b"\x80\0\x1f\x88\x04example";
+//! let mut agent = Agent::new(b"", engine, 1, 0)?;
 //! let mut manager = Manager::new(b"", NO_CLOCKS, 0)?;
 //! manager.discover(1)?;
-//! let datagram = exchanged(manager.message()?); // over a socket
-//! manager.take(0, &datagram)?;
-//! assert_eq!(manager.answer()?, Answer::Report(Some(4)));
-//! let engine = manager.part(Part::Engine)?;
+//! let refused = agent.take(0, &manager.message()?);
+//! assert_eq!(refused, Err(Error::Refused(Refusal::UnknownEngine)));
+//! manager.take(0, &agent.message()?)?; // the agent's report
+//! assert_eq!(manager.reply()?, Reply::Report(Some(4)));
+//! assert_eq!(manager.part(Part::Engine)?, engine);
 //! # Ok(())
 //! # }
 //! ```
@@ -20,16 +23,37 @@
 //! [`password_key`], [`localise`], [`mac`], [`seal`] and [`open`] do what the calls of their names do, and keep nothing: they are for
 //! programs that spell messages themselves. A message that came is checked by `take`.
 //!
-//! ```no_run
-//! use snmpsec::{localise, mac, password_key, seal, Protocol};
+//! ```
+//! use snmpsec::{localise, mac, open, password_key, seal, wipe, Protocol};
 //! # fn main() -> Result<(), snmpsec::Error> {
-//! # let (engine, boots, time, salt, front, back) = ([1; 12], 1, 2, [3; 8], b"", b"");
-//! # let mut text = *b"a scoped PDU";
-//! let key = localise(Protocol::Sha1, &password_key(Protocol::Sha1, b"maplesyrup")?, &engine)?;
-//! seal(&key[..16], boots, time, &salt, &mut text)?;
-//! let code = mac(Protocol::Sha1, &key, front, 12, back)?; // what stands before and behind the code
+//! let (boots, time, salt) = (1, 2, [3; 8]);
+//! let mut key = password_key(Protocol::Sha1, b"maplesyrup")?;
+//! let mut local = localise(Protocol::Sha1, &key, b"\x80\0\x1f\x88\x04example")?;
+//! let mut text = *b"a scoped PDU";
+//! seal(&local[..16], boots, time, &salt, &mut text)?;
+//! let code = mac(Protocol::Sha1, &local, b"what stands before", 12, &text)?; // 12 zeros stand for the code
+//! assert_eq!(code.len(), 12);
+//! open(&local[..16], boots, time, &salt, &mut text)?;
+//! assert_eq!(&text, b"a scoped PDU");
+//! wipe(&mut key);
+//! wipe(&mut local);
 //! # Ok(())
 //! # }
+//! ```
+//!
+//! Handles go to other threads, and one thread uses each at a time:
+//!
+//! ```
+//! # fn main() -> Result<(), snmpsec::Error> {
+//! let agent = snmpsec::Agent::new(b"", b"\x80\0\x1f\x88\x04example", 1, 0)?;
+//! std::thread::spawn(move || drop(agent)).join().unwrap();
+//! # Ok(())
+//! # }
+//! ```
+//!
+//! ```compile_fail,E0277
+//! fn shared<T: Sync>() {}
+//! shared::<snmpsec::Agent>();
 //! ```
 
 mod agent;
@@ -41,12 +65,18 @@ mod keys;
 mod manager;
 mod words;
 
-pub use agent::{Agent, Notification};
+pub use agent::{Agent, Counters, Notification};
 pub use bindings::{binding, bindings, Binding};
 pub use fault::{Error, Refusal};
-pub use keys::{localise, mac, open, password_key, seal, Protocol};
-pub use manager::{Answer, Manager, Pair, Request};
-pub use words::{Access, Level, Numbers, Part, View};
+pub use keys::{localise, mac, open, password_key, seal, wipe, Protocol};
+pub use manager::{Clock, Manager, Reply, Request};
+pub use words::{Access, Info, Level, Part, Pdu, View};
+
+/// The version of the library that is loaded.
+pub fn version() -> String {
+    let version = unsafe { std::ffi::CStr::from_ptr(calls::snmpsec_version()) };
+    version.to_string_lossy().into_owned()
+}
 
 /// The most octets of a datagram over UDP and IPv4.
 pub const LARGEST: usize = 65_507;

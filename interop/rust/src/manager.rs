@@ -1,51 +1,52 @@
 //! A manager.
 
 use crate::calls::{
-    snmpsec_manager_absorb, snmpsec_manager_answer, snmpsec_manager_discover, snmpsec_manager_free,
-    snmpsec_manager_message, snmpsec_manager_new, snmpsec_manager_numbers, snmpsec_manager_pair,
-    snmpsec_manager_part, snmpsec_manager_request, snmpsec_manager_save, snmpsec_manager_take,
+    self, snmpsec_manager_absorb, snmpsec_manager_clock, snmpsec_manager_discover,
+    snmpsec_manager_free, snmpsec_manager_info, snmpsec_manager_message, snmpsec_manager_new,
+    snmpsec_manager_part, snmpsec_manager_reply, snmpsec_manager_request, snmpsec_manager_save,
+    snmpsec_manager_take,
 };
-use crate::fault::{done, told, Error};
-use crate::held::{Calls, Held};
-use crate::words::{Level, Numbers, Part};
+use crate::fault::{done, Error};
+use crate::held::{copied, Calls, Held};
+use crate::words::{Info, Level, Part, Pdu};
 
 static CALLS: Calls = Calls {
     free: snmpsec_manager_free,
     take: snmpsec_manager_take,
-    numbers: snmpsec_manager_numbers,
+    info: snmpsec_manager_info,
     part: snmpsec_manager_part,
     message: snmpsec_manager_message,
 };
 
-/// A manager, of one thread.
+/// A manager, which one thread uses at a time.
 pub struct Manager {
     held: Held,
 }
 
-/// What is kept is to the request that was written last.
+/// What a message is to the request that was written last.
 #[derive(Clone, Copy, Debug, PartialEq, Eq)]
-pub enum Answer {
+pub enum Reply {
     Response,
-    NotForIt,
-    /// A Report of this counter, 1 to 6, or of none.
+    Other,
+    /// A Report of this counter, 1 to 6 by the order of [`Counters`](crate::Counters), or of none.
     Report(Option<u32>),
 }
 
-impl Answer {
-    fn of(number: i32) -> Option<Answer> {
-        match number {
-            0 => Some(Answer::Response),
-            1 => Some(Answer::NotForIt),
-            10 => Some(Answer::Report(None)),
-            11..=16 => Some(Answer::Report(Some(number as u32 - 10))),
+impl Reply {
+    fn of(reply: &calls::Reply) -> Option<Reply> {
+        match (reply.kind, reply.counter) {
+            (0, _) => Some(Reply::Response),
+            (1, _) => Some(Reply::Other),
+            (2, 0) => Some(Reply::Report(None)),
+            (2, n @ 1..=6) => Some(Reply::Report(Some(n as u32))),
             _ => None,
         }
     }
 }
 
-/// The boots and time of an engine.
+/// The boots and time of an engine, in seconds.
 #[derive(Clone, Copy, Debug, PartialEq, Eq)]
-pub struct Pair {
+pub struct Clock {
     pub boots: u32,
     pub time: u32,
 }
@@ -53,19 +54,18 @@ pub struct Pair {
 /// A request that is to be written.
 #[derive(Clone, Copy, Debug)]
 pub struct Request<'a> {
+    pub pdu: Pdu,
     pub message_id: u32,
+    pub request_id: u32,
+    /// Or non-repeaters.
+    pub error_status: u32,
+    /// Or max-repetitions.
+    pub error_index: u32,
+    pub level: Level,
     pub engine: &'a [u8],
     pub user: &'a [u8],
-    pub level: Level,
     pub context_engine: &'a [u8],
     pub context_name: &'a [u8],
-    /// The PDU's tag, A0 to A8 and not A4.
-    pub tag: u32,
-    pub request_id: u32,
-    /// error-status, or non-repeaters.
-    pub second: u32,
-    /// error-index, or max-repetitions.
-    pub third: u32,
     pub bindings: &'a [u8],
 }
 
@@ -92,8 +92,8 @@ impl Manager {
     }
 
     /// The numbers of what is kept.
-    pub fn numbers(&self) -> Result<Numbers, Error> {
-        self.held.numbers()
+    pub fn info(&self) -> Result<Info, Error> {
+        self.held.info()
     }
 
     /// A part of what is kept.
@@ -101,17 +101,16 @@ impl Manager {
         self.held.part(part)
     }
 
-    /// The request that was written last, or the saved text.
+    /// The request that was written last, where nothing was taken since.
     pub fn message(&self) -> Result<Vec<u8>, Error> {
         self.held.message()
     }
 
     /// What is kept is to the request that was written last.
-    pub fn answer(&self) -> Result<Answer, Error> {
-        told(
-            unsafe { snmpsec_manager_answer(self.held.at()) },
-            Answer::of,
-        )
+    pub fn reply(&self) -> Result<Reply, Error> {
+        let mut reply = calls::Reply::default();
+        done(unsafe { snmpsec_manager_reply(self.held.at(), &mut reply) })?;
+        Reply::of(&reply).ok_or(Error::Other(reply.counter))
     }
 
     /// Writes the request by which an engine is discovered.
@@ -121,29 +120,21 @@ impl Manager {
 
     /// Writes a request. One is waited for at a time.
     pub fn request(&mut self, now: u64, of: &Request<'_>, salt: u64) -> Result<(), Error> {
-        done(unsafe {
-            snmpsec_manager_request(
-                self.held.at(),
-                now,
-                of.message_id,
-                of.engine.as_ptr(),
-                of.engine.len(),
-                of.user.as_ptr(),
-                of.user.len(),
-                of.level as u32,
-                of.context_engine.as_ptr(),
-                of.context_engine.len(),
-                of.context_name.as_ptr(),
-                of.context_name.len(),
-                of.tag,
-                of.request_id,
-                of.second,
-                of.third,
-                of.bindings.as_ptr(),
-                of.bindings.len(),
-                salt,
-            )
-        })
+        let request = calls::Request {
+            pdu: of.pdu as u32,
+            message_id: of.message_id,
+            request_id: of.request_id,
+            error_status: of.error_status,
+            error_index: of.error_index,
+            level: of.level as u32,
+            engine: of.engine.into(),
+            user: of.user.into(),
+            context_engine: of.context_engine.into(),
+            context_name: of.context_name.into(),
+            list: of.bindings.into(),
+            salt,
+        };
+        done(unsafe { snmpsec_manager_request(self.held.at(), now, &request) })
     }
 
     /// Joins in the clocks of a saved text, where the marks of version 1 were seen at this moment.
@@ -151,23 +142,21 @@ impl Manager {
         done(unsafe { snmpsec_manager_absorb(self.held.at(), text.as_ptr(), text.len(), now) })
     }
 
-    /// Leaves the saved text of the clocks as the message.
-    pub fn save(&mut self) -> Result<(), Error> {
-        done(unsafe { snmpsec_manager_save(self.held.at()) })
+    /// The saved text of the clocks. The message stays.
+    pub fn saved(&mut self) -> Result<Vec<u8>, Error> {
+        let at = self.held.at();
+        copied(|out, len, written| unsafe { snmpsec_manager_save(at, out, len, written) })
     }
 
     /// The boots and time that are held of an engine. The errors are BadArgument for no engine ID, and NothingTaken.
-    pub fn pair(&self, engine: &[u8]) -> Result<Pair, Error> {
-        let (mut boots, mut time) = (0, 0);
+    pub fn clock(&self, engine: &[u8]) -> Result<Clock, Error> {
+        let mut clock = calls::Clock::default();
         done(unsafe {
-            snmpsec_manager_pair(
-                self.held.at(),
-                engine.as_ptr(),
-                engine.len(),
-                &mut boots,
-                &mut time,
-            )
+            snmpsec_manager_clock(self.held.at(), engine.as_ptr(), engine.len(), &mut clock)
         })?;
-        Ok(Pair { boots, time })
+        Ok(Clock {
+            boots: clock.boots,
+            time: clock.time,
+        })
     }
 }

@@ -48,7 +48,7 @@ pub enum Access {
 }
 
 impl Access {
-    pub(crate) fn of(number: i32) -> Option<Access> {
+    pub(crate) fn of(number: u32) -> Option<Access> {
         let all = [
             Access::Allowed,
             Access::NotInView,
@@ -57,7 +57,7 @@ impl Access {
             Access::NoGroupName,
             Access::NoSuchContext,
         ];
-        all.into_iter().find(|access| *access as i32 == number)
+        all.into_iter().find(|access| *access as u32 == number)
     }
 }
 
@@ -71,15 +71,33 @@ pub enum Part {
     Engine = 4,
 }
 
-/// The numbers of the message that is kept.
+/// A PDU by its tag (RFC 3416).
 #[derive(Clone, Copy, Debug, PartialEq, Eq)]
-pub struct Numbers {
+pub enum Pdu {
+    GetRequest = 0xA0,
+    GetNextRequest = 0xA1,
+    ResponsePdu = 0xA2,
+    SetRequest = 0xA3,
+    GetBulkRequest = 0xA5,
+    InformRequest = 0xA6,
+    Trap = 0xA7,
+    ReportPdu = 0xA8,
+}
+
+/// The numbers of the message that is kept. Of a GetBulkRequest the fourth and fifth are non-repeaters and max-repetitions.
+#[derive(Clone, Copy, Debug, PartialEq, Eq)]
+pub struct Info {
     pub level: Level,
-    pub tag: i32,
+    /// Its tag, as of [`Pdu`].
+    pub pdu: i32,
     pub request_id: i32,
-    /// error-status, or non-repeaters.
-    pub second: i32,
-    /// error-index, or max-repetitions.
-    pub third: i32,
+    pub error_status: i32,
+    pub error_index: i32,
     pub message_id: i32,
+}
+
+impl Info {
+    pub fn is(&self, pdu: Pdu) -> bool {
+        self.pdu == pdu as i32
+    }
 }

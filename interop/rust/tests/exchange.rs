@@ -4,8 +4,8 @@ mod common;
 
 use common::{file, ENGINE};
 use snmpsec::{
-    binding, bindings, Agent, Answer, Error, Level, Manager, Notification, Pair, Part, Refusal,
-    Request, LARGEST, NO_CLOCKS,
+    binding, bindings, Agent, Clock, Error, Level, Manager, Notification, Part, Pdu, Refusal,
+    Reply, Request, LARGEST, NO_CLOCKS,
 };
 
 const NOW: u64 = 1000;
@@ -32,24 +32,24 @@ impl Both {
     }
 
     /// What the agent's message is to the manager's request.
-    fn manager_takes(&mut self) -> Result<Answer, Error> {
+    fn manager_takes(&mut self) -> Result<Reply, Error> {
         self.manager.take(NOW, &self.agent.message()?)?;
-        self.manager.answer()
+        self.manager.reply()
     }
 
     fn ask(&mut self, message_id: u32, user: &[u8], level: Level) {
         let list = binding(&SYS_DESCR, 5, b"").unwrap();
         let of = Request {
+            pdu: Pdu::GetRequest,
             message_id,
+            request_id: message_id,
+            error_status: 0,
+            error_index: 0,
+            level,
             engine: &ENGINE,
             user,
-            level,
             context_engine: &ENGINE,
             context_name: b"",
-            tag: 0xA0,
-            request_id: message_id,
-            second: 0,
-            third: 0,
             bindings: &list,
         };
         self.manager.request(NOW, &of, message_id.into()).unwrap();
@@ -61,20 +61,20 @@ impl Both {
             self.agent_takes(),
             Err(Error::Refused(Refusal::UnknownEngine))
         );
-        assert_eq!(self.manager_takes(), Ok(Answer::Report(Some(4))));
+        assert_eq!(self.manager_takes(), Ok(Reply::Report(Some(4))));
         assert_eq!(self.manager.part(Part::Engine).unwrap(), ENGINE);
     }
 
     fn learn(&mut self) {
-        assert_eq!(self.manager.pair(&ENGINE), Err(Error::NothingTaken));
+        assert_eq!(self.manager.clock(&ENGINE), Err(Error::NothingTaken));
         assert_eq!(
             self.agent_takes(),
             Err(Error::Refused(Refusal::NotInWindow))
         );
-        assert_eq!(self.manager_takes(), Ok(Answer::Report(Some(2))));
+        assert_eq!(self.manager_takes(), Ok(Reply::Report(Some(2))));
         assert_eq!(
-            self.manager.pair(&ENGINE),
-            Ok(Pair {
+            self.manager.clock(&ENGINE),
+            Ok(Clock {
                 boots: BOOTS,
                 time: TIME
             })
@@ -84,7 +84,7 @@ impl Both {
     fn respond(&mut self) {
         let list = binding(&SYS_DESCR, 4, b"hello").unwrap();
         self.agent.respond(NOW, 0, 0, &list, 7).unwrap();
-        assert_eq!(self.manager_takes(), Ok(Answer::Response));
+        assert_eq!(self.manager_takes(), Ok(Reply::Response));
         let back = self.manager.part(Part::Bindings).unwrap();
         assert_eq!(back, list);
         assert_eq!(bindings(&back).unwrap()[0].content, b"hello");
@@ -100,12 +100,12 @@ fn exchanged(user: &[u8], level: Level) {
         both.ask(3, user, level);
     }
     assert_eq!(both.agent_takes(), Ok(()));
-    assert_eq!(both.agent.numbers().unwrap().level, level);
+    assert_eq!(both.agent.info().unwrap().level, level);
     assert_eq!(both.agent.part(Part::User).unwrap(), user);
     both.respond();
     assert_eq!(
-        both.agent.counter(2),
-        Some(u32::from(level != Level::NoAuthNoPriv))
+        both.agent.counters().unwrap().not_in_windows,
+        u32::from(level != Level::NoAuthNoPriv)
     );
 }
 
@@ -125,12 +125,14 @@ fn saved_clocks_are_joined_in() {
     both.manager
         .absorb(b"snmp-clocks 1\n0102030405 1 8\n0102030406 2 3\n", NOW)
         .unwrap();
-    both.manager.save().unwrap();
+    both.manager.discover(1).unwrap();
+    let request = both.manager.message().unwrap();
     assert_eq!(
-        both.manager.message().unwrap(),
+        both.manager.saved().unwrap(),
         b"snmp-clocks 2\n0102030405 1 9 7\n0102030406 2 3 1000\n"
     );
-    assert_eq!(both.manager.pair(b"1234"), Err(Error::BadArgument));
+    assert_eq!(both.manager.message().unwrap(), request);
+    assert_eq!(both.manager.clock(b"1234"), Err(Error::BadArgument));
     assert_eq!(both.manager.discover(1 << 31), Err(Error::BadArgument));
     assert_eq!(Manager::new(b"", b"no", NOW).err(), Some(Error::BadClocks));
 }
@@ -143,8 +145,7 @@ fn a_saved_text_may_be_longer_than_a_datagram() {
     let text = [NO_CLOCKS, engines.as_bytes()].concat();
     assert!(text.len() > LARGEST);
     let mut both = both(&text);
-    both.manager.save().unwrap();
-    assert_eq!(both.manager.message().unwrap(), text);
+    assert_eq!(both.manager.saved().unwrap(), text);
 }
 
 #[test]
@@ -163,19 +164,15 @@ fn a_trap_is_taken() {
         };
         both.agent.notify(NOW, &of, 1).unwrap();
         assert_eq!(both.manager_takes(), Err(Error::NothingTaken));
-        let numbers = both.manager.numbers().unwrap();
+        let info = both.manager.info().unwrap();
+        assert!(info.is(Pdu::Trap));
         assert_eq!(
-            (
-                numbers.tag,
-                numbers.level,
-                numbers.message_id,
-                numbers.request_id
-            ),
-            (0xA7, level, 9, 8)
+            (info.level, info.message_id, info.request_id),
+            (level, 9, 8)
         );
         assert_eq!(both.manager.part(Part::Bindings).unwrap(), list);
         assert_eq!(
-            both.manager.pair(&ENGINE).is_ok(),
+            both.manager.clock(&ENGINE).is_ok(),
             level != Level::NoAuthNoPriv
         );
     }

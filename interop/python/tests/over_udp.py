@@ -11,11 +11,11 @@ import sys
 import time
 
 import snmpsec
+from snmpsec import Level, Part, Pdu
 
-GET, RESPONSE, INFORM, REPORT = 0xA0, 0xA2, 0xA6, 0xA8
 UP_TIME, TRAP_OID, SYS_DESCR = (1, 3, 6, 1, 2, 1, 1, 3, 0), (1, 3, 6, 1, 6, 3, 1, 1, 4, 1, 0), (1, 3, 6, 1, 2, 1, 1, 1, 0)
 WARM_START = bytes.fromhex("2b0601060301010502")
-QUESTION = snmpsec.binding(SYS_DESCR, 5, b"")
+QUESTION = snmpsec.binding(SYS_DESCR, 5)
 RESTARTED = snmpsec.binding(UP_TIME, 0x43, b"\x64") + snmpsec.binding(TRAP_OID, 6, WARM_START)
 NOT_IN_WINDOWS = "report of counter 2"
 OFF_BY = [(0, 149), (0, 150), (0, 151), (-1, 0), (1, 0)]
@@ -35,37 +35,34 @@ class Asker:
         self.socket = socket.socket(socket.AF_INET, socket.SOCK_DGRAM)
         self.socket.connect(("127.0.0.1", port))
         self.socket.settimeout(2)
-        self.reader = self.manager(snmpsec.NO_CLOCKS)
+        self.reader = snmpsec.Manager(config)
         self.reader.discover(self.id)
         assert self.exchange(self.reader) == "report of counter 4"
-        self.engine = self.reader.part(snmpsec.ENGINE)
-
-    def manager(self, clocks):
-        return snmpsec.Manager(self.config, clocks, 0)
+        self.engine = self.reader.part(Part.ENGINE)
 
     def exchange(self, manager):
         """What comes back on the manager's message."""
         self.socket.send(manager.message())
         refusal = self.reader.take(0, self.socket.recv(65536))
         if refusal:
-            return f"refused {refusal}"
-        if self.reader.numbers().tag == RESPONSE:
+            return f"refused: {refusal}"
+        if self.reader.info().pdu == Pdu.RESPONSE:
             return "answered"
-        assert self.reader.numbers().tag == REPORT
-        told = f"report of counter {snmpsec.bindings(self.reader.part(snmpsec.BINDINGS))[0].name[-2]}"
+        assert self.reader.info().pdu == Pdu.REPORT
+        told = f"report of counter {snmpsec.bindings(self.reader.part(Part.BINDINGS))[0].name[-2]}"
         self.reports += told == NOT_IN_WINDOWS
         return told
 
-    def asked(self, manager, at, tag, octets):
+    def asked(self, manager, at, pdu, octets):
         """What comes back on a request that is written at a moment."""
         self.id += 1
-        manager.request(at, self.id, self.engine, self.user, self.level, self.engine, b"", tag, self.id, 0, 0, octets, salt())
+        manager.request(at, pdu, engine=self.engine, user=self.user, level=self.level, octets=octets, salt=salt(), message_id=self.id)
         return self.exchange(manager)
 
     def learned(self):
         """The engine's boots and time."""
-        self.asked(self.reader, 0, GET, QUESTION)
-        return self.reader.pair(self.engine)
+        self.asked(self.reader, 0, Pdu.GET, QUESTION)
+        return self.reader.clock(self.engine)
 
 
 def after_a_tick(asker):
@@ -82,16 +79,16 @@ def off_by(asker, holders):
     """What comes back of each request. A holder's time is the moment at which it writes."""
     for _ in range(ROUNDS):
         pair = after_a_tick(asker)
-        told = [asker.asked(holders[boots], pair[1] + seconds, GET, QUESTION) for boots, seconds in OFF_BY]
+        told = [asker.asked(holders[boots], pair.time + seconds, Pdu.GET, QUESTION) for boots, seconds in OFF_BY]
         if asker.learned() == pair:
             return told
     sys.exit("the engine's time went on in each round")
 
 
 def window(asker):
-    boots = asker.learned()[0]
+    boots = asker.learned().boots
     clocks = {off: snmpsec.NO_CLOCKS + f"{asker.engine.hex()} {boots + off} 0 0\n".encode() for off, _ in OFF_BY}
-    told = off_by(asker, {off: asker.manager(text) for off, text in clocks.items()})
+    told = off_by(asker, {off: snmpsec.Manager(asker.config, text) for off, text in clocks.items()})
     for (boots, seconds), what in zip(OFF_BY, told):
         print(f"boots {boots:+d} time {seconds:+d}: {what}")
     print(f"reports of counter 2: {asker.reports}")
@@ -99,18 +96,18 @@ def window(asker):
 
 def inform(asker):
     asker.learned()
-    print(asker.asked(asker.reader, 0, INFORM, RESTARTED))
+    print(asker.asked(asker.reader, 0, Pdu.INFORM, RESTARTED))
 
 
 def trap(config, port, user, level, engine):
     with snmpsec.Agent(config, engine, 1, 0) as agent, socket.socket(socket.AF_INET, socket.SOCK_DGRAM) as sender:
-        agent.notify(0, 1, user, level, 1, engine, b"", RESTARTED, salt())
+        agent.notify(0, user=user, level=level, octets=RESTARTED, salt=salt(), message_id=1, request_id=1, context_engine=engine)
         sender.sendto(agent.message(), ("127.0.0.1", port))
 
 
 def main():
     what, path, port, user, level = sys.argv[1:6]
-    words = pathlib.Path(path).read_bytes(), int(port), user.encode(), int(level)
+    words = pathlib.Path(path).read_bytes(), int(port), user.encode(), Level(int(level))
     if what == "trap":
         trap(*words, bytes.fromhex(sys.argv[6]))
     else:

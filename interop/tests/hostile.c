@@ -8,7 +8,7 @@
 #include <string.h>
 
 /* A manager that holds another engine's clocks. */
-static int32_t begin(snmpsec_manager **manager) {
+static int begin(snmpsec_manager **manager) {
     static const char *const clocks = SNMPSEC_NO_CLOCKS "0102030405 1 2 3\n";
     return snmpsec_manager_new(config, config_len, (const uint8_t *)clocks, strlen(clocks), NOW, manager);
 }
@@ -23,13 +23,15 @@ static snmpsec_manager *begun(void) {
 /* Each part of what is kept goes into a buffer of its length, and what it is to the request that was written is told. */
 static void look_at_kept(snmpsec_manager *manager) {
     static const uint8_t empty[MOST_OCTETS];
-    int32_t answer = snmpsec_manager_answer(manager);
-    int is_report = answer >= SNMPSEC_REPORT && answer <= SNMPSEC_REPORT + 6;
-    check("an answer to a request", 1, answer == SNMPSEC_NOT_FOR_IT || answer == SNMPSEC_RESPONSE || is_report);
-    for (uint32_t part = SNMPSEC_BINDINGS; part <= SNMPSEC_ENGINE; part++) {
+    snmpsec_reply reply = {0};
+    check("a reply to the request or none", 0, snmpsec_manager_reply(manager, &reply));
+    check("of a kind", 1, reply.kind <= SNMPSEC_REPLY_REPORT);
+    check("a counter of reports alone", 1, reply.counter >= 0 && reply.counter <= (reply.kind == SNMPSEC_REPLY_REPORT ? 6 : 0));
+    for (unsigned place = SNMPSEC_BINDINGS; place <= SNMPSEC_ENGINE; place++) {
+        snmpsec_part part = (snmpsec_part)place;
         size_t wanted = 0, written = 0;
         uint8_t *nothing = fenced(empty, 0);
-        int32_t short_of = snmpsec_manager_part(manager, part, nothing, 0, &wanted);
+        int short_of = snmpsec_manager_part(manager, part, nothing, 0, &wanted);
         check("no room for a part", wanted ? SNMPSEC_SHORT_BUFFER : SNMPSEC_OK, short_of);
         check("room for it", 0, snmpsec_manager_part(manager, part, fenced(empty, wanted), wanted, &written));
         check("all of it", (long long)wanted, (long long)written);
@@ -37,10 +39,11 @@ static void look_at_kept(snmpsec_manager *manager) {
 }
 
 static void take(snmpsec_manager *manager, const uint8_t *octets, size_t len) {
-    int32_t answer = snmpsec_manager_take(manager, NOW, fenced(octets, len), len);
+    snmpsec_reply reply;
+    int answer = snmpsec_manager_take(manager, NOW, fenced(octets, len), len);
     check("an answer of the table", 1, answer >= SNMPSEC_OK && answer <= SNMPSEC_INVALID_FLAGS);
     if (answer == SNMPSEC_OK) look_at_kept(manager);
-    else check("nothing is kept", SNMPSEC_NOTHING_TAKEN, snmpsec_manager_answer(manager));
+    else check("nothing is kept", SNMPSEC_NOTHING_TAKEN, snmpsec_manager_reply(manager, &reply));
 }
 
 static void cut_and_turned(snmpsec_manager *manager, size_t i, const struct text *before) {
@@ -73,7 +76,7 @@ static void hostile(void) {
 /* Saved texts, cut and turned: one that is refused changes nothing, and what is then saved is a text of what is held. */
 static void absorb_changed(snmpsec_manager *manager, const uint8_t *octets, size_t len) {
     struct text before = saved_of(manager);
-    int32_t answer = snmpsec_manager_absorb(manager, fenced(octets, len), len, NOW);
+    int answer = snmpsec_manager_absorb(manager, fenced(octets, len), len, NOW);
     struct text after = saved_of(manager);
     if (answer) {
         check("no clocks", SNMPSEC_BAD_CLOCKS, answer);
@@ -106,7 +109,7 @@ static void hostile_configuration(void) {
         snmpsec_manager *manager = NULL;
         snmpsec_agent *agent = NULL;
         const uint8_t *text = fenced(config, cut);
-        int32_t answer = snmpsec_manager_new(text, cut, (const uint8_t *)clocks, strlen(clocks), NOW, &manager);
+        int answer = snmpsec_manager_new(text, cut, (const uint8_t *)clocks, strlen(clocks), NOW, &manager);
         check("a manager or none", 1, answer == SNMPSEC_OK ? manager != NULL : answer == SNMPSEC_BAD_CONFIGURATION && !manager);
         check("an agent as well", answer, snmpsec_agent_new(text, cut, engine, sizeof engine, BOOTS, NOW, &agent));
         snmpsec_manager_free(manager);
@@ -114,80 +117,92 @@ static void hostile_configuration(void) {
     }
 }
 
-static int32_t take_response(snmpsec_manager *manager) {
+static int take_response(snmpsec_manager *manager) {
     enum { AUTH_PRIV_RESPONSE = 15 };
     return snmpsec_manager_take(manager, NOW, datagrams[AUTH_PRIV_RESPONSE], lengths[AUTH_PRIV_RESPONSE]);
 }
 
-static int32_t take_and_answer(snmpsec_manager *manager) {
-    int32_t answer = take_response(manager);
-    return answer ? answer : snmpsec_manager_answer(manager);
+static int take_and_reply(snmpsec_manager *manager) {
+    snmpsec_reply reply = {0};
+    int answer = take_response(manager);
+    if (!answer) answer = snmpsec_manager_reply(manager, &reply);
+    if (!answer) check("a reply to another", SNMPSEC_REPLY_OTHER, reply.kind);
+    return answer;
 }
 
-static int32_t request(snmpsec_manager *manager) {
-    static const uint8_t *const nothing = (const uint8_t *)"";
-    return snmpsec_manager_request(manager, NOW, 1, engine, sizeof engine, (const uint8_t *)"sam", 3, SNMPSEC_AUTH_PRIV, engine, sizeof engine,
-                                   nothing, 0, 0xA0, 1, 0, 0, nothing, 0, 1);
+static int request(snmpsec_manager *manager) {
+    snmpsec_request request = {.pdu = SNMPSEC_GET_REQUEST, .message_id = 1, .request_id = 1, .level = SNMPSEC_AUTH_PRIV,
+                               .engine = {engine, sizeof engine}, .user = {(const uint8_t *)"sam", 3}, .context_engine = {engine, sizeof engine},
+                               .salt = 1};
+    return snmpsec_manager_request(manager, NOW, &request);
 }
 
-static int32_t discover(snmpsec_manager *manager) { return snmpsec_manager_discover(manager, 2); }
+static int discover(snmpsec_manager *manager) { return snmpsec_manager_discover(manager, 2); }
 
-static int32_t absorb(snmpsec_manager *manager) {
+static int absorb(snmpsec_manager *manager) {
     static const char *const clocks = SNMPSEC_NO_CLOCKS "0102030405 1 9 3\n0102030406 1 2 3\n";
     return snmpsec_manager_absorb(manager, (const uint8_t *)clocks, strlen(clocks), NOW);
 }
 
-/* A call, what it answers when it is done, and whether it takes: then it may have learned, and leaves no message. */
-struct call { const char *name; int32_t (*call)(snmpsec_manager *manager); int32_t done; int takes; };
+static int nothing(snmpsec_manager *manager) { (void)manager; return SNMPSEC_OK; }
+
+static int save(snmpsec_manager *manager) {
+    uint8_t text[MOST_OCTETS];
+    size_t text_len;
+    return snmpsec_manager_save(manager, text, sizeof text, &text_len);
+}
+
+/* A call, and whether it takes: then it may have learned, and leaves no message. */
+struct call { const char *name; int (*call)(snmpsec_manager *manager); int takes; };
 
 static const struct call calls[] = {
-    {"take", take_response, SNMPSEC_OK, 1},
-    {"take and answer", take_and_answer, SNMPSEC_NOT_FOR_IT, 1},
-    {"request", request, SNMPSEC_OK, 0},
-    {"discover", discover, SNMPSEC_OK, 0},
-    {"absorb", absorb, SNMPSEC_OK, 0},
-    {"save", snmpsec_manager_save, SNMPSEC_OK, 0},
+    {"take", take_response, 1},
+    {"take and reply", take_and_reply, 1},
+    {"request", request, 0},
+    {"discover", discover, 0},
+    {"absorb", absorb, 0},
+    {"save", save, 0},
 };
 
 /* The saved text after the call, where there is memory. */
 static struct text saved_after(const struct call *call) {
     snmpsec_manager *manager = begun();
-    check(call->name, call->done, call->call(manager));
+    check(call->name, 0, call->call(manager));
     struct text text = saved_of(manager);
     snmpsec_manager_free(manager);
     return text;
 }
 
 /* The call where the Nth growth is refused; whether it was. */
-static int is_refused(const struct call *call, long n, const struct text *learned) {
+static int is_refused(const struct call *call, long n, const struct text *before, const struct text *learned) {
     snmpsec_manager *manager = begun();
-    struct text before = saved_of(manager);
+    struct text asked = message_of(manager);
     left = n;
-    int32_t answer = call->call(manager);
+    int answer = call->call(manager);
     left = -1;
-    if (answer != call->done) {
+    if (answer) {
         check(call->name, SNMPSEC_OUT_OF_MEMORY, answer);
         if (!call->takes) {
             struct text message = message_of(manager);
-            check("the message is as before", 1, is_same(&before, &message));
+            check("the message is as before", 1, is_same(&asked, &message));
         }
         struct text after = saved_of(manager);
         int may_have_learned = call->takes && is_same(learned, &after);
-        check("the clocks are as before", 1, is_same(&before, &after) || may_have_learned);
-        check("done with memory", call->done, call->call(manager));
+        check("the clocks are as before", 1, is_same(before, &after) || may_have_learned);
+        check("done with memory", 0, call->call(manager));
     }
     struct text end = saved_of(manager);
     check("the clocks are those without want", 1, is_same(learned, &end));
     left = 0;       /* freeing wants no memory, or the leak sanitizer tells */
     snmpsec_manager_free(manager);
     left = -1;
-    return answer != call->done;
+    return answer != 0;
 }
 
 static void refused_memory(const struct call *call) {
-    struct text learned = saved_after(call);
+    struct text before = saved_after(&(struct call){"nothing", nothing, 0}), learned = saved_after(call);
     long n = 0;
-    while (n < 100000 && is_refused(call, n, &learned)) n++;
+    while (n < 100000 && is_refused(call, n, &before, &learned)) n++;
     printf("%s: %ld growths of memory refused in turn\n", call->name, n);
     check("some growths", 1, n > 0);
 }
@@ -197,7 +212,7 @@ static void refused_new(void) {
     long n = 0;
     for (; n < 100000; n++) {
         left = n;
-        int32_t answer = begin(&manager);
+        int answer = begin(&manager);
         left = -1;
         if (!answer) break;
         check("new", SNMPSEC_OUT_OF_MEMORY, answer);

@@ -1,8 +1,8 @@
 # The Python module and the Rust crate: over captured datagrams, between a manager and an agent of ours, and over UDP. test.sh runs this.
-export SNMPSEC_LIBRARY=$OUT/libsnmpsec.so PYTHONDONTWRITEBYTECODE=1
+export SNMPSEC_LIBRARY=$OUT/libsnmpsec.so.0 PYTHONDONTWRITEBYTECODE=1
 
 over_udp() { # WHAT PORT USER LEVEL [ENGINE]
-    python3 "$here/python/over_udp.py" "$1" "$here/examples/agent.toml" "${@:2}" 2>&1
+    PYTHONPATH=$here/python/src python3 "$here/python/tests/over_udp.py" "$1" "$here/examples/agent.toml" "${@:2}" 2>&1
 }
 
 # The bounds of the time window (RFC 3414, section 3.2, step 7), and how many reports there were in all.
@@ -51,17 +51,27 @@ test_notifications() {
 
 test_python() {
     if ! command -v python3 > /dev/null; then echo "skipped: python3 isn't installed"; return; fi
-    check "Python" "Python: all as expected" "$(python3 "$here/python/test_snmpsec.py" "$here/../examples/replay" 2>&1)"
-    has "signatures" ", 0 differ" "$(python3 "$here/signatures.py" 2>&1)"
+    PYTHONPATH=$here/python/src python3 "$here/python/tests/test_snmpsec.py" > "$work/python.out" 2>&1
+    check "Python" 0 $?
+    grep -E '^(FAIL|ERROR|[A-Za-z.]*Error)' "$work/python.out"
+    echo "Python: $(grep '^Ran ' "$work/python.out")"
+    has "signatures" ", 0 differ" "$(python3 "$here/signatures.py" "$OUT/libsnmpsec.so.0" 2>&1 | tee "$work/signatures.out")"
+    grep -v ', 0 differ' "$work/signatures.out"
+    if command -v mypy > /dev/null; then
+        has "the types in Python" "Success" "$(cd "$work" && mypy --strict-optional "$here/python/src/snmpsec" 2>&1 | tail -1)"
+    else
+        echo "skipped: the types in Python: there is no mypy (apt-get install mypy)"
+    fi
     test_window
     test_notifications
 }
 
 test_rust() {
     if ! command -v cargo > /dev/null; then echo "skipped: cargo isn't installed"; return; fi
-    (cd "$here/rust" && RUSTFLAGS="-D warnings" SNMPSEC_OUT=$OUT cargo test --offline --target-dir "$OUT/cargo") > "$work/rust.out" 2>&1
+    (cd "$here/rust" && RUSTFLAGS="-D warnings" SNMPSEC_OUT=$OUT LD_LIBRARY_PATH=$OUT cargo test --offline --target-dir "$OUT/cargo") > "$work/rust.out" 2>&1
     check "Rust" 0 $?
     grep -E '^(test .*FAILED|error|thread)' "$work/rust.out"
+    echo "Rust: $(sed -n 's/^test result: ok. \([0-9]*\) passed.*/\1/p' "$work/rust.out" | paste -sd+ | sed 's/$/ tests/')"
 }
 
 test_python

@@ -6,7 +6,7 @@
 #include <stdio.h>
 #include <string.h>
 
-enum { GET = 0xA0, RESPONSE = 0xA2, TRAP = 0xA7, GREATEST = 2147483647, AGENT_BOOTS = 5, AGENT_TIME = 1000, STARTED = NOW - AGENT_TIME };
+enum { GREATEST = 2147483647, AGENT_BOOTS = 5, AGENT_TIME = 1000, STARTED = NOW - AGENT_TIME };
 static const uint32_t name[] = {1, 3, 6, 1, 2, 1, 1, 1, 0};
 static const size_t name_len = sizeof name / sizeof *name;
 
@@ -25,25 +25,45 @@ static void end(void) {
     snmpsec_manager_free(manager);
 }
 
-static int32_t to_agent(void) {
+static int to_agent(void) {
     struct text request = message_of(manager);
     return snmpsec_agent_take(agent, NOW, fenced(request.octets, request.len), request.len);
 }
 
-static int32_t to_manager(void) {
+static int to_manager(void) {
     uint8_t message[MOST_OCTETS];
     size_t len = 0;
     check("what is sent back", 0, snmpsec_agent_message(agent, message, sizeof message, &len));
     return snmpsec_manager_take(manager, NOW, fenced(message, len), len);
 }
 
-static void ask(const char *user, uint32_t level) {
+/* What is kept is to the request: a Report of counter n is 10 + n. */
+enum { RESPONSE = 0, OTHER = 1, REPORT = 10 };
+
+static int replied(void) {
+    snmpsec_reply reply;
+    int answer = snmpsec_manager_reply(manager, &reply);
+    if (answer) return answer;
+    if (reply.kind == SNMPSEC_REPLY_REPORT) return REPORT + reply.counter;
+    check("no counter", 0, reply.counter);
+    return reply.kind == SNMPSEC_REPLY_RESPONSE ? RESPONSE : OTHER;
+}
+
+static snmpsec_counters counters_of_agent(void) {
+    snmpsec_counters counters = {0};
+    check("counters", 0, snmpsec_agent_counters(agent, &counters));
+    return counters;
+}
+
+static void ask(const char *user, snmpsec_level level) {
     uint8_t list[64];
     size_t len = 0;
     id++;
     check("a binding", 0, snmpsec_binding_write(name, name_len, 0x05, (const uint8_t *)"", 0, list, sizeof list, &len));
-    check("request", 0, snmpsec_manager_request(manager, NOW, id, engine, sizeof engine, (const uint8_t *)user, strlen(user), level, engine,
-                                                sizeof engine, (const uint8_t *)"", 0, GET, id, 0, 0, list, len, id));
+    snmpsec_request request = {.pdu = SNMPSEC_GET_REQUEST, .message_id = id, .request_id = id, .level = level, .engine = {engine, sizeof engine},
+                               .user = {(const uint8_t *)user, strlen(user)}, .context_engine = {engine, sizeof engine}, .list = {list, len},
+                               .salt = id};
+    check("request", 0, snmpsec_manager_request(manager, NOW, &request));
 }
 
 static void discover(void) {
@@ -53,42 +73,43 @@ static void discover(void) {
     check("discover", 0, snmpsec_manager_discover(manager, id));
     check("the agent reports itself", SNMPSEC_UNKNOWN_ENGINE, to_agent());
     check("the report is taken", 0, to_manager());
-    check("it is of counter 4", SNMPSEC_REPORT + 4, snmpsec_manager_answer(manager));
+    check("it is of counter 4", REPORT + SNMPSEC_UNKNOWN_ENGINES, replied());
     check("its engine", 0, snmpsec_manager_part(manager, SNMPSEC_ENGINE, found, sizeof found, &len));
     check("the agent's", 1, len == sizeof engine && !memcmp(found, engine, len));
 }
 
 static void learn(void) {
-    uint32_t boots = 0, time = 0;
+    snmpsec_clock clock = {0};
     check("not in the window", SNMPSEC_NOT_IN_WINDOW, to_agent());
-    check("nothing is held yet", SNMPSEC_NOTHING_TAKEN, snmpsec_manager_pair(manager, engine, sizeof engine, &boots, &time));
+    check("nothing is held yet", SNMPSEC_NOTHING_TAKEN, snmpsec_manager_clock(manager, engine, sizeof engine, &clock));
     check("the report is taken", 0, to_manager());
-    check("it is of counter 2", SNMPSEC_REPORT + 2, snmpsec_manager_answer(manager));
-    check("the pair", 0, snmpsec_manager_pair(manager, engine, sizeof engine, &boots, &time));
-    check("the agent's boots", AGENT_BOOTS, boots);
-    check("the agent's time", AGENT_TIME, time);
+    check("it is of counter 2", REPORT + SNMPSEC_NOT_IN_WINDOWS, replied());
+    check("the clock", 0, snmpsec_manager_clock(manager, engine, sizeof engine, &clock));
+    check("the agent's boots", AGENT_BOOTS, clock.boots);
+    check("the agent's time", AGENT_TIME, clock.time);
 }
 
 /* Answers what the agent keeps with a text, and looks at what comes of it. */
 static void respond(void) {
     uint8_t list[64], back[64];
-    int32_t numbers[SNMPSEC_NUMBERS];
-    uint32_t arcs[16];
-    size_t places[SNMPSEC_PLACES], len = 0, back_len = 0;
+    snmpsec_info info = {0};
+    snmpsec_binding one;
+    size_t len = 0, back_len = 0, at = 0;
     check("a binding", 0, snmpsec_binding_write(name, name_len, 0x04, (const uint8_t *)"hello", 5, list, sizeof list, &len));
     check("respond", 0, snmpsec_agent_respond(agent, NOW, 0, 0, list, len, 77));
     check("the Response is taken", 0, to_manager());
-    check("it is the Response", SNMPSEC_RESPONSE, snmpsec_manager_answer(manager));
-    check("numbers", 0, snmpsec_manager_numbers(manager, numbers, SNMPSEC_NUMBERS));
-    check("its tag", RESPONSE, numbers[SNMPSEC_TAG]);
-    check("its request-id", id, numbers[SNMPSEC_REQUEST_ID]);
-    check("its msgID", id, numbers[SNMPSEC_MESSAGE_ID]);
+    check("it is the Response", RESPONSE, replied());
+    check("info", 0, snmpsec_manager_info(manager, &info));
+    check("its PDU", SNMPSEC_RESPONSE_PDU, info.pdu);
+    check("its request-id", id, info.request_id);
+    check("its msgID", id, info.message_id);
+    check("its status", 0, info.error_status);
     check("its bindings", 0, snmpsec_manager_part(manager, SNMPSEC_BINDINGS, back, sizeof back, &back_len));
     check("those that were written", 1, len == back_len && !memcmp(list, back, len));
-    check("read", 0, snmpsec_binding_read(back, back_len, 0, arcs, 16, places, SNMPSEC_PLACES));
-    check("the name", 1, places[SNMPSEC_ARCS] == name_len && !memcmp(arcs, name, sizeof name));
-    check("the value", 1, places[SNMPSEC_VALUE_TAG] == 4 && !memcmp(back + places[SNMPSEC_VALUE_AT], "hello", places[SNMPSEC_VALUE_LENGTH]));
-    check("the end", (long long)back_len, (long long)places[SNMPSEC_NEXT]);
+    check("read", 0, snmpsec_binding_read(back, back_len, &at, &one));
+    check("the name", 1, one.arcs_len == name_len && !memcmp(one.arcs, name, sizeof name));
+    check("the value", 1, one.tag == 4 && one.content_len == 5 && !memcmp(one.content, "hello", 5));
+    check("the end", (long long)back_len, (long long)at);
 }
 
 static void levels(void) {
@@ -97,28 +118,28 @@ static void levels(void) {
         for (uint32_t level = SNMPSEC_NO_AUTH_NO_PRIV; level <= SNMPSEC_AUTH_PRIV; level++) {
             begin(AGENT_BOOTS, SNMPSEC_NO_CLOCKS);
             discover();
-            ask(users[i], level);
-            if (level != SNMPSEC_NO_AUTH_NO_PRIV) { learn(); ask(users[i], level); }
+            ask(users[i], (snmpsec_level)level);
+            if (level != SNMPSEC_NO_AUTH_NO_PRIV) { learn(); ask(users[i], (snmpsec_level)level); }
             check("asked", 0, to_agent());
             respond();
-            check("counter 2", level != SNMPSEC_NO_AUTH_NO_PRIV, snmpsec_agent_counter(agent, 2));
-            check("counter 4", 1, snmpsec_agent_counter(agent, 4));
+            check("counter 2", level != SNMPSEC_NO_AUTH_NO_PRIV, counters_of_agent().not_in_windows);
+            check("counter 4", 1, counters_of_agent().unknown_engines);
             end();
         }
 }
 
 /* A request whose boots and time are off by so much from the agent's: what the agent answers, what the manager makes of the report,
  * and what that is to the request. */
-struct window { const char *name; int boots, time; int32_t agent, manager, answer; };
+struct window { const char *name; int boots, time, agent, manager, reply; };
 
 static const struct window windows[] = {
-    {"149 s behind", 0, -149, SNMPSEC_OK, SNMPSEC_OK, SNMPSEC_RESPONSE},
-    {"150 s behind", 0, -150, SNMPSEC_OK, SNMPSEC_OK, SNMPSEC_RESPONSE},
-    {"151 s behind", 0, -151, SNMPSEC_NOT_IN_WINDOW, SNMPSEC_OK, SNMPSEC_REPORT + 2},
-    {"149 s ahead", 0, 149, SNMPSEC_OK, SNMPSEC_OK, SNMPSEC_RESPONSE},
-    {"150 s ahead", 0, 150, SNMPSEC_OK, SNMPSEC_OK, SNMPSEC_RESPONSE},
+    {"149 s behind", 0, -149, SNMPSEC_OK, SNMPSEC_OK, RESPONSE},
+    {"150 s behind", 0, -150, SNMPSEC_OK, SNMPSEC_OK, RESPONSE},
+    {"151 s behind", 0, -151, SNMPSEC_NOT_IN_WINDOW, SNMPSEC_OK, REPORT + 2},
+    {"149 s ahead", 0, 149, SNMPSEC_OK, SNMPSEC_OK, RESPONSE},
+    {"150 s ahead", 0, 150, SNMPSEC_OK, SNMPSEC_OK, RESPONSE},
     {"151 s ahead", 0, 151, SNMPSEC_NOT_IN_WINDOW, SNMPSEC_NOT_IN_WINDOW, SNMPSEC_NOTHING_TAKEN},
-    {"boots one less", -1, 0, SNMPSEC_NOT_IN_WINDOW, SNMPSEC_OK, SNMPSEC_REPORT + 2},
+    {"boots one less", -1, 0, SNMPSEC_NOT_IN_WINDOW, SNMPSEC_OK, REPORT + 2},
     {"boots one more", 1, 0, SNMPSEC_NOT_IN_WINDOW, SNMPSEC_NOT_IN_WINDOW, SNMPSEC_NOTHING_TAKEN},
 };
 
@@ -134,13 +155,14 @@ static void in_window(const struct window *window) {
     begin_holding(AGENT_BOOTS, AGENT_BOOTS + window->boots, AGENT_TIME + window->time);
     ask("bob", SNMPSEC_AUTH_NO_PRIV);
     check(window->name, window->agent, to_agent());
-    check("counter 2", window->agent == SNMPSEC_NOT_IN_WINDOW, snmpsec_agent_counter(agent, 2));
+    check("counter 2", window->agent == SNMPSEC_NOT_IN_WINDOW, counters_of_agent().not_in_windows);
     if (window->agent) {
         check(window->name, window->manager, to_manager());
-        check(window->name, window->answer, snmpsec_manager_answer(manager));
+        check(window->name, window->reply, replied());
     } else respond();
-    if (window->answer == SNMPSEC_REPORT + 2) { ask("bob", SNMPSEC_AUTH_NO_PRIV); check("asked again", 0, to_agent()); respond(); }
-    for (uint32_t n = 1; n <= 6; n++) if (n != 2) check("no other counter", 0, snmpsec_agent_counter(agent, n));
+    if (window->reply == REPORT + 2) { ask("bob", SNMPSEC_AUTH_NO_PRIV); check("asked again", 0, to_agent()); respond(); }
+    snmpsec_counters n = counters_of_agent();
+    check("no other counter", 0, n.unsupported_levels + n.unknown_users + n.unknown_engines + n.wrong_digests + n.decryption_errors);
     end();
 }
 
@@ -154,21 +176,24 @@ static void last_boots(void) {
 
 static void trap(void) {
     uint8_t list[64], user[32];
-    int32_t numbers[SNMPSEC_NUMBERS];
+    snmpsec_info info = {0};
+    snmpsec_clock clock = {0};
     size_t len = 0;
-    uint32_t boots = 0, time = 0;
     begin(AGENT_BOOTS, SNMPSEC_NO_CLOCKS);
     check("a binding", 0, snmpsec_binding_write(name, name_len, 0x04, (const uint8_t *)"hello", 5, list, sizeof list, &len));
-    check("notify", 0, snmpsec_agent_notify(agent, NOW, 9, (const uint8_t *)"sam", 3, SNMPSEC_AUTH_PRIV, 8, engine, sizeof engine,
-                                            (const uint8_t *)"", 0, list, len, 1));
+    snmpsec_notice notice = {.message_id = 9, .request_id = 8, .level = SNMPSEC_AUTH_PRIV, .user = {(const uint8_t *)"sam", 3},
+                             .context_engine = {engine, sizeof engine}, .list = {list, len}, .salt = 1};
+    check("notify", 0, snmpsec_agent_notify(agent, NOW, &notice));
     check("the trap is taken", 0, to_manager());
-    check("its numbers", 0, snmpsec_manager_numbers(manager, numbers, SNMPSEC_NUMBERS));
-    check("its tag", TRAP, numbers[SNMPSEC_TAG]);
-    check("its level", SNMPSEC_AUTH_PRIV, numbers[SNMPSEC_LEVEL]);
+    check("its info", 0, snmpsec_manager_info(manager, &info));
+    check("its PDU", SNMPSEC_TRAP, info.pdu);
+    check("its level", SNMPSEC_AUTH_PRIV, info.level);
+    check("its msgID", 9, info.message_id);
+    check("its request-id", 8, info.request_id);
     check("its user", 0, snmpsec_manager_part(manager, SNMPSEC_USER, user, sizeof user, &len));
     check("sam", 1, len == 3 && !memcmp(user, "sam", 3));
-    check("the pair is learned", 0, snmpsec_manager_pair(manager, engine, sizeof engine, &boots, &time));
-    check("its boots", AGENT_BOOTS, boots);
+    check("the clock is learned", 0, snmpsec_manager_clock(manager, engine, sizeof engine, &clock));
+    check("its boots", AGENT_BOOTS, clock.boots);
     end();
 }
 

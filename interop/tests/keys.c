@@ -15,7 +15,7 @@ static void same(const char *name, const char *hex, const uint8_t *found, size_t
 
 /* Of the password `maplesyrup` the key, and that key localised to the engine 00..02 (RFC 3414, sections A.3.1 and A.3.2; the third row by
  * Python's hashlib); and the code of `Hi There` under octets 0b (RFC 2202, sections 2 and 3; RFC 4231, section 4.2). */
-static const struct { uint32_t protocol; size_t size, code_size, key_size; const char *key, *localised, *code; } vectors[] = {
+static const struct { snmpsec_protocol protocol; size_t size, code_size, key_size; const char *key, *localised, *code; } vectors[] = {
     {SNMPSEC_MD5, 16, 12, 16, "9faf3283884e92834ebc9847d8edd963", "526f5eed9fcce26f8964c2930787d82b", "9294727a3638bb1c13f48ef8"},
     {SNMPSEC_SHA1, 20, 12, 20, "9fb5cc0381497b3793528939ff788d5d79145211", "6695febc9288e36282235fc7151f128497b38f3f", "b617318655057264e28bc0b6"},
     {SNMPSEC_SHA256, 32, 24, 20, "ab51014d1e077f6017df2b12bee5f5aa72993177e9bb569c4dff5a4ca0b4afac",
@@ -29,7 +29,7 @@ static void derived(void) {
     static const uint8_t of_rfc[12] = {0, 0, 0, 0, 0, 0, 0, 0, 0, 0, 0, 2};
     for (size_t i = 0; i < sizeof vectors / sizeof *vectors; i++) {
         uint8_t key[SNMPSEC_LARGEST_KEY + 1], local[SNMPSEC_LARGEST_KEY + 1], code[SNMPSEC_LARGEST_CODE + 1], by[32];
-        uint32_t protocol = vectors[i].protocol;
+        snmpsec_protocol protocol = vectors[i].protocol;
         size_t size = vectors[i].size, code_size = vectors[i].code_size, written = 99;
         memset(key, 0xaa, sizeof key);
         memset(local, 0xaa, sizeof local);
@@ -54,7 +54,7 @@ static void derived(void) {
 }
 
 static void no_keys(void) {
-    static const uint32_t none[] = {0, 1, 4, 6, 0x10002};
+    static const snmpsec_protocol none[] = {(snmpsec_protocol)0, (snmpsec_protocol)1, (snmpsec_protocol)4, (snmpsec_protocol)6, (snmpsec_protocol)0x10002};
     uint8_t octets[40] = {1}, out[32];
     size_t written = 99;
     memset(out, 0xaa, sizeof out);
@@ -69,6 +69,9 @@ static void no_keys(void) {
     check("long engine ID", SNMPSEC_BAD_ARGUMENT, snmpsec_localise(SNMPSEC_MD5, octets, 16, octets, 33, out, sizeof out, &written));
     check("code by a long key", SNMPSEC_BAD_ARGUMENT, snmpsec_mac(SNMPSEC_MD5, octets, 33, octets, 1, 0, octets, 1, out, sizeof out, &written));
     check("25 zeros", SNMPSEC_BAD_ARGUMENT, snmpsec_mac(SNMPSEC_SHA256, octets, 32, octets, 1, 25, octets, 1, out, sizeof out, &written));
+    check("a key for nobody", SNMPSEC_BAD_ARGUMENT, snmpsec_password_key(SNMPSEC_MD5, password, PASSWORD, out, sizeof out, NULL));
+    check("localised for nobody", SNMPSEC_BAD_ARGUMENT, snmpsec_localise(SNMPSEC_MD5, octets, 16, engine, sizeof engine, out, sizeof out, NULL));
+    check("a code for nobody", SNMPSEC_BAD_ARGUMENT, snmpsec_mac(SNMPSEC_MD5, octets, 16, NULL, 0, 0, NULL, 0, out, sizeof out, NULL));
     check("an argument before the room", SNMPSEC_BAD_ARGUMENT, snmpsec_password_key(SNMPSEC_MD5, password, 7, out, 0, &written));
     check("nothing is counted", 99, (long long)written);
     for (size_t i = 0; i < sizeof out; i++) check("nothing is written", 0xaa, out[i]);
@@ -105,7 +108,7 @@ static void sealed(void) {
 
 /* A captured datagram of this user: its code is made again, and what it has sealed is opened and sealed again. */
 enum { OF_ANOTHER, WRONG_CODE, CODED, SEALED };
-static int made_again(const char *user, uint32_t protocol, uint8_t code_size, const uint8_t *w, size_t len) {
+static int made_again(const char *user, snmpsec_protocol protocol, uint8_t code_size, const uint8_t *w, size_t len) {
     uint8_t before[] = {2, 1, BOOTS, 2, 1, TIME, 4, 3, (uint8_t)user[0], (uint8_t)user[1], (uint8_t)user[2], 4, code_size};
     uint8_t key[SNMPSEC_LARGEST_KEY], local[SNMPSEC_LARGEST_KEY], code[SNMPSEC_LARGEST_CODE], text[256];
     size_t at = 0, size, written;
@@ -131,7 +134,7 @@ static int made_again(const char *user, uint32_t protocol, uint8_t code_size, co
 }
 
 static void captured(void) {
-    static const struct { const char *name; uint32_t protocol; uint8_t code_size; } users[] = {{"ann", SNMPSEC_MD5, 12}, {"bob", SNMPSEC_SHA1, 12}, {"sam", SNMPSEC_SHA256, 24}};
+    static const struct { const char *name; snmpsec_protocol protocol; uint8_t code_size; } users[] = {{"ann", SNMPSEC_MD5, 12}, {"bob", SNMPSEC_SHA1, 12}, {"sam", SNMPSEC_SHA256, 24}};
     long made[SEALED + 1] = {0};
     for (size_t i = 0; i < datagrams_len; i++)
         for (size_t u = 0; u < sizeof users / sizeof *users; u++) made[made_again(users[u].name, users[u].protocol, users[u].code_size, datagrams[i], lengths[i])]++;

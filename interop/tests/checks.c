@@ -1,5 +1,6 @@
+#define _GNU_SOURCE
 #include "checks.h"
-#include "table.h"
+#include "words_of.h"
 #include <stdio.h>
 #include <stdlib.h>
 #include <string.h>
@@ -56,9 +57,9 @@ static void read_log(const char *path) {
     char line[2 * MOST_OCTETS + 64], hex[2 * MOST_OCTETS + 1];
     FILE *file = opened(path);
     for (; datagrams_len < MOST_DATAGRAMS && fgets(line, sizeof line, file); datagrams_len++) {
-        long len = sscanf(line, "%*s %4096s", hex) == 1 ? octets_of(hex, datagrams[datagrams_len], MOST_OCTETS) : -1;
-        if (len < 0) { fprintf(stderr, "%s: line %zu\n", path, datagrams_len + 1); exit(2); }
-        lengths[datagrams_len] = (size_t)len;
+        if (sscanf(line, "%*s %4096s", hex) == 1 && !octets_of(hex, 0, MOST_OCTETS, datagrams[datagrams_len], &lengths[datagrams_len])) continue;
+        fprintf(stderr, "%s: line %zu\n", path, datagrams_len + 1);
+        exit(2);
     }
     fclose(file);
 }
@@ -78,8 +79,9 @@ struct text message_of(snmpsec_manager *manager) {
 }
 
 struct text saved_of(snmpsec_manager *manager) {
-    check("save", 0, snmpsec_manager_save(manager));
-    return message_of(manager);
+    struct text text = {.len = 0};
+    check("save", 0, snmpsec_manager_save(manager, text.octets, sizeof text.octets, &text.len));
+    return text;
 }
 
 int is_same(const struct text *a, const struct text *b) { return a->len == b->len && !memcmp(a->octets, b->octets, a->len); }

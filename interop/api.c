@@ -1,0 +1,282 @@
+/* The header's calls over the archive's: names, structs, null pointers, and the stack wiped after each call that sees a key. Not proved. */
+#define _GNU_SOURCE
+#include "snmpsec.h"
+#include "inside.h"
+#include "proved.h"
+#include <string.h>
+
+static const uint8_t no_octets[16];
+static uint8_t no_room[16];
+static const uint32_t no_arcs[1];
+
+/* A slice is never null, though its length be 0. */
+static const uint8_t *in(const uint8_t *at, size_t len) { return len ? at : no_octets; }
+static uint8_t *room(uint8_t *at, size_t len) { return len ? at : no_room; }
+static const uint32_t *name(const uint32_t *at, size_t len) { return len ? at : no_arcs; }
+
+/* After a call that sees a key. */
+static int done(int32_t answer) {
+    snmpsec_inside_wipe_stack();
+    return answer;
+}
+
+/* After one that read a configuration. */
+static int done_deep(int32_t answer) {
+    snmpsec_inside_wipe_deep_stack();
+    return answer;
+}
+
+int snmpsec_agent_new(const uint8_t *config, size_t config_len, const uint8_t *engine, size_t engine_len, uint32_t boots, uint64_t started,
+                      snmpsec_agent **out) {
+    void *handle = NULL;
+    if (!out) return SNMPSEC_BAD_ARGUMENT;
+    *out = NULL;
+    int answer = done_deep(proved_agent_new(in(config, config_len), config_len, in(engine, engine_len), engine_len, boots, started, &handle));
+    if (!answer) *out = handle;
+    return answer;
+}
+
+void snmpsec_agent_free(snmpsec_agent *agent) {
+    if (agent) snmpsec_inside_free_handle(agent, proved_agent_clear);
+}
+
+int snmpsec_agent_take(snmpsec_agent *agent, uint64_t now, const uint8_t *datagram, size_t datagram_len) {
+    return agent ? done(proved_agent_take(agent, now, in(datagram, datagram_len), datagram_len)) : SNMPSEC_BAD_ARGUMENT;
+}
+
+_Static_assert(sizeof(snmpsec_info) == 6 * sizeof(int32_t), "the numbers of a message lie one after another");
+
+int snmpsec_agent_info(snmpsec_agent *agent, snmpsec_info *out) {
+    return agent && out ? proved_agent_numbers(agent, (int32_t *)out, 6) : SNMPSEC_BAD_ARGUMENT;
+}
+
+int snmpsec_agent_part(snmpsec_agent *agent, snmpsec_part part, uint8_t *out, size_t out_len, size_t *written) {
+    return agent && written ? proved_agent_part(agent, part, room(out, out_len), out_len, written) : SNMPSEC_BAD_ARGUMENT;
+}
+
+int snmpsec_agent_message(snmpsec_agent *agent, uint8_t *out, size_t out_len, size_t *written) {
+    return agent && written ? proved_agent_message(agent, room(out, out_len), out_len, written) : SNMPSEC_BAD_ARGUMENT;
+}
+
+static int told_access(int32_t answer, snmpsec_access *out) {
+    if (answer < 0) return answer;
+    *out = (snmpsec_access)answer;
+    return SNMPSEC_OK;
+}
+
+int snmpsec_agent_access(snmpsec_agent *agent, snmpsec_view view, const uint32_t *arcs, size_t arcs_len, snmpsec_access *out) {
+    return agent && out ? told_access(proved_agent_allows(agent, view, name(arcs, arcs_len), arcs_len), out) : SNMPSEC_BAD_ARGUMENT;
+}
+
+bool snmpsec_agent_allows(snmpsec_agent *agent, snmpsec_view view, const uint32_t *arcs, size_t arcs_len) {
+    snmpsec_access access;
+    return snmpsec_agent_access(agent, view, arcs, arcs_len, &access) == SNMPSEC_OK && access == SNMPSEC_ACCESS_ALLOWED;
+}
+
+int snmpsec_agent_user_access(snmpsec_agent *agent, snmpsec_octets user, snmpsec_level level, snmpsec_octets context, snmpsec_view view,
+                              const uint32_t *arcs, size_t arcs_len, snmpsec_access *out) {
+    if (!agent || !out) return SNMPSEC_BAD_ARGUMENT;
+    return told_access(proved_agent_may(agent, in(user.at, user.len), user.len, level, in(context.at, context.len), context.len, view,
+                                        name(arcs, arcs_len), arcs_len), out);
+}
+
+bool snmpsec_agent_user_allows(snmpsec_agent *agent, snmpsec_octets user, snmpsec_level level, snmpsec_octets context, snmpsec_view view,
+                               const uint32_t *arcs, size_t arcs_len) {
+    snmpsec_access access;
+    return snmpsec_agent_user_access(agent, user, level, context, view, arcs, arcs_len, &access) == SNMPSEC_OK && access == SNMPSEC_ACCESS_ALLOWED;
+}
+
+int snmpsec_agent_respond(snmpsec_agent *agent, uint64_t now, uint32_t error_status, uint32_t error_index, const uint8_t *list, size_t list_len,
+                          uint64_t salt) {
+    return agent ? done(proved_agent_respond(agent, now, error_status, error_index, in(list, list_len), list_len, salt)) : SNMPSEC_BAD_ARGUMENT;
+}
+
+int snmpsec_agent_notify(snmpsec_agent *agent, uint64_t now, const snmpsec_notice *n) {
+    if (!agent || !n) return SNMPSEC_BAD_ARGUMENT;
+    return done(proved_agent_notify(agent, now, n->message_id, in(n->user.at, n->user.len), n->user.len, n->level, n->request_id,
+                                    in(n->context_engine.at, n->context_engine.len), n->context_engine.len,
+                                    in(n->context_name.at, n->context_name.len), n->context_name.len, in(n->list.at, n->list.len), n->list.len,
+                                    n->salt));
+}
+
+int snmpsec_agent_counters(snmpsec_agent *agent, snmpsec_counters *out) {
+    uint32_t n[6];
+    if (!agent || !out) return SNMPSEC_BAD_ARGUMENT;
+    for (uint32_t i = 0; i < 6; i++) n[i] = (uint32_t)proved_agent_counter(agent, i + 1);
+    *out = (snmpsec_counters){n[0], n[1], n[2], n[3], n[4], n[5]};
+    return SNMPSEC_OK;
+}
+
+/* The archive's manager has one message: a request, or the saved text. A request that was there when the clocks were saved is kept beside it,
+ * so that it may still be fetched. */
+struct snmpsec_manager {
+    void *held;
+    /* the held message is a saved text, and in its place stands this one, or none where it is NULL */
+    bool is_saved;
+    uint8_t *kept;
+    size_t kept_len;
+};
+
+/* The held message is the manager's own again. */
+static void forget_kept(snmpsec_manager *manager) {
+    snmpsec_inside_free_block(manager->kept);
+    manager->kept = NULL;
+    manager->is_saved = false;
+}
+
+int snmpsec_manager_new(const uint8_t *config, size_t config_len, const uint8_t *clocks, size_t clocks_len, uint64_t now, snmpsec_manager **out) {
+    if (!out) return SNMPSEC_BAD_ARGUMENT;
+    *out = NULL;
+    snmpsec_manager *manager = snmpsec_inside_block(sizeof *manager);
+    if (!manager) return SNMPSEC_OUT_OF_MEMORY;
+    *manager = (snmpsec_manager){0};
+    int answer = done_deep(proved_manager_new(in(config, config_len), config_len, in(clocks, clocks_len), clocks_len, now, &manager->held));
+    if (!answer) *out = manager;
+    else snmpsec_inside_free_block(manager);
+    return answer;
+}
+
+void snmpsec_manager_free(snmpsec_manager *manager) {
+    if (!manager) return;
+    forget_kept(manager);
+    snmpsec_inside_free_handle(manager->held, proved_manager_clear);
+    snmpsec_inside_free_block(manager);
+}
+
+int snmpsec_manager_take(snmpsec_manager *manager, uint64_t now, const uint8_t *datagram, size_t datagram_len) {
+    if (!manager) return SNMPSEC_BAD_ARGUMENT;
+    forget_kept(manager);
+    return done(proved_manager_take(manager->held, now, in(datagram, datagram_len), datagram_len));
+}
+
+int snmpsec_manager_info(snmpsec_manager *manager, snmpsec_info *out) {
+    return manager && out ? proved_manager_numbers(manager->held, (int32_t *)out, 6) : SNMPSEC_BAD_ARGUMENT;
+}
+
+int snmpsec_manager_part(snmpsec_manager *manager, snmpsec_part part, uint8_t *out, size_t out_len, size_t *written) {
+    return manager && written ? proved_manager_part(manager->held, part, room(out, out_len), out_len, written) : SNMPSEC_BAD_ARGUMENT;
+}
+
+static int kept_message(const snmpsec_manager *manager, uint8_t *out, size_t out_len, size_t *written) {
+    if (!manager->kept) return SNMPSEC_NOTHING_TAKEN;
+    *written = manager->kept_len;
+    if (out_len < manager->kept_len) return SNMPSEC_SHORT_BUFFER;
+    memcpy(out, manager->kept, manager->kept_len);
+    return SNMPSEC_OK;
+}
+
+int snmpsec_manager_message(snmpsec_manager *manager, uint8_t *out, size_t out_len, size_t *written) {
+    if (!manager || !written) return SNMPSEC_BAD_ARGUMENT;
+    if (manager->is_saved) return kept_message(manager, out, out_len, written);
+    return proved_manager_message(manager->held, room(out, out_len), out_len, written);
+}
+
+int snmpsec_manager_reply(snmpsec_manager *manager, snmpsec_reply *out) {
+    if (!manager || !out) return SNMPSEC_BAD_ARGUMENT;
+    int32_t answer = proved_manager_answer(manager->held);
+    if (answer < 0) return answer;
+    out->kind = answer >= 10 ? SNMPSEC_REPLY_REPORT : (snmpsec_reply_kind)answer;
+    out->counter = answer >= 10 ? answer - 10 : 0;
+    return SNMPSEC_OK;
+}
+
+/* A call that writes a request: where it is done the held message is the request. */
+static int written_request(snmpsec_manager *manager, int32_t answer) {
+    if (!answer) forget_kept(manager);
+    return done(answer);
+}
+
+int snmpsec_manager_discover(snmpsec_manager *manager, uint32_t message_id) {
+    return manager ? written_request(manager, proved_manager_discover(manager->held, message_id)) : SNMPSEC_BAD_ARGUMENT;
+}
+
+int snmpsec_manager_request(snmpsec_manager *manager, uint64_t now, const snmpsec_request *r) {
+    if (!manager || !r) return SNMPSEC_BAD_ARGUMENT;
+    return written_request(
+        manager, proved_manager_request(manager->held, now, r->message_id, in(r->engine.at, r->engine.len), r->engine.len,
+                                        in(r->user.at, r->user.len), r->user.len, r->level, in(r->context_engine.at, r->context_engine.len),
+                                        r->context_engine.len, in(r->context_name.at, r->context_name.len), r->context_name.len, r->pdu,
+                                        r->request_id, r->error_status, r->error_index, in(r->list.at, r->list.len), r->list.len, r->salt));
+}
+
+int snmpsec_manager_absorb(snmpsec_manager *manager, const uint8_t *text, size_t text_len, uint64_t now) {
+    return manager ? proved_manager_absorb(manager->held, in(text, text_len), text_len, now) : SNMPSEC_BAD_ARGUMENT;
+}
+
+/* Copies the held request beside the handle, since the saved text takes its place. */
+static int keep_request(snmpsec_manager *manager) {
+    size_t len = 0, written;
+    if (manager->is_saved) return SNMPSEC_OK;
+    int answer = proved_manager_message(manager->held, no_room, 0, &len);
+    if (answer == SNMPSEC_NOTHING_TAKEN) return SNMPSEC_OK;
+    if (!(manager->kept = snmpsec_inside_block(len))) return SNMPSEC_OUT_OF_MEMORY;
+    manager->kept_len = len;
+    return proved_manager_message(manager->held, manager->kept, len, &written);
+}
+
+int snmpsec_manager_save(snmpsec_manager *manager, uint8_t *out, size_t out_len, size_t *written) {
+    if (!manager || !written) return SNMPSEC_BAD_ARGUMENT;
+    int answer = keep_request(manager);
+    if (!answer) answer = proved_manager_save(manager->held);
+    if (answer) {
+        if (!manager->is_saved) forget_kept(manager);
+        return answer;
+    }
+    manager->is_saved = true;
+    return proved_manager_message(manager->held, room(out, out_len), out_len, written);
+}
+
+int snmpsec_manager_clock(snmpsec_manager *manager, const uint8_t *engine, size_t engine_len, snmpsec_clock *out) {
+    return manager && out ? proved_manager_pair(manager->held, in(engine, engine_len), engine_len, &out->boots, &out->time) : SNMPSEC_BAD_ARGUMENT;
+}
+
+int snmpsec_binding_read(const uint8_t *list, size_t list_len, size_t *at, snmpsec_binding *out) {
+    enum { ARCS, TAG, AT, LENGTH, NEXT, PLACES };
+    size_t n[PLACES];
+    if (!at || !out || *at >= list_len) return SNMPSEC_BAD_ARGUMENT;
+    int32_t answer = proved_binding_read(list, list_len, *at, out->arcs, SNMPSEC_MOST_ARCS, n, PLACES);
+    if (answer) return answer;
+    out->arcs_len = n[ARCS];
+    out->tag = (uint8_t)n[TAG];
+    out->content = list + n[AT];
+    out->content_len = n[LENGTH];
+    *at = n[NEXT];
+    return SNMPSEC_OK;
+}
+
+int snmpsec_binding_write(const uint32_t *arcs, size_t arcs_len, uint8_t tag, const uint8_t *content, size_t content_len, uint8_t *out,
+                          size_t out_len, size_t *written) {
+    if (!written) return SNMPSEC_BAD_ARGUMENT;
+    return proved_binding_write(name(arcs, arcs_len), arcs_len, tag, in(content, content_len), content_len, room(out, out_len), out_len, written);
+}
+
+int snmpsec_password_key(snmpsec_protocol protocol, const uint8_t *password, size_t password_len, uint8_t *out, size_t out_len, size_t *written) {
+    return written ? done(proved_password_key(protocol, in(password, password_len), password_len, room(out, out_len), out_len, written))
+                   : SNMPSEC_BAD_ARGUMENT;
+}
+
+int snmpsec_localise(snmpsec_protocol protocol, const uint8_t *key, size_t key_len, const uint8_t *engine, size_t engine_len, uint8_t *out,
+                     size_t out_len, size_t *written) {
+    return written ? done(proved_localise(protocol, in(key, key_len), key_len, in(engine, engine_len), engine_len, room(out, out_len), out_len,
+                                          written))
+                   : SNMPSEC_BAD_ARGUMENT;
+}
+
+int snmpsec_mac(snmpsec_protocol protocol, const uint8_t *key, size_t key_len, const uint8_t *front, size_t front_len, size_t zeros,
+                const uint8_t *back, size_t back_len, uint8_t *out, size_t out_len, size_t *written) {
+    return written ? done(proved_mac(protocol, in(key, key_len), key_len, in(front, front_len), front_len, zeros, in(back, back_len), back_len,
+                                     room(out, out_len), out_len, written))
+                   : SNMPSEC_BAD_ARGUMENT;
+}
+
+int snmpsec_seal(const uint8_t *key, size_t key_len, uint32_t boots, uint32_t time, const uint8_t *salt, size_t salt_len, uint8_t *text,
+                 size_t text_len) {
+    return done(proved_seal(in(key, key_len), key_len, boots, time, in(salt, salt_len), salt_len, room(text, text_len), text_len));
+}
+
+int snmpsec_open(const uint8_t *key, size_t key_len, uint32_t boots, uint32_t time, const uint8_t *salt, size_t salt_len, uint8_t *text,
+                 size_t text_len) {
+    return done(proved_open(in(key, key_len), key_len, boots, time, in(salt, salt_len), salt_len, room(text, text_len), text_len));
+}
+
+void snmpsec_wipe(void *octets, size_t octets_len) { snmpsec_inside_wipe(octets, octets_len); }

@@ -1,0 +1,488 @@
+"""SNMPv3 user security and view access: an agent and a manager, and keys, codes and sealed texts, by libsnmpsec.so.0. Not proved.
+
+    with Agent.from_file("agent.toml", engine, boots, started) as agent:
+        refusal = agent.take(now, datagram)     # None where it is accepted
+        if refusal is None and agent.allows(View.READ, (1, 3, 6, 1, 2, 1, 1, 1, 0)): ..
+        agent.message()                         # the report or the Response, or None
+
+    with Manager.from_file("agent.toml") as manager:
+        manager.discover(message_id)
+        manager.message()                       # the request that is to be sent
+        manager.take(now, datagram)
+        manager.reply()                         # Reply(is_response, report_of)
+
+Five functions keep nothing: they are for programs that spell messages themselves. A message that came is checked by take.
+
+    key = localise(AuthProtocol.SHA1, password_key(AuthProtocol.SHA1, b"maplesyrup"), engine)
+    sealed = seal_text(key[:16], boots, time, salt, text)
+    text = open_text(key[:16], boots, time, salt, sealed)
+    code = mac(AuthProtocol.SHA1, key, front, 12, back)     # of what stands before and behind the code
+
+A handle may be used by several threads: each call waits for the one before it. Two calls that belong together, as take and message, want a lock of
+yours, or a handle for each thread. Handles share nothing. In a forked child of a process with threads no handle is used.
+
+What a call doesn't do is an Error: Refused with its Refusal where a message can't be written, BadArgument, NothingTaken, NotAsked, BadBindings,
+BadConfiguration or BadClocks. Want of memory is MemoryError, and a closed handle ValueError.
+
+Keys that these functions give back are Python's, which nothing wipes. A configuration's passwords are wiped where from_file reads it, or where
+it is a bytearray that you overwrite.
+"""
+from __future__ import annotations
+
+import ctypes
+import operator
+import os
+import threading
+from enum import IntEnum
+from typing import Iterator, NamedTuple, Optional, Sequence, Union
+
+from . import _library
+from ._library import CALLS, Octets as _Slice
+
+__version__ = "0.1.0"
+__all__ = ["Access", "Agent", "AuthProtocol", "BadArgument", "BadBindings", "BadClocks", "BadConfiguration", "Binding", "Clock", "Counters", "Error", "Info",
+           "LARGEST", "Level", "Manager", "NO_CLOCKS", "NotAsked", "NothingTaken", "Part", "Pdu", "Refusal", "Refused", "Reply", "View", "binding", "bindings",
+           "localise", "mac", "open_text", "password_key", "seal_text", "version"]
+
+Buffer = Union[bytes, bytearray, memoryview]
+Path = Union[str, "os.PathLike[str]"]
+LARGEST, LARGEST_KEY = 65507, 32
+NO_CLOCKS = b"snmp-clocks 2\n"
+
+
+class Level(IntEnum):
+    NO_AUTH_NO_PRIV = 1
+    AUTH_NO_PRIV = 2
+    AUTH_PRIV = 3
+
+
+class View(IntEnum):
+    READ = 0
+    WRITE = 1
+    NOTIFY = 2
+
+
+class Access(IntEnum):
+    """isAccessAllowed (RFC 3415, section 3). True where access is allowed, so `if agent.access(..)` doesn't mislead."""
+
+    ALLOWED = 0
+    NOT_IN_VIEW = 1
+    NO_SUCH_VIEW = 2
+    NO_ACCESS_ENTRY = 3
+    NO_GROUP_NAME = 4
+    NO_SUCH_CONTEXT = 5
+
+    def __bool__(self) -> bool:
+        return self is Access.ALLOWED
+
+
+class Pdu(IntEnum):
+    GET = 0xA0
+    GET_NEXT = 0xA1
+    RESPONSE = 0xA2
+    SET = 0xA3
+    GET_BULK = 0xA5
+    INFORM = 0xA6
+    TRAP = 0xA7
+    REPORT = 0xA8
+
+
+class Part(IntEnum):
+    BINDINGS = 0
+    USER = 1
+    CONTEXT_ENGINE = 2
+    CONTEXT_NAME = 3
+    ENGINE = 4
+
+
+class AuthProtocol(IntEnum):
+    MD5 = 2
+    SHA1 = 3
+    SHA256 = 5
+
+
+class Refusal(IntEnum):
+    NOT_MESSAGE = 1
+    BAD_VERSION = 2
+    NOT_SECURITY = 3
+    NOT_SCOPED = 4
+    UNKNOWN_ENGINE = 6
+    UNKNOWN_USER = 7
+    UNSUPPORTED_LEVEL = 8
+    WRONG_DIGEST = 9
+    NOT_IN_WINDOW = 10
+    DECRYPTION_ERROR = 11
+    BAD_SCOPED = 12
+    BAD_PDU = 13
+    CLOCK_EXHAUSTED = 15
+    TOO_LARGE = 16
+    UNKNOWN_MODEL = 17
+    INVALID_FLAGS = 18
+
+    def __str__(self) -> str:
+        return _words(self)
+
+
+class Error(Exception):
+    """What a call doesn't do."""
+
+
+class Refused(Error):
+    """A message can't be written: `refusal` says why."""
+
+    def __init__(self, refusal: Refusal):
+        super().__init__(str(refusal))
+        self.refusal = refusal
+
+
+class BadArgument(Error, ValueError): ...
+
+
+class NothingTaken(Error, LookupError): ...
+
+
+class NotAsked(Error): ...
+
+
+class BadBindings(Error, ValueError): ...
+
+
+class BadConfiguration(Error, ValueError): ...
+
+
+class BadClocks(Error, ValueError): ...
+
+
+class Info(NamedTuple):
+    """The numbers of the message that is kept; of a GET_BULK the fourth and fifth are non-repeaters and max-repetitions."""
+
+    level: Level
+    pdu: int
+    request_id: int
+    error_status: int
+    error_index: int
+    message_id: int
+
+    @property
+    def non_repeaters(self) -> int:
+        return self.error_status
+
+    @property
+    def max_repetitions(self) -> int:
+        return self.error_index
+
+
+class Counters(NamedTuple):
+    """usmStats (RFC 3414, section 5)."""
+
+    unsupported_levels: int
+    not_in_windows: int
+    unknown_users: int
+    unknown_engines: int
+    wrong_digests: int
+    decryption_errors: int
+
+
+class Reply(NamedTuple):
+    """What a message is to the request: its Response, a Report of a counter (1 to 6 as in Counters, 0 of none), or neither."""
+
+    is_response: bool
+    report_of: Optional[int]
+
+
+class Clock(NamedTuple):
+    boots: int
+    time: int
+
+
+class Binding(NamedTuple):
+    name: tuple[int, ...]
+    tag: int
+    content: bytes
+
+
+_FAULTS = {-1: BadArgument, -2: NothingTaken, -3: NotAsked, -4: BadBindings, -6: BadConfiguration, -7: BadClocks}
+_SHORT_BUFFER, _OUT_OF_MEMORY = -5, 14
+
+
+def _words(answer: int) -> str:
+    return CALLS["strerror"](answer).decode()
+
+
+def version() -> str:
+    """The version of the library that is loaded."""
+    return CALLS["version"]().decode()
+
+
+def _refusal(answer: int) -> Optional[Refusal]:
+    """None where it is done, a refusal of a message, or raises the fault."""
+    if answer == 0:
+        return None
+    if answer == _OUT_OF_MEMORY:
+        raise MemoryError
+    if answer > 0:
+        return Refusal(answer)
+    raise _FAULTS.get(answer, Error)(_words(answer))
+
+
+def _done(answer: int) -> None:
+    refusal = _refusal(answer)
+    if refusal is not None:
+        raise Refused(refusal)
+
+
+def _octets(*many: Buffer) -> list:
+    """A bytearray is handed in as it lies there, so that no copy is left of one that is wiped."""
+    return [part for octets in many for part in ((ctypes.c_char * len(octets)).from_buffer(octets) if isinstance(octets, bytearray) else bytes(octets),
+                                                 len(octets))]
+
+
+def _wiped(path: Path, use):
+    """What `use` makes of the file's octets, which are overwritten then: a configuration has passwords."""
+    with open(path, "rb", buffering=0) as file:
+        octets = bytearray(os.fstat(file.fileno()).st_size)
+        if file.readinto(octets) != len(octets) or file.read(1):
+            raise OSError(f"{path}: it changed while it was read")
+    try:
+        return use(octets)
+    finally:
+        octets[:] = bytes(len(octets))
+
+
+def _slice(octets: Buffer) -> _Slice:
+    return _Slice(bytes(octets), len(octets))
+
+
+def _ranged(value: int, bits: int = 32) -> int:
+    """ctypes would cut a number to so many bits."""
+    if not 0 <= operator.index(value) < 1 << bits:
+        raise BadArgument(f"{value} isn't from 0 to {(1 << bits) - 1}")
+    return value
+
+
+def _arcs(name: Sequence[int]) -> tuple:
+    return (ctypes.c_uint32 * len(name))(*map(_ranged, name)), len(name)
+
+
+def _copied(call, *arguments, room: int = LARGEST) -> bytes:
+    """The octets that a call writes. There is room for a datagram, and where more is wanted, as for a saved text, the call is made again."""
+    written = ctypes.c_size_t()
+    while True:
+        out = ctypes.create_string_buffer(room)
+        answer = call(*arguments, out, room, ctypes.byref(written))
+        if answer != _SHORT_BUFFER or written.value <= room:
+            _done(answer)
+            return out.raw[: written.value]
+        room = written.value
+
+
+def binding(name: Sequence[int], tag: int, content: Buffer = b"") -> bytes:
+    """A variable binding, as octets."""
+    return _copied(CALLS["binding_write"], *_arcs(name), _ranged(tag, 8), *_octets(content))
+
+
+def bindings(octets: Buffer) -> list[Binding]:
+    """The bindings that the octets are."""
+    return list(_bindings(bytes(octets)))
+
+
+def _bindings(octets: bytes) -> Iterator[Binding]:
+    at, one = ctypes.c_size_t(), _library.BindingRead()
+    base = ctypes.c_char_p(octets)
+    begin = ctypes.cast(base, ctypes.c_void_p).value or 0
+    while at.value < len(octets):
+        _done(CALLS["binding_read"](base, len(octets), ctypes.byref(at), ctypes.byref(one)))
+        place = (one.content or 0) - begin
+        yield Binding(tuple(one.arcs[: one.arcs_len]), one.tag, octets[place : place + one.content_len])
+
+
+def password_key(protocol: AuthProtocol, password: Buffer) -> bytes:
+    """The key of a password, the same for all engines (RFC 3414, section A.2; RFC 7860, section 5). The password has 8 octets or more."""
+    return _copied(CALLS["password_key"], protocol, *_octets(password), room=LARGEST_KEY)
+
+
+def localise(protocol: AuthProtocol, key: Buffer, engine: Buffer) -> bytes:
+    """The key localised to an engine (RFC 3414, section 2.6; RFC 7860, section 5)."""
+    return _copied(CALLS["localise"], protocol, *_octets(key, engine), room=LARGEST_KEY)
+
+
+def mac(protocol: AuthProtocol, key: Buffer, front: Buffer, zeros: int, back: Buffer) -> bytes:
+    """The code, under a localised key, of front, this many zero octets (in the code's own place) and back, joined."""
+    return _copied(CALLS["mac"], protocol, *_octets(key, front), _ranged(zeros, 64), *_octets(back), room=LARGEST_KEY)
+
+
+def _changed(call, key: Buffer, boots: int, time: int, salt: Buffer, text: Buffer) -> bytes:
+    out = ctypes.create_string_buffer(bytes(text), max(len(text), 1))
+    _done(call(*_octets(key), _ranged(boots), _ranged(time), *_octets(salt), out, len(text)))
+    return out.raw[: len(text)]
+
+
+def seal_text(key: Buffer, boots: int, time: int, salt: Buffer, text: Buffer) -> bytes:
+    """The text sealed by AES-128 in cipher feedback mode (RFC 3826). A salt never comes twice for a key, which is your duty."""
+    return _changed(CALLS["seal"], key, boots, time, salt, text)
+
+
+def open_text(key: Buffer, boots: int, time: int, salt: Buffer, text: Buffer) -> bytes:
+    """The text that was sealed with these. It can't tell a wrong key."""
+    return _changed(CALLS["open"], key, boots, time, salt, text)
+
+
+class _Held:
+    """What an agent and a manager have in common."""
+
+    _kind = ""
+    _handle: Optional[ctypes.c_void_p] = None
+
+    def __init__(self, *arguments):
+        self._lock = threading.Lock()
+        handle = ctypes.c_void_p()
+        _done(CALLS[f"{self._kind}_new"](*arguments, ctypes.byref(handle)))
+        self._handle = handle
+
+    def _call(self, name: str, *arguments):
+        with self._lock:
+            if not self._handle:
+                raise ValueError("closed")
+            return CALLS[f"{self._kind}_{name}"](self._handle, *arguments)
+
+    def close(self) -> None:
+        """Frees the handle, with its keys wiped. Calls after it are ValueError."""
+        if self._handle is None:
+            return
+        with self._lock:
+            handle, self._handle = self._handle, None
+            if handle:
+                CALLS[f"{self._kind}_free"](handle)
+
+    def __enter__(self):
+        return self
+
+    def __exit__(self, *_) -> None:
+        self.close()
+
+    def __del__(self) -> None:
+        self.close()
+
+    def take(self, now: int, datagram: Buffer) -> Optional[Refusal]:
+        """None where the datagram is accepted, and kept; else why it is refused."""
+        return _refusal(self._call("take", _ranged(now, 64), *_octets(datagram)))
+
+    def info(self) -> Optional[Info]:
+        """The numbers of what is kept, or None."""
+        out = _library.Info()
+        try:
+            _done(self._call("info", ctypes.byref(out)))
+        except NothingTaken:
+            return None
+        level, *rest = (getattr(out, name) for name, _ in out._fields_)
+        return Info(Level(level), *rest)
+
+    def part(self, part: Part) -> Optional[bytes]:
+        """A part of what is kept, or None."""
+        try:
+            return _copied(self._call, "part", part)
+        except NothingTaken:
+            return None
+
+    def message(self) -> Optional[bytes]:
+        """The message to be sent, or None."""
+        try:
+            return _copied(self._call, "message")
+        except NothingTaken:
+            return None
+
+
+class Agent(_Held):
+    """An agent of a configuration in TOML, with its engine ID and boots, that started at a moment in seconds."""
+
+    _kind = "agent"
+
+    def __init__(self, config: Buffer, engine: Buffer, boots: int, started: int):
+        super().__init__(*_octets(config, engine), _ranged(boots), _ranged(started, 64))
+
+    @classmethod
+    def from_file(cls, path: Path, engine: Buffer, boots: int, started: int) -> "Agent":
+        return _wiped(path, lambda config: cls(config, engine, boots, started))
+
+    def access(self, view: View, name: Sequence[int]) -> Access:
+        """Whether the sender of what is kept may see the variable, or why not."""
+        out = _library.Enumeration()
+        _done(self._call("access", view, *_arcs(name), ctypes.byref(out)))
+        return Access(out.value)
+
+    def allows(self, view: View, name: Sequence[int]) -> bool:
+        return bool(self.access(view, name))
+
+    def user_access(self, user: Buffer, level: Level, context: Buffer, view: View, name: Sequence[int]) -> Access:
+        """The same for a user at a level in a context."""
+        out = _library.Enumeration()
+        _done(self._call("user_access", _slice(user), level, _slice(context), view, *_arcs(name), ctypes.byref(out)))
+        return Access(out.value)
+
+    def respond(self, now: int, octets: Buffer, salt: int, error_status: int = 0, error_index: int = 0) -> None:
+        """Writes the Response to what is kept, as the message."""
+        _done(self._call("respond", _ranged(now, 64), _ranged(error_status), _ranged(error_index), *_octets(octets), _ranged(salt, 64)))
+
+    def notify(self, now: int, *, user: Buffer, level: Level, octets: Buffer, salt: int, message_id: int, request_id: int,
+               context_engine: Buffer, context_name: Buffer = b"") -> None:
+        """Writes an SNMPv2-Trap, as the message."""
+        notice = _library.Notice(_ranged(message_id), _ranged(request_id), level, _slice(user), _slice(context_engine), _slice(context_name),
+                                 _slice(octets), _ranged(salt, 64))
+        _done(self._call("notify", _ranged(now, 64), ctypes.byref(notice)))
+
+    def counters(self) -> Counters:
+        out = _library.Counters()
+        _done(self._call("counters", ctypes.byref(out)))
+        return Counters(*(getattr(out, name) for name, _ in out._fields_))
+
+
+class Manager(_Held):
+    """A manager with the users of a configuration in TOML, that begins with the clocks of a saved text."""
+
+    _kind = "manager"
+
+    def __init__(self, config: Buffer, clocks: Buffer = NO_CLOCKS, now: int = 0):
+        super().__init__(*_octets(config, clocks), _ranged(now, 64))
+
+    @classmethod
+    def from_file(cls, path: Path, clocks: Buffer = NO_CLOCKS, now: int = 0) -> "Manager":
+        return _wiped(path, lambda config: cls(config, clocks, now))
+
+    def reply(self) -> Optional[Reply]:
+        """What is kept is to the request that was written last; None where nothing is kept or nothing was asked."""
+        out = _library.Reply()
+        try:
+            _done(self._call("reply", ctypes.byref(out)))
+        except NothingTaken:
+            return None
+        return Reply(out.kind == 0, out.counter if out.kind == 2 else None)
+
+    def discover(self, message_id: int) -> None:
+        """Writes the request by which an engine is discovered, as the message."""
+        _done(self._call("discover", _ranged(message_id)))
+
+    def request(self, now: int, pdu: Pdu, *, engine: Buffer, user: Buffer, level: Level, octets: Buffer, salt: int, message_id: int,
+                request_id: Optional[int] = None, error_status: int = 0, error_index: int = 0, context_engine: Optional[Buffer] = None,
+                context_name: Buffer = b"") -> None:
+        """Writes a request, as the message. One is waited for at a time."""
+        asked = _library.Request(pdu, _ranged(message_id), _ranged(message_id if request_id is None else request_id), _ranged(error_status),
+                                 _ranged(error_index), level, _slice(engine), _slice(user),
+                                 _slice(engine if context_engine is None else context_engine), _slice(context_name), _slice(octets), _ranged(salt, 64))
+        _done(self._call("request", _ranged(now, 64), ctypes.byref(asked)))
+
+    def absorb(self, text: Buffer, now: int) -> None:
+        """Joins in the clocks of a saved text."""
+        _done(self._call("absorb", *_octets(text), _ranged(now, 64)))
+
+    def saved(self) -> bytes:
+        """The saved text of the clocks. The message stays."""
+        return _copied(self._call, "save")
+
+    def clock(self, engine: Buffer) -> Optional[Clock]:
+        """The boots and time that are held of an engine, or None."""
+        out = _library.Clock()
+        try:
+            _done(self._call("clock", *_octets(engine), ctypes.byref(out)))
+        except NothingTaken:
+            return None
+        return Clock(out.boots, out.time)

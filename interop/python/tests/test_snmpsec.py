@@ -1,0 +1,315 @@
+"""What net-snmp's tools sent each other, an agent and a manager that talk, keys, faults, files and threads: python3 test_snmpsec.py, with the
+library installed or named by SNMPSEC_LIBRARY, and the folder of examples/replay in SNMPSEC_REPLAY where it is elsewhere."""
+import hmac
+import os
+import pathlib
+import tempfile
+import threading
+import unittest
+
+import snmpsec
+from snmpsec import Access, Agent, AuthProtocol, Level, Manager, Part, Pdu, Refusal, View
+
+FOLDER = pathlib.Path(os.environ.get("SNMPSEC_REPLAY") or pathlib.Path(__file__).resolve().parents[3] / "examples/replay")
+CONFIG = (FOLDER / "config.toml").read_bytes()
+LOG = [(int(moment), bytes.fromhex(octets)) for moment, octets in map(str.split, (FOLDER / "captured.log").read_text().splitlines())]
+ENGINE = bytes.fromhex("80001f8880c932472d51b8036b00000000")
+NOW, BOOTS, TIME = 1000, 5, 900
+NAME = (1, 3, 6, 1, 2, 1, 1, 1, 0)
+ASKED, HELLO = snmpsec.binding(NAME, 5), snmpsec.binding(NAME, 4, b"hello")
+LEVELS = {Level.NO_AUTH_NO_PRIV: "noAuthNoPriv", Level.AUTH_NO_PRIV: "authNoPriv", Level.AUTH_PRIV: "authPriv"}
+
+# a configuration of its own, whose user may read the group system
+ALLOWING = b"""
+[[user]]
+name = "ann"
+auth = "sha256"
+auth-password = "maplesyrup"
+priv-password = "syrupmaple"
+[[context]]
+name = ""
+[[group]]
+model = 3
+name = "ann"
+group = "all"
+[[access]]
+group = "all"
+prefix = ""
+model = 3
+level = "noAuthNoPriv"
+match = "exact"
+read = "system"
+[[family]]
+view = "system"
+subtree = "1.3.6.1.2.1.1"
+include = true
+"""
+
+
+def ask(manager, message_id, user, level, **more):
+    manager.request(NOW, Pdu.GET, **({"engine": ENGINE, "user": user, "level": level, "octets": ASKED, "salt": message_id,
+                                      "message_id": message_id} | more))
+    return manager.message()
+
+
+class Captured(unittest.TestCase):
+    def test_an_agent_answers_the_requests(self):
+        accepted = 0
+        with Agent(CONFIG, ENGINE, 1, NOW - 3) as agent:
+            self.assertEqual((agent.info(), agent.message(), agent.part(Part.USER)), (None, None, None))
+            self.assertIs(agent.take(NOW, LOG[0][1]), Refusal.UNKNOWN_ENGINE)
+            self.assertEqual(agent.counters().unknown_engines, 1)
+            self.assertEqual(len(agent.message()), len(LOG[1][1]))
+            for _, datagram in LOG:
+                if agent.take(NOW, datagram) is None and agent.info().pdu == Pdu.GET:
+                    accepted += 1
+                    self.answer(agent, accepted)
+        self.assertEqual(accepted, 5)
+
+    def answer(self, agent, salt):
+        names = snmpsec.bindings(agent.part(Part.BINDINGS))
+        self.assertEqual((agent.part(Part.ENGINE), agent.part(Part.CONTEXT_NAME)), (ENGINE, b""))
+        self.assertIs(agent.access(View.READ, NAME), Access.NO_SUCH_CONTEXT)
+        self.assertIs(agent.user_access(b"ann", Level.NO_AUTH_NO_PRIV, b"", View.READ, NAME), Access.NO_SUCH_CONTEXT)
+        agent.respond(NOW, b"".join(snmpsec.binding(one.name, 4, b"hello") for one in names), salt)
+        self.assertTrue(agent.message())
+        with self.assertRaises(snmpsec.BadBindings):
+            agent.respond(NOW, b"no", salt)
+
+    def test_a_manager_tells_what_replay_prints(self):
+        printed = (FOLDER / "printed.txt").read_text().splitlines()
+        with Manager(CONFIG, (FOLDER / "begin.clocks").read_bytes()) as manager:
+            for i, (moment, datagram) in enumerate(LOG):
+                refusal, info = manager.take(moment, datagram), manager.info()
+                told = f"refused {int(refusal)}" if refusal else f"accepted {LEVELS[info.level]} {info.pdu:x}"
+                self.assertTrue(printed[i].startswith(f"{i + 1} {moment} {told}"), printed[i])
+            self.assertEqual(manager.saved().decode().splitlines(), printed[len(LOG) :])
+            self.assertEqual(manager.clock(ENGINE), (1, 3))
+
+
+class Exchange(unittest.TestCase):
+    def discover(self, agent, manager):
+        manager.discover(1)
+        self.assertIs(agent.take(NOW, manager.message()), Refusal.UNKNOWN_ENGINE)
+        self.assertIsNone(manager.take(NOW, agent.message()))
+        self.assertEqual(manager.reply(), (False, 4))
+        self.assertEqual(manager.part(Part.ENGINE), ENGINE)
+
+    def learn(self, agent, manager, message):
+        self.assertIsNone(manager.clock(ENGINE))
+        self.assertIs(agent.take(NOW, message), Refusal.NOT_IN_WINDOW)
+        self.assertEqual(agent.counters().not_in_windows, 1)
+        self.assertIsNone(manager.take(NOW, agent.message()))
+        self.assertEqual(manager.reply().report_of, 2)
+        self.assertEqual(manager.clock(ENGINE), (BOOTS, TIME))
+
+    def respond(self, agent, manager):
+        agent.respond(NOW, HELLO, 7)
+        self.assertIsNone(manager.take(NOW, agent.message()))
+        self.assertTrue(manager.reply().is_response)
+        self.assertEqual(snmpsec.bindings(manager.part(Part.BINDINGS)), [(NAME, 4, b"hello")])
+
+    def notify(self, agent, manager, user, level):
+        agent.notify(NOW, user=user, level=level, octets=HELLO, salt=99, message_id=9, request_id=8, context_engine=ENGINE)
+        self.assertIsNone(manager.take(NOW, agent.message()))
+        self.assertEqual(manager.info(), (level, Pdu.TRAP, 8, 0, 0, 9))
+        self.assertEqual(manager.part(Part.BINDINGS), HELLO)
+
+    def test_each_user_is_answered_at_each_level(self):
+        for user in (b"ann", b"bob", b"sam"):
+            for level in Level:
+                with self.subTest(user=user, level=level), Agent(CONFIG, ENGINE, BOOTS, NOW - TIME) as agent, Manager(CONFIG) as manager:
+                    self.discover(agent, manager)
+                    if level > Level.NO_AUTH_NO_PRIV:
+                        self.learn(agent, manager, ask(manager, 2, user, level))
+                    self.assertIsNone(agent.take(NOW, ask(manager, 3, user, level)))
+                    self.assertEqual(agent.info(), (level, Pdu.GET, 3, 0, 0, 3))
+                    self.respond(agent, manager)
+                    self.notify(agent, manager, user, level)
+
+    def test_who_may_see_what(self):
+        with Agent(ALLOWING, ENGINE, BOOTS, NOW) as agent, Manager(ALLOWING) as manager:
+            self.assertIsNone(agent.take(NOW, ask(manager, 1, b"ann", Level.NO_AUTH_NO_PRIV)))
+            self.assertTrue(agent.allows(View.READ, NAME))
+            self.assertIs(agent.access(View.READ, NAME), Access.ALLOWED)
+            self.assertIs(agent.access(View.WRITE, NAME), Access.NO_SUCH_VIEW)
+            self.assertFalse(agent.access(View.READ, (1, 3, 7)))
+            self.assertFalse(agent.allows(View.READ, (1, 3, 7)))
+            self.assertTrue(agent.user_access(b"ann", Level.AUTH_PRIV, b"", View.READ, NAME))
+            self.assertIs(agent.user_access(b"eve", Level.AUTH_PRIV, b"", View.READ, NAME), Access.NO_GROUP_NAME)
+
+    def test_clocks_are_saved_beside_the_request(self):
+        with Manager(CONFIG, snmpsec.NO_CLOCKS + b"0102030405 1 9 7\n", NOW) as manager:
+            manager.absorb(b"snmp-clocks 1\n0102030405 1 8\n0102030406 2 3\n", NOW)
+            manager.discover(1)
+            request = manager.message()
+            self.assertEqual(manager.saved(), snmpsec.NO_CLOCKS + b"0102030405 1 9 7\n0102030406 2 3 1000\n")
+            self.assertEqual(manager.message(), request)
+            self.assertIsNone(manager.reply())
+            with self.assertRaises(snmpsec.BadClocks):
+                manager.absorb(b"no", NOW)
+        many = snmpsec.NO_CLOCKS + b"".join(b"010203%04x 1 2 3\n" % i for i in range(5000))
+        with Manager(CONFIG, many, NOW) as manager:
+            self.assertGreater(len(many), snmpsec.LARGEST)
+            self.assertEqual(manager.saved(), many)
+
+
+class Faults(unittest.TestCase):
+    def test_each_has_its_name(self):
+        with self.assertRaises(snmpsec.BadConfiguration):
+            Agent(b"no", ENGINE, 1, 0)
+        for engine in (b"1234", bytes(8), b"\xff" * 8):
+            with self.assertRaises(snmpsec.BadArgument):
+                Agent(CONFIG, engine, 1, 0)
+        with self.assertRaisesRegex(snmpsec.BadClocks, "saves no clocks"):
+            Manager(CONFIG, b"no")
+        for name in ((3, 1), (1, 1 << 32), (1, -1)):
+            with self.assertRaises(snmpsec.BadArgument):
+                snmpsec.binding(name, 4)
+        with self.assertRaises(snmpsec.BadBindings):
+            snmpsec.bindings(b"no")
+        self.assertTrue(issubclass(snmpsec.BadArgument, ValueError) and issubclass(snmpsec.NothingTaken, LookupError))
+
+    def test_of_an_agent_and_a_manager(self):
+        with Agent(CONFIG, ENGINE, BOOTS, 0) as agent, Manager(CONFIG) as manager:
+            with self.assertRaises(snmpsec.NothingTaken):
+                agent.access(View.READ, NAME)
+            with self.assertRaises(snmpsec.NothingTaken):
+                agent.respond(NOW, HELLO, 1)
+            with self.assertRaises(snmpsec.Refused) as told:
+                ask(manager, 1, b"eve", Level.AUTH_PRIV)
+            self.assertIs(told.exception.refusal, Refusal.UNKNOWN_USER)
+            self.assertEqual(str(told.exception), "its user isn't known")
+            for message_id, more in ((1 << 31, {}), (-1, {}), (1, {"salt": 1 << 64}), (1, {"engine": b"1"}), (1, {"engine": bytes(33)})):
+                with self.subTest(message_id=message_id, more=more), self.assertRaises(snmpsec.BadArgument):
+                    ask(manager, message_id, b"ann", Level.AUTH_PRIV, **more)
+            with self.assertRaises(snmpsec.BadBindings):
+                ask(manager, 1, b"ann", Level.AUTH_PRIV, octets=b"no")
+            with self.assertRaises(snmpsec.BadArgument):
+                agent.take(-1, b"")
+            with self.assertRaises(TypeError):
+                agent.take("now", b"")
+        with self.assertRaisesRegex(ValueError, "closed"):
+            agent.take(NOW, b"")
+        agent.close()
+
+
+# Of the password maplesyrup the key, and that key localised to the engine 00..02 (RFC 3414, sections A.3.1 and A.3.2; the third row by
+# hashlib); and of a key of octets 0b how many they are and the code of Hi There (RFC 2202, sections 2 and 3; RFC 4231, section 4.2).
+VECTORS = {
+    AuthProtocol.MD5: ("9faf3283884e92834ebc9847d8edd963", "526f5eed9fcce26f8964c2930787d82b", 16, "9294727a3638bb1c13f48ef8"),
+    AuthProtocol.SHA1: ("9fb5cc0381497b3793528939ff788d5d79145211", "6695febc9288e36282235fc7151f128497b38f3f", 20, "b617318655057264e28bc0b6"),
+    AuthProtocol.SHA256: ("ab51014d1e077f6017df2b12bee5f5aa72993177e9bb569c4dff5a4ca0b4afac",
+                          "8982e0e549e866db361a6b625d84cccc11162d453ee8ce3a6445c2d6776f0f8b", 20,
+                          "b0344c61d8db38535ca8afceaf0bf12b881dc200c9833da7"),
+}
+
+# NIST SP 800-38A, section F.3.13: the initialization vector 00 01 to 0f is boots, time and salt. Each front is sealed to the front.
+KEY = bytes.fromhex("2b7e151628aed2a6abf7158809cf4f3c")
+SALT = bytes(range(8, 16))
+PLAIN = bytes.fromhex("6bc1bee22e409f96e93d7e117393172aae2d8a571e03ac9c9eb76fac45af8e51")
+SEALED = bytes.fromhex("3b3fd92eb72dad20333449f8e83cfb4ac8a64537a0b3a93fcde3cdad9f1ce58b")
+
+
+class Keys(unittest.TestCase):
+    def test_keys_and_codes(self):
+        for protocol, (key, localised, key_len, code) in VECTORS.items():
+            self.assertEqual(snmpsec.password_key(protocol, b"maplesyrup").hex(), key)
+            self.assertEqual(snmpsec.localise(protocol, bytes.fromhex(key), bytes(11) + b"\2").hex(), localised)
+            self.assertEqual(snmpsec.mac(protocol, b"\x0b" * key_len, b"Hi ", 0, b"There").hex(), code)
+            for zeros in range(25):
+                whole = hmac.new(ENGINE, b"front" + bytes(zeros) + b"back", protocol.name.lower()).digest()
+                self.assertEqual(snmpsec.mac(protocol, ENGINE, b"front", zeros, b"back"), whole[: len(code) // 2])
+
+    def test_sealed_texts(self):
+        for length in range(len(PLAIN) + 1):
+            self.assertEqual(snmpsec.seal_text(KEY, 0x00010203, 0x04050607, SALT, PLAIN[:length]), SEALED[:length])
+            self.assertEqual(snmpsec.open_text(KEY, 0x00010203, 0x04050607, SALT, SEALED[:length]), PLAIN[:length])
+        zeros = bytearray(20)
+        self.assertEqual(snmpsec.open_text(KEY, 1, 2, SALT, snmpsec.seal_text(KEY, 1, 2, SALT, zeros)), bytes(20))
+        self.assertEqual(zeros, bytes(20))
+
+    def refuses(self, call, *arguments):
+        with self.assertRaises(snmpsec.BadArgument):
+            call(*arguments)
+
+    def test_what_is_out_of_range(self):
+        for protocol in (0, 1, 4, 6, 0x10002):
+            self.refuses(snmpsec.password_key, protocol, b"maplesyrup")
+            self.refuses(snmpsec.localise, protocol, KEY, ENGINE)
+            self.refuses(snmpsec.mac, protocol, KEY, b"", 0, b"")
+        for protocol in AuthProtocol:
+            self.refuses(snmpsec.password_key, protocol, b"maplesy")
+            self.refuses(snmpsec.localise, protocol, bytes(33), ENGINE)
+            self.refuses(snmpsec.localise, protocol, KEY, ENGINE[:4])
+            self.refuses(snmpsec.localise, protocol, KEY, bytes(33))
+            self.refuses(snmpsec.mac, protocol, bytes(33), b"", 0, b"")
+            self.refuses(snmpsec.mac, protocol, KEY, b"", 25, b"")
+            self.refuses(snmpsec.mac, protocol, KEY, b"", -1, b"")
+        for call in (snmpsec.seal_text, snmpsec.open_text):
+            for key_len, salt_len in ((15, 8), (17, 8), (0, 8), (16, 7), (16, 9), (16, 0)):
+                self.refuses(call, bytes(key_len), 1, 2, bytes(salt_len), PLAIN)
+            self.refuses(call, KEY, 1 << 32, 2, SALT, PLAIN)
+
+
+class Files(unittest.TestCase):
+    def test_a_path_of_each_kind(self):
+        with tempfile.TemporaryDirectory() as folder:
+            path = pathlib.Path(folder, "agent.toml")
+            path.write_bytes(CONFIG)
+            for one in (path, str(path)):
+                Agent.from_file(one, ENGINE, 1, 0).close()
+                Manager.from_file(one).close()
+            with self.assertRaises(IsADirectoryError):
+                Agent.from_file(folder, ENGINE, 1, 0)
+            with self.assertRaises(FileNotFoundError):
+                Agent.from_file(path.with_name("none"), ENGINE, 1, 0)
+
+    def test_a_bytearray_is_handed_in_as_it_lies(self):
+        Agent(bytearray(CONFIG), bytearray(ENGINE), 1, 0).close()
+        with self.assertRaises(snmpsec.BadArgument):
+            Agent(bytearray(CONFIG), bytearray(4), 1, 0)
+
+
+class Threads(unittest.TestCase):
+    def together(self, work):
+        faults = []
+
+        def run():
+            try:
+                work()
+            except Exception as fault:  # noqa: BLE001
+                faults.append(fault)
+
+        threads = [threading.Thread(target=run) for _ in range(4)]
+        for thread in threads:
+            thread.start()
+        return threads, faults
+
+    def test_four_on_one_agent(self):
+        with Agent(CONFIG, ENGINE, 1, NOW - 3) as agent:
+
+            def work():
+                for _ in range(20):
+                    for _, datagram in LOG:
+                        agent.take(NOW, datagram)
+                        agent.message()
+                        agent.part(Part.BINDINGS)
+
+            threads, faults = self.together(work)
+            for thread in threads:
+                thread.join()
+            self.assertEqual(faults, [])
+            self.assertEqual(agent.counters().unknown_engines, 4 * 20 * 6)
+
+    def test_a_close_beside_calls(self):
+        agent = Agent(CONFIG, ENGINE, BOOTS, 0)
+        threads, faults = self.together(lambda: [agent.take(NOW, b"no message") for _ in range(100000)])
+        agent.close()
+        for thread in threads:
+            thread.join()
+        self.assertLessEqual({str(fault) for fault in faults}, {"closed"})
+
+
+if __name__ == "__main__":
+    unittest.main()

@@ -1,0 +1,160 @@
+# The boots' file, of which no number may be told twice: starts are killed, and the file is junk, locked, or has no room. test.sh runs this.
+boots=$OUT/boots
+starts=$work/starts
+mkdir -p "$starts"
+
+begin_with() { # BOOTS: the file of a start, as a printf word
+    rm -rf "$starts"/b*
+    printf -- "$1" > "$starts/b"
+}
+
+# says EXPECTED-STATUS EXPECTED-ERROR WORDS..: of a start that is refused; W stands for the folder
+refused() {
+    local status=$1 expected=$2 told
+    shift 2
+    told=$("$@" 2>&1 > "$starts/told")
+    check "$expected" "$status $expected" "$? ${told//$starts/W}"
+    check "$expected: no number is told" "" "$(cat "$starts/told")"
+}
+
+# A start is killed as it enters each of its system calls in turn: the next one has a number that is new.
+test_killed_at_each_call() {
+    local calls name after told n=0
+    declare -A seen
+    begin_with '41\n'
+    strace -qq -o "$work/strace.log" "$boots" "$starts/b" once > /dev/null 2>&1
+    calls=$(sed -n 's/^\([a-z0-9_]*\)(.*/\1/p' "$work/strace.log" | tail -n +2 | grep -v '^exit_group$')
+    for name in $calls; do
+        seen[$name]=$((${seen[$name]} + 1))
+        begin_with '41\n'
+        { strace -qq -o /dev/null -e trace="$name" -e inject="$name:signal=KILL:when=${seen[$name]}" "$boots" "$starts/b" once > "$starts/told" 2>&1; } 2> /dev/null
+        told=$(cat "$starts/told")
+        after=$("$boots" "$starts/b" once)
+        if { [ "$after" = 42 ] || [ "$after" = 43 ]; } && [ "${told:-0}" -lt "$after" ]; then n=$((n + 1)); else check "killed at $name ${seen[$name]}" "42 or 43" "$after after '$told'"; fi
+    done
+    check "kills at system calls" "$(wc -w <<< "$calls")" "$n"
+    check "some of them" yes "$([ "$n" -gt 20 ] && echo yes)"
+    echo "boots: killed at each of $n system calls"
+}
+
+killed_at_random() { # FILE HOW-OFTEN: prints what it told, in order
+    local i
+    for ((i = 0; i < $2; i++)); do
+        "$boots" "$1" & local pid=$!
+        sleep "0.0$((RANDOM % 4))$((RANDOM % 10))"
+        kill -9 $pid
+        wait $pid
+    done 2> /dev/null
+}
+
+test_killed_at_random() { # four files side by side
+    local n told=0 pids=()
+    rm -rf "$starts"/k*
+    for n in 1 2 3 4; do killed_at_random "$starts/k$n" 50 > "$starts/told$n" 2> /dev/null & pids+=($!); done
+    wait "${pids[@]}"
+    for n in 1 2 3 4; do
+        check "each number of file $n is new" "$(sort -nu "$starts/told$n")" "$(cat "$starts/told$n")"
+        told=$((told + $(wc -l < "$starts/told$n")))
+    done
+    check "some starts got so far" yes "$([ "$told" -gt 20 ] && echo yes)"
+    echo "boots: 200 starts killed at random, $told had told a number"
+}
+
+# The call fails: the start is refused, and the file has the old number or the next, whole.
+test_failing_calls() {
+    local name error at left why
+    while read -r name error at left why; do
+        begin_with '41\n'
+        refused 1 "W/b: $why" strace -qq -o /dev/null -e trace="$name" -e inject="$name:error=$error:when=$at" "$boots" "$starts/b" once
+        check "$name fails by $error: the file" "$left" "$(cat "$starts/b")"
+        check "$name fails by $error: nothing is left over" "" "$(ls "$starts" | grep new)"
+    done << 'CALLS'
+write ENOSPC 1 41 No space left on device
+fsync EIO 1 41 Input/output error
+rename EACCES 1 41 Permission denied
+fsync EIO 2 42 Input/output error
+CALLS
+}
+
+test_full_disk() {
+    mkdir -p "$starts/full"
+    if ! mount -t tmpfs -o size=16k none "$starts/full" 2> /dev/null; then echo "skipped: boots on a full disk, since only root may mount one"; return; fi
+    printf '41\n' > "$starts/full/b"
+    touch "$starts/full/b.lock"
+    dd if=/dev/zero of="$starts/full/fill" bs=4096 2> /dev/null
+    refused 1 "W/full/b: No space left on device" "$boots" "$starts/full/b" once
+    check "a full disk: the file" 41 "$(cat "$starts/full/b")"
+    rm "$starts/full/fill"
+    check "with room again" 42 "$("$boots" "$starts/full/b" once)"
+    umount "$starts/full"
+}
+
+test_limit() { # of a file's size: a signal, or an error where that is ignored
+    begin_with '41\n'
+    touch "$starts/b.lock"
+    { (ulimit -f 0; exec "$boots" "$starts/b" once) > /dev/null 2>&1; } 2> /dev/null
+    check "ended by the limit: the file" 41 "$(cat "$starts/b")"
+    (trap '' XFSZ; ulimit -f 0; exec "$boots" "$starts/b" once) 2>&1 > /dev/null | cat > "$starts/told"
+    check "beyond the limit" "$starts/b: File too large" "$(cat "$starts/told")"
+    check "beyond the limit: the file" 41 "$(cat "$starts/b")"
+    check "without the limit" 42 "$("$boots" "$starts/b" once)"
+}
+
+test_junk() {
+    local junk
+    for junk in '' 'x' '12' '12 \n' '-1\n' '2147483648\n' '99999999999\n' '1\n2\n' '\0\n' ' 1\n'; do
+        begin_with "$junk"
+        has "junk '$junk' is refused" "W/b: no number from 0 to 2147483647. If the greatest boots" "$("$boots" "$starts/b" once 2>&1 | sed "s,$starts,W,")"
+        check "junk '$junk' stays" "" "$(printf -- "$junk" | cmp - "$starts/b" 2>&1)"
+    done
+    begin_with ''
+    rm "$starts/b"
+    mkdir "$starts/b"
+    refused 1 "W/b: not a regular file" "$boots" "$starts/b" once
+    rmdir "$starts/b"
+    mkfifo "$starts/b"
+    refused 1 "W/b: not a regular file" timeout 2 "$boots" "$starts/b" once
+    rm "$starts/b"
+    ln -s /nonexistent/b "$starts/b"
+    refused 1 "W/b: No such file or directory" "$boots" "$starts/b" once
+    rm "$starts/b"
+    refused 1 "W/b: No such file or directory" "$boots" --must-exist "$starts/b" once
+    check "a first start" 1 "$("$boots" "$starts/b" once)"
+    check "one that must exist" 2 "$("$boots" --must-exist "$starts/b" once)"
+    refused 1 "W/none/b.lock: No such file or directory" "$boots" "$starts/none/b" once
+}
+
+test_latched() {
+    begin_with '2147483646\n'
+    check "the last boots" 2147483647 "$("$boots" "$starts/b" once)"
+    check "are told again" 2147483647 "$("$boots" "$starts/b" once)"
+    check "and stay" 2147483647 "$(cat "$starts/b")"
+}
+
+test_locked() {
+    local pid
+    begin_with '41\n'
+    chmod 644 "$starts/b"
+    "$boots" "$starts/b" > "$starts/first" & pid=$!
+    for _ in {1..50}; do [ -s "$starts/first" ] && break; sleep 0.02; done
+    refused 1 "W/b: another process uses it" "$boots" "$starts/b" once
+    check "the first start's number stays" "42 42" "$(cat "$starts/first" "$starts/b" | paste -sd' ')"
+    check "its modes" "600 600" "$(stat -c %a "$starts/b" "$starts/b.lock" | paste -sd' ')"
+    { kill -9 $pid; wait $pid; } 2> /dev/null
+    check "when it is killed the lock is free" 43 "$("$boots" "$starts/b" once)"
+    for _ in {1..50}; do "$boots" "$starts/b" once & "$boots" "$starts/b" once & wait; done > "$starts/all" 2> /dev/null
+    check "of pairs at once none has the same" "" "$(sort -n "$starts/all" | uniq -d)"
+}
+
+if command -v strace > /dev/null && strace -qq -o /dev/null true 2> /dev/null; then
+    test_killed_at_each_call
+    test_failing_calls
+else
+    echo "skipped: boots killed at each system call, and calls that fail: there is no strace (apt-get install strace)"
+fi
+test_killed_at_random
+test_full_disk
+test_limit
+test_junk
+test_latched
+test_locked

@@ -1,0 +1,94 @@
+/* How much stack each call uses, and that it is less than what is wiped behind it: stack CONFIG
+ *
+ * Each call is made on a stack of its own that was painted before, and what is no paint after it is counted. To be linked with plain.c, which
+ * wipes nothing. The status is 1 where a call uses more than seven eighths of what is wiped. Not proved. */
+#define _GNU_SOURCE
+#include "inside.h"
+#include "snmpsec.h"
+#include <stdio.h>
+#include <stdlib.h>
+#include <string.h>
+#include <ucontext.h>
+
+enum { SIZE = 1 << 20, NOW = 1000 };
+static uint8_t *stack;
+static ucontext_t back, there;
+static void (*call)(void);
+static const uint8_t engine[] = {0x80, 0, 0x1f, 0x88, 4, 'x'};
+static uint8_t config[1 << 16], message[65536], list[60000];
+static size_t config_len, len, list_len;
+static snmpsec_agent *agent;
+static snmpsec_manager *manager;
+static int answer, too_deep;
+
+static void measure(const char *what, void (*of)(void), size_t wiped) {
+    memset(stack, 0xa5, SIZE);
+    call = of;
+    getcontext(&there);
+    there.uc_stack.ss_sp = stack;
+    there.uc_stack.ss_size = SIZE;
+    there.uc_link = &back;
+    makecontext(&there, call, 0);
+    swapcontext(&back, &there);
+    size_t clean = 0;
+    while (clean < SIZE && stack[clean] == 0xa5) clean++;
+    size_t used = SIZE - clean;
+    printf("%-14s answer %d, %6zu octets of stack, and %zu are wiped\n", what, answer, used, wiped);
+    if (used > wiped / 8 * 7) { printf("FAILED %s uses too much stack\n", what); too_deep = 1; }
+}
+
+static uint32_t id;
+static snmpsec_level level = SNMPSEC_AUTH_PRIV;
+static const char *user = "bob";
+static void agent_new(void) { answer = snmpsec_agent_new(config, config_len, engine, sizeof engine, 5, NOW - 100, &agent); }
+static void manager_new(void) { answer = snmpsec_manager_new(config, config_len, (const uint8_t *)SNMPSEC_NO_CLOCKS, strlen(SNMPSEC_NO_CLOCKS), NOW, &manager); }
+static void request(void) {
+    id++;
+    snmpsec_request r = {.pdu = SNMPSEC_GET_REQUEST, .message_id = id, .request_id = id, .level = level, .engine = {engine, sizeof engine},
+                         .user = {(const uint8_t *)user, 3}, .context_engine = {engine, sizeof engine}, .list = {list, list_len}, .salt = id};
+    answer = snmpsec_manager_request(manager, NOW, &r);
+}
+static void agent_take(void) { answer = snmpsec_agent_take(agent, NOW, message, len); }
+static void respond(void) { answer = snmpsec_agent_respond(agent, NOW, 0, 0, list, list_len, id); }
+static void manager_take(void) { answer = snmpsec_manager_take(manager, NOW, message, len); }
+static void agent_free(void) { snmpsec_agent_free(agent); answer = 0; }
+static void manager_free(void) { snmpsec_manager_free(manager); answer = 0; }
+static uint8_t key[32];
+static size_t key_len;
+static void password_key(void) { answer = snmpsec_password_key(SNMPSEC_SHA256, (const uint8_t *)"maplesyrup", 10, key, sizeof key, &key_len); }
+static void localised(void) { answer = snmpsec_localise(SNMPSEC_SHA256, key, key_len, engine, sizeof engine, key, sizeof key, &key_len); }
+static void macced(void) { answer = snmpsec_mac(SNMPSEC_SHA256, key, key_len, list, 100, 24, list, 100, message, 64, &len); }
+static void sealed(void) { answer = snmpsec_seal(key, 16, 1, 2, key, 8, message, 1000); }
+
+int main(int argc, char **argv) {
+    FILE *file = argc == 2 ? fopen(argv[1], "rb") : NULL;
+    stack = malloc(SIZE);
+    if (!file || !stack) return 2;
+    config_len = fread(config, 1, sizeof config, file);
+    fclose(file);
+    measure("agent_new", agent_new, SNMPSEC_DEEP_STACK);
+    measure("manager_new", manager_new, SNMPSEC_DEEP_STACK);
+    for (uint32_t i = 0; i < 1500; i++) {
+        uint32_t arcs[] = {1, 3, 6, 1, 2, 1, 1, 1, i};
+        size_t more;
+        if (snmpsec_binding_write(arcs, 9, 4, (const uint8_t *)"hello, world", 12, list + list_len, sizeof list - list_len, &more)) break;
+        list_len += more;
+    }
+    for (int round = 0; round < 3; round++) {
+        if (round == 2) list_len = 0;
+        measure("request", request, SNMPSEC_STACK);
+        if (snmpsec_manager_message(manager, message, sizeof message, &len)) return 1;
+        measure("agent_take", agent_take, SNMPSEC_STACK);
+        if (!answer) measure("respond", respond, SNMPSEC_STACK);
+        if (snmpsec_agent_message(agent, message, sizeof message, &len)) return 1;
+        measure("manager_take", manager_take, SNMPSEC_STACK);
+    }
+    measure("password_key", password_key, SNMPSEC_STACK);
+    measure("localise", localised, SNMPSEC_STACK);
+    measure("mac", macced, SNMPSEC_STACK);
+    measure("seal", sealed, SNMPSEC_STACK);
+    measure("agent_free", agent_free, SNMPSEC_DEEP_STACK);
+    measure("manager_free", manager_free, SNMPSEC_DEEP_STACK);
+    free(stack);
+    return too_deep;
+}
