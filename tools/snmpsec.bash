@@ -15,7 +15,8 @@ _snmpsec() {
       open:2 | check-config:2 | check-access:2 | explain-access:2 | replay:* | merge-clocks:*) mapfile -t COMPREPLY < <(compgen -f -- "$word") ;;
     esac
     case $command in
-      replay | merge-clocks) choices="--moment" ;;
+      replay) choices="--moment --clocks-only --from-line" ;;
+      merge-clocks) choices="--moment" ;;
     esac
   fi
   [ -z "$choices" ] || mapfile -t -O "${#COMPREPLY[@]}" COMPREPLY < <(compgen -W "$choices" -- "$word")

@@ -3,6 +3,7 @@ use Rattle.std.specs.Prelude.{◌≡◌, ◌⊎◌, ⊤, ℕ, List, ◌++◌, co
 use Rattle.std.specs.Io.KnownBytes.{Appends}
 use Rattle.engine_clock.specs.Saved.{Saves, IsFirstFault}
 use Rattle.snmp_manager.specs.Views.{Held}
+use Rattle.snmpsec_replay.specs.declared.printing.Printing.{Printing}
 use Rattle.snmpsec_replay.specs.Replay.{ReplayText, Streams, StopsBy}
 use Rattle.snmpsec_replay.specs.Transfer.{WritesFront}
 use Rattle.snmpsec_replay.specs.declared.fault.ReplayFault.{ReplayFault}
@@ -52,10 +53,10 @@ TellsNoManager h (Refused line) = Refuses h line.items
 TellsNoManager h OutOfMemory = ⊤
 
 -- The log is replayed whole by the manager that the two texts give, and what is written is its text.
-pub record Replayed (h : Handed) (s : Streams) : Type 0 where
+pub record Replayed (p : Printing) (h : Handed) (s : Streams) : Type 0 where
   pub begin : Held
   pub begins : Begins h begin
-  pub text : IfSome s.unread (λ log. (text : List ℕ) × ReplayText begin log text × Appends s.held s.written text)
+  pub text : IfSome s.unread (λ log. (text : List ℕ) × ReplayText p begin log text × Appends s.held s.written text)
 
 -- One of the two texts is refused by a line, and nothing is read of the log.
 pub record Refusing (h : Handed) (s : Streams) : Type 0 where
@@ -64,9 +65,9 @@ pub record Refusing (h : Handed) (s : Streams) : Type 0 where
   pub unread : s.left ≡ s.unread
   pub wrote : Appends s.held s.written line
 
--- what is written, and the status
-abbrev pub ReplayAnswers : Handed → Streams → ℕ → Type 0
-ReplayAnswers h s status = ((status ≡ 0) × Replayed h s) ⊎ ((status ≡ 1) × Refusing h s)
+-- what is written, and the status, by which lines are wanted
+abbrev pub ReplayAnswers : Printing → Handed → Streams → ℕ → Type 0
+ReplayAnswers p h s status = ((status ≡ 0) × Replayed p h s) ⊎ ((status ≡ 1) × Refusing h s)
 
 -- what is written before the log is read: a front of the line of a refusal, or nothing where memory is refused
 abbrev pub RefusalStopsBy : Handed → Streams → ReplayFault → Type 0
@@ -76,5 +77,5 @@ RefusalStopsBy h s faults.CannotWrite = (line : List ℕ) × Refuses h line × W
 RefusalStopsBy h s faults.OutOfMemory = s.written ≡ s.held
 
 -- What is done where it stops with a fault: the replay of the manager that the two texts give stops, or nothing is read of the log.
-abbrev pub ReplayStopsBy : Handed → Streams → ReplayFault → Type 0
-ReplayStopsBy h s fault = ((begin : Held) × Begins h begin × StopsBy begin s fault) ⊎ ((s.left ≡ s.unread) × RefusalStopsBy h s fault)
+abbrev pub ReplayStopsBy : Printing → Handed → Streams → ReplayFault → Type 0
+ReplayStopsBy p h s fault = ((begin : Held) × Begins h begin × StopsBy p begin s fault) ⊎ ((s.left ≡ s.unread) × RefusalStopsBy h s fault)

@@ -1,13 +1,15 @@
 //! `snmpsec replay`: a log of datagrams, taken by a manager that has a configuration's users and begins with saved clocks.
 
-ghost use Rattle.std.specs.Prelude.{◌≡◌, IfErr, IfOk};
+ghost use Rattle.std.specs.Prelude.{◌≡◌, ◌≤◌, ℕ, decimal, IfErr, IfOk, IfSome, Some};
+ghost use Rattle.snmpsec_replay.specs.Replay.{from_line_1};
 ghost use Rattle.snmpsec_commands.specs.Replay.{Begins, Handed, ReplayAnswers, ReplayStopsBy, TellsNoManager};
 ghost use Rattle.snmpsec_commands.specs.declared.replay.NoManager.TheVariants as none;
 
 use engine_clock::Clocks;
+use snmp_ber::read_decimal;
 use snmp_manager::Manager;
 use snmpsec_config::Config;
-use snmpsec_replay::{ReplayFault, replay_log, write_whole};
+use snmpsec_replay::{Printing, ReplayFault, write_whole};
 use snmpsec_texts::{Output, refused_clocks};
 use std::alloc::{AllocError, Global};
 use std::io::{BufRead, Write};
@@ -32,6 +34,20 @@ impl From<AllocError> for NoManager {
     }
 }
 
+/// The greatest number that the first line of a log may have.
+const GREATEST_FIRST: u64 = 1_000_000_000_000_000;
+
+/// The number of a log's first line, 1 to 10^15, in decimal without sign or leading zeros.
+pub fn first_line_of(word: &str) -> Option<u64>
+    ensures found { IfSome result (λ first. (1 ≤ first) × (first ≤ 1000000000000000) × (word.now ≡ decimal first)) }
+    ensures all { (first : ℕ) → 1 ≤ first → first ≤ 1000000000000000 → word.now ≡ decimal first → result ≡ Some first }
+{
+    match read_decimal(word.as_bytes(), GREATEST_FIRST)? {
+        0 => None,
+        first => Some(first),
+    }
+}
+
 /// What `snmpsec replay` does, with the status that it ends with: `replay_log` by a manager with the users of the
 /// configuration, which begins with the clocks that the clocks file saves, and status 0. The marks of a clocks file of
 /// version 1 were seen at `moment`, in seconds.
@@ -48,14 +64,57 @@ pub fn replay<R: BufRead, W: Write>(
     writer: &mut W,
 ) -> Result<u8, ReplayFault>
     ensures ok { let handed : Handed = record { moment = moment; config = config.now; name = clocks_name.now; clocks = clocks.now } in
-        IfOk result (ReplayAnswers handed record {
+        IfOk result (ReplayAnswers from_line_1 handed record {
           unread = R.remaining reader.old;
           left = R.remaining reader.new;
           held = W.contents writer.old;
           written = W.contents writer.new;
         }) }
     ensures err { let handed : Handed = record { moment = moment; config = config.now; name = clocks_name.now; clocks = clocks.now } in
-        IfErr result (ReplayStopsBy handed record {
+        IfErr result (ReplayStopsBy from_line_1 handed record {
+          unread = R.remaining reader.old;
+          left = R.remaining reader.new;
+          held = W.contents writer.old;
+          written = W.contents writer.new;
+        }) }
+{
+    let printing = Printing {
+        first: 1,
+        lines: true,
+    };
+    replay_as(
+        alloc,
+        moment,
+        printing,
+        config,
+        clocks_name,
+        clocks,
+        reader,
+        writer,
+    )
+}
+
+/// The same with lines numbered from `printing.first`, at most 10^15; and where no lines are wanted, with the saved text alone.
+pub fn replay_as<R: BufRead, W: Write>(
+    alloc: Global,
+    moment: u64,
+    printing: Printing,
+    config: &[u8],
+    clocks_name: &str,
+    clocks: &[u8],
+    reader: &mut R,
+    writer: &mut W,
+) -> Result<u8, ReplayFault>
+    requires { printing.first ≤ 1000000000000000 }
+    ensures ok { let handed : Handed = record { moment = moment; config = config.now; name = clocks_name.now; clocks = clocks.now } in
+        IfOk result (ReplayAnswers printing handed record {
+          unread = R.remaining reader.old;
+          left = R.remaining reader.new;
+          held = W.contents writer.old;
+          written = W.contents writer.new;
+        }) }
+    ensures err { let handed : Handed = record { moment = moment; config = config.now; name = clocks_name.now; clocks = clocks.now } in
+        IfErr result (ReplayStopsBy printing handed record {
           unread = R.remaining reader.old;
           left = R.remaining reader.new;
           held = W.contents writer.old;
@@ -63,7 +122,7 @@ pub fn replay<R: BufRead, W: Write>(
         }) }
 {
     match manager_of(alloc, moment, config, clocks_name, clocks) {
-        Ok(manager) => match replay_log(alloc, manager, reader, writer) {
+        Ok(manager) => match snmpsec_replay::replay_as(alloc, manager, printing, reader, writer) {
             Ok(()) => Ok(0),
             Err(fault) => Err(fault),
         },

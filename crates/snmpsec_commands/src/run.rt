@@ -1,9 +1,11 @@
 //! From the command line to what is written.
 
+ghost use Rattle.std.specs.Prelude.{◌≤◌};
+
 use crate::files::{FileFault, open_log, read_file};
-use crate::replay::replay;
+use crate::replay::{first_line_of, replay_as};
 use clap::error::ErrorKind;
-use snmpsec_replay::{ReplayFault, write_whole};
+use snmpsec_replay::{Printing, ReplayFault, write_whole};
 use snmpsec_texts::{
     Output, check_config_text, check_text, explain_text, merge_text, moment_of, open_text,
     show_text,
@@ -170,25 +172,35 @@ fn merge_files<R: Files + AllocGlobal>(
     merge_text(alloc, moment, &files)
 }
 
-/// Looks at the moment before it opens a file, and then replays the log.
+/// Looks at the moment and the number of the first line before it opens a file, and then replays the log.
 fn replay_log<R: Files + AllocGlobal, O: Write>(
     rt: &R,
     words: &ReplayWords<'_>,
     out: &mut O,
 ) -> Result<Output, AllocError> {
-    match moment_of(words.moment.unwrap_or("0")) {
-        Some(moment) => replay_files(rt, moment, words, out),
-        None => Output::complaint(rt.alloc(), "bad word MOMENT"),
-    }
+    let Some(moment) = moment_of(words.moment.unwrap_or("0")) else {
+        return Output::complaint(rt.alloc(), "bad word MOMENT");
+    };
+    let Some(first) = first_line_of(words.from_line.unwrap_or("1")) else {
+        return Output::complaint(rt.alloc(), "bad word N");
+    };
+    let printing = Printing {
+        first,
+        lines: !words.clocks_only,
+    };
+    replay_files(rt, moment, printing, words, out)
 }
 
 /// Reads the configuration and the clocks file whole and opens the log, before it looks at what they say.
 fn replay_files<R: Files + AllocGlobal, O: Write>(
     rt: &R,
     moment: u64,
+    printing: Printing,
     words: &ReplayWords<'_>,
     out: &mut O,
-) -> Result<Output, AllocError> {
+) -> Result<Output, AllocError>
+    requires { printing.first ≤ 1000000000000000 }
+{
     let alloc = rt.alloc();
     let config = match read_file(rt, words.config) {
         Ok(octets) => octets,
@@ -202,7 +214,16 @@ fn replay_files<R: Files + AllocGlobal, O: Write>(
         Ok(log) => log,
         Err(fault) => return unread(alloc, fault, words.log),
     };
-    match replay(alloc, moment, &config, words.clocks, &clocks, &mut log, out) {
+    match replay_as(
+        alloc,
+        moment,
+        printing,
+        &config,
+        words.clocks,
+        &clocks,
+        &mut log,
+        out,
+    ) {
         Ok(status) => Ok(Output::out(alloc, Vec::new(alloc), status)),
         Err(fault) => stopped(alloc, fault, words.log),
     }

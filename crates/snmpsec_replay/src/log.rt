@@ -16,7 +16,7 @@ use std::marker::Model;
 pub(crate) const LINE_LIMIT: usize = 131_072;
 
 /// The most lines of a log.
-pub(crate) const LINES_LIMIT: u32 = 1_000_000;
+pub(crate) const LINES_LIMIT: u64 = 1_000_000;
 
 /// A datagram, and the moment at which it came.
 #[derive(Drop)]

@@ -1,12 +1,13 @@
 //! A log taken by a manager, line by line.
-ghost use Rattle.std.specs.Prelude.{◌≡◌, [], IfOk, OnOk, OnErr, IfErr, IfSome, List, ℕ, string_bytes};
+ghost use Rattle.std.specs.Prelude.{◌≡◌, ◌≤◌, ◌++◌, [], IfOk, OnOk, OnErr, IfErr, IfSome, List, ℕ, string_bytes};
 ghost use Rattle.std.specs.Io.KnownBytes.{Appends};
-ghost use Rattle.engine_clock.specs.Saved.{listing};
+ghost use Rattle.engine_clock.specs.Saved.{AreMarks, listing};
 ghost use Rattle.snmpsec_replay.specs.Transfer.{WritesFront};
-ghost use Rattle.snmpsec_replay.specs.Replay.{AnswersLine, Ends, ReplayText, SavesUnless, StopsBy, WriteFails, WritesSome, answer_line, outcome_text};
+ghost use Rattle.snmpsec_replay.specs.Replay.{AnswersLine, Ends, ReplayText, SavesUnless, StopsBy, WriteFails, WritesSome, answer_line, from_line_1, outcome_text, printed_line};
 
 use crate::fault::ReplayFault;
 use crate::log::{LINE_LIMIT, LINES_LIMIT, NextLine, read_entry, read_line};
+use crate::printing::Printing;
 use crate::transfer::{Failed, read_octet, write_whole};
 use snmp_manager::{Manager, Outcome};
 use snmpsec_config::level_word;
@@ -22,7 +23,7 @@ pub(crate) enum Ending {
     /// Each line was taken.
     Whole,
     /// The line of this number is out of its form or past the limits.
-    LogLine(u32),
+    LogLine(u64),
     /// A read failed.
     CannotRead,
     /// A growth of memory was refused.
@@ -63,7 +64,7 @@ fn outcome_text(alloc: Global, outcome: Outcome) -> Result<String, AllocError>
 #[tactic(auto, unfolding(crate::specs::Replay::answer_line))]
 fn answer_line(
     alloc: Global,
-    number: u32,
+    number: u64,
     moment: u64,
     outcome: Outcome,
 ) -> Result<String, AllocError>
@@ -73,15 +74,35 @@ fn answer_line(
     format!(in alloc; "{number} {moment} {words}\n")
 }
 
+/// Adds the line for a datagram to what waits to be written, where lines are wanted.
+fn push_line(
+    alloc: Global,
+    lines: bool,
+    number: u64,
+    moment: u64,
+    outcome: Outcome,
+    waiting: &mut Vec<u8>,
+) -> Result<(), AllocError>
+    ensures ok { OnOk result (waiting.new.items ≡ waiting.old.items ++ printed_line lines number moment outcome) }
+    ensures err { OnErr result (waiting.new.items ≡ waiting.old.items) }
+{
+    if !lines {
+        return Ok(());
+    }
+    let text = answer_line(alloc, number, moment, outcome)?;
+    waiting.extend_from_slice(text.as_bytes())
+}
+
 /// Takes the datagram of a line, and adds its answer to what waits to be written.
 fn answer(
     alloc: Global,
     manager: &mut Manager,
-    number: u32,
+    lines: bool,
+    number: u64,
     line: &[u8],
     waiting: &mut Vec<u8>,
 ) -> Step
-    ensures { AnswersLine manager.old number line.now waiting.old.items manager.new waiting.new.items result }
+    ensures { AnswersLine lines manager.old number line.now waiting.old.items manager.new waiting.new.items result }
 {
     let Ok(entry) = read_entry(alloc, line) else {
         return Step::OutOfMemory;
@@ -92,10 +113,7 @@ fn answer(
     let Ok(outcome) = manager.take_one(entry.moment, &entry.datagram) else {
         return Step::OutOfMemory;
     };
-    let Ok(text) = answer_line(alloc, number, entry.moment, outcome) else {
-        return Step::OutOfMemory;
-    };
-    let Ok(()) = waiting.extend_from_slice(text.as_bytes()) else {
+    let Ok(()) = push_line(alloc, lines, number, entry.moment, outcome, waiting) else {
         return Step::OutOfMemory;
     };
     Step::Answered
@@ -120,18 +138,20 @@ fn write_piece<W: Write>(writer: &mut W, waiting: &mut Vec<u8>) -> Result<(), Fa
 fn answer_lines<R: BufRead, W: Write>(
     alloc: Global,
     manager: &mut Manager,
+    printing: Printing,
     reader: &mut R,
     writer: &mut W,
     waiting: &mut Vec<u8>,
 ) -> Result<Ending, Failed>
-    requires { waiting.old.items ≡ [] }
-    ensures ok { IfOk result (Ends manager.old manager.new record {
+    requires none { waiting.old.items ≡ [] }
+    requires first { printing.first ≤ 1000000000000000 }
+    ensures ok { IfOk result (Ends printing manager.old manager.new record {
       unread = R.remaining reader.old;
       left = R.remaining reader.new;
       held = W.contents writer.old;
       written = W.contents writer.new;
     } waiting.new.items) }
-    ensures err { OnErr result (WriteFails manager.old record {
+    ensures err { OnErr result (WriteFails printing manager.old record {
       unread = R.remaining reader.old;
       left = R.remaining reader.new;
       held = W.contents writer.old;
@@ -141,7 +161,8 @@ fn answer_lines<R: BufRead, W: Write>(
     let Ok(mut line) = Vec::with_capacity(alloc, LINE_LIMIT) else {
         return Ok(Ending::OutOfMemory);
     };
-    for number in 1..LINES_LIMIT + 1 {
+    for taken in 0..LINES_LIMIT {
+        let number = printing.first + taken;
         let Ok(next) = read_line(reader, &mut line) else {
             return Ok(Ending::CannotRead);
         };
@@ -150,7 +171,7 @@ fn answer_lines<R: BufRead, W: Write>(
             NextLine::End => return Ok(Ending::Whole),
             NextLine::OutOfForm => return Ok(Ending::LogLine(number)),
         }
-        match answer(alloc, manager, number, &line, waiting) {
+        match answer(alloc, manager, printing.lines, number, &line, waiting) {
             Step::Answered => {}
             Step::OutOfForm => return Ok(Ending::LogLine(number)),
             Step::OutOfMemory => return Ok(Ending::OutOfMemory),
@@ -163,13 +184,14 @@ fn answer_lines<R: BufRead, W: Write>(
         return Ok(Ending::CannotRead);
     };
     if next.is_some() {
-        return Ok(Ending::LogLine(LINES_LIMIT + 1));
+        return Ok(Ending::LogLine(printing.first + LINES_LIMIT));
     }
     Ok(Ending::Whole)
 }
 
 /// Writes the saved text.
 fn save<W: Write>(manager: &Manager, writer: &mut W) -> Result<(), ReplayFault>
+    ensures fits { AreMarks manager.now.clocks }
     ensures ok { OnOk result (Appends (W.contents writer.old) (W.contents writer.new) (listing manager.now.clocks)) }
     ensures err { IfErr result (SavesUnless (listing manager.now.clocks) (W.contents writer.old) (W.contents writer.new)) }
 {
@@ -191,13 +213,39 @@ fn save<W: Write>(manager: &Manager, writer: &mut W) -> Result<(), ReplayFault>
 /// the lines of all datagrams that were taken are written, and no saved text.
 pub fn replay_log<R: BufRead, W: Write>(
     alloc: Global,
-    mut manager: Manager,
+    manager: Manager,
     reader: &mut R,
     writer: &mut W,
 ) -> Result<(), ReplayFault>
-    ensures ok { OnOk result (IfSome (R.remaining reader.old) (λ log. (text : List ℕ) × ReplayText manager log text
+    ensures ok { OnOk result (IfSome (R.remaining reader.old) (λ log. (text : List ℕ) × ReplayText from_line_1 manager log text
         × Appends (W.contents writer.old) (W.contents writer.new) text)) }
-    ensures err { IfErr result (StopsBy manager record {
+    ensures err { IfErr result (StopsBy from_line_1 manager record {
+      unread = R.remaining reader.old;
+      left = R.remaining reader.new;
+      held = W.contents writer.old;
+      written = W.contents writer.new;
+    }) }
+{
+    let printing = Printing {
+        first: 1,
+        lines: true,
+    };
+    replay_as(alloc, manager, printing, reader, writer)
+}
+
+/// The same with lines numbered from `printing.first`, at most 10^15, in what is written and in LogLine(n); and where no lines are wanted, with
+/// the saved text alone. So a log of more lines can be replayed in pieces, whose lines go on in number.
+pub fn replay_as<R: BufRead, W: Write>(
+    alloc: Global,
+    mut manager: Manager,
+    printing: Printing,
+    reader: &mut R,
+    writer: &mut W,
+) -> Result<(), ReplayFault>
+    requires { printing.first ≤ 1000000000000000 }
+    ensures ok { OnOk result (IfSome (R.remaining reader.old) (λ log. (text : List ℕ) × ReplayText printing manager log text
+        × Appends (W.contents writer.old) (W.contents writer.new) text)) }
+    ensures err { IfErr result (StopsBy printing manager record {
       unread = R.remaining reader.old;
       left = R.remaining reader.new;
       held = W.contents writer.old;
@@ -205,7 +253,8 @@ pub fn replay_log<R: BufRead, W: Write>(
     }) }
 {
     let mut waiting = Vec::new(alloc);
-    let Ok(ending) = answer_lines(alloc, &mut manager, reader, writer, &mut waiting) else {
+    let Ok(ending) = answer_lines(alloc, &mut manager, printing, reader, writer, &mut waiting)
+    else {
         return Err(ReplayFault::CannotWrite);
     };
     let Ok(()) = write_whole(writer, &waiting) else {

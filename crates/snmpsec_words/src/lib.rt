@@ -34,7 +34,8 @@ const MERGE_STATUS: &str =
 Status: 0 merged, 1 a file is refused (its first faulty line is told), 2 a fault of the command line or a file that can't be read.";
 
 const REPLAY_STATUS: &str =
-    "Example: snmpsec replay examples/replay/config.toml examples/replay/begin.clocks examples/replay/captured.log
+    "A log of more than 1000000 lines is replayed in pieces, each with --clocks-only; merge-clocks joins what they save.
+Example: snmpsec replay examples/replay/config.toml examples/replay/begin.clocks examples/replay/captured.log
 Status: 0 replayed, 1 a refused configuration or clocks file, 2 a fault of the command line or of a line of the log, or a file that can't be read.";
 
 /// A command with its words. None of them has been looked at beyond what the parser asks.
@@ -57,7 +58,7 @@ pub enum Command<'a> {
     CheckConfig {
         config: &'a str,
     },
-    /// `replay [--moment MOMENT] CONFIG CLOCKS LOG`
+    /// `replay [--moment MOMENT] [--clocks-only] [--from-line N] CONFIG CLOCKS LOG`
     Replay(ReplayWords<'a>),
     /// `merge-clocks [--moment MOMENT] FILE..`
     MergeClocks {
@@ -80,6 +81,10 @@ pub struct AccessWords<'a> {
 pub struct ReplayWords<'a> {
     /// When the clocks of a file without moments were seen.
     pub moment: Option<&'a str>,
+    /// Whether the saved text alone is wanted.
+    pub clocks_only: bool,
+    /// The number of the log's first line.
+    pub from_line: Option<&'a str>,
     /// The name of the configuration's file.
     pub config: &'a str,
     /// The name of the clocks file.
@@ -105,6 +110,23 @@ fn moment<'a>(alloc: Global) -> Arg<'a> {
         .help(
             "When the clocks of a file without moments were seen, in whole seconds; 0 if left out",
         )
+}
+
+/// The saved text alone.
+fn clocks_only<'a>(alloc: Global) -> Arg<'a> {
+    Arg::new(alloc, "clocks-only")
+        .long("clocks-only")
+        .action(ArgAction::SetTrue)
+        .help("Print the saved clocks alone, and no line for a datagram")
+}
+
+/// The number of the log's first line. A number below 0 is a word of the option too.
+fn from_line<'a>(alloc: Global) -> Arg<'a> {
+    Arg::new(alloc, "N")
+        .long("from-line")
+        .action(ArgAction::Set)
+        .allow_negative_numbers(true)
+        .help("Number of the log's first line, 1 to 1000000000000000; 1 if left out")
 }
 
 /// The datagram of a command.
@@ -196,6 +218,8 @@ fn replay<'a>(alloc: Global) -> Result<clap::Command<'a>, AllocError> {
         )
         .after_help(REPLAY_STATUS)
         .arg(moment(alloc))?
+        .arg(clocks_only(alloc))?
+        .arg(from_line(alloc))?
         .arg(word(alloc, "CONFIG", "TOML file with the manager's users"))?
         .arg(word(
             alloc,
@@ -261,6 +285,8 @@ fn access_words<'a>(alloc: Global, words: &ArgMatches<'a>) -> Result<AccessWords
 fn replay_words<'a>(alloc: Global, words: &ArgMatches<'a>) -> Result<ReplayWords<'a>, Error> {
     Ok(ReplayWords {
         moment: words.get_str("MOMENT"),
+        clocks_only: words.get_flag("clocks-only"),
+        from_line: words.get_str("N"),
         config: given(alloc, words, "CONFIG")?,
         clocks: given(alloc, words, "CLOCKS")?,
         log: given(alloc, words, "LOG")?,

@@ -5,7 +5,7 @@ use snmpsec_commands::run::command;
 use std::alloc::Global;
 
 /// A command line without the program's name, the status, standard output and standard error.
-static COMMANDS: [(&str, u8, &str, &str); 40] = [
+static COMMANDS: [(&str, u8, &str, &str); 43] = [
     // The configuration is read before another word is looked at.
     (
         "check-access /no/such/file 0 ann none see @ 1",
@@ -95,6 +95,25 @@ static COMMANDS: [(&str, u8, &str, &str); 40] = [
         2,
         "",
         "snmpsec: cannot read /no/such/file\n",
+    ),
+    // So is the number of the first line, from 1 to 10^15.
+    (
+        "replay --from-line 0 /no/such/file /dev/null /dev/null",
+        2,
+        "",
+        "snmpsec: bad word N\n",
+    ),
+    (
+        "replay --from-line 1000000000000001 /no/such/file /dev/null /dev/null",
+        2,
+        "",
+        "snmpsec: bad word N\n",
+    ),
+    (
+        "replay --clocks-only --from-line 1000000000000000 /dev/null /dev/null /dev/null",
+        1,
+        "refused clocks /dev/null line 1\n",
+        "",
     ),
     // The moment is looked at before a file is opened: it is no decimal, or has a sign, a zero that leads, a point, a blank or
     // another octet with it, or is above the greatest.

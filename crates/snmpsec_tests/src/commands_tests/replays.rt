@@ -1,9 +1,11 @@
 //! Logs that are replayed, and texts that are refused before one is.
 
+ghost use Rattle.std.specs.Prelude.{◌≤◌};
+
 use super::access::refused_configurations;
 use super::streams::{Choppy, Slow};
-use snmpsec_commands::replay::replay;
-use snmpsec_replay::ReplayFault;
+use snmpsec_commands::replay::{replay, replay_as};
+use snmpsec_replay::{Printing, ReplayFault};
 use std::alloc::{AllocError, Global};
 use std::io::{BufRead, BufReader, Write};
 use std::test::Fail;
@@ -357,5 +359,60 @@ fn the_longest_line_is_taken(rt: HostRuntime) -> Result<(), Fail> {
         assert_eq!(rt; replayed.answer, answer);
         assert_eq!(rt; replayed.written.as_slice(), written.as_bytes());
     }
+    Ok(())
+}
+
+/// Replays a log by the empty configuration, with what is to be printed.
+fn printed_as(alloc: Global, printing: Printing, log: &str) -> Result<Told, Fail>
+    requires { printing.first ≤ 1000000000000000 }
+{
+    let mut reader = log.as_bytes();
+    let mut written = Vec::new(alloc);
+    let clocks = NOTHING.as_bytes();
+    let config = b"".as_slice();
+    match replay_as(
+        alloc,
+        9,
+        printing,
+        config,
+        "c",
+        clocks,
+        &mut reader,
+        &mut written,
+    ) {
+        Err(ReplayFault::OutOfMemory) => Err(AllocError.into()),
+        answer => Ok(Told { answer, written }),
+    }
+}
+
+#[test]
+fn lines_go_on_from_any_number(rt: HostRuntime) -> Result<(), Fail> {
+    let printing = Printing {
+        first: 1_000_000_000_000_000,
+        lines: true,
+    };
+    let told = printed_as(rt.alloc(), printing, "0 30\n1 30\nx\n")?;
+    assert_eq!(rt;
+        told.answer,
+        Err(ReplayFault::LogLine(1_000_000_000_000_002))
+    );
+    let lines =
+        "1000000000000000 0 refused 1 NotMessage\n1000000000000001 1 refused 1 NotMessage\n";
+    assert_eq!(rt; told.written.as_slice(), lines.as_bytes());
+    Ok(())
+}
+
+#[test]
+fn the_saved_text_is_printed_alone(rt: HostRuntime) -> Result<(), Fail> {
+    let printing = Printing {
+        first: 7,
+        lines: false,
+    };
+    let told = printed_as(rt.alloc(), printing, LOG)?;
+    assert_eq!(rt; told.answer, Ok(0));
+    assert_eq!(rt; told.written.as_slice(), b"snmp-clocks 2\n".as_slice());
+    let told = printed_as(rt.alloc(), printing, "0 30\nx\n")?;
+    assert_eq!(rt; told.answer, Err(ReplayFault::LogLine(8)));
+    assert_eq!(rt; told.written.as_slice(), b"".as_slice());
     Ok(())
 }
