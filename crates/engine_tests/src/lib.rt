@@ -1,4 +1,4 @@
-//! Tests of managers, agents, worlds, handles and logs over the public items of their libraries.
+//! Tests of agents, of agents with managers, of handles and of opening over the public items of their libraries.
 #![tactic(auto)]
 
 #[cfg(test)]
@@ -6,10 +6,4 @@ mod snmp_engine_tests;
 #[cfg(test)]
 mod snmp_held_tests;
 #[cfg(test)]
-mod snmp_manager_tests;
-#[cfg(test)]
-mod snmp_world_tests;
-#[cfg(test)]
 mod snmpsec_open_tests;
-#[cfg(test)]
-mod snmpsec_replay_tests;

@@ -5,3 +5,4 @@ pub mod Counted
 pub mod Reports
 pub mod Clocked
 pub mod Alike
+pub mod Accepted

@@ -1,6 +1,6 @@
 -- What an agent sends besides reports: responses and notifications, each as what is handed in to be sealed, and the answer to
 -- sending it.
-use Rattle.std.specs.Prelude.{◌≤◌, ◌-◌, ℕ, ℤ, false, List, Result}
+use Rattle.std.specs.Prelude.{◌<◌, ◌≤◌, ◌-◌, ℕ, ℤ, false, List, Result}
 use Rattle.snmp_ber.specs.declared.level.Level.{Level}
 use Rattle.snmp_message.specs.Scoped.{Contexts}
 use Rattle.snmp_msg.specs.Variables.{Variable}
@@ -8,10 +8,17 @@ use Rattle.snmp_msg.specs.Pdu.{PduParts, pdu_with}
 use Rattle.engine_clock.specs.Pairs.{BootsAndTime, pair_max}
 use Rattle.usm_core.specs.Table.{Needs}
 use Rattle.usm_core.specs.Sealed.{Sending, Seals, IsSealable}
-use Rattle.snmp_outcome.specs.Outcome.{Given, own_pair}
+use Rattle.engine_clock.specs.Marks.{Marks}
+use Rattle.usm_users.specs.User.{User}
+use Rattle.usm_core.specs.Verified.{manager}
+use Rattle.snmp_outcome.specs.Outcome.{Given, as_manager, own_pair}
 use Rattle.snmp_sending.specs.declared.body.Body.{Body}
 use Rattle.snmp_sending.specs.Bodies.{pdu_in}
-use Rattle.snmp_sending.specs.Speaks.{Speech, spoken}
+use Rattle.snmp_sending.specs.Accepts.{IsTakenInTime}
+use Rattle.snmp_sending.specs.Speaks.{Speech, spoken, spoken_contexts, HasSameUser}
+use Rattle.snmp_sending.specs.Sends.{CanSend, RefusesSender}
+use Rattle.snmp_outcome.specs.declared.fault.TakeFault.{TakeFault}
+use Rattle.snmp_outcome.specs.declared.fault.TakeFault.TheVariants.{ClockExhausted}
 use Rattle.snmp_agent.specs.Agent.{AgentState}
 
 -- The Response to what was given, with contexts c and PDU p, from the engine with its boots and time (RFC 3412, section 7.1;
@@ -59,3 +66,19 @@ Sends agent now message = Needs (now - agent.started ≤ pair_max) 15 (λ _. Sea
 pub record CanBeSent (agent : AgentState) (now : ℕ) (message : BootsAndTime → Sending) : Type 0 where
   pub runs : now - agent.started ≤ pair_max
   pub sealable : IsSealable agent.users (message (own_pair agent.boots agent.started now))
+
+-- Messages of this user at this level can go out now.
+abbrev pub CanSendAt : AgentState → ℕ → List ℕ → Level → Type 0
+CanSendAt agent now name level = (now - agent.started ≤ pair_max) × CanSend agent.users name level
+
+-- why none of them can: first that the agent's clock has run out
+abbrev pub RefusesSenderAt : AgentState → ℕ → List ℕ → Level → TakeFault → Type 0
+RefusesSenderAt agent now name level ClockExhausted = pair_max < now - agent.started
+RefusesSenderAt agent now name level fault = (now - agent.started ≤ pair_max) × RefusesSender agent.users name level fault
+
+-- What is sent is accepted by each manager that has the sender's user, whatever it holds, exactly where the pair is in the window of
+-- what it holds once it has learned the pair; at noAuthNoPriv always. What it gives on is what was said.
+abbrev pub IsAcceptedByManagers : List User → Speech → List ℕ → Type 0
+IsAcceptedByManagers senders s text =
+    (users : List User) (held : Marks) (now : ℕ) → HasSameUser manager senders users s.user s.level
+    → IsTakenInTime (as_manager held) users now text (spoken s) (spoken_contexts s) s.pdu

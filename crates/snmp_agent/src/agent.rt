@@ -1,6 +1,6 @@
 //! The agent.
 
-ghost use Rattle.std.specs.Prelude.{◌≡◌, ◌≤◌, ◌<◌, ◌⊎◌, replicate, IfErr, IsSome, MatchOption};
+ghost use Rattle.std.specs.Prelude.{◌≡◌, ◌≤◌, ◌<◌, ◌⊎◌, replicate, IfErr, IsSome, MatchOption, MatchResult};
 ghost use Rattle.engine_clock.specs.Pairs.{pair_max};
 ghost use Rattle.snmp_outcome.specs.Refusals.{answer_number};
 ghost use Rattle.snmp_agent.specs.Counting.{counter_at};
@@ -12,6 +12,7 @@ use crate::counting::counted;
 use crate::decision::Decision;
 use crate::engine::Engine;
 use crate::judge::judge;
+use crate::laws::{notification_is_accepted, response_is_accepted};
 use crate::notification::{Recipient, send_notification};
 use crate::refused::Refused;
 use crate::report::report;
@@ -20,7 +21,7 @@ use engine_clock::EngineId;
 use snmp_ber::{Level, Oid};
 use snmp_msg::{Binding, USER_BASED, one_content, one_pdu};
 use snmp_outcome::{TakeFault, Taken};
-use snmp_sending::Body;
+use snmp_sending::{Body, supports};
 use std::alloc::{AllocError, Global};
 use std::marker::Model;
 use usm_core::Users;
@@ -56,7 +57,8 @@ impl Agent {
     ghost use Rattle.snmp_sending.specs.Bodies.{BodyFits};
     ghost use Rattle.snmp_sending.specs.Sends.{send_answer};
     ghost use Rattle.snmp_agent.specs.Decides.{question, question_of, IsDecision};
-    ghost use Rattle.snmp_agent.specs.Sent.{responding, notifying, Sends, CanBeSent};
+    ghost use Rattle.snmp_outcome.specs.Outcome.{own_pair};
+    ghost use Rattle.snmp_agent.specs.Sent.{response, responding, notification, notifying, Sends, CanBeSent, CanSendAt, RefusesSenderAt, IsAcceptedByManagers};
 
     /// An agent that started at the moment `started`, with these boots, at most 2147483647. Its counters are 0. This takes no
     /// memory.
@@ -189,6 +191,18 @@ impl Agent {
         Ok(Decision::ByName(answers))
     }
 
+    /// Whether messages of this user at this level can be sent at the moment `now` (RFC 3414, section 3.1). The errors are
+    /// ClockExhausted (15), and then at levels with authentication UnknownUser (7), and where there is such a user UnsupportedLevel (8).
+    /// It takes no memory.
+    pub fn supports(&self, now: u64, user: &[u8], level: Level) -> Result<(), TakeFault>
+        ensures { MatchResult result (λ _. CanSendAt self.now now user.now level) (RefusesSenderAt self.now now user.now level) }
+    {
+        if self.engine.pair(now).is_none() {
+            return Err(TakeFault::ClockExhausted);
+        }
+        supports(&self.users, user, level)
+    }
+
     /// The Response to an accepted request, at its level: its msgID, user, contexts and request-id, with this error-status, this
     /// error-index and these bindings, under the agent's engine, boots and time. Nothing of the agent changes. The salt is used
     /// at authPriv alone.
@@ -212,8 +226,12 @@ impl Agent {
         // The refusals before the text come before want of memory.
         ensures memory { (c : Contexts) (p : PduParts) → ScopedFront (text_of taken.now.text) c → PduText c.pdu p → IsErrOf result TakeFault.OutOfMemory
             → CanBeSent self.old now (λ own. responding self.old.engine own (given_of taken.now) c p status index (map variable_of bindings.now) salt) }
+        ensures accepted { (c : Contexts) (p : PduParts) → ScopedFront (text_of taken.now.text) c → PduText c.pdu p
+            → IfOk result (λ text. IsAcceptedByManagers self.old.users
+            (response self.old.engine (own_pair self.old.boots self.old.started now) (given_of taken.now) c p status index (map variable_of bindings.now) salt) text.items) }
         ensures same { self.new ≡ self.old }
     {
+        response_is_accepted();
         let Some(own) = self.engine.pair(now) else {
             return Err(TakeFault::ClockExhausted);
         };
@@ -255,8 +273,11 @@ impl Agent {
 
         // The refusals before the text come before want of memory.
         ensures memory { IsErrOf result TakeFault.OutOfMemory → CanBeSent self.old now (λ own. notifying self.old.engine own id user.now level body.now salt) }
+        ensures accepted { IfOk result (λ text. IsAcceptedByManagers self.old.users
+            (notification self.old.engine (own_pair self.old.boots self.old.started now) id user.now level body.now salt) text.items) }
         ensures same { self.new ≡ self.old }
     {
+        notification_is_accepted();
         let Some(own) = self.engine.pair(now) else {
             return Err(TakeFault::ClockExhausted);
         };

@@ -1,10 +1,12 @@
 //! Notifications.
 
-ghost use Rattle.std.specs.Prelude.{◌≡◌, ◌≤◌, length, IfSome, IsErrOf};
+ghost use Rattle.std.specs.Prelude.{◌≡◌, ◌≤◌, length, IfOk, IfSome, IsErrOf};
+ghost use Rattle.engine_clock.specs.Pairs.{IsPair};
 ghost use Rattle.usm_core.specs.Sealed.{Seals, IsSealable};
 ghost use Rattle.snmp_sending.specs.Bodies.{BodyFits};
 ghost use Rattle.snmp_sending.specs.Sends.{send_answer};
-ghost use Rattle.snmp_agent.specs.Sent.{notifying};
+ghost use Rattle.snmp_sending.specs.Speaks.{SpeechFits};
+ghost use Rattle.snmp_agent.specs.Sent.{notification, notifying};
 
 use engine_clock::{EngineId, Pair};
 use snmp_ber::Level;
@@ -35,8 +37,10 @@ pub(crate) fn send_notification(
     requires id { to.now.id ≤ 2147483647 }
     requires user { length to.now.user.now ≤ 32 }
     requires body { BodyFits body.now }
+    requires pair { IsPair own }
     ensures rows { IfSome (send_answer result) (Seals users.old.users (notifying engine.now own to.now.id to.now.user.now to.now.level body.now to.now.salt)) }
     ensures memory { IsErrOf result TakeFault.OutOfMemory → IsSealable users.old.users (notifying engine.now own to.now.id to.now.user.now to.now.level body.now to.now.salt) }
+    ensures fits { IfOk result (λ _. SpeechFits (notification engine.now own to.now.id to.now.user.now to.now.level body.now to.now.salt)) }
     ensures users { users.new.users ≡ users.old.users }
 {
     let envelope = Envelope {

@@ -1,6 +1,7 @@
 //! Responses.
 
-ghost use Rattle.std.specs.Prelude.{◌≡◌, All, map, IfSome, IsErrOf};
+ghost use Rattle.std.specs.Prelude.{◌≡◌, All, map, IfOk, IfSome, IsErrOf};
+ghost use Rattle.engine_clock.specs.Pairs.{IsPair};
 ghost use Rattle.snmp_message.specs.Scoped.{Contexts, ScopedFront};
 ghost use Rattle.snmp_msg.specs.Pdu.{PduParts, PduText};
 ghost use Rattle.snmp_msg.specs.Variables.{CanBeWritten, variable_of};
@@ -8,7 +9,8 @@ ghost use Rattle.usm_core.specs.Sealed.{Seals, IsSealable};
 ghost use Rattle.snmp_outcome.specs.Texts.{text_of};
 ghost use Rattle.snmp_outcome.specs.Answers.{given_of};
 ghost use Rattle.snmp_sending.specs.Sends.{send_answer};
-ghost use Rattle.snmp_agent.specs.Sent.{responding};
+ghost use Rattle.snmp_sending.specs.Speaks.{SpeechFits};
+ghost use Rattle.snmp_agent.specs.Sent.{response as speech, responding};
 
 use engine_clock::{EngineId, Pair};
 use snmp_msg::{Binding, one_content, one_pdu};
@@ -37,11 +39,14 @@ pub(crate) fn send_response(
     taken: &Taken<'_>,
     response: &Response<'_>,
 ) -> Result<Vec<u8>, TakeFault>
-    requires { All (λ b. CanBeWritten (variable_of b)) response.now.bindings.now }
+    requires bindings { All (λ b. CanBeWritten (variable_of b)) response.now.bindings.now }
+    requires pair { IsPair own }
     ensures rows { (c : Contexts) (p : PduParts) → ScopedFront (text_of taken.now.text) c → PduText c.pdu p
         → IfSome (send_answer result) (Seals users.old.users (responding engine.now own (given_of taken.now) c p response.now.status response.now.index (map variable_of response.now.bindings.now) response.now.salt)) }
     ensures memory { (c : Contexts) (p : PduParts) → ScopedFront (text_of taken.now.text) c → PduText c.pdu p → IsErrOf result TakeFault.OutOfMemory
         → IsSealable users.old.users (responding engine.now own (given_of taken.now) c p response.now.status response.now.index (map variable_of response.now.bindings.now) response.now.salt) }
+    ensures fits { (c : Contexts) (p : PduParts) → ScopedFront (text_of taken.now.text) c → PduText c.pdu p
+        → IfOk result (λ _. SpeechFits (speech engine.now own (given_of taken.now) c p response.now.status response.now.index (map variable_of response.now.bindings.now) response.now.salt)) }
     ensures users { users.new.users ≡ users.old.users }
 {
     one_content();

@@ -1,5 +1,5 @@
 -- What the calls on a handle answer and leave.
-use Rattle.std.specs.Prelude.{◌≡◌, ◌<◌, ◌≤◌, ◌⊎◌, ⊤, ℕ, ℤ, pos, List, length, drop, ◌++◌, Result, MatchOption}
+use Rattle.std.specs.Prelude.{◌≡◌, ◌≢◌, ◌<◌, ◌≤◌, ◌⊎◌, ⊤, ℕ, ℤ, pos, List, length, drop, ◌++◌, Result, MatchOption}
 use Rattle.std.specs.Int.{to_be_bytes, w64}
 use Rattle.vacm_core.specs.declared.access.Access.{Access}
 use Rattle.snmp_held.specs.declared.fault.CallFault.{CallFault}
@@ -8,7 +8,7 @@ use Rattle.snmp_held.specs.Faults.{code, access_code, value_code, fault_code}
 use Rattle.snmp_held.specs.Bindings.{ReadsAt, WritesBinding}
 use Rattle.snmp_held.specs.Parts.{part_of, CopiesPart, CopiesMessage, AreNumbersOf}
 use Rattle.snmp_outcome.specs.Outcome.{Given}
-use Rattle.snmp_held.specs.Agents.{AgentHeld, Clears, MakesAgent, TakesHeld, AllowsHeld, MaySee, Counts, RespondsHeld, Notice, NotifiesHeld}
+use Rattle.snmp_held.specs.Agents.{AgentHeld, Clears, MakesAgent, TakesHeld, TakesNoMemory, AllowsHeld, MaySee, Counts, RespondsHeld, Notice, NotifiesHeld}
 
 -- The answer is the number of what is told, of which this is said.
 abbrev pub Done : (Result ⊤ CallFault → Type 0) → ℤ → Type 0
@@ -22,8 +22,9 @@ Accesses Says answer = (told : Result Access CallFault) × (answer ≡ access_co
 abbrev pub Makes : List ℕ → List ℕ → ℕ → ℕ → ℤ → Type 0
 Makes config engine boots started answer = (told : Result AgentHeld CallFault) × (answer ≡ code told) × MakesAgent config engine boots started told
 
+-- 14, want of memory, isn't answered where none is wanted.
 abbrev pub Takes : ℕ → List ℕ → AgentHeld → AgentHeld → ℤ → Type 0
-Takes now w old new answer = Done (λ told. TakesHeld old now w told new) answer
+Takes now w old new answer = Done (λ told. TakesHeld old now w told new) answer × (TakesNoMemory old.agent now w → answer ≢ pos 14)
 
 -- Nothing changes.
 abbrev pub Allows : ℕ → List ℕ → AgentHeld → AgentHeld → ℤ → Type 0

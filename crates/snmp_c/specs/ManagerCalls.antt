@@ -1,5 +1,5 @@
 -- What the calls on a manager's handle answer and leave.
-use Rattle.std.specs.Prelude.{◌≡◌, ℕ, ℤ, List, Result, Ok, Err, MatchOption}
+use Rattle.std.specs.Prelude.{◌≡◌, ◌≢◌, ℕ, ℤ, pos, List, Result, Ok, Err, MatchOption}
 use Rattle.std.specs.Int.{to_be_bytes, w64}
 use Rattle.engine_clock.specs.Pairs.{BootsAndTime}
 use Rattle.snmp_manager.specs.declared.pending.Answer.{Answer}
@@ -7,7 +7,7 @@ use Rattle.snmp_held.specs.declared.fault.CallFault.{CallFault}
 use Rattle.snmp_held.specs.declared.fault.CallFault.TheVariants.{BadArgument, NothingTaken}
 use Rattle.snmp_held.specs.Faults.{code, answer_code, fault_code}
 use Rattle.snmp_held.specs.Parts.{part_of, CopiesPart, CopiesMessage}
-use Rattle.snmp_held.specs.Managers.{ManagerHeld, Asking, MakesManager, ClearsManager, ManagerTakes, TellsAnswer, RequestsHeld, DiscoversHeld, AbsorbsHeld, SavesHeld, TellsPair}
+use Rattle.snmp_held.specs.Managers.{ManagerHeld, Asking, MakesManager, ClearsManager, ManagerTakes, TakesNoMemory, TellsAnswer, RequestsHeld, DiscoversHeld, AbsorbsHeld, SavesHeld, TellsPair}
 use Rattle.snmp_c.specs.Calls.{Done, HasNumbers}
 
 abbrev pub MakesAManager : List ℕ → List ℕ → ℕ → ℤ → Type 0
@@ -16,8 +16,9 @@ MakesAManager config clocks now answer = (told : Result ManagerHeld CallFault) �
 abbrev pub Clears : ManagerHeld → ManagerHeld → ℤ → Type 0
 Clears old new answer = Done (λ told. ClearsManager old told new) answer
 
+-- 14, want of memory, isn't answered where none is wanted.
 abbrev pub ManagerTook : ℕ → List ℕ → ManagerHeld → ManagerHeld → ℤ → Type 0
-ManagerTook now w old new answer = Done (λ told. ManagerTakes old now w told new) answer
+ManagerTook now w old new answer = Done (λ told. ManagerTakes old now w told new) answer × (TakesNoMemory old.manager now w → answer ≢ pos 14)
 
 -- Nothing changes.
 abbrev pub Answered : ManagerHeld → ManagerHeld → ℤ → Type 0

@@ -4,7 +4,8 @@ pub use snmp_agent::{
     agents_decide_alike, notification_is_accepted, report_is_short, response_is_accepted,
 };
 pub use snmp_manager::{
-    same_authentic_same_latest, same_authentic_same_pairs, taken_holds_the_latest, takes_are_joined,
+    pieces_are_joined, same_authentic_same_latest, same_authentic_same_pairs,
+    taken_holds_the_latest, takes_are_joined,
 };
 pub use snmp_outcome::{bad_scoped_is_sealed, one_answer, one_text, replay_bound};
 pub use snmp_sending::{request_is_accepted, sealed_is_accepted, spoken_is_accepted};

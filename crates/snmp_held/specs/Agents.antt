@@ -14,7 +14,7 @@ use Rattle.snmp_agent.specs.Report.{AgentReports, OffersOnAnswer}
 use Rattle.snmp_sending.specs.Speaks.{Speech, spoken}
 use Rattle.snmp_agent.specs.Counting.{counter_at}
 use Rattle.snmp_agent.specs.Decides.{question, question_of}
-use Rattle.snmp_agent.specs.Sent.{responding, Sends}
+use Rattle.snmp_agent.specs.Sent.{responding, Sends, CanSendAt, RefusesSenderAt}
 use Rattle.engine_clock.specs.Pairs.{BootsAndTime, pair_max}
 use Rattle.usm_core.specs.Authentic.{HasEngineLength}
 use Rattle.usm_users.specs.User.{User}
@@ -24,6 +24,7 @@ use Rattle.vacm_core.specs.declared.access.Access.{Access}
 use Rattle.vacm_core.specs.declared.access.ViewType.{ViewType}
 use Rattle.snmpsec_config.specs.Refusals.{Loads, RefusesText}
 use Rattle.snmpsec_config.specs.declared.fault.ConfigFault.{ConfigFault}
+use Rattle.snmp_outcome.specs.declared.fault.TakeFault.{TakeFault}
 use Rattle.snmp_outcome.specs.declared.fault.TakeFault.TheVariants.{OutOfMemory}
 use Rattle.snmp_held.specs.Numbers.{level_of, view_of}
 use Rattle.snmp_held.specs.declared.fault.CallFault.{CallFault}
@@ -137,13 +138,22 @@ Responds agent now g status index list salt answer =
 abbrev pub IsAsked : AgentHeld → Given → Type 0
 IsAsked held g = (held.last ≡ Some g) × (is_confirmed g.tag ≡ true)
 
+-- Nothing can be sent for its user at its level; or it can, and the Response is refused, or finds no memory.
+abbrev pub StopsResponse : AgentState → ℕ → Given → ℕ → ℕ → List ℕ → List ℕ → TakeFault → Type 0
+StopsResponse agent now g status index list salt fault =
+    RefusesSenderAt agent now g.user g.level fault
+    ⊎ (CanSendAt agent now g.user g.level × IfSome (send_refusal fault) (Responds agent now g status index list salt))
+
+-- the octets aren't bindings, of a Response that can be sent
+abbrev pub HasNoBindings : AgentState → ℕ → Given → List ℕ → Type 0
+HasNoBindings agent now g list = CanSendAt agent now g.user g.level × ((vs : List Variable) → AreBindings vs list → ⊥)
+
 abbrev pub RefusesResponse : AgentHeld → ℕ → ℕ → ℕ → List ℕ → List ℕ → CallFault → Type 0
-RefusesResponse held now status index list salt (Refused fault) =
-    (g : Given) × IsAsked held g × IfSome (send_refusal fault) (Responds held.agent now g status index list salt)
+RefusesResponse held now status index list salt (Refused fault) = (g : Given) × IsAsked held g × StopsResponse held.agent now g status index list salt fault
 RefusesResponse held now status index list salt BadArgument = (2147483647 < status) ⊎ (2147483647 < index)
 RefusesResponse held now status index list salt NothingTaken = held.last ≡ None
 RefusesResponse held now status index list salt NotAsked = (g : Given) × (held.last ≡ Some g) × (is_confirmed g.tag ≡ false)
-RefusesResponse held now status index list salt BadBindings = ((g : Given) × IsAsked held g) × ((vs : List Variable) → AreBindings vs list → ⊥)
+RefusesResponse held now status index list salt BadBindings = (g : Given) × IsAsked held g × HasNoBindings held.agent now g list
 RefusesResponse held now status index list salt _ = ⊥
 
 -- A message is to be sent, and nothing else changes.
@@ -181,16 +191,26 @@ trap engine own n level vs salt = record {
   pdu = pdu_with 167 (pos n.request_id) (pos 0) (pos 0) vs;
 }
 
+-- the notification at this level
+abbrev pub NotifiesAt : AgentState → ℕ → Notice → Level → List ℕ → List ℕ → Result (List ℕ) ℕ → Type 0
+NotifiesAt agent now n level list salt answer =
+    (vs : List Variable) × AreBindings vs list × Sends agent now (λ own. spoken (trap agent.engine own n level vs salt)) answer
+
 abbrev pub Notifies : AgentState → ℕ → Notice → List ℕ → List ℕ → Result (List ℕ) ℕ → Type 0
-Notifies agent now n list salt answer =
-    (at : Level) × (vs : List Variable) × (level_of n.level ≡ Some at) × AreBindings vs list
-    × Sends agent now (λ own. spoken (trap agent.engine own n at vs salt)) answer
+Notifies agent now n list salt answer = (at : Level) × (level_of n.level ≡ Some at) × NotifiesAt agent now n at list salt answer
+
+-- Nothing can be sent for the user at this level; or it can, and the notification is refused, or finds no memory.
+abbrev pub StopsNotice : AgentState → ℕ → Notice → Level → List ℕ → List ℕ → TakeFault → Type 0
+StopsNotice agent now n level list salt fault =
+    RefusesSenderAt agent now n.user level fault
+    ⊎ (CanSendAt agent now n.user level × IfSome (send_refusal fault) (NotifiesAt agent now n level list salt))
 
 abbrev pub RefusesNotice : AgentHeld → ℕ → Notice → List ℕ → List ℕ → CallFault → Type 0
-RefusesNotice held now n list salt (Refused fault) = IfSome (send_refusal fault) (Notifies held.agent now n list salt)
+RefusesNotice held now n list salt (Refused fault) = (at : Level) × (level_of n.level ≡ Some at) × StopsNotice held.agent now n at list salt fault
 RefusesNotice held now n list salt BadArgument =
     (level_of n.level ≡ None) ⊎ ((2147483647 < n.id) ⊎ ((2147483647 < n.request_id) ⊎ (32 < length n.user)))
-RefusesNotice held now n list salt BadBindings = (vs : List Variable) → AreBindings vs list → ⊥
+RefusesNotice held now n list salt BadBindings =
+    (at : Level) × (level_of n.level ≡ Some at) × CanSendAt held.agent now n.user at × ((vs : List Variable) → AreBindings vs list → ⊥)
 RefusesNotice held now n list salt _ = ⊥
 
 -- The notification is to be sent. A refusal changes nothing.

@@ -1,13 +1,13 @@
 -- Between the functions: what is asked for a caller, before it is left to be sent.
-use Rattle.std.specs.Prelude.{ℕ, pos, List, Result, Ok, Err, IfSome}
+use Rattle.std.specs.Prelude.{ℕ, pos, List, Result, Ok, Err}
 use Rattle.std.specs.Global.{Vec}
 use Rattle.snmp_ber.specs.declared.level.Level.{Level}
 use Rattle.snmp_msg.specs.Variables.{Variable, AreBindings}
-use Rattle.snmp_sending.specs.Sends.{send_refusal}
+use Rattle.snmp_sending.specs.Sends.{CanSend}
 use Rattle.snmp_manager.specs.Views.{Held}
 use Rattle.snmp_manager.specs.Pendings.{Remembers}
 use Rattle.snmp_manager.specs.declared.pending.Pending.{Pending}
-use Rattle.snmp_held.specs.Managers.{Asking, AsksAt}
+use Rattle.snmp_held.specs.Managers.{Asking, AsksAt, StopsRequest}
 use Rattle.snmp_held.specs.declared.manager.AskedOf.{AskedOf}
 use Rattle.snmp_held.specs.declared.fault.CallFault.{CallFault}
 use Rattle.snmp_held.specs.declared.fault.CallFault.TheVariants.{Refused, BadBindings}
@@ -32,6 +32,6 @@ RemembersAsking a ask level = Remembers a ask.id ask.engine ask.user level ask.c
 
 abbrev pub AnswersRequest : Held → ℕ → Asking → Level → List ℕ → List ℕ → Result (Vec ℕ × Pending) CallFault → Type 0
 AnswersRequest held now ask level list salt (Ok sent) = AsksAt held now ask level list salt (Ok sent.0.items) × RemembersAsking sent.1 ask level
-AnswersRequest held now ask level list salt (Err (Refused fault)) = IfSome (send_refusal fault) (AsksAt held now ask level list salt)
-AnswersRequest held now ask level list salt (Err BadBindings) = (vs : List Variable) → AreBindings vs list → ⊥
+AnswersRequest held now ask level list salt (Err (Refused fault)) = StopsRequest held now ask level list salt fault
+AnswersRequest held now ask level list salt (Err BadBindings) = CanSend held.users ask.user level × ((vs : List Variable) → AreBindings vs list → ⊥)
 AnswersRequest held now ask level list salt (Err _) = ⊥

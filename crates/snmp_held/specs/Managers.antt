@@ -20,7 +20,7 @@ use Rattle.snmp_outcome.specs.declared.fault.TakeFault.{TakeFault}
 use Rattle.snmp_outcome.specs.declared.fault.TakeFault.TheVariants.{OutOfMemory}
 use Rattle.snmp_sending.specs.Classes.{is_confirmed}
 use Rattle.snmp_sending.specs.Bodies.{header_at}
-use Rattle.snmp_sending.specs.Sends.{send_refusal}
+use Rattle.snmp_sending.specs.Sends.{send_refusal, CanSend, RefusesSender}
 use Rattle.snmp_sending.specs.Requests.{written_pair, discovering}
 use Rattle.snmp_manager.specs.Views.{Held, held_by}
 use Rattle.snmp_manager.specs.Takes as manager
@@ -132,19 +132,23 @@ abbrev pub AsksAt : Held → ℕ → Asking → Level → List ℕ → List ℕ 
 AsksAt held now ask level list salt answer =
     (vs : List Variable) × AreBindings vs list × Seals held.users (asked (mark_at held.clocks ask.engine) now ask level vs salt) answer
 
-abbrev pub Asks : Held → ℕ → Asking → List ℕ → List ℕ → Result (List ℕ) ℕ → Type 0
-Asks held now ask list salt answer = (level : Level) × (level_of ask.level ≡ Some level) × AsksAt held now ask level list salt answer
-
 -- a number or a length is out of its range
 abbrev pub IsOutOfRange : Asking → Type 0
 IsOutOfRange ask =
     (level_of ask.level ≡ None) ⊎ ((HasEngineLength ask.engine → ⊥) ⊎ ((IsPduTag ask.tag → ⊥) ⊎ ((32 < length ask.user)
     ⊎ ((2147483647 < ask.id) ⊎ ((2147483647 < ask.request_id) ⊎ ((2147483647 < ask.second) ⊎ (2147483647 < ask.third)))))))
 
+-- Nothing can be sent for the user at this level; or it can, and the request is refused, or finds no memory.
+abbrev pub StopsRequest : Held → ℕ → Asking → Level → List ℕ → List ℕ → TakeFault → Type 0
+StopsRequest held now ask level list salt fault =
+    RefusesSender held.users ask.user level fault
+    ⊎ (CanSend held.users ask.user level × IfSome (send_refusal fault) (AsksAt held now ask level list salt))
+
 abbrev pub RefusesRequest : ManagerHeld → ℕ → Asking → List ℕ → List ℕ → CallFault → Type 0
-RefusesRequest held now ask list salt (Refused fault) = IfSome (send_refusal fault) (Asks held.manager now ask list salt)
+RefusesRequest held now ask list salt (Refused fault) = (level : Level) × (level_of ask.level ≡ Some level) × StopsRequest held.manager now ask level list salt fault
 RefusesRequest held now ask list salt BadArgument = IsOutOfRange ask
-RefusesRequest held now ask list salt BadBindings = (vs : List Variable) → AreBindings vs list → ⊥
+RefusesRequest held now ask list salt BadBindings =
+    (level : Level) × (level_of ask.level ≡ Some level) × CanSend held.manager.users ask.user level × ((vs : List Variable) → AreBindings vs list → ⊥)
 RefusesRequest held now ask list salt _ = ⊥
 
 -- The message is to be sent, and its answer is waited for.

@@ -108,8 +108,11 @@ fn response(
     if !is_confirmed(kept.taken().tag) {
         return Err(CallFault::NotAsked);
     }
-    let bindings = bindings_of(alloc, list)?;
     let taken = kept.taken();
+    if let Err(fault) = agent.supports(now, taken.user, taken.level) {
+        return Err(CallFault::Refused(fault));
+    }
+    let bindings = bindings_of(alloc, list)?;
     match agent.respond(now, &taken, status as i32, index as i32, &bindings, salt) {
         Ok(text) => Ok(text),
         Err(fault) => Err(CallFault::Refused(fault)),
@@ -132,6 +135,9 @@ fn notice(
     ensures answer { AnswersNotice agent.old now (notice_of to.now) level list.now salt result }
     ensures same { agent.new ≡ agent.old }
 {
+    if let Err(fault) = agent.supports(now, to.user, level) {
+        return Err(CallFault::Refused(fault));
+    }
     let bindings = bindings_of(alloc, list)?;
     let body = Body {
         context_engine: to.context_engine,
@@ -285,8 +291,9 @@ impl AgentHandle {
     /// Writes the Response to what is kept, with this error-status, error-index and the bindings that these octets are, as
     /// `Agent::respond` does, and leaves it to be sent. On an error nothing changes.
     ///
-    /// The errors are BadArgument, where status or index are above 2147483647; NothingTaken; NotAsked, where the PDU isn't
-    /// of the Confirmed Class; BadBindings; and the refusals of `Agent::respond`.
+    /// The errors are, the first that applies: BadArgument, where status or index are above 2147483647; NothingTaken; NotAsked, where
+    /// the PDU isn't of the Confirmed Class; those of `Agent::supports`; then BadBindings, TooLarge (16), or want of memory, whichever
+    /// is met first.
     pub fn respond(
         &mut self,
         now: u64,
@@ -325,8 +332,8 @@ impl AgentHandle {
     /// Writes an SNMPv2-Trap with the bindings that these octets are, as `Agent::notify` does, and leaves it to be sent. On an
     /// error nothing changes.
     ///
-    /// The errors are BadArgument, where a number of `to` is out of its range or the name is longer than 32 octets;
-    /// BadBindings; and the refusals of `Agent::notify`.
+    /// The errors are, the first that applies: BadArgument, where a number of `to` is out of its range or the name is longer than 32
+    /// octets; those of `Agent::supports`; then BadBindings, TooLarge (16), or want of memory, whichever is met first.
     pub fn notify(
         &mut self,
         now: u64,

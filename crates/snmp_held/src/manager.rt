@@ -106,6 +106,9 @@ fn request(
     ensures answer { AnswersRequest manager.old now (asking_of of.now) level list.now salt result }
     ensures same { manager.new ≡ manager.old }
 {
+    if let Err(fault) = manager.supports(of.user, level) {
+        return Err(CallFault::Refused(fault));
+    }
     let bindings = bindings_of(alloc, list)?;
     let body = Body {
         context_engine: of.context_engine,
@@ -208,8 +211,9 @@ impl ManagerHandle {
     /// Writes a request with the bindings that these octets are, as `Manager::request` does, leaves it to be sent and waits for
     /// its answer. On an error nothing changes.
     ///
-    /// The errors are BadArgument, where a number of `of` is out of its range, the engine ID hasn't 5 to 32 octets or the name is
-    /// longer than 32; BadBindings; and the refusals of `Manager::request`.
+    /// The errors are, the first that applies: BadArgument, where a number of `of` is out of its range, the engine ID hasn't 5 to 32
+    /// octets or the name is longer than 32; those of `Manager::supports`; then BadBindings, TooLarge (16), or want of memory,
+    /// whichever is met first.
     pub fn request(
         &mut self,
         now: u64,

@@ -30,10 +30,10 @@ learns_set users now w old new engine S (inl (e, pair, authentic, learns)) lates
     (λ q m. elim m [ inl s ↦ inl s | inr a ↦ let h = authentic.only engine q a in inr (sym h.0, h.1) ])
     (IsGreatestOf-learned S e pair old new learns.pair_joined engine latest)
 
-only_one : (w x : List ℕ) → Contains (w ∷ []) x → x ≡ w
+pub only_one : {A : Type 0} (w x : A) → Contains (w ∷ []) x → x ≡ w
 only_one w x h = let first : h.0 ≡ 0 = omega (arith, h.1) in sym (subst (λ k. get_or (w ∷ []) k x ≡ x) first h.2)
 
-the_one : (w : List ℕ) → Contains (w ∷ []) w
+pub the_one : {A : Type 0} (w : A) → Contains (w ∷ []) w
 the_one w = (0, omega arith, refl)
 
 -- after one more datagram the greatest that is known is held

@@ -1,3 +1,4 @@
 pub mod Takes
 pub mod Learned
 mod Written
+pub mod Pieces

@@ -2,6 +2,7 @@
 use Rattle.std.specs.Prelude.{◌≡◌, ◌⊎◌, ◌↔◌, ℕ, List, map, Contains, Option, Some}
 use Rattle.std.specs.Global.{Vec}
 use Rattle.engine_clock.specs.Pairs.{BootsAndTime, IsGreatestOf}
+use Rattle.engine_clock.specs.Marks.{SeenPair, IsGreatestMarkOf}
 use Rattle.usm_users.specs.User.{User}
 use Rattle.usm_core.specs.Authentic.{Authentic}
 
@@ -21,6 +22,15 @@ Known users begin datagrams engine pair = (begin ≡ Some pair) ⊎ ((w : List �
 -- the pair is the greatest that is known, or None where none is
 abbrev pub IsLatest : List User → Option BootsAndTime → List (List ℕ) → List ℕ → Option BootsAndTime → Type 0
 IsLatest users begin datagrams engine found = IsGreatestOf (Known users begin datagrams engine) found
+
+-- The same with moments: the marks of the engine are the one that was held at the beginning, and the pair of each authentic datagram of
+-- the list, seen at the datagram's moment.
+abbrev pub KnownMark : List User → Option SeenPair → List (ℕ × List ℕ) → List ℕ → SeenPair → Type 0
+KnownMark users begin taken engine mark = (begin ≡ Some mark) ⊎ ((w : List ℕ) × Contains taken (mark.seen, w) × Authentic users w engine mark.pair)
+
+-- the mark is the greatest that is known, or None where none is: the greatest pair, seen at the earliest of its moments
+abbrev pub IsLatestMark : List User → Option SeenPair → List (ℕ × List ℕ) → List ℕ → Option SeenPair → Type 0
+IsLatestMark users begin taken engine found = IsGreatestMarkOf (KnownMark users begin taken engine) found
 
 -- two lists have the same authentic datagrams
 abbrev pub HaveSameAuthentic : List User → List (List ℕ) → List (List ℕ) → Type 0

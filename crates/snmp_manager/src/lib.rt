@@ -11,7 +11,8 @@ mod replies;
 mod requests;
 
 pub use laws::{
-    same_authentic_same_latest, same_authentic_same_pairs, taken_holds_the_latest, takes_are_joined,
+    pieces_are_joined, same_authentic_same_latest, same_authentic_same_pairs,
+    taken_holds_the_latest, takes_are_joined,
 };
 pub use manager::Manager;
 pub use outcome::{Outcome, Stopped};

@@ -1,16 +1,19 @@
 //! The manager.
 
-ghost use Rattle.std.specs.Prelude.{◌≡◌, ◌<◌, ◌≤◌, ℕ, pos, List, [], length, Ok, IfOk, IfErr, IfSome, IsErrOf, IsOk, IsSome, OnErr, OnOk};
+ghost use Rattle.std.specs.Prelude.{◌≡◌, ◌<◌, ◌≤◌, ℕ, pos, List, [], length, Ok, IfOk, IfErr, IfSome, IsErrOf, IsOk, IsSome, MatchResult, OnErr, OnOk, Some};
 ghost use Rattle.std.specs.Option.{option_map};
-ghost use Rattle.engine_clock.specs.Marks.{HoldsAll, mark_at, pair_at, IsMarkJoinOf, IsJoinOf};
+ghost use Rattle.engine_clock.specs.Pairs.{IsPair};
+ghost use Rattle.engine_clock.specs.Marks.{HoldsAll, SeenPair, mark_at, pair_at, IsMarkJoinOf, IsJoinOf};
 ghost use Rattle.engine_clock.specs.Saved.{AreMarks, listing};
 ghost use Rattle.engine_clock.specs.Windows.{notion_at};
 ghost use Rattle.snmp_ber.specs.declared.level.Level.TheVariants.{NoAuthNoPriv};
 ghost use Rattle.usm_core.specs.Verified.{manager};
 ghost use Rattle.usm_core.specs.Sealed.{Seals, IsSealable};
 ghost use Rattle.snmp_outcome.specs.Answers.{answer_of, IsPlain};
-ghost use Rattle.snmp_sending.specs.Bodies.{BodyFits};
+ghost use Rattle.snmp_msg.specs.Pdu.{IsSpelled};
+ghost use Rattle.snmp_sending.specs.Bodies.{BodyFits, pdu_in};
 ghost use Rattle.snmp_sending.specs.Requests.{requesting, discovering};
+ghost use Rattle.snmp_sending.specs.Sends.{CanSend, RefusesSender};
 ghost use Rattle.snmp_manager.specs.Pendings.{Remembers, IsPending, request_answer};
 ghost use Rattle.snmp_manager.specs.Known.{IsLatest, datagrams_of};
 ghost use Rattle.snmp_manager.specs.Takes.{Takes, HoldsAuthentic};
@@ -23,7 +26,7 @@ use crate::requests::{no_pair, written_pair};
 use engine_clock::{Clocks, EngineId, Mark, Pair};
 use snmp_ber::Level;
 use snmp_outcome::{TakeFault, Taken, open_text, read_text};
-use snmp_sending::{Body, Envelope, is_confirmed, send, send_plain};
+use snmp_sending::{Body, Envelope, is_confirmed, send, send_plain, supports};
 use std::alloc::{AllocError, Global};
 use std::marker::Model;
 use usm_core::{Role, Users};
@@ -190,6 +193,15 @@ impl Manager {
         Ok(outcomes)
     }
 
+    /// Whether a request for this user at this level can be sent (RFC 3414, section 3.1): at levels with authentication there is a
+    /// user of this name that supports the level. The errors are UnknownUser (7), and where there is such a user UnsupportedLevel (8).
+    /// It takes no memory.
+    pub fn supports(&self, user: &[u8], level: Level) -> Result<(), TakeFault>
+        ensures { MatchResult result (λ _. CanSend self.now.users user.now level) (RefusesSender self.now.users user.now level) }
+    {
+        supports(&self.users, user, level)
+    }
+
     /// A request to the engine at the moment `now`, and what is to be remembered of it (RFC 3414, section 3.1): with this msgID,
     /// for this user at this level, and at authPriv with this salt, which is to be another one for each message. At levels with
     /// authentication it has the held boots and the notion of the time, or 0 and 0 where no pair is held. It asks for reports where
@@ -213,6 +225,10 @@ impl Manager {
         ensures text { IfSome (request_answer result) (Seals self.old.users (requesting (mark_at self.old.clocks engine.now) now id engine.now user.now level body.now salt)) }
         ensures memory { IsErrOf result TakeFault.OutOfMemory → IsSealable self.old.users (requesting (mark_at self.old.clocks engine.now) now id engine.now user.now level body.now salt) }
         ensures pending { IfOk result (λ sent. IsPending sent.1 id engine.now user.now level body.now) }
+
+        // With these the law that a request is accepted can be used of it.
+        ensures pair { (mark : SeenPair) → mark_at self.old.clocks engine.now ≡ Some mark → IsPair mark.pair }
+        ensures spelled { IfOk result (λ _. IsSpelled (pdu_in body.now)) }
         ensures same { self.new ≡ self.old }
     {
         let envelope = Envelope {

@@ -1,5 +1,5 @@
--- The refusals' numbers and names, which the whole engine shares.
-use Rattle.std.specs.Prelude.{ℕ, List, codes}
+-- The refusals' numbers, names and words, which the whole engine shares.
+use Rattle.std.specs.Prelude.{ℕ, List, ◌++◌, codes, decimal, Option, Some, None}
 use Rattle.snmp_message.specs.declared.refusal.Refusal.{Refusal}
 use Rattle.snmp_message.specs.declared.refusal.Refusal.TheVariants.{NotMessage, BadVersion, NotSecurity, NotScoped, NotPdu, UnknownEngine, UnknownUser, UnsupportedLevel, WrongDigest, NotInWindow, DecryptionError, BadScoped, BadPdu, OutOfMemory, ClockExhausted, TooLarge, UnknownModel, InvalidFlags}
 
@@ -42,3 +42,29 @@ refusal_name ClockExhausted = codes "ClockExhausted"
 refusal_name TooLarge = codes "TooLarge"
 refusal_name UnknownModel = codes "UnknownModel"
 refusal_name InvalidFlags = codes "InvalidFlags"
+
+-- what people are told
+abbrev pub refusal_words : Refusal → List ℕ
+refusal_words NotMessage = codes "not a message"
+refusal_words BadVersion = codes "not version 3"
+refusal_words NotSecurity = codes "not security parameters"
+refusal_words NotScoped = codes "not a scoped PDU"
+refusal_words NotPdu = codes "not a PDU"
+refusal_words UnknownEngine = codes "unknown engine"
+refusal_words UnknownUser = codes "unknown user"
+refusal_words UnsupportedLevel = codes "unsupported security level"
+refusal_words WrongDigest = codes "wrong digest"
+refusal_words NotInWindow = codes "not in the time window"
+refusal_words DecryptionError = codes "decryption error"
+refusal_words BadScoped = codes "no scoped PDU after decryption"
+refusal_words BadPdu = codes "not a PDU in the message"
+refusal_words OutOfMemory = codes "out of memory"
+refusal_words ClockExhausted = codes "engine time exhausted"
+refusal_words TooLarge = codes "longer than a datagram"
+refusal_words UnknownModel = codes "unknown security model"
+refusal_words InvalidFlags = codes "privacy without authentication"
+
+-- the same, with the place of the fault in octets where there is one
+abbrev pub words_at : Refusal → Option ℕ → List ℕ
+words_at refusal None = refusal_words refusal
+words_at refusal (Some at) = refusal_words refusal ++ (codes " at octet " ++ decimal at)

@@ -1,6 +1,7 @@
 //! Why octets could not be read, or a value not be written.
 
-ghost use Rattle.std.specs.Prelude.{◌≡◌};
+ghost use Rattle.std.specs.Prelude.{◌≡◌, Some};
+ghost use Rattle.snmp_message.specs.Numbers.{refusal_words, words_at};
 ghost use Rattle.snmp_message.specs.declared.fault.WriteFault.TheVariants.{OutOfMemory};
 ghost use Rattle.snmp_message.specs.Refusals.{msg_refusal, write_refusal, place_of};
 
@@ -54,11 +55,13 @@ impl MsgFault {
 }
 
 impl fmt::Display for MsgFault {
+    ghost output = { λ fault. Some (words_at (msg_refusal fault) (place_of fault)) };
+
     fn fmt<W: fmt::Write>(&self, f: &mut fmt::Formatter<W>) -> fmt::Result {
-        write!(f, "{}", self.refusal())?;
+        let refusal = self.refusal();
         match self.at() {
-            Some(at) => write!(f, " at octet {at}"),
-            None => Ok(()),
+            Some(at) => write!(f, "{refusal} at octet {at}"),
+            None => write!(f, "{refusal}"),
         }
     }
 }
@@ -87,6 +90,8 @@ impl WriteFault {
 }
 
 impl fmt::Display for WriteFault {
+    ghost output = { λ fault. Some (refusal_words (write_refusal fault)) };
+
     fn fmt<W: fmt::Write>(&self, f: &mut fmt::Formatter<W>) -> fmt::Result {
         write!(f, "{}", self.refusal())
     }

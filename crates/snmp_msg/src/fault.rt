@@ -1,6 +1,7 @@
 //! Why there is no canonical spelling of a datagram.
 
-ghost use Rattle.std.specs.Prelude.{◌≡◌};
+ghost use Rattle.std.specs.Prelude.{◌≡◌, Some};
+ghost use Rattle.snmp_message.specs.Numbers.{words_at};
 ghost use Rattle.snmp_msg.specs.Refusals.{canon_fault, msg_canon_fault, canon_refusal, canon_place};
 
 use snmp_message::{MsgFault, Refusal, WriteFault};
@@ -42,6 +43,8 @@ impl CanonFault {
 }
 
 impl fmt::Display for CanonFault {
+    ghost output = { λ fault. Some (words_at (canon_refusal fault) (canon_place fault)) };
+
     fn fmt<W: fmt::Write>(&self, f: &mut fmt::Formatter<W>) -> fmt::Result {
         match self {
             CanonFault::Msg(fault) => write!(f, "{fault}"),

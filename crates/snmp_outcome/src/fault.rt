@@ -1,6 +1,7 @@
 //! Why a datagram is refused.
 
-ghost use Rattle.std.specs.Prelude.{◌≡◌, MatchBool};
+ghost use Rattle.std.specs.Prelude.{◌≡◌, MatchBool, Some};
+ghost use Rattle.snmp_message.specs.Numbers.{words_at};
 ghost use Rattle.snmp_outcome.specs.Refusals.{refusal_of, number_of, name_of, place_of, IsSameRefusal, MemoryIs};
 
 use snmp_msg::Refusal;
@@ -114,11 +115,13 @@ impl TakeFault {
 }
 
 impl fmt::Display for TakeFault {
+    ghost output = { λ fault. Some (words_at (refusal_of fault) (place_of fault)) };
+
     fn fmt<W: fmt::Write>(&self, f: &mut fmt::Formatter<W>) -> fmt::Result {
-        write!(f, "{}", self.refusal())?;
+        let refusal = self.refusal();
         match self.place() {
-            Some(at) => write!(f, " at octet {at}"),
-            None => Ok(()),
+            Some(at) => write!(f, "{refusal} at octet {at}"),
+            None => write!(f, "{refusal}"),
         }
     }
 }

@@ -3,3 +3,4 @@ pub mod Refusing
 pub mod Salts
 pub mod Accepted
 pub mod Spoken
+pub mod Whole

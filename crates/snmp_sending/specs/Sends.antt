@@ -1,12 +1,16 @@
 -- What is sent, and the answer to sending it.
-use Rattle.std.specs.Prelude.{ℕ, List, Option, Some, option_map, Result, Ok, Err}
+use Rattle.std.specs.Prelude.{◌≡◌, ℕ, true, List, Option, Some, option_map, Result, Ok, Err}
 use Rattle.std.specs.Global.{Vec}
+use Rattle.snmp_ber.specs.declared.level.Level.{Level}
+use Rattle.usm_users.specs.User.{User}
+use Rattle.usm_users.specs.Users.{HasUser, HasUserAt}
 use Rattle.usm_core.specs.Sealed.{Sending, sending}
 use Rattle.snmp_outcome.specs.declared.fault.TakeFault.{TakeFault}
+use Rattle.snmp_outcome.specs.declared.fault.TakeFault.TheVariants.{UnknownUser, UnsupportedLevel}
 use Rattle.snmp_outcome.specs.Refusals.{answer_number}
 use Rattle.snmp_sending.specs.declared.body.Body.{Body}
 use Rattle.snmp_sending.specs.declared.envelope.Envelope.{Envelope}
-use Rattle.snmp_sending.specs.Bodies.{header_at, scoped_of}
+use Rattle.snmp_sending.specs.Bodies.{has_auth, header_at, scoped_of}
 
 -- the message with this envelope and this body
 abbrev pub sent : Envelope → Body → Sending
@@ -20,3 +24,15 @@ send_refusal fault = option_map (λ n. Err n) (answer_number fault)
 abbrev pub send_answer : Result (Vec ℕ) TakeFault → Option (Result (List ℕ) ℕ)
 send_answer (Ok text) = Some (Ok text.items)
 send_answer (Err fault) = send_refusal fault
+
+-- ---- whose messages go out
+
+-- Messages of this user at this level can go out: at levels with authentication there is a user of this name that supports it.
+abbrev pub CanSend : List User → List ℕ → Level → Type 0
+CanSend users name level = has_auth level ≡ true → HasUserAt users name level
+
+-- why none of them can, whatever it says (RFC 3414, section 3.1, steps 1 and 2)
+abbrev pub RefusesSender : List User → List ℕ → Level → TakeFault → Type 0
+RefusesSender users name level UnknownUser = (has_auth level ≡ true) × ¬ HasUser users name
+RefusesSender users name level UnsupportedLevel = (has_auth level ≡ true) × HasUser users name × ¬ HasUserAt users name level
+RefusesSender users name level _ = ⊥

@@ -2,7 +2,8 @@
 
 ghost use Rattle.std.specs.Prelude.{◌≡◌, ◌<◌, ◌≤◌, ℕ, List, length, IfOk, IsErrOf};
 ghost use Rattle.snmp_ber.specs.Element.{IsElement};
-ghost use Rattle.snmp_sending.specs.Bodies.{scoped_of, BodyFits};
+ghost use Rattle.snmp_msg.specs.Pdu.{IsSpelled};
+ghost use Rattle.snmp_sending.specs.Bodies.{scoped_of, pdu_in, BodyFits};
 
 use snmp_msg::{Binding, LARGEST, WriteFault, write_pdu, write_scoped};
 use std::alloc::Global;
@@ -35,6 +36,7 @@ pub(crate) fn write_body(alloc: Global, body: &Body<'_>) -> Result<Vec<u8>, Writ
     requires { BodyFits body.now }
     ensures ok { IfOk result (λ v. v.items ≡ scoped_of body.now) }
     ensures element { IfOk result (λ v. (content : List ℕ) × IsElement 48 content v.items) }
+    ensures spelled { IfOk result (λ _. IsSpelled (pdu_in body.now)) }
     ensures too_large { IsErrOf result WriteFault.TooLarge → LARGEST < length (scoped_of body.now) }
 {
     let pdu = write_pdu(

@@ -1,13 +1,14 @@
 //! Messages that go out.
 
-ghost use Rattle.std.specs.Prelude.{◌≡◌, ◌+◌, ◌<◌, ◌≤◌, length, IfSome, OnOk, OnErr, IsErrOf, true};
+ghost use Rattle.std.specs.Prelude.{◌≡◌, ◌+◌, ◌<◌, ◌≤◌, length, IfOk, IfSome, MatchResult, OnOk, OnErr, IsErrOf, true};
 ghost use Rattle.snmp_ber.specs.declared.level.Level.TheVariants.{NoAuthNoPriv};
 ghost use Rattle.usm_users.specs.Users.{HasUserAt};
 ghost use Rattle.usm_core.specs.Refusals.{Supports};
 ghost use Rattle.usm_core.specs.Answers.{seal_answer};
 ghost use Rattle.usm_core.specs.Sealed.{Seals, IsSealable};
-ghost use Rattle.snmp_sending.specs.Sends.{sent, send_answer};
-ghost use Rattle.snmp_sending.specs.Bodies.{has_auth, scoped_of, BodyFits};
+ghost use Rattle.snmp_sending.specs.Sends.{sent, send_answer, CanSend, RefusesSender};
+ghost use Rattle.snmp_msg.specs.Pdu.{IsSpelled};
+ghost use Rattle.snmp_sending.specs.Bodies.{has_auth, scoped_of, pdu_in, BodyFits};
 
 use crate::body::{Body, write_body};
 use crate::envelope::Envelope;
@@ -29,6 +30,21 @@ fn has_user(users: &Users, user: &[u8], level: Level) -> Result<(), UsmFault>
     users.supports(user, level)
 }
 
+/// Whether messages of this user at this level can go out (RFC 3414, section 3.1): at levels with authentication there is a user of
+/// this name that supports the level. At noAuthNoPriv no user is looked for.
+///
+/// The errors are UnknownUser (7), and where there is such a user UnsupportedLevel (8). It takes no memory.
+pub fn supports(users: &Users, user: &[u8], level: Level) -> Result<(), TakeFault>
+    ensures { MatchResult result (λ _. CanSend users.now.users user.now level) (RefusesSender users.now.users user.now level) }
+{
+    match has_user(users, user, level) {
+        Ok(()) => Ok(()),
+        Err(UsmFault::UnknownUser) => Err(TakeFault::UnknownUser),
+        Err(UsmFault::UnsupportedLevel) => Err(TakeFault::UnsupportedLevel),
+        Err(_) => unreachable!(),
+    }
+}
+
 /// The text of the message, as `send` says.
 fn seal_body(
     alloc: Global,
@@ -41,6 +57,7 @@ fn seal_body(
     requires body { BodyFits body.now }
     ensures rows { IfSome (seal_answer result) (Seals users.old.users (sent envelope.now body.now)) }
     ensures memory { IsErrOf result UsmFault.OutOfMemory → IsSealable users.old.users (sent envelope.now body.now) }
+    ensures spelled { IfOk result (λ _. IsSpelled (pdu_in body.now)) }
     ensures short { IsErrOf result UsmFault.TooLarge → LARGEST < 150 + length envelope.now.engine.now + length envelope.now.user.now + length (scoped_of body.now) }
     ensures users { users.new.users ≡ users.old.users }
 {
@@ -75,6 +92,9 @@ pub fn send(
 
     // The refusals before the text come before want of memory.
     ensures memory { IsErrOf result TakeFault.OutOfMemory → IsSealable users.old.users (sent envelope.now body.now) }
+
+    // What was written has bindings that are read again.
+    ensures spelled { IfOk result (λ _. IsSpelled (pdu_in body.now)) }
     ensures short { IsErrOf result TakeFault.TooLarge → LARGEST < 150 + length envelope.now.engine.now + length envelope.now.user.now + length (scoped_of body.now) }
     ensures users { users.new.users ≡ users.old.users }
 {

@@ -2,6 +2,7 @@ use Rattle.std.proofs.Common.{arith}
 use Rattle.snmp_sending.specs.Sends.{sent}
 use Rattle.snmp_sending.proofs.Levels.{flags_at, level_at}
 use Rattle.snmp_sending.proofs.Refusing.{told_user, user_no_memory, user_not_large, sealable, told_write, write_too_large}
+use Rattle.snmp_sending.proofs.Whole.{if_any_ok}
 use Rattle.snmp_sending.proofs.sending.seal_body.Goals as goal
 
 pub returns-in_err-has_user-clause-rows : goal.returns-in_err-has_user-clause-rows
@@ -39,3 +40,6 @@ returns-in_err-scoped-clause-short c is =
     let large = write_too_large c.from_residual-in_err-scoped.result c.in_err-scoped.field-0.0 c.from_residual-in_err-scoped.ensures.1 is in
     let long = c.in_err-scoped.ensures.too_large large in
     omega (arith, long)
+
+pub returns-clause-spelled : goal.returns-clause-spelled
+returns-clause-spelled c = if_any_ok c.seal.result c.in_ok-scoped.ensures.spelled

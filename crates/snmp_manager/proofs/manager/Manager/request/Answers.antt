@@ -3,4 +3,4 @@ use Rattle.snmp_manager.proofs.manager.Manager.request.Goals as goal
 
 pub returns-clause-memory : goal.returns-clause-memory
 returns-clause-memory c =
-    rw (← c.self.view_is) (λ is. sealable _ _ _ (rw (c.is_confirmed.ensures, c.as_slice.ensures.value, c.written_pair.ensures) at c.in-Ok.ensures.rows))
+    rw (← c.self.view_is) (λ is. sealable _ _ _ (rw (c.is_confirmed.ensures, c.as_slice.ensures.value, c.written_pair.ensures.pair) at c.in-Ok.ensures.rows))
