@@ -6,6 +6,7 @@
  * it answered and the six counters. Not proved. */
 #define _GNU_SOURCE
 #include "snmpsec.h"
+#include "config_told.h"
 #include "files.h"
 #include "table.h"
 #include "words_of.h"
@@ -279,10 +280,10 @@ static int begin_agent(const struct words *words) {
         fprintf(stderr, "agent: %s: boots are used up, so each authenticated message is refused: give the engine another ID, or all its users "
                         "other passwords, and remove the file\n", words->boots);
     int answer = snmpsec_agent_new(config, config_len, words->engine, words->engine_len, boots, now_in_seconds(), &agent);
+    if (answer == SNMPSEC_BAD_CONFIGURATION) config_told("agent", words->config, config, config_len);
+    else if (answer) fprintf(stderr, "agent: %s: %s\n", words->engine_word, snmpsec_strerror(answer));
     file_free(config, config_len);
-    if (!answer) return 0;
-    fprintf(stderr, "agent: %s: %s\n", answer == SNMPSEC_BAD_CONFIGURATION ? words->config : words->engine_word, snmpsec_strerror(answer));
-    return 1;
+    return answer ? 1 : 0;
 }
 
 /* The port is taken before the boots, so that a start that fails costs none. */

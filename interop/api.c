@@ -26,6 +26,13 @@ static int done_deep(int32_t answer) {
     return answer;
 }
 
+_Static_assert(sizeof(snmpsec_config_place) == 4 * sizeof(size_t), "the numbers of a fault lie one after another");
+
+int snmpsec_config_fault(const uint8_t *config, size_t config_len, snmpsec_config_place *place, uint8_t *out, size_t out_len, size_t *written) {
+    if (!place || !written) return SNMPSEC_BAD_ARGUMENT;
+    return done_deep(proved_config_fault(in(config, config_len), config_len, (size_t *)place, 4, room(out, out_len), out_len, written));
+}
+
 int snmpsec_agent_new(const uint8_t *config, size_t config_len, const uint8_t *engine, size_t engine_len, uint32_t boots, uint64_t started,
                       snmpsec_agent **out) {
     void *handle = NULL;

@@ -5,6 +5,7 @@
  * it learned. Not proved. */
 #define _GNU_SOURCE
 #include "snmpsec.h"
+#include "config_told.h"
 #include "files.h"
 #include "words_of.h"
 #include <arpa/inet.h>
@@ -124,9 +125,10 @@ static int begin_manager(const struct words *words) {
     if (file_lock(words->clocks) || file_read(words->config, MOST_CONFIG, &config, &config_len)) return -1;
     if (read_clocks(words->clocks, words->must_exist, &clocks, &clocks_len)) { file_free(config, config_len); return -1; }
     int answer = snmpsec_manager_new(config, config_len, clocks, clocks_len, now_in_seconds(), &manager);
+    if (answer == SNMPSEC_BAD_CONFIGURATION) config_told("poll", words->config, config, config_len);
+    else if (answer) fprintf(stderr, "poll: %s: %s\n", answer == SNMPSEC_BAD_CLOCKS ? words->clocks : words->config, snmpsec_strerror(answer));
     file_free(config, config_len);
     file_free(clocks, clocks_len);
-    if (answer) fprintf(stderr, "poll: %s: %s\n", answer == SNMPSEC_BAD_CLOCKS ? words->clocks : words->config, snmpsec_strerror(answer));
     return answer;
 }
 

@@ -23,7 +23,7 @@ DECLARED = set(re.findall(r"\bsnmpsec_(\w+)\(", HEADER))
 NOT_IN_PYTHON = {"agent_allows", "agent_user_allows", "wipe"}
 NOT_IN_RUST = {"agent_allows", "agent_user_allows", "error_name"}
 
-STRUCTS = {"Octets": "octets", "Info": "info", "Counters": "counters", "Reply": "reply", "Clock": "clock", "Notice": "notice", "Request": "request",
+STRUCTS = {"Octets": "octets", "Info": "info", "Counters": "counters", "Reply": "reply", "Clock": "clock", "ConfigPlace": "config_place", "Notice": "notice", "Request": "request",
            "BindingRead": "binding"}
 READ = {"Octets", "Notice", "Request"}  # structs that a call only reads
 

@@ -98,13 +98,46 @@ typedef enum snmpsec_part {
 /* octets of the caller */
 typedef struct snmpsec_octets { const uint8_t *at; size_t len; } snmpsec_octets;
 
+/* ---- a configuration */
+
+/* the tables of a configuration */
+typedef enum snmpsec_config_table {
+    SNMPSEC_NO_TABLE = 0, SNMPSEC_USER_TABLE = 1, SNMPSEC_CONTEXT_TABLE = 2, SNMPSEC_GROUP_TABLE = 3, SNMPSEC_ACCESS_TABLE = 4,
+    SNMPSEC_FAMILY_TABLE = 5
+} snmpsec_config_table;
+
+/* why one is refused: it is no TOML; it has another key at the top, or one that is no array of tables; a row's key isn't listed, is missing, or
+ * hasn't a value that is wanted; or the row is none that can stand there */
+typedef enum snmpsec_config_reason {
+    SNMPSEC_NO_TOML = 1, SNMPSEC_BAD_TOP = 2, SNMPSEC_UNLISTED_KEY = 3, SNMPSEC_MISSING_KEY = 4, SNMPSEC_BAD_VALUE = 5, SNMPSEC_BAD_USER = 6,
+    SNMPSEC_SHORT_PASSWORD = 7, SNMPSEC_DUPLICATE_USER = 8, SNMPSEC_BAD_ROW = 9, SNMPSEC_DUPLICATE_ROW = 10
+} snmpsec_config_reason;
+
+/* the keys of rows */
+typedef enum snmpsec_config_key {
+    SNMPSEC_NO_KEY = 0, SNMPSEC_KEY_NAME = 1, SNMPSEC_KEY_AUTH = 2, SNMPSEC_KEY_AUTH_PASSWORD = 3, SNMPSEC_KEY_PRIV_PASSWORD = 4,
+    SNMPSEC_KEY_MODEL = 5, SNMPSEC_KEY_GROUP = 6, SNMPSEC_KEY_PREFIX = 7, SNMPSEC_KEY_LEVEL = 8, SNMPSEC_KEY_MATCH = 9, SNMPSEC_KEY_READ = 10,
+    SNMPSEC_KEY_WRITE = 11, SNMPSEC_KEY_NOTIFY = 12, SNMPSEC_KEY_VIEW = 13, SNMPSEC_KEY_SUBTREE = 14, SNMPSEC_KEY_INCLUDE = 15,
+    SNMPSEC_KEY_MASK = 16
+} snmpsec_config_key;
+
+/* Where: a snmpsec_config_table, the row's position in it from 0, a snmpsec_config_reason, and the snmpsec_config_key that is missing or has
+ * that value. What isn't so is 0. */
+typedef struct snmpsec_config_place { size_t table, position, reason, key; } snmpsec_config_place;
+
+/* Why a text is refused as a configuration, as `snmpsec check-config` tells it. SNMPSEC_OK: it isn't, and *written is 0.
+ * SNMPSEC_BAD_CONFIGURATION: *place says where, and in the buffer are two lines, the refusal, and what is wrong and what is wanted; they name
+ * keys of the text and no value. SNMPSEC_SHORT_BUFFER: *place says where, and *written how much is wanted. SNMPSEC_OUT_OF_MEMORY. */
+SNMPSEC_CHECK int snmpsec_config_fault(const uint8_t *config, size_t config_len, snmpsec_config_place *place, uint8_t *out, size_t out_len,
+                                       size_t *written);
+
 /* ---- an agent */
 
 typedef struct snmpsec_agent snmpsec_agent;
 
 SNMPSEC_CALL void snmpsec_agent_free(snmpsec_agent *agent);
 /* Makes an agent of a configuration in TOML, with its engine ID (5 to 32 octets, neither all 00 nor all ff) and boots (at most 2147483647), that
- * started at the moment `started`: SNMPSEC_BAD_ARGUMENT, SNMPSEC_BAD_CONFIGURATION (`snmpsec check-config` says where),
+ * started at the moment `started`: SNMPSEC_BAD_ARGUMENT, SNMPSEC_BAD_CONFIGURATION (snmpsec_config_fault says where),
  * SNMPSEC_OUT_OF_MEMORY; *out is then null. */
 SNMPSEC_CHECK int snmpsec_agent_new(const uint8_t *config, size_t config_len, const uint8_t *engine, size_t engine_len, uint32_t boots,
                                     uint64_t started, snmpsec_agent **out);

@@ -11,6 +11,40 @@ static int begin(snmpsec_agent **agent) {
     return snmpsec_agent_new(config, config_len, engine, sizeof engine, BOOTS, NOW - TIME, agent);
 }
 
+/* What is told of a configuration, at each length of a buffer; and of memory that is refused it. */
+static void check_config_fault(void) {
+    static const char text[] = "[[user]]\nname = \"ann\"\n[[user]]\nname = \"bob\"\nauht = \"md5\"\n";
+    static const char expected[] = "refused config user 1 BadKey\nuser 1: auht: not a key of this table, the nearest is auth\n";
+    uint8_t out[sizeof expected];
+    size_t written = 7;
+    snmpsec_config_place place = {9, 9, 9, 9};
+    int answer;
+    check("a configuration", SNMPSEC_OK, snmpsec_config_fault(config, config_len, &place, out, sizeof out, &written));
+    check("nothing is told of it", 0, (long long)written);
+    check("no text is one", SNMPSEC_OK, snmpsec_config_fault(NULL, 0, &place, out, sizeof out, &written));
+    for (size_t room = 0; room < sizeof out; room++) {
+        memset(out, 'x', sizeof out);
+        answer = snmpsec_config_fault((const uint8_t *)text, strlen(text), &place, out, room, &written);
+        check("a misspelt key", room < strlen(expected) ? SNMPSEC_SHORT_BUFFER : SNMPSEC_BAD_CONFIGURATION, answer);
+        check("its table, row and reason", 1, place.table == SNMPSEC_USER_TABLE && place.position == 1 && place.reason == SNMPSEC_UNLISTED_KEY
+                                                  && place.key == SNMPSEC_NO_KEY);
+        check("what is told of it", 1, written == strlen(expected) && (room < written ? out[0] == 'x' : !memcmp(out, expected, written)));
+    }
+    answer = snmpsec_config_fault((const uint8_t *)"[[family]]\nview = \"v\"\n", 24, &place, out, sizeof out, &written);
+    check("a key that is missing", 1, answer == SNMPSEC_BAD_CONFIGURATION && place.table == SNMPSEC_FAMILY_TABLE && place.reason == SNMPSEC_MISSING_KEY
+                                          && place.key == SNMPSEC_KEY_SUBTREE);
+    check("no place", SNMPSEC_BAD_ARGUMENT, snmpsec_config_fault(config, config_len, NULL, out, sizeof out, &written));
+    answer = SNMPSEC_OUT_OF_MEMORY;
+    for (long granted = 0; answer == SNMPSEC_OUT_OF_MEMORY; granted++) {
+        place = (snmpsec_config_place){9, 9, 9, 9};
+        left = granted;
+        answer = snmpsec_config_fault((const uint8_t *)text, strlen(text), &place, out, sizeof out, &written);
+        left = -1;
+        check("want of memory writes nothing", 1, answer != SNMPSEC_OUT_OF_MEMORY || place.table == 9);
+    }
+    check("and then it is told", SNMPSEC_BAD_CONFIGURATION, answer);
+}
+
 static void arguments(void) {
     snmpsec_agent *agent = NULL;
     uint32_t arcs[129] = {1, 3, 6};
@@ -29,6 +63,7 @@ static void arguments(void) {
     check("an engine ID of ones", SNMPSEC_BAD_ARGUMENT, snmpsec_agent_new(config, config_len, same, sizeof same, 1, 0, &agent));
     memset(same, 0, sizeof same);
     check("an engine ID of zeros", SNMPSEC_BAD_ARGUMENT, snmpsec_agent_new(config, config_len, same, sizeof same, 1, 0, &agent));
+    check_config_fault();
     agent = (snmpsec_agent *)same;
     check("no room for the pointer", SNMPSEC_BAD_ARGUMENT, snmpsec_agent_new(config, config_len, engine, sizeof engine, 1, 0, NULL));
     check("no configuration", SNMPSEC_BAD_CONFIGURATION, snmpsec_agent_new((const uint8_t *)"no", 2, engine, sizeof engine, 1, 0, &agent));

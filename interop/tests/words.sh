@@ -44,8 +44,11 @@ test_configurations() {
     head -c 20000000 /dev/zero > "$work/huge"
     refused_words "W/huge: too long" "$programs/agent" "$work/huge" "$examples/table.txt" $engine "$work/b" "$port"
     { cat "$examples/agent.toml"; head -c 1100000 /dev/zero | tr '\0' '#'; printf '\n[[user]]\nname = "md"\n'; } > "$work/long.toml"
-    check "a fault behind a megabyte" "1 agent: W/long.toml: the text is no configuration" \
-        "$(told=$("$programs/agent" "$work/long.toml" "$examples/table.txt" $engine "$work/b" "$port" 2>&1); echo "$? ${told//$work/W}" | cut -d: -f1-3)"
+    check "a fault behind a megabyte" $'1 agent: W/long.toml: refused config user 4 DuplicateUser\nagent: W/long.toml: user 4: an earlier user has this name' \
+        "$(told=$("$programs/agent" "$work/long.toml" "$examples/table.txt" $engine "$work/b" "$port" 2>&1); echo "$? ${told//$work/W}")"
+    { cat "$examples/agent.toml"; printf '\n[[user]]\nname = "other"\nauht = "md5"\n'; } > "$work/misspelt.toml"
+    check "a key that is no key" $'poll: W/misspelt.toml: refused config user 4 BadKey\npoll: W/misspelt.toml: user 4: auht: not a key of this table, the nearest is auth' \
+        "$(told=$("$programs/poll" "$work/misspelt.toml" "$work/c" "$port" sha 2 1.3.6.1 2>&1); echo "${told//$work/W}")"
     refused_words "W/none: No such file or directory" "$programs/poll" "$work/none" "$work/c" "$port" sha 2 1.3.6.1
     refused_words "W/folder: not a regular file" "$programs/poll" "$examples/agent.toml" "$work/folder" "$port" sha 2 1.3.6.1
     refused_words "W/none: No such file or directory" "$programs/poll" --must-exist "$examples/agent.toml" "$work/none" "$port" sha 2 1.3.6.1

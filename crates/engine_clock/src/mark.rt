@@ -69,8 +69,8 @@ impl Join for Mark {
 }
 
 impl Mark {
-    /// What is held once this mark has come in.
-    pub(crate) fn joined_to(self, held: Option<Mark>) -> Mark
+    /// What is held of an engine once this mark has come in, where `held` was held before: the greater of the two.
+    pub fn joined_to(self, held: Option<Mark>) -> Mark
         ensures { result ≡ joined_to held self }
     {
         match held {

@@ -6,6 +6,7 @@ use Rattle.snmp_held.specs.declared.fault.CallFault.{CallFault}
 use Rattle.snmp_held.specs.declared.fault.CallFault.TheVariants.{BadArgument, NothingTaken, ShortBuffer}
 use Rattle.snmp_held.specs.Faults.{code, access_code, value_code, fault_code}
 use Rattle.snmp_held.specs.Bindings.{ReadsAt, WritesBinding}
+use Rattle.snmp_held.specs.Configurations.{TellsConfig}
 use Rattle.snmp_held.specs.Parts.{part_of, CopiesPart, CopiesMessage, AreNumbersOf}
 use Rattle.snmp_outcome.specs.Outcome.{Given}
 use Rattle.snmp_held.specs.Agents.{AgentHeld, Clears, MakesAgent, TakesHeld, TakesNoMemory, AllowsHeld, MaySee, Counts, RespondsHeld, Notice, NotifiesHeld}
@@ -75,3 +76,8 @@ ReadsBinding list at arcs arcs_new numbers numbers_new answer = Done (ReadsAt li
 
 abbrev pub Writes : List ℕ → ℕ → List ℕ → List ℕ → List ℕ → ℕ → ℤ → Type 0
 Writes arcs tag content out out_new written answer = Done (WritesBinding arcs tag content out out_new written) answer
+
+-- ---- a configuration
+
+abbrev pub TellsConfiguration : List ℕ → List ℕ → List ℕ → List ℕ → List ℕ → ℕ → ℕ → ℤ → Type 0
+TellsConfiguration config numbers numbers_new out out_new written written_new answer = Done (TellsConfig config numbers numbers_new out out_new written written_new) answer

@@ -3,11 +3,12 @@ use Rattle.std.specs.Prelude.{◌≡◌, ◌≢◌, ℕ, ℤ, pos, List, Result,
 use Rattle.std.specs.Int.{to_be_bytes, w64}
 use Rattle.engine_clock.specs.Pairs.{BootsAndTime}
 use Rattle.snmp_manager.specs.declared.pending.Answer.{Answer}
+use Rattle.snmp_manager.specs.Takes.{TakesNoMemory}
 use Rattle.snmp_held.specs.declared.fault.CallFault.{CallFault}
 use Rattle.snmp_held.specs.declared.fault.CallFault.TheVariants.{BadArgument, NothingTaken}
 use Rattle.snmp_held.specs.Faults.{code, answer_code, fault_code}
 use Rattle.snmp_held.specs.Parts.{part_of, CopiesPart, CopiesMessage}
-use Rattle.snmp_held.specs.Managers.{ManagerHeld, Asking, MakesManager, ClearsManager, ManagerTakes, TakesNoMemory, TellsAnswer, RequestsHeld, DiscoversHeld, AbsorbsHeld, SavesHeld, TellsPair}
+use Rattle.snmp_held.specs.Managers.{ManagerHeld, Asking, MakesManager, ClearsManager, ManagerTakes, TellsAnswer, RequestsHeld, DiscoversHeld, AbsorbsHeld, SavesHeld, TellsPair}
 use Rattle.snmp_c.specs.Calls.{Done, HasNumbers}
 
 abbrev pub MakesAManager : List ℕ → List ℕ → ℕ → ℤ → Type 0

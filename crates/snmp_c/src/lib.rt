@@ -9,6 +9,7 @@
 pub mod agent;
 mod agent_calls;
 pub mod bindings;
+pub mod configuration;
 pub mod keys;
 pub mod manager;
 mod manager_calls;

@@ -6,3 +6,4 @@ pub mod Parts
 pub mod Between
 pub mod Managers
 pub mod Asked
+pub mod Configurations

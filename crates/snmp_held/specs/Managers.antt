@@ -13,8 +13,7 @@ use Rattle.usm_core.specs.Authentic.{HasEngineLength}
 use Rattle.usm_users.specs.User.{User}
 use Rattle.usm_core.specs.Sealed.{Sending, Seals}
 use Rattle.snmp_outcome.specs.Outcome.{Given}
-use Rattle.snmp_outcome.specs.Answers.{refused, IsPlain}
-use Rattle.usm_core.specs.Verified.{manager as manager_side}
+use Rattle.snmp_outcome.specs.Answers.{refused}
 use Rattle.snmp_outcome.specs.Refusals.{answer_number}
 use Rattle.snmp_outcome.specs.declared.fault.TakeFault.{TakeFault}
 use Rattle.snmp_outcome.specs.declared.fault.TakeFault.TheVariants.{OutOfMemory}
@@ -67,24 +66,12 @@ ClearsManager old (Err fault) new = (fault ≡ Refused OutOfMemory) × (new ≡ 
 
 -- ---- taking
 
--- The manager takes the datagram and refuses it; or it accepts it, and there is want of memory to keep it.
-abbrev pub TakesOrStops : Held → ℕ → List ℕ → TakeFault → Held → Type 0
-TakesOrStops old now w fault new =
-    manager.Takes old now w (refused (answer_number fault)) new ⊎ ((fault ≡ OutOfMemory) × ((g : Given) × manager.Takes old now w (Some (Ok g)) new))
-
--- The datagram is refused, isn't sealed where it passes its digest, and its engine is held where it is authentic, so that no memory is
--- wanted to take it.
-pub record TakesNoMemory (held : Held) (now : ℕ) (w : List ℕ) : Type 0 where
-  pub plain : IsPlain manager_side held.users w
-  pub holds : manager.HoldsAuthentic held w
-  pub refused : (g : Given) (new : Held) → manager.Takes held now w (Some (Ok g)) new → ⊥
-
--- An accepted datagram is kept. The request that is waited for stays.
+-- An accepted datagram is kept. The request that is waited for stays. Want of memory leaves the manager as it was.
 abbrev pub ManagerTakes : {V : Type 0} → ManagerHeld → ℕ → List ℕ → Result V CallFault → ManagerHeld → Type 0
 ManagerTakes old now w (Ok done) new =
     (g : Given) × (new.last ≡ Some g) × (new.message ≡ None) × (new.pending ≡ old.pending) × manager.Takes old.manager now w (Some (Ok g)) new.manager
 ManagerTakes old now w (Err (Refused fault)) new =
-    (new.last ≡ None) × (new.message ≡ None) × (new.pending ≡ old.pending) × TakesOrStops old.manager now w fault new.manager
+    (new.last ≡ None) × (new.message ≡ None) × (new.pending ≡ old.pending) × manager.Takes old.manager now w (refused (answer_number fault)) new.manager
 ManagerTakes old now w (Err _) new = ⊥
 
 -- ---- the request that is waited for

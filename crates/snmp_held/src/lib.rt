@@ -7,6 +7,7 @@
 
 mod agent;
 mod bindings;
+mod configuration;
 mod fault;
 mod manager;
 mod numbers;
@@ -14,6 +15,7 @@ mod parts;
 
 pub use agent::{AgentHandle, NoticeTo};
 pub use bindings::{read_binding_at, write_binding};
+pub use configuration::tell_config;
 pub use fault::{CallFault, access_code_of, answer_code_of, code_of, value_code_of};
 pub use manager::{AskedOf, ManagerHandle};
 pub use parts::Part;

@@ -6,7 +6,8 @@ ghost use Rattle.snmp_message.specs.Scoped.{Contexts, ScopedFront};
 ghost use Rattle.snmp_msg.specs.Pdu.{PduParts, PduText, IsPduTag};
 ghost use Rattle.snmp_outcome.specs.Outcome.{Given};
 ghost use Rattle.snmp_manager.specs.Replies.{IsAnswer};
-ghost use Rattle.snmp_held.specs.Managers.{MakesManager, ClearsManager, ManagerTakes, TakesNoMemory, TellsAnswer, DiscoversHeld, RequestsHeld, AbsorbsHeld, SavesHeld, TellsPair};
+ghost use Rattle.snmp_manager.specs.Takes.{TakesNoMemory};
+ghost use Rattle.snmp_held.specs.Managers.{MakesManager, ClearsManager, ManagerTakes, TellsAnswer, DiscoversHeld, RequestsHeld, AbsorbsHeld, SavesHeld, TellsPair};
 ghost use Rattle.snmp_held.specs.Parts.{CopiesPart, CopiesMessage, AreNumbersOf};
 ghost use Rattle.snmp_held.specs.Asked.{AnswersRequest, asking_of};
 
@@ -176,24 +177,19 @@ impl ManagerHandle {
     /// Takes a datagram at the moment `now`, as `Manager::take` does, and keeps it where it is accepted. The request that is waited
     /// for stays.
     ///
-    /// The errors are the refusals of `Manager::take`, and want of memory for what is kept; then the pair of what was accepted
-    /// is learned all the same.
+    /// The errors are the refusals of `Manager::take`, and want of memory, which leaves the manager as it was: nothing is learned.
     pub fn take(&mut self, now: u64, datagram: &[u8]) -> Result<(), CallFault>
         ensures takes { ManagerTakes self.old now datagram.now result self.new }
         ensures no_memory { TakesNoMemory self.old.manager now datagram.now → result ≢ Err (CallFault.Refused TakeFault.OutOfMemory) }
     {
         self.last = None;
         self.message = None;
-        let taken = match self.manager.take(now, datagram) {
-            Ok(taken) => taken,
-            Err(fault) => return Err(CallFault::Refused(fault)),
-        };
-        match Kept::of(self.alloc, &taken) {
+        match self.manager.take_kept(now, datagram) {
             Ok(kept) => {
                 self.last = Some(kept);
                 Ok(())
             }
-            Err(_) => Err(CallFault::Refused(TakeFault::OutOfMemory)),
+            Err(fault) => Err(CallFault::Refused(fault)),
         }
     }
 

@@ -1,8 +1,14 @@
 -- What a take answers and leaves, for the functions that do it.
-use Rattle.std.proofs.Common.{◌≡◌, ℕ, ◌≤◌, List, Option, Some, None, Bool, true, false, length, refl, sym, ◌∙◌, subst, inl, inr}
+use Rattle.std.proofs.Common.{◌≡◌, ℕ, ◌≤◌, List, Option, Some, None, Bool, true, false, cond, length, refl, sym, ◌∙◌, ap, subst, inl, inr}
 use Rattle.std.specs.Prelude.{◌↔◌, ◌≢◌, Result, Ok, Err, MatchBool, IsTrue, IsSome, IsSomeAnd}
 use Rattle.engine_clock.specs.Pairs.{BootsAndTime, IsPair}
-use Rattle.engine_clock.specs.Marks.{Marks}
+use Rattle.std.specs.Ordering.{is_eq}
+use Rattle.std.proofs.lemmas.Cmp.{tied_itself}
+use Rattle.engine_clock.specs.Marks.{Marks, SeenPair, mark_at, mark_join, joined_to, seen_at, learned}
+use Rattle.engine_clock.specs.Joins.{option_join}
+use Rattle.engine_clock.specs.Windows.{InManagerWindow, notion_at}
+use Rattle.engine_clock.proofs.Absorbing.{joined_is, JoinsMark-learned, JoinsPair-learned}
+use Rattle.engine_clock.proofs.Held.{engines_total}
 use Rattle.usm_users.specs.User.{User}
 use Rattle.usm_core.specs.declared.fault.UsmFault.{UsmFault}
 use Rattle.usm_core.specs.declared.fault.UsmFault.TheVariants as usm
@@ -13,13 +19,13 @@ use Rattle.usm_core.specs.Verified.{Verified, Verifies, AllowsEngine, IsReadAs, 
 use Rattle.usm_core.specs.Answers.{IsAuthenticatedAs}
 use Rattle.snmp_outcome.specs.declared.fault.TakeFault.{TakeFault}
 use Rattle.snmp_outcome.specs.Refusals.{answer_number, IsSameRefusal}
-use Rattle.snmp_outcome.specs.Outcome.{Given, Outcome, Weighs, ReadsText, IsFresh, pair_in, as_manager}
+use Rattle.snmp_outcome.specs.Outcome.{Given, Taker, Outcome, Weighs, ReadsText, IsFresh, pair_in, as_manager}
 use Rattle.snmp_outcome.specs.Answers.{IsOpening, refused}
 use Rattle.snmp_outcome.proofs.Rows.{same_refused}
 use Rattle.snmp_manager.specs.declared.outcome.Outcome.TheVariants.{Refused}
-use Rattle.snmp_manager.specs.Views.{Held}
+use Rattle.snmp_manager.specs.Views.{Held, held_by}
 use Rattle.snmp_manager.specs.Learning.{Learns, LearnsFrom, LearnsChecked}
-use Rattle.snmp_manager.specs.Takes.{Takes}
+use Rattle.snmp_manager.specs.Takes.{Takes, HoldsAuthentic, TakesNoMemory}
 use Rattle.snmp_manager.specs.Runs.{TakesOne}
 
 -- exactly the authentic datagrams, as `open_auth` says
@@ -70,19 +76,28 @@ module _ (old new : Held) (now : ℕ) (w : List ℕ) (same : new.users ≡ old.u
     learns : LearnsFrom old.users now w old.clocks new.clocks
     learns = learns_checked old.users now w old.clocks new.clocks v exact learned
 
-    pub takes_late : ((v.parts.header.auth ≡ true → IsFresh (as_manager new.clocks) now v) → ⊥) → Takes old now w (Some (Err 10)) new
-    unfolding Outcome Weighs learns
-    takes_late outside = (same, learns, holds tt (gives v rows (fails outside)))
+    -- what is answered by the rows from the time window on
+    pub takes_weighed : (a : Option (Result Given ℕ)) → IsSomeAnd a (Weighs (as_manager new.clocks) old.users now w v) → Takes old now w a new
+    unfolding Outcome learns
+    takes_weighed None weighs = absurd weighs
+    takes_weighed (Some a) weighs = (same, learns, holds tt (gives v rows weighs))
 
-    module _ (fresh : v.parts.header.auth ≡ true → IsFresh (as_manager new.clocks) now v) where
-      pub takes_unopened : IsOpening old.users w v None → Takes old now w (Some (Err 11)) new
-      unfolding Outcome Weighs learns
-      takes_unopened opening = (same, learns, holds tt (gives v rows (holds fresh (fails (λ salt. opening.1 (salt opening.0))))))
+-- ---- the rows from the time window on
 
-      pub takes_read : (text : List ℕ) (a : Option (Result Given ℕ)) → IsOpening old.users w v (Some text) → IsSomeAnd a (ReadsText v text) → Takes old now w a new
-      unfolding Outcome Weighs learns
-      takes_read text None opening read = absurd read
-      takes_read text (Some a) opening read = (same, learns, holds tt (gives v rows (holds fresh (holds opening.0 (text, opening.1, read)))))
+module _ (taker : Taker) (users : List User) (now : ℕ) (w : List ℕ) (v : Verified) where
+  pub weighs_late : ((v.parts.header.auth ≡ true → IsFresh taker now v) → ⊥) → Weighs taker users now w v (Err 10)
+  unfolding Weighs
+  weighs_late outside = fails outside
+
+  module _ (fresh : v.parts.header.auth ≡ true → IsFresh taker now v) where
+    pub weighs_unopened : IsOpening users w v None → Weighs taker users now w v (Err 11)
+    unfolding Weighs
+    weighs_unopened opening = holds fresh (fails (λ salt. opening.1 (salt opening.0)))
+
+    pub weighs_read : (text : List ℕ) (a : Option (Result Given ℕ)) → IsOpening users w v (Some text) → IsSomeAnd a (ReadsText v text) → IsSomeAnd a (Weighs taker users now w v)
+    unfolding Weighs
+    weighs_read text None opening read = absurd read
+    weighs_read text (Some a) opening read = holds fresh (holds opening.0 (text, opening.1, read))
 
 pub not_both : (b : Bool) (P : Type 0) → IsTrue b ↔ P → b ≡ false → P → ⊥
 not_both b P h e p = let wrong : true ≡ false = sym (h.1 p) ∙ e in cc wrong
@@ -93,6 +108,55 @@ is_so b P h e = h.0 e
 -- the numbers of a message are those of a pair
 pub IsPair-read : (w : List ℕ) (v : Verified) → IsReadAs w v → IsPair (pair_in v)
 IsPair-read w v read = record { boots = read.security.says.is_boots.at_most; time = read.security.says.is_time.at_most }
+
+-- ---- the window once the pair is learned
+
+-- what is held of an engine once its pair has come in
+pub mark_at-learns : (engine : List ℕ) (pair : BootsAndTime) (now : ℕ) (old new : Marks) → Learns engine pair now old new
+    → mark_at new engine ≡ Some (joined_to (mark_at old engine) (seen_at pair now))
+mark_at-learns engine pair now old new l =
+    l.mark engine
+    ∙ ap (λ o. cond (is_eq o) (option_join mark_join (mark_at old engine) (Some (seen_at pair now))) (mark_at old engine)) (tied_itself engines_total engine)
+    ∙ sym (joined_is (mark_at old engine) (seen_at pair now))
+
+-- So the window can be judged before anything is learned.
+pub fresh_once_learned : (v : Verified) (now : ℕ) (old new : Marks) (mark : SeenPair) (held : BootsAndTime) (notion : ℕ) (fresh : Bool) → v.parts.header.auth ≡ true
+    → mark ≡ joined_to (mark_at old v.fields.engine) (seen_at (pair_in v) now) → held ≡ mark.pair → notion ≡ notion_at now mark
+    → IsTrue fresh ↔ InManagerWindow held notion (pair_in v) → LearnsChecked v now old new → IsTrue fresh ↔ (v.parts.header.auth ≡ true → IsFresh (as_manager new) now v)
+fresh_once_learned v now old new mark held notion fresh auth is same_pair same_notion judged learned =
+    let l : Learns v.fields.engine (pair_in v) now old new = subst (λ b. MatchBool b (Learns v.fields.engine (pair_in v) now old new) (new ≡ old)) auth learned in
+    let at_engine : mark_at new v.fields.engine ≡ Some mark = mark_at-learns v.fields.engine (pair_in v) now old new l ∙ ap Some (sym is) in
+    let window : IsTrue fresh ↔ InManagerWindow mark.pair (notion_at now mark) (pair_in v) =
+    subst (λ n. IsTrue fresh ↔ InManagerWindow mark.pair n (pair_in v)) same_notion (subst (λ p. IsTrue fresh ↔ InManagerWindow p notion (pair_in v)) same_pair judged) in (
+      λ t _. (mark, at_engine, window.0 t),
+      λ f.
+          let at = f auth in
+          let same : at.0 ≡ mark = cc (sym at.1 ∙ at_engine) in
+          window.1 (subst (λ m. InManagerWindow m.pair (notion_at now m) (pair_in v)) same at.2),
+    )
+
+-- what is held once a checked message's pair is learned
+pub learns_some : (v : Verified) (now : ℕ) (old : Marks) → (new : Marks) × LearnsChecked v now old new
+learns_some v now old =
+    elim v.parts.header.auth as (λ b. (new : Marks) × MatchBool b (Learns v.fields.engine (pair_in v) now old new) (new ≡ old)) [
+      | true ↦
+          let mark = seen_at (pair_in v) now in
+          let new = learned v.fields.engine mark old in
+          (new, record { mark = JoinsMark-learned v.fields.engine mark old new refl; pair_joined = JoinsPair-learned v.fields.engine mark old new refl })
+      | false ↦ (old, refl)
+    ]
+
+-- A message that is refused wants no memory for a copy.
+pub copies_nothing : (old : Held) (now : ℕ) (w : List ℕ) (v : Verified) (P : Type 0) → IsExact old.users w (Ok v) → Verifies manager old.users w (Ok v) → TakesNoMemory old now w
+    → (v.parts.header.privacy ≡ false → (new : Marks) → LearnsChecked v now old.clocks new → ((g : Given) → Weighs (as_manager new) old.users now w v (Ok g) → ⊥) → P) → P
+copies_nothing old now w v P exact rows none is =
+    let new = learns_some v now old.clocks in
+    is (none.plain v rows) new.0 new.1
+    (λ g weighs. none.refused g (held_by old.users new.0) (takes_weighed old (held_by old.users new.0) now w refl v exact rows new.1 (Some (Ok g)) weighs))
+
+-- memory isn't wanted for an engine that is held
+pub learns_held : (held : Held) (w : List ℕ) (v : Verified) → IsExact held.users w (Ok v) → HoldsAuthentic held w → v.parts.header.auth ≡ true → IsSome (mark_at held.clocks v.fields.engine)
+learns_held held w v exact holds_it auth = holds_it v.fields.engine (pair_in v) ((exact v.fields.engine (pair_in v)).1 (auth, refl, refl, refl)).0
 
 -- ---- outcomes
 

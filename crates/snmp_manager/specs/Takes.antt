@@ -1,8 +1,12 @@
 -- What a manager answers to a datagram, and what it leaves.
-use Rattle.std.specs.Prelude.{◌≡◌, ℕ, List, Option, Some, None, Result, IsSome}
+use Rattle.std.specs.Prelude.{◌≡◌, ℕ, List, Option, Some, None, Result, Ok, Err, IsSome}
 use Rattle.engine_clock.specs.Pairs.{BootsAndTime}
 use Rattle.engine_clock.specs.Marks.{mark_at}
 use Rattle.usm_core.specs.Authentic.{Authentic}
+use Rattle.usm_core.specs.Verified.{manager}
+use Rattle.snmp_outcome.specs.declared.fault.TakeFault.{TakeFault}
+use Rattle.snmp_outcome.specs.Refusals.{answer_number}
+use Rattle.snmp_outcome.specs.Answers.{IsPlain, refused}
 use Rattle.snmp_outcome.specs.Outcome.{Given, Outcome, as_manager}
 use Rattle.snmp_manager.specs.Views.{Held}
 use Rattle.snmp_manager.specs.Learning.{LearnsFrom}
@@ -16,3 +20,15 @@ Takes old now w (Some answer) new = (new.users ≡ old.users) × LearnsFrom old.
 -- The engine of the datagram is held, if it is authentic, so that no memory is needed to learn its pair.
 abbrev pub HoldsAuthentic : Held → List ℕ → Type 0
 HoldsAuthentic held w = (engine : List ℕ) (pair : BootsAndTime) → Authentic held.users w engine pair → IsSome (mark_at held.clocks engine)
+
+-- The datagram isn't sealed where it passes its digest, its engine is held where it is authentic, and it is refused: so no memory is
+-- wanted to take it and to keep what is accepted.
+pub record TakesNoMemory (held : Held) (now : ℕ) (w : List ℕ) : Type 0 where
+  pub plain : IsPlain manager held.users w
+  pub holds : HoldsAuthentic held w
+  pub refused : (g : Given) (new : Held) → Takes held now w (Some (Ok g)) new → ⊥
+
+-- the answer of a call that keeps what is accepted, as the table has it; None for want of memory
+abbrev pub kept_answer : Result Given TakeFault → Option (Result Given ℕ)
+kept_answer (Ok g) = Some (Ok g)
+kept_answer (Err fault) = refused (answer_number fault)

@@ -9,6 +9,7 @@ mod outcome;
 mod pending;
 mod replies;
 mod requests;
+mod weighing;
 
 pub use laws::{
     pieces_are_joined, same_authentic_same_latest, same_authentic_same_pairs,

@@ -16,16 +16,17 @@ ghost use Rattle.snmp_sending.specs.Requests.{requesting, discovering};
 ghost use Rattle.snmp_sending.specs.Sends.{CanSend, RefusesSender};
 ghost use Rattle.snmp_manager.specs.Pendings.{Remembers, IsPending, request_answer};
 ghost use Rattle.snmp_manager.specs.Known.{IsLatest, datagrams_of};
-ghost use Rattle.snmp_manager.specs.Takes.{Takes, HoldsAuthentic};
+ghost use Rattle.snmp_manager.specs.Takes.{Takes, HoldsAuthentic, TakesNoMemory, kept_answer};
 ghost use Rattle.snmp_manager.specs.Runs.{TakesOne, Runs, HasTaken, moments_of, taken_of};
 
 use crate::learning::learn;
 use crate::outcome::{Outcome, Stopped};
 use crate::pending::Pending;
 use crate::requests::{no_pair, written_pair};
+use crate::weighing::{weigh, weigh_kept};
 use engine_clock::{Clocks, EngineId, Mark, Pair};
 use snmp_ber::Level;
-use snmp_outcome::{TakeFault, Taken, open_text, read_text};
+use snmp_outcome::{Kept, TakeFault, Taken};
 use snmp_sending::{Body, Envelope, is_confirmed, send, send_plain, supports};
 use std::alloc::{AllocError, Global};
 use std::marker::Model;
@@ -129,21 +130,41 @@ impl Manager {
             Ok(checked) => checked,
             Err(fault) => return Err(fault.into()),
         };
-        let Some(engine) = EngineId::of(checked.security.engine) else {
-            unreachable!();
-        };
-        let Ok(opening) = open_text(&mut self.users, datagram, &checked) else {
+        let Ok(answer) = weigh(&mut self.users, &self.clocks, now, datagram, &checked) else {
             return Err(TakeFault::OutOfMemory);
         };
-        match learn(&mut self.clocks, &engine, &checked, now) {
-            Err(_) => return Err(TakeFault::OutOfMemory),
-            Ok(false) => return Err(TakeFault::NotInWindow),
-            Ok(true) => {}
-        }
-        let Some(text) = opening else {
-            return Err(TakeFault::DecryptionError);
+        let Ok(()) = learn(&mut self.clocks, &checked, now) else {
+            return Err(TakeFault::OutOfMemory);
         };
-        read_text(&checked, engine, text)
+        answer
+    }
+
+    /// Takes a datagram at the moment `now` as `take` does, and copies what is accepted, for a caller that answers it once the datagram
+    /// is gone. The copy is made before anything is learned, so that OutOfMemory (14) leaves all as before here too.
+    ///
+    /// The errors are those of `take`. Memory is taken where `take` does, and for the copy.
+    pub fn take_kept(&mut self, now: u64, datagram: &[u8]) -> Result<Kept, TakeFault>
+        ensures takes { Takes self.old now datagram.now (kept_answer result) self.new }
+        ensures no_memory { TakesNoMemory self.old now datagram.now → IsSome (kept_answer result) }
+    {
+        let checked = match self.users.open_auth(Role::Manager, datagram) {
+            Ok(checked) => checked,
+            Err(fault) => return Err(fault.into()),
+        };
+        let Ok(kept) = weigh_kept(
+            self.alloc,
+            &mut self.users,
+            &self.clocks,
+            now,
+            datagram,
+            &checked,
+        ) else {
+            return Err(TakeFault::OutOfMemory);
+        };
+        let Ok(()) = learn(&mut self.clocks, &checked, now) else {
+            return Err(TakeFault::OutOfMemory);
+        };
+        kept
     }
 
     /// Takes a datagram at the moment `now`, and tells what it was answered. On an error, which is want of memory, all is as

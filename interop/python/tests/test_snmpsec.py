@@ -156,8 +156,15 @@ class Exchange(unittest.TestCase):
 
 class Faults(unittest.TestCase):
     def test_each_has_its_name(self):
-        with self.assertRaises(snmpsec.BadConfiguration):
+        with self.assertRaises(snmpsec.BadConfiguration) as raised:
             Agent(b"no", ENGINE, 1, 0)
+        self.assertEqual(raised.exception.fault.reason, snmpsec.ConfigReason.NO_TOML)
+        misspelt = ALLOWING + b'[[user]]\nname = "bob"\nauht = "md5"\n'
+        with self.assertRaisesRegex(snmpsec.BadConfiguration, "user 1: auht: not a key of this table, the nearest is auth") as raised:
+            Manager(misspelt)
+        self.assertEqual(raised.exception.fault[:4], (snmpsec.ConfigTable.USER_TABLE, 1, snmpsec.ConfigReason.UNLISTED_KEY, snmpsec.ConfigKey.NO_KEY))
+        self.assertEqual(raised.exception.fault.text, snmpsec.config_fault(bytearray(misspelt)).text)
+        self.assertIsNone(snmpsec.config_fault(ALLOWING))
         for engine in (b"1234", bytes(8), b"\xff" * 8):
             with self.assertRaises(snmpsec.BadArgument):
                 Agent(CONFIG, engine, 1, 0)

@@ -67,6 +67,15 @@ pub struct Clock {
 }
 
 #[repr(C)]
+#[derive(Default)]
+pub struct ConfigPlace {
+    pub table: usize,
+    pub position: usize,
+    pub reason: usize,
+    pub key: usize,
+}
+
+#[repr(C)]
 pub struct Notice<'a> {
     pub message_id: u32,
     pub request_id: u32,
@@ -106,6 +115,14 @@ pub struct BindingRead {
 extern "C" {
     pub fn snmpsec_version() -> *const c_char;
     pub fn snmpsec_strerror(answer: i32) -> *const c_char;
+    pub fn snmpsec_config_fault(
+        config: *const u8,
+        config_len: usize,
+        place: *mut ConfigPlace,
+        out: *mut u8,
+        len: usize,
+        written: *mut usize,
+    ) -> i32;
     pub fn snmpsec_agent_new(
         config: *const u8,
         config_len: usize,

@@ -80,6 +80,7 @@ pub enum Error {
     /// The octets aren't variable bindings, one after another.
     BadBindings,
     ShortBuffer,
+    /// The text is no configuration: [`config_fault`](crate::config_fault) says where and why.
     BadConfiguration,
     /// The text saves no clocks.
     BadClocks,

@@ -41,6 +41,18 @@
 //! # }
 //! ```
 //!
+//! A configuration that is refused is [`Error::BadConfiguration`], and [`config_fault`] says where and why:
+//!
+//! ```
+//! use snmpsec::{config_fault, ConfigReason, ConfigTable};
+//! # fn main() -> Result<(), snmpsec::Error> {
+//! let fault = config_fault(b"[[user]]\nname = \"ann\"\nauht = \"md5\"\n")?.unwrap();
+//! assert_eq!((fault.table, fault.reason), (Some(ConfigTable::UserTable), ConfigReason::UnlistedKey));
+//! assert!(fault.to_string().ends_with("user 0: auht: not a key of this table, the nearest is auth"));
+//! # Ok(())
+//! # }
+//! ```
+//!
 //! Handles go to other threads, and one thread uses each at a time:
 //!
 //! ```
@@ -59,6 +71,7 @@
 mod agent;
 mod bindings;
 mod calls;
+mod config;
 mod fault;
 mod held;
 mod keys;
@@ -67,6 +80,7 @@ mod words;
 
 pub use agent::{Agent, Counters, Notification};
 pub use bindings::{binding, bindings, Binding};
+pub use config::{config_fault, ConfigFault, ConfigReason, ConfigTable};
 pub use fault::{Error, Refusal};
 pub use keys::{localise, mac, open, password_key, seal, wipe, Protocol};
 pub use manager::{Clock, Manager, Reply, Request};

@@ -40,8 +40,9 @@ from . import _library
 from ._library import CALLS, Octets as _Slice
 
 __version__ = "0.1.0"
-__all__ = ["Access", "Agent", "AuthProtocol", "BadArgument", "BadBindings", "BadClocks", "BadConfiguration", "Binding", "Clock", "Counters", "Error", "Info",
-           "LARGEST", "Level", "Manager", "NO_CLOCKS", "NotAsked", "NothingTaken", "Part", "Pdu", "Refusal", "Refused", "Reply", "View", "binding", "bindings",
+__all__ = ["Access", "Agent", "AuthProtocol", "BadArgument", "BadBindings", "BadClocks", "BadConfiguration", "Binding", "Clock", "ConfigFault", "ConfigKey",
+           "ConfigReason", "ConfigTable", "Counters", "Error", "Info",
+           "LARGEST", "Level", "Manager", "NO_CLOCKS", "NotAsked", "NothingTaken", "Part", "Pdu", "Refusal", "Refused", "Reply", "View", "binding", "bindings", "config_fault",
            "localise", "mac", "open_text", "password_key", "seal_text", "version"]
 
 Buffer = Union[bytes, bytearray, memoryview]
@@ -147,7 +148,71 @@ class NotAsked(Error): ...
 class BadBindings(Error, ValueError): ...
 
 
-class BadConfiguration(Error, ValueError): ...
+class ConfigTable(IntEnum):
+    """The tables of a configuration."""
+
+    NO_TABLE = 0
+    USER_TABLE = 1
+    CONTEXT_TABLE = 2
+    GROUP_TABLE = 3
+    ACCESS_TABLE = 4
+    FAMILY_TABLE = 5
+
+
+class ConfigReason(IntEnum):
+    """Why a configuration is refused."""
+
+    NO_TOML = 1
+    BAD_TOP = 2
+    UNLISTED_KEY = 3
+    MISSING_KEY = 4
+    BAD_VALUE = 5
+    BAD_USER = 6
+    SHORT_PASSWORD = 7
+    DUPLICATE_USER = 8
+    BAD_ROW = 9
+    DUPLICATE_ROW = 10
+
+
+class ConfigKey(IntEnum):
+    """The keys of rows."""
+
+    NO_KEY = 0
+    KEY_NAME = 1
+    KEY_AUTH = 2
+    KEY_AUTH_PASSWORD = 3
+    KEY_PRIV_PASSWORD = 4
+    KEY_MODEL = 5
+    KEY_GROUP = 6
+    KEY_PREFIX = 7
+    KEY_LEVEL = 8
+    KEY_MATCH = 9
+    KEY_READ = 10
+    KEY_WRITE = 11
+    KEY_NOTIFY = 12
+    KEY_VIEW = 13
+    KEY_SUBTREE = 14
+    KEY_INCLUDE = 15
+    KEY_MASK = 16
+
+
+class ConfigFault(NamedTuple):
+    """Where a configuration is refused and why: the row at this position, from 0, of the table, and the key that is missing or whose value isn't what
+    is wanted. `text` is what `snmpsec check-config` tells: the refusal, and what is wrong and what is wanted."""
+
+    table: ConfigTable
+    position: int
+    reason: ConfigReason
+    key: ConfigKey
+    text: str
+
+
+class BadConfiguration(Error, ValueError):
+    """The text is no configuration; `fault` says where and why."""
+
+    def __init__(self, words: str, fault: Optional[ConfigFault] = None):
+        super().__init__(words)
+        self.fault = fault
 
 
 class BadClocks(Error, ValueError): ...
@@ -276,6 +341,22 @@ def _copied(call, *arguments, room: int = LARGEST) -> bytes:
         room = written.value
 
 
+def config_fault(config: Buffer) -> Optional[ConfigFault]:
+    """Why a text is refused as a configuration, or None where it isn't."""
+    place, written, room = _library.ConfigPlace(), ctypes.c_size_t(), 4096
+    while True:
+        out = ctypes.create_string_buffer(room)
+        answer = CALLS["config_fault"](*_octets(config), ctypes.byref(place), out, room, ctypes.byref(written))
+        if answer != _SHORT_BUFFER or written.value <= room:
+            break
+        room = written.value
+    if answer != -6:
+        _done(answer)
+        return None
+    text = out.raw[: written.value].decode(errors="replace").rstrip("\n")
+    return ConfigFault(ConfigTable(place.table), place.position, ConfigReason(place.reason), ConfigKey(place.key), text)
+
+
 def binding(name: Sequence[int], tag: int, content: Buffer = b"") -> bytes:
     """A variable binding, as octets."""
     return _copied(CALLS["binding_write"], *_arcs(name), _ranged(tag, 8), *_octets(content))
@@ -333,10 +414,14 @@ class _Held:
     _kind = ""
     _handle: Optional[ctypes.c_void_p] = None
 
-    def __init__(self, *arguments):
+    def __init__(self, config: Buffer, *arguments):
         self._lock = threading.Lock()
         handle = ctypes.c_void_p()
-        _done(CALLS[f"{self._kind}_new"](*arguments, ctypes.byref(handle)))
+        try:
+            _done(CALLS[f"{self._kind}_new"](*_octets(config), *arguments, ctypes.byref(handle)))
+        except BadConfiguration as refused:
+            fault = config_fault(config)
+            raise BadConfiguration(fault.text if fault else str(refused), fault) from None
         self._handle = handle
 
     def _call(self, name: str, *arguments):
@@ -398,7 +483,7 @@ class Agent(_Held):
     _kind = "agent"
 
     def __init__(self, config: Buffer, engine: Buffer, boots: int, started: int):
-        super().__init__(*_octets(config, engine), _ranged(boots), _ranged(started, 64))
+        super().__init__(config, *_octets(engine), _ranged(boots), _ranged(started, 64))
 
     @classmethod
     def from_file(cls, path: Path, engine: Buffer, boots: int, started: int) -> "Agent":
@@ -442,7 +527,7 @@ class Manager(_Held):
     _kind = "manager"
 
     def __init__(self, config: Buffer, clocks: Buffer = NO_CLOCKS, now: int = 0):
-        super().__init__(*_octets(config, clocks), _ranged(now, 64))
+        super().__init__(config, *_octets(clocks), _ranged(now, 64))
 
     @classmethod
     def from_file(cls, path: Path, clocks: Buffer = NO_CLOCKS, now: int = 0) -> "Manager":

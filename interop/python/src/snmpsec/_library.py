@@ -40,6 +40,10 @@ class Clock(ctypes.Structure):
     _fields_ = [("boots", c_uint32), ("time", c_uint32)]
 
 
+class ConfigPlace(ctypes.Structure):
+    _fields_ = [(name, c_size_t) for name in ("table", "position", "reason", "key")]
+
+
 class Notice(ctypes.Structure):
     _fields_ = [("message_id", c_uint32), ("request_id", c_uint32), ("level", c_uint), ("user", Octets), ("context_engine", Octets),
                 ("context_name", Octets), ("list", Octets), ("salt", c_uint64)]
@@ -68,6 +72,7 @@ SIGNATURES = {
     "version": (c_char_p, []),
     "strerror": (c_char_p, [c_int]),
     "error_name": (c_char_p, [c_int]),
+    "config_fault": (c_int, _slice + [POINTER(ConfigPlace)] + _out),
     "agent_new": (c_int, _slice * 2 + [c_uint32, c_uint64, POINTER(c_void_p)]),
     "agent_access": (c_int, [c_void_p, c_uint] + _arcs + [POINTER(Enumeration)]),
     "agent_user_access": (c_int, [c_void_p, Octets, c_uint, Octets, c_uint] + _arcs + [POINTER(Enumeration)]),
