@@ -198,7 +198,8 @@ SNMPSEC_CALL void snmpsec_manager_free(snmpsec_manager *manager);
 SNMPSEC_CHECK int snmpsec_manager_new(const uint8_t *config, size_t config_len, const uint8_t *clocks, size_t clocks_len, uint64_t now,
                                       snmpsec_manager **out);
 
-/* Takes a datagram, and learns its engine's boots and time where it is authentic. SNMPSEC_OK: it is accepted, and kept. */
+/* Takes a datagram, and learns its engine's boots and time where it is authentic. SNMPSEC_OK: it is accepted, and kept. SNMPSEC_OUT_OF_MEMORY:
+ * nothing is learned, so it may be taken again. */
 SNMPSEC_CHECK int snmpsec_manager_take(snmpsec_manager *manager, uint64_t now, const uint8_t *datagram, size_t datagram_len);
 SNMPSEC_CHECK int snmpsec_manager_info(snmpsec_manager *manager, snmpsec_info *out);
 SNMPSEC_CHECK int snmpsec_manager_part(snmpsec_manager *manager, snmpsec_part part, uint8_t *out, size_t out_len, size_t *written);

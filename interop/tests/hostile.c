@@ -152,7 +152,7 @@ static int save(snmpsec_manager *manager) {
     return snmpsec_manager_save(manager, text, sizeof text, &text_len);
 }
 
-/* A call, and whether it takes: then it may have learned, and leaves no message. */
+/* A call, and whether it takes: then it leaves no message. */
 struct call { const char *name; int (*call)(snmpsec_manager *manager); int takes; };
 
 static const struct call calls[] = {
@@ -187,8 +187,7 @@ static int is_refused(const struct call *call, long n, const struct text *before
             check("the message is as before", 1, is_same(&asked, &message));
         }
         struct text after = saved_of(manager);
-        int may_have_learned = call->takes && is_same(learned, &after);
-        check("the clocks are as before", 1, is_same(before, &after) || may_have_learned);
+        check("the clocks are as before", 1, is_same(before, &after));
         check("done with memory", 0, call->call(manager));
     }
     struct text end = saved_of(manager);
