@@ -16,7 +16,7 @@ static void check_config_fault(void) {
     static const char text[] = "[[user]]\nname = \"ann\"\n[[user]]\nname = \"bob\"\nauht = \"md5\"\n";
     static const char expected[] = "refused config user 1 BadKey\nuser 1: auht: not a key of this table, the nearest is auth\n";
     static const char missing[] = "[[family]]\nview = \"v\"\n";
-    uint8_t out[sizeof expected];
+    uint8_t out[sizeof expected], more[128];
     size_t written = 7;
     snmpsec_config_place place = {9, 9, 9, 9};
     int answer;
@@ -31,7 +31,7 @@ static void check_config_fault(void) {
                                                   && place.key == SNMPSEC_NO_KEY);
         check("what is told of it", 1, written == strlen(expected) && (room < written ? out[0] == 'x' : !memcmp(out, expected, written)));
     }
-    answer = snmpsec_config_fault((const uint8_t *)missing, strlen(missing), &place, out, sizeof out, &written);
+    answer = snmpsec_config_fault((const uint8_t *)missing, strlen(missing), &place, more, sizeof more, &written);
     check("a key that is missing", 1, answer == SNMPSEC_BAD_CONFIGURATION && place.table == SNMPSEC_FAMILY_TABLE && place.reason == SNMPSEC_MISSING_KEY
                                           && place.key == SNMPSEC_KEY_SUBTREE);
     check("no place", SNMPSEC_BAD_ARGUMENT, snmpsec_config_fault(config, config_len, NULL, out, sizeof out, &written));
