@@ -1,5 +1,5 @@
 -- A message with all its layers: which fault comes first, and the laws of its canonical spelling.
-use Rattle.std.proofs.Common.{◌≡◌, ◌⊎◌, ℕ, ◌+◌, ◌-◌, ◌≤◌, ◌<◌, true, false, List, length, Option, Some, None, Result, Ok, Err, refl, sym, ap, subst, ◌∙◌, arith, inl, inr}
+use Rattle.std.proofs.Common.{◌≡◌, ◌⊎◌, ℕ, ◌+◌, ◌-◌, ◌≤◌, ◌<◌, List, length, Option, Some, None, Result, Ok, Err, refl, sym, ap, subst, ◌∙◌, arith, inl, inr}
 use Rattle.std.specs.Prelude.{MatchResult, MatchOption, IsErrAnd}
 use Rattle.snmp_ber.specs.Spelling.{head_size}
 use Rattle.snmp_message.specs.declared.header.Header.{Header}

@@ -2,8 +2,8 @@
 use Rattle.std.specs.Prelude.{◌≡◌, ◌≢◌, ℕ, ℤ, pos, negsuc, ◌+◌, ◌≤◌, ◌≤ℤ◌, ◌&&◌, not, nat_le, nat_lt, ◌==◌, if◌then◌else◌, List, ◌++◌, length, Option, Some, None}
 use Rattle.snmp_ber.specs.Number.{IsInteger32}
 use Rattle.snmp_ber.specs.Element.{IsElement}
-use Rattle.snmp_ber.specs.Reading.{Front, front_of, integer32_of}
-use Rattle.snmp_ber.specs.Spelling.{head_of, head_size, element, integer}
+use Rattle.snmp_ber.specs.Reading.{Front, front_of}
+use Rattle.snmp_ber.specs.Spelling.{head_of, head_size, element}
 use Rattle.snmp_message.specs.Steps.{◌>>=◌, when_ended}
 use Rattle.snmp_message.specs.Reading.{element_in, signed_in}
 use Rattle.snmp_message.specs.Spelling.{signed}

@@ -1,5 +1,5 @@
 -- Why octets are refused: for each call the faults that it answers, each with its cause.
-use Rattle.std.specs.Prelude.{◌<◌, ◌≤◌, ℕ, List, length, Option, Some, None}
+use Rattle.std.specs.Prelude.{◌<◌, ◌≤◌, ℕ, List, length, Option, None}
 use Rattle.snmp_message.specs.declared.message.TheConstants.{LARGEST}
 use Rattle.snmp_message.specs.declared.fault.MsgFault.{MsgFault}
 use Rattle.snmp_message.specs.declared.fault.MsgFault.TheVariants as faults
@@ -12,7 +12,7 @@ use Rattle.snmp_message.specs.declared.refusal.Refusal.TheVariants as refusals
 use Rattle.snmp_message.specs.Refusals.{AgreesWithPriv, msg_refusal, place_of}
 use Rattle.snmp_message.specs.Layout.{Parts, Outer, WrongVersion}
 use Rattle.snmp_message.specs.Security.{Fields, SecText}
-use Rattle.snmp_message.specs.Scoped.{Contexts, HasScoped, HasSealed, ScopedFront}
+use Rattle.snmp_message.specs.Scoped.{Contexts, HasScoped, HasSealed}
 use Rattle.snmp_msg.specs.Pdu.{PduParts, PduText}
 use Rattle.snmp_msg.specs.Canonical.{IsCanonical}
 
