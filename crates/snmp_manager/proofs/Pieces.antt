@@ -21,7 +21,7 @@ use Rattle.snmp_manager.specs.Views.{Held}
 use Rattle.snmp_manager.specs.Learning.{LearnsFrom}
 use Rattle.snmp_manager.specs.Known.{KnownMark, IsLatestMark}
 use Rattle.snmp_manager.specs.Runs.{HasTaken}
-use Rattle.snmp_manager.specs.Pieces.{Piece, InPieces, ArePiecesOf, SavesText, SaveEach}
+use Rattle.snmp_manager.specs.Pieces.{Piece, ArePiecesOf, SavesText, SaveEach}
 use Rattle.snmp_manager.proofs.Learned.{only_one, the_one}
 
 -- ---- the marks of what was taken
