@@ -8,3 +8,4 @@ pub mod Decimals
 pub mod Cuts
 pub mod Dotted
 pub mod Identifiers
+pub mod ObjectNames

@@ -6,5 +6,6 @@ pub mod Reading
 pub mod Tlv
 pub mod Spelling
 pub mod Oid
+pub mod ObjectName
 pub mod Level
 pub mod Splits

@@ -11,6 +11,7 @@ mod identifier;
 mod laws;
 mod level;
 mod number;
+mod object_name;
 mod oid;
 mod split;
 
@@ -21,5 +22,6 @@ pub use identifier::{is_oid, oid_len, put_oid, read_oid};
 pub use laws::{one_element, one_identifier, one_integer};
 pub use level::{Level, levels_rise};
 pub use number::{int_content, put_int, read_int};
+pub use object_name::ObjectName;
 pub use oid::Oid;
 pub use split::{find, split_once};

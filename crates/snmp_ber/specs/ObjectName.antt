@@ -1,0 +1,11 @@
+-- The identifier that a content spells.
+use Rattle.std.specs.Prelude.{ℕ, List, [], Option, Some, None}
+use Rattle.snmp_ber.specs.Oid.{identifier_in}
+
+abbrev pub found_arcs : Option (List ℕ) → List ℕ
+found_arcs None = []
+found_arcs (Some arcs) = arcs
+
+-- the arcs, where it is one's
+unfoldable pub arcs_in : List ℕ → List ℕ
+arcs_in content = found_arcs (identifier_in content)
