@@ -6,3 +6,5 @@ pub mod Reports
 pub mod Clocked
 pub mod Alike
 pub mod Accepted
+pub mod UpTos
+pub mod Values

@@ -1,19 +1,24 @@
--- A report is short.
-use Rattle.std.proofs.Common.{◌≡◌, ℕ, ℤ, pos, ◌+◌, ◌-◌, ◌<◌, ◌≤◌, ◌^◌, List, [], ◌∷◌, ◌++◌, length, refl, arith, rules}
+-- Reports and tooBigs are short.
+use Rattle.std.proofs.Common.{◌≡◌, ℕ, ℤ, pos, ◌+◌, ◌-◌, ◌<◌, ◌≤◌, ◌^◌, List, [], ◌∷◌, ◌++◌, length, refl, sym, subst, arith, rules}
 use Rattle.std.specs.Int.{w64, to_be_bytes, cast_unsigned}
 use Rattle.std.proofs.lemmas.List.{length-append, length-drop}
 use Rattle.snmp_ber.specs.Element.{IsTag, IsElement}
 use Rattle.snmp_ber.specs.Oid.{identifier}
 use Rattle.snmp_ber.specs.Spelling.{element, integer, octet_count}
-use Rattle.snmp_ber.proofs.Identifiers.{identifier-short}
+use Rattle.snmp_ber.proofs.Identifiers.{subidentifiers-short}
 use Rattle.snmp_message.specs.Scoped.{contexts_text, scoped_text}
-use Rattle.snmp_msg.specs.Variables.{variable_content, variable_text, variables_text}
+use Rattle.snmp_msg.specs.Variables.{Variable, variable_content, variable_text, variables_text}
 use Rattle.snmp_message.specs.Spelling.{signed}
-use Rattle.snmp_msg.specs.Pdu.{pdu_with, pdu_content_text, pdu_text}
+use Rattle.snmp_msg.specs.Pdu.{PduParts, pdu_with, pdu_content_text, pdu_text}
 use Rattle.snmp_message.proofs.Lengths.{element_between}
 use Rattle.snmp_sending.specs.Counters.{counter_name}
 use Rattle.engine_clock.specs.Pairs.{BootsAndTime, IsPair}
 use Rattle.usm_core.specs.Sealed.{SendingFits}
+use Rattle.snmp_sending.specs.Speaks.{Speech, spoken}
+use Rattle.snmp_agent.specs.declared.counter.Counter.{Counter}
+use Rattle.snmp_agent.specs.declared.counter.Counter.TheVariants.{UnknownPduHandlers, UnavailableContexts, UnknownContexts, InBadVersions, InAsnParseErrs, UnknownSecurityModels, InvalidMsgs, SilentDrops}
+use Rattle.snmp_agent.specs.Counts.{name_of}
+use Rattle.snmp_agent.specs.Dispatch.{count_variable}
 use Rattle.snmp_agent.specs.Report.{counter_variable, reporting}
 
 eight_octets : (n : ℕ) → length (to_be_bytes w64 n) ≡ 8
@@ -38,10 +43,11 @@ three a b c = rw (length-append a (b ++ c), length-append b c) refl
 four : (a b c d : List ℕ) → length (a ++ (b ++ (c ++ d))) ≡ length a + (length b + (length c + length d))
 four a b c d = rw (length-append a (b ++ (c ++ d)), length-append b (c ++ d), length-append c d) refl
 
-name_most : (k : ℕ) → length (identifier (counter_name k)) ≤ 635
-name_most k = identifier-short (counter_name k) (omega arith)
+name_most : (k : ℕ) → length (identifier (counter_name k)) ≤ 50
+unfolding identifier
+name_most k = let short = subidentifiers-short (43 ∷ 6 ∷ 1 ∷ 6 ∷ 3 ∷ 15 ∷ 1 ∷ 1 ∷ k ∷ 0 ∷ []) in omega (arith, short)
 
-variable_most : (k value : ℕ) → length (variable_text (counter_variable k value)) ≤ 700
+variable_most : (k value : ℕ) → length (variable_text (counter_variable k value)) ≤ 80
 unfolding variable_text variable_content
 variable_most k value =
     let whole = element_between 48 (element 6 (identifier (counter_name k)) ++ element 65 (integer (pos value))) in
@@ -50,11 +56,11 @@ variable_most k value =
     let content = element_between 65 (integer (pos value)) in
     omega (arith, whole.1, joined, name.1, content.1, name_most k, integer_most (pos value))
 
-list_most : (k value : ℕ) → length (variables_text (counter_variable k value ∷ [])) ≤ 700
+list_most : (k value : ℕ) → length (variables_text (counter_variable k value ∷ [])) ≤ 80
 unfolding variables_text
 list_most k value = let e = two (variable_text (counter_variable k value)) [] in let v = variable_most k value in omega (arith, e, v)
 
-pdu_most : (id : ℤ) (k value : ℕ) → length (pdu_text (pdu_with 168 id (pos 0) (pos 0) (counter_variable k value ∷ []))) ≤ 800
+pdu_most : (id : ℤ) (k value : ℕ) → length (pdu_text (pdu_with 168 id (pos 0) (pos 0) (counter_variable k value ∷ []))) ≤ 140
 unfolding pdu_text pdu_content_text
 pdu_most id k value =
     let list = variables_text (counter_variable k value ∷ []) in
@@ -65,7 +71,7 @@ pdu_most id k value =
 
 -- the ScopedPDU of a report of an engine with at most 32 octets
 pub scoped_most : (engine : List ℕ) (id : ℤ) (k value : ℕ) → length engine ≤ 32
-    → length (scoped_text engine [] (pdu_text (pdu_with 168 id (pos 0) (pos 0) (counter_variable k value ∷ [])))) ≤ 900
+    → length (scoped_text engine [] (pdu_text (pdu_with 168 id (pos 0) (pos 0) (counter_variable k value ∷ [])))) ≤ 200
 unfolding scoped_text contexts_text
 scoped_most engine id k value short =
     let pdu = pdu_text (pdu_with 168 id (pos 0) (pos 0) (counter_variable k value ∷ [])) in
@@ -99,3 +105,82 @@ report_fits canonical engine own id user request_id k value short pair id_fits u
       content = scoped.0;
       scoped = scoped.1;
     }
+
+-- ---- any message of the agent
+
+pub pdu_most_with : (tag : ℕ) (id second third : ℤ) (vs : List Variable) → length (pdu_text (pdu_with tag id second third vs)) ≤ 54 + length (variables_text vs)
+unfolding pdu_text pdu_content_text
+pdu_most_with tag id second third vs =
+    let list = variables_text vs in
+    let whole = element_between tag (signed id ++ (signed second ++ (signed third ++ element 48 list))) in
+    let joined = four (signed id) (signed second) (signed third) (element 48 list) in
+    let inner = element_between 48 list in
+    omega (arith, whole.1, joined, inner.1, signed_most id, signed_most second, signed_most third)
+
+scoped_size : (engine name pdu : List ℕ) → length (scoped_text engine name pdu) ≤ 18 + length engine + length name + length pdu
+unfolding scoped_text contexts_text
+scoped_size engine name pdu =
+    let whole = element_between 48 (element 4 engine ++ (element 4 name ++ pdu)) in
+    let joined = three (element 4 engine) (element 4 name) pdu in
+    let first = element_between 4 engine in
+    let second = element_between 4 name in
+    omega (arith, whole.1, joined, first.1, second.1)
+
+scoped_is : ((tag : ℕ) (content : List ℕ) → IsTag tag → length content < 2 ^ 32 → IsElement tag content (element tag content))
+    → (engine name pdu : List ℕ) → length engine + length name + length pdu ≤ 65507 → (content : List ℕ) × IsElement 48 content (scoped_text engine name pdu)
+unfolding scoped_text
+scoped_is canonical engine name pdu short =
+    let content = contexts_text engine name pdu in
+    let whole = element_between 48 content in
+    let most = scoped_size engine name pdu in
+    (content, canonical 48 content (search rules) (omega (arith, whole.0, most, short)))
+
+-- what a level, an engine and a user say with a PDU can be sealed
+pub spoken_fits : ((tag : ℕ) (content : List ℕ) → IsTag tag → length content < 2 ^ 32 → IsElement tag content (element tag content))
+    → (s : Speech) → s.id ≤ 2147483647 → IsPair s.pair → length s.user ≤ 32 → length s.salt ≡ 8 → length s.context_engine + length s.context_name + length (pdu_text s.pdu) ≤ 65507 → SendingFits (spoken s)
+spoken_fits canonical s id pair user salt short =
+    let scoped = scoped_is canonical s.context_engine s.context_name (pdu_text s.pdu) short in
+    record {
+      header = record { id = id; least_size = omega arith; most_size = omega arith; least_model = omega arith; most_model = omega arith };
+      boots = pair.boots;
+      time = pair.time;
+      user = user;
+      salt = salt;
+      content = scoped.0;
+      scoped = scoped.1;
+    }
+
+-- what was sealed of a PDU with these bindings is at most 222 octets longer than the engine ID, the user's name, the contexts and the
+-- bindings
+pub spoken_size : (s : Speech) (tag : ℕ) (id second third : ℤ) (vs : List Variable) → s.pdu ≡ pdu_with tag id second third vs → (text : List ℕ)
+    → length text ≤ 150 + length s.engine + length s.user + length (scoped_text s.context_engine s.context_name (pdu_text s.pdu))
+    → length text ≤ 222 + length s.engine + length s.user + length s.context_engine + length s.context_name + length (variables_text vs)
+spoken_size s tag id second third vs is text most =
+    let scoped = scoped_size s.context_engine s.context_name (pdu_text s.pdu) in
+    let pdu : length (pdu_text s.pdu) ≤ 54 + length (variables_text vs) = subst (λ (q : PduParts). length (pdu_text q) ≤ 54 + length (variables_text vs)) (sym is) (pdu_most_with tag id second third vs) in
+    omega (arith, most, scoped, pdu)
+
+name_short : (counter : Counter) → length (identifier (name_of counter)) ≤ 50
+unfolding identifier
+name_short UnknownPduHandlers = let short = subidentifiers-short (43 ∷ 6 ∷ 1 ∷ 6 ∷ 3 ∷ 11 ∷ 2 ∷ 1 ∷ 3 ∷ 0 ∷ []) in omega (arith, short)
+name_short UnavailableContexts = let short = subidentifiers-short (43 ∷ 6 ∷ 1 ∷ 6 ∷ 3 ∷ 12 ∷ 1 ∷ 4 ∷ 0 ∷ []) in omega (arith, short)
+name_short UnknownContexts = let short = subidentifiers-short (43 ∷ 6 ∷ 1 ∷ 6 ∷ 3 ∷ 12 ∷ 1 ∷ 5 ∷ 0 ∷ []) in omega (arith, short)
+name_short InBadVersions = let short = subidentifiers-short (43 ∷ 6 ∷ 1 ∷ 2 ∷ 1 ∷ 11 ∷ 3 ∷ 0 ∷ []) in omega (arith, short)
+name_short InAsnParseErrs = let short = subidentifiers-short (43 ∷ 6 ∷ 1 ∷ 2 ∷ 1 ∷ 11 ∷ 6 ∷ 0 ∷ []) in omega (arith, short)
+name_short UnknownSecurityModels = let short = subidentifiers-short (43 ∷ 6 ∷ 1 ∷ 6 ∷ 3 ∷ 11 ∷ 2 ∷ 1 ∷ 1 ∷ 0 ∷ []) in omega (arith, short)
+name_short InvalidMsgs = let short = subidentifiers-short (43 ∷ 6 ∷ 1 ∷ 6 ∷ 3 ∷ 11 ∷ 2 ∷ 1 ∷ 2 ∷ 0 ∷ []) in omega (arith, short)
+name_short SilentDrops = let short = subidentifiers-short (43 ∷ 6 ∷ 1 ∷ 2 ∷ 1 ∷ 11 ∷ 31 ∷ 0 ∷ []) in omega (arith, short)
+
+pub count_list : (counter : Counter) (value : ℕ) → length (variables_text (count_variable counter value ∷ [])) ≤ 80
+unfolding variables_text variable_text variable_content
+count_list counter value =
+    let whole = element_between 48 (element 6 (identifier (name_of counter)) ++ element 65 (integer (pos value))) in
+    let joined = two (element 6 (identifier (name_of counter))) (element 65 (integer (pos value))) in
+    let name = element_between 6 (identifier (name_of counter)) in
+    let content = element_between 65 (integer (pos value)) in
+    let e = two (variable_text (count_variable counter value)) [] in
+    omega (arith, e, whole.1, joined, name.1, content.1, name_short counter, integer_most (pos value))
+
+pub empty_list : length (variables_text []) ≡ 0
+unfolding variables_text
+empty_list = refl

@@ -10,8 +10,9 @@ use Rattle.snmp_outcome.specs.Answers.{given_of, refused}
 use Rattle.snmp_agent.specs.declared.refused.Refused.{Refused}
 use Rattle.snmp_agent.specs.declared.engine.Engine.{Engine}
 use Rattle.snmp_agent.specs.Counting.{counters_after}
+use Rattle.snmp_agent.specs.Counts.{counts_after}
 
--- its engine ID, its boots, the moment of its start, its users, its tables, and its six counters
+-- its engine ID, its boots, the moment of its start, its users, its tables, its six usmStats, and its eight other counters
 pub record AgentState : Type 0 where
   pub engine : List ℕ
   pub boots : ℕ
@@ -19,6 +20,7 @@ pub record AgentState : Type 0 where
   pub users : List User
   pub tables : Tables
   pub counters : List ℕ
+  pub counts : List ℕ
 
 abbrev pub taker_of : AgentState → Taker
 taker_of a = as_agent a.engine a.boots a.started
@@ -36,7 +38,7 @@ taken_answer (Err r) = refused (answer_number r.why)
 abbrev pub AgentTakes : AgentState → ℕ → List ℕ → Option (Result Given ℕ) → AgentState → Type 0
 AgentTakes old now w None new = new ≡ old
 AgentTakes old now w (Some answer) new =
-    Outcome (taker_of old) old.users now w answer × (new ≡ record old { counters = counters_after old.counters answer })
+    Outcome (taker_of old) old.users now w answer × (new ≡ record old { counters = counters_after old.counters answer; counts = counts_after old.counts answer })
 
 -- A message comes as far as its opening, and is sealed, so that memory is needed for what it is opened to.
 pub record IsOpened (taker : Taker) (users : List User) (now : ℕ) (w : List ℕ) : Type 0 where

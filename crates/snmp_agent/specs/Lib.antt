@@ -1,5 +1,8 @@
 pub mod Counting
+pub mod Counts
 pub mod Agent
 pub mod Report
 pub mod Decides
 pub mod Sent
+pub mod Dispatch
+pub mod Statuses

@@ -8,6 +8,7 @@ ghost use Rattle.snmp_agent.specs.Agent.{taker_of, taken_answer, AgentTakes, IsO
 ghost use Rattle.snmp_agent.specs.Report.{AgentReports, OffersOnAnswer, report_of};
 
 use crate::answers::{answers, view_for};
+use crate::counter::{drop_counter_of, one_more};
 use crate::counting::counted;
 use crate::decision::Decision;
 use crate::engine::Engine;
@@ -31,11 +32,14 @@ use vacm_core::{Access, Vacm, ViewType};
 /// it refused. All moments are in seconds from one beginning, which the caller keeps.
 #[derive(Drop)]
 pub struct Agent {
-    alloc: Global,
-    engine: Engine,
-    users: Users,
-    vacm: Vacm,
+    pub(crate) alloc: Global,
+    pub(crate) engine: Engine,
+    pub(crate) users: Users,
+    pub(crate) vacm: Vacm,
+    /// usmStats.
     pub(crate) counters: [u32; 6],
+    /// The others, each at the place of its `Counter`.
+    pub(crate) counts: [u32; 8],
 }
 
 impl Model for Agent {
@@ -43,7 +47,7 @@ impl Model for Agent {
 
     ghost Value = { AgentState };
 
-    ghost view = { λ a. record { engine = a.engine.id; boots = a.engine.boots; started = a.engine.started; users = a.users.users; tables = a.vacm; counters = a.counters } };
+    ghost view = { λ a. record { engine = a.engine.id; boots = a.engine.boots; started = a.engine.started; users = a.users.users; tables = a.vacm; counters = a.counters; counts = a.counts } };
 }
 
 impl Agent {
@@ -71,7 +75,7 @@ impl Agent {
         vacm: Vacm,
     ) -> Agent
         requires { boots ≤ pair_max }
-        ensures { result ≡ record { engine = engine; boots = boots; started = started; users = users.users; tables = vacm; counters = replicate 6 0 } }
+        ensures { result ≡ record { engine = engine; boots = boots; started = started; users = users.users; tables = vacm; counters = replicate 6 0; counts = replicate 8 0 } }
     {
         Agent {
             alloc,
@@ -83,6 +87,7 @@ impl Agent {
             users,
             vacm,
             counters: [0; 6],
+            counts: [0; 8],
         }
     }
 
@@ -97,8 +102,8 @@ impl Agent {
     }
 
     /// Takes a datagram at the moment `now`: reads and authenticates it (RFC 3412, section 7.2, and RFC 3414, section 3.2),
-    /// looks at the time window, opens the message and reads its ScopedPDU. A refusal that has a counter adds one to it, and is
-    /// reported where the message asks for reports.
+    /// looks at the time window, opens the message and reads its ScopedPDU. A refusal that has a counter adds one to it, and where
+    /// that is one of usmStats it is reported where the message asks for reports.
     ///
     /// The errors are, the first that applies: ClockExhausted (15), where the engine's time would be above 2147483647; those of
     /// `Users::open_auth`; NotInWindow (10), DecryptionError (11), BadScoped (12) and BadPdu (13). OutOfMemory (14), from
@@ -122,6 +127,7 @@ impl Agent {
             return Err(none);
         }
         let counters = counted(self.counters, why);
+        let counts = one_more(self.counts, drop_counter_of(why));
         match report(
             self.alloc,
             &mut self.users,
@@ -133,6 +139,7 @@ impl Agent {
         ) {
             Ok(report) => {
                 self.counters = counters;
+                self.counts = counts;
                 Err(Refused { why, report })
             }
             Err(_) => Err(none),

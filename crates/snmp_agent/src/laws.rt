@@ -1,6 +1,6 @@
 //! Laws of what agents send and decide. Each function does nothing: its contract is the law.
 
-ghost use Rattle.std.specs.Prelude.{◌≡◌, ◌≤◌, ℕ, ℤ, List, length, Ok};
+ghost use Rattle.std.specs.Prelude.{◌≡◌, ◌≤◌, ℕ, ℤ, List, [], length, Ok};
 ghost use Rattle.snmp_ber.specs.declared.level.Level.{Level};
 ghost use Rattle.snmp_message.specs.Scoped.{Contexts};
 ghost use Rattle.snmp_msg.specs.Variables.{Variable};
@@ -24,6 +24,8 @@ ghost use Rattle.snmp_agent.specs.Agent.{AgentState};
 ghost use Rattle.snmp_agent.specs.Report.{reporting};
 ghost use Rattle.snmp_agent.specs.Sent.{response, responding, notification, notifying};
 ghost use Rattle.snmp_agent.specs.Decides.{HoldsRows};
+ghost use Rattle.snmp_agent.specs.Dispatch.{refusing};
+ghost use Rattle.snmp_agent.specs.declared.counter.Counter.{Counter as Which};
 
 use snmp_ber::one_element;
 use snmp_sending::spoken_is_accepted;
@@ -53,10 +55,31 @@ pub fn notification_is_accepted()
     spoken_is_accepted();
 }
 
-/// A report is never longer than a datagram can be.
+/// A report has at most 484 octets, the least that a sender may say it can take (RFC 3412, section 6.3).
 pub fn report_is_short()
     ensures { (users : List User) (engine : List ℕ) (own : BootsAndTime) (id : ℕ) (user : List ℕ) (request_id : ℤ) (n value : ℕ) (text : List ℕ)
-        → length engine ≤ 32 → IsPair own → id ≤ 2147483647 → length user ≤ 32 → SealedText users (reporting engine own id user request_id n value) text → length text ≤ 65507 }
+        → length engine ≤ 32 → IsPair own → id ≤ 2147483647 → length user ≤ 32 → SealedText users (reporting engine own id user request_id n value) text → length text ≤ 484 }
+{
+    one_element();
+    sealed_size();
+}
+
+/// So has the report on an accepted message that isn't handled.
+pub fn refusal_is_short()
+    ensures { (users : List User) (engine : List ℕ) (own : BootsAndTime) (g : Given) (p : PduParts) (counter : Which) (value : ℕ) (salt text : List ℕ)
+        → length engine ≤ 32 → IsPair own → g.id ≤ 2147483647 → length g.user ≤ 32 → length salt ≡ 8
+        → SealedText users (refusing engine own g p counter value salt) text → length text ≤ 484 }
+{
+    one_element();
+    sealed_size();
+}
+
+/// And so has a Response without bindings, as a tooBig is (RFC 3416, section 4.2.1), where neither contextEngineID nor contextName is
+/// longer than 32 octets: such a tooBig can always be sent.
+pub fn too_big_is_short()
+    ensures { (users : List User) (engine : List ℕ) (own : BootsAndTime) (g : Given) (c : Contexts) (p : PduParts) (status index : ℤ) (salt text : List ℕ)
+        → length engine ≤ 32 → IsPair own → g.id ≤ 2147483647 → length g.user ≤ 32 → length salt ≡ 8 → length c.engine ≤ 32 → length c.name ≤ 32
+        → SealedText users (responding engine own g c p status index [] salt) text → length text ≤ 484 }
 {
     one_element();
     sealed_size();

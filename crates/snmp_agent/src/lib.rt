@@ -6,22 +6,32 @@ mod agent;
 mod answers;
 mod asked;
 mod asking;
+mod commands;
+mod counter;
 mod counting;
 mod decision;
+mod dispatch;
 mod engine;
 mod judge;
 mod laws;
 mod notification;
+mod refusal;
 mod refused;
 mod report;
 mod response;
+mod status;
+mod unhandled;
 
 pub use agent::Agent;
+pub use counter::Counter;
 pub use decision::Decision;
 pub use laws::{
-    agents_decide_alike, notification_is_accepted, report_is_short, response_is_accepted,
+    agents_decide_alike, notification_is_accepted, refusal_is_short, report_is_short,
+    response_is_accepted, too_big_is_short,
 };
 pub use refused::Refused;
+pub use status::{Status, status_of};
+pub use unhandled::Unhandled;
 
 #[cfg(test)]
 mod tests;

@@ -42,7 +42,7 @@ pub record AgentHeld : Type 0 where
 -- an agent that took nothing yet
 abbrev pub begins : List ℕ → ℕ → ℕ → List User → Tables → AgentHeld
 begins engine boots started users tables = record {
-  agent = record { engine = engine; boots = boots; started = started; users = users; tables = tables; counters = replicate 6 0 };
+  agent = record { engine = engine; boots = boots; started = started; users = users; tables = tables; counters = replicate 6 0; counts = replicate 8 0 };
   last = None;
   message = None;
 }

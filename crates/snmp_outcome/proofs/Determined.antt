@@ -61,10 +61,10 @@ module _ (front : (z : List ℕ) (s t : Contexts) → ScopedFront z s → Scoped
   text_answer_one v text =
       needs_one (FrontOf text) 12 _ (λ s t a b x y.
       let same : s.contexts.pdu ≡ t.contexts.pdu = ap (λ (c : Contexts). c.pdu) (front text s.contexts t.contexts s.is t.is) in
-      needs_one (PduOf t.contexts.pdu) 13 (λ p c. c ≡ Ok (record { engine = v.fields.engine; user = v.fields.user; level = level_of v.parts.header; id = v.parts.header.id; tag = p.pdu.tag; text = text }))
-      (λ p q c d e f. e ∙ ap (λ (r : PduParts). Ok (record { engine = v.fields.engine; user = v.fields.user; level = level_of v.parts.header; id = v.parts.header.id; tag = r.tag; text = text })) (pdu t.contexts.pdu p.pdu q.pdu p.is q.is) ∙ sym f)
+      needs_one (PduOf t.contexts.pdu) 13 (λ p c. c ≡ Ok (record { engine = v.fields.engine; user = v.fields.user; level = level_of v.parts.header; id = v.parts.header.id; max_size = v.parts.header.max_size; tag = p.pdu.tag; text = text }))
+      (λ p q c d e f. e ∙ ap (λ (r : PduParts). Ok (record { engine = v.fields.engine; user = v.fields.user; level = level_of v.parts.header; id = v.parts.header.id; max_size = v.parts.header.max_size; tag = r.tag; text = text })) (pdu t.contexts.pdu p.pdu q.pdu p.is q.is) ∙ sym f)
       a b
-      (subst (λ (z : List ℕ). Needs (PduOf z) 13 (λ p c. c ≡ Ok (record { engine = v.fields.engine; user = v.fields.user; level = level_of v.parts.header; id = v.parts.header.id; tag = p.pdu.tag; text = text })) a) same x)
+      (subst (λ (z : List ℕ). Needs (PduOf z) 13 (λ p c. c ≡ Ok (record { engine = v.fields.engine; user = v.fields.user; level = level_of v.parts.header; id = v.parts.header.id; max_size = v.parts.header.max_size; tag = p.pdu.tag; text = text })) a) same x)
       y)
 
   pub message_one : (users : List User) (w : List ℕ) (v : Verified) (a b : Result Given ℕ) → ReadsMessage users w v a → ReadsMessage users w v b → a ≡ b

@@ -45,7 +45,7 @@ text_refused v text (Some n) (inl none) = subst (λ (k : ℕ). ReadsText v text 
 text_refused v text (Some n) (inr none) = subst (λ (k : ℕ). ReadsText v text (Err k)) (sym none.0) (holds none.1.0 (fails none.1.1))
 
 pub text_read : (v : Verified) (text : List ℕ) (given : Given) → HasTag text given.tag → given.engine ≡ v.fields.engine → given.user ≡ v.fields.user → given.level ≡ level_of v.parts.header
-    → given.id ≡ v.parts.header.id → given.text ≡ text → ReadsText v text (Ok given)
+    → given.id ≡ v.parts.header.id → given.max_size ≡ v.parts.header.max_size → given.text ≡ text → ReadsText v text (Ok given)
 unfolding ReadsText
-text_read v text given tag engine user level id same =
-    holds tag.0 (holds tag.1 (λ i. Ok (record { engine = engine i; user = user i; level = level i; id = id i; tag = sym tag.2 i; text = same i })))
+text_read v text given tag engine user level id max_size same =
+    holds tag.0 (holds tag.1 (λ i. Ok (record { engine = engine i; user = user i; level = level i; id = id i; max_size = max_size i; tag = sym tag.2 i; text = same i })))

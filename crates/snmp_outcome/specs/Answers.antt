@@ -9,7 +9,7 @@ use Rattle.snmp_outcome.specs.Texts.{text_of, FrontOf, PduOf}
 use Rattle.snmp_outcome.specs.Outcome.{Given, IsTextOf}
 
 abbrev pub given_of : Taken → Given
-given_of t = record { engine = t.engine; user = t.user.now; level = t.level; id = t.id; tag = t.tag; text = text_of t.text }
+given_of t = record { engine = t.engine; user = t.user.now; level = t.level; id = t.id; max_size = t.max_size; tag = t.tag; text = text_of t.text }
 
 abbrev pub refused : Option ℕ → Option (Result Given ℕ)
 refused None = None

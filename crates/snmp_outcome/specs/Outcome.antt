@@ -19,6 +19,8 @@ pub record Given : Type 0 where
   pub level : Level
   -- msgID
   pub id : ℕ
+  -- msgMaxSize: the most octets of a message that the sender can take
+  pub max_size : ℕ
   -- the tag of the PDU
   pub tag : ℕ
   -- The octets that begin with the ScopedPDU: the datagram from msgData on, or where priv is set what msgData is opened to.
@@ -66,7 +68,7 @@ unfoldable pub ReadsText : Verified → List ℕ → Result Given ℕ → Type 0
 ReadsText v text =
     Needs (FrontOf text) 12 (λ s.
     Needs (PduOf s.contexts.pdu) 13 (λ p.
-    Gives (record { engine = v.fields.engine; user = v.fields.user; level = level_of v.parts.header; id = v.parts.header.id; tag = p.pdu.tag; text = text })))
+    Gives (record { engine = v.fields.engine; user = v.fields.user; level = level_of v.parts.header; id = v.parts.header.id; max_size = v.parts.header.max_size; tag = p.pdu.tag; text = text })))
 
 -- the same of the text that the message has
 abbrev pub ReadsMessage : List User → List ℕ → Verified → Result Given ℕ → Type 0

@@ -17,6 +17,7 @@ pub struct Kept {
     user: Vec<u8>,
     level: Level,
     id: u32,
+    max_size: u32,
     tag: u8,
     text: Vec<u8>,
 }
@@ -28,9 +29,9 @@ impl Model for Kept {
 
     ghost Value = { Given };
 
-    ghost view = { λ k. record { engine = k.engine; user = k.user.items; level = k.level; id = k.id; tag = k.tag; text = k.text.items } };
+    ghost view = { λ k. record { engine = k.engine; user = k.user.items; level = k.level; id = k.id; max_size = k.max_size; tag = k.tag; text = k.text.items } };
 
-    ghost invariant = { λ k. (length k.user.items ≤ 32) × (k.id ≤ 2147483647) × ∥ HasTag k.text.items k.tag ∥₁ };
+    ghost invariant = { λ k. (length k.user.items ≤ 32) × (k.id ≤ 2147483647) × (484 ≤ k.max_size) × (k.max_size ≤ 2147483647) × ∥ HasTag k.text.items k.tag ∥₁ };
 }
 
 impl Kept {
@@ -46,6 +47,7 @@ impl Kept {
             user: taken.user.to_vec(alloc)?,
             level: taken.level,
             id: taken.id,
+            max_size: taken.max_size,
             tag: taken.tag,
             text: taken.text.as_slice().to_vec(alloc)?,
         })
@@ -63,6 +65,7 @@ impl Kept {
             user: self.user.as_slice(),
             level: self.level,
             id: self.id,
+            max_size: self.max_size,
             tag: self.tag,
             text: Octets::Borrowed(self.text.as_slice()),
         }

@@ -66,6 +66,8 @@ pub fn read_text<'a>(
     requires level { checked.now.level ≡ level_of checked.now.message.header }
     requires user { length checked.now.security.user.now ≤ 32 }
     requires id { checked.now.message.header.id ≤ 2147483647 }
+    requires least { 484 ≤ checked.now.message.header.max_size }
+    requires most { checked.now.message.header.max_size ≤ 2147483647 }
     ensures { IsSomeAnd (answer_of result) (ReadsText (verified_of checked.now) (text_of text.entry)) }
 {
     let base = match text {
@@ -81,6 +83,7 @@ pub fn read_text<'a>(
         user: checked.security.user,
         level: checked.level,
         id: checked.message.header.id,
+        max_size: checked.message.header.max_size,
         tag,
         text,
     })

@@ -18,11 +18,14 @@ pub struct Taken<'a> {
     pub level: Level,
     /// msgID, at most 2147483647.
     pub id: u32,
+    /// msgMaxSize, from 484 to 2147483647: the most octets of a message that the sender can take.
+    pub max_size: u32,
     /// The tag of the PDU.
     pub tag: u8,
     pub(crate) text: Octets<'a>,
     pub ghost user_fits: { length user.now ≤ 32 },
     pub ghost id_fits: { id ≤ 2147483647 },
+    pub ghost size_fits: { (484 ≤ max_size) × (max_size ≤ 2147483647) },
     pub ghost is_read: { ∥ HasTag (text_of text) tag ∥₁ },
 }
 

@@ -99,7 +99,7 @@ record Opened (users : List User) (w : List ℕ) (v : Verified) (c : Contexts) :
   pub same : SameScoped c contexts
 
 read_text : (v : Verified) (text : List ℕ) (s : Contexts) (p : PduParts) → ScopedFront text s → PduText s.pdu p
-    → ReadsText v text (Ok (record { engine = v.fields.engine; user = v.fields.user; level = level_of v.parts.header; id = v.parts.header.id; tag = p.tag; text = text }))
+    → ReadsText v text (Ok (record { engine = v.fields.engine; user = v.fields.user; level = level_of v.parts.header; id = v.parts.header.id; max_size = v.parts.header.max_size; tag = p.tag; text = text }))
 unfolding ReadsText
 read_text v text s p front pdu = holds (record { contexts = s; is = front }) (holds (record { pdu = p; is = pdu }) refl)
 
@@ -188,7 +188,7 @@ module _ (taker : Taker) (senders users : List User) (now : ℕ) (m : Sending) (
   opened = by_bool m.header.privacy _ _ (Opened users w v c) (λ e d. sealed_read e) (λ e d. plain_read e d) said.content
 
   given : Given
-  given = record { engine = v.fields.engine; user = v.fields.user; level = level_of v.parts.header; id = v.parts.header.id; tag = p.tag; text = opened.text }
+  given = record { engine = v.fields.engine; user = v.fields.user; level = level_of v.parts.header; id = v.parts.header.id; max_size = v.parts.header.max_size; tag = p.tag; text = opened.text }
 
   weighs : IsInTime taker now m → Weighs taker users now w v (Ok given)
   unfolding Weighs given
@@ -207,6 +207,7 @@ module _ (taker : Taker) (senders users : List User) (now : ℕ) (m : Sending) (
       user_is = said.user_is;
       level_is = ap level_of said.header_is;
       id_is = ap (λ (h : Header). h.id) said.header_is;
+      max_size_is = ap (λ (h : Header). h.max_size) said.header_is;
       tag_is = refl;
       contexts = opened.contexts;
       front = opened.front;

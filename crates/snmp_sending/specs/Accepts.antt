@@ -25,12 +25,13 @@ pub record IsFor (taker : Taker) (senders users : List User) (m : Sending) (c : 
   pub scoped : ScopedText 0 m.scoped c
   pub pdu : PduText c.pdu p
 
--- What is given on is what was sent: engine, user, level, msgID and ScopedPDU.
+-- What is given on is what was sent: engine, user, level, msgID, msgMaxSize and ScopedPDU.
 pub record GivesBack (m : Sending) (c : Contexts) (p : PduParts) (g : Given) : Type 0 where
   pub engine_is : g.engine ≡ m.engine
   pub user_is : g.user ≡ m.user
   pub level_is : g.level ≡ level_of m.header
   pub id_is : g.id ≡ m.header.id
+  pub max_size_is : g.max_size ≡ m.header.max_size
   pub tag_is : g.tag ≡ p.tag
   pub contexts : Contexts
   pub front : ScopedFront g.text contexts

@@ -6,5 +6,6 @@ pub mod Sealing
 pub mod Again
 pub mod Determined
 pub mod Same
+pub mod Sealeds
 pub mod SealedSizes
 pub mod Caching

@@ -18,8 +18,8 @@ mod verify;
 pub use checked::{Checked, Role};
 pub use fault::UsmFault;
 pub use laws::{
-    one_answer, one_authentic, sealed_is_authentic, sealed_is_opened, sealed_is_read, sealed_says,
-    sealed_size, some_sealed, users_by_name, verified_was_read,
+    one_answer, one_authentic, one_sealed, sealed_is_authentic, sealed_is_opened, sealed_is_read,
+    sealed_says, sealed_size, some_sealed, users_by_name, verified_was_read,
 };
 pub use users::Users;
 pub use usm_users::{UserFault, UserRow};

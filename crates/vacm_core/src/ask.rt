@@ -12,7 +12,7 @@ use crate::{Access, ViewType};
 use snmp_ber::Level;
 
 /// There is a context of this name.
-fn has_context(rows: &OrderedTable<ContextRow>, context: &[u8]) -> bool
+pub(crate) fn has_context(rows: &OrderedTable<ContextRow>, context: &[u8]) -> bool
     ensures { IsTrue result ↔ HasContext rows.now context.now }
 {
     !rows.rows_of(context).is_empty()

@@ -1,5 +1,5 @@
 //! The tables that answer (RFC 3415, section 3).
-ghost use Rattle.std.specs.Prelude.{◌≡◌, ◌++◌, ℕ, List, IfOk, IfErr, OnOk};
+ghost use Rattle.std.specs.Prelude.{◌≡◌, ◌↔◌, ◌++◌, ℕ, List, IsTrue, IfOk, IfErr, OnOk};
 ghost use Rattle.std.specs.List.Sorted.{IsPermutation};
 ghost use Rattle.vacm_core.specs.Tables.{tables_of, HaveSameRows};
 ghost use Rattle.vacm_core.specs.Faults.{AreSound, IsTold};
@@ -7,10 +7,10 @@ ghost use Rattle.vacm_core.specs.Distinct.{HasOneRowEach};
 ghost use Rattle.vacm_core.specs.declared.access.ViewType.{ViewType as Asked};
 ghost use Rattle.vacm_core.specs.declared.access.Access.{Access as Answer};
 ghost use Rattle.vacm_core.specs.Allowed as spec;
-ghost use Rattle.vacm_core.specs.Allowed.{Allowed};
+ghost use Rattle.vacm_core.specs.Allowed.{Allowed, HasContext};
 ghost use Rattle.vacm_core.specs.View.{AreExact};
 
-use crate::ask::{Message, answer};
+use crate::ask::{Message, answer, has_context};
 use crate::fault::find_fault;
 use crate::rows::{AccessRow, ContextRow, FamilyRow, GroupRow, Row};
 use crate::table::OrderedTable;
@@ -126,6 +126,13 @@ impl Vacm {
             view,
             variable.as_slice(),
         )
+    }
+
+    /// Whether there is a context of this name (vacmContextTable, RFC 3415, section 4). It takes no memory.
+    pub fn has_context(&self, name: &[u8]) -> bool
+        ensures { IsTrue result ↔ HasContext self.now.contexts name.now }
+    {
+        has_context(&self.contexts, name)
     }
 }
 

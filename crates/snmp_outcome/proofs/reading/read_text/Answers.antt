@@ -12,8 +12,8 @@ returns-in-Err c =
     text_refused (verified_of c.args.checked.now) (text_of c.args.text) (answer_number c.in-Err.fault) (subst (λ text. RefusesText text c.in-Err.fault) c.as_slice.ensures c.in-Err.ensures.fault)
 
 pub invariant_of-result : goal.invariant_of-result
-invariant_of-result c = record { user_fits = c.requires.user; id_fits = c.requires.id; is_read = merely (subst (λ text. HasTag text c.in-Ok.tag) c.as_slice.ensures c.in-Ok.ensures.tag) }
+invariant_of-result c = record { user_fits = c.requires.user; id_fits = c.requires.id; size_fits = (c.requires.least, c.requires.most); is_read = merely (subst (λ text. HasTag text c.in-Ok.tag) c.as_slice.ensures c.in-Ok.ensures.tag) }
 
 pub returns : goal.returns
 returns c =
-    text_read (verified_of c.args.checked.now) (text_of c.args.text) _ (subst (λ text. HasTag text c.in-Ok.tag) c.as_slice.ensures c.in-Ok.ensures.tag) c.requires.engine refl c.requires.level refl refl
+    text_read (verified_of c.args.checked.now) (text_of c.args.text) _ (subst (λ text. HasTag text c.in-Ok.tag) c.as_slice.ensures c.in-Ok.ensures.tag) c.requires.engine refl c.requires.level refl refl refl

@@ -17,7 +17,7 @@ returns-in_default-clause-answer c =
 
 pub returns-clause-answer : goal.returns-clause-answer
 returns-clause-answer c =
-    let agent : AgentState = record { engine = c.self.inside.engine.id; boots = c.self.inside.engine.boots; started = c.self.inside.engine.started; users = c.self.inside.users.users; tables = c.self.inside.vacm; counters = c.self.inside.counters } in
+    let agent : AgentState = record { engine = c.self.inside.engine.id; boots = c.self.inside.engine.boots; started = c.self.inside.engine.started; users = c.self.inside.users.users; tables = c.self.inside.vacm; counters = c.self.inside.counters; counts = c.self.inside.counts } in
     subst (λ (a : AgentState). IfSome (send_answer c.send_notification.result) (Sends a c.args.now (λ own. notifying a.engine own c.args.id c.args.user.now c.args.level c.args.body.now c.args.salt))) c.self.view_is
     (sends agent c.args.now (λ own. notifying c.self.inside.engine.id own c.args.id c.args.user.now c.args.level c.args.body.now c.args.salt) c.in-Some.own c.in-Some.ensures.0 c.in-Some.ensures.1 (send_answer c.send_notification.result) c.send_notification.ensures.rows)
 

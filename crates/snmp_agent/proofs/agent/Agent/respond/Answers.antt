@@ -24,7 +24,7 @@ returns-clause-answer c s p front is_pdu =
     let fits_status : SFits w32 c.args.status = search rules in
     let fits_index : SFits w32 c.args.index = search rules in
     let rows = rw (to_z-of_z w32 c.args.status fits_status, to_z-of_z w32 c.args.index fits_index) at (c.send_response.ensures.rows s p front is_pdu) in
-    let agent : AgentState = record { engine = c.self.inside.engine.id; boots = c.self.inside.engine.boots; started = c.self.inside.engine.started; users = c.self.inside.users.users; tables = c.self.inside.vacm; counters = c.self.inside.counters } in
+    let agent : AgentState = record { engine = c.self.inside.engine.id; boots = c.self.inside.engine.boots; started = c.self.inside.engine.started; users = c.self.inside.users.users; tables = c.self.inside.vacm; counters = c.self.inside.counters; counts = c.self.inside.counts } in
     subst (λ (a : AgentState). IfSome (send_answer c.send_response.result) (Sends a c.args.now (λ own. responding a.engine own (given_of c.args.taken.now) s p c.args.status c.args.index (map variable_of c.args.bindings.now) c.args.salt))) c.self.view_is
     (sends agent c.args.now (λ own. responding c.self.inside.engine.id own (given_of c.args.taken.now) s p c.args.status c.args.index (map variable_of c.args.bindings.now) c.args.salt) c.in-Some.own c.in-Some.ensures.0 c.in-Some.ensures.1 (send_answer c.send_response.result) rows)
 

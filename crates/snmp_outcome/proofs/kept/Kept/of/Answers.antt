@@ -8,5 +8,7 @@ invariant_of-result c =
     let text : c.in_ok-to_vec-2.field-0.items ≡ text_of c.args.taken.now.text = search rules in (
       subst (λ octets. length octets ≤ 32) (sym user) c.args.taken.now.user_fits,
       c.args.taken.now.id_fits,
+      c.args.taken.now.size_fits.0,
+      c.args.taken.now.size_fits.1,
       subst (λ octets. ∥ HasTag octets c.args.taken.now.tag ∥₁) (sym text) c.args.taken.now.is_read,
     )

@@ -6,5 +6,6 @@ pub invariant_of-result : goal.invariant_of-result
 invariant_of-result c = record {
   user_fits = subst (λ octets. length octets ≤ 32) (sym c.as_slice-2.ensures.value) c.self.invariant.0;
   id_fits = c.self.invariant.1;
-  is_read = subst (λ text. ∥ HasTag text c.self.inside.tag ∥₁) (sym c.as_slice-3.ensures.value) c.self.invariant.2;
+  size_fits = (c.self.invariant.2, c.self.invariant.3);
+  is_read = subst (λ text. ∥ HasTag text c.self.inside.tag ∥₁) (sym c.as_slice-3.ensures.value) c.self.invariant.4;
 }

@@ -1,0 +1,52 @@
+-- The counters of messages that were refused without a report, that no application handled, or that had no answer short enough
+-- (RFC 3412, section 5; RFC 3413, section 4.1.2; RFC 3418).
+use Rattle.std.specs.Prelude.{ℕ, ◌+◌, ◌%◌, ◌^◌, ◌==◌, ◌||◌, if◌then◌else◌, List, [], ◌∷◌, slice_index, slice_set, Option, Some, None, Result, Ok, Err}
+use Rattle.snmp_outcome.specs.Outcome.{Given}
+use Rattle.snmp_agent.specs.declared.counter.Counter.{Counter}
+use Rattle.snmp_agent.specs.declared.counter.Counter.TheVariants.{UnknownPduHandlers, UnavailableContexts, UnknownContexts, InBadVersions, InAsnParseErrs, UnknownSecurityModels, InvalidMsgs, SilentDrops}
+
+abbrev pub name_of : Counter → List ℕ
+name_of UnknownPduHandlers = 1 ∷ 3 ∷ 6 ∷ 1 ∷ 6 ∷ 3 ∷ 11 ∷ 2 ∷ 1 ∷ 3 ∷ 0 ∷ []
+name_of UnavailableContexts = 1 ∷ 3 ∷ 6 ∷ 1 ∷ 6 ∷ 3 ∷ 12 ∷ 1 ∷ 4 ∷ 0 ∷ []
+name_of UnknownContexts = 1 ∷ 3 ∷ 6 ∷ 1 ∷ 6 ∷ 3 ∷ 12 ∷ 1 ∷ 5 ∷ 0 ∷ []
+name_of InBadVersions = 1 ∷ 3 ∷ 6 ∷ 1 ∷ 2 ∷ 1 ∷ 11 ∷ 3 ∷ 0 ∷ []
+name_of InAsnParseErrs = 1 ∷ 3 ∷ 6 ∷ 1 ∷ 2 ∷ 1 ∷ 11 ∷ 6 ∷ 0 ∷ []
+name_of UnknownSecurityModels = 1 ∷ 3 ∷ 6 ∷ 1 ∷ 6 ∷ 3 ∷ 11 ∷ 2 ∷ 1 ∷ 1 ∷ 0 ∷ []
+name_of InvalidMsgs = 1 ∷ 3 ∷ 6 ∷ 1 ∷ 6 ∷ 3 ∷ 11 ∷ 2 ∷ 1 ∷ 2 ∷ 0 ∷ []
+name_of SilentDrops = 1 ∷ 3 ∷ 6 ∷ 1 ∷ 2 ∷ 1 ∷ 11 ∷ 31 ∷ 0 ∷ []
+
+-- where an agent keeps it
+abbrev pub place_of : Counter → ℕ
+place_of UnknownPduHandlers = 0
+place_of UnavailableContexts = 1
+place_of UnknownContexts = 2
+place_of InBadVersions = 3
+place_of InAsnParseErrs = 4
+place_of UnknownSecurityModels = 5
+place_of InvalidMsgs = 6
+place_of SilentDrops = 7
+
+abbrev pub count_at : List ℕ → Counter → ℕ
+count_at counts counter = slice_index counts (place_of counter)
+
+-- its value after one more, a Counter32: it goes from 4294967295 to 0
+abbrev pub count_after : List ℕ → Counter → ℕ
+count_after counts counter = (count_at counts counter + 1) % 2 ^ 32
+
+abbrev pub one_more : List ℕ → Option Counter → List ℕ
+one_more counts None = counts
+one_more counts (Some counter) = slice_set counts (place_of counter) (count_after counts counter)
+
+-- the counter of a refusal that is never reported (RFC 3412, section 7.2, steps 1 to 5; RFC 3414, section 3.2, step 1)
+abbrev pub drop_counter_of : ℕ → Option Counter
+drop_counter_of n =
+    if n == 2 then Some InBadVersions else
+    if n == 1 || n == 3 || n == 4 || n == 12 || n == 13 then Some InAsnParseErrs else
+    if n == 17 then Some UnknownSecurityModels else
+    if n == 18 then Some InvalidMsgs else
+    None
+
+-- A refusal that has such a counter adds one to it.
+abbrev pub counts_after : List ℕ → Result Given ℕ → List ℕ
+counts_after counts (Ok given) = counts
+counts_after counts (Err n) = one_more counts (drop_counter_of n)

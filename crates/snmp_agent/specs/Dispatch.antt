@@ -1,0 +1,105 @@
+-- Which accepted messages an agent answers, and what becomes of the others (RFC 3412, sections 4.2.2, 7.1 and 7.2; RFC 3413, section
+-- 3.2).
+use Rattle.std.specs.Prelude.{◌≡◌, ◌⊎◌, ℕ, pos, true, false, List, [], ◌∷◌, Option, Some, None, option_map, Result, Ok, Err}
+use Rattle.std.specs.Global.{Vec}
+use Rattle.snmp_ber.specs.Spelling.{integer}
+use Rattle.snmp_message.specs.Scoped.{Contexts}
+use Rattle.snmp_msg.specs.Variables.{Variable}
+use Rattle.snmp_msg.specs.Pdu.{PduParts, pdu_with}
+use Rattle.engine_clock.specs.Pairs.{BootsAndTime}
+use Rattle.vacm_core.specs.Tables.{Tables}
+use Rattle.vacm_core.specs.Allowed.{HasContext}
+use Rattle.usm_core.specs.Sealed.{Sending}
+use Rattle.snmp_outcome.specs.declared.fault.TakeFault.{TakeFault}
+use Rattle.snmp_outcome.specs.Refusals.{answer_number}
+use Rattle.snmp_outcome.specs.Outcome.{Given}
+use Rattle.snmp_sending.specs.Classes.{is_confirmed}
+use Rattle.snmp_sending.specs.Speaks.{Speech, spoken}
+use Rattle.snmp_agent.specs.declared.counter.Counter.{Counter}
+use Rattle.snmp_agent.specs.declared.counter.Counter.TheVariants as counters
+use Rattle.snmp_agent.specs.declared.unhandled.Unhandled.{Unhandled}
+use Rattle.snmp_agent.specs.declared.unhandled.Unhandled.TheVariants.{NoRequest, UnknownPduHandlers, UnavailableContexts, UnknownContexts}
+use Rattle.snmp_agent.specs.Counts.{name_of, count_after, one_more}
+use Rattle.snmp_agent.specs.Agent.{AgentState}
+use Rattle.snmp_agent.specs.Sent.{Sends}
+use Rattle.snmp_agent.specs.Report.{report_of}
+
+-- ---- which are answered
+
+-- the PDUs that a command responder is registered for: GetRequest, GetNextRequest, SetRequest and GetBulkRequest
+abbrev pub IsCommand : ℕ → Type 0
+IsCommand tag = (tag ≡ 160) ⊎ ((tag ≡ 161) ⊎ ((tag ≡ 163) ⊎ (tag ≡ 165)))
+
+-- the PDUs of the Response Class (RFC 3411, section 2.8), a Response and a Report: they go to the request that waits for them
+abbrev pub IsAnswer : ℕ → Type 0
+IsAnswer tag = (tag ≡ 162) ⊎ (tag ≡ 168)
+
+-- A command responder is registered for the PDU at this contextEngineID: the engine's own, and no other.
+abbrev pub IsRegistered : List ℕ → Contexts → PduParts → Type 0
+IsRegistered engine c p = (c.engine ≡ engine) × IsCommand p.tag
+
+-- None where it is to be answered; else the first that applies
+abbrev pub HandledBy : List ℕ → Tables → Contexts → PduParts → Option Unhandled → Type 0
+HandledBy engine tables c p None = IsRegistered engine c p × HasContext tables.contexts c.name
+HandledBy engine tables c p (Some NoRequest) = IsAnswer p.tag
+HandledBy engine tables c p (Some UnknownPduHandlers) = (IsAnswer p.tag → ⊥) × (IsRegistered engine c p → ⊥)
+HandledBy engine tables c p (Some UnknownContexts) = IsRegistered engine c p × (HasContext tables.contexts c.name → ⊥)
+HandledBy engine tables c p (Some UnavailableContexts) = ⊥
+
+-- the counter of each; none of an answer that no request waits for
+abbrev pub counter_of : Unhandled → Option Counter
+counter_of NoRequest = None
+counter_of UnknownPduHandlers = Some counters.UnknownPduHandlers
+counter_of UnavailableContexts = Some counters.UnavailableContexts
+counter_of UnknownContexts = Some counters.UnknownContexts
+
+-- the agent after it was counted
+abbrev pub agent_counted : AgentState → Unhandled → AgentState
+agent_counted a why = record a { counts = one_more a.counts (counter_of why) }
+
+-- ---- the report
+
+-- a Counter32 (RFC 2578, section 7.1.6) with its name
+abbrev pub count_variable : Counter → ℕ → Variable
+count_variable counter value = record { name = name_of counter; tag = 65; content = integer (pos value) }
+
+-- The report on an accepted message that isn't answered: at the message's own level, to its user, in the default context of the engine,
+-- with the counter's value.
+abbrev pub count_report : List ℕ → BootsAndTime → Given → PduParts → Counter → ℕ → List ℕ → Speech
+count_report engine own g p counter value salt = record {
+  level = g.level;
+  id = g.id;
+  reportable = false;
+  engine = engine;
+  pair = own;
+  user = g.user;
+  salt = salt;
+  context_engine = engine;
+  context_name = [];
+  pdu = pdu_with 168 p.id (pos 0) (pos 0) (count_variable counter value ∷ []);
+}
+
+abbrev pub refusing : List ℕ → BootsAndTime → Given → PduParts → Counter → ℕ → List ℕ → Sending
+refusing engine own g p counter value salt = spoken (count_report engine own g p counter value salt)
+
+-- A report is written: the PDU is of the Confirmed Class, and there is this counter.
+pub record IsReported (p : PduParts) (why : Unhandled) (counter : Counter) : Type 0 where
+  pub confirmed : is_confirmed p.tag ≡ true
+  pub counted : counter_of why ≡ Some counter
+
+-- what is sent of it: the answer to sending the report with the counter after one more
+abbrev pub SendsRefusal : AgentState → ℕ → Given → PduParts → Counter → List ℕ → Result (List ℕ) ℕ → Type 0
+SendsRefusal a now g p counter salt = Sends a now (λ own. refusing a.engine own g p counter (count_after a.counts counter) salt)
+
+-- A message that is reported is counted too, and where the report can't be sent nothing changes; another is counted alone, where it has
+-- a counter.
+abbrev pub Refuses : AgentState → ℕ → Given → PduParts → Unhandled → List ℕ → Result (Option (List ℕ)) ℕ → AgentState → Type 0
+Refuses old now g p why salt (Ok None) new = ((counter : Counter) → IsReported p why counter → ⊥) × (new ≡ agent_counted old why)
+Refuses old now g p why salt (Ok (Some text)) new =
+    ((counter : Counter) × IsReported p why counter × SendsRefusal old now g p counter salt (Ok text)) × (new ≡ agent_counted old why)
+Refuses old now g p why salt (Err n) new = ((counter : Counter) × IsReported p why counter × SendsRefusal old now g p counter salt (Err n)) × (new ≡ old)
+
+-- what the call answers; None for want of memory
+abbrev pub refusing_answer : Result (Option (Vec ℕ)) TakeFault → Option (Result (Option (List ℕ)) ℕ)
+refusing_answer (Ok text) = Some (Ok (report_of text))
+refusing_answer (Err fault) = option_map (λ n. Err n) (answer_number fault)

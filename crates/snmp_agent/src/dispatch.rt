@@ -1,0 +1,180 @@
+//! What an agent does with the messages that it accepts (RFC 3412, sections 4.2.2 and 7.1; RFC 3413, section 3.2), and Responses
+//! within a limit.
+
+ghost use Rattle.std.specs.Prelude.{◌≡◌, All, map, IfOk, IfSome, OnErr, IsErrOf, Some};
+ghost use Rattle.snmp_message.specs.Scoped.{Contexts, ScopedFront, contexts_of};
+ghost use Rattle.snmp_msg.specs.Pdu.{PduParts, PduText, pdu_of};
+ghost use Rattle.snmp_msg.specs.Variables.{CanBeWritten, variable_of};
+ghost use Rattle.snmp_outcome.specs.Texts.{text_of};
+ghost use Rattle.snmp_outcome.specs.Answers.{given_of};
+ghost use Rattle.snmp_outcome.specs.Outcome.{own_pair};
+ghost use Rattle.snmp_sending.specs.Sends.{send_answer};
+ghost use Rattle.snmp_sending.specs.UpTo.{UpTo};
+ghost use Rattle.snmp_agent.specs.Agent.{AgentState};
+ghost use Rattle.snmp_agent.specs.Counts.{count_at, one_more};
+ghost use Rattle.snmp_agent.specs.Sent.{response, responding, Sends, CanBeSent, IsAcceptedByManagers};
+ghost use Rattle.snmp_agent.specs.Dispatch.{HandledBy, Refuses, refusing_answer};
+ghost use Rattle.snmp_agent.specs.declared.counter.Counter.TheVariants.{SilentDrops};
+
+use crate::agent::Agent;
+use crate::commands::{is_answer, is_command};
+use crate::counter::{Counter, one_more};
+use crate::refusal::{Counted, send_refusal};
+use crate::unhandled::Unhandled;
+use snmp_msg::{Binding, Pdu, Scoped, one_content, one_pdu};
+use snmp_outcome::{TakeFault, Taken};
+use snmp_sending::is_confirmed;
+
+impl Agent {
+    /// How many messages this counter has counted.
+    pub fn count(&self, counter: Counter) -> u32
+        ensures { result ≡ count_at self.now.counts counter }
+    {
+        self.counts[counter.place()]
+    }
+
+    /// Counts a request in snmpSilentDrops: it has no answer, since even the one without bindings is too long (RFC 3416, section
+    /// 4.2.1).
+    pub fn silent_drop(&mut self)
+        ensures { self.new ≡ record self.old { counts = one_more self.old.counts (Some SilentDrops) } }
+    {
+        self.counts = one_more(self.counts, Some(Counter::SilentDrops));
+    }
+
+    /// Why no application of this agent answers an accepted message, the first that applies: NoRequest of a Response or a Report;
+    /// UnknownPduHandlers, where contextEngineID isn't the agent's own or the PDU is no GetRequest, GetNextRequest, SetRequest or
+    /// GetBulkRequest; UnknownContexts, where no context has its name. None where it is to be answered. It takes no memory.
+    pub fn unhandled(&self, taken: &Taken<'_>) -> Option<Unhandled>
+        ensures { (c : Contexts) (p : PduParts) → ScopedFront (text_of taken.now.text) c → PduText c.pdu p → HandledBy self.now.engine self.now.tables c p result }
+    {
+        one_content();
+        one_pdu();
+        let scoped = taken.scoped();
+        let pdu = taken.pdu();
+        self.handled_by(&scoped, &pdu)
+    }
+
+    /// The same of a ScopedPDU and its PDU.
+    fn handled_by(&self, scoped: &Scoped<'_>, pdu: &Pdu<'_>) -> Option<Unhandled>
+        ensures { HandledBy self.now.engine self.now.tables (contexts_of scoped.now) (pdu_of pdu.now) result }
+    {
+        if is_answer(pdu.tag) {
+            return Some(Unhandled::NoRequest);
+        }
+        if scoped.engine != self.engine.id.as_slice() {
+            return Some(Unhandled::UnknownPduHandlers);
+        }
+        if !is_command(pdu.tag) {
+            return Some(Unhandled::UnknownPduHandlers);
+        }
+        if !self.vacm.has_context(scoped.name) {
+            return Some(Unhandled::UnknownContexts);
+        }
+        None
+    }
+
+    /// Counts an accepted message that isn't answered, and where its PDU is of the Confirmed Class writes the report on it (RFC 3412,
+    /// section 7.1, step 3): at its own level, in the default context of the agent's engine, with the counter after it was counted.
+    /// Another PDU is counted alone, and a message without a counter isn't. The salt is used at authPriv alone.
+    ///
+    /// The errors are those of `respond` before its text, and OutOfMemory (14); all is as before then.
+    pub fn refuse(
+        &mut self,
+        now: u64,
+        taken: &Taken<'_>,
+        why: Unhandled,
+        salt: [u8; 8],
+    ) -> Result<Option<Vec<u8>>, TakeFault>
+        ensures answer { (c : Contexts) (p : PduParts) → ScopedFront (text_of taken.now.text) c → PduText c.pdu p
+            → IfSome (refusing_answer result) (λ answer. Refuses self.old now (given_of taken.now) p why salt answer self.new) }
+        ensures err { OnErr result (self.new ≡ self.old) }
+    {
+        one_content();
+        one_pdu();
+        let pdu = taken.pdu();
+        self.refuse_pdu(now, taken, &pdu, why, salt)
+    }
+
+    /// The same of a message with this PDU.
+    fn refuse_pdu(
+        &mut self,
+        now: u64,
+        taken: &Taken<'_>,
+        pdu: &Pdu<'_>,
+        why: Unhandled,
+        salt: [u8; 8],
+    ) -> Result<Option<Vec<u8>>, TakeFault>
+        ensures answer { IfSome (refusing_answer result) (λ answer. Refuses self.old now (given_of taken.now) (pdu_of pdu.now) why salt answer self.new) }
+        ensures err { OnErr result (self.new ≡ self.old) }
+    {
+        let Some(counter) = why.counter() else {
+            return Ok(None);
+        };
+        let counts = one_more(self.counts, Some(counter));
+        if !is_confirmed(pdu.tag) {
+            self.counts = counts;
+            return Ok(None);
+        }
+        let Some(own) = self.engine.pair(now) else {
+            return Err(TakeFault::ClockExhausted);
+        };
+        let counted = Counted {
+            counter,
+            value: counts[counter.place()],
+            salt,
+        };
+        match send_refusal(
+            self.alloc,
+            &mut self.users,
+            &self.engine.id,
+            own,
+            taken,
+            pdu,
+            counted,
+        ) {
+            Ok(text) => {
+                self.counts = counts;
+                Ok(Some(text))
+            }
+            Err(fault) => Err(fault),
+        }
+    }
+
+    /// What `respond` gives where that has at most `limit` octets, as the sender's msgMaxSize (`Taken::max_size`) or a local
+    /// constraint, and else TooLarge (16).
+    ///
+    /// The errors are those of `respond`, in its order. Where it is TooLarge, a tooBig is sent by calling this again with status 1 and
+    /// no bindings (RFC 3416, section 4.2.1); a limit of 484 octets is enough for it, wherever contextEngineID and contextName have at
+    /// most 32 octets.
+    pub fn respond_within(
+        &mut self,
+        now: u64,
+        taken: &Taken<'_>,
+        status: i32,
+        index: i32,
+        bindings: &[Binding<'_>],
+        salt: [u8; 8],
+        limit: usize,
+    ) -> Result<Vec<u8>, TakeFault>
+        requires { All (λ b. CanBeWritten (variable_of b)) bindings.now }
+        ensures answer { (c : Contexts) (p : PduParts) → ScopedFront (text_of taken.now.text) c → PduText c.pdu p
+            → IfSome (send_answer result) (UpTo limit (Sends self.old now (λ own. responding self.old.engine own (given_of taken.now) c p status index (map variable_of bindings.now) salt))) }
+
+        // The refusals before the text come before want of memory.
+        ensures memory { (c : Contexts) (p : PduParts) → ScopedFront (text_of taken.now.text) c → PduText c.pdu p → IsErrOf result TakeFault.OutOfMemory
+            → CanBeSent self.old now (λ own. responding self.old.engine own (given_of taken.now) c p status index (map variable_of bindings.now) salt) }
+        ensures accepted { (c : Contexts) (p : PduParts) → ScopedFront (text_of taken.now.text) c → PduText c.pdu p
+            → IfOk result (λ text. IsAcceptedByManagers self.old.users
+            (response self.old.engine (own_pair self.old.boots self.old.started now) (given_of taken.now) c p status index (map variable_of bindings.now) salt) text.items) }
+        ensures same { self.new ≡ self.old }
+    {
+        let text = match self.respond(now, taken, status, index, bindings, salt) {
+            Ok(text) => text,
+            Err(fault) => return Err(fault),
+        };
+        if text.len() > limit {
+            return Err(TakeFault::TooLarge);
+        }
+        Ok(text)
+    }
+}

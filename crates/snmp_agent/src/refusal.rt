@@ -1,0 +1,71 @@
+//! Reports on accepted messages that nothing handles.
+
+ghost use Rattle.std.specs.Prelude.{◌≡◌, IfSome, IsErrOf};
+ghost use Rattle.snmp_msg.specs.Pdu.{pdu_of};
+ghost use Rattle.usm_core.specs.Sealed.{Seals, IsSealable};
+ghost use Rattle.snmp_outcome.specs.Answers.{given_of};
+ghost use Rattle.snmp_sending.specs.Sends.{send_answer};
+ghost use Rattle.snmp_agent.specs.Dispatch.{refusing};
+
+use crate::counter::Counter;
+use engine_clock::{EngineId, Pair};
+use snmp_ber::{Oid, int_content};
+use snmp_msg::{Binding, Pdu};
+use snmp_outcome::{TakeFault, Taken};
+use snmp_sending::{Body, Envelope, send};
+use std::alloc::Global;
+use usm_core::Users;
+
+/// What a report says besides what it copies.
+#[derive(Clone, Copy)]
+pub(crate) struct Counted {
+    pub(crate) counter: Counter,
+    /// Its value, after the message was counted.
+    pub(crate) value: u32,
+    pub(crate) salt: [u8; 8],
+}
+
+/// The report on what was taken, at its level, from this engine with its own boots and time.
+pub(crate) fn send_refusal<'a>(
+    alloc: Global,
+    users: &mut Users,
+    engine: &'a EngineId,
+    own: Pair,
+    taken: &'a Taken<'a>,
+    pdu: &Pdu<'_>,
+    counted: Counted,
+) -> Result<Vec<u8>, TakeFault>
+    ensures rows { IfSome (send_answer result) (Seals users.old.users (refusing engine.now own (given_of taken.now) (pdu_of pdu.now) counted.counter counted.value counted.salt)) }
+    ensures memory { IsErrOf result TakeFault.OutOfMemory → IsSealable users.old.users (refusing engine.now own (given_of taken.now) (pdu_of pdu.now) counted.counter counted.value counted.salt) }
+    ensures users { users.new.users ≡ users.old.users }
+{
+    let Some(name) = Oid::of(counted.counter.name()) else {
+        unreachable!();
+    };
+    let content = int_content(i64::from(counted.value));
+    let bindings = [Binding {
+        name,
+        tag: 0x41,
+        content: content.as_slice(),
+    }];
+    let body = Body {
+        context_engine: engine.as_slice(),
+        context_name: &[],
+        tag: 0xA8,
+        id: pdu.id,
+        second: 0,
+        third: 0,
+        bindings: &bindings,
+    };
+    let salt = counted.salt;
+    let envelope = Envelope {
+        level: taken.level,
+        id: taken.id,
+        reportable: false,
+        engine: engine.as_slice(),
+        pair: own,
+        user: taken.user,
+        salt,
+    };
+    send(alloc, users, &envelope, &body)
+}
