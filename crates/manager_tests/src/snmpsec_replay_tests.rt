@@ -2,7 +2,8 @@
 
 use engine_clock::Clocks;
 use snmp_manager::Manager;
-use snmpsec_replay::{ReplayFault, replay_log, write_whole};
+use snmpsec_replay::{ReplayFault, replay_log};
+use snmpsec_streams::write_whole;
 use std::alloc::{AllocError, Global};
 use std::io;
 use std::io::{BufReader, ErrorKind, Read, Write};

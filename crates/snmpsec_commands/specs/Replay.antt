@@ -5,7 +5,7 @@ use Rattle.engine_clock.specs.Saved.{Saves, IsFirstFault}
 use Rattle.snmp_manager.specs.Views.{Held}
 use Rattle.snmpsec_replay.specs.declared.printing.Printing.{Printing}
 use Rattle.snmpsec_replay.specs.Replay.{ReplayText, Streams, StopsBy}
-use Rattle.snmpsec_replay.specs.Transfer.{WritesFront}
+use Rattle.snmpsec_streams.specs.Transfer.{WritesFront}
 use Rattle.snmpsec_replay.specs.declared.fault.ReplayFault.{ReplayFault}
 use Rattle.snmpsec_replay.specs.declared.fault.ReplayFault.TheVariants as faults
 use Rattle.usm_users.specs.User.{User}

@@ -5,7 +5,8 @@ ghost use Rattle.std.specs.Prelude.{◌≤◌};
 use crate::files::{FileFault, open_log, read_file};
 use crate::replay::{first_line_of, replay_as};
 use clap::error::ErrorKind;
-use snmpsec_replay::{Printing, ReplayFault, write_whole};
+use snmpsec_replay::{Printing, ReplayFault};
+use snmpsec_streams::write_whole;
 use snmpsec_texts::{
     Output, check_config_text, check_text, explain_text, merge_text, moment_of, open_text,
     show_text,

@@ -10,7 +10,7 @@ use Rattle.snmp_outcome.specs.Refusals.{number_of, name_of}
 use Rattle.snmp_manager.specs.Views.{Held}
 use Rattle.snmp_manager.specs.Runs.{TakesOne}
 use Rattle.snmpsec_replay.specs.Log.{LogEntry, IsLine, AreLines, HasNoLine}
-use Rattle.snmpsec_replay.specs.Transfer.{WritesFront}
+use Rattle.snmpsec_streams.specs.Transfer.{WritesFront}
 use Rattle.snmpsec_config.specs.Words.{level_word}
 use Rattle.snmpsec_replay.specs.declared.fault.ReplayFault.{ReplayFault}
 use Rattle.snmpsec_replay.specs.declared.fault.ReplayFault.TheVariants as fault

@@ -6,10 +6,8 @@ mod laws;
 mod log;
 mod printing;
 mod replay;
-mod transfer;
 
 pub use fault::ReplayFault;
 pub use laws::{one_log, pieces_of_logs_are_joined};
 pub use printing::Printing;
 pub use replay::{replay_as, replay_log};
-pub use transfer::{Failed, read_some, write_whole};

@@ -5,7 +5,7 @@ ghost use Rattle.std.specs.Option.{option_map};
 ghost use Rattle.snmp_ber.specs.Splits.{IsSplit, Lacks};
 ghost use Rattle.snmpsec_replay.specs.Lines.{AreReadAs, IsCut, IsReadAs, Looks, LooksAhead, ReadsLine, ReadsPart};
 
-use crate::transfer::{Failed, TRIES, read_octet};
+use snmpsec_streams::{Failed, TRIES, read_octet};
 use hex::FromHexError;
 use snmp_ber::{find, read_decimal, split_once};
 use std::alloc::{AllocError, Global};

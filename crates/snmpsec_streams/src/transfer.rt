@@ -2,13 +2,13 @@
 
 ghost use Rattle.std.specs.Prelude.{◌≡◌, ◌<◌, ◌≤◌, ◌++◌, ◌∷◌, [], List, ℕ, length, take, IfOk, OnOk, OnErr, MatchOption};
 ghost use Rattle.std.specs.Io.KnownBytes.{Appends, Consumes, IsAtEnd, Keeps};
-ghost use Rattle.snmpsec_replay.specs.Transfer.{WritesFront};
+ghost use Rattle.snmpsec_streams.specs.Transfer.{WritesFront};
 
 use std::io::{ErrorKind, Read, Write};
 use thiserror::Error;
 
 /// How often in a row a transfer is tried.
-pub(crate) const TRIES: u32 = 1_000;
+pub const TRIES: u32 = 1_000;
 
 /// A read or a write failed, or was interrupted a thousand times in a row.
 #[derive(Clone, Copy, Debug, PartialEq, Eq, Drop, Error)]
@@ -32,8 +32,28 @@ pub fn read_some<R: Read>(reader: &mut R, buf: &mut [u8]) -> Result<usize, Faile
     Err(Failed)
 }
 
+/// Fills the buffer as far as the reader goes, and returns how many octets it read. They are fewer than the buffer has room for
+/// only at the end.
+pub fn read_full<R: Read>(reader: &mut R, buf: &mut [u8]) -> Result<usize, Failed>
+    ensures room { length buf.new ≡ length buf.old }
+    ensures bound { IfOk result (λ n. n ≤ length buf.new) }
+    ensures ok { IfOk result (λ n. Consumes (R.remaining reader.old) (R.remaining reader.new) (take n buf.new)) }
+    ensures end { IfOk result (λ n. n < length buf.new → IsAtEnd (R.remaining reader.new)) }
+    ensures err { OnErr result ((n : ℕ) × (n ≤ length buf.new) × Consumes (R.remaining reader.old) (R.remaining reader.new) (take n buf.new)) }
+{
+    let mut count = 0;
+    while count < buf.len() {
+        let more = read_some(reader, &mut buf[count..])?;
+        if more == 0 {
+            return Ok(count);
+        }
+        count += more;
+    }
+    Ok(count)
+}
+
 /// The next octet, or `None` at the end.
-pub(crate) fn read_octet<R: Read>(reader: &mut R) -> Result<Option<u8>, Failed>
+pub fn read_octet<R: Read>(reader: &mut R) -> Result<Option<u8>, Failed>
     ensures ok { IfOk result (λ octet. MatchOption octet
         (Consumes (R.remaining reader.old) (R.remaining reader.new) [] × IsAtEnd (R.remaining reader.new))
         (λ x. Consumes (R.remaining reader.old) (R.remaining reader.new) (x ∷ []))) }

@@ -1,0 +1,68 @@
+-- Records of a capture, and what is none.
+use Rattle.std.proofs.Common.{◌≡◌, ℕ, ◌+◌, ◌*◌, ◌<◌, ◌≤◌, List, [], ◌∷◌, ◌++◌, length, take, drop, refl, sym, ap, ◌∙◌, arith, length-append, take_at, drop_at}
+use Rattle.std.proofs.lemmas.List.{get_or_append_left}
+use Rattle.snmpsec_capture.specs.Field.{field32}
+use Rattle.snmpsec_capture.specs.Pcap.{Record, IsRecord, HasNoRecord, IsHead, record_of}
+use Rattle.snmpsec_capture.specs.declared.field.Order.{Order}
+use Rattle.snmpsec_capture.specs.declared.field.Order.TheVariants.{Big, Little}
+use Rattle.snmpsec_capture.specs.declared.pcap.Head.{Head}
+
+-- a number stands in the front
+pub field32_front : (order : Order) (a b : List ℕ) (at : ℕ) → at + 4 ≤ length a → field32 order (a ++ b) at ≡ field32 order a at
+field32_front Big a b at h =
+    rw (get_or_append_left a b 0 at (omega (arith, h)), get_or_append_left a b 0 (at + 1) (omega (arith, h)),
+        get_or_append_left a b 0 (at + 2) (omega (arith, h)), get_or_append_left a b 0 (at + 3) (omega (arith, h))) refl
+field32_front Little a b at h =
+    rw (get_or_append_left a b 0 at (omega (arith, h)), get_or_append_left a b 0 (at + 1) (omega (arith, h)),
+        get_or_append_left a b 0 (at + 2) (omega (arith, h)), get_or_append_left a b 0 (at + 3) (omega (arith, h))) refl
+
+-- two texts that are the same have the same numbers in their fronts
+same_field : (order : Order) (a b c d : List ℕ) (at : ℕ) → a ++ b ≡ c ++ d → at + 4 ≤ length a → at + 4 ≤ length c → field32 order a at ≡ field32 order c at
+same_field order a b c d at e p q = sym (field32_front order a b at p) ∙ ap (λ t. field32 order t at) e ∙ field32_front order c d at q
+
+pub none_large : (order : Order) (octets rest : List ℕ) → length octets ≡ 16 → 262144 < field32 order octets 8 → HasNoRecord order (octets ++ rest)
+none_large order octets rest long large = λ r record' more is e.
+    let l = is.long in
+    let same = same_field order octets rest record' more 8 e (omega (arith, long)) (omega (arith, l)) in
+    let size = is.size in
+    let most = is.most in
+    absurd (omega (arith, same, size, most, large))
+
+pub none_short : (order : Order) (part rest : List ℕ) → length part < 16 → rest ≡ [] → HasNoRecord order (part ++ rest)
+none_short order part rest short end = λ r record' more is e.
+    let l = is.long in
+    let all : length (part ++ rest) ≡ length (record' ++ more) = ap length e in
+    let a = length-append part rest in
+    let b = length-append record' more in
+    let z : length rest ≡ 0 = ap length end in
+    absurd (omega (arith, l, all, a, b, z, short))
+
+pub none_cut : (order : Order) (octets part rest : List ℕ) → length octets ≡ 16 → length part < field32 order octets 8 → rest ≡ [] → HasNoRecord order ((octets ++ part) ++ rest)
+none_cut order octets part rest long short end = λ r record' more is e.
+    let l = is.long in
+    let f = length-append octets part in
+    let same = same_field order (octets ++ part) rest record' more 8 e (omega (arith, long, f)) (omega (arith, l)) in
+    let front = field32_front order octets part 8 (omega (arith, long)) in
+    let size = is.size in
+    let all : length ((octets ++ part) ++ rest) ≡ length (record' ++ more) = ap length e in
+    let a = length-append (octets ++ part) rest in
+    let b = length-append record' more in
+    let z : length rest ≡ 0 = ap length end in
+    absurd (omega (arith, l, all, a, b, z, f, same, front, size, short, long))
+
+pub is_record : (order : Order) (octets packet back : List ℕ) (h : Head) → length octets ≡ 16 → IsHead order octets h → length packet ≡ h.size
+    → IsRecord order (octets ++ packet) (record_of h (packet ++ back))
+is_record order octets packet back h long is size =
+    let front : take h.size (packet ++ back) ≡ packet = take_at packet back h.size size in
+    let field : (at : ℕ) → at + 4 ≤ 16 → field32 order (octets ++ packet) at ≡ field32 order octets at = λ at k. field32_front order octets packet at (omega (arith, k, long)) in
+    let whole = length-append octets packet in
+    let count : length (take h.size (packet ++ back)) ≡ length packet = ap length front in
+    let most = is.most in
+    record {
+      long = whole ∙ omega (arith, long, count);
+      moment = is.moment ∙ sym (field 0 (omega arith));
+      size = count ∙ size ∙ is.size ∙ sym (field 8 (omega arith));
+      original = is.original ∙ sym (field 12 (omega arith));
+      packet = front ∙ sym (drop_at octets packet 16 long);
+      most = omega (arith, count, size, most);
+    }

@@ -1,0 +1,20 @@
+use Rattle.std.proofs.Common.{◌∙◌, [], refl, ap, subst}
+use Rattle.std.proofs.KnownBytes.{Appends-nil}
+use Rattle.snmpsec_streams.specs.Transfer.{WritesFront}
+use Rattle.snmpsec_capture.proofs.datagrams.write_record.Goals as goal
+
+pub returns-in-Logged-clause-err : goal.returns-in-Logged-clause-err
+returns-in-Logged-clause-err g c = record {
+  sorted = c.sort.result;
+  sorts = (c.find_datagram.result, c.find_datagram.ensures, c.sort.ensures);
+  front = rw c.in-Logged.is (subst (WritesFront _ _) (c.as_bytes.ensures.value ∙ c.in-Ok.ensures) c.in-Err.ensures.err);
+  told_front = rw c.in-Logged.is ([], [], refl, Appends-nil _);
+}
+
+pub returns-in-Told-clause-err : goal.returns-in-Told-clause-err
+returns-in-Told-clause-err g c = record {
+  sorted = c.sort.result;
+  sorts = (c.find_datagram.result, c.find_datagram.ensures, c.sort.ensures);
+  front = rw c.in-Told.is ([], [], refl, Appends-nil _);
+  told_front = rw c.in-Told.is (subst (WritesFront _ _) (c.as_bytes-in-Told.ensures.value ∙ c.in-Ok-note_line.ensures) c.in-Err-write_whole.ensures.err);
+}

@@ -1,0 +1,61 @@
+use Rattle.std.proofs.Common.{◌≡◌, ◌++◌, ◌≤◌, ℕ, List, length, take, drop, arith, subst, ◌∙◌, take_all, length-append, length-take-le}
+use Rattle.std.specs.Io.KnownBytes.{Consumes}
+use Rattle.std.proofs.KnownBytes.{Consumes-trans}
+use Rattle.snmpsec_capture.proofs.Records.{none_large, none_cut, is_record}
+use Rattle.snmpsec_capture.proofs.pcap.read_record.Goals as goal
+
+pub returns-in_default-read_head-clause-ok : goal.returns-in_default-read_head-clause-ok
+returns-in_default-read_head-clause-ok g c =
+    let long = c.in-Ok.ensures.room in (
+      c.read_full.new.buf,
+      omega (arith, long),
+      subst (Consumes _ _) (take_all c.in-Ok.count c.read_full.new.buf (omega (arith, long, c.if-count-lt-HEAD.false))) c.in-Ok.ensures.ok,
+      omega (arith, long),
+      λ rest is. none_large c.args.order c.read_full.new.buf rest long c.in_default-read_head.ensures.none,
+    )
+
+pub returns-in_default-read_full-clause-err : goal.returns-in_default-read_full-clause-err
+returns-in_default-read_full-clause-err g c =
+    let long = c.in-Ok.ensures.room in
+    let most = c.in-Some.ensures.found.most in
+    let room = c.in_default-read_full.ensures.room ∙ length-take-le c.in-Some.head.size c.args.room.now (omega (arith, most, c.requires)) in
+    let err = c.in_default-read_full.ensures.err in
+    let part = length-take-le err.0 c.read_full-2.new.buf err.1 in
+    let whole = length-append c.read_full.new.buf (take err.0 c.read_full-2.new.buf) in (
+      c.read_full.new.buf ++ take err.0 c.read_full-2.new.buf,
+      (let within = err.1 in omega (arith, long, most, room, within, part, whole)),
+      Consumes-trans _ _ _ _ _ (subst (Consumes _ _) (take_all c.in-Ok.count c.read_full.new.buf (omega (arith, long, c.if-count-lt-HEAD.false))) c.in-Ok.ensures.ok) err.2,
+    )
+
+pub returns-then-size-head-clause-ok : goal.returns-then-size-head-clause-ok
+returns-then-size-head-clause-ok g c =
+    let long = c.in-Ok.ensures.room in
+    let found = c.in-Some.ensures.found in
+    let most = found.most in
+    let said = found.size in
+    let less = c.if-size-head.true in
+    let room = c.in-Ok-read_full.ensures.room ∙ length-take-le c.in-Some.head.size c.args.room.now (omega (arith, most, c.requires)) in
+    let within = c.in-Ok-read_full.ensures.bound in
+    let part = length-take-le c.in-Ok-read_full.size c.read_full-2.new.buf within in
+    let whole = length-append c.read_full.new.buf (take c.in-Ok-read_full.size c.read_full-2.new.buf) in
+    let end = c.in-Ok-read_full.ensures.end (omega (arith, room, less)) in (
+      c.read_full.new.buf ++ take c.in-Ok-read_full.size c.read_full-2.new.buf,
+      omega (arith, long, most, less, part, whole),
+      Consumes-trans _ _ _ _ _ (subst (Consumes _ _) (take_all c.in-Ok.count c.read_full.new.buf (omega (arith, long, c.if-count-lt-HEAD.false))) c.in-Ok.ensures.ok)
+          c.in-Ok-read_full.ensures.ok,
+      omega (arith, long, whole),
+      λ rest is. none_cut c.args.order c.read_full.new.buf (take c.in-Ok-read_full.size c.read_full-2.new.buf) rest long (omega (arith, part, said, less)) (rw is at end),
+    )
+
+pub returns-clause-ok : goal.returns-clause-ok
+returns-clause-ok g c =
+    let long = c.in-Ok.ensures.room in
+    let found = c.in-Some.ensures.found in
+    let most = found.most in
+    let room = c.in-Ok-read_full.ensures.room ∙ length-take-le c.in-Some.head.size c.args.room.now (omega (arith, most, c.requires)) in (
+      c.read_full.new.buf ++ c.read_full-2.new.buf,
+      is_record c.args.order c.read_full.new.buf c.read_full-2.new.buf (drop c.in-Some.head.size c.args.room.now) c.in-Some.head long found room,
+      most,
+      Consumes-trans _ _ _ _ _ (subst (Consumes _ _) (take_all c.in-Ok.count c.read_full.new.buf (omega (arith, long, c.if-count-lt-HEAD.false))) c.in-Ok.ensures.ok)
+          (subst (Consumes _ _) (take_all c.in-Ok-read_full.size c.read_full-2.new.buf (omega (arith, room, c.if-size-head.false))) c.in-Ok-read_full.ensures.ok),
+    )

@@ -1,0 +1,4 @@
+pub mod Field
+pub mod Packet
+pub mod Pcap
+pub mod Datagrams

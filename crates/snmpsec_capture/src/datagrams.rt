@@ -1,0 +1,322 @@
+//! The datagrams of a capture, as the lines of a log.
+
+ghost use Rattle.std.specs.Prelude.{◌≡◌, List, ℕ, Option, length, IfOk, IfErr, IfSome, string_bytes};
+ghost use Rattle.std.specs.Io.KnownBytes.{Appends};
+ghost use Rattle.snmpsec_capture.specs.Datagrams.{CannotBegin, HasBegun, IsBelow, IsEnd, IsLogOf, IsSorted, Stands, StopsBy, StopsRecord, StopsRecords, WritesRecord, log_line, none_passed, note_line, one_more, told_word};
+
+use crate::fault::CaptureFault;
+use crate::packet::{Found, find_datagram};
+use crate::pcap::{HEAD, HEADER, Head, Header, LARGEST, Next, read_header, read_record};
+use snmpsec_streams::{read_full, write_whole};
+use std::alloc::{AllocError, Global};
+use std::io::{Read, Write};
+
+/// The most records of a capture, and one more.
+const RECORDS: u64 = 1_099_511_627_776;
+
+/// What becomes of a record.
+#[derive(Clone, Copy, Debug, PartialEq, Eq)]
+pub(crate) enum Sorted<'a> {
+    /// Its datagram is a line of the log.
+    Logged(&'a [u8]),
+    /// It is told by itself.
+    Told(Telling),
+    /// It is counted.
+    Counted(Reason),
+}
+
+/// Why a record that may be a datagram isn't in the log.
+#[derive(Clone, Copy, Debug, PartialEq, Eq)]
+pub(crate) enum Telling {
+    Fragment,
+    CutShort,
+    BadLength,
+    Empty,
+}
+
+/// Why a record is passed over.
+#[derive(Clone, Copy, Debug, PartialEq, Eq)]
+pub(crate) enum Reason {
+    AnotherPort,
+    OtherLink,
+    NotIp,
+    NotUdp,
+}
+
+/// How many records were passed over, by reason.
+#[derive(Clone, Copy, Debug, PartialEq, Eq)]
+pub struct Passed {
+    /// The type of the link, a number of LINKTYPE.
+    pub link: u32,
+    /// Datagrams from and to other ports.
+    pub another_port: u64,
+    /// Packets on a link whose frames aren't known.
+    pub other_link: u64,
+    /// Packets of other protocols than IP.
+    pub not_ip: u64,
+    /// Packets of other protocols over IP than UDP.
+    pub not_udp: u64,
+}
+
+impl Passed {
+    /// None yet.
+    fn none(link: u32) -> Passed
+        ensures { result ≡ none_passed link }
+    {
+        Passed {
+            link,
+            another_port: 0,
+            other_link: 0,
+            not_ip: 0,
+            not_udp: 0,
+        }
+    }
+
+    /// One more, for this reason.
+    fn count(self, reason: Reason) -> Passed
+        requires { IsBelow self 18446744073709551615 }
+        ensures { result ≡ one_more self reason }
+    {
+        match reason {
+            Reason::AnotherPort => Passed {
+                another_port: self.another_port + 1,
+                ..self
+            },
+            Reason::OtherLink => Passed {
+                other_link: self.other_link + 1,
+                ..self
+            },
+            Reason::NotIp => Passed {
+                not_ip: self.not_ip + 1,
+                ..self
+            },
+            Reason::NotUdp => Passed {
+                not_udp: self.not_udp + 1,
+                ..self
+            },
+        }
+    }
+}
+
+/// What becomes of a record in which this was found, where datagrams from and to these ports are wanted.
+fn sort<'a>(found: Found<'a>, ports: &[u16]) -> Sorted<'a>
+    ensures { IsSorted ports.now found.entry result }
+{
+    match found {
+        Found::Datagram {
+            source,
+            destination,
+            octets,
+        } => {
+            if !ports.contains(&source) && !ports.contains(&destination) {
+                return Sorted::Counted(Reason::AnotherPort);
+            }
+            if octets.is_empty() {
+                return Sorted::Told(Telling::Empty);
+            }
+            Sorted::Logged(octets)
+        }
+        Found::Fragment => Sorted::Told(Telling::Fragment),
+        Found::CutShort => Sorted::Told(Telling::CutShort),
+        Found::BadLength => Sorted::Told(Telling::BadLength),
+        Found::NotUdp => Sorted::Counted(Reason::NotUdp),
+        Found::NotIp => Sorted::Counted(Reason::NotIp),
+        Found::OtherLink => Sorted::Counted(Reason::OtherLink),
+    }
+}
+
+/// The words for a record that is told.
+fn told_word(why: Telling) -> &'static str
+    ensures { result.now ≡ told_word why }
+{
+    match why {
+        Telling::Fragment => "fragment",
+        Telling::CutShort => "cut short",
+        Telling::BadLength => "bad length",
+        Telling::Empty => "empty datagram",
+    }
+}
+
+/// The line of a log for a datagram.
+#[tactic(auto, unfolding(crate::specs::Datagrams::log_line))]
+fn log_line(alloc: Global, moment: u32, datagram: &[u8]) -> Result<String, AllocError>
+    ensures { IfOk result (λ text. string_bytes text ≡ log_line moment datagram.now) }
+{
+    let digits = hex::encode(alloc, datagram)?;
+    format!(in alloc; "{moment} {digits}\n")
+}
+
+/// The line that tells a record.
+#[tactic(auto, unfolding(crate::specs::Datagrams::note_line))]
+fn note_line(alloc: Global, number: u64, why: Telling) -> Result<String, AllocError>
+    ensures { IfOk result (λ text. string_bytes text ≡ note_line number why) }
+{
+    let word = told_word(why);
+    format!(in alloc; "snmpsec: record {number}: {word}\n")
+}
+
+/// A record that was read.
+#[derive(Clone, Copy)]
+pub(crate) struct Captured<'a> {
+    /// Its number, from 1.
+    pub(crate) number: u64,
+    /// The type of its link.
+    pub(crate) link: u32,
+    /// What its header says.
+    pub(crate) head: Head,
+    /// What was captured of its packet.
+    pub(crate) packet: &'a [u8],
+}
+
+/// Sorts a record, and writes what it comes to.
+fn write_record<L: Write, N: Write>(
+    alloc: Global,
+    ports: &[u16],
+    captured: Captured<'_>,
+    passed: Passed,
+    log: &mut L,
+    notes: &mut N,
+) -> Result<Passed, CaptureFault>
+    requires { IsBelow passed 18446744073709551615 }
+    ensures ok { IfOk result (λ after. WritesRecord ports.now captured.entry passed after (L.contents log.old) (L.contents log.new) (N.contents notes.old) (N.contents notes.new)) }
+    ensures err { IfErr result (StopsRecord ports.now captured.entry (L.contents log.old) (L.contents log.new) (N.contents notes.old) (N.contents notes.new)) }
+{
+    let whole = captured.head.original as usize <= captured.packet.len();
+    match sort(find_datagram(captured.link, captured.packet, whole), ports) {
+        Sorted::Logged(datagram) => {
+            let Ok(line) = log_line(alloc, captured.head.moment, datagram) else {
+                return Err(CaptureFault::OutOfMemory);
+            };
+            match write_whole(log, line.as_bytes()) {
+                Ok(()) => Ok(passed),
+                Err(_) => Err(CaptureFault::CannotWrite),
+            }
+        }
+        Sorted::Told(why) => {
+            let Ok(line) = note_line(alloc, captured.number, why) else {
+                return Err(CaptureFault::OutOfMemory);
+            };
+            match write_whole(notes, line.as_bytes()) {
+                Ok(()) => Ok(passed),
+                Err(_) => Err(CaptureFault::CannotWrite),
+            }
+        }
+        Sorted::Counted(why) => Ok(passed.count(why)),
+    }
+}
+
+/// Reads the records of a capture behind its header, and writes what they come to.
+fn write_records<R: Read, L: Write, N: Write>(
+    alloc: Global,
+    ports: &[u16],
+    header: Header,
+    room: &mut [u8],
+    reader: &mut R,
+    log: &mut L,
+    notes: &mut N,
+) -> Result<Passed, CaptureFault>
+    requires { length room.old ≡ 262144 }
+    ensures ok { IfOk result (λ passed. Stands ports.now header record {
+      unread = R.remaining reader.old;
+      left = R.remaining reader.new;
+      held = L.contents log.old;
+      written = L.contents log.new;
+      untold = N.contents notes.old;
+      told = N.contents notes.new;
+    } (IsEnd (R.remaining reader.new)) passed) }
+    ensures err { IfErr result (StopsRecords ports.now header record {
+      unread = R.remaining reader.old;
+      left = R.remaining reader.new;
+      held = L.contents log.old;
+      written = L.contents log.new;
+      untold = N.contents notes.old;
+      told = N.contents notes.new;
+    }) }
+{
+    let mut passed = Passed::none(header.link);
+    let mut place = HEADER as u64;
+    for number in 1..RECORDS {
+        let Ok(next) = read_record(reader, header.order, room) else {
+            return Err(CaptureFault::CannotRead);
+        };
+        let head = match next {
+            Next::Record(head) => head,
+            Next::End => return Ok(passed),
+            Next::OutOfForm => return Err(CaptureFault::Octet(place)),
+        };
+        let captured = Captured {
+            number,
+            link: header.link,
+            head,
+            packet: &room[..head.size],
+        };
+        passed = match write_record(alloc, ports, captured, passed, log, notes) {
+            Ok(passed) => passed,
+            Err(fault) => return Err(fault),
+        };
+        place += (HEAD + head.size) as u64;
+    }
+    Err(CaptureFault::Octet(place))
+}
+
+/// Reads the header of a capture.
+fn begin<R: Read>(reader: &mut R) -> Result<Header, CaptureFault>
+    ensures ok { IfOk result (HasBegun (R.remaining reader.old) (R.remaining reader.new)) }
+    ensures err { (same told : Option (List ℕ)) → IfErr result (CannotBegin record {
+      unread = R.remaining reader.old;
+      left = R.remaining reader.new;
+      held = same;
+      written = same;
+      untold = told;
+      told = told;
+    }) }
+{
+    let mut octets = [0u8; HEADER];
+    let Ok(count) = read_full(reader, &mut octets) else {
+        return Err(CaptureFault::CannotRead);
+    };
+    match read_header(&octets[..count]) {
+        Ok(header) => Ok(header),
+        Err(place) => Err(CaptureFault::Octet(place)),
+    }
+}
+
+/// Writes the datagrams of a capture in the format of libpcap as a log, a line `MOMENT HEX` for each, and counts or tells what
+/// isn't in the log: `notes` gets a line `snmpsec: record N: REASON` for each piece of a datagram, each that was cut short when it
+/// was captured, each of a length that can't be and each that is empty; what else is no datagram from or to one of these ports is
+/// counted. MOMENT is in whole seconds, and N counts from 1.
+///
+/// It holds one record at a time, of at most 262,144 octets. A reader that doesn't read ahead is given in a `BufReader`, and
+/// writers in a `BufWriter`.
+///
+/// The errors are Octet(n), where what begins at octet n is no header or no record, or is past the 1,099,511,627,775th; CannotRead
+/// and CannotWrite, where a read or a write fails, or is interrupted 1,000 times in a row; and OutOfMemory. Before each of them but
+/// CannotWrite all is written that the records before come to.
+pub fn write_datagrams<R: Read, L: Write, N: Write>(
+    alloc: Global,
+    ports: &[u16],
+    reader: &mut R,
+    log: &mut L,
+    notes: &mut N,
+) -> Result<Passed, CaptureFault>
+    ensures ok { IfOk result (λ passed. IfSome (R.remaining reader.old) (λ capture. (lines : List ℕ) × (tells : List ℕ)
+        × IsLogOf ports.now capture lines tells passed
+        × Appends (L.contents log.old) (L.contents log.new) lines × Appends (N.contents notes.old) (N.contents notes.new) tells)) }
+    ensures err { IfErr result (StopsBy ports.now record {
+      unread = R.remaining reader.old;
+      left = R.remaining reader.new;
+      held = L.contents log.old;
+      written = L.contents log.new;
+      untold = N.contents notes.old;
+      told = N.contents notes.new;
+    }) }
+{
+    let Ok(mut room) = vec![in alloc; 0u8; LARGEST] else {
+        return Err(CaptureFault::OutOfMemory);
+    };
+    let header = match begin(reader) {
+        Ok(header) => header,
+        Err(fault) => return Err(fault),
+    };
+    write_records(alloc, ports, header, room.as_mut_slice(), reader, log, notes)
+}

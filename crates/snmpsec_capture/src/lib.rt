@@ -1,0 +1,12 @@
+//! The datagrams of a capture: what a file of captured packets holds, and which of them carry a datagram.
+#![tactic(auto)]
+
+mod datagrams;
+mod fault;
+mod field;
+mod packet;
+mod pcap;
+
+pub use datagrams::{Passed, write_datagrams};
+pub use fault::CaptureFault;
+pub use packet::{Found, find_datagram};

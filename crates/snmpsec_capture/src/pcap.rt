@@ -1,0 +1,162 @@
+//! The header and the records of a capture in the format of libpcap.
+
+ghost use Rattle.std.specs.Prelude.{◌≡◌, true, false, ◌<◌, ◌≤◌, length, IfOk, IfErr, IfSome, IfNone, OnErr};
+ghost use Rattle.snmpsec_capture.specs.Field.{field32};
+ghost use Rattle.snmpsec_capture.specs.Pcap.{IsHead, IsHeader, IsHeaderFault, IsNext, ReadsPart, is_magic, major};
+
+use crate::field::{Order, read_16, read_32};
+use snmpsec_streams::{Failed, read_full};
+use std::io::Read;
+
+/// How many octets the header of a capture has.
+pub(crate) const HEADER: usize = 24;
+
+/// How many octets the header of a record has.
+pub(crate) const HEAD: usize = 16;
+
+/// The most octets of a packet.
+pub(crate) const LARGEST: usize = 262_144;
+
+/// The number that a capture begins with, where its records have microseconds.
+const MICROSECONDS: u32 = 0xa1b2_c3d4;
+
+/// The same for nanoseconds.
+const NANOSECONDS: u32 = 0xa1b2_3c4d;
+
+/// What the header of a capture says of its records.
+#[derive(Clone, Copy, Debug, PartialEq, Eq)]
+pub(crate) struct Header {
+    /// The order of the octets of all numbers.
+    pub(crate) order: Order,
+    /// The type of the link, a number of LINKTYPE below 65,536.
+    pub(crate) link: u32,
+}
+
+/// What the header of a record says of its packet.
+#[derive(Clone, Copy, Debug, PartialEq, Eq)]
+pub(crate) struct Head {
+    /// When it was captured, in whole seconds.
+    pub(crate) moment: u32,
+    /// How many octets of it were captured, at most `LARGEST`.
+    pub(crate) size: usize,
+    /// How many octets it had.
+    pub(crate) original: u32,
+}
+
+/// What stands next in a capture.
+#[derive(Clone, Copy, Debug, PartialEq, Eq)]
+pub(crate) enum Next {
+    /// A record.
+    Record(Head),
+    /// No octet more.
+    End,
+    /// Octets that begin with no record.
+    OutOfForm,
+}
+
+/// The octets begin with the number of a capture, in this order.
+fn is_magic(order: Order, octets: &[u8]) -> bool
+    requires { 4 ≤ length octets.now }
+    ensures { result ≡ is_magic order octets.now }
+{
+    let number = read_32(order, octets, 0);
+    number == MICROSECONDS || number == NANOSECONDS
+}
+
+/// The order in which the octets begin with the number of a capture.
+fn order_of(octets: &[u8]) -> Option<Order>
+    requires { 4 ≤ length octets.now }
+    ensures found { IfSome result (λ order. is_magic order octets.now ≡ true) }
+    ensures none { IfNone result ((order : Order) → is_magic order octets.now ≡ false) }
+{
+    if is_magic(Order::Big, octets) {
+        return Some(Order::Big);
+    }
+    if is_magic(Order::Little, octets) {
+        return Some(Order::Little);
+    }
+    None
+}
+
+/// The major version.
+fn major(order: Order, octets: &[u8]) -> u16
+    requires { 6 ≤ length octets.now }
+    ensures { result ≡ major order octets.now }
+{
+    match order {
+        Order::Big => read_16(octets, 4),
+        Order::Little => u16::from(octets[5]) * 256 + u16::from(octets[4]),
+    }
+}
+
+/// What the header says, or the place of its first fault.
+pub(crate) fn read_header(octets: &[u8]) -> Result<Header, u64>
+    requires { length octets.now ≤ 24 }
+    ensures found { IfOk result (IsHeader octets.now) }
+    ensures fault { IfErr result (IsHeaderFault octets.now) }
+{
+    if octets.len() < HEADER {
+        return Err(0);
+    }
+    let Some(order) = order_of(octets) else {
+        return Err(0);
+    };
+    if major(order, octets) != 2 {
+        return Err(4);
+    }
+    let link = read_32(order, octets, 20);
+    if link > 65_535 {
+        return Err(20);
+    }
+    Ok(Header { order, link })
+}
+
+/// What the header of a record says, or `None` where its packet is over the limit.
+fn read_head(order: Order, octets: &[u8]) -> Option<Head>
+    requires { length octets.now ≡ 16 }
+    ensures found { IfSome result (IsHead order octets.now) }
+    ensures none { IfNone result (262144 < field32 order octets.now 8) }
+{
+    let size = read_32(order, octets, 8) as usize;
+    if size > LARGEST {
+        return None;
+    }
+    Some(Head {
+        moment: read_32(order, octets, 0),
+        size,
+        original: read_32(order, octets, 12),
+    })
+}
+
+/// Reads the next record. Its packet is the front of `room`.
+pub(crate) fn read_record<R: Read>(
+    reader: &mut R,
+    order: Order,
+    room: &mut [u8],
+) -> Result<Next, Failed>
+    requires { length room.old ≡ 262144 }
+    ensures room { length room.new ≡ 262144 }
+    ensures ok { IfOk result (IsNext order room.new (R.remaining reader.old) (R.remaining reader.new)) }
+    ensures err { OnErr result (ReadsPart (R.remaining reader.old) (R.remaining reader.new)) }
+{
+    let mut octets = [0u8; HEAD];
+    let Ok(count) = read_full(reader, &mut octets) else {
+        return Err(Failed);
+    };
+    if count == 0 {
+        return Ok(Next::End);
+    }
+    if count < HEAD {
+        return Ok(Next::OutOfForm);
+    }
+    let Some(head) = read_head(order, &octets) else {
+        return Ok(Next::OutOfForm);
+    };
+    let Ok(size) = read_full(reader, &mut room[..head.size]) else {
+        return Err(Failed);
+    };
+    if size < head.size {
+        return Ok(Next::OutOfForm);
+    }
+    Ok(Next::Record(head))
+}
