@@ -15,9 +15,9 @@ use Rattle.snmp_sending.specs.Counters.{counter_name}
 use Rattle.engine_clock.specs.Pairs.{BootsAndTime, IsPair}
 use Rattle.usm_core.specs.Sealed.{SendingFits}
 use Rattle.snmp_sending.specs.Speaks.{Speech, spoken}
-use Rattle.snmp_agent.specs.declared.counter.Counter.{Counter}
-use Rattle.snmp_agent.specs.declared.counter.Counter.TheVariants.{UnknownPduHandlers, UnavailableContexts, UnknownContexts, InBadVersions, InAsnParseErrs, UnknownSecurityModels, InvalidMsgs, SilentDrops}
-use Rattle.snmp_agent.specs.Counts.{name_of}
+use Rattle.snmp_sending.specs.declared.counter.Counter.{Counter}
+use Rattle.snmp_sending.specs.declared.counter.Counter.TheVariants.{UnknownPduHandlers, UnavailableContexts, UnknownContexts, InBadVersions, InAsnParseErrs, UnknownSecurityModels, InvalidMsgs, SilentDrops}
+use Rattle.snmp_sending.specs.Counters.{name_of}
 use Rattle.snmp_agent.specs.Dispatch.{count_variable}
 use Rattle.snmp_agent.specs.Report.{counter_variable, reporting}
 

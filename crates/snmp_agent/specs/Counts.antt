@@ -2,29 +2,9 @@
 -- (RFC 3412, section 5; RFC 3413, section 4.1.2; RFC 3418).
 use Rattle.std.specs.Prelude.{ℕ, ◌+◌, ◌%◌, ◌^◌, ◌==◌, ◌||◌, if◌then◌else◌, List, [], ◌∷◌, slice_index, slice_set, Option, Some, None, Result, Ok, Err}
 use Rattle.snmp_outcome.specs.Outcome.{Given}
-use Rattle.snmp_agent.specs.declared.counter.Counter.{Counter}
-use Rattle.snmp_agent.specs.declared.counter.Counter.TheVariants.{UnknownPduHandlers, UnavailableContexts, UnknownContexts, InBadVersions, InAsnParseErrs, UnknownSecurityModels, InvalidMsgs, SilentDrops}
-
-abbrev pub name_of : Counter → List ℕ
-name_of UnknownPduHandlers = 1 ∷ 3 ∷ 6 ∷ 1 ∷ 6 ∷ 3 ∷ 11 ∷ 2 ∷ 1 ∷ 3 ∷ 0 ∷ []
-name_of UnavailableContexts = 1 ∷ 3 ∷ 6 ∷ 1 ∷ 6 ∷ 3 ∷ 12 ∷ 1 ∷ 4 ∷ 0 ∷ []
-name_of UnknownContexts = 1 ∷ 3 ∷ 6 ∷ 1 ∷ 6 ∷ 3 ∷ 12 ∷ 1 ∷ 5 ∷ 0 ∷ []
-name_of InBadVersions = 1 ∷ 3 ∷ 6 ∷ 1 ∷ 2 ∷ 1 ∷ 11 ∷ 3 ∷ 0 ∷ []
-name_of InAsnParseErrs = 1 ∷ 3 ∷ 6 ∷ 1 ∷ 2 ∷ 1 ∷ 11 ∷ 6 ∷ 0 ∷ []
-name_of UnknownSecurityModels = 1 ∷ 3 ∷ 6 ∷ 1 ∷ 6 ∷ 3 ∷ 11 ∷ 2 ∷ 1 ∷ 1 ∷ 0 ∷ []
-name_of InvalidMsgs = 1 ∷ 3 ∷ 6 ∷ 1 ∷ 6 ∷ 3 ∷ 11 ∷ 2 ∷ 1 ∷ 2 ∷ 0 ∷ []
-name_of SilentDrops = 1 ∷ 3 ∷ 6 ∷ 1 ∷ 2 ∷ 1 ∷ 11 ∷ 31 ∷ 0 ∷ []
-
--- where an agent keeps it
-abbrev pub place_of : Counter → ℕ
-place_of UnknownPduHandlers = 0
-place_of UnavailableContexts = 1
-place_of UnknownContexts = 2
-place_of InBadVersions = 3
-place_of InAsnParseErrs = 4
-place_of UnknownSecurityModels = 5
-place_of InvalidMsgs = 6
-place_of SilentDrops = 7
+use Rattle.snmp_sending.specs.Counters.{place_of}
+use Rattle.snmp_sending.specs.declared.counter.Counter.{Counter}
+use Rattle.snmp_sending.specs.declared.counter.Counter.TheVariants.{InBadVersions, InAsnParseErrs, UnknownSecurityModels, InvalidMsgs}
 
 abbrev pub count_at : List ℕ → Counter → ℕ
 count_at counts counter = slice_index counts (place_of counter)

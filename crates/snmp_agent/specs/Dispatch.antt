@@ -15,13 +15,14 @@ use Rattle.snmp_outcome.specs.Refusals.{answer_number}
 use Rattle.snmp_outcome.specs.Outcome.{Given}
 use Rattle.snmp_sending.specs.Classes.{is_confirmed}
 use Rattle.snmp_sending.specs.Speaks.{Speech, spoken}
-use Rattle.snmp_agent.specs.declared.counter.Counter.{Counter}
-use Rattle.snmp_agent.specs.declared.counter.Counter.TheVariants as counters
+use Rattle.snmp_sending.specs.declared.counter.Counter.{Counter}
+use Rattle.snmp_sending.specs.declared.counter.Counter.TheVariants as counters
 use Rattle.snmp_agent.specs.declared.unhandled.Unhandled.{Unhandled}
 use Rattle.snmp_agent.specs.declared.unhandled.Unhandled.TheVariants.{NoRequest, UnknownPduHandlers, UnavailableContexts, UnknownContexts}
-use Rattle.snmp_agent.specs.Counts.{name_of, count_after, one_more}
+use Rattle.snmp_sending.specs.Counters.{name_of}
+use Rattle.snmp_agent.specs.Counts.{count_after, one_more}
 use Rattle.snmp_agent.specs.Agent.{AgentState}
-use Rattle.snmp_agent.specs.Sent.{Sends}
+use Rattle.snmp_agent.specs.Sent.{Sends, CanBeSent}
 use Rattle.snmp_agent.specs.Report.{report_of}
 
 -- ---- which are answered
@@ -90,6 +91,11 @@ pub record IsReported (p : PduParts) (why : Unhandled) (counter : Counter) : Typ
 -- what is sent of it: the answer to sending the report with the counter after one more
 abbrev pub SendsRefusal : AgentState → ℕ → Given → PduParts → Counter → List ℕ → Result (List ℕ) ℕ → Type 0
 SendsRefusal a now g p counter salt = Sends a now (λ own. refusing a.engine own g p counter (count_after a.counts counter) salt)
+
+-- There is a report, and none of the refusals before its text applies.
+abbrev pub RefusalCanBeSent : AgentState → ℕ → Given → PduParts → Unhandled → List ℕ → Type 0
+RefusalCanBeSent a now g p why salt =
+    (counter : Counter) × IsReported p why counter × CanBeSent a now (λ own. refusing a.engine own g p counter (count_after a.counts counter) salt)
 
 -- A message that is reported is counted too, and where the report can't be sent nothing changes; another is counted alone, where it has
 -- a counter.

@@ -13,17 +13,17 @@ ghost use Rattle.snmp_sending.specs.UpTo.{UpTo};
 ghost use Rattle.snmp_agent.specs.Agent.{AgentState};
 ghost use Rattle.snmp_agent.specs.Counts.{count_at, one_more};
 ghost use Rattle.snmp_agent.specs.Sent.{response, responding, Sends, CanBeSent, IsAcceptedByManagers};
-ghost use Rattle.snmp_agent.specs.Dispatch.{HandledBy, Refuses, refusing_answer};
-ghost use Rattle.snmp_agent.specs.declared.counter.Counter.TheVariants.{SilentDrops};
+ghost use Rattle.snmp_agent.specs.Dispatch.{HandledBy, Refuses, RefusalCanBeSent, refusing_answer};
+ghost use Rattle.snmp_sending.specs.declared.counter.Counter.TheVariants.{SilentDrops};
 
 use crate::agent::Agent;
 use crate::commands::{is_answer, is_command};
-use crate::counter::{Counter, one_more};
+use crate::counter::one_more;
 use crate::refusal::{Counted, send_refusal};
 use crate::unhandled::Unhandled;
 use snmp_msg::{Binding, Pdu, Scoped, one_content, one_pdu};
 use snmp_outcome::{TakeFault, Taken};
-use snmp_sending::is_confirmed;
+use snmp_sending::{Counter, is_confirmed};
 
 impl Agent {
     /// How many messages this counter has counted.
@@ -87,6 +87,10 @@ impl Agent {
     ) -> Result<Option<Vec<u8>>, TakeFault>
         ensures answer { (c : Contexts) (p : PduParts) → ScopedFront (text_of taken.now.text) c → PduText c.pdu p
             → IfSome (refusing_answer result) (λ answer. Refuses self.old now (given_of taken.now) p why salt answer self.new) }
+
+        // There is a report, and the refusals before its text come before want of memory.
+        ensures memory { (c : Contexts) (p : PduParts) → ScopedFront (text_of taken.now.text) c → PduText c.pdu p → IsErrOf result TakeFault.OutOfMemory
+            → RefusalCanBeSent self.old now (given_of taken.now) p why salt }
         ensures err { OnErr result (self.new ≡ self.old) }
     {
         one_content();
@@ -105,6 +109,7 @@ impl Agent {
         salt: [u8; 8],
     ) -> Result<Option<Vec<u8>>, TakeFault>
         ensures answer { IfSome (refusing_answer result) (λ answer. Refuses self.old now (given_of taken.now) (pdu_of pdu.now) why salt answer self.new) }
+        ensures memory { IsErrOf result TakeFault.OutOfMemory → RefusalCanBeSent self.old now (given_of taken.now) (pdu_of pdu.now) why salt }
         ensures err { OnErr result (self.new ≡ self.old) }
     {
         let Some(counter) = why.counter() else {

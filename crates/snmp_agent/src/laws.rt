@@ -25,7 +25,7 @@ ghost use Rattle.snmp_agent.specs.Report.{reporting};
 ghost use Rattle.snmp_agent.specs.Sent.{response, responding, notification, notifying};
 ghost use Rattle.snmp_agent.specs.Decides.{HoldsRows};
 ghost use Rattle.snmp_agent.specs.Dispatch.{refusing};
-ghost use Rattle.snmp_agent.specs.declared.counter.Counter.{Counter as Which};
+ghost use Rattle.snmp_sending.specs.declared.counter.Counter.{Counter as Which};
 
 use snmp_ber::one_element;
 use snmp_sending::spoken_is_accepted;

@@ -23,7 +23,6 @@ mod status;
 mod unhandled;
 
 pub use agent::Agent;
-pub use counter::Counter;
 pub use decision::Decision;
 pub use laws::{
     agents_decide_alike, notification_is_accepted, refusal_is_short, report_is_short,

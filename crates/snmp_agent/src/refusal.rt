@@ -7,12 +7,11 @@ ghost use Rattle.snmp_outcome.specs.Answers.{given_of};
 ghost use Rattle.snmp_sending.specs.Sends.{send_answer};
 ghost use Rattle.snmp_agent.specs.Dispatch.{refusing};
 
-use crate::counter::Counter;
 use engine_clock::{EngineId, Pair};
 use snmp_ber::{Oid, int_content};
 use snmp_msg::{Binding, Pdu};
 use snmp_outcome::{TakeFault, Taken};
-use snmp_sending::{Body, Envelope, send};
+use snmp_sending::{Body, Counter, Envelope, send};
 use std::alloc::Global;
 use usm_core::Users;
 

@@ -9,3 +9,4 @@ pub mod Cuts
 pub mod Dotted
 pub mod Identifiers
 pub mod ObjectNames
+pub mod Unsigned

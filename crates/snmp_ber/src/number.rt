@@ -1,7 +1,7 @@
 //! The content of an INTEGER (X.690, section 8.3).
 
-ghost use Rattle.std.specs.Prelude.{◌≡◌, ℤ, pos, negsuc, ◌+◌, ◌^◌, ◌<◌, ◌≤◌, ◌≤ℤ◌, ◌<ℤ◌, ◌↔◌, ◌++◌, Some, length, OnOk, OnErr, vec_len, vec_capacity};
-ghost use Rattle.snmp_ber.specs.Number.{signed_number, IsInteger, IsInteger32};
+ghost use Rattle.std.specs.Prelude.{◌≡◌, ℕ, ℤ, pos, negsuc, ◌+◌, ◌^◌, ◌<◌, ◌≤◌, ◌≤ℤ◌, ◌<ℤ◌, ◌↔◌, ◌++◌, Some, IsTrue, length, OnOk, OnErr, vec_len, vec_capacity};
+ghost use Rattle.snmp_ber.specs.Number.{signed_number, IsInteger, IsInteger32, IsUnsigned};
 ghost use Rattle.snmp_ber.specs.Reading.{has_fewest, integer32_of};
 ghost use Rattle.snmp_ber.specs.Spelling.{element, octet_count, integer};
 
@@ -48,6 +48,46 @@ pub fn read_int(content: &[u8]) -> Option<i32>
         return None;
     }
     Some(signed_of(content))
+}
+
+/// The content is of a number without sign that is below 256 to the power of `most`: it takes so many octets, or one more of 0.
+fn is_unsigned(content: &[u8], most: usize) -> bool
+    ensures { IsTrue result ↔ ((n : ℕ) × IsUnsigned most n content.now) }
+{
+    if !is_fewest(content) {
+        return false;
+    }
+    if content[0] >= 128 {
+        return false;
+    }
+    if content.len() <= most {
+        return true;
+    }
+    if content[0] > 0 {
+        return false;
+    }
+    content.len() - 1 == most
+}
+
+/// The number of 32 bits without sign whose content this is: two's complement in the fewest octets, high octet first. It is `None`
+/// where the content has no octet, or more than the number needs, or is of a number below 0 or above 4294967295.
+pub fn read_unsigned(content: &[u8]) -> Option<u32>
+    ensures { (n : ℕ) → (result ≡ Some n) ↔ IsUnsigned 4 n content.now }
+{
+    if !is_unsigned(content, 4) {
+        return None;
+    }
+    if content.len() > 4 {
+        return Some(number_of(&content[1..]) as u32);
+    }
+    Some(number_of(content) as u32)
+}
+
+/// Whether the content is of a number of 64 bits without sign, 0 to 18446744073709551615, in the same form.
+pub fn is_unsigned64(content: &[u8]) -> bool
+    ensures { IsTrue result ↔ ((n : ℕ) × IsUnsigned 8 n content.now) }
+{
+    is_unsigned(content, 8)
 }
 
 /// How many octets a number takes in two's complement.

@@ -1,14 +1,20 @@
 -- What the calls on a handle answer and leave.
-use Rattle.std.specs.Prelude.{◌≡◌, ◌≢◌, ◌<◌, ◌≤◌, ◌⊎◌, ⊤, ℕ, ℤ, pos, List, length, drop, ◌++◌, Result, MatchOption}
+use Rattle.std.specs.Prelude.{◌≡◌, ◌≢◌, ◌<◌, ◌≤◌, ◌⊎◌, ⊤, ℕ, ℤ, pos, List, length, drop, ◌++◌, Option, Some, Result, MatchOption}
 use Rattle.std.specs.Int.{to_be_bytes, w64}
 use Rattle.vacm_core.specs.declared.access.Access.{Access}
 use Rattle.snmp_held.specs.declared.fault.CallFault.{CallFault}
 use Rattle.snmp_held.specs.declared.fault.CallFault.TheVariants.{BadArgument, NothingTaken, ShortBuffer}
-use Rattle.snmp_held.specs.Faults.{code, access_code, value_code, fault_code}
+use Rattle.snmp_held.specs.Faults.{code, access_code, value_code, fault_code, unhandled_code}
+use Rattle.snmp_held.specs.Numbers.{counter_of, unhandled_of}
+use Rattle.snmp_held.specs.Dispatch.{TellsMaxSize, RespondsHeldWithin, TellsUnhandled, ReportsHeld}
+use Rattle.snmp_sending.specs.declared.counter.Counter.TheVariants.{SilentDrops}
+use Rattle.snmp_agent.specs.declared.unhandled.Unhandled.{Unhandled}
+use Rattle.snmp_agent.specs.Counts.{count_at, one_more}
 use Rattle.snmp_held.specs.Bindings.{ReadsAt, WritesBinding}
 use Rattle.snmp_held.specs.Configurations.{TellsConfig}
 use Rattle.snmp_held.specs.Parts.{part_of, CopiesPart, CopiesMessage, AreNumbersOf}
 use Rattle.snmp_outcome.specs.Outcome.{Given}
+use Rattle.snmp_msg.specs.Values.{IsValueOf}
 use Rattle.snmp_held.specs.Agents.{AgentHeld, Clears, MakesAgent, TakesHeld, TakesNoMemory, AllowsHeld, MaySee, Counts, RespondsHeld, Notice, NotifiesHeld}
 
 -- The answer is the number of what is told, of which this is said.
@@ -43,6 +49,30 @@ RespondsTo now status index list salt old new answer = Done (λ told. RespondsHe
 abbrev pub Notifies : ℕ → Notice → List ℕ → ℕ → AgentHeld → AgentHeld → ℤ → Type 0
 Notifies now n list salt old new answer = Done (λ told. NotifiesHeld old now n list (to_be_bytes w64 salt) told new) answer
 
+-- ---- what goes with an answer
+
+abbrev pub MaxSize : AgentHeld → AgentHeld → ℤ → Type 0
+MaxSize old new answer = (new ≡ old) × ((told : Result ℕ CallFault) × (answer ≡ value_code told) × TellsMaxSize old.last told)
+
+abbrev pub RespondsToWithin : ℕ → ℕ → ℕ → List ℕ → ℕ → ℕ → AgentHeld → AgentHeld → ℤ → Type 0
+RespondsToWithin now status index list salt limit old new answer =
+    Done (λ told. RespondsHeldWithin old now status index list (to_be_bytes w64 salt) limit told new) answer
+
+abbrev pub UnhandledBy : AgentHeld → AgentHeld → ℤ → Type 0
+UnhandledBy old new answer = (new ≡ old) × ((told : Result (Option Unhandled) CallFault) × (answer ≡ unhandled_code told) × TellsUnhandled old told)
+
+-- What is kept is counted and its report left to be sent; a number of nothing is told as such, and changes nothing.
+abbrev pub RefusesKept : ℕ → ℕ → ℕ → AgentHeld → AgentHeld → ℤ → Type 0
+RefusesKept now why salt old new answer =
+    MatchOption (unhandled_of why) ((answer ≡ fault_code BadArgument) × (new ≡ old)) (λ why. Done (λ told. ReportsHeld old now why (to_be_bytes w64 salt) told new) answer)
+
+abbrev pub CountOf : ℕ → AgentHeld → AgentHeld → ℤ → Type 0
+CountOf n old new answer =
+    (new ≡ old) × MatchOption (counter_of n) (answer ≡ fault_code BadArgument) (λ counter. answer ≡ pos (count_at old.agent.counts counter))
+
+abbrev pub DropsSilently : AgentHeld → AgentHeld → ℤ → Type 0
+DropsSilently old new answer = (answer ≡ pos 0) × (new ≡ record old { agent = record old.agent { counts = one_more old.agent.counts (Some SilentDrops) } })
+
 -- ---- what is kept
 
 -- the part of this number of what is kept is in the buffer
@@ -76,6 +106,12 @@ ReadsBinding list at arcs arcs_new numbers numbers_new answer = Done (ReadsAt li
 
 abbrev pub Writes : List ℕ → ℕ → List ℕ → List ℕ → List ℕ → ℕ → ℤ → Type 0
 Writes arcs tag content out out_new written answer = Done (WritesBinding arcs tag content out out_new written) answer
+
+-- whether it is the content of a value with this tag
+abbrev pub IsValueCode : ℕ → List ℕ → ℤ → Type 0
+IsValueCode tag content answer =
+    ((answer ≡ pos 1) × (tag < 256) × IsValueOf tag content)
+    ⊎ (((answer ≡ pos 0) × (tag < 256) × (IsValueOf tag content → ⊥)) ⊎ ((answer ≡ fault_code BadArgument) × (255 < tag)))
 
 -- ---- a configuration
 

@@ -1,15 +1,23 @@
 -- What the calls on a manager's handle answer and leave.
-use Rattle.std.specs.Prelude.{◌≡◌, ◌≢◌, ℕ, ℤ, pos, List, Result, Ok, Err, MatchOption}
+use Rattle.std.specs.Prelude.{◌≡◌, ◌≢◌, ◌<◌, ◌≤◌, ◌⊎◌, if◌then◌else◌, ℕ, ℤ, pos, negsuc, List, [], ◌∷◌, ◌++◌, length, drop, Option, Some, None, Result, Ok, Err, MatchOption, MatchResult}
 use Rattle.std.specs.Int.{to_be_bytes, w64}
 use Rattle.engine_clock.specs.Pairs.{BootsAndTime}
 use Rattle.snmp_manager.specs.declared.pending.Answer.{Answer}
 use Rattle.snmp_manager.specs.Takes.{TakesNoMemory}
 use Rattle.snmp_held.specs.declared.fault.CallFault.{CallFault}
-use Rattle.snmp_held.specs.declared.fault.CallFault.TheVariants.{BadArgument, NothingTaken}
-use Rattle.snmp_held.specs.Faults.{code, answer_code, fault_code}
+use Rattle.snmp_held.specs.declared.fault.CallFault.TheVariants.{BadArgument, NothingTaken, ShortBuffer}
+use Rattle.snmp_held.specs.Faults.{code, answer_code, value_code, fault_code}
 use Rattle.snmp_held.specs.Parts.{part_of, CopiesPart, CopiesMessage}
+use Rattle.snmp_held.specs.Dispatch.{TellsMaxSize}
+use Rattle.snmp_held.specs.Reports.{TakesAnswer, TellsReport}
+use Rattle.snmp_manager.specs.declared.replies.Report.{Report}
 use Rattle.snmp_held.specs.Managers.{ManagerHeld, Asking, MakesManager, ClearsManager, ManagerTakes, TellsAnswer, RequestsHeld, DiscoversHeld, AbsorbsHeld, SavesHeld, TellsPair}
 use Rattle.snmp_c.specs.Calls.{Done, HasNumbers}
+
+-- the value, or -1 where there is none
+abbrev pub count_number : Option ℕ → ℤ
+count_number None = negsuc 0
+count_number (Some value) = pos value
 
 abbrev pub MakesAManager : List ℕ → List ℕ → ℕ → ℤ → Type 0
 MakesAManager config clocks now answer = (told : Result ManagerHeld CallFault) × (answer ≡ code told) × MakesManager config clocks now told
@@ -45,6 +53,30 @@ HasPair boots boots_new time time_new (Err fault) = (boots_new ≡ boots) × (ti
 abbrev pub ToldPair : List ℕ → ℕ → ℕ → ℕ → ℕ → ManagerHeld → ManagerHeld → ℤ → Type 0
 ToldPair engine boots boots_new time time_new old new answer =
     (new ≡ old) × ((told : Result BootsAndTime CallFault) × (answer ≡ code told) × TellsPair old engine told × HasPair boots boots_new time time_new told)
+
+-- ---- answers
+
+abbrev pub ManagerMaxSize : ManagerHeld → ManagerHeld → ℤ → Type 0
+ManagerMaxSize old new answer = (new ≡ old) × ((told : Result ℕ CallFault) × (answer ≡ value_code told) × TellsMaxSize old.last told)
+
+abbrev pub TookAnswer : ManagerHeld → ManagerHeld → ℤ → Type 0
+TookAnswer old new answer = (told : Result Answer CallFault) × (answer ≡ answer_code told) × TakesAnswer old told new
+
+-- The numbers of a Report: its counter, the counter's value or -1, and 1 where it came with authentication.
+abbrev pub report_numbers : Report → List ℤ
+report_numbers told = pos told.counter ∷ count_number told.value ∷ (if told.authenticated then pos 1 else pos 0) ∷ []
+
+-- They are in the front of the buffer, or it is too short; or what is kept is no Report on the request.
+abbrev pub HasReport : Option Report → List ℤ → List ℤ → ℤ → Type 0
+HasReport None out out_new answer = (answer ≡ pos 1) × (out_new ≡ out)
+HasReport (Some told) out out_new answer =
+    ((answer ≡ pos 0) × (3 ≤ length out) × (out_new ≡ report_numbers told ++ drop 3 out))
+    ⊎ ((answer ≡ fault_code ShortBuffer) × (length out < 3) × (out_new ≡ out))
+
+abbrev pub ToldReport : List ℤ → List ℤ → ManagerHeld → ManagerHeld → ℤ → Type 0
+ToldReport out out_new old new answer =
+    (new ≡ old) × ((told : Result (Option Report) CallFault) × TellsReport old told
+    × MatchResult told (λ report. HasReport report out out_new answer) (λ fault. (answer ≡ fault_code fault) × (out_new ≡ out)))
 
 -- ---- what is kept
 

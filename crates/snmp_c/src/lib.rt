@@ -10,9 +10,13 @@ pub mod agent;
 mod agent_calls;
 pub mod bindings;
 pub mod configuration;
+pub mod dispatch;
+mod dispatch_calls;
 pub mod keys;
 pub mod manager;
 mod manager_calls;
 pub mod privacy;
+pub mod reports;
+mod reports_calls;
 #[cfg(test)]
 mod tests;

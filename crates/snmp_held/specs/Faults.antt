@@ -1,10 +1,14 @@
 -- Why a call of a handle isn't done, and the numbers that tell it.
-use Rattle.std.specs.Prelude.{ℕ, ℤ, pos, negsuc, ◌+◌, Result, Ok, Err}
+use Rattle.std.specs.Prelude.{◌≡◌, ◌<◌, ◌⊎◌, ℕ, ℤ, pos, negsuc, ◌+◌, Option, Some, None, Result, Ok, Err}
 use Rattle.snmp_manager.specs.declared.pending.Answer.{Answer}
 use Rattle.snmp_manager.specs.declared.pending.Answer.TheVariants.{Response, Report, NotForIt}
 use Rattle.vacm_core.specs.declared.access.Access.{Access}
 use Rattle.vacm_core.specs.Numbers.{access_number}
 use Rattle.snmp_outcome.specs.Refusals.{number_of}
+use Rattle.snmp_agent.specs.Statuses.{IsStatusOf, status_number}
+use Rattle.snmp_agent.specs.declared.status.Status.{Status}
+use Rattle.snmp_agent.specs.declared.unhandled.Unhandled.{Unhandled}
+use Rattle.snmp_held.specs.Numbers.{access_of, unhandled_number}
 use Rattle.snmp_held.specs.declared.fault.CallFault.{CallFault}
 use Rattle.snmp_held.specs.declared.fault.CallFault.TheVariants.{Refused, BadArgument, NothingTaken, NotAsked, BadBindings, ShortBuffer, BadConfiguration, BadClocks}
 
@@ -40,3 +44,15 @@ answer_code (Ok Response) = pos 0
 answer_code (Ok NotForIt) = pos 1
 answer_code (Ok (Report n)) = pos (10 + n)
 answer_code (Err fault) = fault_code fault
+
+-- why nothing answers what is kept, or 0
+abbrev pub unhandled_code : Result (Option Unhandled) CallFault → ℤ
+unhandled_code (Ok why) = pos (unhandled_number why)
+unhandled_code (Err fault) = fault_code fault
+
+-- The number of what becomes of a variable for which access was answered so, in a request whose PDU has this tag; or that of
+-- BadArgument, where no answer has the number or the tag isn't an octet.
+abbrev pub IsStatusCode : ℕ → ℕ → ℤ → Type 0
+IsStatusCode access tag told =
+    ((answer : Access) × (status : Status) × (access_of access ≡ Some answer) × (tag < 256) × IsStatusOf answer tag status × (told ≡ pos (status_number status)))
+    ⊎ (((access_of access ≡ None) ⊎ (255 < tag)) × (told ≡ fault_code BadArgument))

@@ -33,10 +33,10 @@ use vacm_core::{Access, Rows, Vacm, ViewType};
 /// An agent, the message that it accepted last, and the message that it wrote last.
 #[derive(Drop)]
 pub struct AgentHandle {
-    alloc: Global,
-    agent: Agent,
-    last: Option<Kept>,
-    message: Option<Vec<u8>>,
+    pub(crate) alloc: Global,
+    pub(crate) agent: Agent,
+    pub(crate) last: Option<Kept>,
+    pub(crate) message: Option<Vec<u8>>,
 }
 
 impl Model for AgentHandle {

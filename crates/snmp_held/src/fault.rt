@@ -1,8 +1,10 @@
 //! Why a call of a handle isn't done.
 
 ghost use Rattle.std.specs.Prelude.{◌≡◌, pos};
-ghost use Rattle.snmp_held.specs.Faults.{code, access_code, value_code, answer_code, fault_code};
+ghost use Rattle.snmp_held.specs.Faults.{code, access_code, value_code, answer_code, fault_code, unhandled_code, IsStatusCode};
 
+use crate::numbers::{access_of, unhandled_number};
+use snmp_agent::{Unhandled, status_of};
 use snmp_manager::Answer;
 use snmp_outcome::TakeFault;
 use vacm_core::Access;
@@ -88,4 +90,29 @@ pub fn answer_code_of(told: Result<Answer, CallFault>) -> i32
         Ok(Answer::Report(n)) => 10 + i32::from(n),
         Err(fault) => fault.code(),
     }
+}
+
+/// The number of why nothing answers what is kept: 0 where it is to be answered, 1 where no request waits for it, or the number of its
+/// counter: 7 snmpUnknownPDUHandlers, 9 snmpUnknownContexts; or the fault's.
+pub fn unhandled_code_of(told: Result<Option<Unhandled>, CallFault>) -> i32
+    ensures { result ≡ unhandled_code told }
+{
+    match told {
+        Ok(why) => i32::from(unhandled_number(why)),
+        Err(fault) => fault.code(),
+    }
+}
+
+/// The number of what becomes of a variable for which access was answered by this number, in a request whose PDU has this tag, as
+/// `Status::number` has it; or that of BadArgument, where no answer has the number or the tag is above 255.
+pub fn status_code_of(access: u32, tag: u32) -> i32
+    ensures { IsStatusCode access tag result }
+{
+    let Some(access) = access_of(access) else {
+        return CallFault::BadArgument.code();
+    };
+    if tag > 255 {
+        return CallFault::BadArgument.code();
+    }
+    i32::from(status_of(access, tag as u8).number())
 }

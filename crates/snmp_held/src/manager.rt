@@ -28,11 +28,11 @@ use usm_core::{UserRow, Users};
 /// A manager, the message that it accepted last, the message that it wrote last, and the request that it waits for.
 #[derive(Drop)]
 pub struct ManagerHandle {
-    alloc: Global,
-    manager: Manager,
-    last: Option<Kept>,
-    message: Option<Vec<u8>>,
-    pending: Option<Pending>,
+    pub(crate) alloc: Global,
+    pub(crate) manager: Manager,
+    pub(crate) last: Option<Kept>,
+    pub(crate) message: Option<Vec<u8>>,
+    pub(crate) pending: Option<Pending>,
 }
 
 impl Model for ManagerHandle {

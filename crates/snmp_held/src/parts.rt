@@ -2,6 +2,7 @@
 
 ghost use Rattle.std.specs.Prelude.{◌≡◌, Some, option_map};
 ghost use Rattle.snmp_held.specs.Parts.{Copies, CopiesPart, CopiesMessage, AreNumbersOf, part_of};
+ghost use Rattle.snmp_held.specs.Dispatch.{TellsMaxSize};
 
 use crate::fault::CallFault;
 use snmp_msg::one_content;
@@ -115,4 +116,14 @@ pub(crate) fn numbers_of(kept: &Kept) -> [i32; 6]
         pdu.third,
         taken.id as i32,
     ]
+}
+
+/// The sender's msgMaxSize, of what is kept. The error is NothingTaken.
+pub(crate) fn max_size_of(last: &Option<Kept>) -> Result<u32, CallFault>
+    ensures { TellsMaxSize last.now result }
+{
+    match last {
+        Some(kept) => Ok(kept.taken().max_size),
+        None => Err(CallFault::NothingTaken),
+    }
 }

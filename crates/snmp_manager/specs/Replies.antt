@@ -1,11 +1,15 @@
 -- What an accepted message is to a request (RFC 3412, section 7.2, steps 10 to 12; RFC 3414, section 4).
-use Rattle.std.specs.Prelude.{◌≡◌, ◌≤◌, ◌⊎◌, ℕ, List, [], ◌∷◌}
+use Rattle.std.specs.Prelude.{◌≡◌, ◌≢◌, ◌≤◌, ◌⊎◌, ◌↔◌, IsTrue, ℕ, List, [], ◌∷◌, Option, Some, None}
+use Rattle.snmp_ber.specs.Number.{IsUnsigned}
+use Rattle.snmp_ber.specs.declared.level.Level.TheVariants.{NoAuthNoPriv}
 use Rattle.snmp_message.specs.Scoped.{Contexts}
 use Rattle.snmp_msg.specs.Variables.{Variable, AreBindings}
 use Rattle.snmp_msg.specs.Pdu.{PduParts}
 use Rattle.snmp_outcome.specs.Outcome.{Given}
-use Rattle.snmp_sending.specs.Counters.{counter_name}
+use Rattle.snmp_sending.specs.Counters.{counter_name, name_of}
+use Rattle.snmp_sending.specs.declared.counter.Counter.TheVariants.{UnknownPduHandlers, UnavailableContexts, UnknownContexts}
 use Rattle.snmp_manager.specs.declared.pending.Pending.{Pending}
+use Rattle.snmp_manager.specs.declared.replies.Report.{Report as Told}
 use Rattle.snmp_manager.specs.declared.pending.Answer.{Answer}
 use Rattle.snmp_manager.specs.declared.pending.Answer.TheVariants.{Response, Report, NotForIt}
 
@@ -41,3 +45,42 @@ IsAnswer a g c p NotForIt = (IsResponseTo a g c p → ⊥) × (IsReportTo a g p 
 -- the name is that of counter n, or n is 0 and it is that of none
 abbrev pub IsNameOf : List ℕ → ℕ → Type 0
 IsNameOf name n = ((1 ≤ n) × (n ≤ 6) × (name ≡ counter_name n)) ⊎ (((k : ℕ) → 1 ≤ k → k ≤ 6 → name ≡ counter_name k → ⊥) × (n ≡ 0))
+
+-- ---- what a Report tells
+
+-- the name is that of counter n: usmStats 1 to 6, and 7 to 9 those of messages that nothing handles (RFC 3412, section 5; RFC 3413,
+-- section 4.1.2)
+abbrev pub NamesTold : List ℕ → ℕ → Type 0
+NamesTold name n =
+    ((1 ≤ n) × (n ≤ 6) × (name ≡ counter_name n))
+    ⊎ (((n ≡ 7) × (name ≡ name_of UnknownPduHandlers)) ⊎ (((n ≡ 8) × (name ≡ name_of UnavailableContexts)) ⊎ ((n ≡ 9) × (name ≡ name_of UnknownContexts))))
+
+-- the same, or n is 0 and it is that of none
+abbrev pub IsToldName : List ℕ → ℕ → Type 0
+IsToldName name n = NamesTold name n ⊎ (((k : ℕ) → NamesTold name k → ⊥) × (n ≡ 0))
+
+-- the variable's value, where it is a Counter32 (RFC 2578, section 7.1.6)
+abbrev pub IsCount : Variable → Option ℕ → Type 0
+IsCount v (Some value) = (v.tag ≡ 65) × IsUnsigned 4 value v.content
+IsCount v None = v.tag ≡ 65 → (value : ℕ) → IsUnsigned 4 value v.content → ⊥
+
+-- of the only binding the number by its name, and its value; of another list 0 and none
+abbrev pub TellsCounter : List Variable → ℕ → Option ℕ → Type 0
+TellsCounter vs n value =
+    ((v : Variable) × (vs ≡ v ∷ []) × IsToldName v.name n × IsCount v value)
+    ⊎ (((v : Variable) → vs ≡ v ∷ [] → ⊥) × (n ≡ 0) × (value ≡ None))
+
+-- what the message tells, where it is a Report on the request; it was authenticated exactly where its level has authentication
+abbrev pub IsReport : Pending → Given → PduParts → Option Told → Type 0
+IsReport a g p None = IsReportTo a g p → ⊥
+IsReport a g p (Some told) =
+    IsReportTo a g p × ((vs : List Variable) → AreBindings vs p.list → TellsCounter vs told.counter told.value)
+    × (IsTrue told.authenticated ↔ (g.level ≢ NoAuthNoPriv))
+
+-- ---- what still waits
+
+-- the request, unless its Response has come
+abbrev pub still_waiting : Answer → Pending → Option Pending
+still_waiting Response a = None
+still_waiting (Report n) a = Some a
+still_waiting NotForIt a = Some a

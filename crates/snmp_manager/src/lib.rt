@@ -18,4 +18,4 @@ pub use laws::{
 pub use manager::Manager;
 pub use outcome::{Outcome, Stopped};
 pub use pending::{Answer, Pending};
-pub use replies::answer_of;
+pub use replies::{Report, answer_of, report_of, take_answer};

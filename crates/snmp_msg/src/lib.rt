@@ -9,6 +9,7 @@ mod binding;
 mod fault;
 mod laws;
 mod pdu;
+mod value;
 mod whole;
 
 pub use binding::{Binding, Bindings, VarBind, read_binding};
@@ -21,4 +22,5 @@ pub use snmp_message::{
     plain_from_data, read_message, read_scoped, read_scoped_front, read_security, whole_slice,
     write_message, write_scoped, write_security, written_again,
 };
+pub use value::{Syntax, value_is};
 pub use whole::{Layer, Layers, canonical, read_layers, write_layers};

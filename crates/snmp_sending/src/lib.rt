@@ -10,7 +10,7 @@ mod sending;
 
 pub use body::Body;
 pub use class::is_confirmed;
-pub use counter::counter_name;
+pub use counter::{Counter, counter_name};
 pub use envelope::Envelope;
 pub use laws::{request_is_accepted, sealed_is_accepted, spoken_is_accepted};
 pub use sending::{send, send_plain, supports};

@@ -8,7 +8,7 @@ use Rattle.snmp_outcome.specs.Refusals.{answer_number}
 use Rattle.snmp_sending.specs.Classes.{is_confirmed}
 use Rattle.snmp_sending.specs.Sends.{send_refusal}
 use Rattle.snmp_agent.specs.Agent.{AgentState}
-use Rattle.snmp_agent.specs.declared.counter.Counter.{Counter}
+use Rattle.snmp_sending.specs.declared.counter.Counter.{Counter}
 use Rattle.snmp_agent.specs.Counts.{count_after, one_more}
 use Rattle.snmp_agent.specs.Dispatch.{counter_of, agent_counted, refusing, IsReported, SendsRefusal}
 use Rattle.snmp_agent.proofs.Clocked.{sends}

@@ -1,0 +1,102 @@
+-- What the calls of an agent leave that go with what it accepted, besides its answer: how long the answer may be, whether anything
+-- answers it at all, the report where nothing does, and the counters (RFC 3412, sections 4.2.2 and 7.1; RFC 3413, section 3.2; RFC 3416,
+-- section 4.2).
+use Rattle.std.specs.Prelude.{◌≡◌, ◌<◌, ◌⊎◌, ℕ, pos, List, Option, Some, None, option_map, Result, Ok, Err, IfSome, true, false}
+use Rattle.std.specs.Global.{Vec}
+use Rattle.snmp_message.specs.Scoped.{Contexts, ScopedFront}
+use Rattle.snmp_msg.specs.Pdu.{PduParts, PduText}
+use Rattle.snmp_msg.specs.Variables.{Variable, AreBindings}
+use Rattle.snmp_outcome.specs.Outcome.{Given}
+use Rattle.snmp_outcome.specs.Refusals.{answer_number}
+use Rattle.snmp_outcome.specs.declared.fault.TakeFault.{TakeFault}
+use Rattle.snmp_sending.specs.Classes.{is_confirmed}
+use Rattle.snmp_sending.specs.Sends.{send_refusal}
+use Rattle.snmp_sending.specs.UpTo.{UpTo}
+use Rattle.snmp_agent.specs.Agent.{AgentState}
+use Rattle.snmp_agent.specs.Sent.{responding, Sends, CanSendAt, RefusesSenderAt}
+use Rattle.snmp_agent.specs.Dispatch.{HandledBy, Refuses}
+use Rattle.snmp_agent.specs.declared.unhandled.Unhandled.{Unhandled}
+use Rattle.snmp_held.specs.Agents.{AgentHeld, IsAsked, HasNoBindings, LeavesMessage}
+use Rattle.snmp_held.specs.declared.fault.CallFault.{CallFault}
+use Rattle.snmp_held.specs.declared.fault.CallFault.TheVariants.{Refused, BadArgument, NothingTaken, NotAsked, BadBindings}
+
+-- ---- answers within a limit
+
+-- the sender's msgMaxSize, of what is kept
+abbrev pub TellsMaxSize : Option Given → Result ℕ CallFault → Type 0
+TellsMaxSize last (Ok size) = (g : Given) × (last ≡ Some g) × (size ≡ g.max_size)
+TellsMaxSize last (Err NothingTaken) = last ≡ None
+TellsMaxSize last (Err _) = ⊥
+
+-- The Response to what was given, with the bindings that these octets are, where it has at most so many octets; or its refusal.
+abbrev pub RespondsWithin : AgentState → ℕ → Given → ℕ → ℕ → List ℕ → List ℕ → ℕ → Result (List ℕ) ℕ → Type 0
+RespondsWithin agent now g status index list salt limit answer =
+    (vs : List Variable) × AreBindings vs list
+    × ((c : Contexts) (p : PduParts) → ScopedFront g.text c → PduText c.pdu p
+    → UpTo limit (Sends agent now (λ own. responding agent.engine own g c p (pos status) (pos index) vs salt)) answer)
+
+-- Nothing can be sent for its user at its level; or it can, and the Response is refused or too long, or finds no memory.
+abbrev pub StopsWithin : AgentState → ℕ → Given → ℕ → ℕ → List ℕ → List ℕ → ℕ → TakeFault → Type 0
+StopsWithin agent now g status index list salt limit fault =
+    RefusesSenderAt agent now g.user g.level fault
+    ⊎ (CanSendAt agent now g.user g.level × IfSome (send_refusal fault) (RespondsWithin agent now g status index list salt limit))
+
+abbrev pub RefusesWithin : AgentHeld → ℕ → ℕ → ℕ → List ℕ → List ℕ → ℕ → CallFault → Type 0
+RefusesWithin held now status index list salt limit (Refused fault) =
+    (g : Given) × IsAsked held g × StopsWithin held.agent now g status index list salt limit fault
+RefusesWithin held now status index list salt limit BadArgument = (2147483647 < status) ⊎ (2147483647 < index)
+RefusesWithin held now status index list salt limit NothingTaken = held.last ≡ None
+RefusesWithin held now status index list salt limit NotAsked = (g : Given) × (held.last ≡ Some g) × (is_confirmed g.tag ≡ false)
+RefusesWithin held now status index list salt limit BadBindings = (g : Given) × IsAsked held g × HasNoBindings held.agent now g list
+RefusesWithin held now status index list salt limit _ = ⊥
+
+-- The Response to what is kept, of at most so many octets, is to be sent. A refusal changes nothing.
+abbrev pub RespondsHeldWithin : {V : Type 0} → AgentHeld → ℕ → ℕ → ℕ → List ℕ → List ℕ → ℕ → Result V CallFault → AgentHeld → Type 0
+RespondsHeldWithin old now status index list salt limit (Ok done) new =
+    (g : Given) × (text : List ℕ) × IsAsked old g × RespondsWithin old.agent now g status index list salt limit (Ok text) × LeavesMessage old text new
+RespondsHeldWithin old now status index list salt limit (Err fault) new = RefusesWithin old now status index list salt limit fault × (new ≡ old)
+
+-- between the functions: the same of what is kept, before it is left to be sent
+abbrev pub AnswersWithin : AgentState → ℕ → Given → ℕ → ℕ → List ℕ → List ℕ → ℕ → Result (Vec ℕ) CallFault → Type 0
+AnswersWithin agent now g status index list salt limit (Ok text) =
+    (is_confirmed g.tag ≡ true) × RespondsWithin agent now g status index list salt limit (Ok text.items)
+AnswersWithin agent now g status index list salt limit (Err (Refused fault)) =
+    (is_confirmed g.tag ≡ true) × StopsWithin agent now g status index list salt limit fault
+AnswersWithin agent now g status index list salt limit (Err NotAsked) = is_confirmed g.tag ≡ false
+AnswersWithin agent now g status index list salt limit (Err BadBindings) = (is_confirmed g.tag ≡ true) × HasNoBindings agent now g list
+AnswersWithin agent now g status index list salt limit (Err _) = ⊥
+
+-- ---- who answers
+
+-- why nothing answers what was given, or None where it is to be answered
+abbrev pub IsHandled : AgentState → Given → Option Unhandled → Type 0
+IsHandled agent g why = (c : Contexts) (p : PduParts) → ScopedFront g.text c → PduText c.pdu p → HandledBy agent.engine agent.tables c p why
+
+abbrev pub TellsUnhandled : AgentHeld → Result (Option Unhandled) CallFault → Type 0
+TellsUnhandled held (Ok why) = (g : Given) × (held.last ≡ Some g) × IsHandled held.agent g why
+TellsUnhandled held (Err NothingTaken) = held.last ≡ None
+TellsUnhandled held (Err _) = ⊥
+
+-- ---- reports
+
+-- what becomes of a message that is refused so: the report on it, where there is one, or its refusal
+abbrev pub Reports : AgentState → ℕ → Given → Unhandled → List ℕ → Result (Option (List ℕ)) ℕ → AgentState → Type 0
+Reports old now g why salt answer new =
+    (c : Contexts) (p : PduParts) → ScopedFront g.text c → PduText c.pdu p → Refuses old now g p why salt answer new
+
+-- the refusal as a report's; None for want of memory
+abbrev pub report_refusal : TakeFault → Option (Result (Option (List ℕ)) ℕ)
+report_refusal fault = option_map (λ n. Err n) (answer_number fault)
+
+abbrev pub StopsReport : AgentHeld → ℕ → Unhandled → List ℕ → CallFault → Type 0
+StopsReport held now why salt (Refused fault) =
+    (g : Given) × (held.last ≡ Some g) × IfSome (report_refusal fault) (λ answer. Reports held.agent now g why salt answer held.agent)
+StopsReport held now why salt NothingTaken = held.last ≡ None
+StopsReport held now why salt _ = ⊥
+
+-- What is kept is counted, and its report is to be sent; nothing is, where there is none. An error changes nothing.
+abbrev pub ReportsHeld : {V : Type 0} → AgentHeld → ℕ → Unhandled → List ℕ → Result V CallFault → AgentHeld → Type 0
+ReportsHeld old now why salt (Ok done) new =
+    (g : Given) × (report : Option (List ℕ)) × (agent : AgentState) × (old.last ≡ Some g) × Reports old.agent now g why salt (Ok report) agent
+    × (new ≡ record old { agent = agent; message = report })
+ReportsHeld old now why salt (Err fault) new = StopsReport old now why salt fault × (new ≡ old)

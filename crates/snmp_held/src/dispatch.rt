@@ -1,0 +1,161 @@
+//! What an agent does with what it accepted, besides answering it: how long the answer may be, whether anything answers it at all,
+//! the report where nothing does, and the counters (RFC 3412, sections 4.2.2 and 7.1; RFC 3413, section 3.2; RFC 3416, section 4.2).
+
+ghost use Rattle.std.specs.Prelude.{◌≡◌, ◌≤◌, Some};
+ghost use Rattle.std.specs.Int.{to_be_bytes, w64};
+ghost use Rattle.snmp_agent.specs.Counts.{count_at, one_more};
+ghost use Rattle.snmp_agent.specs.Dispatch.{HandledBy, Refuses};
+ghost use Rattle.snmp_sending.specs.declared.counter.Counter.TheVariants.{SilentDrops};
+ghost use Rattle.snmp_held.specs.Dispatch.{TellsMaxSize, RespondsHeldWithin, AnswersWithin, IsHandled, TellsUnhandled, ReportsHeld};
+
+use crate::agent::AgentHandle;
+use crate::bindings::bindings_of;
+use crate::fault::CallFault;
+use crate::numbers::GREATEST;
+use crate::parts::max_size_of;
+use snmp_agent::{Agent, Unhandled};
+use snmp_outcome::Kept;
+use snmp_sending::{Counter, is_confirmed};
+use std::alloc::Global;
+
+/// The Response to what was kept, with the bindings that these octets are, of at most `limit` octets.
+fn response_within(
+    alloc: Global,
+    agent: &mut Agent,
+    now: u64,
+    kept: &Kept,
+    status: u32,
+    index: u32,
+    list: &[u8],
+    salt: [u8; 8],
+    limit: u32,
+) -> Result<Vec<u8>, CallFault>
+    requires status { status ≤ 2147483647 }
+    requires index { index ≤ 2147483647 }
+    ensures answer { AnswersWithin agent.old now kept.now status index list.now salt limit result }
+    ensures same { agent.new ≡ agent.old }
+{
+    if !is_confirmed(kept.taken().tag) {
+        return Err(CallFault::NotAsked);
+    }
+    let taken = kept.taken();
+    if let Err(fault) = agent.supports(now, taken.user, taken.level) {
+        return Err(CallFault::Refused(fault));
+    }
+    let bindings = bindings_of(alloc, list)?;
+    match agent.respond_within(
+        now,
+        &taken,
+        status as i32,
+        index as i32,
+        &bindings,
+        salt,
+        limit as usize,
+    ) {
+        Ok(text) => Ok(text),
+        Err(fault) => Err(CallFault::Refused(fault)),
+    }
+}
+
+/// Why nothing answers what was kept.
+fn unhandled(agent: &Agent, kept: &Kept) -> Option<Unhandled>
+    ensures { IsHandled agent.now kept.now result }
+{
+    let taken = kept.taken();
+    agent.unhandled(&taken)
+}
+
+impl AgentHandle {
+    /// The sender's msgMaxSize, 484 to 2147483647: how long a Response to what is kept may be. The error is NothingTaken.
+    pub fn max_size(&self) -> Result<u32, CallFault>
+        ensures { TellsMaxSize self.now.last result }
+    {
+        max_size_of(&self.last)
+    }
+
+    /// What `respond` writes where that has at most `limit` octets, and else TooLarge (16), as `Agent::respond_within` does. On an
+    /// error nothing changes.
+    ///
+    /// The errors are those of `respond`, in its order.
+    pub fn respond_within(
+        &mut self,
+        now: u64,
+        status: u32,
+        index: u32,
+        list: &[u8],
+        salt: u64,
+        limit: u32,
+    ) -> Result<(), CallFault>
+        ensures { RespondsHeldWithin self.old now status index list.now (to_be_bytes w64 salt) limit result self.new }
+    {
+        if status > GREATEST || index > GREATEST {
+            return Err(CallFault::BadArgument);
+        }
+        let Some(kept) = &self.last else {
+            return Err(CallFault::NothingTaken);
+        };
+        let salt = salt.to_be_bytes();
+        match response_within(
+            self.alloc,
+            &mut self.agent,
+            now,
+            kept,
+            status,
+            index,
+            list,
+            salt,
+            limit,
+        ) {
+            Ok(text) => {
+                self.message = Some(text);
+                Ok(())
+            }
+            Err(fault) => Err(fault),
+        }
+    }
+
+    /// Why no application of the agent answers what is kept, as `Agent::unhandled` has it, or None where it is to be answered. The
+    /// error is NothingTaken.
+    pub fn unhandled(&self) -> Result<Option<Unhandled>, CallFault>
+        ensures { TellsUnhandled self.now result }
+    {
+        match &self.last {
+            Some(kept) => Ok(unhandled(&self.agent, kept)),
+            None => Err(CallFault::NothingTaken),
+        }
+    }
+
+    /// Counts what is kept as one that isn't answered, and leaves the report on it to be sent, as `Agent::refuse` does; where there is
+    /// no report, nothing is to be sent.
+    ///
+    /// The errors are NothingTaken and those of `Agent::refuse`; nothing changes then.
+    pub fn refuse(&mut self, now: u64, why: Unhandled, salt: u64) -> Result<(), CallFault>
+        ensures { ReportsHeld self.old now why (to_be_bytes w64 salt) result self.new }
+    {
+        let Some(kept) = &self.last else {
+            return Err(CallFault::NothingTaken);
+        };
+        let taken = kept.taken();
+        match self.agent.refuse(now, &taken, why, salt.to_be_bytes()) {
+            Ok(report) => {
+                self.message = report;
+                Ok(())
+            }
+            Err(fault) => Err(CallFault::Refused(fault)),
+        }
+    }
+
+    /// How many messages this counter has counted.
+    pub fn count(&self, counter: Counter) -> u32
+        ensures { result ≡ count_at self.now.agent.counts counter }
+    {
+        self.agent.count(counter)
+    }
+
+    /// Counts what is kept in snmpSilentDrops: even its answer without bindings is too long (RFC 3416, section 4.2.1).
+    pub fn silent_drop(&mut self)
+        ensures { self.new ≡ record self.old { agent = record self.old.agent { counts = one_more self.old.agent.counts (Some SilentDrops) } } }
+    {
+        self.agent.silent_drop()
+    }
+}
