@@ -98,6 +98,44 @@ int snmpsec_agent_respond(snmpsec_agent *agent, uint64_t now, uint32_t error_sta
     return agent ? done(proved_agent_respond(agent, now, error_status, error_index, in(list, list_len), list_len, salt)) : SNMPSEC_BAD_ARGUMENT;
 }
 
+int snmpsec_agent_respond_within(snmpsec_agent *agent, uint64_t now, uint32_t error_status, uint32_t error_index, const uint8_t *list,
+                                 size_t list_len, uint64_t salt, uint32_t limit) {
+    return agent ? done(proved_agent_respond_within(agent, now, error_status, error_index, in(list, list_len), list_len, salt, limit))
+                 : SNMPSEC_BAD_ARGUMENT;
+}
+
+static int told_size(int64_t answer, uint32_t *out) {
+    if (answer < 0) return (int)answer;
+    *out = (uint32_t)answer;
+    return SNMPSEC_OK;
+}
+
+int snmpsec_agent_max_size(snmpsec_agent *agent, uint32_t *out) {
+    return agent && out ? told_size(proved_agent_max_size(agent), out) : SNMPSEC_BAD_ARGUMENT;
+}
+
+int snmpsec_agent_unhandled(snmpsec_agent *agent, snmpsec_unhandled *out) {
+    if (!agent || !out) return SNMPSEC_BAD_ARGUMENT;
+    int32_t answer = proved_agent_unhandled(agent);
+    if (answer < 0) return answer;
+    *out = (snmpsec_unhandled)answer;
+    return SNMPSEC_OK;
+}
+
+int snmpsec_agent_refuse(snmpsec_agent *agent, uint64_t now, snmpsec_unhandled why, uint64_t salt) {
+    return agent ? done(proved_agent_refuse(agent, now, why, salt)) : SNMPSEC_BAD_ARGUMENT;
+}
+
+int snmpsec_agent_silent_drop(snmpsec_agent *agent) { return agent ? proved_agent_silent_drop(agent) : SNMPSEC_BAD_ARGUMENT; }
+
+int snmpsec_status_of(snmpsec_access access, snmpsec_pdu pdu, snmpsec_status *out) {
+    if (!out) return SNMPSEC_BAD_ARGUMENT;
+    int32_t answer = proved_status_of(access, pdu);
+    if (answer < 0) return answer;
+    *out = (snmpsec_status)answer;
+    return SNMPSEC_OK;
+}
+
 int snmpsec_agent_notify(snmpsec_agent *agent, uint64_t now, const snmpsec_notice *n) {
     if (!agent || !n) return SNMPSEC_BAD_ARGUMENT;
     return done(proved_agent_notify(agent, now, n->message_id, in(n->user.at, n->user.len), n->user.len, n->level, n->request_id,
@@ -111,6 +149,15 @@ int snmpsec_agent_counters(snmpsec_agent *agent, snmpsec_counters *out) {
     if (!agent || !out) return SNMPSEC_BAD_ARGUMENT;
     for (uint32_t i = 0; i < 6; i++) n[i] = (uint32_t)proved_agent_counter(agent, i + 1);
     *out = (snmpsec_counters){n[0], n[1], n[2], n[3], n[4], n[5]};
+    return SNMPSEC_OK;
+}
+
+int snmpsec_agent_counts(snmpsec_agent *agent, snmpsec_counts *out) {
+    enum { FIRST = 7, COUNTS = 8 };
+    uint32_t n[COUNTS];
+    if (!agent || !out) return SNMPSEC_BAD_ARGUMENT;
+    for (uint32_t i = 0; i < COUNTS; i++) n[i] = (uint32_t)proved_agent_count(agent, FIRST + i);
+    *out = (snmpsec_counts){n[0], n[1], n[2], n[3], n[4], n[5], n[6], n[7]};
     return SNMPSEC_OK;
 }
 
@@ -178,13 +225,34 @@ int snmpsec_manager_message(snmpsec_manager *manager, uint8_t *out, size_t out_l
     return proved_manager_message(manager->held, room(out, out_len), out_len, written);
 }
 
-int snmpsec_manager_reply(snmpsec_manager *manager, snmpsec_reply *out) {
-    if (!manager || !out) return SNMPSEC_BAD_ARGUMENT;
-    int32_t answer = proved_manager_answer(manager->held);
+static int told_reply(int32_t answer, snmpsec_reply *out) {
     if (answer < 0) return answer;
     out->kind = answer >= 10 ? SNMPSEC_REPLY_REPORT : (snmpsec_reply_kind)answer;
     out->counter = answer >= 10 ? answer - 10 : 0;
     return SNMPSEC_OK;
+}
+
+int snmpsec_manager_reply(snmpsec_manager *manager, snmpsec_reply *out) {
+    return manager && out ? told_reply(proved_manager_answer(manager->held), out) : SNMPSEC_BAD_ARGUMENT;
+}
+
+int snmpsec_manager_take_reply(snmpsec_manager *manager, snmpsec_reply *out) {
+    return manager && out ? told_reply(proved_manager_take_answer(manager->held), out) : SNMPSEC_BAD_ARGUMENT;
+}
+
+int snmpsec_manager_report(snmpsec_manager *manager, snmpsec_report *out) {
+    enum { COUNTER, VALUE, AUTHENTICATED, NUMBERS };
+    int64_t n[NUMBERS];
+    if (!manager || !out) return SNMPSEC_BAD_ARGUMENT;
+    int32_t answer = proved_manager_report(manager->held, n, NUMBERS);
+    if (answer) return answer < 0 ? answer : SNMPSEC_NOTHING_TAKEN;
+    *out = (snmpsec_report){.counter = (int)n[COUNTER], .value = n[VALUE] < 0 ? 0 : (uint32_t)n[VALUE], .has_value = n[VALUE] >= 0,
+                            .is_authenticated = n[AUTHENTICATED]};
+    return SNMPSEC_OK;
+}
+
+int snmpsec_manager_max_size(snmpsec_manager *manager, uint32_t *out) {
+    return manager && out ? told_size(proved_manager_max_size(manager->held), out) : SNMPSEC_BAD_ARGUMENT;
 }
 
 /* A call that writes a request: where it is done the held message is the request. */
@@ -255,6 +323,10 @@ int snmpsec_binding_write(const uint32_t *arcs, size_t arcs_len, uint8_t tag, co
                           size_t out_len, size_t *written) {
     if (!written) return SNMPSEC_BAD_ARGUMENT;
     return proved_binding_write(name(arcs, arcs_len), arcs_len, tag, in(content, content_len), content_len, room(out, out_len), out_len, written);
+}
+
+bool snmpsec_value_is(uint8_t tag, const uint8_t *content, size_t content_len) {
+    return proved_value_is(tag, in(content, content_len), content_len) == 1;
 }
 
 int snmpsec_password_key(snmpsec_protocol protocol, const uint8_t *password, size_t password_len, uint8_t *out, size_t out_len, size_t *written) {

@@ -43,7 +43,7 @@ static int exchange(int socket, snmpsec_reply *reply) {
         if (got < 0) break;
         int answer = snmpsec_manager_take(manager, now_in_seconds(), octets, (size_t)got);
         if (answer) { fprintf(stderr, "poll: refused: %s\n", snmpsec_strerror(answer)); return -1; }
-        if (!snmpsec_manager_reply(manager, reply) && reply->kind != SNMPSEC_REPLY_OTHER) return 0;
+        if (!snmpsec_manager_take_reply(manager, reply) && reply->kind != SNMPSEC_REPLY_OTHER) return 0;
     }
     fprintf(stderr, "poll: no answer\n");
     return -1;
@@ -61,6 +61,34 @@ static int print_bindings(void) {
         printf("\n");
     }
     return 0;
+}
+
+/* error-status by its name (RFC 3416, section 3) */
+static const char *status_name(int32_t status) {
+    static const char *const names[] = {"noError", "tooBig", "noSuchName", "badValue", "readOnly", "genErr", "noAccess", "wrongType", "wrongLength",
+                                        "wrongEncoding", "wrongValue", "noCreation", "inconsistentValue", "resourceUnavailable", "commitFailed",
+                                        "undoFailed", "authorizationError", "notWritable", "inconsistentName"};
+    return status >= 0 && (size_t)status < sizeof names / sizeof *names ? names[status] : "unknown error-status";
+}
+
+/* Prints a Response: its bindings, or the error that it tells. */
+static int print_response(void) {
+    snmpsec_info info;
+    if (snmpsec_manager_info(manager, &info)) return 1;
+    if (!info.error_status) return print_bindings();
+    fprintf(stderr, "poll: %s (error-status %d), error-index %d\n", status_name(info.error_status), info.error_status, info.error_index);
+    return 1;
+}
+
+/* Tells which counter a Report names: 0 where it is asked again, since the window is known now. */
+static int tell_report(void) {
+    static const char *const names[] = {"no counter that is known", "usmStatsUnsupportedSecLevels", "usmStatsNotInTimeWindows", "usmStatsUnknownUserNames",
+                                        "usmStatsUnknownEngineIDs", "usmStatsWrongDigests", "usmStatsDecryptionErrors", "snmpUnknownPDUHandlers",
+                                        "snmpUnavailableContexts", "snmpUnknownContexts"};
+    snmpsec_report report;
+    if (snmpsec_manager_report(manager, &report)) return 1;
+    fprintf(stderr, "poll: report of %s%s\n", names[report.counter], report.is_authenticated ? "" : ", without authentication");
+    return report.counter != SNMPSEC_NOT_IN_WINDOWS;
 }
 
 static int poll_once(int socket, const char *user, snmpsec_level level, const uint8_t *list, size_t list_len) {
@@ -81,9 +109,8 @@ static int poll_once(int socket, const char *user, snmpsec_level level, const ui
         int answer = snmpsec_manager_request(manager, now_in_seconds(), &request);
         if (answer) { fprintf(stderr, "poll: request: %s\n", snmpsec_strerror(answer)); return 1; }
         if (exchange(socket, &reply)) return 1;
-        if (reply.kind == SNMPSEC_REPLY_RESPONSE) return print_bindings();
-        fprintf(stderr, "poll: report of counter %d\n", reply.counter);
-        if (reply.counter != SNMPSEC_NOT_IN_WINDOWS) return 1;
+        if (reply.kind == SNMPSEC_REPLY_RESPONSE) return print_response();
+        if (tell_report()) return 1;
     }
     return 1;
 }

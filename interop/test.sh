@@ -132,7 +132,7 @@ test_set() {
     has "set of another type" "wrongType" "$(ask snmpset $private $at $system.4.0 i 4)"
     has "set of no row" "notWritable" "$(ask snmpset $private $at $system.9.0 s x)"
     has "set outside of the view" "noAccess" "$(ask snmpset $private $at 1.3.6.1.4.1.99999.1.0 s x)"
-    has "set at a lower level" "noAccess" "$(ask snmpset -l authNoPriv -u sha -a SHA -A maplesyrup $at $system.4.0 s x)"
+    has "set at a lower level" "authorizationError" "$(ask snmpset -l authNoPriv -u sha -a SHA -A maplesyrup $at $system.4.0 s x)"
     check "set back" '.1.3.6.1.2.1.1.4.0 = STRING: "nobody"' "$(ask snmpset $private $at $system.4.0 s nobody)"
 }
 
@@ -145,7 +145,7 @@ test_refusals() {
     has "wrong privacy password" "Timeout" "$(ask snmpget -l authPriv -u sha -a SHA -A maplesyrup -x AES -X wrongwrong $at $system.1.0)"
     has "another engine ID" "Timeout" "$(ask snmpget $sha -e 80001f8804616299 $at $system.1.0)"
     has "a client that doesn't know the boots is corrected" "a proved agent" "$(ask snmpget $sha -e $engine $at $system.1.0)"
-    has "another context" "No Such Object" "$(ask snmpget $sha -n other $at $system.1.0)"
+    has "another context" "Bad context specified" "$(ask snmpget $sha -n other $at $system.1.0)"
 }
 
 test_counters() { # what was told of the refusals' run alone
@@ -209,6 +209,6 @@ test_traps() {
 test_c
 test_agent
 test_traps
-for part in poll wrappers boots words memory install packages; do . "$here/tests/$part.sh"; done
+for part in poll dispatch wrappers boots words memory install packages; do . "$here/tests/$part.sh"; done
 echo "$passed passed, $failed failed"
 [ $failed = 0 ]

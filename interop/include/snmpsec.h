@@ -168,6 +168,35 @@ SNMPSEC_CHECK int snmpsec_agent_user_access(snmpsec_agent *agent, snmpsec_octets
 SNMPSEC_CHECK int snmpsec_agent_respond(snmpsec_agent *agent, uint64_t now, uint32_t error_status, uint32_t error_index, const uint8_t *list,
                                         size_t list_len, uint64_t salt);
 
+/* How many octets the sender of what is kept takes, 484 to 2147483647 (msgMaxSize): SNMPSEC_NOTHING_TAKEN. */
+SNMPSEC_CHECK int snmpsec_agent_max_size(snmpsec_agent *agent, uint32_t *out);
+/* What snmpsec_agent_respond writes, where it has at most `limit` octets; else SNMPSEC_TOO_LARGE. A Response without bindings fits into 484. */
+SNMPSEC_CHECK int snmpsec_agent_respond_within(snmpsec_agent *agent, uint64_t now, uint32_t error_status, uint32_t error_index,
+                                               const uint8_t *list, size_t list_len, uint64_t salt, uint32_t limit);
+
+/* Why nothing answers what is kept, the first that applies: no request waits for a Response or a Report; its contextEngineID isn't the agent's,
+ * or its PDU is no Get, GetNext, Set or GetBulk (RFC 3412, section 4.2.2); or no context has its name (RFC 3413, section 3.2). An agent that
+ * can't reach a context now says so by itself. */
+typedef enum snmpsec_unhandled {
+    SNMPSEC_HANDLED = 0, SNMPSEC_NO_REQUEST = 1, SNMPSEC_UNKNOWN_PDU_HANDLERS = 7, SNMPSEC_UNAVAILABLE_CONTEXTS = 8, SNMPSEC_UNKNOWN_CONTEXTS = 9
+} snmpsec_unhandled;
+/* SNMPSEC_NOTHING_TAKEN: no message is kept. */
+SNMPSEC_CHECK int snmpsec_agent_unhandled(snmpsec_agent *agent, snmpsec_unhandled *out);
+/* Counts what is kept as one that isn't answered, and writes the report on it, where its PDU asks for an answer; else there is no message.
+ * SNMPSEC_BAD_ARGUMENT: no such reason, or SNMPSEC_HANDLED; SNMPSEC_NOTHING_TAKEN; or a refusal as of snmpsec_agent_respond. */
+SNMPSEC_CHECK int snmpsec_agent_refuse(snmpsec_agent *agent, uint64_t now, snmpsec_unhandled why, uint64_t salt);
+/* Counts what is kept in snmpSilentDrops: even its answer without bindings is too long (RFC 3416, section 4.2.1). */
+SNMPSEC_CHECK int snmpsec_agent_silent_drop(snmpsec_agent *agent);
+
+/* What becomes of a variable (RFC 3413, section 3.2): it is answered; the error-status 6 or 16; its value is noSuchObject; a walk goes on behind
+ * it; or the message is refused for SNMPSEC_UNKNOWN_CONTEXTS. */
+typedef enum snmpsec_status {
+    SNMPSEC_NO_ERROR = 0, SNMPSEC_NO_ACCESS = 6, SNMPSEC_AUTHORIZATION_ERROR = 16, SNMPSEC_NO_SUCH_OBJECT = 128, SNMPSEC_NOT_SEEN = 256,
+    SNMPSEC_UNKNOWN_CONTEXT = 257
+} snmpsec_status;
+/* By the answer on access, and the PDU that asks. SNMPSEC_BAD_ARGUMENT: no such answer, or the PDU is above 255. */
+SNMPSEC_CHECK int snmpsec_status_of(snmpsec_access access, snmpsec_pdu pdu, snmpsec_status *out);
+
 typedef struct snmpsec_notice {
     uint32_t message_id, request_id;
     snmpsec_level level;
@@ -184,6 +213,14 @@ typedef struct snmpsec_counters {
     uint32_t unsupported_levels, not_in_windows, unknown_users, unknown_engines, wrong_digests, decryption_errors;
 } snmpsec_counters;
 SNMPSEC_CHECK int snmpsec_agent_counters(snmpsec_agent *agent, snmpsec_counters *out);
+/* The counters of messages that weren't answered or were refused without a report: snmpUnknownPDUHandlers, snmpUnavailableContexts,
+ * snmpUnknownContexts, snmpInBadVersions, snmpInASNParseErrs, snmpUnknownSecurityModels, snmpInvalidMsgs, snmpSilentDrops (RFC 3412, section 5;
+ * RFC 3413, section 4.1.2; RFC 3418) */
+typedef struct snmpsec_counts {
+    uint32_t unknown_pdu_handlers, unavailable_contexts, unknown_contexts, bad_versions, asn_parse_errors, unknown_security_models,
+        invalid_messages, silent_drops;
+} snmpsec_counts;
+SNMPSEC_CHECK int snmpsec_agent_counts(snmpsec_agent *agent, snmpsec_counts *out);
 
 /* ---- a manager */
 
@@ -216,6 +253,15 @@ enum {
 typedef struct snmpsec_reply { snmpsec_reply_kind kind; int counter; } snmpsec_reply;
 /* SNMPSEC_NOTHING_TAKEN: no message is kept, or nothing was asked. */
 SNMPSEC_CHECK int snmpsec_manager_reply(snmpsec_manager *manager, snmpsec_reply *out);
+/* The same, and where it is the Response the request isn't waited for any more: the same message again is SNMPSEC_NOTHING_TAKEN. */
+SNMPSEC_CHECK int snmpsec_manager_take_reply(snmpsec_manager *manager, snmpsec_reply *out);
+/* What a Report tells: its counter (1 to 6 as above, the numbers of snmpsec_unhandled, or 0 of none), the counter's value where it has one, and
+ * whether it came with authentication; without, it can be anybody's. */
+typedef struct snmpsec_report { int counter; uint32_t value; bool has_value, is_authenticated; } snmpsec_report;
+/* SNMPSEC_NOTHING_TAKEN: what is kept is no Report on the request that was written last. */
+SNMPSEC_CHECK int snmpsec_manager_report(snmpsec_manager *manager, snmpsec_report *out);
+/* How many octets the sender of what is kept takes, 484 to 2147483647 (msgMaxSize): SNMPSEC_NOTHING_TAKEN. */
+SNMPSEC_CHECK int snmpsec_manager_max_size(snmpsec_manager *manager, uint32_t *out);
 
 /* Writes the request by which an engine is discovered; its answer is a Report that has the engine's ID. */
 SNMPSEC_CHECK int snmpsec_manager_discover(snmpsec_manager *manager, uint32_t message_id);
@@ -263,6 +309,8 @@ SNMPSEC_CHECK int snmpsec_binding_read(const uint8_t *list, size_t list_len, siz
  * 65507 octets; SNMPSEC_OUT_OF_MEMORY; SNMPSEC_SHORT_BUFFER, and *written says how much is wanted. */
 SNMPSEC_CHECK int snmpsec_binding_write(const uint32_t *arcs, size_t arcs_len, uint8_t tag, const uint8_t *content, size_t content_len,
                                         uint8_t *out, size_t out_len, size_t *written);
+/* Whether this is the content of a value with this tag (RFC 2578, section 7.1; RFC 3416, section 3); false where the tag is of no value. */
+SNMPSEC_CHECK bool snmpsec_value_is(uint8_t tag, const uint8_t *content, size_t content_len);
 
 /* ---- keys, codes and sealed texts, for programs that spell messages themselves
  *

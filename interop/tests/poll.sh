@@ -20,7 +20,7 @@ test_snmpd_polled() {
         for level in 2 3; do
             rm -f "$work/first"
             check "polls snmpd as $user at level $level" "$described" "$(poll "$work/first" $snmpd_port $user $level)"
-            has "the first time by a report" "report of counter 2" "$(cat "$work/poll.err")"
+            has "the first time by a report" "report of usmStatsNotInTimeWindows" "$(cat "$work/poll.err")"
             check "polls it again, begun anew" "$described" "$(poll "$work/first" $snmpd_port $user $level)"
             check "with what it kept" "" "$(cat "$work/poll.err")"
         done
@@ -30,7 +30,7 @@ test_snmpd_polled() {
     begin_snmpd
     cp "$work/first" "$work/second"
     check "polls snmpd after its restart" "$described" "$(poll "$work/second" $snmpd_port sha 3)"
-    has "by a report" "report of counter 2" "$(cat "$work/poll.err")"
+    has "by a report" "report of usmStatsNotInTimeWindows" "$(cat "$work/poll.err")"
     check "the boots went up" $((boots + 1)) "$(tail -1 "$work/second" | cut -d" " -f2)"
     end_snmpd
 }
@@ -44,7 +44,7 @@ test_merged() {
     check "and in the other order" "$(cat "$work/merged")" "$("$program" merge-clocks "$work/second" "$work/first")"
     begin_snmpd
     poll "$work/merged" $snmpd_port sha 3 > /dev/null
-    has "snmpd, restarted again, is learned again" "report of counter 2" "$(cat "$work/poll.err")"
+    has "snmpd, restarted again, is learned again" "report of usmStatsNotInTimeWindows" "$(cat "$work/poll.err")"
     end_snmpd
     check "polls the example agent with the merged clocks" "$polled" "$(poll "$work/merged" $port sha256 3)"
     check "which need no report" "" "$(cat "$work/poll.err")"

@@ -1,13 +1,15 @@
 //! An agent.
 
 use crate::calls::{
-    self, snmpsec_agent_access, snmpsec_agent_counters, snmpsec_agent_free, snmpsec_agent_info,
-    snmpsec_agent_message, snmpsec_agent_new, snmpsec_agent_notify, snmpsec_agent_part,
-    snmpsec_agent_respond, snmpsec_agent_take, snmpsec_agent_user_access,
+    self, snmpsec_agent_access, snmpsec_agent_counters, snmpsec_agent_counts, snmpsec_agent_free,
+    snmpsec_agent_info, snmpsec_agent_max_size, snmpsec_agent_message, snmpsec_agent_new,
+    snmpsec_agent_notify, snmpsec_agent_part, snmpsec_agent_refuse, snmpsec_agent_respond,
+    snmpsec_agent_respond_within, snmpsec_agent_silent_drop, snmpsec_agent_take,
+    snmpsec_agent_unhandled, snmpsec_agent_user_access, snmpsec_status_of,
 };
 use crate::fault::{done, Error};
 use crate::held::{Calls, Held};
-use crate::words::{Access, Info, Level, Part, View};
+use crate::words::{Access, Info, Level, Part, Pdu, Status, Unhandled, View};
 
 static CALLS: Calls = Calls {
     free: snmpsec_agent_free,
@@ -43,6 +45,26 @@ pub struct Counters {
     pub unknown_engines: u32,
     pub wrong_digests: u32,
     pub decryption_errors: u32,
+}
+
+/// How often a message wasn't answered, or was refused without a report (RFC 3412, section 5; RFC 3413, section 4.1.2; RFC 3418).
+#[derive(Clone, Copy, Debug, PartialEq, Eq)]
+pub struct Counts {
+    pub unknown_pdu_handlers: u32,
+    pub unavailable_contexts: u32,
+    pub unknown_contexts: u32,
+    pub bad_versions: u32,
+    pub asn_parse_errors: u32,
+    pub unknown_security_models: u32,
+    pub invalid_messages: u32,
+    pub silent_drops: u32,
+}
+
+/// What becomes of a variable, by the answer on access and the PDU that asks (RFC 3413, section 3.2).
+pub fn status_of(access: Access, pdu: Pdu) -> Result<Status, Error> {
+    let mut status = 0;
+    done(unsafe { snmpsec_status_of(access as u32, pdu as u32, &mut status) })?;
+    Status::of(status).ok_or(Error::Other(status as i32))
 }
 
 /// Whether a call answers that access is allowed, or why not.
@@ -146,6 +168,74 @@ impl Agent {
                 bindings.len(),
                 salt,
             )
+        })
+    }
+
+    /// The same where it has at most `limit` octets; else it is refused as TooLarge. A Response without bindings fits into 484.
+    pub fn respond_within(
+        &mut self,
+        now: u64,
+        error_status: u32,
+        error_index: u32,
+        bindings: &[u8],
+        salt: u64,
+        limit: u32,
+    ) -> Result<(), Error> {
+        done(unsafe {
+            snmpsec_agent_respond_within(
+                self.held.at(),
+                now,
+                error_status,
+                error_index,
+                bindings.as_ptr(),
+                bindings.len(),
+                salt,
+                limit,
+            )
+        })
+    }
+
+    /// How many octets the sender of what is kept takes, 484 to 2147483647 (msgMaxSize).
+    pub fn max_size(&self) -> Result<u32, Error> {
+        let mut size = 0;
+        done(unsafe { snmpsec_agent_max_size(self.held.at(), &mut size) })?;
+        Ok(size)
+    }
+
+    /// Why nothing answers what is kept, or None where it is to be answered.
+    pub fn unhandled(&self) -> Result<Option<Unhandled>, Error> {
+        let mut why = 0;
+        done(unsafe { snmpsec_agent_unhandled(self.held.at(), &mut why) })?;
+        if why == 0 {
+            return Ok(None);
+        }
+        let why = Unhandled::of(why).ok_or(Error::Other(why as i32))?;
+        Ok(Some(why))
+    }
+
+    /// Counts what is kept as one that isn't answered, and writes the report on it, where its PDU asks for an answer.
+    pub fn refuse(&mut self, now: u64, why: Unhandled, salt: u64) -> Result<(), Error> {
+        done(unsafe { snmpsec_agent_refuse(self.held.at(), now, why as u32, salt) })
+    }
+
+    /// Counts what is kept in snmpSilentDrops: even its answer without bindings is too long (RFC 3416, section 4.2.1).
+    pub fn silent_drop(&mut self) -> Result<(), Error> {
+        done(unsafe { snmpsec_agent_silent_drop(self.held.at()) })
+    }
+
+    /// The counters of messages that weren't answered, or were refused without a report.
+    pub fn counts(&self) -> Result<Counts, Error> {
+        let mut n = calls::Counts::default();
+        done(unsafe { snmpsec_agent_counts(self.held.at(), &mut n) })?;
+        Ok(Counts {
+            unknown_pdu_handlers: n.unknown_pdu_handlers,
+            unavailable_contexts: n.unavailable_contexts,
+            unknown_contexts: n.unknown_contexts,
+            bad_versions: n.bad_versions,
+            asn_parse_errors: n.asn_parse_errors,
+            unknown_security_models: n.unknown_security_models,
+            invalid_messages: n.invalid_messages,
+            silent_drops: n.silent_drops,
         })
     }
 

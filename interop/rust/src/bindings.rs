@@ -1,6 +1,6 @@
 //! Variable bindings, as octets.
 
-use crate::calls::{snmpsec_binding_read, snmpsec_binding_write, BindingRead};
+use crate::calls::{snmpsec_binding_read, snmpsec_binding_write, snmpsec_value_is, BindingRead};
 use crate::fault::{done, Error};
 use crate::held::copied;
 
@@ -55,4 +55,9 @@ pub fn bindings(list: &[u8]) -> Result<Vec<Binding<'_>>, Error> {
         found.push(read(list, &mut at)?);
     }
     Ok(found)
+}
+
+/// Whether this is the content of a value with this tag (RFC 2578, section 7.1; RFC 3416, section 3).
+pub fn value_is(tag: u8, content: &[u8]) -> bool {
+    unsafe { snmpsec_value_is(tag, content.as_ptr(), content.len()) }
 }

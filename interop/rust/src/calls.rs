@@ -54,6 +54,28 @@ pub struct Counters {
 
 #[repr(C)]
 #[derive(Default)]
+pub struct Counts {
+    pub unknown_pdu_handlers: u32,
+    pub unavailable_contexts: u32,
+    pub unknown_contexts: u32,
+    pub bad_versions: u32,
+    pub asn_parse_errors: u32,
+    pub unknown_security_models: u32,
+    pub invalid_messages: u32,
+    pub silent_drops: u32,
+}
+
+#[repr(C)]
+#[derive(Default)]
+pub struct Report {
+    pub counter: i32,
+    pub value: u32,
+    pub has_value: bool,
+    pub is_authenticated: bool,
+}
+
+#[repr(C)]
+#[derive(Default)]
 pub struct Reply {
     pub kind: u32,
     pub counter: i32,
@@ -175,6 +197,22 @@ extern "C" {
         len: usize,
         salt: u64,
     ) -> i32;
+    pub fn snmpsec_agent_respond_within(
+        agent: *mut Opaque,
+        now: u64,
+        error_status: u32,
+        error_index: u32,
+        list: *const u8,
+        len: usize,
+        salt: u64,
+        limit: u32,
+    ) -> i32;
+    pub fn snmpsec_agent_max_size(agent: *mut Opaque, out: *mut u32) -> i32;
+    pub fn snmpsec_agent_unhandled(agent: *mut Opaque, out: *mut u32) -> i32;
+    pub fn snmpsec_agent_refuse(agent: *mut Opaque, now: u64, why: u32, salt: u64) -> i32;
+    pub fn snmpsec_agent_silent_drop(agent: *mut Opaque) -> i32;
+    pub fn snmpsec_agent_counts(agent: *mut Opaque, out: *mut Counts) -> i32;
+    pub fn snmpsec_status_of(access: u32, pdu: u32, out: *mut u32) -> i32;
     pub fn snmpsec_agent_notify(agent: *mut Opaque, now: u64, notice: *const Notice<'_>) -> i32;
     pub fn snmpsec_agent_counters(agent: *mut Opaque, out: *mut Counters) -> i32;
     pub fn snmpsec_manager_new(
@@ -207,6 +245,9 @@ extern "C" {
         written: *mut usize,
     ) -> i32;
     pub fn snmpsec_manager_reply(manager: *mut Opaque, out: *mut Reply) -> i32;
+    pub fn snmpsec_manager_take_reply(manager: *mut Opaque, out: *mut Reply) -> i32;
+    pub fn snmpsec_manager_report(manager: *mut Opaque, out: *mut Report) -> i32;
+    pub fn snmpsec_manager_max_size(manager: *mut Opaque, out: *mut u32) -> i32;
     pub fn snmpsec_manager_discover(manager: *mut Opaque, message_id: u32) -> i32;
     pub fn snmpsec_manager_request(
         manager: *mut Opaque,
@@ -247,6 +288,7 @@ extern "C" {
         len: usize,
         written: *mut usize,
     ) -> i32;
+    pub fn snmpsec_value_is(tag: u8, content: *const u8, len: usize) -> bool;
     pub fn snmpsec_password_key(
         protocol: u32,
         password: *const u8,

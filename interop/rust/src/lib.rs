@@ -78,13 +78,13 @@ mod keys;
 mod manager;
 mod words;
 
-pub use agent::{Agent, Counters, Notification};
-pub use bindings::{binding, bindings, Binding};
+pub use agent::{status_of, Agent, Counters, Counts, Notification};
+pub use bindings::{binding, bindings, value_is, Binding};
 pub use config::{config_fault, ConfigFault, ConfigReason, ConfigTable};
 pub use fault::{Error, Refusal};
 pub use keys::{localise, mac, open, password_key, seal, wipe, Protocol};
-pub use manager::{Clock, Manager, Reply, Request};
-pub use words::{Access, Info, Level, Part, Pdu, View};
+pub use manager::{Clock, Manager, Reply, Report, Request};
+pub use words::{Access, Info, Level, Part, Pdu, Status, Unhandled, View};
 
 /// The version of the library that is loaded.
 pub fn version() -> String {

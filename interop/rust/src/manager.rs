@@ -2,9 +2,10 @@
 
 use crate::calls::{
     self, snmpsec_manager_absorb, snmpsec_manager_clock, snmpsec_manager_discover,
-    snmpsec_manager_free, snmpsec_manager_info, snmpsec_manager_message, snmpsec_manager_new,
-    snmpsec_manager_part, snmpsec_manager_reply, snmpsec_manager_request, snmpsec_manager_save,
-    snmpsec_manager_take,
+    snmpsec_manager_free, snmpsec_manager_info, snmpsec_manager_max_size, snmpsec_manager_message,
+    snmpsec_manager_new, snmpsec_manager_part, snmpsec_manager_reply, snmpsec_manager_report,
+    snmpsec_manager_request, snmpsec_manager_save, snmpsec_manager_take,
+    snmpsec_manager_take_reply,
 };
 use crate::fault::{done, Error};
 use crate::held::{copied, Calls, Held};
@@ -42,6 +43,17 @@ impl Reply {
             _ => None,
         }
     }
+}
+
+/// What a Report tells.
+#[derive(Clone, Copy, Debug, PartialEq, Eq)]
+pub struct Report {
+    /// 1 to 6 by the order of [`Counters`](crate::Counters), a number of [`Unhandled`](crate::Unhandled), or none of them.
+    pub counter: Option<u32>,
+    /// The counter's value.
+    pub value: Option<u32>,
+    /// It came with authentication; without, it can be anybody's.
+    pub is_authenticated: bool,
 }
 
 /// The boots and time of an engine, in seconds.
@@ -111,6 +123,31 @@ impl Manager {
         let mut reply = calls::Reply::default();
         done(unsafe { snmpsec_manager_reply(self.held.at(), &mut reply) })?;
         Reply::of(&reply).ok_or(Error::Other(reply.counter))
+    }
+
+    /// The same, and where it is the Response the request isn't waited for any more.
+    pub fn take_reply(&mut self) -> Result<Reply, Error> {
+        let mut reply = calls::Reply::default();
+        done(unsafe { snmpsec_manager_take_reply(self.held.at(), &mut reply) })?;
+        Reply::of(&reply).ok_or(Error::Other(reply.counter))
+    }
+
+    /// What is kept tells. The error is NothingTaken, where it is no Report on the request that was written last.
+    pub fn report(&self) -> Result<Report, Error> {
+        let mut report = calls::Report::default();
+        done(unsafe { snmpsec_manager_report(self.held.at(), &mut report) })?;
+        Ok(Report {
+            counter: u32::try_from(report.counter).ok().filter(|n| *n > 0),
+            value: report.has_value.then_some(report.value),
+            is_authenticated: report.is_authenticated,
+        })
+    }
+
+    /// How many octets the sender of what is kept takes, 484 to 2147483647 (msgMaxSize).
+    pub fn max_size(&self) -> Result<u32, Error> {
+        let mut size = 0;
+        done(unsafe { snmpsec_manager_max_size(self.held.at(), &mut size) })?;
+        Ok(size)
     }
 
     /// Writes the request by which an engine is discovered.

@@ -47,6 +47,57 @@ pub enum Access {
     NoSuchContext = 5,
 }
 
+/// Why nothing answers a message (RFC 3412, section 4.2.2; RFC 3413, section 3.2).
+#[derive(Clone, Copy, Debug, PartialEq, Eq)]
+pub enum Unhandled {
+    /// It is a Response or a Report, and no request waits for it.
+    NoRequest = 1,
+    /// Its contextEngineID isn't the agent's, or its PDU is no Get, GetNext, Set or GetBulk.
+    UnknownPduHandlers = 7,
+    /// Its context can't be reached now, which an agent says by itself.
+    UnavailableContexts = 8,
+    /// No context has its name.
+    UnknownContexts = 9,
+}
+
+impl Unhandled {
+    pub(crate) fn of(number: u32) -> Option<Unhandled> {
+        let all = [
+            Unhandled::NoRequest,
+            Unhandled::UnknownPduHandlers,
+            Unhandled::UnavailableContexts,
+            Unhandled::UnknownContexts,
+        ];
+        all.into_iter().find(|why| *why as u32 == number)
+    }
+}
+
+/// What becomes of a variable (RFC 3413, section 3.2): it is answered, an error-status, the value noSuchObject, a walk goes on behind it, or
+/// the message is refused as of an unknown context.
+#[derive(Clone, Copy, Debug, PartialEq, Eq)]
+pub enum Status {
+    NoError = 0,
+    NoAccess = 6,
+    AuthorizationError = 16,
+    NoSuchObject = 128,
+    NotSeen = 256,
+    UnknownContext = 257,
+}
+
+impl Status {
+    pub(crate) fn of(number: u32) -> Option<Status> {
+        let all = [
+            Status::NoError,
+            Status::NoAccess,
+            Status::AuthorizationError,
+            Status::NoSuchObject,
+            Status::NotSeen,
+            Status::UnknownContext,
+        ];
+        all.into_iter().find(|status| *status as u32 == number)
+    }
+}
+
 impl Access {
     pub(crate) fn of(number: u32) -> Option<Access> {
         let all = [

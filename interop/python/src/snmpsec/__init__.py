@@ -40,10 +40,10 @@ from . import _library
 from ._library import CALLS, Octets as _Slice
 
 __version__ = "0.1.0"
-__all__ = ["Access", "Agent", "AuthProtocol", "BadArgument", "BadBindings", "BadClocks", "BadConfiguration", "Binding", "Clock", "ConfigFault", "ConfigKey",
-           "ConfigReason", "ConfigTable", "Counters", "Error", "Info",
-           "LARGEST", "Level", "Manager", "NO_CLOCKS", "NotAsked", "NothingTaken", "Part", "Pdu", "Refusal", "Refused", "Reply", "View", "binding", "bindings", "config_fault",
-           "localise", "mac", "open_text", "password_key", "seal_text", "version"]
+__all__ = ["Access", "Agent", "AuthProtocol", "BadArgument", "BadBindings", "BadClocks", "BadConfiguration", "Binding", "Clock", "ConfigFault",
+           "ConfigKey", "ConfigReason", "ConfigTable", "Counters", "Counts", "Error", "Info", "LARGEST", "Level", "Manager", "NO_CLOCKS",
+           "NotAsked", "NothingTaken", "Part", "Pdu", "Refusal", "Refused", "Reply", "Report", "Status", "Unhandled", "View", "binding",
+           "bindings", "config_fault", "localise", "mac", "open_text", "password_key", "seal_text", "status_of", "value_is", "version"]
 
 Buffer = Union[bytes, bytearray, memoryview]
 Path = Union[str, "os.PathLike[str]"]
@@ -75,6 +75,27 @@ class Access(IntEnum):
 
     def __bool__(self) -> bool:
         return self is Access.ALLOWED
+
+
+class Unhandled(IntEnum):
+    """Why nothing answers a message (RFC 3412, section 4.2.2; RFC 3413, section 3.2)."""
+
+    HANDLED = 0
+    NO_REQUEST = 1
+    UNKNOWN_PDU_HANDLERS = 7
+    UNAVAILABLE_CONTEXTS = 8
+    UNKNOWN_CONTEXTS = 9
+
+
+class Status(IntEnum):
+    """What becomes of a variable (RFC 3413, section 3.2): an error-status, the exception's tag, or one that no message has."""
+
+    NO_ERROR = 0
+    NO_ACCESS = 6
+    AUTHORIZATION_ERROR = 16
+    NO_SUCH_OBJECT = 128
+    NOT_SEEN = 256
+    UNKNOWN_CONTEXT = 257
 
 
 class Pdu(IntEnum):
@@ -248,6 +269,28 @@ class Counters(NamedTuple):
     decryption_errors: int
 
 
+class Counts(NamedTuple):
+    """Messages that weren't answered, or were refused without a report (RFC 3412, section 5; RFC 3413, section 4.1.2; RFC 3418)."""
+
+    unknown_pdu_handlers: int
+    unavailable_contexts: int
+    unknown_contexts: int
+    bad_versions: int
+    asn_parse_errors: int
+    unknown_security_models: int
+    invalid_messages: int
+    silent_drops: int
+
+
+class Report(NamedTuple):
+    """What a Report tells: its counter (1 to 6 as in Counters, the numbers of Unhandled, 0 of none), the counter's value where it has one, and
+    whether it came with authentication; without, it can be anybody's."""
+
+    counter: int
+    value: Optional[int]
+    is_authenticated: bool
+
+
 class Reply(NamedTuple):
     """What a message is to the request: its Response, a Report of a counter (1 to 6 as in Counters, 0 of none), or neither."""
 
@@ -377,6 +420,18 @@ def _bindings(octets: bytes) -> Iterator[Binding]:
         yield Binding(tuple(one.arcs[: one.arcs_len]), one.tag, octets[place : place + one.content_len])
 
 
+def value_is(tag: int, content: Buffer) -> bool:
+    """Whether this is the content of a value with this tag (RFC 2578, section 7.1; RFC 3416, section 3)."""
+    return bool(CALLS["value_is"](_ranged(tag, 8), *_octets(content)))
+
+
+def status_of(access: Access, pdu: Pdu) -> Status:
+    """What becomes of a variable, by the answer on access and the PDU that asks (RFC 3413, section 3.2)."""
+    out = _library.Enumeration()
+    _done(CALLS["status_of"](access, pdu, ctypes.byref(out)))
+    return Status(out.value)
+
+
 def password_key(protocol: AuthProtocol, password: Buffer) -> bytes:
     """The key of a password, the same for all engines (RFC 3414, section A.2; RFC 7860, section 5). The password has 8 octets or more."""
     return _copied(CALLS["password_key"], protocol, *_octets(password), room=LARGEST_KEY)
@@ -477,6 +532,16 @@ class _Held:
             return None
 
 
+    def max_size(self) -> Optional[int]:
+        """How many octets the sender of what is kept takes (msgMaxSize), or None."""
+        out = _library.Written()
+        try:
+            _done(self._call("max_size", ctypes.byref(out)))
+        except NothingTaken:
+            return None
+        return out.value
+
+
 class Agent(_Held):
     """An agent of a configuration in TOML, with its engine ID and boots, that started at a moment in seconds."""
 
@@ -508,6 +573,31 @@ class Agent(_Held):
         """Writes the Response to what is kept, as the message."""
         _done(self._call("respond", _ranged(now, 64), _ranged(error_status), _ranged(error_index), *_octets(octets), _ranged(salt, 64)))
 
+    def respond_within(self, now: int, octets: Buffer, salt: int, limit: int, error_status: int = 0, error_index: int = 0) -> None:
+        """The same where it has at most `limit` octets; else it is Refused as TOO_LARGE. A Response without bindings fits into 484."""
+        _done(self._call("respond_within", _ranged(now, 64), _ranged(error_status), _ranged(error_index), *_octets(octets), _ranged(salt, 64),
+                         _ranged(limit)))
+
+    def unhandled(self) -> Optional[Unhandled]:
+        """Why nothing answers what is kept, or None where it is to be answered (RFC 3412, section 4.2.2; RFC 3413, section 3.2)."""
+        out = _library.Enumeration()
+        _done(self._call("unhandled", ctypes.byref(out)))
+        why = Unhandled(out.value)
+        return None if why == Unhandled.HANDLED else why
+
+    def refuse(self, now: int, why: Unhandled, salt: int) -> None:
+        """Counts what is kept as one that isn't answered, and writes the report on it, where its PDU asks for an answer."""
+        _done(self._call("refuse", _ranged(now, 64), why, _ranged(salt, 64)))
+
+    def silent_drop(self) -> None:
+        """Counts what is kept in snmpSilentDrops: even its answer without bindings is too long (RFC 3416, section 4.2.1)."""
+        _done(self._call("silent_drop"))
+
+    def counts(self) -> Counts:
+        out = _library.Counts()
+        _done(self._call("counts", ctypes.byref(out)))
+        return Counts(*(getattr(out, name) for name, _ in out._fields_))
+
     def notify(self, now: int, *, user: Buffer, level: Level, octets: Buffer, salt: int, message_id: int, request_id: int,
                context_engine: Buffer, context_name: Buffer = b"") -> None:
         """Writes an SNMPv2-Trap, as the message."""
@@ -535,9 +625,25 @@ class Manager(_Held):
 
     def reply(self) -> Optional[Reply]:
         """What is kept is to the request that was written last; None where nothing is kept or nothing was asked."""
+        return self._reply("reply")
+
+    def take_reply(self) -> Optional[Reply]:
+        """The same, and where it is the Response the request isn't waited for any more."""
+        return self._reply("take_reply")
+
+    def report(self) -> Optional[Report]:
+        """What is kept tells, where it is a Report on the request that was written last."""
+        out = _library.Report()
+        try:
+            _done(self._call("report", ctypes.byref(out)))
+        except NothingTaken:
+            return None
+        return Report(out.counter, out.value if out.has_value else None, out.is_authenticated)
+
+    def _reply(self, call: str) -> Optional[Reply]:
         out = _library.Reply()
         try:
-            _done(self._call("reply", ctypes.byref(out)))
+            _done(self._call(call, ctypes.byref(out)))
         except NothingTaken:
             return None
         return Reply(out.kind == 0, out.counter if out.kind == 2 else None)

@@ -4,7 +4,7 @@ Here c_char_p is octets that are read, POINTER(c_char) room that is written, and
 import ctypes
 import os
 import pathlib
-from ctypes import POINTER, c_char, c_char_p, c_int, c_size_t, c_uint, c_uint8, c_uint32, c_uint64, c_void_p
+from ctypes import POINTER, c_bool, c_char, c_char_p, c_int, c_size_t, c_uint, c_uint8, c_uint32, c_uint64, c_void_p
 
 SONAME = "libsnmpsec.so.0"
 
@@ -19,6 +19,10 @@ class Enumeration(c_uint):
     """One of an enumeration, which is written."""
 
 
+class Written(c_uint32):
+    """A number, which is written."""
+
+
 class Octets(ctypes.Structure):
     _fields_ = [("at", c_char_p), ("len", c_size_t)]
 
@@ -30,6 +34,15 @@ class Info(ctypes.Structure):
 class Counters(ctypes.Structure):
     _fields_ = [(name, c_uint32) for name in ("unsupported_levels", "not_in_windows", "unknown_users", "unknown_engines", "wrong_digests",
                                               "decryption_errors")]
+
+
+class Counts(ctypes.Structure):
+    _fields_ = [(name, c_uint32) for name in ("unknown_pdu_handlers", "unavailable_contexts", "unknown_contexts", "bad_versions", "asn_parse_errors",
+                                              "unknown_security_models", "invalid_messages", "silent_drops")]
+
+
+class Report(ctypes.Structure):
+    _fields_ = [("counter", c_int), ("value", c_uint32), ("has_value", c_bool), ("is_authenticated", c_bool)]
 
 
 class Reply(ctypes.Structure):
@@ -67,6 +80,7 @@ _kept = {
     "info": (c_int, [c_void_p, POINTER(Info)]),
     "part": (c_int, [c_void_p, c_uint] + _out),
     "message": (c_int, [c_void_p] + _out),
+    "max_size": (c_int, [c_void_p, POINTER(Written)]),
 }
 SIGNATURES = {
     "version": (c_char_p, []),
@@ -77,10 +91,18 @@ SIGNATURES = {
     "agent_access": (c_int, [c_void_p, c_uint] + _arcs + [POINTER(Enumeration)]),
     "agent_user_access": (c_int, [c_void_p, Octets, c_uint, Octets, c_uint] + _arcs + [POINTER(Enumeration)]),
     "agent_respond": (c_int, [c_void_p, c_uint64, c_uint32, c_uint32] + _slice + [c_uint64]),
+    "agent_respond_within": (c_int, [c_void_p, c_uint64, c_uint32, c_uint32] + _slice + [c_uint64, c_uint32]),
+    "agent_unhandled": (c_int, [c_void_p, POINTER(Enumeration)]),
+    "agent_refuse": (c_int, [c_void_p, c_uint64, c_uint, c_uint64]),
+    "agent_silent_drop": (c_int, [c_void_p]),
     "agent_notify": (c_int, [c_void_p, c_uint64, POINTER(Notice)]),
     "agent_counters": (c_int, [c_void_p, POINTER(Counters)]),
+    "agent_counts": (c_int, [c_void_p, POINTER(Counts)]),
+    "status_of": (c_int, [c_uint, c_uint, POINTER(Enumeration)]),
     "manager_new": (c_int, _slice * 2 + [c_uint64, POINTER(c_void_p)]),
     "manager_reply": (c_int, [c_void_p, POINTER(Reply)]),
+    "manager_take_reply": (c_int, [c_void_p, POINTER(Reply)]),
+    "manager_report": (c_int, [c_void_p, POINTER(Report)]),
     "manager_discover": (c_int, [c_void_p, c_uint32]),
     "manager_request": (c_int, [c_void_p, c_uint64, POINTER(Request)]),
     "manager_absorb": (c_int, [c_void_p] + _slice + [c_uint64]),
@@ -88,6 +110,7 @@ SIGNATURES = {
     "manager_clock": (c_int, [c_void_p] + _slice + [POINTER(Clock)]),
     "binding_read": (c_int, _slice + [POINTER(c_size_t), POINTER(BindingRead)]),
     "binding_write": (c_int, _arcs + [c_uint8] + _slice + _out),
+    "value_is": (c_bool, [c_uint8] + _slice),
     "password_key": (c_int, [c_uint] + _slice + _out),
     "localise": (c_int, [c_uint] + _slice * 2 + _out),
     "mac": (c_int, [c_uint] + _slice * 2 + [c_size_t] + _slice + _out),
