@@ -21,10 +21,10 @@ for part in api heap wipe words; do
     $cc -fPIC -fvisibility=hidden -Wconversion "$@" -c "$here/$part.c" -o "$out/$part.o"
     library="$library $out/$part.o"
 done
-for part in files words_of table config_told; do
+for part in files words_of table config_told answer; do
     $cc -Wconversion "$@" -c "$here/$part.c" -o "$out/$part.o"
 done
-beside="$out/files.o $out/words_of.o $out/table.o $out/config_told.o"
+beside="$out/files.o $out/words_of.o $out/table.o $out/config_told.o $out/answer.o"
 for program in agent poll; do
     $cc -Wconversion "$@" "$here/$program.c" $beside $library -o "$out/$program"
 done

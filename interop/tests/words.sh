@@ -29,7 +29,7 @@ test_words() {
         refused_words "poll: $name: not a name in dotted decimal" "$programs/poll" "$examples/agent.toml" "$work/c" "$port" sha 2 "$name"
     done
     refused_words "poll: 3.1: an argument is outside of its range" "$programs/poll" "$examples/agent.toml" "$work/c" "$port" sha 2 3.1
-    refused_words "agent [--must-exist] CONFIG TABLE ENGINE-ID BOOTS-FILE PORT [TRAP-PORT USER LEVEL]" "$programs/agent" x
+    refused_words "agent [--must-exist] [--long-answers] CONFIG TABLE ENGINE-ID BOOTS-FILE PORT [TRAP-PORT USER LEVEL]" "$programs/agent" x
     refused_words "poll [--must-exist] CONFIG CLOCKS-FILE PORT USER LEVEL OID.." "$programs/poll" x
     check "no boots were taken" "" "$(ls "$work" | grep -E '^b(\.|$)')"
     check "the version" "$(sed -n 's/#define SNMPSEC_VERSION "\(.*\)"/\1/p' "$here/include/snmpsec.h")" "$("$programs/agent" --version)"
