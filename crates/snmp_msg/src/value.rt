@@ -1,7 +1,8 @@
 //! The values of variables, by their tags (RFC 3416, section 3; RFC 2578, section 7.1).
 
-ghost use Rattle.std.specs.Prelude.{◌≡◌, ◌↔◌, IsTrue};
-ghost use Rattle.snmp_msg.specs.Values.{syntax_of, IsSpelledAs, IsValueOf};
+ghost use Rattle.std.specs.Prelude.{◌≡◌, ◌↔◌, ℤ, IsTrue};
+ghost use Rattle.snmp_ber.specs.Number.{IsInteger32};
+ghost use Rattle.snmp_msg.specs.Values.{syntax_of, IsNumber32, IsSpelledAs, IsValueOf};
 
 use snmp_ber::{is_oid, is_unsigned64, read_int, read_unsigned};
 
@@ -39,6 +40,20 @@ pub enum Syntax {
     EndOfMibView,
 }
 
+/// Whether the content is of a number of 32 bits with sign.
+fn is_integer32(content: &[u8]) -> bool
+    ensures { IsTrue result ↔ ((n : ℤ) × IsInteger32 n content.now) }
+{
+    read_int(content).is_some()
+}
+
+/// Whether the content is of a number of 32 bits without sign.
+fn is_number32(content: &[u8]) -> bool
+    ensures { IsTrue result ↔ IsNumber32 content.now }
+{
+    read_unsigned(content).is_some()
+}
+
 impl Syntax {
     /// The syntax of this tag.
     pub fn of(tag: u8) -> Option<Syntax>
@@ -68,13 +83,11 @@ impl Syntax {
         ensures { IsTrue result ↔ IsSpelledAs self content.now }
     {
         match self {
-            Syntax::Integer32 => read_int(content).is_some(),
+            Syntax::Integer32 => is_integer32(content),
             Syntax::OctetString | Syntax::Opaque => content.len() <= LONGEST_STRING,
             Syntax::ObjectIdentifier => is_oid(content),
             Syntax::IpAddress => content.len() == 4,
-            Syntax::Counter32 | Syntax::Unsigned32 | Syntax::TimeTicks => {
-                read_unsigned(content).is_some()
-            }
+            Syntax::Counter32 | Syntax::Unsigned32 | Syntax::TimeTicks => is_number32(content),
             Syntax::Counter64 => is_unsigned64(content),
             Syntax::Null
             | Syntax::NoSuchObject
