@@ -104,22 +104,22 @@ fits_in k n (x ∷ y ∷ xs) fewest is below =
     elim (cases_lt k (suc (suc (length xs)))) [
       | inr few ↦ inl few
       | inl many ↦ elim (cases_lt 0 x) [
-          | inl first ↦
-              let least = above_power k x (y ∷ xs) (omega (arith, first)) (omega (arith, many)) in
-              let same = number_after x (y ∷ xs) in
-              absurd (omega (arith, least, same, is, below))
-          | inr none ↦
-              let zero_first : x ≡ 0 = omega (arith, none) in
-              let second : 128 ≤ y = elim (cases_lt y 128) [ | inl low ↦ absurd (fewest.0 zero_first low) | inr le ↦ le ] in
-              let number_rest : number (y ∷ xs) ≡ n = subst (λ h. number (h ∷ y ∷ xs) ≡ n) zero_first is in
-              elim (cases_lt k (suc (length xs))) [
-                | inl too_many ↦
-                    let least = above_power k y xs (omega (arith, second)) (omega (arith, too_many)) in
-                    let same = number_after y xs in
-                    absurd (omega (arith, least, same, number_rest, below))
-                | inr exactly ↦ inr (omega (arith, many, exactly), zero_first)
-              ]
-        ]
+        | inl first ↦
+            let least = above_power k x (y ∷ xs) (omega (arith, first)) (omega (arith, many)) in
+            let same = number_after x (y ∷ xs) in
+            absurd (omega (arith, least, same, is, below))
+        | inr none ↦
+            let zero_first : x ≡ 0 = omega (arith, none) in
+            let second : 128 ≤ y = elim (cases_lt y 128) [ inl low ↦ absurd (fewest.0 zero_first low) | inr le ↦ le ] in
+            let number_rest : number (y ∷ xs) ≡ n = subst (λ h. number (h ∷ y ∷ xs) ≡ n) zero_first is in
+            elim (cases_lt k (suc (length xs))) [
+              | inl too_many ↦
+                  let least = above_power k y xs (omega (arith, second)) (omega (arith, too_many)) in
+                  let same = number_after y xs in
+                  absurd (omega (arith, least, same, number_rest, below))
+              | inr exactly ↦ inr (omega (arith, many, exactly), zero_first)
+            ]
+      ]
     ]
 
 pub unsigned_only : (k n : ℕ) (content : List ℕ) → AreOctets content → IsUnsigned k n content → IsFewest content × (get_or content 0 0 < 128) × FitsIn k content × (number content ≡ n)

@@ -8,7 +8,7 @@ use Rattle.snmp_held.specs.Faults.{code, fault_code}
 use Rattle.snmp_held.specs.declared.fault.CallFault.{CallFault}
 use Rattle.snmp_held.specs.declared.fault.CallFault.TheVariants.{Refused, BadArgument, NothingTaken, NotAsked, BadBindings, ShortBuffer, BadConfiguration, BadClocks}
 
-pub if_told : (refusal : Option (Result (List ℕ) ℕ)) (Says : Result (List ℕ) ℕ → Type 0) → ((a : Result (List ℕ) ℕ) → refusal ≡ Some a → Says a) → IfSome refusal Says
+pub if_told : {A : Type 0} (refusal : Option A) (Says : A → Type 0) → ((a : A) → refusal ≡ Some a → Says a) → IfSome refusal Says
 if_told None Says says = tt
 if_told (Some a) Says says = says a refl
 

@@ -100,3 +100,9 @@ ReportsHeld old now why salt (Ok done) new =
     (g : Given) × (report : Option (List ℕ)) × (agent : AgentState) × (old.last ≡ Some g) × Reports old.agent now g why salt (Ok report) agent
     × (new ≡ record old { agent = agent; message = report })
 ReportsHeld old now why salt (Err fault) new = StopsReport old now why salt fault × (new ≡ old)
+
+-- between the functions: the same of what is kept, before it is left to be sent
+abbrev pub AnswersReport : AgentState → ℕ → Given → Unhandled → List ℕ → Result (Option (Vec ℕ)) CallFault → AgentState → Type 0
+AnswersReport old now g why salt (Ok report) new = Reports old now g why salt (Ok (option_map (λ v. v.items) report)) new
+AnswersReport old now g why salt (Err (Refused fault)) new = IfSome (report_refusal fault) (λ answer. Reports old now g why salt answer old)
+AnswersReport old now g why salt (Err _) new = ⊥

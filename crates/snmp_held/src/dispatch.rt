@@ -1,12 +1,12 @@
 //! What an agent does with what it accepted, besides answering it: how long the answer may be, whether anything answers it at all,
 //! the report where nothing does, and the counters (RFC 3412, sections 4.2.2 and 7.1; RFC 3413, section 3.2; RFC 3416, section 4.2).
 
-ghost use Rattle.std.specs.Prelude.{◌≡◌, ◌≤◌, Some};
+ghost use Rattle.std.specs.Prelude.{◌≡◌, ◌≤◌, OnErr, Some};
 ghost use Rattle.std.specs.Int.{to_be_bytes, w64};
 ghost use Rattle.snmp_agent.specs.Counts.{count_at, one_more};
 ghost use Rattle.snmp_agent.specs.Dispatch.{HandledBy, Refuses};
 ghost use Rattle.snmp_sending.specs.declared.counter.Counter.TheVariants.{SilentDrops};
-ghost use Rattle.snmp_held.specs.Dispatch.{TellsMaxSize, RespondsHeldWithin, AnswersWithin, IsHandled, TellsUnhandled, ReportsHeld};
+ghost use Rattle.snmp_held.specs.Dispatch.{TellsMaxSize, RespondsHeldWithin, AnswersWithin, AnswersReport, IsHandled, TellsUnhandled, ReportsHeld};
 
 use crate::agent::AgentHandle;
 use crate::bindings::bindings_of;
@@ -63,6 +63,24 @@ fn unhandled(agent: &Agent, kept: &Kept) -> Option<Unhandled>
 {
     let taken = kept.taken();
     agent.unhandled(&taken)
+}
+
+/// Counts what was kept as one that isn't answered, and writes the report on it.
+fn refusal(
+    agent: &mut Agent,
+    now: u64,
+    kept: &Kept,
+    why: Unhandled,
+    salt: [u8; 8],
+) -> Result<Option<Vec<u8>>, CallFault>
+    ensures answer { AnswersReport agent.old now kept.now why salt result agent.new }
+    ensures err { OnErr result (agent.new ≡ agent.old) }
+{
+    let taken = kept.taken();
+    match agent.refuse(now, &taken, why, salt) {
+        Ok(report) => Ok(report),
+        Err(fault) => Err(CallFault::Refused(fault)),
+    }
 }
 
 impl AgentHandle {
@@ -135,13 +153,13 @@ impl AgentHandle {
         let Some(kept) = &self.last else {
             return Err(CallFault::NothingTaken);
         };
-        let taken = kept.taken();
-        match self.agent.refuse(now, &taken, why, salt.to_be_bytes()) {
+        let salt = salt.to_be_bytes();
+        match refusal(&mut self.agent, now, kept, why, salt) {
             Ok(report) => {
                 self.message = report;
                 Ok(())
             }
-            Err(fault) => Err(CallFault::Refused(fault)),
+            Err(fault) => Err(fault),
         }
     }
 

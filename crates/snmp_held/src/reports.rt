@@ -38,7 +38,9 @@ impl ManagerHandle {
                 self.pending = None;
                 Ok(Answer::Response)
             }
-            told => told,
+            Ok(Answer::Report(n)) => Ok(Answer::Report(n)),
+            Ok(Answer::NotForIt) => Ok(Answer::NotForIt),
+            Err(fault) => Err(fault),
         }
     }
 

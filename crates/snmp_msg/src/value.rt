@@ -89,10 +89,8 @@ impl Syntax {
             Syntax::IpAddress => content.len() == 4,
             Syntax::Counter32 | Syntax::Unsigned32 | Syntax::TimeTicks => is_number32(content),
             Syntax::Counter64 => is_unsigned64(content),
-            Syntax::Null
-            | Syntax::NoSuchObject
-            | Syntax::NoSuchInstance
-            | Syntax::EndOfMibView => content.is_empty(),
+            Syntax::Null | Syntax::NoSuchObject | Syntax::NoSuchInstance | Syntax::EndOfMibView =>
+                content.is_empty(),
         }
     }
 }

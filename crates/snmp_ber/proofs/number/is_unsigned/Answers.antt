@@ -29,7 +29,7 @@ returns c =
     let are : AreOctets c.args.content.now = λ i. omega (arith, c.type_inv.content i) in
     let none : get_or c.args.content.now 0 0 ≡ 0 = let at_most = c.if-content-gt0.false in omega (arith, at_most) in (
       λ e. let one_more = eqb-true (length c.args.content.now - 1) c.args.most e in let many = c.if-content-most.false in
-      some_unsigned c.args.most c.args.content.now are (search rules) c.if-content-ge128.false (inr (omega (arith, one_more, many), none)),
+          some_unsigned c.args.most c.args.content.now are (search rules) c.if-content-ge128.false (inr (omega (arith, one_more, many), none)),
       λ is. elim (fits_unsigned c.args.most c.args.content.now are is) [
         | inl few ↦ let many = c.if-content-most.false in absurd (omega (arith, few, many))
         | inr more ↦ eq-eqb (length c.args.content.now - 1) c.args.most (let size = more.0 in omega (arith, size))
