@@ -8,17 +8,21 @@
 mod binding;
 mod fault;
 mod laws;
+mod list;
 mod pdu;
+mod variable;
 mod whole;
 
 pub use binding::{Binding, Bindings, VarBind, read_binding};
 pub use fault::CanonFault;
 pub use laws::{canonical_again, one_pdu, one_whole, pdu_written_again};
-pub use pdu::{Pdu, read_pdu, write_pdu};
+pub use list::Spelled;
+pub use pdu::{Pdu, read_pdu, write_pdu, write_pdu_of};
 pub use snmp_message::{
     Cut, Data, Header, LARGEST, Message, MsgFault, Refusal, Scoped, Security, USER_BASED,
     WriteFault, cut, field_filled, longer_whole, message_size, one_content, one_cut, one_message,
     plain_from_data, read_message, read_scoped, read_scoped_front, read_security, whole_slice,
     write_message, write_scoped, write_security, written_again,
 };
+pub use variable::{VariableBinding, VariableBindings};
 pub use whole::{Layer, Layers, canonical, read_layers, write_layers};
