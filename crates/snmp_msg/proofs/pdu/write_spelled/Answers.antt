@@ -1,7 +1,7 @@
-use Rattle.std.proofs.Common.{arith, FitsSigned, w32, ◌≡◌, ◌+◌, ◌≤◌, refl, sym, subst, ap, length, List, ℕ, rules}
+use Rattle.std.proofs.Common.{arith, FitsSigned, w32, ◌≤◌, refl, sym, subst, ap, length, List, ℕ, rules}
 use Rattle.std.specs.Prelude.{map}
 use Rattle.std.proofs.lemmas.Int.{ints}
-use Rattle.snmp_msg.specs.Pdu.{PduText, IsSpelled, AreInRange, PduParts, pdu_of, with_variables, pdu_text}
+use Rattle.snmp_msg.specs.Pdu.{PduText, IsSpelled, AreInRange, pdu_of, with_variables, pdu_text}
 use Rattle.snmp_msg.proofs.Variables.{variables_text-is}
 use Rattle.snmp_msg.proofs.Pdus.{pdu_text-longer, pdu_text-is, spelled_fits, measured_pdu}
 use Rattle.snmp_msg.proofs.pdu.write_spelled.Goals as goal
