@@ -11,6 +11,7 @@ use std::test::Fail;
 mod bindings;
 mod places;
 mod value;
+mod variables;
 
 /// The request that a manager discovers an engine with (RFC 3414, section 4).
 const DISCOVERY: [u8; 58] = [

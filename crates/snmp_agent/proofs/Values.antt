@@ -1,5 +1,5 @@
 -- Counters that were counted.
-use Rattle.std.proofs.Common.{◌≡◌, ℕ, ◌<◌, List, length, arith, subst}
+use Rattle.std.proofs.Common.{◌≡◌, ℕ, ◌<◌, List, length, arith}
 use Rattle.std.specs.Prelude.{Some}
 use Rattle.std.proofs.lemmas.List.{get_or-set_same}
 use Rattle.snmp_sending.specs.declared.counter.Counter.{Counter}

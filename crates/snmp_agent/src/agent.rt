@@ -20,7 +20,7 @@ use crate::report::report;
 use crate::response::{Response, send_response};
 use engine_clock::EngineId;
 use snmp_ber::{Level, Oid};
-use snmp_msg::{Binding, USER_BASED, one_content, one_pdu};
+use snmp_msg::{Binding, Spelled, USER_BASED, one_content, one_pdu};
 use snmp_outcome::{TakeFault, Taken};
 use snmp_sending::{Body, supports};
 use std::alloc::{AllocError, Global};
@@ -238,6 +238,32 @@ impl Agent {
             (response self.old.engine (own_pair self.old.boots self.old.started now) (given_of taken.now) c p status index (map variable_of bindings.now) salt) text.items) }
         ensures same { self.new ≡ self.old }
     {
+        self.respond_of(now, taken, status, index, bindings, salt)
+    }
+
+    /// The same Response, of bindings in any form that can be written: `VariableBinding` is the quick one, with its name's octets, of which only the
+    /// tags are asked.
+    ///
+    /// The errors are those of `respond`, in its order.
+    pub fn respond_of<B: Spelled>(
+        &mut self,
+        now: u64,
+        taken: &Taken<'_>,
+        status: i32,
+        index: i32,
+        bindings: &[B],
+        salt: [u8; 8],
+    ) -> Result<Vec<u8>, TakeFault>
+        requires { All (λ b. B.fits b) bindings.now }
+        ensures answer { (c : Contexts) (p : PduParts) → ScopedFront (text_of taken.now.text) c → PduText c.pdu p
+            → IfSome (send_answer result) (Sends self.old now (λ own. responding self.old.engine own (given_of taken.now) c p status index (map B.says bindings.now) salt)) }
+        ensures memory { (c : Contexts) (p : PduParts) → ScopedFront (text_of taken.now.text) c → PduText c.pdu p → IsErrOf result TakeFault.OutOfMemory
+            → CanBeSent self.old now (λ own. responding self.old.engine own (given_of taken.now) c p status index (map B.says bindings.now) salt) }
+        ensures accepted { (c : Contexts) (p : PduParts) → ScopedFront (text_of taken.now.text) c → PduText c.pdu p
+            → IfOk result (λ text. IsAcceptedByManagers self.old.users
+            (response self.old.engine (own_pair self.old.boots self.old.started now) (given_of taken.now) c p status index (map B.says bindings.now) salt) text.items) }
+        ensures same { self.new ≡ self.old }
+    {
         response_is_accepted();
         let Some(own) = self.engine.pair(now) else {
             return Err(TakeFault::ClockExhausted);
@@ -245,7 +271,6 @@ impl Agent {
         let response = Response {
             status,
             index,
-            bindings,
             salt,
         };
         send_response(
@@ -255,6 +280,7 @@ impl Agent {
             own,
             taken,
             &response,
+            bindings,
         )
     }
 

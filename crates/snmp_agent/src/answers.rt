@@ -35,14 +35,14 @@ pub(crate) fn answers(
         → AreAnswers vacm.now (question taken.now.user.now taken.now.level context.now) view vs answers.items) }
 {
     let mut answers = Vec::new(alloc);
-    for binding in pdu.bindings() {
+    for binding in pdu.variable_bindings() {
         let answer = vacm.is_access_allowed(
             USER_BASED,
             taken.user,
             taken.level,
             view,
             context,
-            &binding.name,
+            &binding.name.oid(),
         );
         answers.push(answer)?;
     }

@@ -21,7 +21,7 @@ use crate::commands::{is_answer, is_command};
 use crate::counter::one_more;
 use crate::refusal::{Counted, send_refusal};
 use crate::unhandled::Unhandled;
-use snmp_msg::{Binding, Pdu, Scoped, one_content, one_pdu};
+use snmp_msg::{Binding, Pdu, Scoped, Spelled, one_content, one_pdu};
 use snmp_outcome::{TakeFault, Taken};
 use snmp_sending::{Counter, is_confirmed};
 
@@ -173,7 +173,33 @@ impl Agent {
             (response self.old.engine (own_pair self.old.boots self.old.started now) (given_of taken.now) c p status index (map variable_of bindings.now) salt) text.items) }
         ensures same { self.new ≡ self.old }
     {
-        let text = match self.respond(now, taken, status, index, bindings, salt) {
+        self.respond_within_of(now, taken, status, index, bindings, salt, limit)
+    }
+
+    /// The same Response, of bindings in any form that can be written, as `respond_of` has them.
+    ///
+    /// The errors are those of `respond_within`, in its order.
+    pub fn respond_within_of<B: Spelled>(
+        &mut self,
+        now: u64,
+        taken: &Taken<'_>,
+        status: i32,
+        index: i32,
+        bindings: &[B],
+        salt: [u8; 8],
+        limit: usize,
+    ) -> Result<Vec<u8>, TakeFault>
+        requires { All (λ b. B.fits b) bindings.now }
+        ensures answer { (c : Contexts) (p : PduParts) → ScopedFront (text_of taken.now.text) c → PduText c.pdu p
+            → IfSome (send_answer result) (UpTo limit (Sends self.old now (λ own. responding self.old.engine own (given_of taken.now) c p status index (map B.says bindings.now) salt))) }
+        ensures memory { (c : Contexts) (p : PduParts) → ScopedFront (text_of taken.now.text) c → PduText c.pdu p → IsErrOf result TakeFault.OutOfMemory
+            → CanBeSent self.old now (λ own. responding self.old.engine own (given_of taken.now) c p status index (map B.says bindings.now) salt) }
+        ensures accepted { (c : Contexts) (p : PduParts) → ScopedFront (text_of taken.now.text) c → PduText c.pdu p
+            → IfOk result (λ text. IsAcceptedByManagers self.old.users
+            (response self.old.engine (own_pair self.old.boots self.old.started now) (given_of taken.now) c p status index (map B.says bindings.now) salt) text.items) }
+        ensures same { self.new ≡ self.old }
+    {
+        let text = match self.respond_of(now, taken, status, index, bindings, salt) {
             Ok(text) => text,
             Err(fault) => return Err(fault),
         };

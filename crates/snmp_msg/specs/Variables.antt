@@ -10,6 +10,8 @@ use Rattle.snmp_message.specs.Reading.{element_in}
 use Rattle.snmp_msg.specs.declared.binding.Binding.{Binding}
 use Rattle.snmp_msg.specs.declared.binding.Bindings.{Bindings}
 use Rattle.snmp_msg.specs.declared.binding.VarBind.{VarBind}
+use Rattle.snmp_msg.specs.declared.variable.VariableBinding.{VariableBinding}
+use Rattle.snmp_msg.specs.declared.variable.VariableBindings.{VariableBindings}
 
 -- What a VarBind says: the arcs of its name, and the tag and the content of its value.
 pub record Variable : Type 0 where
@@ -87,9 +89,16 @@ pub record IsReadBinding (octets rest : List ℕ) (b : VarBind) : Type 0 where
 abbrev pub variable_of : Binding → Variable
 variable_of b = record { name = b.name; tag = b.tag; content = b.content.now }
 
+-- the same, of a binding with its name in octets
+abbrev pub bound_variable : VariableBinding → Variable
+bound_variable b = record { name = b.name; tag = b.tag; content = b.content.now }
+
 -- the bindings that an iterator is still to give
+abbrev pub variables_left : VariableBindings → List Variable
+variables_left s = variables_of s.rest.now
+
 abbrev pub bindings_left : Bindings → List Variable
-bindings_left s = variables_of s.rest.now
+bindings_left s = variables_left s.variables
 
 -- ---- the canonical spelling
 

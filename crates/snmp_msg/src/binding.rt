@@ -1,19 +1,17 @@
 //! Variable bindings (RFC 3416, section 3).
 
-ghost use Rattle.std.specs.Prelude.{◌≡◌, ℕ, List, [], ◌+◌, ◌*◌, ◌<◌, ◌≤◌, ◌++◌, All, length, map, slice_range, option_map, is_some, true, IfOk, IfSome, IfNone, OnOk, OnErr};
+ghost use Rattle.std.specs.Prelude.{◌≡◌, ℕ, List, [], ◌<◌, ◌≤◌, ◌++◌, length, slice_range, option_map, is_some, true, IfOk, OnOk, OnErr};
 ghost use Rattle.std.specs.Result.{result_ok};
 ghost use Rattle.std.specs.Iterator.{YieldsFirstBy, item_count};
-ghost use Rattle.snmp_ber.specs.Oid.{AreArcs, identifier_in};
+ghost use Rattle.snmp_ber.specs.Oid.{identifier_in};
 ghost use Rattle.snmp_ber.specs.Element.{StandsAt};
-ghost use Rattle.snmp_msg.specs.Variables.{Variable, IsBinding, IsReadBinding, variable_with, AreBindings, CanBeWritten, AllFit, binding_in, variables_of, after_variables, variable_of, bindings_left, variable_content, variable_text, variables_text};
+ghost use Rattle.snmp_msg.specs.Variables.{Variable, IsBinding, IsReadBinding, variable_with, binding_in, variables_of, after_variables, variable_of, bindings_left};
 
-use snmp_ber::{
-    BerFault, Oid, Tlv, is_oid, oid_len, put_head, put_oid, put_tlv, read_oid, read_tlv,
-};
-use snmp_message::{LARGEST, OBJECT_IDENTIFIER, SEQUENCE, element_len, read_element};
-use std::alloc::AllocError;
+use crate::variable::VariableBindings;
+use snmp_ber::{BerFault, Oid, Tlv, is_oid, read_tlv};
+use snmp_message::{OBJECT_IDENTIFIER, SEQUENCE, read_element};
 
-/// What a VarBind says.
+/// What a VarBind says, with the arcs of its name. `VariableBinding` says the same, and lends the name.
 #[derive(Debug, PartialEq, Eq, Drop)]
 pub struct Binding<'a> {
     /// The name of the variable.
@@ -37,7 +35,7 @@ pub struct VarBind<'a> {
 
 /// The VarBind at this place, as it is read.
 #[tactic(auto, unfolding(crate::specs::Variables::binding_in))]
-fn read_places(bytes: &[u8], at: usize, end: usize) -> Result<VarBind<'_>, BerFault>
+pub(crate) fn read_places(bytes: &[u8], at: usize, end: usize) -> Result<VarBind<'_>, BerFault>
     requires start { at ≤ end }
     requires within { end ≤ length bytes.now }
     ensures after { option_map (λ b. slice_range bytes.now b.end end) (result_ok result) ≡ option_map (λ x. x.1) (binding_in (slice_range bytes.now at end)) }
@@ -79,25 +77,6 @@ pub fn read_binding(bytes: &[u8], at: usize, end: usize) -> Result<VarBind<'_>, 
     Ok(binding)
 }
 
-/// What the VarBind at this place says, and the place after it.
-fn read_variable(bytes: &[u8], at: usize, end: usize) -> Result<(Binding<'_>, usize), BerFault>
-    requires start { at ≤ end }
-    requires within { end ≤ length bytes.now }
-    ensures value { option_map (λ x. (variable_of x.0, slice_range bytes.now x.1 end)) (result_ok result) ≡ binding_in (slice_range bytes.now at end) }
-    ensures ordered { IfOk result (λ x. (at < x.1) × (x.1 ≤ end)) }
-{
-    let places = read_places(bytes, at, end)?;
-    let Some(name) = read_oid(places.name.content) else {
-        unreachable!();
-    };
-    let binding = Binding {
-        name,
-        tag: places.value.tag,
-        content: places.value.content,
-    };
-    Ok((binding, places.end))
-}
-
 /// Reads the octets between two places, which must be VarBinds one after another.
 pub(crate) fn check_bindings(bytes: &[u8], at: usize, end: usize) -> Result<(), BerFault>
     requires start { at ≤ end }
@@ -113,10 +92,11 @@ pub(crate) fn check_bindings(bytes: &[u8], at: usize, end: usize) -> Result<(), 
     Ok(())
 }
 
-/// The bindings of a list that are still to come, from left to right. It ends at the first octets that are no binding.
+/// The bindings of a list that are still to come, from left to right, each with the arcs of its name. It ends at the first
+/// octets that are no binding.
 #[derive(Clone, Copy, Debug)]
 pub struct Bindings<'a> {
-    rest: &'a [u8],
+    variables: VariableBindings<'a>,
 }
 
 impl<'a> Bindings<'a> {
@@ -124,7 +104,9 @@ impl<'a> Bindings<'a> {
     pub(crate) fn of(list: &'a [u8]) -> Bindings<'a>
         ensures { bindings_left result ≡ variables_of list.now }
     {
-        Bindings { rest: list }
+        Bindings {
+            variables: VariableBindings::of(list),
+        }
     }
 }
 
@@ -136,112 +118,13 @@ impl<'a> Iterator for Bindings<'a> {
     ghost remaining = { item_count bindings_left };
 
     fn next(&mut self) -> Option<Binding<'a>> {
-        let Ok((binding, after)) = read_variable(self.rest, 0, self.rest.len()) else {
+        let Some(binding) = self.variables.next() else {
             return None;
         };
-        self.rest = &self.rest[after..];
-        Some(binding)
+        Some(Binding {
+            name: binding.name.oid(),
+            tag: binding.tag,
+            content: binding.content,
+        })
     }
-}
-
-/// How many octets the content of a VarBind is written in. The content of its value can stand in a datagram.
-#[tactic(auto, unfolding(crate::specs::Variables::variable_content))]
-fn binding_content_len(binding: &Binding<'_>) -> usize
-    requires fits { CanBeWritten (variable_of binding.now) }
-    requires short { length binding.now.content.now ≤ LARGEST }
-    ensures size { result ≡ length (variable_content (variable_of binding.now)) }
-    ensures most { result ≤ 2 * LARGEST }
-{
-    oid_len(&binding.name) + element_len(binding.content.len())
-}
-
-/// How many octets a VarBind is written in, or None where they are more than a datagram can have.
-#[tactic(auto, unfolding(crate::specs::Variables::variable_text))]
-fn binding_len(binding: &Binding<'_>) -> Option<usize>
-    requires { CanBeWritten (variable_of binding.now) }
-    ensures some { IfSome result (λ size. size ≡ length (variable_text (variable_of binding.now))) }
-    ensures most { IfSome result (λ size. size ≤ LARGEST) }
-    ensures none { IfNone result (LARGEST < length (variable_text (variable_of binding.now))) }
-    ensures arcs { AreArcs binding.now.name }
-{
-    let _arcs = binding.name.as_slice();
-    if binding.content.len() > LARGEST {
-        return None;
-    }
-    let size = element_len(binding_content_len(binding));
-    if size > LARGEST {
-        return None;
-    }
-    Some(size)
-}
-
-/// Appends a VarBind, in the shortest spelling. The content of its value can stand in a datagram.
-#[tactic(auto, unfolding(crate::specs::Variables::variable_text, crate::specs::Variables::variable_content))]
-fn put_binding(out: &mut Vec<u8>, binding: &Binding<'_>) -> Result<(), AllocError>
-    requires fits { CanBeWritten (variable_of binding.now) }
-    requires short { length binding.now.content.now ≤ LARGEST }
-    ensures ok { OnOk result (out.new.items ≡ out.old.items ++ variable_text (variable_of binding.now)) }
-{
-    put_head(out, SEQUENCE, binding_content_len(binding))?;
-    put_oid(out, &binding.name)?;
-    put_tlv(out, binding.tag, binding.content)
-}
-
-/// How many octets the bindings are written in, or None where they are more than a datagram can have.
-pub(crate) fn bindings_len(bindings: &[Binding<'_>]) -> Option<usize>
-    requires { All (λ b. CanBeWritten (variable_of b)) bindings.now }
-    ensures some { IfSome result (λ size. size ≡ length (variables_text (map variable_of bindings.now))) }
-    ensures most { IfSome result (λ size. size ≤ LARGEST) }
-    ensures none { IfNone result (LARGEST < length (variables_text (map variable_of bindings.now))) }
-    ensures fit { IfSome result (λ _. AllFit (map variable_of bindings.now)) }
-{
-    let mut size = 0;
-    for binding in bindings {
-        size += binding_len(binding)?;
-        if size > LARGEST {
-            return None;
-        }
-    }
-    Some(size)
-}
-
-/// Appends the bindings, in the shortest spelling. That can stand in a datagram.
-pub(crate) fn put_bindings(out: &mut Vec<u8>, bindings: &[Binding<'_>]) -> Result<(), AllocError>
-    requires fit { All (λ b. CanBeWritten (variable_of b)) bindings.now }
-    requires short { length (variables_text (map variable_of bindings.now)) ≤ LARGEST }
-    ensures ok { OnOk result (out.new.items ≡ out.old.items ++ variables_text (map variable_of bindings.now)) }
-{
-    for binding in bindings {
-        put_binding(out, binding)?;
-    }
-    Ok(())
-}
-
-/// How many octets the bindings of a list are written in, or None where they are more than a datagram can have.
-pub(crate) fn list_len(list: &[u8]) -> Option<usize>
-    requires { after_variables list.now ≡ [] }
-    ensures some { IfSome result (λ size. size ≡ length (variables_text (variables_of list.now))) }
-    ensures most { IfSome result (λ size. size ≤ LARGEST) }
-    ensures none { IfNone result (LARGEST < length (variables_text (variables_of list.now))) }
-{
-    let mut size = 0;
-    for binding in Bindings::of(list) {
-        size += binding_len(&binding)?;
-        if size > LARGEST {
-            return None;
-        }
-    }
-    Some(size)
-}
-
-/// Appends the bindings of a list, in the shortest spelling. That can stand in a datagram.
-pub(crate) fn put_list(out: &mut Vec<u8>, list: &[u8]) -> Result<(), AllocError>
-    requires all { after_variables list.now ≡ [] }
-    requires short { length (variables_text (variables_of list.now)) ≤ LARGEST }
-    ensures ok { OnOk result (out.new.items ≡ out.old.items ++ variables_text (variables_of list.now)) }
-{
-    for binding in Bindings::of(list) {
-        put_binding(out, &binding)?;
-    }
-    Ok(())
 }

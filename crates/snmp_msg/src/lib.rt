@@ -8,14 +8,17 @@
 mod binding;
 mod fault;
 mod laws;
+mod list;
 mod pdu;
 mod value;
+mod variable;
 mod whole;
 
 pub use binding::{Binding, Bindings, VarBind, read_binding};
 pub use fault::CanonFault;
 pub use laws::{canonical_again, one_pdu, one_whole, pdu_written_again};
-pub use pdu::{Pdu, read_pdu, write_pdu};
+pub use list::Spelled;
+pub use pdu::{Pdu, read_pdu, write_pdu, write_pdu_of};
 pub use snmp_message::{
     Cut, Data, Header, LARGEST, Message, MsgFault, Refusal, Scoped, Security, USER_BASED,
     WriteFault, cut, field_filled, longer_whole, message_size, one_content, one_cut, one_message,
@@ -23,4 +26,5 @@ pub use snmp_message::{
     write_message, write_scoped, write_security, written_again,
 };
 pub use value::{Syntax, value_is};
+pub use variable::{VariableBinding, VariableBindings};
 pub use whole::{Layer, Layers, canonical, read_layers, write_layers};

@@ -10,8 +10,8 @@ ghost use Rattle.snmp_msg.specs.Variables.{variables_of, after_variables, variab
 ghost use Rattle.snmp_msg.specs.Pdu.{pdu_of, pdu_text, respelled};
 ghost use Rattle.snmp_msg.specs.Refusals.{RefusesWhole, RefusesCanonical};
 
-use crate::binding::{list_len, put_list};
 use crate::fault::CanonFault;
+use crate::list::{list_len, put_list};
 use crate::pdu::{Pdu, pdu_len, put_pdu_front, read_pdu};
 use snmp_ber::{put_head, put_tlv};
 use snmp_message::{

@@ -4,9 +4,10 @@ use Rattle.snmp_ber.specs.declared.level.Level.{Level}
 use Rattle.snmp_ber.specs.declared.level.Level.TheVariants.{NoAuthNoPriv, AuthNoPriv, AuthPriv}
 use Rattle.snmp_message.specs.declared.header.Header.{Header}
 use Rattle.snmp_message.specs.Scoped.{scoped_text}
-use Rattle.snmp_msg.specs.Variables.{CanBeWritten, variable_of}
+use Rattle.snmp_msg.specs.Variables.{Variable, CanBeWritten, variable_of}
 use Rattle.snmp_msg.specs.Pdu.{PduParts, IsPduTag, pdu_with, pdu_text}
 use Rattle.snmp_sending.specs.declared.body.Body.{Body}
+use Rattle.snmp_sending.specs.declared.front.Front.{Front}
 
 -- ---- the header
 
@@ -34,6 +35,13 @@ pdu_in b = pdu_with b.tag b.id b.second b.third (map variable_of b.bindings.now)
 -- its ScopedPDU, in the shortest spelling (RFC 3412, section 6.8)
 abbrev pub scoped_of : Body → List ℕ
 scoped_of b = scoped_text b.context_engine.now b.context_name.now (pdu_text (pdu_in b))
+
+-- the PDU and the ScopedPDU of a front and bindings
+abbrev pub pdu_after : Front → List Variable → PduParts
+pdu_after f vs = pdu_with f.tag f.id f.second f.third vs
+
+abbrev pub scoped_after : Front → List Variable → List ℕ
+scoped_after f vs = scoped_text f.context_engine.now f.context_name.now (pdu_text (pdu_after f vs))
 
 -- It can be written.
 pub record BodyFits (b : Body) : Type 0 where

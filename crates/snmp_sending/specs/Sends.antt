@@ -12,9 +12,13 @@ use Rattle.snmp_sending.specs.declared.body.Body.{Body}
 use Rattle.snmp_sending.specs.declared.envelope.Envelope.{Envelope}
 use Rattle.snmp_sending.specs.Bodies.{has_auth, header_at, scoped_of}
 
+-- the message with this envelope and this ScopedPDU
+abbrev pub sent_with : Envelope → List ℕ → Sending
+sent_with e scoped = sending (header_at e.level e.id e.reportable) e.engine.now e.pair e.user.now e.salt scoped
+
 -- the message with this envelope and this body
 abbrev pub sent : Envelope → Body → Sending
-sent e b = sending (header_at e.level e.id e.reportable) e.engine.now e.pair e.user.now e.salt (scoped_of b)
+sent e b = sent_with e (scoped_of b)
 
 -- a refusal, as the table of sending has it; None for want of memory, which is no answer of the table
 abbrev pub send_refusal : TakeFault → Option (Result (List ℕ) ℕ)

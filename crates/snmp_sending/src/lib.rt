@@ -5,6 +5,7 @@ mod body;
 mod class;
 mod counter;
 mod envelope;
+mod front;
 mod laws;
 mod sending;
 
@@ -12,5 +13,6 @@ pub use body::Body;
 pub use class::is_confirmed;
 pub use counter::{Counter, counter_name};
 pub use envelope::Envelope;
+pub use front::Front;
 pub use laws::{request_is_accepted, sealed_is_accepted, spoken_is_accepted};
-pub use sending::{send, send_plain, supports};
+pub use sending::{send, send_of, send_plain, supports};

@@ -1,19 +1,20 @@
 //! Messages that go out.
 
-ghost use Rattle.std.specs.Prelude.{◌≡◌, ◌+◌, ◌<◌, ◌≤◌, length, IfOk, IfSome, MatchResult, OnOk, OnErr, IsErrOf, true};
+ghost use Rattle.std.specs.Prelude.{◌≡◌, ◌+◌, ◌<◌, ◌≤◌, All, length, map, IfOk, IfSome, MatchResult, OnOk, OnErr, IsErrOf, true};
 ghost use Rattle.snmp_ber.specs.declared.level.Level.TheVariants.{NoAuthNoPriv};
 ghost use Rattle.usm_users.specs.Users.{HasUserAt};
 ghost use Rattle.usm_core.specs.Refusals.{Supports};
 ghost use Rattle.usm_core.specs.Answers.{seal_answer};
 ghost use Rattle.usm_core.specs.Sealed.{Seals, IsSealable};
-ghost use Rattle.snmp_sending.specs.Sends.{sent, send_answer, CanSend, RefusesSender};
-ghost use Rattle.snmp_msg.specs.Pdu.{IsSpelled};
-ghost use Rattle.snmp_sending.specs.Bodies.{has_auth, scoped_of, pdu_in, BodyFits};
+ghost use Rattle.snmp_sending.specs.Sends.{sent, sent_with, send_answer, CanSend, RefusesSender};
+ghost use Rattle.snmp_msg.specs.Pdu.{IsPduTag, IsSpelled};
+ghost use Rattle.snmp_sending.specs.Bodies.{has_auth, scoped_of, pdu_in, scoped_after, pdu_after, BodyFits};
 
 use crate::body::{Body, write_body};
 use crate::envelope::Envelope;
+use crate::front::Front;
 use snmp_ber::Level;
-use snmp_msg::LARGEST;
+use snmp_msg::{LARGEST, Spelled};
 use snmp_outcome::TakeFault;
 use std::alloc::Global;
 use usm_core::{Users, UsmFault, sealed_size};
@@ -46,24 +47,26 @@ pub fn supports(users: &Users, user: &[u8], level: Level) -> Result<(), TakeFaul
 }
 
 /// The text of the message, as `send` says.
-fn seal_body(
+fn seal_body<B: Spelled>(
     alloc: Global,
     users: &mut Users,
     envelope: &Envelope<'_>,
-    body: &Body<'_>,
+    front: &Front<'_>,
+    bindings: &[B],
 ) -> Result<Vec<u8>, UsmFault>
     requires id { envelope.now.id ≤ 2147483647 }
     requires user { length envelope.now.user.now ≤ 32 }
-    requires body { BodyFits body.now }
-    ensures rows { IfSome (seal_answer result) (Seals users.old.users (sent envelope.now body.now)) }
-    ensures memory { IsErrOf result UsmFault.OutOfMemory → IsSealable users.old.users (sent envelope.now body.now) }
-    ensures spelled { IfOk result (λ _. IsSpelled (pdu_in body.now)) }
-    ensures short { IsErrOf result UsmFault.TooLarge → LARGEST < 150 + length envelope.now.engine.now + length envelope.now.user.now + length (scoped_of body.now) }
+    requires tag { IsPduTag front.now.tag }
+    requires fit { All (λ b. B.fits b) bindings.now }
+    ensures rows { IfSome (seal_answer result) (Seals users.old.users (sent_with envelope.now (scoped_after front.now (map B.says bindings.now)))) }
+    ensures memory { IsErrOf result UsmFault.OutOfMemory → IsSealable users.old.users (sent_with envelope.now (scoped_after front.now (map B.says bindings.now))) }
+    ensures spelled { IfOk result (λ _. IsSpelled (pdu_after front.now (map B.says bindings.now))) }
+    ensures short { IsErrOf result UsmFault.TooLarge → LARGEST < 150 + length envelope.now.engine.now + length envelope.now.user.now + length (scoped_after front.now (map B.says bindings.now)) }
     ensures users { users.new.users ≡ users.old.users }
 {
     sealed_size();
     has_user(users, envelope.user, envelope.level)?;
-    let scoped = write_body(alloc, body)?;
+    let scoped = write_body(alloc, front, bindings)?;
     users.seal(
         &envelope.header(),
         envelope.engine,
@@ -98,7 +101,30 @@ pub fn send(
     ensures short { IsErrOf result TakeFault.TooLarge → LARGEST < 150 + length envelope.now.engine.now + length envelope.now.user.now + length (scoped_of body.now) }
     ensures users { users.new.users ≡ users.old.users }
 {
-    match seal_body(alloc, users, envelope, body) {
+    send_of(alloc, users, envelope, &body.front(), body.bindings)
+}
+
+/// The same, of bindings in any form that can be written: `VariableBinding` is the quick one, of which only the tags are asked.
+///
+/// The errors are those of `send`, in its order.
+pub fn send_of<B: Spelled>(
+    alloc: Global,
+    users: &mut Users,
+    envelope: &Envelope<'_>,
+    front: &Front<'_>,
+    bindings: &[B],
+) -> Result<Vec<u8>, TakeFault>
+    requires id { envelope.now.id ≤ 2147483647 }
+    requires user { length envelope.now.user.now ≤ 32 }
+    requires tag { IsPduTag front.now.tag }
+    requires fit { All (λ b. B.fits b) bindings.now }
+    ensures rows { IfSome (send_answer result) (Seals users.old.users (sent_with envelope.now (scoped_after front.now (map B.says bindings.now)))) }
+    ensures memory { IsErrOf result TakeFault.OutOfMemory → IsSealable users.old.users (sent_with envelope.now (scoped_after front.now (map B.says bindings.now))) }
+    ensures spelled { IfOk result (λ _. IsSpelled (pdu_after front.now (map B.says bindings.now))) }
+    ensures short { IsErrOf result TakeFault.TooLarge → LARGEST < 150 + length envelope.now.engine.now + length envelope.now.user.now + length (scoped_after front.now (map B.says bindings.now)) }
+    ensures users { users.new.users ≡ users.old.users }
+{
+    match seal_body(alloc, users, envelope, front, bindings) {
         Ok(text) => Ok(text),
         Err(fault) => Err(fault.into()),
     }
@@ -119,7 +145,7 @@ fn seal_plain(
     ensures short { IsErrOf result UsmFault.TooLarge → LARGEST < 150 + length envelope.now.engine.now + length envelope.now.user.now + length (scoped_of body.now) }
 {
     sealed_size();
-    let scoped = write_body(alloc, body)?;
+    let scoped = write_body(alloc, &body.front(), body.bindings)?;
     users.write_plain(
         &envelope.header(),
         envelope.engine,

@@ -22,7 +22,7 @@ const GET_REQUEST: [u8; 99] = [
 ];
 
 /// The request, of which a proof knows the length alone.
-fn get_request() -> &'static [u8]
+pub(super) fn get_request() -> &'static [u8]
     ensures { length result.now ≡ 99 }
 {
     &GET_REQUEST
@@ -170,7 +170,7 @@ fn element(alloc: Global, tag: u8, content: &[u8]) -> Result<Vec<u8>, AllocError
 }
 
 /// A GetRequest with one binding, whose name has these octets as its content.
-fn named(alloc: Global, content: &[u8]) -> Result<Vec<u8>, AllocError> {
+pub(super) fn named(alloc: Global, content: &[u8]) -> Result<Vec<u8>, AllocError> {
     let mut binding = element(alloc, 0x06, content)?;
     binding.extend_from_slice(&[0x05, 0x00])?;
     let list = element(alloc, 0x30, &element(alloc, 0x30, &binding)?)?;
@@ -192,7 +192,7 @@ fn a_name_has_at_most_128_arcs(rt: HostRuntime) -> Result<(), Fail> {
 }
 
 /// So many bindings, of 1.3.0 and on.
-fn numbered(alloc: Global, count: u32) -> Result<Vec<Binding<'static>>, Fail>
+pub(super) fn numbered(alloc: Global, count: u32) -> Result<Vec<Binding<'static>>, Fail>
     ensures { IfOk result (λ v. All (λ b. CanBeWritten (variable_of b)) v.items) }
 {
     let mut bindings = Vec::new(alloc);

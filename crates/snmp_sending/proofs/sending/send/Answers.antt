@@ -1,11 +1,13 @@
-use Rattle.snmp_sending.proofs.Refusing.{told_as, memory_as, large_as}
 use Rattle.snmp_sending.proofs.sending.send.Goals as goal
 
-pub returns-in-Err-clause-rows : goal.returns-in-Err-clause-rows
-returns-in-Err-clause-rows c = told_as c.in-Err.fault c.into.result _ c.into.ensures c.in-Err.ensures.rows
+pub returns-clause-rows : goal.returns-clause-rows
+returns-clause-rows c = rw c.front.ensures.scoped at c.send_of.ensures.rows
 
-pub returns-in-Err-clause-memory : goal.returns-in-Err-clause-memory
-returns-in-Err-clause-memory c is = c.in-Err.ensures.memory (memory_as c.in-Err.fault c.into.result c.into.ensures is)
+pub returns-clause-memory : goal.returns-clause-memory
+returns-clause-memory c is = rw c.front.ensures.scoped at (c.send_of.ensures.memory is)
 
-pub returns-in-Err-clause-short : goal.returns-in-Err-clause-short
-returns-in-Err-clause-short c is = c.in-Err.ensures.short (large_as c.in-Err.fault c.into.result c.into.ensures is)
+pub returns-clause-spelled : goal.returns-clause-spelled
+returns-clause-spelled c = rw c.front.ensures.pdu at c.send_of.ensures.spelled
+
+pub returns-clause-short : goal.returns-clause-short
+returns-clause-short c is = rw c.front.ensures.scoped at (c.send_of.ensures.short is)

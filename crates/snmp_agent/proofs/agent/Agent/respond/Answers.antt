@@ -1,52 +1,21 @@
-use Rattle.std.proofs.Common.{subst, ap, arith, w32, SFits, rules}
-use Rattle.std.specs.Prelude.{map, IfOk, IfSome}
+use Rattle.std.proofs.Common.{rules, w32, SFits}
 use Rattle.std.proofs.lemmas.Int.{to_z-of_z}
-use Rattle.snmp_msg.specs.Variables.{variable_of}
-use Rattle.usm_core.specs.Table.{fails}
-use Rattle.snmp_outcome.specs.Answers.{given_of}
-use Rattle.snmp_sending.specs.Sends.{send_answer}
-use Rattle.snmp_agent.specs.Agent.{AgentState}
-use Rattle.snmp_outcome.specs.Outcome.{own_pair}
-use Rattle.snmp_sending.specs.Speaks.{SpeechFits}
-use Rattle.snmp_agent.specs.Sent.{response, responding, Sends, CanBeSent, IsAcceptedByManagers}
-use Rattle.engine_clock.specs.Pairs.{BootsAndTime}
-use Rattle.snmp_agent.proofs.Accepted.{AreAccepted, accepted}
-use Rattle.snmp_agent.proofs.Clocked.{sends, can_be_sent}
 use Rattle.snmp_agent.proofs.agent.Agent.respond.Goals as goal
-
-pub returns-in_default-clause-answer : goal.returns-in_default-clause-answer
-returns-in_default-clause-answer c s p front is_pdu =
-    let started = ap (λ (a : AgentState). a.started) c.self.view_is in
-    fails (λ runs. let past = c.in_default.ensures in absurd (omega (arith, past, runs, started)))
 
 pub returns-clause-answer : goal.returns-clause-answer
 returns-clause-answer c s p front is_pdu =
-    let fits_status : SFits w32 c.args.status = search rules in
-    let fits_index : SFits w32 c.args.index = search rules in
-    let rows = rw (to_z-of_z w32 c.args.status fits_status, to_z-of_z w32 c.args.index fits_index) at (c.send_response.ensures.rows s p front is_pdu) in
-    let agent : AgentState = record { engine = c.self.inside.engine.id; boots = c.self.inside.engine.boots; started = c.self.inside.engine.started; users = c.self.inside.users.users; tables = c.self.inside.vacm; counters = c.self.inside.counters; counts = c.self.inside.counts } in
-    subst (λ (a : AgentState). IfSome (send_answer c.send_response.result) (Sends a c.args.now (λ own. responding a.engine own (given_of c.args.taken.now) s p c.args.status c.args.index (map variable_of c.args.bindings.now) c.args.salt))) c.self.view_is
-    (sends agent c.args.now (λ own. responding c.self.inside.engine.id own (given_of c.args.taken.now) s p c.args.status c.args.index (map variable_of c.args.bindings.now) c.args.salt) c.in-Some.own c.in-Some.ensures.0 c.in-Some.ensures.1 (send_answer c.send_response.result) rows)
+    let status : SFits w32 c.args.status = search rules in
+    let index : SFits w32 c.args.index = search rules in
+    rw (to_z-of_z w32 c.args.status status, to_z-of_z w32 c.args.index index) at (c.respond_of.ensures.answer s p front is_pdu)
 
 pub returns-clause-memory : goal.returns-clause-memory
 returns-clause-memory c s p front is_pdu is =
-    let fits_status : SFits w32 c.args.status = search rules in
-    let fits_index : SFits w32 c.args.index = search rules in
-    let sealable = rw (to_z-of_z w32 c.args.status fits_status, to_z-of_z w32 c.args.index fits_index) at (c.send_response.ensures.memory s p front is_pdu is) in
-    subst (λ (a : AgentState). CanBeSent a c.args.now (λ own. responding a.engine own (given_of c.args.taken.now) s p c.args.status c.args.index (map variable_of c.args.bindings.now) c.args.salt)) c.self.view_is
-    (can_be_sent _ c.args.now (λ own. responding c.self.inside.engine.id own (given_of c.args.taken.now) s p c.args.status c.args.index (map variable_of c.args.bindings.now) c.args.salt) c.in-Some.own c.in-Some.ensures.0 c.in-Some.ensures.1 sealable)
+    let status : SFits w32 c.args.status = search rules in
+    let index : SFits w32 c.args.index = search rules in
+    rw (to_z-of_z w32 c.args.status status, to_z-of_z w32 c.args.index index) at (c.respond_of.ensures.memory s p front is_pdu is)
 
 pub returns-clause-accepted : goal.returns-clause-accepted
 returns-clause-accepted c s p front is_pdu =
-    let fits_status : SFits w32 c.args.status = search rules in
-    let fits_index : SFits w32 c.args.index = search rules in
-    let engine = c.self.inside.engine.id in
-    let users = c.self.inside.users.users in
-    let vs = map variable_of c.args.bindings.now in
-    let of = λ (own : BootsAndTime). response engine own (given_of c.args.taken.now) s p c.args.status c.args.index vs c.args.salt in
-    let rows = rw (to_z-of_z w32 c.args.status fits_status, to_z-of_z w32 c.args.index fits_index) at (c.send_response.ensures.rows s p front is_pdu) in
-    let fits : IfOk c.send_response.result (λ _. SpeechFits (of c.in-Some.own)) = rw (to_z-of_z w32 c.args.status fits_status, to_z-of_z w32 c.args.index fits_index) at (c.send_response.ensures.fits s p front is_pdu) in
-    let law : AreAccepted users (of c.in-Some.own) = λ others held now text fits same seals. c.response_is_accepted.ensures users others held now engine c.in-Some.own (given_of c.args.taken.now) s p c.args.status c.args.index vs c.args.salt text fits same seals in
-    let told = accepted c.send_response.result users (of c.in-Some.own) law fits rows in
-    subst (λ (a : AgentState). IfOk c.send_response.result (λ text. IsAcceptedByManagers a.users (response a.engine (own_pair a.boots a.started c.args.now) (given_of c.args.taken.now) s p c.args.status c.args.index vs c.args.salt) text.items)) c.self.view_is
-    (subst (λ (q : BootsAndTime). IfOk c.send_response.result (λ text. IsAcceptedByManagers users (of q) text.items)) c.in-Some.ensures.1 told)
+    let status : SFits w32 c.args.status = search rules in
+    let index : SFits w32 c.args.index = search rules in
+    rw (to_z-of_z w32 c.args.status status, to_z-of_z w32 c.args.index index) at (c.respond_of.ensures.accepted s p front is_pdu)

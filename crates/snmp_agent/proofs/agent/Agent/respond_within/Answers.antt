@@ -1,43 +1,21 @@
-use Rattle.std.proofs.Common.{rules, ◌<◌, ◌≤◌, length, w32, SFits}
-use Rattle.std.specs.Prelude.{map}
+use Rattle.std.proofs.Common.{rules, w32, SFits}
 use Rattle.std.proofs.lemmas.Int.{to_z-of_z}
-use Rattle.snmp_msg.specs.Variables.{variable_of}
-use Rattle.snmp_outcome.specs.Answers.{given_of}
-use Rattle.snmp_outcome.specs.Refusals.{answer_number}
-use Rattle.snmp_sending.specs.UpTo.{fits, longer}
-use Rattle.snmp_agent.specs.Sent.{responding, Sends}
-use Rattle.snmp_agent.proofs.UpTos.{some_refused}
 use Rattle.snmp_agent.proofs.agent.Agent.respond_within.Goals as goal
-
-pub returns-in-Err-clause-answer : goal.returns-in-Err-clause-answer
-returns-in-Err-clause-answer c s p front is_pdu =
-    let fits_status : SFits w32 c.args.status = search rules in
-    let fits_index : SFits w32 c.args.index = search rules in
-    let rows = rw (to_z-of_z w32 c.args.status fits_status, to_z-of_z w32 c.args.index fits_index) at (c.in-Err.ensures.answer s p front is_pdu) in
-    some_refused c.args.limit (Sends c.args.self.now c.args.now (λ own. responding c.args.self.now.engine own (given_of c.args.taken.now) s p c.args.status c.args.index (map variable_of c.args.bindings.now) c.args.salt)) (answer_number c.in-Err.fault) rows
-
-pub returns-then-len-limit-clause-answer : goal.returns-then-len-limit-clause-answer
-returns-then-len-limit-clause-answer c s p front is_pdu =
-    let fits_status : SFits w32 c.args.status = search rules in
-    let fits_index : SFits w32 c.args.index = search rules in
-    let long : c.args.limit < length c.in-Ok.text.items = search rules in
-    longer c.in-Ok.text.items (rw (to_z-of_z w32 c.args.status fits_status, to_z-of_z w32 c.args.index fits_index) at (c.in-Ok.ensures.answer s p front is_pdu)) long
 
 pub returns-clause-answer : goal.returns-clause-answer
 returns-clause-answer c s p front is_pdu =
-    let fits_status : SFits w32 c.args.status = search rules in
-    let fits_index : SFits w32 c.args.index = search rules in
-    let short : length c.in-Ok.text.items ≤ c.args.limit = search rules in
-    fits c.in-Ok.text.items (rw (to_z-of_z w32 c.args.status fits_status, to_z-of_z w32 c.args.index fits_index) at (c.in-Ok.ensures.answer s p front is_pdu)) short
+    let status : SFits w32 c.args.status = search rules in
+    let index : SFits w32 c.args.index = search rules in
+    rw (to_z-of_z w32 c.args.status status, to_z-of_z w32 c.args.index index) at (c.respond_within_of.ensures.answer s p front is_pdu)
 
-pub returns-in-Err-clause-memory : goal.returns-in-Err-clause-memory
-returns-in-Err-clause-memory c s p front is_pdu is =
-    let fits_status : SFits w32 c.args.status = search rules in
-    let fits_index : SFits w32 c.args.index = search rules in
-    rw (to_z-of_z w32 c.args.status fits_status, to_z-of_z w32 c.args.index fits_index) at (c.in-Err.ensures.memory s p front is_pdu is)
+pub returns-clause-memory : goal.returns-clause-memory
+returns-clause-memory c s p front is_pdu is =
+    let status : SFits w32 c.args.status = search rules in
+    let index : SFits w32 c.args.index = search rules in
+    rw (to_z-of_z w32 c.args.status status, to_z-of_z w32 c.args.index index) at (c.respond_within_of.ensures.memory s p front is_pdu is)
 
 pub returns-clause-accepted : goal.returns-clause-accepted
 returns-clause-accepted c s p front is_pdu =
-    let fits_status : SFits w32 c.args.status = search rules in
-    let fits_index : SFits w32 c.args.index = search rules in
-    rw (to_z-of_z w32 c.args.status fits_status, to_z-of_z w32 c.args.index fits_index) at (c.in-Ok.ensures.accepted s p front is_pdu)
+    let status : SFits w32 c.args.status = search rules in
+    let index : SFits w32 c.args.index = search rules in
+    rw (to_z-of_z w32 c.args.status status, to_z-of_z w32 c.args.index index) at (c.respond_within_of.ensures.accepted s p front is_pdu)
