@@ -1,4 +1,4 @@
-//! Tests of the lowest libraries over their public items: elements and numbers, messages, clocks, access.
+//! Tests of the lowest libraries over their public items: elements and numbers, messages, clocks, access, captures.
 #![tactic(auto)]
 
 #[cfg(test)]
@@ -7,5 +7,7 @@ mod engine_clock_tests;
 mod snmp_ber_tests;
 #[cfg(test)]
 mod snmp_msg_tests;
+#[cfg(test)]
+mod snmpsec_capture_tests;
 #[cfg(test)]
 mod vacm_core_tests;

@@ -1,3 +1,4 @@
 pub mod Records
 pub mod Walks
 pub mod Logs
+pub mod Parts

@@ -1,16 +1,17 @@
 -- The log of a capture, record by record.
-use Rattle.std.proofs.Common.{◌≡◌, ◌⊎◌, ℕ, ◌+◌, ◌*◌, ◌<◌, ◌≤◌, List, [], ◌∷◌, ◌++◌, length, Option, Some, None, IfSome, refl, sym, ap, ◌∙◌, arith, inl, inr, append_assoc, append-nil, length-append, subst}
-use Rattle.std.specs.Io.KnownBytes.{Appends, Consumes, IsAtEnd, Keeps}
+use Rattle.std.proofs.Common.{◌≡◌, ℕ, ◌+◌, ◌*◌, ◌<◌, ◌≤◌, List, [], ◌∷◌, ◌++◌, length, Option, IfSome, refl, sym, ap, ◌∙◌, arith, append_assoc, append-nil, length-append, subst}
+use Rattle.std.specs.Io.KnownBytes.{Appends, Consumes}
 use Rattle.std.proofs.KnownBytes.{Appends-nil, Appends-trans, Appends-kept, Consumes-nil, Consumes-trans, Consumes-whole}
 use Rattle.snmpsec_streams.specs.Transfer.{WritesFront}
 use Rattle.snmpsec_capture.specs.Pcap.{Record, IsRecord, AreRecords}
-use Rattle.snmpsec_capture.specs.Datagrams.{IsSortedRecord, log_of, note_of, none_passed, one_more, count_of, IsBelow, Sorts, IsLogOf, Streams, Stands, IsBad, WriteFails, StopsRecords, HasBegun, StopsLater, StopsBy, record_from, WritesRecord, WritesRecordFront, StopsRecord, IsEnd}
+use Rattle.snmpsec_capture.specs.Passed.{none_passed, IsBelow}
+use Rattle.snmpsec_capture.specs.Datagrams.{IsSortedRecord, log_of, note_of, count_of, Sorts, IsLogOf, Streams, Stands, WriteFails, StopsRecords, HasBegun, record_from, WritesRecord, WritesRecordFront, StopsRecord, IsEnd}
 use Rattle.snmpsec_capture.specs.declared.field.Order.{Order}
 use Rattle.snmpsec_capture.specs.declared.pcap.Header.{Header}
 use Rattle.snmpsec_capture.specs.declared.datagrams.Sorted.{Sorted}
 use Rattle.snmpsec_capture.specs.declared.datagrams.Sorted.TheVariants.{Logged, Told, Counted}
-use Rattle.snmpsec_capture.specs.declared.datagrams.Reason.TheVariants as reason
-use Rattle.snmpsec_capture.specs.declared.datagrams.Passed.{Passed}
+use Rattle.snmpsec_capture.specs.declared.passed.Reason.TheVariants as reason
+use Rattle.snmpsec_capture.specs.declared.passed.Passed.{Passed}
 use Rattle.snmpsec_capture.specs.declared.datagrams.Captured.{Captured}
 use Rattle.snmpsec_capture.specs.declared.fault.CaptureFault.{CaptureFault}
 use Rattle.snmpsec_capture.specs.declared.fault.CaptureFault.TheVariants as fault

@@ -1,8 +1,8 @@
 -- Records of a capture, and what is none.
-use Rattle.std.proofs.Common.{◌≡◌, ℕ, ◌+◌, ◌*◌, ◌<◌, ◌≤◌, List, [], ◌∷◌, ◌++◌, length, take, drop, refl, sym, ap, ◌∙◌, arith, length-append, take_at, drop_at}
+use Rattle.std.proofs.Common.{◌≡◌, ℕ, ◌+◌, ◌<◌, ◌≤◌, List, [], ◌++◌, length, take, refl, sym, ap, ◌∙◌, arith, length-append, take_at, drop_at}
 use Rattle.std.proofs.lemmas.List.{get_or_append_left}
 use Rattle.snmpsec_capture.specs.Field.{field32}
-use Rattle.snmpsec_capture.specs.Pcap.{Record, IsRecord, HasNoRecord, IsHead, record_of}
+use Rattle.snmpsec_capture.specs.Pcap.{IsRecord, HasNoRecord, IsHead, record_of}
 use Rattle.snmpsec_capture.specs.declared.field.Order.{Order}
 use Rattle.snmpsec_capture.specs.declared.field.Order.TheVariants.{Big, Little}
 use Rattle.snmpsec_capture.specs.declared.pcap.Head.{Head}
@@ -10,11 +10,19 @@ use Rattle.snmpsec_capture.specs.declared.pcap.Head.{Head}
 -- a number stands in the front
 pub field32_front : (order : Order) (a b : List ℕ) (at : ℕ) → at + 4 ≤ length a → field32 order (a ++ b) at ≡ field32 order a at
 field32_front Big a b at h =
-    rw (get_or_append_left a b 0 at (omega (arith, h)), get_or_append_left a b 0 (at + 1) (omega (arith, h)),
-        get_or_append_left a b 0 (at + 2) (omega (arith, h)), get_or_append_left a b 0 (at + 3) (omega (arith, h))) refl
+    rw (
+      get_or_append_left a b 0 at (omega (arith, h)),
+      get_or_append_left a b 0 (at + 1) (omega (arith, h)),
+      get_or_append_left a b 0 (at + 2) (omega (arith, h)),
+      get_or_append_left a b 0 (at + 3) (omega (arith, h)),
+    ) refl
 field32_front Little a b at h =
-    rw (get_or_append_left a b 0 at (omega (arith, h)), get_or_append_left a b 0 (at + 1) (omega (arith, h)),
-        get_or_append_left a b 0 (at + 2) (omega (arith, h)), get_or_append_left a b 0 (at + 3) (omega (arith, h))) refl
+    rw (
+      get_or_append_left a b 0 at (omega (arith, h)),
+      get_or_append_left a b 0 (at + 1) (omega (arith, h)),
+      get_or_append_left a b 0 (at + 2) (omega (arith, h)),
+      get_or_append_left a b 0 (at + 3) (omega (arith, h)),
+    ) refl
 
 -- two texts that are the same have the same numbers in their fronts
 same_field : (order : Order) (a b c d : List ℕ) (at : ℕ) → a ++ b ≡ c ++ d → at + 4 ≤ length a → at + 4 ≤ length c → field32 order a at ≡ field32 order c at

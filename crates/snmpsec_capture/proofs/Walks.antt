@@ -1,9 +1,9 @@
 -- Tags of frames and extension headers of IPv6, one more.
-use Rattle.std.proofs.Common.{◌≡◌, ◌⊎◌, ℕ, suc, ◌+◌, ◌*◌, ◌<◌, ◌≤◌, ◌==◌, Bool, true, false, if◌then◌else◌, List, length, drop, slice_index, refl, sym, ap, ◌∙◌, subst, inl, inr, arith}
+use Rattle.std.proofs.Common.{◌≡◌, ◌⊎◌, ℕ, suc, ◌+◌, ◌*◌, ◌<◌, ◌≤◌, ◌==◌, Bool, true, false, if◌then◌else◌, List, length, drop, slice_index, sym, ap, ◌∙◌, subst, inl, inr, arith}
 use Rattle.std.proofs.lemmas.Bool.{cases_eq}
 use Rattle.std.proofs.lemmas.List.{get_or-drop, drop-drop, length-drop}
 use Rattle.snmpsec_capture.specs.Field.{field16}
-use Rattle.snmpsec_capture.specs.Packet.{is_tag, type_behind, is_extension, is_piece, next_place, place_of, IsSkipped, LeadsTo}
+use Rattle.snmpsec_capture.specs.Packet.{is_tag, type_behind, next_place, place_of, IsSkipped, LeadsTo}
 use Rattle.snmpsec_capture.specs.declared.packet.Place.{Place}
 
 each_step : (P : ℕ → Type 0) (n : ℕ) → ((k : ℕ) → k < n → P k) → P n → (k : ℕ) → k < suc n → (k ≡ n) ⊎ (k ≡ n → ⊥) → P k

@@ -6,6 +6,7 @@ use Rattle.std.specs.Io.KnownBytes.{Appends, Consumes, IsAtEnd, Keeps}
 use Rattle.hex.specs.Hex.{encode_lower}
 use Rattle.snmpsec_streams.specs.Transfer.{WritesFront}
 use Rattle.snmpsec_capture.specs.Packet.{IsFound}
+use Rattle.snmpsec_capture.specs.Passed.{none_passed, one_more}
 use Rattle.snmpsec_capture.specs.Pcap.{Record, IsHeader, IsHeaderFault, AreRecords, HasNoRecord}
 use Rattle.snmpsec_capture.specs.declared.pcap.Header.{Header}
 use Rattle.snmpsec_capture.specs.declared.packet.Found.{Found}
@@ -14,9 +15,8 @@ use Rattle.snmpsec_capture.specs.declared.datagrams.Sorted.{Sorted}
 use Rattle.snmpsec_capture.specs.declared.datagrams.Sorted.TheVariants.{Logged, Told, Counted}
 use Rattle.snmpsec_capture.specs.declared.datagrams.Telling.{Telling}
 use Rattle.snmpsec_capture.specs.declared.datagrams.Telling.TheVariants as telling
-use Rattle.snmpsec_capture.specs.declared.datagrams.Reason.{Reason}
-use Rattle.snmpsec_capture.specs.declared.datagrams.Reason.TheVariants as reason
-use Rattle.snmpsec_capture.specs.declared.datagrams.Passed.{Passed}
+use Rattle.snmpsec_capture.specs.declared.passed.Reason.TheVariants as reason
+use Rattle.snmpsec_capture.specs.declared.passed.Passed.{Passed}
 use Rattle.snmpsec_capture.specs.declared.datagrams.Captured.{Captured}
 use Rattle.snmpsec_capture.specs.declared.fault.CaptureFault.{CaptureFault}
 use Rattle.snmpsec_capture.specs.declared.fault.CaptureFault.TheVariants as fault
@@ -75,28 +75,11 @@ note_of n (Logged datagram) = []
 note_of n (Told why) = note_line n why
 note_of n (Counted why) = []
 
-abbrev pub none_passed : ℕ → Passed
-none_passed link = record { link = link; another_port = 0; other_link = 0; not_ip = 0; not_udp = 0 }
-
--- one more for a reason
-abbrev pub one_more : Passed → Reason → Passed
-one_more p reason.AnotherPort = record p { another_port = p.another_port + 1 }
-one_more p reason.OtherLink = record p { other_link = p.other_link + 1 }
-one_more p reason.NotIp = record p { not_ip = p.not_ip + 1 }
-one_more p reason.NotUdp = record p { not_udp = p.not_udp + 1 }
-
 -- what a record adds to the counts
 abbrev pub count_of : Sorted → Passed → Passed
 count_of (Logged datagram) p = p
 count_of (Told why) p = p
 count_of (Counted why) p = one_more p why
-
--- each count is below n
-pub record IsBelow (p : Passed) (n : ℕ) : Type 0 where
-  pub another_port : p.another_port < n
-  pub other_link : p.other_link < n
-  pub not_ip : p.not_ip < n
-  pub not_udp : p.not_udp < n
 
 -- ---- the log
 

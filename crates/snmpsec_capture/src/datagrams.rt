@@ -2,10 +2,12 @@
 
 ghost use Rattle.std.specs.Prelude.{◌≡◌, List, ℕ, Option, length, IfOk, IfErr, IfSome, string_bytes};
 ghost use Rattle.std.specs.Io.KnownBytes.{Appends};
-ghost use Rattle.snmpsec_capture.specs.Datagrams.{CannotBegin, HasBegun, IsBelow, IsEnd, IsLogOf, IsSorted, Stands, StopsBy, StopsRecord, StopsRecords, WritesRecord, log_line, none_passed, note_line, one_more, told_word};
+ghost use Rattle.snmpsec_capture.specs.Passed.{IsBelow};
+ghost use Rattle.snmpsec_capture.specs.Datagrams.{CannotBegin, HasBegun, IsEnd, IsLogOf, IsSorted, Stands, StopsBy, StopsRecord, StopsRecords, WritesRecord, log_line, note_line, told_word};
 
 use crate::fault::CaptureFault;
 use crate::packet::{Found, find_datagram};
+use crate::passed::{Passed, Reason};
 use crate::pcap::{HEAD, HEADER, Head, Header, LARGEST, Next, read_header, read_record};
 use snmpsec_streams::{read_full, write_whole};
 use std::alloc::{AllocError, Global};
@@ -32,70 +34,6 @@ pub(crate) enum Telling {
     CutShort,
     BadLength,
     Empty,
-}
-
-/// Why a record is passed over.
-#[derive(Clone, Copy, Debug, PartialEq, Eq)]
-pub(crate) enum Reason {
-    AnotherPort,
-    OtherLink,
-    NotIp,
-    NotUdp,
-}
-
-/// How many records were passed over, by reason.
-#[derive(Clone, Copy, Debug, PartialEq, Eq)]
-pub struct Passed {
-    /// The type of the link, a number of LINKTYPE.
-    pub link: u32,
-    /// Datagrams from and to other ports.
-    pub another_port: u64,
-    /// Packets on a link whose frames aren't known.
-    pub other_link: u64,
-    /// Packets of other protocols than IP.
-    pub not_ip: u64,
-    /// Packets of other protocols over IP than UDP.
-    pub not_udp: u64,
-}
-
-impl Passed {
-    /// None yet.
-    fn none(link: u32) -> Passed
-        ensures { result ≡ none_passed link }
-    {
-        Passed {
-            link,
-            another_port: 0,
-            other_link: 0,
-            not_ip: 0,
-            not_udp: 0,
-        }
-    }
-
-    /// One more, for this reason.
-    fn count(self, reason: Reason) -> Passed
-        requires { IsBelow self 18446744073709551615 }
-        ensures { result ≡ one_more self reason }
-    {
-        match reason {
-            Reason::AnotherPort => Passed {
-                another_port: self.another_port + 1,
-                ..self
-            },
-            Reason::OtherLink => Passed {
-                other_link: self.other_link + 1,
-                ..self
-            },
-            Reason::NotIp => Passed {
-                not_ip: self.not_ip + 1,
-                ..self
-            },
-            Reason::NotUdp => Passed {
-                not_udp: self.not_udp + 1,
-                ..self
-            },
-        }
-    }
 }
 
 /// What becomes of a record in which this was found, where datagrams from and to these ports are wanted.
@@ -318,5 +256,13 @@ pub fn write_datagrams<R: Read, L: Write, N: Write>(
         Ok(header) => header,
         Err(fault) => return Err(fault),
     };
-    write_records(alloc, ports, header, room.as_mut_slice(), reader, log, notes)
+    write_records(
+        alloc,
+        ports,
+        header,
+        room.as_mut_slice(),
+        reader,
+        log,
+        notes,
+    )
 }

@@ -5,8 +5,10 @@ mod datagrams;
 mod fault;
 mod field;
 mod packet;
+mod passed;
 mod pcap;
 
-pub use datagrams::{Passed, write_datagrams};
+pub use datagrams::write_datagrams;
 pub use fault::CaptureFault;
 pub use packet::{Found, find_datagram};
+pub use passed::Passed;

@@ -178,7 +178,11 @@ fn find_in_ipv6(octets: &[u8], whole: bool) -> Found<'_>
         Walk::Udp(at) => find_in_udp(behind(packet, at), (40 + size).saturating_sub(at)),
         Walk::Fragment => Found::Fragment,
         Walk::Other => Found::NotUdp,
-        Walk::Ends => if whole { Found::NotUdp } else { Found::CutShort },
+        Walk::Ends => if whole {
+            Found::NotUdp
+        } else {
+            Found::CutShort
+        },
     }
 }
 
@@ -217,7 +221,11 @@ fn follow(packet: &[u8]) -> Walk
             return Walk::Ends;
         }
         if is_piece(packet, place) {
-            return if packet[place.at] == UDP { Walk::Fragment } else { Walk::Other };
+            return if packet[place.at] == UDP {
+                Walk::Fragment
+            } else {
+                Walk::Other
+            };
         }
         place = next_place(packet, place);
     }

@@ -1,4 +1,4 @@
-use Rattle.std.proofs.Common.{◌≡◌, ◌+◌, [], refl, sym, ap, ◌∙◌, arith, inl, inr, length, take, length-take-le}
+use Rattle.std.proofs.Common.{[], refl, arith, inl, inr, length-take-le}
 use Rattle.std.proofs.KnownBytes.{Consumes-nil}
 use Rattle.snmpsec_capture.proofs.Logs.{starts, starts_below, reads_part, reads_record, stops_record, below_next, below_most}
 use Rattle.snmpsec_capture.proofs.datagrams.write_records.Goals as goal

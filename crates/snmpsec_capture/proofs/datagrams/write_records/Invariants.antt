@@ -1,5 +1,6 @@
 use Rattle.std.proofs.Common.{◌≡◌, length}
-use Rattle.snmpsec_capture.specs.Datagrams.{Stands, IsBelow}
+use Rattle.snmpsec_capture.specs.Datagrams.{Stands}
+use Rattle.snmpsec_capture.specs.Passed.{IsBelow}
 use Rattle.snmpsec_capture.proofs.Logs.{streams, IsBefore}
 use Rattle.snmpsec_capture.proofs.datagrams.write_records.Given as goal
 

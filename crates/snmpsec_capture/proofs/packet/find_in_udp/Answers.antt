@@ -1,4 +1,4 @@
-use Rattle.std.proofs.Common.{◌≡◌, ◌-◌, List, ℕ, take, drop, sym, ap, ◌∙◌, arith}
+use Rattle.std.proofs.Common.{◌≡◌, take, drop, ap, ◌∙◌, arith}
 use Rattle.std.proofs.lemmas.Slice.{between_is}
 use Rattle.snmpsec_capture.specs.Field.{field16}
 use Rattle.snmpsec_capture.proofs.packet.find_in_udp.Goals as goal

@@ -1,4 +1,4 @@
-use Rattle.std.proofs.Common.{rules, ◌+◌, ◌≤◌, length, sym, ◌∙◌, ap, subst}
+use Rattle.std.proofs.Common.{rules, ◌+◌, ◌≤◌, length, sym, ◌∙◌, subst}
 use Rattle.snmpsec_capture.specs.declared.packet.Place.{Place}
 use Rattle.snmpsec_capture.proofs.Walks.{next_near, leads_on}
 use Rattle.snmpsec_capture.proofs.packet.follow.Goals as goal

@@ -1,4 +1,4 @@
-use Rattle.std.proofs.Common.{◌≡◌, ◌++◌, ◌≤◌, ℕ, List, length, take, drop, arith, subst, ◌∙◌, take_all, length-append, length-take-le}
+use Rattle.std.proofs.Common.{◌++◌, take, drop, arith, subst, ◌∙◌, take_all, length-append, length-take-le}
 use Rattle.std.specs.Io.KnownBytes.{Consumes}
 use Rattle.std.proofs.KnownBytes.{Consumes-trans}
 use Rattle.snmpsec_capture.proofs.Records.{none_large, none_cut, is_record}
