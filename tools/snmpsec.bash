@@ -5,16 +5,18 @@ _snmpsec() {
   local choices=
   COMPREPLY=()
   if [ "$COMP_CWORD" -eq 1 ]; then
-    choices="show open check-config check-access explain-access replay merge-clocks"
+    choices="show open check-config check-access explain-access who-sees replay merge-clocks"
   else
     case $command:$COMP_CWORD in
       check-access:3 | explain-access:3) choices="3" ;;
       check-access:5 | explain-access:5) choices="noAuthNoPriv authNoPriv authPriv" ;;
       check-access:6 | explain-access:6) choices="read write notify" ;;
       check-access:7 | explain-access:7) choices="@" ;;
-      open:2 | check-config:2 | check-access:2 | explain-access:2 | replay:* | merge-clocks:*) mapfile -t COMPREPLY < <(compgen -f -- "$word") ;;
+      who-sees:[45]) choices="read write notify" ;;
+      open:2 | check-config:2 | check-access:2 | explain-access:2 | who-sees:[23] | replay:* | merge-clocks:*) mapfile -t COMPREPLY < <(compgen -f -- "$word") ;;
     esac
     case $command in
+      who-sees) choices="$choices --users" ;;
       replay) choices="--moment --clocks-only --from-line" ;;
       merge-clocks) choices="--moment" ;;
     esac

@@ -230,3 +230,45 @@ def check_config(text):
     except RefusedConfig as refused:
         return str(refused), 1
     return "".join(f"{table} {len(rows[table])}\n" for table in TABLES), 0
+
+
+# ---- over all questions that can be answered accessAllowed
+
+
+def word(name):
+    """A name as a word: as it is, or as a TOML basic string."""
+    if name not in ("", "@") and not re.search(r"[\x00-\x20\x7f\"'\\]", name):
+        return name
+    return '"' + re.sub(r'[\x00-\x1f\x7f]', lambda it: f"\\u{ord(it[0]):04X}", re.sub(r'["\\]', r"\\\g<0>", name)) + '"'
+
+
+def context_word(name):
+    return word(name) if name else "@"
+
+
+def supports(rows, model, name, level):
+    """Whether the name is a user's, and that user has the passwords for the level."""
+    user = next((row for row in rows["user"] if row["name"] == name), None)
+    return model == 3 and user is not None and all(key in user for key in ["auth-password", "priv-password"][: level - 1])
+
+
+def who_sees(text, identifier, view=None, only_users=False):
+    """What `who-sees` prints, and its status; None where it says why on standard error."""
+    if arcs_of(identifier) is None:
+        return "", "snmpsec: bad word OID\n", 2
+    if view not in (None, "read", "write", "notify"):
+        return "", "snmpsec: bad word VIEW\n", 2
+    try:
+        rows = read(text)
+    except RefusedConfig as refused:
+        return str(refused), None, 1
+    lines = [
+        f"{group['model']} {word(group['name'])} {level} {asked_view} {context_word(context['name'])}\n"
+        for asked_view in ([view] if view else ["read", "write", "notify"])
+        for group in rows["group"]
+        for level, number in LEVELS.items()
+        for context in rows["context"]
+        if not only_users or supports(rows, group["model"], group["name"], number)
+        if explained(rows, group["model"], group["name"].encode(), number, asked_view, context["name"].encode(), arcs_of(identifier))[0] == "accessAllowed"
+    ]
+    return "".join(lines), "", 0 if lines else 1

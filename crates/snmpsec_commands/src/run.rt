@@ -9,9 +9,9 @@ use snmpsec_replay::{Printing, ReplayFault};
 use snmpsec_streams::write_whole;
 use snmpsec_texts::{
     Output, check_config_text, check_text, explain_text, merge_text, moment_of, open_text,
-    show_text,
+    show_text, who_text,
 };
-use snmpsec_words::{Command, ReplayWords, not_text, parse};
+use snmpsec_words::{Command, ReplayWords, WhoWords, not_text, parse};
 use std::alloc::{AllocError, Global};
 use std::io::Write;
 use std::rt::{Env, Files};
@@ -90,6 +90,7 @@ pub fn command<R: Files + AllocGlobal, O: Write>(
         Command::Open { config, digits } => open_message(rt, config, digits),
         Command::CheckAccess(words) => check_access(rt, words.config, &words.question),
         Command::ExplainAccess(words) => explain_access(rt, words.config, &words.question),
+        Command::WhoSees(words) => who_sees(rt, words),
         Command::CheckConfig { config } => check_config(rt, config),
         Command::Replay(words) => replay_log(rt, words, out),
         Command::MergeClocks { moment, files } => merge_clocks(rt, moment.unwrap_or("0"), files),
@@ -119,6 +120,15 @@ fn explain_access<R: Files + AllocGlobal>(
     match read_file(rt, name) {
         Ok(config) => explain_text(alloc, &config, question),
         Err(fault) => unread(alloc, fault, name),
+    }
+}
+
+/// Reads the configuration whole, before it looks at another word, and then lists who sees the variable.
+fn who_sees<R: Files + AllocGlobal>(rt: &R, words: &WhoWords<'_>) -> Result<Output, AllocError> {
+    let alloc = rt.alloc();
+    match read_file(rt, words.config) {
+        Ok(config) => who_text(alloc, &config, words.variable, words.view, words.only_users),
+        Err(fault) => unread(alloc, fault, words.config),
     }
 }
 

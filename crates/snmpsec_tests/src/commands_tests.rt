@@ -9,6 +9,7 @@ mod merged;
 mod opened;
 mod replays;
 mod streams;
+mod who_sees;
 
 use clap::error::ErrorKind;
 use snmpsec_commands::show_text;
@@ -180,7 +181,7 @@ fn a_usage_fault_names_what_is_wrong(rt: HostRuntime) -> Result<(), Fail> {
 }
 
 /// A command, and a word of its help.
-const HELP: [(&str, &str); 10] = [
+const HELP: [(&str, &str); 11] = [
     ("show", "pairs of hex digits"),
     ("open", "examples/replay/config.toml"),
     ("open", "pairs of hex digits"),
@@ -188,6 +189,7 @@ const HELP: [(&str, &str); 10] = [
     ("explain-access", "family POSITION"),
     ("check-access", "examples/access.toml"),
     ("check-access", "@ is the default one"),
+    ("who-sees", "examples/access.toml"),
     ("check-config", "examples/access.toml"),
     ("replay", "examples/replay/config.toml"),
     ("merge-clocks", "examples/station-a.clocks"),

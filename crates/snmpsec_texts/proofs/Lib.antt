@@ -2,3 +2,4 @@ pub mod Merges
 pub mod Shows
 pub mod Checks
 pub mod Opens
+pub mod Whos

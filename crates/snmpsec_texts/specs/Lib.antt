@@ -5,3 +5,4 @@ pub mod Words
 pub mod Questions
 pub mod CheckConfig
 pub mod Open
+pub mod WhoSees

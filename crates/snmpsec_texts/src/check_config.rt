@@ -45,7 +45,7 @@ fn counted(alloc: Global, rows: &ConfigRows) -> Result<Output, AllocError>
 }
 
 /// The line of a refusal, and what is wrong beside it.
-fn explained(alloc: Global, fault: &ConfigFault) -> Result<Output, AllocError>
+pub(crate) fn explained(alloc: Global, fault: &ConfigFault) -> Result<Output, AllocError>
     ensures out { IfOk result (λ output. output.out.items ≡ refusal_line fault.now ++ codes "\n") }
     ensures err { IfOk result (λ output. (why : List ℕ) × IsWhy fault.now why × (output.err.items ≡ codes "snmpsec: " ++ (why ++ codes "\n"))) }
     ensures status { IfOk result (λ output. output.status ≡ 1) }

@@ -1,5 +1,5 @@
-//! What the commands of `snmpsec` print that take no log, and their status: show, open, check-access, explain-access, check-config
-//! and merge-clocks.
+//! What the commands of `snmpsec` print that take no log, and their status: show, open, check-access, explain-access, who-sees,
+//! check-config and merge-clocks.
 #![tactic(auto)]
 
 mod check;
@@ -10,6 +10,7 @@ mod open;
 mod output;
 mod refused;
 mod show;
+mod who_sees;
 mod words;
 
 pub use check::check_text;
@@ -19,4 +20,5 @@ pub use merge::{merge_text, refused_clocks};
 pub use open::{open_text, opened};
 pub use output::Output;
 pub use show::show_text;
+pub use who_sees::who_text;
 pub use words::moment_of;

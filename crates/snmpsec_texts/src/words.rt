@@ -2,7 +2,8 @@
 
 ghost use Rattle.std.specs.Prelude.{◌≡◌, ℕ, ◌<◌, ◌≤◌, ◌^◌, decimal, IfSome, Some};
 ghost use Rattle.vacm_core.specs.declared.access.ViewType.{ViewType as AView};
-ghost use Rattle.snmpsec_texts.specs.Words.{view_word, access_word, access_status};
+ghost use Rattle.snmpsec_access.specs.Words.{view_word};
+ghost use Rattle.snmpsec_texts.specs.Words.{access_word, access_status};
 
 use snmp_ber::read_decimal;
 use snmpsec_config::MODEL_MAX;

@@ -5,9 +5,12 @@ ghost use Rattle.std.specs.Prelude.{◌≡◌, IfOk};
 ghost use Rattle.clap.specs.Values.{kind_of};
 ghost use Rattle.clap.specs.declared.error.kind.ErrorKind.TheVariants.{InvalidValue};
 
+mod wide;
+
 use clap::error::ErrorKind;
 use clap::{Arg, ArgAction, ArgMatches, Error};
 use std::alloc::{AllocError, Global};
+pub use wide::WhoWords;
 
 const SHOW_STATUS: &str =
     "Status: 0 shown, 1 refused (a line 'refused N NAME at PLACE'), 2 a fault of the command line.";
@@ -54,6 +57,8 @@ pub enum Command<'a> {
     CheckAccess(AccessWords<'a>),
     /// `explain-access CONFIG MODEL NAME LEVEL VIEW CONTEXT OID`
     ExplainAccess(AccessWords<'a>),
+    /// `who-sees [--users] CONFIG OID [VIEW]`
+    WhoSees(WhoWords<'a>),
     /// `check-config CONFIG`
     CheckConfig {
         config: &'a str,
@@ -253,6 +258,7 @@ fn parser<'a>(alloc: Global) -> Result<clap::Command<'a>, AllocError> {
         .subcommand(open(alloc)?)?
         .subcommand(check_access(alloc)?)?
         .subcommand(explain_access(alloc)?)?
+        .subcommand(wide::who_sees(alloc)?)?
         .subcommand(check_config(alloc)?)?
         .subcommand(replay(alloc)?)?
         .subcommand(merge_clocks(alloc)?)
@@ -306,6 +312,7 @@ pub fn parse<'a>(alloc: Global, words: &'a [String]) -> Result<Command<'a>, Erro
         }),
         Some(("check-access", words)) => Ok(Command::CheckAccess(access_words(alloc, words)?)),
         Some(("explain-access", words)) => Ok(Command::ExplainAccess(access_words(alloc, words)?)),
+        Some(("who-sees", words)) => Ok(Command::WhoSees(wide::who_words(alloc, words)?)),
         Some(("check-config", words)) => Ok(Command::CheckConfig {
             config: given(alloc, words, "CONFIG")?,
         }),

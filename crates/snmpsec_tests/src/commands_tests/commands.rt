@@ -5,7 +5,7 @@ use snmpsec_commands::run::command;
 use std::alloc::Global;
 
 /// A command line without the program's name, the status, standard output and standard error.
-static COMMANDS: [(&str, u8, &str, &str); 43] = [
+static COMMANDS: [(&str, u8, &str, &str); 46] = [
     // The configuration is read before another word is looked at.
     (
         "check-access /no/such/file 0 ann none see @ 1",
@@ -43,6 +43,19 @@ static COMMANDS: [(&str, u8, &str, &str); 43] = [
         "noSuchContext\n",
         "",
     ),
+    (
+        "who-sees /no/such/file 1.",
+        2,
+        "",
+        "snmpsec: cannot read /no/such/file\n",
+    ),
+    (
+        "who-sees --users /dev/null 1.",
+        2,
+        "",
+        "snmpsec: bad word OID\n",
+    ),
+    ("who-sees /dev/null 1.3 read", 1, "", ""),
     (
         "open /no/such/file 3g",
         2,

@@ -1,6 +1,6 @@
 //! The examples of the repository: the texts are those of its `examples/`, which `tools/check-examples` compares.
 
-use snmpsec_commands::{check_config_text, check_text, explain_text, merge_text};
+use snmpsec_commands::{check_config_text, check_text, explain_text, merge_text, who_text};
 use std::alloc::Global;
 use std::test::Fail;
 
@@ -227,6 +227,16 @@ view mib2
 family 4
 ";
 
+/// `examples/who-sees.txt`
+const WHO_SEES: &str = "3 nagios authNoPriv read @
+3 nagios authNoPriv read bridge-1
+3 nagios authPriv read @
+3 nagios authPriv read bridge-1
+3 ops authPriv read @
+3 ops authPriv write @
+3 ops authPriv notify @
+";
+
 fn questions() -> &'static [Question] {
     &QUESTIONS
 }
@@ -263,6 +273,19 @@ fn a_question_is_explained(rt: HostRuntime) -> Result<(), Fail> {
     let (_answer, words) = QUESTIONS[9];
     let output = explain_text(rt.alloc(), ACCESS.as_bytes(), &words)?;
     assert_eq!(rt; output.out.as_slice(), EXPLAINED.as_bytes());
+    Ok(())
+}
+
+#[test]
+fn all_who_see_a_variable_are_listed(rt: HostRuntime) -> Result<(), Fail> {
+    let output = who_text(
+        rt.alloc(),
+        ACCESS.as_bytes(),
+        "1.3.6.1.2.1.1.5.0",
+        None,
+        false,
+    )?;
+    assert_eq!(rt; output.out.as_slice(), WHO_SEES.as_bytes());
     Ok(())
 }
 

@@ -6,7 +6,8 @@ use std::alloc::{AllocError, Global};
 use std::test::Fail;
 
 /// Rows that fit beside better ones, before and after them.
-const CHOICES: &str = "context = [{ name = 'b' }, { name = '' }, { name = 'ab' }, { name = 'a' }]
+pub(super) const CHOICES: &str =
+    "context = [{ name = 'b' }, { name = '' }, { name = 'ab' }, { name = 'a' }]
 group = [{ model = 3, name = 'bob', group = 'h' }, { model = 1, name = 'ann', group = 'h' }, { model = 3, name = 'ann', group = 'g' }]
 [[access]] # any model
 group = 'g'

@@ -1,0 +1,4 @@
+pub mod Lines
+pub mod Wholes
+pub mod Named
+pub mod Refused

@@ -1,0 +1,3 @@
+pub mod Words
+pub mod Askers
+pub mod WhoSees

@@ -1,0 +1,66 @@
+//! Commands that ask a configuration more than one question.
+
+use crate::{given, word};
+use clap::{Arg, ArgAction, ArgMatches, Error};
+use std::alloc::{AllocError, Global};
+
+const WHO_STATUS: &str =
+    "A line for each question of OID that check-access answers by accessAllowed. There is none for another name or context than those of CONFIG:
+a name that no group row has sees nothing, and nothing is seen in a context that isn't there. A higher level may see less.
+Example: snmpsec who-sees examples/access.toml 1.3.6.1.2.1.1.5.0 read
+Status: 0 a line is printed, 1 there is none or a refused configuration, 2 a fault of the command line or a file that can't be read.";
+
+/// The words of who-sees.
+#[derive(Clone, Copy)]
+pub struct WhoWords<'a> {
+    /// The name of the configuration's file.
+    pub config: &'a str,
+    /// The variable.
+    pub variable: &'a str,
+    /// The view, or all.
+    pub view: Option<&'a str>,
+    /// Whether the lines of users alone are wanted.
+    pub only_users: bool,
+}
+
+/// The parser of who-sees.
+pub(crate) fn who_sees<'a>(alloc: Global) -> Result<clap::Command<'a>, AllocError> {
+    clap::Command::new(alloc, "who-sees")
+        .about(
+            "Print who may read, write or be notified of a variable: MODEL NAME LEVEL VIEW CONTEXT",
+        )
+        .after_help(WHO_STATUS)
+        .arg(
+            Arg::new(alloc, "users")
+                .long("users")
+                .action(ArgAction::SetTrue)
+                .help(
+                    "Print the lines alone of names that are users of CONFIG and support the level",
+                ),
+        )?
+        .arg(word(
+            alloc,
+            "CONFIG",
+            "TOML file with users, contexts, groups, access rows and families",
+        ))?
+        .arg(word(
+            alloc,
+            "OID",
+            "The variable, as 1.3.6.1.2.1.1.5.0: no name, no dot in front",
+        ))?
+        .arg(
+            Arg::new(alloc, "VIEW")
+                .action(ArgAction::Set)
+                .help("read, write or notify; each of them if left out"),
+        )
+}
+
+/// The words of who-sees.
+pub(crate) fn who_words<'a>(alloc: Global, words: &ArgMatches<'a>) -> Result<WhoWords<'a>, Error> {
+    Ok(WhoWords {
+        config: given(alloc, words, "CONFIG")?,
+        variable: given(alloc, words, "OID")?,
+        view: words.get_str("VIEW"),
+        only_users: words.get_flag("users"),
+    })
+}
