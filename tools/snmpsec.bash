@@ -5,18 +5,19 @@ _snmpsec() {
   local choices=
   COMPREPLY=()
   if [ "$COMP_CWORD" -eq 1 ]; then
-    choices="show open check-config check-access explain-access replay merge-clocks"
+    choices="show open check-config check-access explain-access replay merge-clocks datagrams"
   else
     case $command:$COMP_CWORD in
       check-access:3 | explain-access:3) choices="3" ;;
       check-access:5 | explain-access:5) choices="noAuthNoPriv authNoPriv authPriv" ;;
       check-access:6 | explain-access:6) choices="read write notify" ;;
       check-access:7 | explain-access:7) choices="@" ;;
-      open:2 | check-config:2 | check-access:2 | explain-access:2 | replay:* | merge-clocks:*) mapfile -t COMPREPLY < <(compgen -f -- "$word") ;;
+      open:2 | check-config:2 | check-access:2 | explain-access:2 | replay:* | merge-clocks:* | datagrams:*) mapfile -t COMPREPLY < <(compgen -f -- "$word") ;;
     esac
     case $command in
       replay) choices="--moment --clocks-only --from-line" ;;
       merge-clocks) choices="--moment" ;;
+      datagrams) choices="--port" ;;
     esac
   fi
   [ -z "$choices" ] || mapfile -t -O "${#COMPREPLY[@]}" COMPREPLY < <(compgen -W "$choices" -- "$word")

@@ -1,6 +1,7 @@
 //! What is printed, and its status; what is read and written.
 
 mod access;
+mod captured;
 mod commands;
 mod configs;
 mod examples;
@@ -180,7 +181,7 @@ fn a_usage_fault_names_what_is_wrong(rt: HostRuntime) -> Result<(), Fail> {
 }
 
 /// A command, and a word of its help.
-const HELP: [(&str, &str); 10] = [
+const HELP: [(&str, &str); 12] = [
     ("show", "pairs of hex digits"),
     ("open", "examples/replay/config.toml"),
     ("open", "pairs of hex digits"),
@@ -191,6 +192,8 @@ const HELP: [(&str, &str); 10] = [
     ("check-config", "examples/access.toml"),
     ("replay", "examples/replay/config.toml"),
     ("merge-clocks", "examples/station-a.clocks"),
+    ("datagrams", "examples/replay/captured.pcap"),
+    ("datagrams", "161 and 162 if left out"),
 ];
 
 #[test]
