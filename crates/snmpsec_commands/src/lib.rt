@@ -1,6 +1,7 @@
 //! The commands of `snmpsec`: from the command line and the files that it names to what is printed, and the status.
 #![tactic(auto)]
 
+pub mod datagrams;
 mod files;
 pub mod replay;
 pub mod run;

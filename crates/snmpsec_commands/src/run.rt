@@ -2,6 +2,7 @@
 
 ghost use Rattle.std.specs.Prelude.{◌≤◌};
 
+use crate::datagrams::{Unread, datagrams, ports_of};
 use crate::files::{FileFault, open_log, read_file};
 use crate::replay::{first_line_of, replay_as};
 use clap::error::ErrorKind;
@@ -13,7 +14,7 @@ use snmpsec_texts::{
 };
 use snmpsec_words::{Command, ReplayWords, WhoWords, not_text, parse};
 use std::alloc::{AllocError, Global};
-use std::io::Write;
+use std::io::{BufReader, BufWriter, Input, Read, Write};
 use std::rt::{Env, Files};
 use std::{env, io};
 
@@ -22,12 +23,12 @@ const OUT_OF_MEMORY: &[u8] = b"snmpsec: out of memory\n";
 const CANNOT_WRITE: &[u8] = b"snmpsec: cannot write\n";
 
 /// Runs the program over its arguments, and answers its status.
-pub fn run<R: Files + Env + AllocGlobal, O: Write, E: Write>(
+pub fn run<R: Files + Env + Input + AllocGlobal, O: Write, E: Write>(
     rt: &R,
     out: &mut O,
     err: &mut E,
 ) -> u8 {
-    match answer(rt, out) {
+    match answer(rt, out, err) {
         Ok(output) => print(&output, out, err),
         Err(_) => {
             let _ = write_whole(err, OUT_OF_MEMORY);
@@ -49,9 +50,10 @@ fn print<O: Write, E: Write>(output: &Output, out: &mut O, err: &mut E) -> u8 {
 }
 
 /// What the program prints, beside what a command wrote as it went.
-fn answer<R: Files + Env + AllocGlobal, O: Write>(
+fn answer<R: Files + Env + Input + AllocGlobal, O: Write, E: Write>(
     rt: &R,
     out: &mut O,
+    err: &mut E,
 ) -> Result<Output, AllocError> {
     let alloc = rt.alloc();
     let words = match env::args(rt) {
@@ -61,7 +63,7 @@ fn answer<R: Files + Env + AllocGlobal, O: Write>(
     };
     let words: Vec<String> = words.collect(alloc)?;
     match parse(alloc, words.as_slice()) {
-        Ok(asked) => command(rt, &asked, out),
+        Ok(asked) => command(rt, &asked, out, err),
         Err(fault) => usage(alloc, &fault),
     }
 }
@@ -80,10 +82,11 @@ fn usage(alloc: Global, fault: &clap::Error) -> Result<Output, AllocError> {
 }
 
 /// What the command that was given prints. That of replay is written as it goes, but for a fault.
-pub fn command<R: Files + AllocGlobal, O: Write>(
+pub fn command<R: Files + Input + AllocGlobal, O: Write, E: Write>(
     rt: &R,
     command: &Command<'_>,
     out: &mut O,
+    err: &mut E,
 ) -> Result<Output, AllocError> {
     match command {
         Command::Show { digits } => show_text(rt.alloc(), digits),
@@ -94,6 +97,7 @@ pub fn command<R: Files + AllocGlobal, O: Write>(
         Command::CheckConfig { config } => check_config(rt, config),
         Command::Replay(words) => replay_log(rt, words, out),
         Command::MergeClocks { moment, files } => merge_clocks(rt, moment.unwrap_or("0"), files),
+        Command::Datagrams { ports, file } => log_datagrams(rt, ports, file, out, err),
     }
 }
 
@@ -249,6 +253,54 @@ fn stopped(alloc: Global, fault: ReplayFault, log: &str) -> Result<Output, Alloc
         ReplayFault::CannotRead => unread(alloc, FileFault::CannotRead, log),
         ReplayFault::CannotWrite => Output::complaint(alloc, "cannot write"),
         ReplayFault::OutOfMemory => Err(AllocError),
+    }
+}
+
+/// Looks at the ports before it opens the file, and then writes the log of its datagrams. `-` is standard input.
+fn log_datagrams<R: Files + Input + AllocGlobal, O: Write, E: Write>(
+    rt: &R,
+    ports: &[&str],
+    name: &str,
+    out: &mut O,
+    err: &mut E,
+) -> Result<Output, AllocError> {
+    let alloc = rt.alloc();
+    let Some(ports) = ports_of(alloc, ports)? else {
+        return Output::complaint(alloc, "bad word PORT");
+    };
+    if name == "-" {
+        let Ok(mut reader) = BufReader::new(alloc, rt.reader()) else {
+            return Err(AllocError);
+        };
+        return write_log(alloc, &ports, name, &mut reader, out, err);
+    }
+    match open_log(rt, name) {
+        Ok(mut reader) => write_log(alloc, &ports, name, &mut reader, out, err),
+        Err(fault) => unread(alloc, fault, name),
+    }
+}
+
+/// Writes the log of what is read, as much at once as a buffer has room for.
+fn write_log<R: Read, O: Write, E: Write>(
+    alloc: Global,
+    ports: &[u16],
+    name: &str,
+    reader: &mut R,
+    out: &mut O,
+    err: &mut E,
+) -> Result<Output, AllocError> {
+    let Ok(mut log) = BufWriter::new(alloc, out) else {
+        return Err(AllocError);
+    };
+    let answer = datagrams(alloc, ports, name, reader, &mut log, err);
+    if log.flush().is_err() {
+        return Output::complaint(alloc, "cannot write");
+    }
+    match answer {
+        Ok(status) => Ok(Output::out(alloc, Vec::new(alloc), status)),
+        Err(Unread::CannotRead) => unread(alloc, FileFault::CannotRead, name),
+        Err(Unread::CannotWrite) => Output::complaint(alloc, "cannot write"),
+        Err(Unread::OutOfMemory) => Err(AllocError),
     }
 }
 

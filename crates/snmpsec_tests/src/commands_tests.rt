@@ -1,6 +1,7 @@
 //! What is printed, and its status; what is read and written.
 
 mod access;
+mod captured;
 mod commands;
 mod configs;
 mod examples;
@@ -181,7 +182,7 @@ fn a_usage_fault_names_what_is_wrong(rt: HostRuntime) -> Result<(), Fail> {
 }
 
 /// A command, and a word of its help.
-const HELP: [(&str, &str); 11] = [
+const HELP: [(&str, &str); 13] = [
     ("show", "pairs of hex digits"),
     ("open", "examples/replay/config.toml"),
     ("open", "pairs of hex digits"),
@@ -193,6 +194,8 @@ const HELP: [(&str, &str); 11] = [
     ("check-config", "examples/access.toml"),
     ("replay", "examples/replay/config.toml"),
     ("merge-clocks", "examples/station-a.clocks"),
+    ("datagrams", "examples/replay/captured.pcap"),
+    ("datagrams", "161 and 162 if left out"),
 ];
 
 #[test]

@@ -5,7 +5,7 @@ use snmpsec_commands::run::command;
 use std::alloc::Global;
 
 /// A command line without the program's name, the status, standard output and standard error.
-static COMMANDS: [(&str, u8, &str, &str); 46] = [
+static COMMANDS: [(&str, u8, &str, &str); 51] = [
     // The configuration is read before another word is looked at.
     (
         "check-access /no/such/file 0 ann none see @ 1",
@@ -270,6 +270,32 @@ static COMMANDS: [(&str, u8, &str, &str); 46] = [
         "",
         "snmpsec: bad word MOMENT\n",
     ),
+    // The ports are looked at before the file is opened.
+    (
+        "datagrams --port 161 --port 65536 /no/such/file",
+        2,
+        "",
+        "snmpsec: bad word PORT\n",
+    ),
+    (
+        "datagrams --port -1 /no/such/file",
+        2,
+        "",
+        "snmpsec: bad word PORT\n",
+    ),
+    (
+        "datagrams --port 0 /no/such/file",
+        2,
+        "",
+        "snmpsec: cannot read /no/such/file\n",
+    ),
+    ("datagrams /", 2, "", "snmpsec: cannot read /\n"),
+    (
+        "datagrams --port 161 --port 161 /dev/null",
+        1,
+        "refused datagrams /dev/null octet 0\n",
+        "",
+    ),
 ];
 
 fn commands() -> &'static [(&'static str, u8, &'static str, &'static str)] {
@@ -291,11 +317,12 @@ fn files_are_read_before_words_are_looked_at(rt: HostRuntime) -> Result<(), Fail
     for (line, status, out, err) in commands() {
         let words = line_of(rt.alloc(), line)?;
         let asked = parse(rt.alloc(), &words)?;
-        let mut written = Vec::new(rt.alloc());
-        let output = command(&rt, &asked, &mut written)?;
+        let (mut written, mut told) = (Vec::new(rt.alloc()), Vec::new(rt.alloc()));
+        let output = command(&rt, &asked, &mut written, &mut told)?;
         written.extend_from_slice(&output.out)?;
+        told.extend_from_slice(&output.err)?;
         assert_eq!(rt; written.as_slice(), out.as_bytes(), "{line}");
-        assert_eq!(rt; output.err.as_slice(), err.as_bytes(), "{line}");
+        assert_eq!(rt; told.as_slice(), err.as_bytes(), "{line}");
         assert_eq!(rt; output.status, *status, "{line}");
     }
     Ok(())

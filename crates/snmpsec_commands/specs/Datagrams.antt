@@ -1,0 +1,81 @@
+-- What `snmpsec datagrams` does with a capture.
+use Rattle.std.specs.Prelude.{◌≡◌, ◌⊎◌, ℕ, ◌<◌, ◌^◌, map, List, [], ◌∷◌, ◌++◌, codes, decimal, Option, IfSome}
+use Rattle.std.specs.List.{All, Contains}
+use Rattle.std.specs.Io.KnownBytes.{Appends, Keeps}
+use Rattle.snmpsec_streams.specs.Transfer.{WritesFront}
+use Rattle.snmpsec_capture.specs.Passed.{passed_words}
+use Rattle.snmpsec_capture.specs.Datagrams.{IsLogOf, Streams, StopsBy}
+use Rattle.snmpsec_capture.specs.declared.passed.Passed.{Passed}
+use Rattle.snmpsec_capture.specs.declared.fault.CaptureFault.TheVariants as capture
+use Rattle.snmpsec_commands.specs.declared.datagrams.Unread.{Unread}
+use Rattle.snmpsec_commands.specs.declared.datagrams.Unread.TheVariants as unread
+
+-- ---- the ports
+
+-- each word is the decimal of a port
+abbrev pub AreDecimals : List (List ℕ) → List ℕ → Type 0
+AreDecimals words ports = (words ≡ map decimal ports) × All (λ port. port < 2 ^ 16) ports
+
+-- the ports that the words ask for, where 161 and 162 are asked for by no word
+abbrev pub AskPorts : List (List ℕ) → List ℕ → Type 0
+AskPorts [] ports = ports ≡ 161 ∷ 162 ∷ []
+AskPorts (word ∷ words) ports = AreDecimals (word ∷ words) ports
+
+-- one of the words is no port
+abbrev pub HasNoPort : List (List ℕ) → Type 0
+HasNoPort words = (word : List ℕ) × Contains words word × ((port : ℕ) → port < 2 ^ 16 → word ≡ decimal port → ⊥)
+
+-- ---- the last lines
+
+-- what was passed over, by reason; no line where nothing was
+abbrev pub line_of : List ℕ → List ℕ
+line_of [] = []
+line_of (x ∷ xs) = codes "snmpsec: passed over: " ++ ((x ∷ xs) ++ codes "\n")
+
+abbrev pub passed_line : Passed → List ℕ
+passed_line p = line_of (passed_words p)
+
+-- the first octet of the file at which it is no capture
+abbrev pub refused_line : List ℕ → ℕ → List ℕ
+refused_line name place = codes "refused datagrams " ++ (name ++ (codes " octet " ++ (decimal place ++ codes "\n")))
+
+-- ---- what is written
+
+-- The capture was read to its end, and the log of its datagrams is written; the line for what was passed over is to be told.
+pub record IsWhole (ports : List ℕ) (s : Streams) (passed : Passed) : Type 0 where
+  pub log_is : IfSome s.unread (λ capture. (lines : List ℕ) × (tells : List ℕ) × IsLogOf ports capture lines tells passed
+      × Appends s.held s.written lines × Appends s.untold s.told tells)
+
+-- What a capture comes to is written, as far as it is one. Then these lines are due, the one in the log and the other beside it.
+abbrev pub Leaves : List ℕ → List ℕ → Streams → ℕ → List ℕ → List ℕ → Type 0
+Leaves ports name s status in_log beside =
+    ((status ≡ 0) × (passed : Passed) × IsWhole ports s passed × (in_log ≡ []) × (beside ≡ passed_line passed))
+    ⊎ ((status ≡ 1) × (place : ℕ) × StopsBy ports s (capture.Octet place) × (in_log ≡ refused_line name place) × (beside ≡ []))
+
+-- What a capture comes to is written as far as it is one, and of the last lines what `Writes` says.
+pub record Ends (ports name : List ℕ) (s : Streams) (Writes : Option (List ℕ) → Option (List ℕ) → List ℕ → Type 0) (status : ℕ) : Type 0 where
+  pub written : Option (List ℕ)
+  pub told : Option (List ℕ)
+  pub in_log : List ℕ
+  pub beside : List ℕ
+  pub leaves : Leaves ports name (record s { written = written; told = told }) status in_log beside
+  pub wrote : Writes written s.written in_log
+  pub tells : Writes told s.told beside
+
+-- all of them
+abbrev pub Tells : List ℕ → List ℕ → Streams → ℕ → Type 0
+Tells ports name s status = Ends ports name s Appends status
+
+-- What is done where it stops with a fault: it stops within the capture, or only a front of the last lines is written, or none is made.
+abbrev pub TellsNot : List ℕ → List ℕ → Streams → Unread → Type 0
+TellsNot ports name s unread.CannotRead = StopsBy ports s capture.CannotRead
+TellsNot ports name s unread.CannotWrite = StopsBy ports s capture.CannotWrite ⊎ ((status : ℕ) × Ends ports name s WritesFront status)
+TellsNot ports name s unread.OutOfMemory = StopsBy ports s capture.OutOfMemory ⊎ ((status : ℕ) × Ends ports name s (λ old new line. Keeps old new) status)
+
+-- ---- between the functions
+
+-- where a last line isn't written
+abbrev pub LosesLine : Option (List ℕ) → Option (List ℕ) → List ℕ → Unread → Type 0
+LosesLine old new line unread.CannotRead = ⊥
+LosesLine old new line unread.CannotWrite = WritesFront old new line
+LosesLine old new line unread.OutOfMemory = Keeps old new
