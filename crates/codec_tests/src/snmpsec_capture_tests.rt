@@ -127,11 +127,16 @@ fn a_packet_is_found_to_be_a_datagram_or_something_else(rt: HostRuntime) -> Resu
         destination: 161,
         octets: &[0x30, 3, 2, 1, 3],
     };
-    assert_eq!(rt; find_datagram(101, &packet, true), datagram);
-    assert_eq!(rt; find_datagram(101, &packet[..32], false), Found::CutShort);
-    assert_eq!(rt; find_datagram(101, &packet[..19], false), Found::CutShort);
-    assert_eq!(rt; find_datagram(101, &packet[..19], true), Found::NotIp);
-    assert_eq!(rt; find_datagram(1, &packet, true), Found::NotIp);
-    assert_eq!(rt; find_datagram(105, &packet, true), Found::OtherLink);
+    for (link, size, is_whole, wanted) in [
+        (101, 33, true, datagram),
+        (101, 32, false, Found::CutShort),
+        (101, 19, false, Found::CutShort),
+        (101, 19, true, Found::NotIp),
+        (1, 33, true, Found::NotIp),
+        (105, 33, true, Found::OtherLink),
+    ] {
+        let packet = &packet[..size.min(packet.len())];
+        assert_eq!(rt; find_datagram(link, packet, is_whole), wanted);
+    }
     Ok(())
 }

@@ -6,7 +6,7 @@ use Rattle.std.proofs.KnownBytes.{Appends-nil, Keeps-refl}
 use Rattle.snmpsec_capture.specs.Datagrams.{Streams}
 use Rattle.snmpsec_commands.specs.declared.datagrams.Unread.{Unread}
 use Rattle.snmpsec_commands.specs.declared.datagrams.Unread.TheVariants as unread
-use Rattle.snmpsec_commands.specs.Datagrams.{Ends, Leaves, LosesLine, Tells, TellsNot, line_of, AskPorts, AreDecimals, HasNoPort}
+use Rattle.snmpsec_commands.specs.Datagrams.{Leaves, LosesLine, Tells, TellsNot, line_of, AskPorts, AreDecimals, HasNoPort}
 
 -- ---- the last line
 

@@ -44,7 +44,7 @@ fn answer_of<R: Read, L: Write, N: Write>(
 }
 
 /// Reads a capture in one piece.
-fn written(alloc: Global, capture: &[u8]) -> Result<Written, Fail> {
+fn logged(alloc: Global, capture: &[u8]) -> Result<Written, Fail> {
     let mut reader = capture;
     let (mut log, mut notes) = (Vec::new(alloc), Vec::new(alloc));
     let answer = answer_of(alloc, &mut reader, &mut log, &mut notes)?;
@@ -53,7 +53,7 @@ fn written(alloc: Global, capture: &[u8]) -> Result<Written, Fail> {
 
 /// Reads the capture by a reader and a writer that give and take few octets, are interrupted so often before each call, and fail
 /// at one call.
-fn written_in_pieces(
+fn logged_in_pieces(
     alloc: Global,
     interruptions: (u32, u32),
     failing: (Option<u32>, Option<u32>),
@@ -92,7 +92,7 @@ fn a_capture_is_a_log_and_a_cut_one_is_refused(rt: HostRuntime) -> Result<(), Fa
     for (size, status, log, notes) in CUT {
         let mut capture = hex::decode(rt.alloc(), CAPTURE)?;
         capture.truncate(size);
-        let written = written(rt.alloc(), &capture)?;
+        let written = logged(rt.alloc(), &capture)?;
         assert_eq!(rt; written.answer, Ok(status));
         assert_eq!(rt; written.log.as_slice(), log.as_bytes());
         assert_eq!(rt; written.notes.as_slice(), notes.as_bytes());
@@ -103,14 +103,14 @@ fn a_capture_is_a_log_and_a_cut_one_is_refused(rt: HostRuntime) -> Result<(), Fa
 #[test]
 fn a_capture_is_read_octet_by_octet(rt: HostRuntime) -> Result<(), Fail> {
     for interruptions in [(0, 0), (1, 1), (999, 0), (0, 999)] {
-        let written = written_in_pieces(rt.alloc(), interruptions, (None, None))?;
+        let written = logged_in_pieces(rt.alloc(), interruptions, (None, None))?;
         assert_eq!(rt; written.answer, Ok(0));
         assert_eq!(rt; written.log.as_slice(), LOG.as_bytes());
         assert_eq!(rt; written.notes.as_slice(), NOTES.as_bytes());
     }
-    let written = written_in_pieces(rt.alloc(), (1000, 0), (None, None))?;
+    let written = logged_in_pieces(rt.alloc(), (1000, 0), (None, None))?;
     assert_eq!(rt; written.answer, Err(Unread::CannotRead));
-    let written = written_in_pieces(rt.alloc(), (0, 1000), (None, None))?;
+    let written = logged_in_pieces(rt.alloc(), (0, 1000), (None, None))?;
     assert_eq!(rt; written.answer, Err(Unread::CannotWrite));
     Ok(())
 }
@@ -118,7 +118,7 @@ fn a_capture_is_read_octet_by_octet(rt: HostRuntime) -> Result<(), Fail> {
 #[test]
 fn a_read_that_fails_leaves_the_records_before(rt: HostRuntime) -> Result<(), Fail> {
     for read in 0..277 {
-        let written = written_in_pieces(rt.alloc(), (0, 0), (Some(read), None))?;
+        let written = logged_in_pieces(rt.alloc(), (0, 0), (Some(read), None))?;
         assert_eq!(rt; written.answer, Err(Unread::CannotRead));
         let log = match read {
             0..87 => "",
@@ -136,7 +136,7 @@ fn a_read_that_fails_leaves_the_records_before(rt: HostRuntime) -> Result<(), Fa
 fn a_write_that_fails_leaves_a_front_of_the_log(rt: HostRuntime) -> Result<(), Fail> {
     // Two lines of 22 octets: eight writes of at most three octets each.
     for write in 0..16 {
-        let written = written_in_pieces(rt.alloc(), (0, 0), (None, Some(write)))?;
+        let written = logged_in_pieces(rt.alloc(), (0, 0), (None, Some(write)))?;
         assert_eq!(rt; written.answer, Err(Unread::CannotWrite), "write {write}");
         assert!(rt; LOG.as_bytes().starts_with(&written.log), "write {write}");
         assert!(rt;
@@ -144,7 +144,7 @@ fn a_write_that_fails_leaves_a_front_of_the_log(rt: HostRuntime) -> Result<(), F
             "write {write}"
         );
     }
-    let written = written_in_pieces(rt.alloc(), (0, 0), (None, Some(16)))?;
+    let written = logged_in_pieces(rt.alloc(), (0, 0), (None, Some(16)))?;
     assert_eq!(rt; written.answer, Ok(0));
     Ok(())
 }

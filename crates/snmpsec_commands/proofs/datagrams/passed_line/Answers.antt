@@ -1,6 +1,5 @@
-use Rattle.std.proofs.Common.{◌≡◌, ℕ, ◌++◌, ◌∙◌, sym, ap, codes, string_bytes, length, IfOk, rules}
+use Rattle.std.proofs.Common.{◌≡◌, ◌++◌, ◌∙◌, sym, ap, codes, string_bytes, length, IfOk, rules}
 use Rattle.std.proofs.lemmas.Result.{IfOk-weaker}
-use Rattle.snmpsec_capture.specs.Passed.{passed_words}
 use Rattle.snmpsec_commands.specs.Datagrams.{line_of}
 use Rattle.snmpsec_commands.proofs.Tellings.{line_made}
 use Rattle.snmpsec_commands.proofs.datagrams.passed_line.Goals as goal

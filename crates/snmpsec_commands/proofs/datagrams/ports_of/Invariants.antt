@@ -1,4 +1,4 @@
-use Rattle.std.proofs.Common.{◌≡◌, ◌<◌, ◌^◌, decimal, map, length, take}
+use Rattle.std.proofs.Common.{◌≡◌, ◌<◌, ◌^◌, decimal, map, take}
 use Rattle.std.specs.List.{All}
 use Rattle.snmpsec_commands.proofs.datagrams.ports_of.Given as goal
 
