@@ -155,7 +155,8 @@ static int respond_front(uint64_t now, uint32_t limit) {
 /* A Response without bindings; where even that is too long, nothing is sent. */
 static int respond_too_big(uint64_t now, uint32_t limit) {
     int answer = snmpsec_agent_respond_within(agent, now, TOO_BIG, 0, list, 0, new_salt(), limit);
-    return answer == SNMPSEC_TOO_LARGE ? snmpsec_agent_silent_drop(agent), answer : answer;
+    if (answer == SNMPSEC_TOO_LARGE && snmpsec_agent_silent_drop(agent)) return SNMPSEC_BAD_ARGUMENT;
+    return answer;
 }
 
 /* A SetRequest is looked at for its size before anything is set, with the longest error-status and error-index (RFC 3416, section 4.2.5). */

@@ -9,11 +9,11 @@ my ($session, $error) = Net::SNMP->session(
     -authpassword => 'maplesyrup', -privprotocol => 'aes', -privpassword => 'another-one', $size ? (-maxmsgsize => $size) : ());
 die "no session: $error\n" unless $session;
 
-sub tell {
+sub print_found {
     my ($what, $found) = @_;
     print defined $found ? "$what: " . scalar(keys %$found) . "\n" : "$what: " . $session->error() . "\n";
 }
 
 my $table = '1.3.6.1.2.1.1.9.1.3';
-tell('bulk', $session->get_bulk_request(-maxrepetitions => 100, -varbindlist => [$table]));
-tell('table', $session->get_table(-baseoid => $table, -maxrepetitions => 60));
+print_found('bulk', $session->get_bulk_request(-maxrepetitions => 100, -varbindlist => [$table]));
+print_found('table', $session->get_table(-baseoid => $table, -maxrepetitions => 60));

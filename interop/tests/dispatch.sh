@@ -104,11 +104,17 @@ COUNTS
 
 test_clients() {
     local sha="-l authNoPriv -u sha -a SHA -A maplesyrup" begun
-    if command -v perl > /dev/null && perl -MNet::SNMP -e1 2> /dev/null; then
+    if command -v perl > /dev/null && perl -MNet::SNMP -MCrypt::Rijndael -e1 2> /dev/null; then
         check "Net::SNMP at its defaults" "table: 300" "$(perl "$here/tests/bulk.pl" "$port" | tail -1)"
         check "Net::SNMP at 484 octets" "table: 300" "$(perl "$here/tests/bulk.pl" "$port" 484 | tail -1)"
     else
-        echo "skipped: Net::SNMP isn't installed (apt-get install libnet-snmp-perl)"
+        echo "skipped: Net::SNMP isn't installed (apt-get install libnet-snmp-perl libcrypt-rijndael-perl)"
+    fi
+    if command -v php > /dev/null && php -m | grep -qx snmp; then
+        check "PHP at authPriv" 'STRING: "a proved agent"' "$(php -r "echo snmp3_get('$at', 'sha', 'authPriv', 'SHA', 'maplesyrup', 'AES', 'another-one', '.$system.1.0', 2000000, 0);" 2>&1)"
+        check "PHP at authNoPriv" 'STRING: "a proved agent"' "$(php -r "echo snmp3_get('$at', 'md', 'authNoPriv', 'MD5', 'maplesyrup', '', '', '.$system.1.0', 2000000, 0);" 2>&1)"
+    else
+        echo "skipped: PHP's snmp isn't installed (apt-get install php-cli php-snmp)"
     fi
     if ! command -v snmpget > /dev/null; then return; fi
     has "snmpget in an unknown context" "Bad context specified" "$(ask snmpget $sha -n other $at $system.1.0)"

@@ -45,9 +45,7 @@ fn refused(
 ) -> Result<Vec<u8>, Fail> {
     let taken = accepted(agent, 0, datagram)?;
     assert_eq!(rt; agent.unhandled(&taken), Some(why));
-    Ok(agent
-        .refuse(0, &taken, why, SALT)?
-        .ok_or("a report")?)
+    Ok(agent.refuse(0, &taken, why, SALT)?.ok_or("a report")?)
 }
 
 /// What the manager learns of a report on its request.
