@@ -5,9 +5,9 @@ ghost use Rattle.std.specs.Option.{option_map};
 ghost use Rattle.snmp_ber.specs.Splits.{IsSplit, Lacks};
 ghost use Rattle.snmpsec_replay.specs.Lines.{AreReadAs, IsCut, IsReadAs, Looks, LooksAhead, ReadsLine, ReadsPart};
 
-use snmpsec_streams::{Failed, TRIES, read_octet};
 use hex::FromHexError;
 use snmp_ber::{find, read_decimal, split_once};
+use snmpsec_streams::{Failed, TRIES, read_octet};
 use std::alloc::{AllocError, Global};
 use std::io::{BufRead, ErrorKind, Read};
 use std::marker::Model;
