@@ -13,7 +13,6 @@ use vacm_core::{AccessRow, ContextRow, FamilyRow, GroupRow, Mask, Matching, Name
 mod agent_rows;
 mod agents;
 mod decisions;
-mod dispatch;
 mod exchange_rows;
 mod exchanges;
 mod memory;
