@@ -17,6 +17,7 @@ use Rattle.snmp_sending.specs.Bodies.{pdu_in}
 use Rattle.snmp_sending.specs.Accepts.{IsTakenInTime}
 use Rattle.snmp_sending.specs.Speaks.{Speech, spoken, spoken_contexts, HasSameUser}
 use Rattle.snmp_sending.specs.Sends.{CanSend, RefusesSender}
+use Rattle.snmp_sending.specs.Fronts.{FrontText, SealsFront}
 use Rattle.snmp_outcome.specs.declared.fault.TakeFault.{TakeFault}
 use Rattle.snmp_outcome.specs.declared.fault.TakeFault.TheVariants.{ClockExhausted}
 use Rattle.snmp_agent.specs.Agent.{AgentState}
@@ -66,6 +67,11 @@ Sends agent now message = Needs (now - agent.started ≤ pair_max) 15 (λ _. Sea
 pub record CanBeSent (agent : AgentState) (now : ℕ) (message : BootsAndTime → Sending) : Type 0 where
   pub runs : now - agent.started ≤ pair_max
   pub sealable : IsSealable agent.users (message (own_pair agent.boots agent.started now))
+
+-- the answer to sending the longest front of variables that has room, of a message that the agent makes of its boots and time and of
+-- variables: first that its clock has run out
+abbrev pub SendsFront : AgentState → ℕ → ℕ → (BootsAndTime → List Variable → Sending) → List Variable → Result FrontText ℕ → Type 0
+SendsFront agent now limit message vs = Needs (now - agent.started ≤ pair_max) 15 (λ _. SealsFront agent.users limit (message (own_pair agent.boots agent.started now)) vs)
 
 -- Messages of this user at this level can go out now.
 abbrev pub CanSendAt : AgentState → ℕ → List ℕ → Level → Type 0

@@ -1,7 +1,7 @@
 //! What an agent does with the messages that it accepts (RFC 3412, sections 4.2.2 and 7.1; RFC 3413, section 3.2), and Responses
 //! within a limit.
 
-ghost use Rattle.std.specs.Prelude.{◌≡◌, All, map, IfOk, IfSome, OnErr, IsErrOf, Some};
+ghost use Rattle.std.specs.Prelude.{◌≡◌, [], All, map, take, IfOk, IfSome, OnErr, IsErrOf, Some};
 ghost use Rattle.snmp_message.specs.Scoped.{Contexts, ScopedFront, contexts_of};
 ghost use Rattle.snmp_msg.specs.Pdu.{PduParts, PduText, pdu_of};
 ghost use Rattle.snmp_msg.specs.Variables.{CanBeWritten, variable_of};
@@ -10,20 +10,23 @@ ghost use Rattle.snmp_outcome.specs.Answers.{given_of};
 ghost use Rattle.snmp_outcome.specs.Outcome.{own_pair};
 ghost use Rattle.snmp_sending.specs.Sends.{send_answer};
 ghost use Rattle.snmp_sending.specs.UpTo.{UpTo};
+ghost use Rattle.snmp_sending.specs.Fronts.{front_answer};
 ghost use Rattle.snmp_agent.specs.Agent.{AgentState};
 ghost use Rattle.snmp_agent.specs.Counts.{count_at, one_more};
-ghost use Rattle.snmp_agent.specs.Sent.{response, responding, Sends, CanBeSent, IsAcceptedByManagers};
+ghost use Rattle.snmp_agent.specs.Sent.{response, responding, Sends, SendsFront, CanBeSent, IsAcceptedByManagers};
 ghost use Rattle.snmp_agent.specs.Dispatch.{HandledBy, Refuses, RefusalCanBeSent, refusing_answer};
 ghost use Rattle.snmp_sending.specs.declared.counter.Counter.TheVariants.{SilentDrops};
 
 use crate::agent::Agent;
 use crate::commands::{is_answer, is_command};
 use crate::counter::one_more;
+use crate::laws::response_is_accepted;
 use crate::refusal::{Counted, send_refusal};
+use crate::response::{Response, send_response_front};
 use crate::unhandled::Unhandled;
 use snmp_msg::{Binding, Pdu, Scoped, Spelled, one_content, one_pdu};
 use snmp_outcome::{TakeFault, Taken};
-use snmp_sending::{Counter, is_confirmed};
+use snmp_sending::{Counter, Fronted, is_confirmed};
 
 impl Agent {
     /// How many messages this counter has counted.
@@ -207,5 +210,53 @@ impl Agent {
             return Err(TakeFault::TooLarge);
         }
         Ok(text)
+    }
+
+    /// The Response with the longest front of the bindings whose text has at most `limit` octets, as a GetBulk's is cut (RFC 3416, section
+    /// 4.2.3), and how many bindings that has. One text is sealed, and of the others only the length is counted.
+    ///
+    /// The errors are those of `respond` before its text; then TooLarge (16), exactly where even the Response without bindings has more
+    /// octets than `limit`, or than 65,507; and OutOfMemory (14).
+    pub fn respond_front<B: Spelled>(
+        &mut self,
+        now: u64,
+        taken: &Taken<'_>,
+        status: i32,
+        index: i32,
+        bindings: &[B],
+        salt: [u8; 8],
+        limit: usize,
+    ) -> Result<Fronted, TakeFault>
+        requires { All (λ b. B.fits b) bindings.now }
+        ensures answer { (c : Contexts) (p : PduParts) → ScopedFront (text_of taken.now.text) c → PduText c.pdu p
+            → IfSome (front_answer result) (SendsFront self.old now limit (λ own vs. responding self.old.engine own (given_of taken.now) c p status index vs salt) (map B.says bindings.now)) }
+
+        // The refusals before the text come before want of memory.
+        ensures memory { (c : Contexts) (p : PduParts) → ScopedFront (text_of taken.now.text) c → PduText c.pdu p → IsErrOf result TakeFault.OutOfMemory
+            → CanBeSent self.old now (λ own. responding self.old.engine own (given_of taken.now) c p status index [] salt) }
+        ensures accepted { (c : Contexts) (p : PduParts) → ScopedFront (text_of taken.now.text) c → PduText c.pdu p
+            → IfOk result (λ f. IsAcceptedByManagers self.old.users
+            (response self.old.engine (own_pair self.old.boots self.old.started now) (given_of taken.now) c p status index (take f.count (map B.says bindings.now)) salt) f.text.items) }
+        ensures same { self.new ≡ self.old }
+    {
+        response_is_accepted();
+        let Some(own) = self.engine.pair(now) else {
+            return Err(TakeFault::ClockExhausted);
+        };
+        let response = Response {
+            status,
+            index,
+            salt,
+        };
+        send_response_front(
+            self.alloc,
+            &mut self.users,
+            &self.engine.id,
+            own,
+            taken,
+            &response,
+            bindings,
+            limit,
+        )
     }
 }

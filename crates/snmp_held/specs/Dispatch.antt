@@ -9,12 +9,13 @@ use Rattle.snmp_msg.specs.Variables.{Variable, AreBindings}
 use Rattle.snmp_outcome.specs.Outcome.{Given}
 use Rattle.snmp_outcome.specs.Refusals.{answer_number}
 use Rattle.snmp_outcome.specs.declared.fault.TakeFault.{TakeFault}
+use Rattle.snmp_outcome.specs.declared.fault.TakeFault.TheVariants.{OutOfMemory}
 use Rattle.snmp_sending.specs.Classes.{is_confirmed}
 use Rattle.snmp_sending.specs.Sends.{send_refusal}
 use Rattle.snmp_sending.specs.UpTo.{UpTo}
 use Rattle.snmp_agent.specs.Agent.{AgentState}
 use Rattle.snmp_agent.specs.Sent.{responding, Sends, CanSendAt, RefusesSenderAt}
-use Rattle.snmp_agent.specs.Dispatch.{HandledBy, Refuses}
+use Rattle.snmp_agent.specs.Dispatch.{HandledBy, Refuses, RefusalCanBeSent}
 use Rattle.snmp_agent.specs.declared.unhandled.Unhandled.{Unhandled}
 use Rattle.snmp_held.specs.Agents.{AgentHeld, IsAsked, HasNoBindings, LeavesMessage}
 use Rattle.snmp_held.specs.declared.fault.CallFault.{CallFault}
@@ -88,9 +89,18 @@ Reports old now g why salt answer new =
 abbrev pub report_refusal : TakeFault → Option (Result (Option (List ℕ)) ℕ)
 report_refusal fault = option_map (λ n. Err n) (answer_number fault)
 
+-- There is a report, and none of the refusals before its text applies.
+abbrev pub CanReport : AgentState → ℕ → Given → Unhandled → List ℕ → Type 0
+CanReport agent now g why salt = (c : Contexts) (p : PduParts) → ScopedFront g.text c → PduText c.pdu p → RefusalCanBeSent agent now g p why salt
+
+-- The report is refused, or finds no memory where there is one that can be sent. Nothing changes.
+abbrev pub StopsWith : AgentState → ℕ → Given → Unhandled → List ℕ → TakeFault → Type 0
+StopsWith agent now g why salt fault =
+    IfSome (report_refusal fault) (λ answer. Reports agent now g why salt answer agent) × (fault ≡ OutOfMemory → CanReport agent now g why salt)
+
 abbrev pub StopsReport : AgentHeld → ℕ → Unhandled → List ℕ → CallFault → Type 0
 StopsReport held now why salt (Refused fault) =
-    (g : Given) × (held.last ≡ Some g) × IfSome (report_refusal fault) (λ answer. Reports held.agent now g why salt answer held.agent)
+    (g : Given) × (held.last ≡ Some g) × StopsWith held.agent now g why salt fault
 StopsReport held now why salt NothingTaken = held.last ≡ None
 StopsReport held now why salt _ = ⊥
 
@@ -104,5 +114,5 @@ ReportsHeld old now why salt (Err fault) new = StopsReport old now why salt faul
 -- between the functions: the same of what is kept, before it is left to be sent
 abbrev pub AnswersReport : AgentState → ℕ → Given → Unhandled → List ℕ → Result (Option (Vec ℕ)) CallFault → AgentState → Type 0
 AnswersReport old now g why salt (Ok report) new = Reports old now g why salt (Ok (option_map (λ v. v.items) report)) new
-AnswersReport old now g why salt (Err (Refused fault)) new = IfSome (report_refusal fault) (λ answer. Reports old now g why salt answer old)
+AnswersReport old now g why salt (Err (Refused fault)) new = StopsWith old now g why salt fault
 AnswersReport old now g why salt (Err _) new = ⊥

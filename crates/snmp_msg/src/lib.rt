@@ -17,8 +17,8 @@ mod whole;
 pub use binding::{Binding, Bindings, VarBind, read_binding};
 pub use fault::CanonFault;
 pub use laws::{canonical_again, one_pdu, one_whole, pdu_written_again};
-pub use list::Spelled;
-pub use pdu::{Pdu, read_pdu, write_pdu, write_pdu_of};
+pub use list::{Spelled, binding_len};
+pub use pdu::{Pdu, read_pdu, write_pdu, write_pdu_of, written_pdu_len};
 pub use snmp_message::{
     Cut, Data, Header, LARGEST, Message, MsgFault, Refusal, Scoped, Security, USER_BASED,
     WriteFault, cut, field_filled, longer_whole, message_size, one_content, one_cut, one_message,

@@ -98,9 +98,9 @@ fn binding_content_len<B: Spelled>(binding: &B) -> usize
     binding.name_len() + element_len(binding.content().len())
 }
 
-/// How many octets a VarBind is written in, or None where they are more than a datagram can have.
+/// How many octets a VarBind is written in (RFC 3416, section 3), or None where they are more than a datagram can have, 65,507.
 #[tactic(auto, unfolding(crate::specs::Variables::variable_text))]
-fn binding_len<B: Spelled>(binding: &B) -> Option<usize>
+pub fn binding_len<B: Spelled>(binding: &B) -> Option<usize>
     requires { B.fits binding.now }
     ensures some { IfSome result (λ size. size ≡ length (variable_text (B.says binding.now))) }
     ensures most { IfSome result (λ size. size ≤ LARGEST) }

@@ -1,6 +1,6 @@
 //! PDUs (RFC 3416, section 3).
 
-ghost use Rattle.std.specs.Prelude.{◌≡◌, List, [], ◌+◌, ◌*◌, ◌<◌, ◌≤◌, ◌++◌, length, slice_range, option_map, IfOk, OnOk, OnErr, IsErrOf, MatchResult, IsTrue, ◌↔◌, All, map};
+ghost use Rattle.std.specs.Prelude.{◌≡◌, ℕ, List, [], ◌+◌, ◌*◌, ◌<◌, ◌≤◌, ◌++◌, length, slice_range, option_map, IfOk, OnOk, OnErr, IsErrOf, MatchResult, IsTrue, ◌↔◌, All, map};
 ghost use Rattle.std.specs.Result.{result_ok};
 ghost use Rattle.snmp_ber.specs.Spelling.{head_size};
 ghost use Rattle.snmp_msg.specs.Pdu.{IsPduTag, AreInRange, PduParts, PduText, PduFits, pdu_in, pdu_content_in, pdu_of, pdu_with, with_variables, pdu_content_size, pdu_front_text, pdu_text};
@@ -134,6 +134,16 @@ pub(crate) fn pdu_len(pdu: &Pdu<'_>, list_len: usize) -> usize
     ensures most { result ≤ 3 * LARGEST }
 {
     element_len(pdu_content_len(pdu, list_len))
+}
+
+/// How many octets a PDU with these numbers is written in, in the shortest spelling, whose list of bindings has `list_len` octets, at most
+/// 65,507.
+pub fn written_pdu_len(id: i32, second: i32, third: i32, list_len: usize) -> usize
+    requires { list_len ≤ LARGEST }
+    ensures size { (tag : ℕ) (list : List ℕ) → length list ≡ list_len → result ≡ length (pdu_text (record { tag = tag; id = id; second = second; third = third; list = list })) }
+    ensures most { result ≤ 3 * LARGEST }
+{
+    pdu_len(&numbered(0xA0, id, second, third), list_len)
 }
 
 /// Appends what stands in a PDU before the content of its list, which has `list_len` octets.

@@ -4,3 +4,5 @@ pub mod Salts
 pub mod Accepted
 pub mod Spoken
 pub mod Whole
+pub mod Counting
+pub mod Fronting

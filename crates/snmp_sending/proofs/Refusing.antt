@@ -29,7 +29,7 @@ same_err a b e = cc
 pub err_is : {T E : Type 0} (a b : E) → a ≡ b → IsErrOf {T = T} (Err a) b
 err_is a b e = rw e refl
 
-known : (o : Option User) (P : User → Type 0) → IsSomeAnd o P → IsSomeAnd o (λ _. Unit {0})
+pub known : (o : Option User) (P : User → Type 0) → IsSomeAnd o P → IsSomeAnd o (λ _. Unit {0})
 known None P h = h
 known (Some user) P h = tt
 

@@ -6,3 +6,5 @@ pub mod UpTo
 pub mod Speaks
 pub mod Requests
 pub mod Accepts
+pub mod Fronts
+pub mod Outlines

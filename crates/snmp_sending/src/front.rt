@@ -17,3 +17,11 @@ pub struct Front<'a> {
     /// error-index, or max-repetitions of a GetBulkRequest.
     pub third: i32,
 }
+
+/// A text with the bindings at the front of a list.
+#[derive(Drop)]
+pub struct Fronted {
+    pub text: Vec<u8>,
+    /// How many bindings it has.
+    pub count: usize,
+}

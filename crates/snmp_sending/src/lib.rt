@@ -3,6 +3,7 @@
 
 mod body;
 mod class;
+mod count;
 mod counter;
 mod envelope;
 mod front;
@@ -11,8 +12,9 @@ mod sending;
 
 pub use body::Body;
 pub use class::is_confirmed;
+pub use count::count_within;
 pub use counter::{Counter, counter_name};
 pub use envelope::Envelope;
-pub use front::Front;
+pub use front::{Front, Fronted};
 pub use laws::{request_is_accepted, sealed_is_accepted, spoken_is_accepted};
-pub use sending::{send, send_of, send_plain, supports};
+pub use sending::{send, send_front, send_of, send_plain, supports};

@@ -1,23 +1,26 @@
 //! Messages that go out.
 
-ghost use Rattle.std.specs.Prelude.{◌≡◌, ◌+◌, ◌<◌, ◌≤◌, All, length, map, IfOk, IfSome, MatchResult, OnOk, OnErr, IsErrOf, true};
+ghost use Rattle.std.specs.Prelude.{◌≡◌, ◌+◌, ◌<◌, ◌≤◌, All, [], length, map, take, IfOk, IfSome, MatchResult, OnOk, OnErr, IsErrOf, true};
 ghost use Rattle.snmp_ber.specs.declared.level.Level.TheVariants.{NoAuthNoPriv};
+ghost use Rattle.engine_clock.specs.Pairs.{IsPair};
 ghost use Rattle.usm_users.specs.Users.{HasUserAt};
 ghost use Rattle.usm_core.specs.Refusals.{Supports};
 ghost use Rattle.usm_core.specs.Answers.{seal_answer};
 ghost use Rattle.usm_core.specs.Sealed.{Seals, IsSealable};
 ghost use Rattle.snmp_sending.specs.Sends.{sent, sent_with, send_answer, CanSend, RefusesSender};
+ghost use Rattle.snmp_sending.specs.Fronts.{SealsFront, front_answer, room};
 ghost use Rattle.snmp_msg.specs.Pdu.{IsPduTag, IsSpelled};
 ghost use Rattle.snmp_sending.specs.Bodies.{has_auth, scoped_of, pdu_in, scoped_after, pdu_after, BodyFits};
 
 use crate::body::{Body, write_body};
+use crate::count::count_within;
 use crate::envelope::Envelope;
-use crate::front::Front;
+use crate::front::{Front, Fronted};
 use snmp_ber::Level;
 use snmp_msg::{LARGEST, Spelled};
 use snmp_outcome::TakeFault;
 use std::alloc::Global;
-use usm_core::{Users, UsmFault, sealed_size};
+use usm_core::{Users, UsmFault, sealed_size, some_sealed};
 
 /// At a level with authentication, there is a user of this name that supports it.
 fn has_user(users: &Users, user: &[u8], level: Level) -> Result<(), UsmFault>
@@ -127,6 +130,52 @@ pub fn send_of<B: Spelled>(
     match seal_body(alloc, users, envelope, front, bindings) {
         Ok(text) => Ok(text),
         Err(fault) => Err(fault.into()),
+    }
+}
+
+/// The most octets of a datagram within a limit.
+fn room(limit: usize) -> usize
+    ensures is { result ≡ room limit }
+    ensures least { result ≤ limit }
+    ensures most { result ≤ LARGEST }
+{
+    limit.min(LARGEST)
+}
+
+/// The text of the message with the longest front of the bindings that has at most `limit` octets, and how many bindings that has. One text is
+/// sealed.
+///
+/// The errors are those of `send` before the text; then TooLarge (16), exactly where even the text without bindings has more octets than
+/// `limit`, or than 65,507; and OutOfMemory.
+pub fn send_front<B: Spelled>(
+    alloc: Global,
+    users: &mut Users,
+    envelope: &Envelope<'_>,
+    front: &Front<'_>,
+    bindings: &[B],
+    limit: usize,
+) -> Result<Fronted, TakeFault>
+    requires id { envelope.now.id ≤ 2147483647 }
+    requires engine { length envelope.now.engine.now ≤ 32 }
+    requires user { length envelope.now.user.now ≤ 32 }
+    requires pair { IsPair envelope.now.pair }
+    requires tag { IsPduTag front.now.tag }
+    requires fit { All (λ b. B.fits b) bindings.now }
+    ensures rows { IfSome (front_answer result) (SealsFront users.old.users limit (λ vs. sent_with envelope.now (scoped_after front.now vs)) (map B.says bindings.now)) }
+    ensures memory { IsErrOf result TakeFault.OutOfMemory → IsSealable users.old.users (sent_with envelope.now (scoped_after front.now [])) }
+    ensures spelled { IfOk result (λ f. IsSpelled (pdu_after front.now (take f.count (map B.says bindings.now)))) }
+    ensures users { users.new.users ≡ users.old.users }
+{
+    some_sealed();
+    if let Err(fault) = supports(users, envelope.user, envelope.level) {
+        return Err(fault);
+    }
+    let Some(count) = count_within(users, envelope, front, bindings, room(limit)) else {
+        return Err(TakeFault::TooLarge);
+    };
+    match send_of(alloc, users, envelope, front, &bindings[..count]) {
+        Ok(text) => Ok(Fronted { text, count }),
+        Err(fault) => Err(fault),
     }
 }
 

@@ -8,4 +8,5 @@ pub mod Determined
 pub mod Same
 pub mod Sealeds
 pub mod SealedSizes
+pub mod SealedLengths
 pub mod Caching

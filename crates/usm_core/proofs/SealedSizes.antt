@@ -19,11 +19,11 @@ use Rattle.usm_core.specs.Table.{Needs, holds, fails}
 use Rattle.usm_core.specs.Answers.{seal_answer}
 use Rattle.usm_core.specs.Sealed.{Sending, SendingFits, SealedText, Writes, Seals, IsSealable, IsSentData, IsSentText, sent_fields, spelled_with, digest_of}
 
-by_bool : (b : Bool) (P Q R : Type 0) → (P → R) → (Q → R) → MatchBool b P Q → R
+pub by_bool : (b : Bool) (P Q R : Type 0) → (P → R) → (Q → R) → MatchBool b P Q → R
 by_bool true P Q R f g h = f h
 by_bool false P Q R f g h = g h
 
-from_some : {X : Type 0} (o : Option X) (P : X → Type 0) (Q : Type 0) → ((x : X) → P x → Q) → IsSomeAnd o P → Q
+pub from_some : {X : Type 0} (o : Option X) (P : X → Type 0) (Q : Type 0) → ((x : X) → P x → Q) → IsSomeAnd o P → Q
 from_some None P Q f h = absurd h
 from_some (Some x) P Q f h = f x h
 
@@ -99,7 +99,7 @@ below_row : {X : Type 0} (P : Type 0) (k n : ℕ) (below : P → Result X ℕ �
 below_row P k n below other (holds p x) = (p, x)
 below_row P k n below other (fails never) = absurd (other refl)
 
-refused_writes : (users : List User) (m : Sending) (n : ℕ) → n ≡ 16 → Seals users m (Err n) → IsSealable users m × Writes users m (Err n)
+pub refused_writes : (users : List User) (m : Sending) (n : ℕ) → n ≡ 16 → Seals users m (Err n) → IsSealable users m × Writes users m (Err n)
 unfolding Seals
 refused_writes users m n e rows =
     let flags = below_row _ 18 n _ (λ x. omega (arith, e, x)) rows in

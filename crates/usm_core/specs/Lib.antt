@@ -4,6 +4,7 @@ pub mod Authentic
 pub mod Verified
 pub mod Answers
 pub mod Sealed
+pub mod Sizes
 pub mod Writing
 pub mod Says
 pub mod Cache

@@ -11,6 +11,7 @@ mod laws;
 mod layout;
 mod privacy;
 mod seal;
+mod size;
 mod spell;
 mod users;
 mod verify;

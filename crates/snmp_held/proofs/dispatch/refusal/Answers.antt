@@ -6,7 +6,7 @@ use Rattle.snmp_message.specs.Scoped.{Contexts, ScopedFront}
 use Rattle.snmp_outcome.specs.Outcome.{Given}
 use Rattle.snmp_outcome.specs.Answers.{given_of}
 use Rattle.snmp_agent.specs.Agent.{AgentState}
-use Rattle.snmp_agent.specs.Dispatch.{Refuses}
+use Rattle.snmp_agent.specs.Dispatch.{Refuses, RefusalCanBeSent}
 use Rattle.snmp_agent.specs.Report.{report_of}
 use Rattle.snmp_held.specs.Dispatch.{Reports, report_refusal}
 use Rattle.snmp_held.proofs.Told.{if_told}
@@ -29,5 +29,7 @@ returns-clause-answer c =
     let rows : R (given_of c.taken-taken.result) c.refuse.new.self = c.in-Err.ensures.answer in
     let same : c.refuse.new.self ≡ c.args.agent.now = c.in-Err.ensures.err in
     let of_kept : R c.args.kept.now c.args.agent.now = subst (R c.args.kept.now) same (subst (λ (g : Given). R g c.refuse.new.self) c.taken-taken.ensures rows) in
-    if_told refused (λ a. Reports c.args.agent.now c.args.now c.args.kept.now c.args.why c.args.salt a c.args.agent.now)
-    (λ a is. λ k p f q. subst (λ (o : Option (Result (Option (List ℕ)) ℕ)). IfSome o (λ answer. Refuses c.args.agent.now c.args.now c.args.kept.now p c.args.why c.args.salt answer c.args.agent.now)) is (of_kept k p f q))
+    let memory = λ is. subst (λ (g : Given). (k : Contexts) (p : PduParts) → ScopedFront g.text k → PduText k.pdu p → RefusalCanBeSent c.args.agent.now c.args.now g p c.args.why c.args.salt) c.taken-taken.ensures
+    (λ k p f q. c.in-Err.ensures.memory k p f q is) in
+    (if_told refused (λ a. Reports c.args.agent.now c.args.now c.args.kept.now c.args.why c.args.salt a c.args.agent.now)
+    (λ a is. λ k p f q. subst (λ (o : Option (Result (Option (List ℕ)) ℕ)). IfSome o (λ answer. Refuses c.args.agent.now c.args.now c.args.kept.now p c.args.why c.args.salt answer c.args.agent.now)) is (of_kept k p f q)), memory)
