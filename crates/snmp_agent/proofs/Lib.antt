@@ -8,3 +8,4 @@ pub mod Alike
 pub mod Accepted
 pub mod UpTos
 pub mod Values
+pub mod Fronts

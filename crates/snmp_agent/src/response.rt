@@ -1,6 +1,7 @@
 //! Responses.
 
 ghost use Rattle.std.specs.Prelude.{◌≡◌, List, [], All, map, take, IfOk, IfSome, IsErrOf};
+ghost use Rattle.engine_clock.specs.Engines.{IsEngine};
 ghost use Rattle.engine_clock.specs.Pairs.{IsPair};
 ghost use Rattle.snmp_message.specs.Scoped.{Contexts, ScopedFront, scoped_text};
 ghost use Rattle.snmp_msg.specs.Pdu.{PduParts, PduText, pdu_with, pdu_text};
@@ -40,6 +41,8 @@ fn envelope<'a>(
 ) -> Envelope<'a>
     ensures id { result.id ≡ taken.now.id }
     ensures engine { result.engine.now ≡ engine.now }
+    ensures bounds { IsEngine engine.now }
+    ensures pair { result.pair ≡ own }
     ensures user { result.user.now ≡ taken.now.user.now }
     ensures message { (c : Contexts) (p : PduParts) (vs : List Variable)
         → sent_with result (scoped_text c.engine c.name (pdu_text (pdu_with 162 p.id response.now.status response.now.index vs)))

@@ -1,0 +1,54 @@
+-- Fronts of bindings, of one message told in two ways.
+use Rattle.std.proofs.Common.{◌≡◌, ◌⊎◌, inl, inr, ℕ, ◌<◌, ◌≤◌, ◌+◌, ◌-◌, List, [], length, take, sym, subst, Result, Ok, Err, Option, Some, None}
+use Rattle.std.specs.Prelude.{IfSome, IfOk}
+use Rattle.snmp_msg.specs.Variables.{Variable}
+use Rattle.usm_users.specs.User.{User}
+use Rattle.usm_core.specs.Sealed.{Sending, Seals, IsSealable}
+use Rattle.usm_core.specs.Table.{holds}
+use Rattle.engine_clock.specs.Pairs.{BootsAndTime, pair_max}
+use Rattle.snmp_outcome.specs.Outcome.{own_pair}
+use Rattle.snmp_outcome.specs.declared.fault.TakeFault.{TakeFault}
+use Rattle.snmp_sending.specs.declared.front.Fronted.{Fronted}
+use Rattle.snmp_sending.specs.Speaks.{Speech, spoken, SpeechFits}
+use Rattle.snmp_sending.specs.Fronts.{FrontText, SealsFront, front_answer, IsLongestFront, IsWithin, IsBeyond, room}
+use Rattle.snmp_agent.specs.Agent.{AgentState}
+use Rattle.snmp_agent.specs.Sent.{SendsFront, IsAcceptedByManagers}
+use Rattle.snmp_agent.proofs.Accepted.{AreAccepted}
+
+module _ (users : List User) (limit : ℕ) (vs : List Variable) (after of : List Variable → Sending) (is : (ws : List Variable) → after ws ≡ of ws) where
+  same_longest : (count : ℕ) → IsLongestFront users (room limit) after vs count → IsLongestFront users (room limit) of vs count
+  same_longest count h = record {
+    most = h.most;
+    fits = subst (IsWithin users (room limit)) (is (take count vs)) h.fits;
+    longest = λ small. subst (IsBeyond users (room limit)) (is (take (count + 1) vs)) (h.longest small);
+  }
+
+  same_answer : (answer : Result FrontText ℕ) → SealsFront users limit after vs answer → SealsFront users limit of vs answer
+  same_answer (Ok f) h = (subst (λ (m : Sending). Seals users m (Ok f.text)) (is (take f.count vs)) h.0, h.1, same_longest f.count h.2)
+  same_answer (Err n) (inl rows) = inl (subst (λ (m : Sending). Seals users m (Err n)) (is []) rows)
+  same_answer (Err n) (inr h) = inr (h.0, subst (IsSealable users) (is []) h.1, subst (IsBeyond users (room limit)) (is []) h.2)
+
+  pub same_message : (answer : Option (Result FrontText ℕ)) → IfSome answer (SealsFront users limit after vs) → IfSome answer (SealsFront users limit of vs)
+  same_message None h = h
+  same_message (Some answer) h = same_answer answer h
+
+pub fits_by : {T E : Type 0} (r : Result T E) (P Q : T → Type 0) → ((x : T) → P x → Q x) → IfOk r P → IfOk r Q
+fits_by (Ok x) P Q f h = f x h
+fits_by (Err e) P Q f h = tt
+
+some_front : (o : Option (Result FrontText ℕ)) (P Q : Result FrontText ℕ → Type 0) → ((a : Result FrontText ℕ) → P a → Q a) → IfSome o P → IfSome o Q
+some_front None P Q f h = h
+some_front (Some a) P Q f h = f a h
+
+-- under the agent's clock
+pub sends_front : (agent : AgentState) (now limit : ℕ) (message : BootsAndTime → List Variable → Sending) (vs : List Variable) (own : BootsAndTime)
+    → now - agent.started ≤ pair_max → own ≡ own_pair agent.boots agent.started now → (o : Option (Result FrontText ℕ))
+    → IfSome o (SealsFront agent.users limit (message own) vs) → IfSome o (SendsFront agent now limit message vs)
+sends_front agent now limit message vs own runs is o h =
+    some_front o _ _ (λ a x. holds runs x) (subst (λ (q : BootsAndTime). IfSome o (SealsFront agent.users limit (message q) vs)) is h)
+
+pub accepted_front : (r : Result Fronted TakeFault) (users : List User) (limit : ℕ) (of : List Variable → Speech) (vs : List Variable) → ((ws : List Variable) → AreAccepted users (of ws))
+    → IfOk r (λ f. SpeechFits (of (take f.count vs))) → IfSome (front_answer r) (SealsFront users limit (λ ws. spoken (of ws)) vs)
+    → IfOk r (λ f. IsAcceptedByManagers users (of (take f.count vs)) f.text.items)
+accepted_front (Err e) users limit of vs law fits rows = tt
+accepted_front (Ok f) users limit of vs law fits rows = λ others held now same. law (take f.count vs) others held now f.text.items fits same rows.0
