@@ -30,6 +30,8 @@ returns-clause-answer c =
     let same : c.refuse.new.self ≡ c.args.agent.now = c.in-Err.ensures.err in
     let of_kept : R c.args.kept.now c.args.agent.now = subst (R c.args.kept.now) same (subst (λ (g : Given). R g c.refuse.new.self) c.taken-taken.ensures rows) in
     let memory = λ is. subst (λ (g : Given). (k : Contexts) (p : PduParts) → ScopedFront g.text k → PduText k.pdu p → RefusalCanBeSent c.args.agent.now c.args.now g p c.args.why c.args.salt) c.taken-taken.ensures
-    (λ k p f q. c.in-Err.ensures.memory k p f q is) in
-    (if_told refused (λ a. Reports c.args.agent.now c.args.now c.args.kept.now c.args.why c.args.salt a c.args.agent.now)
-    (λ a is. λ k p f q. subst (λ (o : Option (Result (Option (List ℕ)) ℕ)). IfSome o (λ answer. Refuses c.args.agent.now c.args.now c.args.kept.now p c.args.why c.args.salt answer c.args.agent.now)) is (of_kept k p f q)), memory)
+    (λ k p f q. c.in-Err.ensures.memory k p f q is) in (
+      if_told refused (λ a. Reports c.args.agent.now c.args.now c.args.kept.now c.args.why c.args.salt a c.args.agent.now)
+          (λ a is. λ k p f q. subst (λ (o : Option (Result (Option (List ℕ)) ℕ)). IfSome o (λ answer. Refuses c.args.agent.now c.args.now c.args.kept.now p c.args.why c.args.salt answer c.args.agent.now)) is (of_kept k p f q)),
+      memory,
+    )

@@ -48,6 +48,6 @@ returns-clause-accepted g c s p front is_pdu =
     let rows = rw (to_z-of_z w32 c.args.status fits_status, to_z-of_z w32 c.args.index fits_index) at (c.send_response_front.ensures.rows s p front is_pdu) in
     let fits : IfOk c.send_response_front.result (λ f. SpeechFits (of c.in-Some.own (take f.count vs))) = rw (to_z-of_z w32 c.args.status fits_status, to_z-of_z w32 c.args.index fits_index) at (c.send_response_front.ensures.fits s p front is_pdu) in
     let told = accepted_front c.send_response_front.result users c.args.limit (of c.in-Some.own) vs
-        (λ ws others held now text fits same seals. c.response_is_accepted.ensures users others held now engine c.in-Some.own (given_of c.args.taken.now) s p c.args.status c.args.index ws c.args.salt text fits same seals) fits rows in
+    (λ ws others held now text fits same seals. c.response_is_accepted.ensures users others held now engine c.in-Some.own (given_of c.args.taken.now) s p c.args.status c.args.index ws c.args.salt text fits same seals) fits rows in
     subst (λ (a : AgentState). IfOk c.send_response_front.result (λ f. IsAcceptedByManagers a.users (response a.engine (own_pair a.boots a.started c.args.now) (given_of c.args.taken.now) s p c.args.status c.args.index (take f.count vs) c.args.salt) f.text.items)) c.self.view_is
     (subst (λ (q : BootsAndTime). IfOk c.send_response_front.result (λ f. IsAcceptedByManagers users (of q (take f.count vs)) f.text.items)) c.in-Some.ensures.1 told)

@@ -39,7 +39,7 @@ loop-binding-preserved g c =
     let bs = c.args.bindings.now in
     let i = c.loop-binding.binding-index in
     let more : c.loop-binding.list_len + c.in-Some.size ≡ length (variables_text (map says (take (i + 1) bs))) =
-      omega (arith, c.in-Some.ensures.some, c.loop-binding.invariant.size, text_more_length says bs i c.binding-item.result c.loop-binding-test.true c.binding-item.is)
+    omega (arith, c.in-Some.ensures.some, c.loop-binding.invariant.size, text_more_length says bs i c.binding-item.result c.loop-binding-test.true c.binding-item.is)
     in
     record {
       count = ap (λ (n : ℕ). n + 1) c.loop-binding.invariant.count;

@@ -17,7 +17,7 @@ returns-clause-size c = λ salt content text salt_is short sealed.
     let salt_alike = salt_size c.args.header.now.privacy salt salt_is ∙ sym (zeros c.salt_octets.result c.salt_octets.ensures.most ∙ c.salt_octets.ensures.size) in
     measured_text c.args.self.now.users m n c.security_len.result _ c.security_len.ensures.size
     (record { engine = refl; boots = sym (ap (λ (p : BootsAndTime). p.boots) c.pair.view_is); time = sym (ap (λ (p : BootsAndTime). p.time) c.pair.view_is); user = refl; auth = zeros n c.code_octets.ensures.most; salt = salt_alike })
-    c.one_element.ensures.one 
+    c.one_element.ensures.one
     (subst (λ (known : Known). IsCodeSize known.users c.args.header.now c.args.user.now n) c.self.view_is (record { code = c.code_octets.ensures.code; none = c.code_octets.ensures.none }))
     content short refl text sealed
 
