@@ -9,6 +9,8 @@ use Rattle.snmp_agent.specs.Agent.{AgentState}
 use Rattle.snmp_agent.specs.Dispatch.{Refuses, RefusalCanBeSent}
 use Rattle.snmp_agent.specs.Report.{report_of}
 use Rattle.snmp_held.specs.Dispatch.{Reports, report_refusal}
+use Rattle.snmp_outcome.specs.declared.fault.TakeFault.TheVariants.{OutOfMemory}
+use Rattle.snmp_sending.proofs.Refusing.{err_is}
 use Rattle.snmp_held.proofs.Told.{if_told}
 use Rattle.snmp_held.proofs.dispatch.refusal.Goals as goal
 
@@ -28,10 +30,9 @@ returns-clause-answer c =
     let R : Given → AgentState → Type 0 = λ g new. (k : Contexts) (p : PduParts) → ScopedFront g.text k → PduText k.pdu p → IfSome refused (λ answer. Refuses c.args.agent.now c.args.now g p c.args.why c.args.salt answer new) in
     let rows : R (given_of c.taken-taken.result) c.refuse.new.self = c.in-Err.ensures.answer in
     let same : c.refuse.new.self ≡ c.args.agent.now = c.in-Err.ensures.err in
-    let of_kept : R c.args.kept.now c.args.agent.now = subst (R c.args.kept.now) same (subst (λ (g : Given). R g c.refuse.new.self) c.taken-taken.ensures rows) in
-    let memory = λ is. subst (λ (g : Given). (k : Contexts) (p : PduParts) → ScopedFront g.text k → PduText k.pdu p → RefusalCanBeSent c.args.agent.now c.args.now g p c.args.why c.args.salt) c.taken-taken.ensures
-    (λ k p f q. c.in-Err.ensures.memory k p f q is) in (
+    let of_kept : R c.args.kept.now c.args.agent.now = subst (R c.args.kept.now) same (subst (λ (g : Given). R g c.refuse.new.self) c.taken-taken.ensures rows) in (
       if_told refused (λ a. Reports c.args.agent.now c.args.now c.args.kept.now c.args.why c.args.salt a c.args.agent.now)
           (λ a is. λ k p f q. subst (λ (o : Option (Result (Option (List ℕ)) ℕ)). IfSome o (λ answer. Refuses c.args.agent.now c.args.now c.args.kept.now p c.args.why c.args.salt answer c.args.agent.now)) is (of_kept k p f q)),
-      memory,
+      λ is. subst (λ (g : Given). (k : Contexts) (p : PduParts) → ScopedFront g.text k → PduText k.pdu p → RefusalCanBeSent c.args.agent.now c.args.now g p c.args.why c.args.salt) c.taken-taken.ensures
+          (λ k p f q. c.in-Err.ensures.memory k p f q (err_is c.in-Err.fault OutOfMemory is)),
     )
