@@ -1,5 +1,5 @@
 -- What is told of the texts that a replay is handed.
-use Rattle.std.proofs.Common.{ℕ, List, inr}
+use Rattle.std.proofs.Common.{List, inr}
 use Rattle.engine_clock.specs.Faults.{IsFaultOf}
 use Rattle.engine_clock.specs.declared.saved.ClockFault.{ClockFault}
 use Rattle.engine_clock.specs.declared.saved.ClockFault.TheVariants as clock_faults
@@ -7,8 +7,9 @@ use Rattle.usm_users.specs.User.{User}
 use Rattle.vacm_core.specs.Tables.{Tables}
 use Rattle.snmpsec_config.specs.Refusals.{Loads}
 use Rattle.snmpsec_texts.specs.Merge.{TellsFault}
+use Rattle.snmpsec_texts.specs.Questions.{Printed}
 use Rattle.snmpsec_commands.specs.Replay.{Handed, Refuses}
 
-pub clocks_refused : (h : Handed) (users : List User) (tables : Tables) (fault : ClockFault) (status : ℕ) (out : List ℕ) → Loads h.config users tables → IsFaultOf h.moment h.clocks fault → TellsFault h.name fault status out → Refuses h out
-clocks_refused h users tables (clock_faults.Line n) status out loads fault tells = inr (record { users = users; tables = tables; loads = loads; number = n; fault = fault; text = tells.1 })
-clocks_refused h users tables clock_faults.OutOfMemory status out loads fault tells = absurd tells
+pub clocks_refused : (h : Handed) (users : List User) (tables : Tables) (fault : ClockFault) (printed : Printed) → Loads h.config users tables → IsFaultOf h.moment h.clocks fault → TellsFault h.name fault printed → Refuses h printed.out
+clocks_refused h users tables (clock_faults.Line n) printed loads fault tells = inr (record { users = users; tables = tables; loads = loads; number = n; fault = fault; text = tells.0 })
+clocks_refused h users tables clock_faults.OutOfMemory printed loads fault tells = absurd tells

@@ -7,6 +7,7 @@ use Rattle.engine_clock.specs.declared.saved.ClockFault.{ClockFault}
 use Rattle.engine_clock.specs.declared.saved.ClockFault.TheVariants as clock_faults
 use Rattle.engine_clock.specs.Merging.{IsMergeOf, HoldsMergeOf}
 use Rattle.snmpsec_texts.specs.Merge.{NamedText, texts_of, TellsFault, MergeAnswers}
+use Rattle.snmpsec_texts.specs.Questions.{Printed}
 
 -- A file stands at this index.
 pub record StandsAt (files : List NamedText) (i : ℕ) (file : NamedText) : Type 0 where
@@ -32,28 +33,27 @@ texts_taken (suc i) [] = refl
 texts_taken (suc i) (file ∷ files) = ap (λ texts. file.1 ∷ texts) (texts_taken i files)
 
 -- the file that isn't saved clocks is told
-told : (moment : ℕ) (files : List NamedText) (i : ℕ) (file : NamedText) (held : Marks) (fault : ClockFault) (status : ℕ) (out : List ℕ) → StandsAt files i file
-    → HoldsMergeOf moment (take i (texts_of files)) held → IsFaultOf moment file.1 fault → TellsFault file.0 fault status out → MergeAnswers moment files status out
-told moment files i file held (clock_faults.Line line) status out at holds fault tells = inr (
-  tells.0,
-  record {
-    before = take i files;
-    file = file;
-    after = drop (i + 1) files;
-    parts = at.split;
-    held = held;
-    accepted = rw (← texts_taken i files) holds;
-    line = line;
-    fault = fault;
-    text = tells.1;
-  },
-)
-told moment files i file held clock_faults.OutOfMemory status out at holds fault tells = absurd tells
+told : (moment : ℕ) (files : List NamedText) (i : ℕ) (file : NamedText) (held : Marks) (fault : ClockFault) (printed : Printed) → StandsAt files i file
+    → HoldsMergeOf moment (take i (texts_of files)) held → IsFaultOf moment file.1 fault → TellsFault file.0 fault printed → MergeAnswers moment files printed
+told moment files i file held (clock_faults.Line line) printed at holds fault tells = inr (record {
+  before = take i files;
+  file = file;
+  after = drop (i + 1) files;
+  parts = at.split;
+  held = held;
+  accepted = rw (← texts_taken i files) holds;
+  line = line;
+  fault = fault;
+  out = tells.0;
+  err = tells.1;
+  status = tells.2;
+})
+told moment files i file held clock_faults.OutOfMemory printed at holds fault tells = absurd tells
 
-pub if_told : {A E : Type 0} (r : Result A E) (status : A → ℕ) (out : A → List ℕ) (moment : ℕ) (files : List NamedText) (i : ℕ) (file : NamedText) (held : Marks) (fault : ClockFault) → StandsAt files i file
-    → HoldsMergeOf moment (take i (texts_of files)) held → IsFaultOf moment file.1 fault → IfOk r (λ x. TellsFault file.0 fault (status x) (out x)) → IfOk r (λ x. MergeAnswers moment files (status x) (out x))
-if_told (Ok x) status out moment files i file held fault at holds is_fault tells = told moment files i file held fault (status x) (out x) at holds is_fault tells
-if_told (Err e) status out moment files i file held fault at holds is_fault tells = tt
+pub if_told : {A E : Type 0} (r : Result A E) (printed : A → Printed) (moment : ℕ) (files : List NamedText) (i : ℕ) (file : NamedText) (held : Marks) (fault : ClockFault) → StandsAt files i file
+    → HoldsMergeOf moment (take i (texts_of files)) held → IsFaultOf moment file.1 fault → IfOk r (λ x. TellsFault file.0 fault (printed x)) → IfOk r (λ x. MergeAnswers moment files (printed x))
+if_told (Ok x) printed moment files i file held fault at holds is_fault tells = told moment files i file held fault (printed x) at holds is_fault tells
+if_told (Err e) printed moment files i file held fault at holds is_fault tells = tt
 
 all_texts : {A : Type 0} (f : A → NamedText) (xs : List A) (i : ℕ) → length xs ≤ i → take i (texts_of (map f xs)) ≡ texts_of (map f xs)
 all_texts f [] zero h = refl
@@ -62,5 +62,6 @@ all_texts f (x ∷ xs) zero h = absurd (omega arith)
 all_texts f (x ∷ xs) (suc i) h = ap (λ texts. (f x).1 ∷ texts) (all_texts f xs i (omega arith))
 
 -- all files are saved clocks
-pub all_merged : {A : Type 0} (moment : ℕ) (f : A → NamedText) (xs : List A) (i : ℕ) (out : List ℕ) (status : ℕ) → length xs ≤ i → status ≡ 0 → IsMergeOf moment (take i (texts_of (map f xs))) out → MergeAnswers moment (map f xs) status out
-all_merged moment f xs i out status h nothing merged = inl (nothing, rw (← all_texts f xs i h) merged)
+pub all_merged : {A : Type 0} (moment : ℕ) (f : A → NamedText) (xs : List A) (i : ℕ) (printed : Printed) → length xs ≤ i → printed.status ≡ 0 → printed.err ≡ []
+    → IsMergeOf moment (take i (texts_of (map f xs))) printed.out → MergeAnswers moment (map f xs) printed
+all_merged moment f xs i printed h nothing quiet merged = inl (record { out = rw (← all_texts f xs i h) merged; err = quiet; status = nothing })

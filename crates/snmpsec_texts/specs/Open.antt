@@ -1,5 +1,5 @@
 -- What `snmpsec open` prints.
-use Rattle.std.specs.Prelude.{◌≡◌, ◌⊎◌, ℕ, List, [], ◌++◌, codes, Ok, Err}
+use Rattle.std.specs.Prelude.{◌≡◌, ◌⊎◌, ℕ, List, [], Ok, Err}
 use Rattle.hex.specs.Hex.{decode_of}
 use Rattle.snmp_message.specs.Numbers.{refusal_number}
 use Rattle.usm_users.specs.User.{User}
@@ -8,7 +8,7 @@ use Rattle.snmpsec_config.specs.Refusals.{Loads}
 use Rattle.snmpsec_open.specs.Opening.{Opens}
 use Rattle.snmpsec_texts.specs.declared.refused.Refused.{Refused as ARefused}
 use Rattle.snmpsec_texts.specs.Refusals.{refused_line}
-use Rattle.snmpsec_texts.specs.Show.{IsNoHex}
+use Rattle.snmpsec_texts.specs.Show.{TellsNoHex}
 use Rattle.snmpsec_texts.specs.Questions.{Printed, TellsRefused}
 
 -- The lines of the message that these users open are printed.
@@ -31,13 +31,6 @@ OpensBy users w printed = Opened users w printed ⊎ RefusesOpening users w prin
 -- by the users of the configuration, with the keys of their passwords
 abbrev pub OpensFrom : List ℕ → List ℕ → Printed → Type 0
 OpensFrom config w printed = (users : List User) × (tables : Tables) × Loads config users tables × OpensBy users w printed
-
--- The word is told.
-pub record TellsNoHex (digits : List ℕ) (printed : Printed) : Type 0 where
-  pub none : IsNoHex digits
-  pub out : printed.out ≡ []
-  pub err : printed.err ≡ codes "snmpsec: " ++ (codes "bad word HEX" ++ codes "\n")
-  pub status : printed.status ≡ 2
 
 -- The datagram of the word is opened, or the configuration is refused.
 pub record OpensWord (config digits : List ℕ) (printed : Printed) : Type 0 where

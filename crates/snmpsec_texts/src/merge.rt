@@ -2,6 +2,7 @@
 
 ghost use Rattle.std.specs.Prelude.{◌≡◌, map, IfOk, string_bytes};
 ghost use Rattle.snmpsec_texts.specs.Merge.{TellsFault, MergeAnswers};
+ghost use Rattle.snmpsec_texts.specs.Questions.{Printed};
 
 use crate::output::Output;
 use engine_clock::laws::absorbing_each_text_merges;
@@ -17,7 +18,8 @@ pub fn merge_text(
     moment: u64,
     files: &[(String, Vec<u8>)],
 ) -> Result<Output, AllocError>
-    ensures { IfOk result (λ output. MergeAnswers moment (map (λ file. (string_bytes file.0, file.1.items)) files.now) output.status output.out.items) }
+    ensures { IfOk result (λ output. let printed : Printed = record { out = output.out.items; err = output.err.items; status = output.status } in
+        MergeAnswers moment (map (λ file. (string_bytes file.0, file.1.items)) files.now) printed) }
 {
     absorbing_each_text_merges();
     let mut joined = Clocks::new(alloc);
@@ -31,9 +33,10 @@ pub fn merge_text(
     Ok(Output::out(alloc, joined.save()?, 0))
 }
 
-/// The line for a file that isn't a saved text.
+/// The line for a file that isn't a saved text, on standard output, and status 1.
 pub fn refused_clocks(alloc: Global, name: &str, fault: ClockFault) -> Result<Output, AllocError>
-    ensures { IfOk result (λ output. TellsFault name.now fault output.status output.out.items) }
+    ensures { IfOk result (λ output. let printed : Printed = record { out = output.out.items; err = output.err.items; status = output.status } in
+        TellsFault name.now fault printed) }
 {
     match fault {
         ClockFault::Line(line) => {

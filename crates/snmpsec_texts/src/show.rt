@@ -1,13 +1,13 @@
 //! `snmpsec show`: what a message says, a field a line, and its canonical spelling.
 
-ghost use Rattle.std.specs.Prelude.{◌≡◌, ◌≢◌, ◌≤◌, ℕ, List, [], Ok, IfOk, OnOk, IsNone, MatchOption, MatchResult, string_bytes};
+ghost use Rattle.std.specs.Prelude.{◌≡◌, ◌≢◌, [], Ok, IfOk, OnOk, IsNone, MatchOption, MatchResult, string_bytes};
 ghost use Rattle.hex.specs.Hex.{decode_of};
 ghost use Rattle.snmp_msg.specs.Canonical.{Says, WholeFits, IsReadLayer, whole_of};
 ghost use Rattle.snmp_message.specs.declared.refusal.Refusal.TheVariants as refusals;
 ghost use Rattle.hex.specs.declared.FromHexError.TheVariants as hex_faults;
-ghost use Rattle.snmpsec_texts.specs.Show.{IsUsmMessage, Shows, RefusesShow, IsNoHex, contents_lines};
+ghost use Rattle.snmpsec_texts.specs.Show.{IsUsmMessage, Shows, RefusesShow, IsNoHex, ShowsText, contents_lines};
+ghost use Rattle.snmpsec_texts.specs.Questions.{Printed};
 ghost use Rattle.snmpsec_texts.specs.Refusals.{refused_line};
-ghost use Rattle.snmpsec_texts.specs.declared.refused.Refused.{Refused as ARefused};
 
 use crate::output::Output;
 use crate::refused::Refused;
@@ -88,11 +88,8 @@ fn no_octets(fault: FromHexError) -> Result<Option<Vec<u8>>, AllocError>
 /// (16). A refusal is a line on standard output, with status 1. A word that isn't one or more pairs of hex digits is told on
 /// standard error, with status 2.
 pub fn show_text(alloc: Global, digits: &str) -> Result<Output, AllocError>
-    ensures shown { IfOk result (λ output. output.status ≡ 0 → (datagram : List ℕ) × (decode_of digits.now ≡ Ok datagram) × Shows datagram output.out.items) }
-    ensures refused { IfOk result (λ output. output.status ≡ 1 → (datagram : List ℕ) × (told : ARefused) × (decode_of digits.now ≡ Ok datagram)
-        × RefusesShow datagram told.refusal × (output.out.items ≡ refused_line told)) }
-    ensures word { IfOk result (λ output. output.status ≡ 2 → IsNoHex digits.now) }
-    ensures status { IfOk result (λ output. output.status ≤ 2) }
+    ensures { IfOk result (λ output. let printed : Printed = record { out = output.out.items; err = output.err.items; status = output.status } in
+        ShowsText digits.now printed) }
 {
     let Some(datagram) = datagram_of(alloc, digits)? else {
         return Output::complaint(alloc, "bad word HEX");

@@ -10,8 +10,8 @@ pub returns-in-Err : goal.returns-in-Err
 returns-in-Err c =
     let at = stands_at (λ file. (string_bytes file.0, file.1.items)) c.args.files.now c.files.file-index c.file-item.result c.file-item.is (omega arith) in
     let fault = subst (λ (text : List ℕ). IsFaultOf c.args.moment text c.in-Err.fault) c.deref.ensures.value c.in-Err.ensures.fault in
-    let tells = subst (λ (name : List ℕ). IfOk c.refused_clocks.result (λ output. TellsFault name c.in-Err.fault output.status output.out.items)) c.deref-in-Err.ensures c.refused_clocks.ensures in
-    if_told c.refused_clocks.result (λ output. output.status) (λ output. output.out.items) c.args.moment _ c.files.file-index _ c.files.joined c.in-Err.fault at c.files.invariant fault tells
+    let tells = subst (λ (name : List ℕ). IfOk c.refused_clocks.result (λ output. TellsFault name c.in-Err.fault (record { out = output.out.items; err = output.err.items; status = output.status }))) c.deref-in-Err.ensures c.refused_clocks.ensures in
+    if_told c.refused_clocks.result (λ output. record { out = output.out.items; err = output.err.items; status = output.status }) c.args.moment _ c.files.file-index _ c.files.joined c.in-Err.fault at c.files.invariant fault tells
 
 pub files-preserved : goal.files-preserved
 files-preserved c =
@@ -22,4 +22,4 @@ files-preserved c =
 
 pub returns : goal.returns
 returns c =
-    all_merged c.args.moment (λ file. (string_bytes file.0, file.1.items)) c.args.files.now c.files.file-index c.out.result.out.items c.out.result.status c.files-test.false c.out.ensures.status (c.absorbing_each_text_merges.ensures.saved c.args.moment _ c.files.joined _ c.files.invariant c.save.ensures.fits (c.out.ensures.out ∙ c.in_ok-save.ensures.text))
+    all_merged c.args.moment (λ file. (string_bytes file.0, file.1.items)) c.args.files.now c.files.file-index (record { out = c.out.result.out.items; err = c.out.result.err.items; status = c.out.result.status }) c.files-test.false c.out.ensures.status c.out.ensures.err (c.absorbing_each_text_merges.ensures.saved c.args.moment _ c.files.joined _ c.files.invariant c.save.ensures.fits (c.out.ensures.out ∙ c.in_ok-save.ensures.text))
