@@ -272,3 +272,53 @@ def who_sees(text, identifier, view=None, only_users=False):
         if explained(rows, group["model"], group["name"].encode(), number, asked_view, context["name"].encode(), arcs_of(identifier))[0] == "accessAllowed"
     ]
     return "".join(lines), "", 0 if lines else 1
+
+
+def pattern(row):
+    """The arcs of a family row's subtree, None for one that the mask leaves free."""
+    mask = bytes.fromhex(row.get("mask", ""))
+    is_free = lambda k: k // 8 < len(mask) and not mask[k // 8] >> (7 - k % 8) & 1
+    return [None if is_free(k) else arc for k, arc in enumerate(arcs_of(row["subtree"]))]
+
+
+def needed(rows):
+    """The rows of a view, the least first, without those that change no answer, where none has a wildcard."""
+    rows = sorted(rows, key=lambda row: (len(arcs_of(row["subtree"])), arcs_of(row["subtree"])))
+    if any(None in pattern(row) for row in rows):
+        return rows
+    # without wildcards an answer changes at the subtrees themselves, or nowhere
+    kept = list(rows)
+    for row in rows:
+        others = [it for it in kept if it is not row]
+        says = lambda given, arcs: ([it["include"] for it in given if arcs_of(it["subtree"]) == arcs[: len(arcs_of(it["subtree"]))]] or [False])[-1]
+        if all(says(kept, arcs_of(it["subtree"])) == says(others, arcs_of(it["subtree"])) for it in rows):
+            kept = others
+    return kept
+
+
+def seen(rows, model, name, number, view, context):
+    """What a name sees, behind the words of the question: an answer, or lines."""
+    lines = explained(rows, model, name.encode(), number, view, context.encode(), [])
+    named = next((line[5:] for line in lines if line.startswith("view ")), None)
+    families = needed([row for row in rows["family"] if row["view"] == named])
+    if lines[0] != "notInView" or not families:
+        return lines[:1]
+    return [f"{'+' if row['include'] else '-'} {'.'.join('*' if arc is None else str(arc) for arc in pattern(row))}" for row in families]
+
+
+def sees(text, model, name):
+    """What `sees` prints, and its status; None where it says why on standard error."""
+    if not ARC.fullmatch(model) or len(model) > 10 or not 1 <= int(model) <= MODEL_MOST:
+        return "", "snmpsec: bad word MODEL\n", 2
+    try:
+        rows = read(text)
+    except RefusedConfig as refused:
+        return str(refused), None, 1
+    lines = [
+        (f"{level} {view} {context_word(context['name'])} ", line)
+        for level, number in LEVELS.items()
+        for view in ("read", "write", "notify")
+        for context in rows["context"]
+        for line in seen(rows, int(model), name, number, view, context["name"])
+    ]
+    return "".join(f"{head}{line}\n" for head, line in lines), "", 0 if any(line[0] == "+" for _, line in lines) else 1

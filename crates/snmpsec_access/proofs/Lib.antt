@@ -1,4 +1,14 @@
+pub mod Walks
 pub mod Lines
 pub mod Wholes
 pub mod Named
 pub mod Refused
+pub mod Members
+pub mod Begins
+pub mod Shortens
+pub mod Deciding
+pub mod Picks
+pub mod Kepts
+pub mod Tolds
+pub mod Dots
+pub mod Seens

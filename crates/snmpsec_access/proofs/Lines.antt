@@ -1,8 +1,7 @@
 -- A text to which the lines of those who see are appended.
-use Rattle.std.proofs.Common.{◌≡◌, ℕ, ◌+◌, ◌<◌, ◌≤◌, List, [], ◌∷◌, ◌++◌, length, get_or, take, map, sym, ap, ◌∙◌, subst, refl, inl, inr, append_assoc, append-nil}
+use Rattle.std.proofs.Common.{◌≡◌, ℕ, List, [], ◌∷◌, ◌++◌, map, sym, ap, ◌∙◌, subst, refl, inl, inr, append_assoc, append-nil}
 use Rattle.std.specs.List.{flat_map}
 use Rattle.std.proofs.lemmas.Grind.{flat_map-append}
-use Rattle.std.proofs.lemmas.List.{take_more, take_all, map-append, get_or_default}
 use Rattle.snmpsec_access.specs.Askers.{Asker, asker_line}
 use Rattle.snmpsec_access.specs.WhoSees.{AreThose, GoesOn}
 
@@ -29,7 +28,7 @@ module _ (P : Asker → Type 0) where
   pub sees_not : (a : Asker) (before : List ℕ) → ¬ P a → GoesOn P (a ∷ []) before before
   sees_not a before may_not = record { seeing = []; those = inr (may_not, refl); lines = sym (append-nil before) }
 
-  goes_on : (xs ys : List Asker) (before between after : List ℕ) → GoesOn P xs before between → GoesOn P ys between after → GoesOn P (xs ++ ys) before after
+  pub goes_on : (xs ys : List Asker) (before between after : List ℕ) → GoesOn P xs before between → GoesOn P ys between after → GoesOn P (xs ++ ys) before after
   goes_on xs ys before between after g h = record {
     seeing = g.seeing ++ h.seeing;
     those = AreThose-append P xs ys g.seeing h.seeing g.those h.those;
@@ -38,33 +37,3 @@ module _ (P : Asker → Type 0) where
         ∙ append_assoc before (flat_map asker_line g.seeing) (flat_map asker_line h.seeing)
         ∙ ap (λ t. before ++ t) (sym (flat_map-append asker_line g.seeing h.seeing));
   }
-
-  -- a row at a time, each of which gives one asker
-  pub one_more : {R : Type 0} (f : R → Asker) (rows : List R) (i : ℕ) (row : R) (before between after : List ℕ) → i < length rows → row ≡ get_or rows i row
-      → GoesOn P (map f (take i rows)) before between → GoesOn P (f row ∷ []) between after → GoesOn P (map f (take (i + 1) rows)) before after
-  one_more {R} f rows i row before between after within at g h =
-      let taken : take (i + 1) rows ≡ take i rows ++ row ∷ [] = take_more rows i row within ∙ ap (λ (x : R). take i rows ++ x ∷ []) (sym at) in
-      let asked : map f (take (i + 1) rows) ≡ map f (take i rows) ++ f row ∷ [] = ap (λ (rs : List R). map f rs) taken ∙ map-append f (take i rows) (row ∷ []) in
-      subst (λ (xs : List Asker). GoesOn P xs before after) (sym asked) (goes_on (map f (take i rows)) (f row ∷ []) before between after g h)
-
-  pub all_rows : {R : Type 0} (f : R → Asker) (rows : List R) (i : ℕ) (before after : List ℕ) → length rows ≤ i → GoesOn P (map f (take i rows)) before after → GoesOn P (map f rows) before after
-  all_rows {R} f rows i before after past g = subst (λ (rs : List R). GoesOn P (map f rs) before after) (take_all i rows past) g
-
-  -- a row at a time, each of which gives many
-  pub many_more : {R : Type 0} (f : R → List Asker) (rows : List R) (i : ℕ) (row : R) (before between after : List ℕ) → i < length rows → row ≡ get_or rows i row
-      → GoesOn P (flat_map f (take i rows)) before between → GoesOn P (f row) between after → GoesOn P (flat_map f (take (i + 1) rows)) before after
-  many_more {R} f rows i row before between after within at g h =
-      let taken : take (i + 1) rows ≡ take i rows ++ row ∷ [] = take_more rows i row within ∙ ap (λ (x : R). take i rows ++ x ∷ []) (sym at) in
-      let asked : flat_map f (take (i + 1) rows) ≡ flat_map f (take i rows) ++ f row =
-      ap (λ (rs : List R). flat_map f rs) taken ∙ flat_map-append f (take i rows) (row ∷ []) ∙ ap (λ t. flat_map f (take i rows) ++ t) (append-nil (f row)) in
-      subst (λ (xs : List Asker). GoesOn P xs before after) (sym asked) (goes_on (flat_map f (take i rows)) (f row) before between after g h)
-
-  pub all_of : {R : Type 0} (f : R → List Asker) (rows : List R) (i : ℕ) (before after : List ℕ) → length rows ≤ i → GoesOn P (flat_map f (take i rows)) before after → GoesOn P (flat_map f rows) before after
-  all_of {R} f rows i before after past g = subst (λ (rs : List R). GoesOn P (flat_map f rs) before after) (take_all i rows past) g
-
-  pub many_at : {R : Type 0} (f : R → List Asker) (rows : List R) (i : ℕ) (d : R) (before between after : List ℕ) → i < length rows
-      → GoesOn P (flat_map f (take i rows)) before between → GoesOn P (f (get_or rows i d)) between after → GoesOn P (flat_map f (take (i + 1) rows)) before after
-  many_at f rows i d before between after within g h = many_more f rows i (get_or rows i d) before between after within (get_or_default rows i d (get_or rows i d) within) g h
-
-  pub three : (xs ys zs : List Asker) (a b c d : List ℕ) → GoesOn P xs a b → GoesOn P ys b c → GoesOn P zs c d → GoesOn P (xs ++ (ys ++ (zs ++ []))) a d
-  three xs ys zs a b c d g h i = goes_on xs (ys ++ (zs ++ [])) a b d g (goes_on ys (zs ++ []) b c d h (goes_on zs [] c d d i (nothing d)))

@@ -2,10 +2,14 @@
 #![tactic(auto)]
 
 mod laws;
+mod seeing;
+mod subtrees;
+mod told;
 mod users;
 mod who;
 mod words;
 
 pub use laws::no_other_sees;
+pub use seeing::{Seen, sees};
 pub use who::{Wanted, who_sees};
-pub use words::view_word;
+pub use words::{access_word, view_word};

@@ -1,4 +1,4 @@
-//! Views and names as words of a line.
+//! Views, answers and names as words of a line.
 
 ghost use Rattle.std.specs.Prelude.{◌≡◌, ◌<◌, ◌++◌, OnOk};
 ghost use Rattle.std.specs.List.{list_all};
@@ -6,7 +6,7 @@ ghost use Rattle.snmpsec_access.specs.Words as spec;
 ghost use Rattle.snmpsec_access.specs.Words.{is_plain, is_own_word, digit, quoted_octet, quoted, name_word, context_word};
 
 use std::alloc::AllocError;
-use vacm_core::ViewType;
+use vacm_core::{Access, ViewType};
 
 /// The word for a view.
 pub fn view_word(view: ViewType) -> &'static str
@@ -16,6 +16,20 @@ pub fn view_word(view: ViewType) -> &'static str
         ViewType::Read => "read",
         ViewType::Write => "write",
         ViewType::Notify => "notify",
+    }
+}
+
+/// The name of an answer (RFC 3415, section 3).
+pub fn access_word(access: Access) -> &'static str
+    ensures { result.now ≡ spec.access_word access }
+{
+    match access {
+        Access::AccessAllowed => "accessAllowed",
+        Access::NotInView => "notInView",
+        Access::NoSuchView => "noSuchView",
+        Access::NoAccessEntry => "noAccessEntry",
+        Access::NoGroupName => "noGroupName",
+        Access::NoSuchContext => "noSuchContext",
     }
 }
 

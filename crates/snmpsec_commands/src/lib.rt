@@ -8,6 +8,6 @@ pub mod run;
 
 pub use files::{FileFault, read_whole};
 pub use snmpsec_texts::{
-    Output, check_config_text, check_text, explain_text, merge_text, open_text, opened, show_text,
-    who_text,
+    Output, check_config_text, check_text, explain_text, merge_text, open_text, opened, sees_text,
+    show_text, who_text,
 };

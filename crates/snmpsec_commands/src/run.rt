@@ -10,9 +10,9 @@ use snmpsec_replay::{Printing, ReplayFault};
 use snmpsec_streams::write_whole;
 use snmpsec_texts::{
     Output, check_config_text, check_text, explain_text, merge_text, moment_of, open_text,
-    show_text, who_text,
+    sees_text, show_text, who_text,
 };
-use snmpsec_words::{Command, ReplayWords, WhoWords, not_text, parse};
+use snmpsec_words::{Command, ReplayWords, SeesWords, WhoWords, not_text, parse};
 use std::alloc::{AllocError, Global};
 use std::io::{BufReader, BufWriter, Input, Read, Write};
 use std::rt::{Env, Files};
@@ -94,6 +94,7 @@ pub fn command<R: Files + Input + AllocGlobal, O: Write, E: Write>(
         Command::CheckAccess(words) => check_access(rt, words.config, &words.question),
         Command::ExplainAccess(words) => explain_access(rt, words.config, &words.question),
         Command::WhoSees(words) => who_sees(rt, words),
+        Command::Sees(words) => seen(rt, words),
         Command::CheckConfig { config } => check_config(rt, config),
         Command::Replay(words) => replay_log(rt, words, out),
         Command::MergeClocks { moment, files } => merge_clocks(rt, moment.unwrap_or("0"), files),
@@ -132,6 +133,15 @@ fn who_sees<R: Files + AllocGlobal>(rt: &R, words: &WhoWords<'_>) -> Result<Outp
     let alloc = rt.alloc();
     match read_file(rt, words.config) {
         Ok(config) => who_text(alloc, &config, words.variable, words.view, words.only_users),
+        Err(fault) => unread(alloc, fault, words.config),
+    }
+}
+
+/// Reads the configuration whole, before it looks at another word, and then lists what the name sees.
+fn seen<R: Files + AllocGlobal>(rt: &R, words: &SeesWords<'_>) -> Result<Output, AllocError> {
+    let alloc = rt.alloc();
+    match read_file(rt, words.config) {
+        Ok(config) => sees_text(alloc, &config, words.model, words.name),
         Err(fault) => unread(alloc, fault, words.config),
     }
 }

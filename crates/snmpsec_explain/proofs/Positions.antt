@@ -1,6 +1,7 @@
 -- In tables without a row at fault one position holds what is chosen.
 use Rattle.std.proofs.Common.{◌≡◌, ℕ, ◌<◌, Bool, true, false, ◌&&◌, eqb, List, length, take, get_or, Some, None, sym, ap, ◌∙◌, refl, cond, inl, inr, arith, length-take}
 use Rattle.std.specs.List.{list_any, slice_get}
+use Rattle.std.specs.Prelude.{Contains}
 use Rattle.std.specs.Str.{bytes_eq}
 use Rattle.std.specs.Option.{option_and_then}
 use Rattle.std.specs.Cmp.Lexicographic.{pointwise}
@@ -18,6 +19,10 @@ use Rattle.vacm_core.specs.declared.rows.FamilyRow.{FamilyRow}
 use Rattle.vacm_core.specs.Faults.{row_fault, fault_in, is_same_context, is_same_group, is_same_access, is_same_family}
 
 -- ---- positions
+
+-- what stands at a position is in the table
+pub contains : {R : Type 0} (rows : List R) (i : ℕ) (x : R) → slice_get rows i ≡ Some x → Contains rows x
+contains rows i x at = (i, slice_get_within rows i x at, get_or_from_slice_get rows i x x at)
 
 module _ {R : Type 0} (is_bad : R → Bool) (is_same : R → R → Bool) (rows : List R) (sound : (i : ℕ) → fault_in is_bad is_same rows i ≡ None) where
   not_twice : {W : Type 0} (first second : W) (bad twice : Bool) → cond bad (Some first) (cond twice (Some second) None) ≡ None → twice ≡ false

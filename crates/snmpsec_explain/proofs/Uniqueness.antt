@@ -9,7 +9,6 @@ use Rattle.std.specs.Ordering.{ordering_then, ordering_reverse}
 use Rattle.std.specs.Cmp.{IsTotalOrder}
 use Rattle.std.proofs.lemmas.Map.Lookups.{exact_unsigned, exact_bytes}
 use Rattle.std.proofs.Math.Seq.{take-append_seam}
-use Rattle.std.specs.Prelude.{Contains}
 use Rattle.vacm_core.specs.declared.rows.GroupRow.{GroupRow}
 use Rattle.vacm_core.specs.declared.rows.AccessRow.{AccessRow}
 use Rattle.vacm_core.specs.declared.rows.FamilyRow.{FamilyRow}
@@ -26,8 +25,8 @@ use Rattle.snmpsec_explain.specs.declared.steps.AccessStep.{AccessStep}
 use Rattle.snmpsec_explain.specs.declared.steps.ViewStep.{ViewStep}
 use Rattle.snmpsec_explain.specs.Steps.{IsBestAt, IsGroupAt, TellsFamily, TellsView, TellsAccess, TellsGroup, TellsContext}
 use Rattle.snmpsec_explain.specs.Lines.{family_line, view_lines, access_lines, group_lines, context_lines}
-use Rattle.snmpsec_explain.proofs.Positions.{one_position, same_context, same_group, same_access, same_family}
-use Rattle.std.proofs.lemmas.Option.{slice_get_within, get_or_from_slice_get}
+use Rattle.snmpsec_explain.proofs.Positions.{contains, one_position, same_context, same_group, same_access, same_family}
+use Rattle.std.proofs.lemmas.Option.{get_or_from_slice_get}
 
 -- ---- orders
 
@@ -55,9 +54,6 @@ prefix_taken row context (inr part) = rw part.1.1 (sym (take-append_seam row.pre
 
 model_same : (model : ℕ) (x y : AccessRow) → (x.model ≡ model) ⊎ (x.model ≡ 0) → (y.model ≡ model) ⊎ (y.model ≡ 0) → specificity x ≡ specificity y → x.model ≡ y.model
 model_same model x y f g e = grind (arith, nat_tests)
-
-contains : {R : Type 0} (rows : List R) (i : ℕ) (x : R) → slice_get rows i ≡ Some x → Contains rows x
-contains rows i x at = (i, slice_get_within rows i x at, get_or_from_slice_get rows i x x at)
 
 module _ (t : Tables) (sound : AreSound t) where
   access_position : (group : List ℕ) (q : Message) (i j : ℕ) (x y : AccessRow) → IsBestAt t.access (FitsMessage group q.model q.level q.context) access_order i x

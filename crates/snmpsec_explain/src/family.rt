@@ -8,8 +8,8 @@ ghost use Rattle.snmpsec_explain.specs.Steps.{IsBestAt};
 use std::cmp::Ordering;
 use vacm_core::FamilyRow;
 
-/// By the number of arcs, then by the arcs.
-fn family_order(a: &FamilyRow, b: &FamilyRow) -> Ordering
+/// The order in which family rows decide (vacmViewTreeFamilyTable): by the number of arcs, then by the arcs.
+pub fn family_order(a: &FamilyRow, b: &FamilyRow) -> Ordering
     ensures { result ≡ family_order a.now b.now }
 {
     let (first, second) = (a.subtree.as_slice(), b.subtree.as_slice());
@@ -26,8 +26,8 @@ fn is_better(best: Option<(usize, &FamilyRow)>, row: &FamilyRow) -> bool
     }
 }
 
-/// The mask says that the arc of this number has to be equal.
-fn is_compared(mask: &[u8], k: usize) -> bool
+/// The mask says that the arc of this number, from 0, has to be equal.
+pub fn is_compared(mask: &[u8], k: usize) -> bool
     ensures { IsTrue result ↔ (mask_bit mask.now k ≡ 1) }
 {
     match mask.get(k / 8) {

@@ -7,6 +7,7 @@ mod laws;
 mod lines;
 mod steps;
 
+pub use family::{family_order, is_compared};
 pub use laws::one_choice;
 pub use lines::put_steps;
 pub use steps::{AccessStep, Asking, ContextStep, GroupStep, ViewStep, steps_of};

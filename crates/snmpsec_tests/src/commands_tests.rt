@@ -9,6 +9,7 @@ mod explained;
 mod merged;
 mod opened;
 mod replays;
+mod sees;
 mod streams;
 mod who_sees;
 
@@ -182,7 +183,7 @@ fn a_usage_fault_names_what_is_wrong(rt: HostRuntime) -> Result<(), Fail> {
 }
 
 /// A command, and a word of its help.
-const HELP: [(&str, &str); 13] = [
+const HELP: [(&str, &str); 15] = [
     ("show", "pairs of hex digits"),
     ("open", "examples/replay/config.toml"),
     ("open", "pairs of hex digits"),
@@ -191,6 +192,8 @@ const HELP: [(&str, &str); 13] = [
     ("check-access", "examples/access.toml"),
     ("check-access", "@ is the default one"),
     ("who-sees", "examples/access.toml"),
+    ("sees", "examples/access.toml"),
+    ("sees", "An arc * may be any number"),
     ("check-config", "examples/access.toml"),
     ("replay", "examples/replay/config.toml"),
     ("merge-clocks", "examples/station-a.clocks"),

@@ -11,7 +11,8 @@ use Rattle.snmpsec_config.specs.Told.{IsWhy}
 use Rattle.snmpsec_config.specs.declared.fault.ConfigFault.{ConfigFault}
 use Rattle.snmpsec_texts.specs.CheckConfig.{ChecksConfig, counts_text}
 use Rattle.snmpsec_texts.specs.Questions.{Asked, Asks, ChecksAccess, TellsSteps, ExplainsAccess}
-use Rattle.snmpsec_texts.specs.Words.{access_word, access_status}
+use Rattle.snmpsec_access.specs.Words.{access_word}
+use Rattle.snmpsec_texts.specs.Words.{access_status}
 
 -- an element of a list that is mapped
 pub at_map : {A B : Type 0} (f : A → B) (xs : List A) (k : ℕ) (d : A) → get_or (map f xs) k (f d) ≡ f (get_or xs k d)

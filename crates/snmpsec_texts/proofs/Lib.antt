@@ -3,3 +3,4 @@ pub mod Shows
 pub mod Checks
 pub mod Opens
 pub mod Whos
+pub mod Seens

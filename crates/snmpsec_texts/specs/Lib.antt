@@ -6,3 +6,4 @@ pub mod Questions
 pub mod CheckConfig
 pub mod Open
 pub mod WhoSees
+pub mod Sees

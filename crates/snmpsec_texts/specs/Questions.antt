@@ -16,8 +16,8 @@ use Rattle.snmpsec_explain.specs.declared.steps.ContextStep.{ContextStep}
 use Rattle.snmpsec_explain.specs.Steps.{TellsContext}
 use Rattle.snmpsec_explain.specs.Lines.{context_lines}
 use Rattle.snmpsec_texts.specs.declared.check.Question.{Question}
-use Rattle.snmpsec_access.specs.Words.{view_word}
-use Rattle.snmpsec_texts.specs.Words.{access_word, access_status}
+use Rattle.snmpsec_access.specs.Words.{view_word, access_word}
+use Rattle.snmpsec_texts.specs.Words.{access_status}
 
 -- ---- the words
 

@@ -5,11 +5,13 @@ ghost use Rattle.std.specs.Str.{IsUtf8};
 ghost use Rattle.toml.specs.Parse.{parse_document};
 ghost use Rattle.vacm_core.specs.Allowed.{Message, Allowed};
 ghost use Rattle.snmpsec_texts.specs.Questions.{argument_name, Asked, Asks, IsContextWord, IsFirstWrong, ChecksAccess, Printed};
-ghost use Rattle.snmpsec_texts.specs.Words.{access_word, access_status};
+ghost use Rattle.snmpsec_access.specs.Words.{access_word};
+ghost use Rattle.snmpsec_texts.specs.Words.{access_status};
 
 use crate::output::Output;
-use crate::words::{model_of, name_of, status_of, view_of};
+use crate::words::{model_of, status_of, view_of};
 use snmp_ber::{Level, Oid};
+use snmpsec_access::access_word;
 use snmpsec_config::{AccessConfig, level_of};
 use std::alloc::{AllocError, Global};
 use vacm_core::{Access, Vacm, ViewType};
@@ -141,7 +143,7 @@ fn answered(alloc: Global, answer: Access) -> Result<Output, AllocError>
     ensures err { IfOk result (λ output. output.err.items ≡ []) }
     ensures status { IfOk result (λ output. output.status ≡ access_status answer) }
 {
-    let name = name_of(answer);
+    let name = access_word(answer);
     let line = format!(in alloc; "{name}\n")?;
     Ok(Output::out(alloc, line.into_bytes(), status_of(answer)))
 }

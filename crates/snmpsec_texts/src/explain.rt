@@ -3,11 +3,13 @@
 ghost use Rattle.std.specs.Prelude.{◌≡◌, ◌++◌, [], IfOk, codes, map};
 ghost use Rattle.vacm_core.specs.Tables.{tables_of};
 ghost use Rattle.snmpsec_texts.specs.Questions.{ExplainsAccess, Printed, asked_of, TellsSteps};
-ghost use Rattle.snmpsec_texts.specs.Words.{access_word, access_status};
+ghost use Rattle.snmpsec_access.specs.Words.{access_word};
+ghost use Rattle.snmpsec_texts.specs.Words.{access_status};
 
 use crate::check::{Question, answer_of, bad_word, question_of};
 use crate::output::Output;
-use crate::words::{name_of, status_of};
+use crate::words::status_of;
+use snmpsec_access::access_word;
 use snmpsec_config::AccessConfig;
 use snmpsec_explain::{Asking, put_steps, steps_of};
 use std::alloc::{AllocError, Global};
@@ -55,7 +57,7 @@ fn explained(
         view: question.view,
         variable: question.variable.as_slice(),
     };
-    let name = name_of(answer);
+    let name = access_word(answer);
     let mut out = format!(in alloc; "{name}\n")?.into_bytes();
     put_steps(alloc, &mut out, steps_of(rows, &asking))?;
     Ok(Output::out(alloc, out, status_of(answer)))

@@ -1,5 +1,5 @@
 //! What the commands of `snmpsec` print that take no log, and their status: show, open, check-access, explain-access, who-sees,
-//! check-config and merge-clocks.
+//! sees, check-config and merge-clocks.
 #![tactic(auto)]
 
 mod check;
@@ -9,6 +9,7 @@ mod merge;
 mod open;
 mod output;
 mod refused;
+mod sees;
 mod show;
 mod who_sees;
 mod words;
@@ -19,6 +20,7 @@ pub use explain::explain_text;
 pub use merge::{merge_text, refused_clocks};
 pub use open::{open_text, opened};
 pub use output::Output;
+pub use sees::sees_text;
 pub use show::show_text;
 pub use who_sees::who_text;
 pub use words::moment_of;

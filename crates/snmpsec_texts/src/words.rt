@@ -1,9 +1,9 @@
-//! The words for views and answers, numbers of security models, and moments.
+//! The words for views, the status of answers, numbers of security models, and moments.
 
 ghost use Rattle.std.specs.Prelude.{◌≡◌, ℕ, ◌<◌, ◌≤◌, ◌^◌, decimal, IfSome, Some};
 ghost use Rattle.vacm_core.specs.declared.access.ViewType.{ViewType as AView};
 ghost use Rattle.snmpsec_access.specs.Words.{view_word};
-ghost use Rattle.snmpsec_texts.specs.Words.{access_word, access_status};
+ghost use Rattle.snmpsec_texts.specs.Words.{access_status};
 
 use snmp_ber::read_decimal;
 use snmpsec_config::MODEL_MAX;
@@ -19,20 +19,6 @@ pub fn view_of(word: &str) -> Option<ViewType>
         "write" => Some(ViewType::Write),
         "notify" => Some(ViewType::Notify),
         _ => None,
-    }
-}
-
-/// The name of an answer (RFC 3415, section 3).
-pub fn name_of(access: Access) -> &'static str
-    ensures { result.now ≡ access_word access }
-{
-    match access {
-        Access::AccessAllowed => "accessAllowed",
-        Access::NotInView => "notInView",
-        Access::NoSuchView => "noSuchView",
-        Access::NoAccessEntry => "noAccessEntry",
-        Access::NoGroupName => "noGroupName",
-        Access::NoSuchContext => "noSuchContext",
     }
 }
 

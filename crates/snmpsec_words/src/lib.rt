@@ -10,7 +10,7 @@ mod wide;
 use clap::error::ErrorKind;
 use clap::{Arg, ArgAction, ArgMatches, Error};
 use std::alloc::{AllocError, Global};
-pub use wide::WhoWords;
+pub use wide::{SeesWords, WhoWords};
 
 const SHOW_STATUS: &str =
     "Status: 0 shown, 1 refused (a line 'refused N NAME at PLACE'), 2 a fault of the command line.";
@@ -64,6 +64,8 @@ pub enum Command<'a> {
     ExplainAccess(AccessWords<'a>),
     /// `who-sees [--users] CONFIG OID [VIEW]`
     WhoSees(WhoWords<'a>),
+    /// `sees CONFIG MODEL NAME`
+    Sees(SeesWords<'a>),
     /// `check-config CONFIG`
     CheckConfig {
         config: &'a str,
@@ -294,6 +296,7 @@ fn parser<'a>(alloc: Global) -> Result<clap::Command<'a>, AllocError> {
         .subcommand(check_access(alloc)?)?
         .subcommand(explain_access(alloc)?)?
         .subcommand(wide::who_sees(alloc)?)?
+        .subcommand(wide::sees(alloc)?)?
         .subcommand(check_config(alloc)?)?
         .subcommand(replay(alloc)?)?
         .subcommand(merge_clocks(alloc)?)?
@@ -349,6 +352,7 @@ pub fn parse<'a>(alloc: Global, words: &'a [String]) -> Result<Command<'a>, Erro
         Some(("check-access", words)) => Ok(Command::CheckAccess(access_words(alloc, words)?)),
         Some(("explain-access", words)) => Ok(Command::ExplainAccess(access_words(alloc, words)?)),
         Some(("who-sees", words)) => Ok(Command::WhoSees(wide::who_words(alloc, words)?)),
+        Some(("sees", words)) => Ok(Command::Sees(wide::sees_words(alloc, words)?)),
         Some(("check-config", words)) => Ok(Command::CheckConfig {
             config: given(alloc, words, "CONFIG")?,
         }),

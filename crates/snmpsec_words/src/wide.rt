@@ -10,6 +10,12 @@ a name that no group row has sees nothing, and nothing is seen in a context that
 Example: snmpsec who-sees examples/access.toml 1.3.6.1.2.1.1.5.0 read
 Status: 0 a line is printed, 1 there is none or a refused configuration, 2 a fault of the command line or a file that can't be read.";
 
+const SEES_STATUS: &str =
+    "For each level, view and context stand either a line with an answer of check-access, which each variable gets, or lines with + or - and a subtree:
+the last that fits a variable says whether it may be seen (+), and it may not where none fits. An arc * may be any number.
+Example: snmpsec sees examples/access.toml 3 nagios
+Status: 0 a line with + is printed, 1 there is none or a refused configuration, 2 a fault of the command line or a file that can't be read.";
+
 /// The words of who-sees.
 #[derive(Clone, Copy)]
 pub struct WhoWords<'a> {
@@ -21,6 +27,17 @@ pub struct WhoWords<'a> {
     pub view: Option<&'a str>,
     /// Whether the lines of users alone are wanted.
     pub only_users: bool,
+}
+
+/// The words of sees.
+#[derive(Clone, Copy)]
+pub struct SeesWords<'a> {
+    /// The name of the configuration's file.
+    pub config: &'a str,
+    /// The number of the security model.
+    pub model: &'a str,
+    /// The security name.
+    pub name: &'a str,
 }
 
 /// The parser of who-sees.
@@ -62,5 +79,37 @@ pub(crate) fn who_words<'a>(alloc: Global, words: &ArgMatches<'a>) -> Result<Who
         variable: given(alloc, words, "OID")?,
         view: words.get_str("VIEW"),
         only_users: words.get_flag("users"),
+    })
+}
+
+/// The parser of sees.
+pub(crate) fn sees<'a>(alloc: Global) -> Result<clap::Command<'a>, AllocError> {
+    clap::Command::new(alloc, "sees")
+        .about(
+            "Print what a user may read, write or be notified of: LEVEL VIEW CONTEXT and subtrees",
+        )
+        .after_help(SEES_STATUS)
+        .arg(word(
+            alloc,
+            "CONFIG",
+            "TOML file with users, contexts, groups, access rows and families",
+        ))?
+        .arg(word(
+            alloc,
+            "MODEL",
+            "Number of the security model: 3 is the user-based one",
+        ))?
+        .arg(word(alloc, "NAME", "Security name: with model 3 the user's name"))
+}
+
+/// The words of sees.
+pub(crate) fn sees_words<'a>(
+    alloc: Global,
+    words: &ArgMatches<'a>,
+) -> Result<SeesWords<'a>, Error> {
+    Ok(SeesWords {
+        config: given(alloc, words, "CONFIG")?,
+        model: given(alloc, words, "MODEL")?,
+        name: given(alloc, words, "NAME")?,
     })
 }

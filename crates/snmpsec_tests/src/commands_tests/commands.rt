@@ -5,7 +5,7 @@ use snmpsec_commands::run::command;
 use std::alloc::Global;
 
 /// A command line without the program's name, the status, standard output and standard error.
-static COMMANDS: [(&str, u8, &str, &str); 51] = [
+static COMMANDS: [(&str, u8, &str, &str); 54] = [
     // The configuration is read before another word is looked at.
     (
         "check-access /no/such/file 0 ann none see @ 1",
@@ -56,6 +56,14 @@ static COMMANDS: [(&str, u8, &str, &str); 51] = [
         "snmpsec: bad word OID\n",
     ),
     ("who-sees /dev/null 1.3 read", 1, "", ""),
+    (
+        "sees /no/such/file 0 ann",
+        2,
+        "",
+        "snmpsec: cannot read /no/such/file\n",
+    ),
+    ("sees /dev/null 0 ann", 2, "", "snmpsec: bad word MODEL\n"),
+    ("sees /dev/null 3 ann", 1, "", ""),
     (
         "open /no/such/file 3g",
         2,

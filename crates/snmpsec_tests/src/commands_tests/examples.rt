@@ -1,6 +1,8 @@
 //! The examples of the repository: the texts are those of its `examples/`, which `tools/check-examples` compares.
 
-use snmpsec_commands::{check_config_text, check_text, explain_text, merge_text, who_text};
+use snmpsec_commands::{
+    check_config_text, check_text, explain_text, merge_text, sees_text, who_text,
+};
 use std::alloc::Global;
 use std::test::Fail;
 
@@ -237,6 +239,29 @@ const WHO_SEES: &str = "3 nagios authNoPriv read @
 3 ops authPriv notify @
 ";
 
+/// `examples/sees.txt`
+const SEES: &str = "noAuthNoPriv read @ noAccessEntry
+noAuthNoPriv read bridge-1 noAccessEntry
+noAuthNoPriv write @ noAccessEntry
+noAuthNoPriv write bridge-1 noAccessEntry
+noAuthNoPriv notify @ noAccessEntry
+noAuthNoPriv notify bridge-1 noAccessEntry
+authNoPriv read @ + 1.3.6.1.2.1.1
+authNoPriv read @ + 1.3.6.1.2.1.2.2.1.*.2
+authNoPriv read bridge-1 + 1.3.6.1.2.1.1
+authNoPriv write @ noSuchView
+authNoPriv write bridge-1 noSuchView
+authNoPriv notify @ noSuchView
+authNoPriv notify bridge-1 noSuchView
+authPriv read @ + 1.3.6.1.2.1.1
+authPriv read @ + 1.3.6.1.2.1.2.2.1.*.2
+authPriv read bridge-1 + 1.3.6.1.2.1.1
+authPriv write @ noSuchView
+authPriv write bridge-1 noSuchView
+authPriv notify @ noSuchView
+authPriv notify bridge-1 noSuchView
+";
+
 fn questions() -> &'static [Question] {
     &QUESTIONS
 }
@@ -286,6 +311,13 @@ fn all_who_see_a_variable_are_listed(rt: HostRuntime) -> Result<(), Fail> {
         false,
     )?;
     assert_eq!(rt; output.out.as_slice(), WHO_SEES.as_bytes());
+    Ok(())
+}
+
+#[test]
+fn all_that_a_name_sees_is_listed(rt: HostRuntime) -> Result<(), Fail> {
+    let output = sees_text(rt.alloc(), ACCESS.as_bytes(), "3", "nagios")?;
+    assert_eq!(rt; output.out.as_slice(), SEES.as_bytes());
     Ok(())
 }
 

@@ -1,8 +1,9 @@
 use Rattle.std.proofs.Common.{List, get_or, ap, ◌∙◌, arith}
 use Rattle.vacm_core.specs.declared.rows.ContextRow.{ContextRow}
 use Rattle.snmpsec_access.specs.Askers.{asker}
-use Rattle.snmpsec_access.specs.WhoSees.{SeesIt}
-use Rattle.snmpsec_access.proofs.Lines.{none_sees, one_more}
+use Rattle.snmpsec_access.specs.WhoSees.{SeesIt, GoesOn}
+use Rattle.snmpsec_access.proofs.Lines.{nothing, goes_on, none_sees}
+use Rattle.snmpsec_access.proofs.Walks.{one_more}
 use Rattle.snmpsec_access.proofs.who.put_level.Goals as goal
 
 pub returns-then-not-is_wanted : goal.returns-then-not-is_wanted
@@ -15,5 +16,5 @@ contexts-preserved c =
     let row = c.context-item.result in
     let i = c.contexts.context-index in
     let at = c.context-item.is ∙ ap (λ (rows : List ContextRow). get_or rows i row) c.deref-context-items.ensures.value in
-    one_more (SeesIt c.args.wanted.now) (asker c.args.view c.args.group.now c.args.level) c.args.wanted.now.rows.now.contexts.items i row
+    one_more (GoesOn (SeesIt c.args.wanted.now)) (nothing (SeesIt c.args.wanted.now)) (goes_on (SeesIt c.args.wanted.now)) (asker c.args.view c.args.group.now c.args.level) c.args.wanted.now.rows.now.contexts.items i row
     c.args.out.now.items c.contexts.out.items _ (omega arith) at c.contexts.invariant c.in_ok-put_allowed.ensures

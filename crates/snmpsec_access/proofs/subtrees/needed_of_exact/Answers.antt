@@ -1,0 +1,13 @@
+use Rattle.snmpsec_access.specs.Rising.{rows_at}
+use Rattle.snmpsec_access.proofs.Picks.{within_rows, item_at, taken_there, next_left}
+use Rattle.snmpsec_access.proofs.subtrees.needed_of_exact.Goals as goal
+
+pub keep_needed-requires : goal.keep_needed-requires
+keep_needed-requires c = λ row there. c.requires.exact row (taken_there (rows_at c.args.rows.now) c.rows.row-index row (c.rows.invariant.among row there))
+
+pub rows-preserved : goal.rows-preserved
+rows-preserved c =
+    let items = c.args.rows.now in
+    let i = c.rows.row-index in
+    next_left (rows_at items) i c.row-item.result.now (within_rows items i c.rows-test.true) (item_at items i c.row-item.result c.row-item.is) c.requires.rising c.requires.exact c.requires.one_each
+    _ _ c.rows.invariant c.in_ok-keep_needed.ensures

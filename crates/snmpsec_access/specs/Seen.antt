@@ -1,0 +1,175 @@
+-- What a name may see, for each view, at each level and in each context: lines of which the last that fits a variable decides on it.
+use Rattle.std.specs.Prelude.{◌≡◌, ◌≢◌, ◌⊎◌, ⊤, ℕ, ◌+◌, ◌<◌, ◌==◌, ◌&&◌, Bool, true, false, if◌then◌else◌, List, [], ◌∷◌, ◌++◌, length, map, fold, remove, Contains, codes, decimal, Option, Some, None}
+use Rattle.std.specs.List.{flat_map, filter, join_with_byte, list_any}
+use Rattle.std.specs.List.Sorted.{IsSorted, IsPermutation}
+use Rattle.std.specs.Str.{bytes_eq}
+use Rattle.snmp_ber.specs.declared.level.Level.{Level}
+use Rattle.vacm_core.specs.declared.access.ViewType.{ViewType}
+use Rattle.vacm_core.specs.declared.access.ViewType.TheVariants.{Read, Write, Notify}
+use Rattle.vacm_core.specs.declared.access.Access.{Access}
+use Rattle.vacm_core.specs.declared.access.Access.TheVariants.{NoSuchContext, NoGroupName, NoAccessEntry, NoSuchView, NotInView, AccessAllowed}
+use Rattle.vacm_core.specs.declared.rows.ContextRow.{ContextRow}
+use Rattle.vacm_core.specs.declared.rows.FamilyRow.{FamilyRow}
+use Rattle.vacm_core.specs.Allowed.{Message, Allowed, ByView, mask_bit, family_order}
+use Rattle.vacm_core.specs.Tables.{Tables}
+use Rattle.vacm_core.specs.View.{AreExact}
+use Rattle.snmpsec_config.specs.Words.{level_word}
+use Rattle.snmpsec_access.specs.Words.{view_word, context_word, access_word}
+use Rattle.snmpsec_access.specs.Askers.{Asker, levels}
+
+-- ---- lines
+
+-- what a line asks of a variable, arc by arc (`None`: any arc), and whether it includes what fits
+pub record Line : Type 0 where
+  pub include : Bool
+  pub pattern : List (Option ℕ)
+
+-- The variable begins with the pattern.
+abbrev pub fits : List (Option ℕ) → List ℕ → Bool
+fits [] variable = true
+fits (arc ∷ arcs) [] = false
+fits (None ∷ arcs) (v ∷ vs) = fits arcs vs
+fits (Some a ∷ arcs) (v ∷ vs) = (a == v) && fits arcs vs
+
+-- The last line that fits the variable says whether it is included; it isn't where none fits.
+abbrev pub is_included : List Line → List ℕ → Bool
+is_included lines variable = fold (λ before line. if fits line.pattern variable then line.include else before) false lines
+
+abbrev pub answer_of : Bool → Access
+answer_of true = AccessAllowed
+answer_of false = NotInView
+
+-- Without any one of the lines some variable would be decided otherwise.
+abbrev pub AreNeeded : List Line → Type 0
+AreNeeded lines = (k : ℕ) → k < length lines → (variable : List ℕ) × (is_included (remove lines k) variable ≢ is_included lines variable)
+
+-- ---- the lines of rows
+
+-- the arcs from this place on, of which the mask leaves some free
+abbrev pub pattern_from : ℕ → List ℕ → List ℕ → List (Option ℕ)
+pattern_from k mask [] = []
+pattern_from k mask (arc ∷ arcs) = (if mask_bit mask k == 1 then Some arc else None) ∷ pattern_from (k + 1) mask arcs
+
+abbrev pub line_of : FamilyRow → Line
+line_of row = record { include = row.include; pattern = pattern_from 0 row.mask row.subtree }
+
+-- the rows of the view
+abbrev pub rows_of : List FamilyRow → List ℕ → List FamilyRow
+rows_of families view = filter (λ row. bytes_eq row.view view) families
+
+-- The lines for a view are those of rows of it, from the least up. Where none of its rows has a wildcard, no line is too many;
+-- else each row has its line.
+pub record AreLinesOf (families : List FamilyRow) (view : List ℕ) (lines : List Line) : Type 0 where
+  pub rows : List FamilyRow
+  pub lines_of : lines ≡ map line_of rows
+  pub among : (row : FamilyRow) → Contains rows row → Contains (rows_of families view) row
+  pub rising : IsSorted family_order rows
+  pub kept : (AreExact (rows_of families view) × AreNeeded lines) ⊎ ((¬ AreExact (rows_of families view)) × IsPermutation (rows_of families view) rows)
+
+-- ---- what is told of a question
+
+-- Each variable is decided by the lines as isAccessAllowed decides it (RFC 3415, section 3).
+pub record Decide (t : Tables) (q : Message) (view : ViewType) (lines : List Line) : Type 0 where
+  pub allowed : (variable : List ℕ) → Allowed t q view variable (answer_of (is_included lines variable))
+  pub lines_of : ByView t q view (λ name. AreLinesOf t.families name lines)
+
+-- an answer that is given before a variable is looked at
+abbrev pub IsRefusal : Access → Type 0
+IsRefusal NoSuchContext = ⊤
+IsRefusal NoGroupName = ⊤
+IsRefusal NoAccessEntry = ⊤
+IsRefusal NoSuchView = ⊤
+IsRefusal NotInView = ⊥
+IsRefusal AccessAllowed = ⊥
+
+-- one answer for all variables, or the lines that decide on each
+pub data Decision : Type 0 where
+  refusal : Access → Decision
+  by_lines : List Line → Decision
+
+-- So each variable is answered.
+abbrev pub IsDecision : Tables → Asker → Decision → Type 0
+IsDecision t a (refusal answer) = IsRefusal answer × ((variable : List ℕ) → Allowed t a.message a.view variable answer)
+IsDecision t a (by_lines lines) = Decide t a.message a.view lines
+
+-- ---- all questions of a name
+
+-- the views
+abbrev pub views : List ViewType
+views = Read ∷ Write ∷ Notify ∷ []
+
+-- the question of a name for a view, at a level and in a context that there is
+abbrev pub viewer : ℕ → List ℕ → Level → ViewType → ContextRow → Asker
+viewer model name level view context = record { message = record { model = model; name = name; level = level; context = context.name }; view = view }
+
+abbrev pub of_level : List ContextRow → ℕ → List ℕ → Level → List Asker
+of_level contexts model name level = flat_map (λ view. map (viewer model name level view) contexts) views
+
+-- The product of levels, views and context rows, in this order, the rows by their positions.
+abbrev pub viewers : List ContextRow → ℕ → List ℕ → List Asker
+viewers contexts model name = flat_map (of_level contexts model name) levels
+
+-- ---- the text
+
+abbrev pub arc_text : Option ℕ → List ℕ
+arc_text None = codes "*"
+arc_text (Some arc) = decimal arc
+
+-- the arcs with a dot between each two
+abbrev pub pattern_text : List (Option ℕ) → List ℕ
+pattern_text pattern = join_with_byte 46 (map arc_text pattern)
+
+-- the dot before the arc of this number
+abbrev pub dot_before : ℕ → List ℕ
+dot_before k = if k == 0 then [] else codes "."
+
+-- the arc of this number in the text of a subtree
+abbrev pub arc_at : List ℕ → ℕ → ℕ → List ℕ
+arc_at mask k arc = dot_before k ++ arc_text (if mask_bit mask k == 1 then Some arc else None)
+
+abbrev pub sign : Bool → List ℕ
+sign true = codes "+ "
+sign false = codes "- "
+
+-- `LEVEL VIEW CONTEXT `
+abbrev pub head : Asker → List ℕ
+head a = level_word a.message.level ++ (codes " " ++ (view_word a.view ++ (codes " " ++ (context_word a.message.context ++ codes " "))))
+
+abbrev pub seen_line : Asker → Line → List ℕ
+seen_line a line = head a ++ (sign line.include ++ (pattern_text line.pattern ++ codes "\n"))
+
+abbrev pub answer_line : Asker → Access → List ℕ
+answer_line a answer = head a ++ (access_word answer ++ codes "\n")
+
+-- the line of the answer, or the lines that decide; notInView where there is none
+abbrev pub decision_text : Asker → Decision → List ℕ
+decision_text a (refusal answer) = answer_line a answer
+decision_text a (by_lines []) = answer_line a NotInView
+decision_text a (by_lines (line ∷ lines)) = flat_map (seen_line a) (line ∷ lines)
+
+-- a line includes what fits it
+abbrev pub includes : Decision → Bool
+includes (refusal answer) = false
+includes (by_lines lines) = list_any (λ line. line.include) lines
+
+-- a question, and what is told of it
+pub record Decided : Type 0 where
+  pub asker : Asker
+  pub decision : Decision
+
+abbrev pub IsDecided : Tables → Decided → Type 0
+IsDecided t d = IsDecision t d.asker d.decision
+
+abbrev pub decided_text : Decided → List ℕ
+decided_text d = decision_text d.asker d.decision
+
+abbrev pub any_includes : List Decided → Bool
+any_includes decisions = list_any (λ d. includes d.decision) decisions
+
+-- Each question of the name is told of, in their order, and whether a line includes anything.
+pub record TellsSeen (t : Tables) (model : ℕ) (name text : List ℕ) (included : Bool) : Type 0 where
+  pub decisions : List Decided
+  pub askers : map (λ d. d.asker) decisions ≡ viewers t.contexts model name
+  pub each : (d : Decided) → Contains decisions d → IsDecided t d
+  pub lines : text ≡ flat_map decided_text decisions
+  pub some : included ≡ any_includes decisions

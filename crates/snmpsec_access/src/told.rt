@@ -1,0 +1,64 @@
+//! What decides on every variable, for a question of a name.
+
+ghost use Rattle.std.specs.Prelude.{◌≡◌, ◌≢◌, [], IfOk, Contains};
+ghost use Rattle.vacm_core.specs.declared.rows.FamilyRow.{FamilyRow as ARow};
+ghost use Rattle.vacm_core.specs.Tables.{tables_of};
+ghost use Rattle.vacm_core.specs.Distinct.{HasOneRowEach};
+ghost use Rattle.snmpsec_access.specs.Seen.{IsDecision};
+ghost use Rattle.snmpsec_access.specs.Rising.{IsOfView, asker_of, decision_of};
+
+use crate::subtrees::{needed_rows, rising_rows};
+use snmpsec_explain::{Asking, steps_of};
+use std::alloc::{AllocError, Global};
+use vacm_core::{Access, FamilyRow, Rows};
+
+/// What is told of a question, whatever the variable.
+#[derive(Drop)]
+pub(crate) enum Told<'a> {
+    /// Each variable gets this answer, and no view is looked at.
+    Refusal(Access),
+    /// The last of these rows that fits a variable decides on it.
+    Rows(Vec<&'a FamilyRow>),
+}
+
+/// What is told of a view.
+fn told_of_view<'a>(
+    alloc: Global,
+    rows: &'a [FamilyRow],
+    view: &[u8],
+) -> Result<Told<'a>, AllocError>
+    requires named { view.now ≢ [] }
+    requires one_each { (x y : ARow) → Contains rows.now x → Contains rows.now y → x.view ≡ y.view → x.subtree ≡ y.subtree → x ≡ y }
+    ensures { IfOk result (λ told. IsOfView rows.now view.now (decision_of told)) }
+{
+    let rising = rising_rows(alloc, rows, view)?;
+    if rising.is_empty() {
+        return Ok(Told::Refusal(Access::NoSuchView));
+    }
+    let needed = needed_rows(alloc, rising)?;
+    Ok(Told::Rows(needed))
+}
+
+/// What is told of a question: the first answer that applies, or the rows of its view that decide. The variable isn't looked at.
+pub(crate) fn told_of<'a>(
+    alloc: Global,
+    rows: &'a Rows,
+    asking: &Asking<'_>,
+) -> Result<Told<'a>, AllocError>
+    requires { HasOneRowEach (tables_of rows.now) }
+    ensures { IfOk result (λ told. IsDecision (tables_of rows.now) (asker_of asking.now) (decision_of told)) }
+{
+    let Some(context) = steps_of(rows, asking) else {
+        return Ok(Told::Refusal(Access::NoSuchContext));
+    };
+    let Some(group) = context.group else {
+        return Ok(Told::Refusal(Access::NoGroupName));
+    };
+    let Some(access) = group.access else {
+        return Ok(Told::Refusal(Access::NoAccessEntry));
+    };
+    let Some(view) = access.view else {
+        return Ok(Told::Refusal(Access::NoSuchView));
+    };
+    told_of_view(alloc, &rows.families, view.name.as_slice())
+}
