@@ -1,11 +1,11 @@
 -- The log of a capture, record by record.
-use Rattle.std.proofs.Common.{◌≡◌, ℕ, ◌+◌, ◌*◌, ◌<◌, ◌≤◌, List, [], ◌∷◌, ◌++◌, length, Option, IfSome, refl, sym, ap, ◌∙◌, arith, append_assoc, append-nil, length-append, subst}
+use Rattle.std.proofs.Common.{◌≡◌, ℕ, ◌+◌, ◌*◌, ◌<◌, ◌≤◌, List, [], ◌∷◌, ◌++◌, length, Option, IfSome, inl, inr, refl, sym, ap, ◌∙◌, arith, append_assoc, append-nil, length-append, subst}
 use Rattle.std.specs.Io.KnownBytes.{Appends, Consumes}
 use Rattle.std.proofs.KnownBytes.{Appends-nil, Appends-trans, Appends-kept, Consumes-nil, Consumes-trans, Consumes-whole}
 use Rattle.snmpsec_streams.specs.Transfer.{WritesFront}
 use Rattle.snmpsec_capture.specs.Pcap.{Record, IsRecord, AreRecords}
 use Rattle.snmpsec_capture.specs.Passed.{none_passed, IsBelow}
-use Rattle.snmpsec_capture.specs.Datagrams.{IsSortedRecord, log_of, note_of, count_of, Sorts, IsLogOf, Streams, Stands, WriteFails, StopsRecords, HasBegun, record_from, WritesRecord, WritesRecordFront, StopsRecord, IsEnd}
+use Rattle.snmpsec_capture.specs.Datagrams.{IsSortedRecord, log_of, note_of, count_of, Sorts, IsLogOf, Streams, Stands, StopsWriting, WriteFails, StopsRecords, HasBegun, record_from, WritesRecord, WritesRecordFront, StopsRecord, IsEnd}
 use Rattle.snmpsec_capture.specs.declared.field.Order.{Order}
 use Rattle.snmpsec_capture.specs.declared.pcap.Header.{Header}
 use Rattle.snmpsec_capture.specs.declared.datagrams.Sorted.{Sorted}
@@ -175,10 +175,15 @@ reads_record {ports = ports} {h = h} {n = n} {passed = passed} w left' written' 
     }
 
 front_more : (a b c : Option (List ℕ)) (text more : List ℕ) → Appends a b text → WritesFront b c more → WritesFront a c (text ++ more)
-front_more a b c text more first (front, rest, cut, second) =
-    (text ++ front, rest, ap (λ t. text ++ t) cut ∙ sym (append_assoc text front rest), Appends-trans _ _ _ _ _ first second)
+front_more a b c text more first (front, rest, cut, some, second) =
+    (text ++ front, rest, ap (λ t. text ++ t) cut ∙ sym (append_assoc text front rest), some, Appends-trans _ _ _ _ _ first second)
 
--- a record was read, and a front of what it comes to is written
+stops_more : (a b c u v w : Option (List ℕ)) (log more notes told : List ℕ) → Appends a b log → Appends u v notes
+    → StopsWriting b c more v w told → StopsWriting a c (log ++ more) u w (notes ++ told)
+stops_more a b c u v w log more notes told wrote tells (inl (front, all)) = inl (front_more _ _ _ _ _ wrote front, Appends-trans _ _ _ _ _ tells all)
+stops_more a b c u v w log more notes told wrote tells (inr (all, front)) = inr (Appends-trans _ _ _ _ _ wrote all, front_more _ _ _ _ _ tells front)
+
+-- a record was read, and what it comes to isn't written whole
 pub writes_front : {ports : List ℕ} {h : Header} {unread left held written untold told : Option (List ℕ)} {n place : ℕ} {passed : Passed}
     → Stands ports h (streams unread left held written untold told) (IsBefore n place) passed
     → (left' written' told' : Option (List ℕ)) (octets : List ℕ) (c : Captured)
@@ -200,8 +205,7 @@ writes_front {ports = ports} {h = h} {passed = passed} w left' written' told' oc
           (sorts_more ports h.link 1 w.records (none_passed h.link) w.log w.notes passed more wr.sorted after w.sorts
           (subst (λ l. IsSortedRecord ports l more wr.sorted) link wr.sorts) refl);
       consumed = Consumes-trans _ _ _ _ _ (rw (w.is_part.none, append-nil w.read) at w.consumed) consumes;
-      front = front_more _ _ _ _ _ w.wrote wr.front;
-      told_front = front_more _ _ _ _ _ w.tells wr.told_front;
+      stops = stops_more _ _ _ _ _ _ _ _ _ _ w.wrote w.tells wr.stops;
     }
 
 -- a record was read, and writing what it comes to stopped

@@ -131,7 +131,12 @@ abbrev pub IsBad : Header → Option (List ℕ) → ℕ → List Record → List
 IsBad h left place records read part = (place ≡ 24 + length read)
     × ((length records ≡ 1099511627775) ⊎ ((0 < length part) × ((rest : List ℕ) → left ≡ Some rest → HasNoRecord h.order (part ++ rest))))
 
--- A write failed: fronts are written of what the records come to that were read.
+-- Of two texts for two writers a front of one is written, and not the whole, and the other whole.
+abbrev pub StopsWriting : Option (List ℕ) → Option (List ℕ) → List ℕ → Option (List ℕ) → Option (List ℕ) → List ℕ → Type 0
+StopsWriting held written log untold told notes =
+    (WritesFront held written log × Appends untold told notes) ⊎ (Appends held written log × WritesFront untold told notes)
+
+-- A write failed: what the records come to that were read is written but for an end, in the log or in what is told.
 pub record WriteFails (ports : List ℕ) (h : Header) (s : Streams) : Type 0 where
   pub records : List Record
   pub read : List ℕ
@@ -141,8 +146,7 @@ pub record WriteFails (ports : List ℕ) (h : Header) (s : Streams) : Type 0 whe
   pub are_records : AreRecords h.order records read
   pub sorts : Sorts ports h.link 1 records (none_passed h.link) log notes passed
   pub consumed : Consumes s.unread s.left read
-  pub front : WritesFront s.held s.written log
-  pub told_front : WritesFront s.untold s.told notes
+  pub stops : StopsWriting s.held s.written log s.untold s.told notes
 
 -- what is done behind the header where it stops with a fault
 abbrev pub StopsRecords : List ℕ → Header → Streams → CaptureFault → Type 0
@@ -201,12 +205,11 @@ pub record WritesRecord (ports : List ℕ) (c : Captured) (before after : Passed
   pub wrote : Appends held written (log_of c.head.moment sorted)
   pub tells : Appends untold told (note_of c.number sorted)
 
--- a front of it is written
+-- what it comes to isn't written whole
 pub record WritesRecordFront (ports : List ℕ) (c : Captured) (held written untold told : Option (List ℕ)) : Type 0 where
   pub sorted : Sorted
   pub sorts : IsSortedRecord ports c.link (record_from c) sorted
-  pub front : WritesFront held written (log_of c.head.moment sorted)
-  pub told_front : WritesFront untold told (note_of c.number sorted)
+  pub stops : StopsWriting held written (log_of c.head.moment sorted) untold told (note_of c.number sorted)
 
 abbrev pub StopsRecord : List ℕ → Captured → Option (List ℕ) → Option (List ℕ) → Option (List ℕ) → Option (List ℕ) → CaptureFault → Type 0
 StopsRecord ports c held written untold told (fault.Octet place) = ⊥

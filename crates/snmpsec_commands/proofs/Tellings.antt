@@ -1,5 +1,5 @@
 -- What is told of a capture: the last line, and the ports that are asked for.
-use Rattle.std.proofs.Common.{◌≡◌, ℕ, ◌<◌, ◌^◌, List, [], ◌∷◌, ◌++◌, length, map, decimal, codes, Option, slice_index_or, refl, sym, subst, inr}
+use Rattle.std.proofs.Common.{◌≡◌, ℕ, ◌<◌, ◌^◌, List, [], ◌∷◌, ◌++◌, length, map, decimal, codes, Option, slice_index_or, refl, sym, subst, inl, inr}
 use Rattle.std.proofs.lemmas.List.{get_or-map, length-map}
 use Rattle.std.specs.Io.KnownBytes.{Appends}
 use Rattle.std.proofs.KnownBytes.{Appends-nil, Keeps-refl}
@@ -38,23 +38,20 @@ tells_in_log ports name s written status line leaves wrote = record {
   tells = Appends-nil s.told;
 }
 
-pub lost_beside : (ports name : List ℕ) (s : Streams) (told : Option (List ℕ)) (status : ℕ) (line : List ℕ) (fault : Unread)
-    → Leaves ports name (record s { told = told }) status [] line → LosesLine told s.told line fault → TellsNot ports name s fault
-lost_beside ports name s told status line unread.CannotRead leaves lost = absurd lost
-lost_beside ports name s told status line unread.CannotWrite leaves lost = inr (
-  status,
-  record {
-    written = s.written;
-    told = told;
-    in_log = [];
-    beside = line;
-    leaves = leaves;
-    wrote = ([], [], refl, Appends-nil s.written);
-    tells = lost;
-  },
-)
-lost_beside ports name s told status line unread.OutOfMemory leaves lost = inr (
-  status,
+pub lost_beside : (ports name : List ℕ) (s : Streams) (told : Option (List ℕ)) (line : List ℕ) (fault : Unread)
+    → Leaves ports name (record s { told = told }) 0 [] line → LosesLine told s.told line fault → TellsNot ports name s fault
+lost_beside ports name s told line unread.CannotRead leaves lost = absurd lost
+lost_beside ports name s told line unread.CannotWrite leaves lost = inr (inl (record {
+  written = s.written;
+  told = told;
+  in_log = [];
+  beside = line;
+  leaves = leaves;
+  wrote = Appends-nil s.written;
+  tells = lost;
+}))
+lost_beside ports name s told line unread.OutOfMemory leaves lost = inr (
+  0,
   record {
     written = s.written;
     told = told;
@@ -66,23 +63,20 @@ lost_beside ports name s told status line unread.OutOfMemory leaves lost = inr (
   },
 )
 
-pub lost_in_log : (ports name : List ℕ) (s : Streams) (written : Option (List ℕ)) (status : ℕ) (line : List ℕ) (fault : Unread)
-    → Leaves ports name (record s { written = written }) status line [] → LosesLine written s.written line fault → TellsNot ports name s fault
-lost_in_log ports name s written status line unread.CannotRead leaves lost = absurd lost
-lost_in_log ports name s written status line unread.CannotWrite leaves lost = inr (
-  status,
-  record {
-    written = written;
-    told = s.told;
-    in_log = line;
-    beside = [];
-    leaves = leaves;
-    wrote = lost;
-    tells = ([], [], refl, Appends-nil s.told);
-  },
-)
-lost_in_log ports name s written status line unread.OutOfMemory leaves lost = inr (
-  status,
+pub lost_in_log : (ports name : List ℕ) (s : Streams) (written : Option (List ℕ)) (line : List ℕ) (fault : Unread)
+    → Leaves ports name (record s { written = written }) 1 line [] → LosesLine written s.written line fault → TellsNot ports name s fault
+lost_in_log ports name s written line unread.CannotRead leaves lost = absurd lost
+lost_in_log ports name s written line unread.CannotWrite leaves lost = inr (inr (record {
+  written = written;
+  told = s.told;
+  in_log = line;
+  beside = [];
+  leaves = leaves;
+  wrote = lost;
+  tells = Appends-nil s.told;
+}))
+lost_in_log ports name s written line unread.OutOfMemory leaves lost = inr (
+  1,
   record {
     written = written;
     told = s.told;

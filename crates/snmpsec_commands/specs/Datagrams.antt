@@ -52,25 +52,26 @@ Leaves ports name s status in_log beside =
     ((status ≡ 0) × (passed : Passed) × IsWhole ports s passed × (in_log ≡ []) × (beside ≡ passed_line passed))
     ⊎ ((status ≡ 1) × (place : ℕ) × StopsBy ports s (capture.Octet place) × (in_log ≡ refused_line name place) × (beside ≡ []))
 
--- What a capture comes to is written as far as it is one, and of the last lines what `Writes` says.
-pub record Ends (ports name : List ℕ) (s : Streams) (Writes : Option (List ℕ) → Option (List ℕ) → List ℕ → Type 0) (status : ℕ) : Type 0 where
+-- What a capture comes to is written as far as it is one, of the last line in the log what `Writes` says, and of that beside it what `TellsLine` says.
+pub record Ends (ports name : List ℕ) (s : Streams) (Writes TellsLine : Option (List ℕ) → Option (List ℕ) → List ℕ → Type 0) (status : ℕ) : Type 0 where
   pub written : Option (List ℕ)
   pub told : Option (List ℕ)
   pub in_log : List ℕ
   pub beside : List ℕ
   pub leaves : Leaves ports name (record s { written = written; told = told }) status in_log beside
   pub wrote : Writes written s.written in_log
-  pub tells : Writes told s.told beside
+  pub tells : TellsLine told s.told beside
 
 -- all of them
 abbrev pub Tells : List ℕ → List ℕ → Streams → ℕ → Type 0
-Tells ports name s status = Ends ports name s Appends status
+Tells ports name s status = Ends ports name s Appends Appends status
 
--- What is done where it stops with a fault: it stops within the capture, or only a front of the last lines is written, or none is made.
+-- What is done where it stops with a fault: it stops within the capture, or only a front of the last line is written, or none is made.
 abbrev pub TellsNot : List ℕ → List ℕ → Streams → Unread → Type 0
 TellsNot ports name s unread.CannotRead = StopsBy ports s capture.CannotRead
-TellsNot ports name s unread.CannotWrite = StopsBy ports s capture.CannotWrite ⊎ ((status : ℕ) × Ends ports name s WritesFront status)
-TellsNot ports name s unread.OutOfMemory = StopsBy ports s capture.OutOfMemory ⊎ ((status : ℕ) × Ends ports name s (λ old new line. Keeps old new) status)
+TellsNot ports name s unread.CannotWrite =
+    StopsBy ports s capture.CannotWrite ⊎ (Ends ports name s Appends WritesFront 0 ⊎ Ends ports name s WritesFront Appends 1)
+TellsNot ports name s unread.OutOfMemory = StopsBy ports s capture.OutOfMemory ⊎ ((status : ℕ) × Ends ports name s (λ old new line. Keeps old new) (λ old new line. Keeps old new) status)
 
 -- ---- between the functions
 

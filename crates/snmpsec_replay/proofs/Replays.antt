@@ -157,12 +157,12 @@ pub write_fails : {p : Printing} {begin now : Held} {unread left held written : 
     → Waits p begin (streams unread left held written) waiting P now
     → ((es : List LogEntry) (part : List ℕ) → P es part → IsLinePart part)
     → (written' : Option (List ℕ)) → WritesFront written written' waiting → WriteFails p begin (streams unread left held written')
-write_fails {now = now} w is written' (front, rest, cut, a) = record {
+write_fails {now = now} w is written' (front, rest, cut, some, a) = record {
   text = w.text;
   after = now;
   front = inl (
     record { read = w.reads.read; part = w.reads.part; replays = w.reads.replays; consumed = w.reads.consumed; is_part = is _ _ w.reads.is_part },
-    (w.done ++ front, rest, w.parts ∙ ap (λ t. w.done ++ t) cut ∙ sym (append_assoc w.done front rest), Appends-trans _ _ _ _ _ w.wrote a),
+    (w.done ++ front, rest, w.parts ∙ ap (λ t. w.done ++ t) cut ∙ sym (append_assoc w.done front rest), some, Appends-trans _ _ _ _ _ w.wrote a),
   );
 }
 
@@ -220,12 +220,12 @@ pub save_fails : {p : Printing} {begin now : Held} {unread left held written : O
     → (written' : Option (List ℕ)) (e : ReplayFault) → SavesUnless (listing now.clocks) written written' e → StopsBy p begin (streams unread left held written') e
 save_fails s written' (fault.LogLine m) h = absurd h
 save_fails s written' fault.CannotRead h = absurd h
-save_fails {now = now} s written' fault.CannotWrite (front, rest, cut, a) = record {
+save_fails {now = now} s written' fault.CannotWrite (front, rest, cut, some, a) = record {
   text = s.text;
   after = now;
   front = inr (
     record { read = s.reads.read; part = s.reads.part; replays = s.reads.replays; consumed = s.reads.consumed; is_part = s.reads.is_part },
-    (s.text ++ front, rest, ap (λ t. s.text ++ t) cut ∙ sym (append_assoc s.text front rest), Appends-trans _ _ _ _ _ s.wrote a),
+    (s.text ++ front, rest, ap (λ t. s.text ++ t) cut ∙ sym (append_assoc s.text front rest), some, Appends-trans _ _ _ _ _ s.wrote a),
   );
 }
 save_fails {now = now} s written' fault.OutOfMemory k = (

@@ -100,7 +100,7 @@ pub record IsBad (p : Printing) (left : Option (List ℕ)) (n : ℕ) (es : List 
   pub more : 0 < length part
   pub none : (rest : List ℕ) → left ≡ Some rest → HasNoLine (length es + 1) (part ++ rest)
 
--- A write failed: what is written is a front of what answers the lines that were read, or of the whole text.
+-- A write failed: what is written is a front of what answers the lines that were read, or of the whole text, and not all of it.
 pub record WriteFails (p : Printing) (begin : Held) (s : Streams) : Type 0 where
   pub text : List ℕ
   pub after : Held

@@ -83,7 +83,7 @@ fn write_some<W: Write>(writer: &mut W, text: &[u8]) -> Result<usize, Failed>
     Err(Failed)
 }
 
-/// Writes the whole text. Where that fails, it has written a front of it.
+/// Writes the whole text. Where that fails, it has written a front of it, and not the whole.
 pub fn write_whole<W: Write>(writer: &mut W, text: &[u8]) -> Result<(), Failed>
     ensures ok { OnOk result (Appends (W.contents writer.old) (W.contents writer.new) text.now) }
     ensures err { OnErr result (WritesFront (W.contents writer.old) (W.contents writer.new) text.now) }

@@ -1,4 +1,4 @@
-use Rattle.std.proofs.Common.{◌∙◌, [], refl, subst}
+use Rattle.std.proofs.Common.{◌∙◌, inl, inr, subst}
 use Rattle.std.proofs.KnownBytes.{Appends-nil}
 use Rattle.snmpsec_streams.specs.Transfer.{WritesFront}
 use Rattle.snmpsec_capture.proofs.datagrams.write_record.Goals as goal
@@ -7,14 +7,12 @@ pub returns-in-Logged-clause-err : goal.returns-in-Logged-clause-err
 returns-in-Logged-clause-err g c = record {
   sorted = c.sort.result;
   sorts = (c.find_datagram.result, c.find_datagram.ensures, c.sort.ensures);
-  front = rw c.in-Logged.is (subst (WritesFront _ _) (c.as_bytes.ensures.value ∙ c.in-Ok.ensures) c.in-Err.ensures.err);
-  told_front = rw c.in-Logged.is ([], [], refl, Appends-nil _);
+  stops = rw c.in-Logged.is (inl (subst (WritesFront _ _) (c.as_bytes.ensures.value ∙ c.in-Ok.ensures) c.in-Err.ensures.err, Appends-nil _));
 }
 
 pub returns-in-Told-clause-err : goal.returns-in-Told-clause-err
 returns-in-Told-clause-err g c = record {
   sorted = c.sort.result;
   sorts = (c.find_datagram.result, c.find_datagram.ensures, c.sort.ensures);
-  front = rw c.in-Told.is ([], [], refl, Appends-nil _);
-  told_front = rw c.in-Told.is (subst (WritesFront _ _) (c.as_bytes-in-Told.ensures.value ∙ c.in-Ok-note_line.ensures) c.in-Err-write_whole.ensures.err);
+  stops = rw c.in-Told.is (inr (Appends-nil _, subst (WritesFront _ _) (c.as_bytes-in-Told.ensures.value ∙ c.in-Ok-note_line.ensures) c.in-Err-write_whole.ensures.err));
 }

@@ -8,7 +8,7 @@ returns-in-Ok-tell_passed-clause-ok g c =
 
 pub returns-in-Err-clause-err : goal.returns-in-Err-clause-err
 returns-in-Err-clause-err g c =
-    lost_beside _ _ _ _ _ _ c.in-Err.fault (inl (refl, c.in-Ok.passed, record { log_is = c.in-Ok.ensures.ok }, refl, refl)) c.in-Err.ensures.err
+    lost_beside _ _ _ _ _ c.in-Err.fault (inl (refl, c.in-Ok.passed, record { log_is = c.in-Ok.ensures.ok }, refl, refl)) c.in-Err.ensures.err
 
 pub returns-in-Ok-refuse-clause-ok : goal.returns-in-Ok-refuse-clause-ok
 returns-in-Ok-refuse-clause-ok g c =
@@ -18,4 +18,4 @@ returns-in-Ok-refuse-clause-ok g c =
 pub returns-in-Err-refuse-clause-err : goal.returns-in-Err-refuse-clause-err
 returns-in-Err-refuse-clause-err g c =
     let stops = rw c.in-Err-Octet.field-0-is at c.in-Err-Octet.ensures.err in
-    lost_in_log _ _ _ _ _ _ c.in-Err-refuse.fault (inr (refl, c.in-Err-Octet.place, stops, refl, refl)) c.in-Err-refuse.ensures.err
+    lost_in_log _ _ _ _ _ c.in-Err-refuse.fault (inr (refl, c.in-Err-Octet.place, stops, refl, refl)) c.in-Err-refuse.ensures.err
