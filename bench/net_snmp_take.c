@@ -3,8 +3,10 @@
    net_snmp_take ROLE USER AUTH-PASSWORD PRIV-PASSWORD ENGINE MESSAGE TIMES
 
    ROLE is `manager`, `agent`, whose own engine is ENGINE, `answer`: an agent that also writes a response with the bindings of the
-   message, or `build`: an agent that took the message once and writes the response each time. The message, of SHA-1 and AES, and the engine are in hex. It is parsed TIMES times by snmpv3_parse, with its look at the
-   time, and answered by snmp_build, as snmp_send does; the copy of the message that the parser writes over is made each time.
+   message, `build`: an agent that took the message once and writes the response each time, or `ask`: a manager that took it once and
+   writes a GetRequest with its bindings each time. The message, of SHA-1 and AES, and the engine are in hex. It is parsed TIMES times by
+   snmpv3_parse, with its look at the time, and answered by snmp_build, as snmp_send does; the copy of the message that the parser writes
+   over is made each time.
    It prints the nanoseconds of the processor that a message took. */
 #include <net-snmp/net-snmp-config.h>
 #include <net-snmp/net-snmp-includes.h>
@@ -58,7 +60,7 @@ static void set_up(netsnmp_session *session, char **words)
     session->securityEngineID = engine;
 }
 
-typedef enum { TAKES, ANSWERS, WRITES } Work;
+typedef enum { TAKES, ANSWERS, WRITES, ASKS } Work;
 
 /* The message as it was parsed, or NULL for a refusal. */
 static netsnmp_pdu *parsed(netsnmp_session *session, const u_char *message, size_t count, u_char *room)
@@ -74,15 +76,30 @@ static netsnmp_pdu *parsed(netsnmp_session *session, const u_char *message, size
     return NULL;
 }
 
-/* How many octets the response has that is written with these bindings, and 0 where there is none. */
-static size_t answered(netsnmp_session *session, netsnmp_pdu *pdu)
+/* How many octets the message has that is written of this PDU, and 0 where there is none. */
+static size_t built(netsnmp_session *session, netsnmp_pdu *pdu)
 {
     static u_char *packet;
     static size_t room;
     size_t written = 0;
+    return snmp_build(&packet, &room, &written, session, pdu) == 0 ? written : 0;
+}
+
+/* The same of the response with these bindings. */
+static size_t answered(netsnmp_session *session, netsnmp_pdu *pdu)
+{
     pdu->command = SNMP_MSG_RESPONSE;
     pdu->flags |= UCD_MSG_FLAG_RESPONSE_PDU;
-    return snmp_build(&packet, &room, &written, session, pdu) == 0 ? written : 0;
+    return built(session, pdu);
+}
+
+/* The same of a GetRequest with these bindings. */
+static size_t asked(netsnmp_session *session, netsnmp_pdu *pdu)
+{
+    pdu->command = SNMP_MSG_GET;
+    pdu->flags &= ~UCD_MSG_FLAG_RESPONSE_PDU;
+    pdu->securityStateRef = NULL;
+    return built(session, pdu);
 }
 
 /* Takes the message, and answers it where that is asked for: how many octets the answer has, 1 where there is none, and 0 for a refusal. */
@@ -96,6 +113,14 @@ static size_t taken(netsnmp_session *session, const u_char *message, size_t coun
     return written;
 }
 
+/* Does the work once, on the message or on the PDU that was parsed of it: 0 where it fails. */
+static size_t done(netsnmp_session *session, netsnmp_pdu *pdu, const u_char *message, size_t count, u_char *room, Work work)
+{
+    if (work == WRITES)
+        return answered(session, pdu);
+    return work == ASKS ? asked(session, pdu) : taken(session, message, count, room, work);
+}
+
 /* Does the work so many times: the nanoseconds of the processor for each, or less than 0 for a refusal. */
 static double measured(netsnmp_session *session, const u_char *message, size_t count, Work work, long times)
 {
@@ -105,11 +130,20 @@ static double measured(netsnmp_session *session, const u_char *message, size_t c
         return -1;
     double start = seconds();
     for (long k = 0; k < times; k++)
-        if ((work == WRITES ? answered(session, pdu) : taken(session, message, count, room, work)) == 0)
+        if (done(session, pdu, message, count, room, work) == 0)
             return -1;
     double spent = seconds() - start;
     snmp_free_pdu(pdu);
     return spent * 1e9 / (double) times;
+}
+
+static Work work_of(const char *role)
+{
+    if (strcmp(role, "answer") == 0)
+        return ANSWERS;
+    if (strcmp(role, "build") == 0)
+        return WRITES;
+    return strcmp(role, "ask") == 0 ? ASKS : TAKES;
 }
 
 int main(int count, char **words)
@@ -120,9 +154,10 @@ int main(int count, char **words)
         fprintf(stderr, "usage: net_snmp_take ROLE USER AUTH-PASSWORD PRIV-PASSWORD ENGINE MESSAGE TIMES\n");
         return 2;
     }
-    Work work = strcmp(words[1], "answer") == 0 ? ANSWERS : strcmp(words[1], "build") == 0 ? WRITES : TAKES;
+    Work work = work_of(words[1]);
+    int manages = strcmp(words[1], "manager") == 0 || work == ASKS;
     init_snmp("net_snmp_take");
-    if (strcmp(words[1], "manager") != 0)
+    if (!manages)
         set_exact_engineID(own, from_hex(words[5], own));
     set_up(&session, words);
     if (create_user_from_session(&session) != SNMPERR_SUCCESS)

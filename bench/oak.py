@@ -98,6 +98,43 @@ def of_engine(octets, number):
     return coded(text[: places(text)[2]].replace(ENGINE, engine, 1) + sealed, engine)
 
 
+def read(text, at):
+    """The places of an element's content and of its end."""
+    size, body = text[at + 1], at + 2
+    if size >= 128:
+        body += size - 128
+        size = int.from_bytes(text[at + 2 : body], "big")
+    return body, body + size
+
+
+def elements(text, at, end):
+    found = []
+    while at < end:
+        found.append(text[at : read(text, at)[1]])
+        at = read(text, at)[1]
+    return found
+
+
+def with_first_bindings(whole, count):
+    """The PDU with so many of its bindings."""
+    *numbers, listed = elements(whole, read(whole, 0)[0], len(whole))
+    bindings = elements(listed, read(listed, 0)[0], len(listed))
+    return element(whole[0], *numbers, element(0x30, *bindings[:count]))
+
+
+@functools.cache
+def of_bindings(count):
+    """A message of the engine with so many bindings: the first ones of the longer captured message, of which the other message has one."""
+    text = captured(2473)
+    _, salt, _ = places(text)
+    scoped = element(0x30, element(0x04, ENGINE), element(0x04), with_first_bindings(pdu(text), count))
+    header = element(0x30, unsigned(3), unsigned(65507), element(0x04, b"\x07"), unsigned(3))
+    fields = [unsigned(BOOTS), unsigned(TIME), element(0x04, b"oak"), element(0x04, bytes(CODE_OCTETS)), element(0x04, text[salt : salt + 8])]
+    sealing = cipher(text).encryptor()
+    sealed = sealing.update(scoped) + sealing.finalize()
+    return coded(element(0x30, unsigned(3), header, element(0x04, element(0x30, element(0x04, ENGINE), *fields)), element(0x04, sealed)))
+
+
 @functools.cache
 def in_the_open(octets):
     """The captured message of this many octets at authNoPriv."""

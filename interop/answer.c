@@ -17,11 +17,9 @@ enum { SHORT_ANSWER = 1472 };
 /* what is asked and answered */
 static snmpsec_agent *agent;
 static struct table *table;
-/* the bindings of the answer, and where each of them ends, so that it can be cut behind one */
+/* the bindings of the answer */
 static uint8_t list[SNMPSEC_LARGEST];
 static size_t list_len;
-static size_t ends[MOST_BINDINGS + 1];
-static size_t ends_len;
 /* the PDU that is answered, and whether its sender has no group, no access or no view for one of its variables */
 static snmpsec_pdu pdu;
 static bool is_unauthorized;
@@ -37,7 +35,6 @@ static int put(const uint32_t *arcs, size_t arcs_len, uint8_t tag, const uint8_t
     size_t written = 0;
     int answer = snmpsec_binding_write(arcs, arcs_len, tag, value, value_len, list + list_len, sizeof list - list_len, &written);
     if (!answer) list_len += written;
-    if (!answer && ends_len < MOST_BINDINGS) ends[++ends_len] = list_len;
     return answer;
 }
 
@@ -128,7 +125,7 @@ static uint32_t set(long len, uint32_t *index) {
 /* Fills the bindings of the answer: an error-status and an error-index. */
 static uint32_t fill(const snmpsec_info *info, const uint8_t *octets, size_t octets_len, uint32_t *index, size_t limit) {
     long len = asked_of(octets, octets_len);
-    list_len = ends_len = 0;
+    list_len = 0;
     is_unauthorized = false;
     *index = 0;
     if (len < 0) return GEN_ERR;
@@ -141,22 +138,18 @@ static uint32_t fill(const snmpsec_info *info, const uint8_t *octets, size_t oct
     return 0;
 }
 
-/* The Response to a GetBulkRequest with as many of the bindings as fit (RFC 3416, section 4.2.3), found by halves. */
-static int respond_front(uint64_t now, uint32_t limit) {
-    size_t low = 0, high = ends_len;
-    while (high - low > 1) {
-        size_t middle = low + (high - low) / 2;
-        int answer = snmpsec_agent_respond_within(agent, now, 0, 0, list, ends[middle], new_salt(), limit);
-        if (answer == SNMPSEC_TOO_LARGE) high = middle; else if (answer) return answer; else low = middle;
-    }
-    return snmpsec_agent_respond_within(agent, now, 0, 0, list, ends[low], new_salt(), limit);
-}
-
 /* A Response without bindings; where even that is too long, nothing is sent. */
 static int respond_too_big(uint64_t now, uint32_t limit) {
     int answer = snmpsec_agent_respond_within(agent, now, TOO_BIG, 0, list, 0, new_salt(), limit);
     if (answer == SNMPSEC_TOO_LARGE && snmpsec_agent_silent_drop(agent)) return SNMPSEC_BAD_ARGUMENT;
     return answer;
+}
+
+/* The Response to a GetBulkRequest with as many of the bindings as have room (RFC 3416, section 4.2.3). */
+static int respond_bulk(uint64_t now, uint32_t limit) {
+    size_t count;
+    int answer = snmpsec_agent_respond_front(agent, now, 0, 0, list, list_len, new_salt(), limit, &count);
+    return answer == SNMPSEC_TOO_LARGE ? respond_too_big(now, limit) : answer;
 }
 
 /* A SetRequest is looked at for its size before anything is set, with the longest error-status and error-index (RFC 3416, section 4.2.5). */
@@ -177,10 +170,10 @@ static int respond(uint64_t now, uint32_t limit) {
     uint32_t status = fill(&info, octets, octets_len, &index, limit);
     if (is_unauthorized) { status = AUTHORIZATION_ERROR; index = 0; }
     if (status == TOO_BIG) return respond_too_big(now, limit);
+    if (pdu == SNMPSEC_GET_BULK_REQUEST && !status) return respond_bulk(now, limit);
     if (status) { memcpy(list, octets, octets_len); list_len = octets_len; }
     int answer = snmpsec_agent_respond_within(agent, now, status, index, list, list_len, new_salt(), limit);
-    if (answer != SNMPSEC_TOO_LARGE) return answer;
-    return pdu == SNMPSEC_GET_BULK_REQUEST && !status ? respond_front(now, limit) : respond_too_big(now, limit);
+    return answer == SNMPSEC_TOO_LARGE ? respond_too_big(now, limit) : answer;
 }
 
 /* How long an answer may be: as the sender says, and where anybody may have sent the request, no more than a short one or twice as long, so that

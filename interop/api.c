@@ -104,6 +104,13 @@ int snmpsec_agent_respond_within(snmpsec_agent *agent, uint64_t now, uint32_t er
                  : SNMPSEC_BAD_ARGUMENT;
 }
 
+int snmpsec_agent_respond_front(snmpsec_agent *agent, uint64_t now, uint32_t error_status, uint32_t error_index, const uint8_t *list,
+                                size_t list_len, uint64_t salt, uint32_t limit, size_t *count) {
+    return agent && count
+               ? done(proved_agent_respond_front(agent, now, error_status, error_index, in(list, list_len), list_len, salt, limit, count))
+               : SNMPSEC_BAD_ARGUMENT;
+}
+
 static int told_size(int64_t answer, uint32_t *out) {
     if (answer < 0) return (int)answer;
     *out = (uint32_t)answer;

@@ -173,6 +173,11 @@ SNMPSEC_CHECK int snmpsec_agent_max_size(snmpsec_agent *agent, uint32_t *out);
 /* What snmpsec_agent_respond writes, where it has at most `limit` octets; else SNMPSEC_TOO_LARGE. A Response without bindings fits into 484. */
 SNMPSEC_CHECK int snmpsec_agent_respond_within(snmpsec_agent *agent, uint64_t now, uint32_t error_status, uint32_t error_index,
                                                const uint8_t *list, size_t list_len, uint64_t salt, uint32_t limit);
+/* The Response with as many of the bindings, from the first on, as have room in `limit` octets: `*count` is how many they are. A GetBulk is
+ * answered with it (RFC 3416, section 4.2.3). One text is sealed, whatever is left out. SNMPSEC_TOO_LARGE where there is no room even for a
+ * Response without bindings; `*count` stays on an error. */
+SNMPSEC_CHECK int snmpsec_agent_respond_front(snmpsec_agent *agent, uint64_t now, uint32_t error_status, uint32_t error_index,
+                                              const uint8_t *list, size_t list_len, uint64_t salt, uint32_t limit, size_t *count);
 
 /* Why nothing answers what is kept, the first that applies: no request waits for a Response or a Report; its contextEngineID isn't the agent's,
  * or its PDU is no Get, GetNext, Set or GetBulk (RFC 3412, section 4.2.2); or no context has its name (RFC 3413, section 3.2). An agent that

@@ -129,17 +129,36 @@ test_clients() {
     check "snmpbulkwalk" 300 "$(ask snmpbulkwalk -Cr50 $sha $at $system.9 | grep -c 'the row')"
 }
 
+# What a client of the library prints of sysDescr: one in C, one in Python, one in Rust.
+asks() { # CLIENT
+    case $1 in
+        poll) "$programs/poll" "$work/dispatch.toml" "$work/fake.clocks" "$port" sha 3 $system.1.0 ;;
+        aget) PYTHONPATH=$here/python/src python3 "$here/python/examples/aget.py" "$work/dispatch.toml" 127.0.0.1 "$port" sha 3 $system.1.0 ;;
+        get) "$OUT/cargo/debug/examples/get" "$work/dispatch.toml" 127.0.0.1:"$port" sha 3 $system.1.0 ;;
+    esac
+}
+
+build_get() {
+    if ! command -v cargo > /dev/null; then echo "skipped: a client in Rust: cargo isn't installed"; return; fi
+    (cd "$here/rust" && SNMPSEC_OUT=$OUT cargo build --offline --example get --target-dir "$OUT/cargo") > "$work/get.out" 2>&1
+    check "the client in Rust is built" 0 $?
+    clients+=(get)
+}
+
 # Who checks a Response: an agent that answers at a lower level, in another context, with another request-id.
 test_fake() { # WRONG EXPECTED ERROR
-    local found
+    local found client
     PYTHONPATH=$here/python/src python3 "$here/tests/fake.py" "$port" "$1" > "$work/fake.out" 2>&1 &
     fake=$!
     pids+=("$fake")
     bound "$port"
-    found=$("$programs/poll" "$work/dispatch.toml" "$work/fake.clocks" "$port" sha 3 $system.1.0 2> "$work/fake.err")
-    check "poll's status with a fake agent, $1" "$2" $?
-    check "what it prints, $1" "$([ "$2" = 0 ] && echo "$system.1.0 04 66616b65")" "$found"
-    has "what it tells, $1" "$3" "$(tail -1 "$work/fake.err")"
+    for client in "${clients[@]}"; do
+        found=$(asks "$client" 2> "$work/fake.err")
+        check "the status of $client with a fake agent, $1" "$2" $?
+        check "what $client prints, $1" "$([ "$2" = 0 ] && echo "$system.1.0 04 66616b65")" "$found"
+        has "what $client tells, $1" "$3" "$(tail -1 "$work/fake.err")"
+        [ "$client" = poll ] && poll_told=$(tail -1 "$work/fake.err")
+    done
     kill "$fake"
     wait "$fake" 2> /dev/null
     rm -f "$work/fake.clocks"
@@ -165,9 +184,12 @@ else
     end_agent
     test_counts
     check "the agent says nothing wrong of all this" "" "$(cat "$work/agent.err")"
+    clients=(poll aget)
+    build_get
     test_fake nothing 0 ""
-    test_fake level 1 "poll: no answer"
-    test_fake context 1 "poll: no answer"
-    test_fake id 1 "poll: no answer"
-    test_fake status=5 1 "poll: genErr (error-status 5), error-index 0"
+    test_fake level 1 "no answer"
+    test_fake context 1 "no answer"
+    test_fake id 1 "no answer"
+    test_fake status=5 1 "error-status 5"
+    has "poll names it" "poll: genErr (error-status 5), error-index 0" "$poll_told"
 fi

@@ -15,6 +15,7 @@ mod agents;
 mod decisions;
 mod exchange_rows;
 mod exchanges;
+mod fronts;
 mod memory;
 mod net_snmp;
 mod net_snmp_rows;
@@ -24,6 +25,9 @@ mod notifications;
 const ENGINE: [u8; 12] = [0, 0, 0, 0, 0, 0, 0, 0, 0, 0, 0, 2];
 
 const SYS_DESCR: [u32; 9] = [1, 3, 6, 1, 2, 1, 1, 1, 0];
+
+/// The octets that spell it.
+const SYS_DESCR_OCTETS: [u8; 8] = [0x2B, 6, 1, 2, 1, 1, 1, 0];
 
 /// The salt of each message.
 const SALT: [u8; 8] = [0, 1, 2, 3, 4, 5, 6, 7];

@@ -12,8 +12,8 @@ use Rattle.engine_clock.specs.Marks.{Marks}
 use Rattle.usm_users.specs.User.{User}
 use Rattle.usm_core.specs.Verified.{manager}
 use Rattle.snmp_outcome.specs.Outcome.{Given, as_manager, own_pair}
-use Rattle.snmp_sending.specs.declared.body.Body.{Body}
-use Rattle.snmp_sending.specs.Bodies.{pdu_in}
+use Rattle.snmp_sending.specs.declared.front.Front.{Front}
+use Rattle.snmp_sending.specs.Bodies.{pdu_after}
 use Rattle.snmp_sending.specs.Accepts.{IsTakenInTime}
 use Rattle.snmp_sending.specs.Speaks.{Speech, spoken, spoken_contexts, HasSameUser}
 use Rattle.snmp_sending.specs.Sends.{CanSend, RefusesSender}
@@ -41,9 +41,10 @@ response engine own g c p status index vs salt = record {
 abbrev pub responding : List ℕ → BootsAndTime → Given → Contexts → PduParts → ℤ → ℤ → List Variable → List ℕ → Sending
 responding engine own g c p status index vs salt = spoken (response engine own g c p status index vs salt)
 
--- a message from the engine that isn't answered, as an SNMPv2-Trap is (RFC 3414, section 3.1): the engine is authoritative
-abbrev pub notification : List ℕ → BootsAndTime → ℕ → List ℕ → Level → Body → List ℕ → Speech
-notification engine own id user level body salt = record {
+-- a message with this front and these bindings from the engine that isn't answered, as an SNMPv2-Trap is (RFC 3414, section 3.1): the
+-- engine is authoritative
+abbrev pub notification : List ℕ → BootsAndTime → ℕ → List ℕ → Level → Front → List Variable → List ℕ → Speech
+notification engine own id user level f vs salt = record {
   level = level;
   id = id;
   reportable = false;
@@ -51,13 +52,13 @@ notification engine own id user level body salt = record {
   pair = own;
   user = user;
   salt = salt;
-  context_engine = body.context_engine.now;
-  context_name = body.context_name.now;
-  pdu = pdu_in body;
+  context_engine = f.context_engine.now;
+  context_name = f.context_name.now;
+  pdu = pdu_after f vs;
 }
 
-abbrev pub notifying : List ℕ → BootsAndTime → ℕ → List ℕ → Level → Body → List ℕ → Sending
-notifying engine own id user level body salt = spoken (notification engine own id user level body salt)
+abbrev pub notifying : List ℕ → BootsAndTime → ℕ → List ℕ → Level → Front → List Variable → List ℕ → Sending
+notifying engine own id user level f vs salt = spoken (notification engine own id user level f vs salt)
 
 -- the answer to sending what an agent makes of its boots and time: first that its clock has run out
 abbrev pub Sends : AgentState → ℕ → (BootsAndTime → Sending) → Result (List ℕ) ℕ → Type 0

@@ -22,7 +22,7 @@ use engine_clock::EngineId;
 use snmp_ber::{Level, Oid};
 use snmp_msg::{Binding, Spelled, USER_BASED, one_content, one_pdu};
 use snmp_outcome::{TakeFault, Taken};
-use snmp_sending::{Body, supports};
+use snmp_sending::{Body, Front, supports};
 use std::alloc::{AllocError, Global};
 use std::marker::Model;
 use usm_core::Users;
@@ -58,7 +58,7 @@ impl Agent {
     ghost use Rattle.vacm_core.specs.Allowed.{Allowed};
     ghost use Rattle.snmp_outcome.specs.Texts.{text_of};
     ghost use Rattle.snmp_outcome.specs.Answers.{given_of};
-    ghost use Rattle.snmp_sending.specs.Bodies.{BodyFits};
+    ghost use Rattle.snmp_sending.specs.Bodies.{BodyFits, front_in, variables_in};
     ghost use Rattle.snmp_sending.specs.Sends.{send_answer};
     ghost use Rattle.snmp_agent.specs.Decides.{question, question_of, IsDecision};
     ghost use Rattle.snmp_outcome.specs.Outcome.{own_pair};
@@ -302,12 +302,40 @@ impl Agent {
         requires user { length user.now ≤ 32 }
         requires tag { body.now.tag ≡ 167 }
         requires body { BodyFits body.now }
-        ensures answer { IfSome (send_answer result) (Sends self.old now (λ own. notifying self.old.engine own id user.now level body.now salt)) }
+        ensures answer { IfSome (send_answer result) (Sends self.old now (λ own. notifying self.old.engine own id user.now level (front_in body.now) (variables_in body.now) salt)) }
 
         // The refusals before the text come before want of memory.
-        ensures memory { IsErrOf result TakeFault.OutOfMemory → CanBeSent self.old now (λ own. notifying self.old.engine own id user.now level body.now salt) }
+        ensures memory { IsErrOf result TakeFault.OutOfMemory
+            → CanBeSent self.old now (λ own. notifying self.old.engine own id user.now level (front_in body.now) (variables_in body.now) salt) }
         ensures accepted { IfOk result (λ text. IsAcceptedByManagers self.old.users
-            (notification self.old.engine (own_pair self.old.boots self.old.started now) id user.now level body.now salt) text.items) }
+            (notification self.old.engine (own_pair self.old.boots self.old.started now) id user.now level (front_in body.now) (variables_in body.now) salt) text.items) }
+        ensures same { self.new ≡ self.old }
+    {
+        self.notify_of(now, id, user, level, &body.front(), body.bindings, salt)
+    }
+
+    /// The same notification, with this front and bindings in any form that can be written, as `respond_of` has them.
+    ///
+    /// The errors are those of `respond`, in its order.
+    pub fn notify_of<B: Spelled>(
+        &mut self,
+        now: u64,
+        id: u32,
+        user: &[u8],
+        level: Level,
+        front: &Front<'_>,
+        bindings: &[B],
+        salt: [u8; 8],
+    ) -> Result<Vec<u8>, TakeFault>
+        requires id { id ≤ 2147483647 }
+        requires user { length user.now ≤ 32 }
+        requires tag { front.now.tag ≡ 167 }
+        requires fit { All (λ b. B.fits b) bindings.now }
+        ensures answer { IfSome (send_answer result) (Sends self.old now (λ own. notifying self.old.engine own id user.now level front.now (map B.says bindings.now) salt)) }
+        ensures memory { IsErrOf result TakeFault.OutOfMemory
+            → CanBeSent self.old now (λ own. notifying self.old.engine own id user.now level front.now (map B.says bindings.now) salt) }
+        ensures accepted { IfOk result (λ text. IsAcceptedByManagers self.old.users
+            (notification self.old.engine (own_pair self.old.boots self.old.started now) id user.now level front.now (map B.says bindings.now) salt) text.items) }
         ensures same { self.new ≡ self.old }
     {
         notification_is_accepted();
@@ -320,6 +348,14 @@ impl Agent {
             level,
             salt,
         };
-        send_notification(self.alloc, &mut self.users, &self.engine.id, own, &to, body)
+        send_notification(
+            self.alloc,
+            &mut self.users,
+            &self.engine.id,
+            own,
+            &to,
+            front,
+            bindings,
+        )
     }
 }

@@ -16,8 +16,8 @@ ghost use Rattle.usm_users.specs.User.{User};
 ghost use Rattle.usm_core.specs.Verified.{manager};
 ghost use Rattle.usm_core.specs.Sealed.{Seals, SealedText};
 ghost use Rattle.snmp_outcome.specs.Outcome.{Given, as_manager};
-ghost use Rattle.snmp_sending.specs.declared.body.Body.{Body as Said};
-ghost use Rattle.snmp_sending.specs.Bodies.{pdu_in};
+ghost use Rattle.snmp_sending.specs.declared.front.Front.{Front as Said};
+ghost use Rattle.snmp_sending.specs.Bodies.{pdu_after};
 ghost use Rattle.snmp_sending.specs.Accepts.{IsTakenInTime};
 ghost use Rattle.snmp_sending.specs.Speaks.{spoken_contexts, SpeechFits, HasSameUser};
 ghost use Rattle.snmp_agent.specs.Agent.{AgentState};
@@ -44,13 +44,13 @@ pub fn response_is_accepted()
     spoken_is_accepted();
 }
 
-/// The same of a notification.
+/// The same of a notification, with any front and any bindings.
 pub fn notification_is_accepted()
-    ensures { (senders users : List User) (held : Marks) (now : ℕ) (engine : List ℕ) (own : BootsAndTime) (id : ℕ) (user : List ℕ) (level : Level) (body : Said) (salt text : List ℕ)
-        → SpeechFits (notification engine own id user level body salt) → HasSameUser manager senders users user level
-        → Seals senders (notifying engine own id user level body salt) (Ok text)
-        → IsTakenInTime (as_manager held) users now text (notifying engine own id user level body salt)
-        (spoken_contexts (notification engine own id user level body salt)) (pdu_in body) }
+    ensures { (senders users : List User) (held : Marks) (now : ℕ) (engine : List ℕ) (own : BootsAndTime) (id : ℕ) (user : List ℕ) (level : Level) (front : Said) (vs : List Variable) (salt text : List ℕ)
+        → SpeechFits (notification engine own id user level front vs salt) → HasSameUser manager senders users user level
+        → Seals senders (notifying engine own id user level front vs salt) (Ok text)
+        → IsTakenInTime (as_manager held) users now text (notifying engine own id user level front vs salt)
+        (spoken_contexts (notification engine own id user level front vs salt)) (pdu_after front vs) }
 {
     spoken_is_accepted();
 }

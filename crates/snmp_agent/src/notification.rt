@@ -1,17 +1,18 @@
 //! Notifications.
 
-ghost use Rattle.std.specs.Prelude.{◌≡◌, ◌≤◌, length, IfOk, IfSome, IsErrOf};
+ghost use Rattle.std.specs.Prelude.{◌≡◌, ◌≤◌, All, length, map, IfOk, IfSome, IsErrOf};
 ghost use Rattle.engine_clock.specs.Pairs.{IsPair};
+ghost use Rattle.snmp_msg.specs.Pdu.{IsPduTag};
 ghost use Rattle.usm_core.specs.Sealed.{Seals, IsSealable};
-ghost use Rattle.snmp_sending.specs.Bodies.{BodyFits};
 ghost use Rattle.snmp_sending.specs.Sends.{send_answer};
 ghost use Rattle.snmp_sending.specs.Speaks.{SpeechFits};
 ghost use Rattle.snmp_agent.specs.Sent.{notification, notifying};
 
 use engine_clock::{EngineId, Pair};
 use snmp_ber::Level;
+use snmp_msg::Spelled;
 use snmp_outcome::TakeFault;
-use snmp_sending::{Body, Envelope, send};
+use snmp_sending::{Envelope, Front, send_of};
 use std::alloc::Global;
 use usm_core::Users;
 
@@ -26,21 +27,24 @@ pub(crate) struct Recipient<'a> {
 }
 
 /// A message of this engine that isn't answered, with its own boots and time.
-pub(crate) fn send_notification(
+pub(crate) fn send_notification<B: Spelled>(
     alloc: Global,
     users: &mut Users,
     engine: &EngineId,
     own: Pair,
     to: &Recipient<'_>,
-    body: &Body<'_>,
+    front: &Front<'_>,
+    bindings: &[B],
 ) -> Result<Vec<u8>, TakeFault>
     requires id { to.now.id ≤ 2147483647 }
     requires user { length to.now.user.now ≤ 32 }
-    requires body { BodyFits body.now }
+    requires tag { IsPduTag front.now.tag }
+    requires fit { All (λ b. B.fits b) bindings.now }
     requires pair { IsPair own }
-    ensures rows { IfSome (send_answer result) (Seals users.old.users (notifying engine.now own to.now.id to.now.user.now to.now.level body.now to.now.salt)) }
-    ensures memory { IsErrOf result TakeFault.OutOfMemory → IsSealable users.old.users (notifying engine.now own to.now.id to.now.user.now to.now.level body.now to.now.salt) }
-    ensures fits { IfOk result (λ _. SpeechFits (notification engine.now own to.now.id to.now.user.now to.now.level body.now to.now.salt)) }
+    ensures rows { IfSome (send_answer result) (Seals users.old.users (notifying engine.now own to.now.id to.now.user.now to.now.level front.now (map B.says bindings.now) to.now.salt)) }
+    ensures memory { IsErrOf result TakeFault.OutOfMemory
+        → IsSealable users.old.users (notifying engine.now own to.now.id to.now.user.now to.now.level front.now (map B.says bindings.now) to.now.salt) }
+    ensures fits { IfOk result (λ _. SpeechFits (notification engine.now own to.now.id to.now.user.now to.now.level front.now (map B.says bindings.now) to.now.salt)) }
     ensures users { users.new.users ≡ users.old.users }
 {
     let envelope = Envelope {
@@ -52,5 +56,5 @@ pub(crate) fn send_notification(
         user: to.user,
         salt: to.salt,
     };
-    send(alloc, users, &envelope, body)
+    send_of(alloc, users, &envelope, front, bindings)
 }

@@ -1,12 +1,12 @@
 -- What the calls on a handle answer and leave.
-use Rattle.std.specs.Prelude.{◌≡◌, ◌≢◌, ◌<◌, ◌≤◌, ◌⊎◌, ⊤, ℕ, ℤ, pos, List, length, drop, ◌++◌, Option, Some, Result, MatchOption}
+use Rattle.std.specs.Prelude.{◌≡◌, ◌≢◌, ◌<◌, ◌≤◌, ◌⊎◌, ⊤, ℕ, ℤ, pos, List, length, drop, ◌++◌, Option, Some, Result, Ok, Err, MatchOption}
 use Rattle.std.specs.Int.{to_be_bytes, w64}
 use Rattle.vacm_core.specs.declared.access.Access.{Access}
 use Rattle.snmp_held.specs.declared.fault.CallFault.{CallFault}
 use Rattle.snmp_held.specs.declared.fault.CallFault.TheVariants.{BadArgument, NothingTaken, ShortBuffer}
 use Rattle.snmp_held.specs.Faults.{code, access_code, value_code, fault_code, unhandled_code}
 use Rattle.snmp_held.specs.Numbers.{counter_of, unhandled_of}
-use Rattle.snmp_held.specs.Dispatch.{TellsMaxSize, RespondsHeldWithin, TellsUnhandled, ReportsHeld}
+use Rattle.snmp_held.specs.Dispatch.{TellsMaxSize, RespondsHeldWithin, RespondsHeldFront, TellsUnhandled, ReportsHeld}
 use Rattle.snmp_sending.specs.declared.counter.Counter.TheVariants.{SilentDrops}
 use Rattle.snmp_agent.specs.declared.unhandled.Unhandled.{Unhandled}
 use Rattle.snmp_agent.specs.Counts.{count_at, one_more}
@@ -57,6 +57,17 @@ MaxSize old new answer = (new ≡ old) × ((told : Result ℕ CallFault) × (ans
 abbrev pub RespondsToWithin : ℕ → ℕ → ℕ → List ℕ → ℕ → ℕ → AgentHeld → AgentHeld → ℤ → Type 0
 RespondsToWithin now status index list salt limit old new answer =
     Done (λ told. RespondsHeldWithin old now status index list (to_be_bytes w64 salt) limit told new) answer
+
+-- The count is told where there is a Response, and else stays.
+abbrev pub TellsCount : ℕ → ℕ → Result ℕ CallFault → Type 0
+TellsCount count count_new (Ok told) = count_new ≡ told
+TellsCount count count_new (Err _) = count_new ≡ count
+
+-- As many of the bindings are answered as have room, from the first on, and how many they are is told.
+abbrev pub RespondsToFront : ℕ → ℕ → ℕ → List ℕ → ℕ → ℕ → ℕ → ℕ → AgentHeld → AgentHeld → ℤ → Type 0
+RespondsToFront now status index list salt limit count count_new old new answer =
+    (told : Result ℕ CallFault) × (answer ≡ code told) × RespondsHeldFront old now status index list (to_be_bytes w64 salt) limit told new
+    × TellsCount count count_new told
 
 abbrev pub UnhandledBy : AgentHeld → AgentHeld → ℤ → Type 0
 UnhandledBy old new answer = (new ≡ old) × ((told : Result (Option Unhandled) CallFault) × (answer ≡ unhandled_code told) × TellsUnhandled old told)

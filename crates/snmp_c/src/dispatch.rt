@@ -5,9 +5,11 @@ ghost use Rattle.std.specs.Ptr.{lies_at};
 ghost use Rattle.snmp_held.specs.contracts.agent.AgentHandle as agents;
 ghost use Rattle.snmp_held.specs.Agents.{AgentHeld};
 ghost use Rattle.snmp_held.specs.Faults.{IsStatusCode};
-ghost use Rattle.snmp_c.specs.Calls.{MaxSize, RespondsToWithin, UnhandledBy, RefusesKept, CountOf, DropsSilently, IsValueCode};
+ghost use Rattle.snmp_c.specs.Calls.{MaxSize, RespondsToWithin, RespondsToFront, UnhandledBy, RefusesKept, CountOf, DropsSilently, IsValueCode};
 
-use crate::dispatch_calls::{count, max_size, refuse, respond_within, silent_drop, unhandled};
+use crate::dispatch_calls::{
+    count, max_size, refuse, respond_front, respond_within, silent_drop, unhandled,
+};
 use snmp_held::{AgentHandle, CallFault, status_code_of};
 use snmp_msg::value_is;
 
@@ -46,6 +48,36 @@ pub unsafe extern "C" fn snmpsec_agent_respond_within(
         list,
         salt,
         limit,
+    )
+}
+
+/// Writes the Response with as many of the bindings, from the first on, as have room within `limit` octets, and sets `count` to how many
+/// they are: what a GetBulk is answered with (RFC 3416, section 4.2.3). One text is sealed, whatever is left out. Where it doesn't answer
+/// 0, nothing changes, `count` neither: 16 (TooLarge) means that there is no room even for a Response without bindings.
+#[unsafe(no_mangle)]
+pub unsafe extern "C" fn snmpsec_agent_respond_front(
+    at: *mut u8,
+    now: u64,
+    status: u32,
+    index: u32,
+    list: &[u8],
+    salt: u64,
+    limit: u32,
+    count: &mut usize,
+) -> i32
+    ghost held: { AgentHeld }
+    requires* { sem 𝓛 (lies_at agents.the_row full_share at held) }
+    ensures* { ∃ₛ (λ (new : AgentHeld). sem 𝓛 (lies_at agents.the_row full_share at new) ∗ ⌜ RespondsToFront now status index list.now salt limit count.old count.new held new result ⌝) }
+{
+    respond_front(
+        &mut *(at as *mut AgentHandle),
+        now,
+        status,
+        index,
+        list,
+        salt,
+        limit,
+        count,
     )
 }
 

@@ -1,6 +1,6 @@
 //! What the calls that go with an agent's answers do, without pointers.
 
-ghost use Rattle.snmp_c.specs.Calls.{MaxSize, RespondsToWithin, UnhandledBy, RefusesKept, CountOf, DropsSilently};
+ghost use Rattle.snmp_c.specs.Calls.{MaxSize, RespondsToWithin, RespondsToFront, UnhandledBy, RefusesKept, CountOf, DropsSilently};
 
 use snmp_held::{
     AgentHandle, CallFault, code_of, counter_of, unhandled_code_of, unhandled_of, value_code_of,
@@ -26,6 +26,28 @@ pub(crate) fn respond_within(
     ensures { RespondsToWithin now status index list.now salt limit handle.old handle.new result }
 {
     code_of(handle.respond_within(now, status, index, list, salt, limit))
+}
+
+/// Writes the Response to what is kept with as many of the bindings as have room, and tells how many they are.
+pub(crate) fn respond_front(
+    handle: &mut AgentHandle,
+    now: u64,
+    status: u32,
+    index: u32,
+    list: &[u8],
+    salt: u64,
+    limit: u32,
+    count: &mut usize,
+) -> i32
+    ensures { RespondsToFront now status index list.now salt limit count.old count.new handle.old handle.new result }
+{
+    match handle.respond_front(now, status, index, list, salt, limit) {
+        Ok(fronted) => {
+            *count = fronted;
+            0
+        }
+        Err(fault) => fault.code(),
+    }
 }
 
 /// Why nothing answers what is kept.

@@ -10,4 +10,4 @@ pub mod world;
 pub use snmp_agent::{Agent, Decision, Refused};
 pub use snmp_manager::{Answer, Manager, Outcome, Pending, Stopped, answer_of};
 pub use snmp_outcome::{Kept, TakeFault, Taken};
-pub use snmp_sending::Body;
+pub use snmp_sending::{Body, Front};

@@ -148,13 +148,19 @@ StopsResponse agent now g status index list salt fault =
 abbrev pub HasNoBindings : AgentState → ℕ → Given → List ℕ → Type 0
 HasNoBindings agent now g list = CanSendAt agent now g.user g.level × ((vs : List Variable) → AreBindings vs list → ⊥)
 
+-- Why what is kept isn't answered with the bindings that these octets are, the first that applies: the numbers are out of range, nothing
+-- is kept, it isn't asked for an answer; then what stops the answer itself, or that the octets aren't bindings.
+abbrev pub RefusesAnswer : AgentHeld → ℕ → ℕ → ℕ → List ℕ → (Given → TakeFault → Type 0) → CallFault → Type 0
+RefusesAnswer held now status index list Stops (Refused fault) = (g : Given) × IsAsked held g × Stops g fault
+RefusesAnswer held now status index list Stops BadArgument = (2147483647 < status) ⊎ (2147483647 < index)
+RefusesAnswer held now status index list Stops NothingTaken = held.last ≡ None
+RefusesAnswer held now status index list Stops NotAsked = (g : Given) × (held.last ≡ Some g) × (is_confirmed g.tag ≡ false)
+RefusesAnswer held now status index list Stops BadBindings = (g : Given) × IsAsked held g × HasNoBindings held.agent now g list
+RefusesAnswer held now status index list Stops _ = ⊥
+
 abbrev pub RefusesResponse : AgentHeld → ℕ → ℕ → ℕ → List ℕ → List ℕ → CallFault → Type 0
-RefusesResponse held now status index list salt (Refused fault) = (g : Given) × IsAsked held g × StopsResponse held.agent now g status index list salt fault
-RefusesResponse held now status index list salt BadArgument = (2147483647 < status) ⊎ (2147483647 < index)
-RefusesResponse held now status index list salt NothingTaken = held.last ≡ None
-RefusesResponse held now status index list salt NotAsked = (g : Given) × (held.last ≡ Some g) × (is_confirmed g.tag ≡ false)
-RefusesResponse held now status index list salt BadBindings = (g : Given) × IsAsked held g × HasNoBindings held.agent now g list
-RefusesResponse held now status index list salt _ = ⊥
+RefusesResponse held now status index list salt fault =
+    RefusesAnswer held now status index list (λ g f. StopsResponse held.agent now g status index list salt f) fault
 
 -- A message is to be sent, and nothing else changes.
 abbrev pub LeavesMessage : AgentHeld → List ℕ → AgentHeld → Type 0

@@ -1,7 +1,7 @@
 -- What the calls of an agent leave that go with what it accepted, besides its answer: how long the answer may be, whether anything
 -- answers it at all, the report where nothing does, and the counters (RFC 3412, sections 4.2.2 and 7.1; RFC 3413, section 3.2; RFC 3416,
 -- section 4.2).
-use Rattle.std.specs.Prelude.{◌≡◌, ◌<◌, ◌⊎◌, ℕ, pos, List, Option, Some, None, option_map, Result, Ok, Err, IfSome, true, false}
+use Rattle.std.specs.Prelude.{◌≡◌, ◌⊎◌, ℕ, pos, List, Option, Some, None, option_map, Result, Ok, Err, IfSome, true, false}
 use Rattle.std.specs.Global.{Vec}
 use Rattle.snmp_message.specs.Scoped.{Contexts, ScopedFront}
 use Rattle.snmp_msg.specs.Pdu.{PduParts, PduText}
@@ -13,13 +13,16 @@ use Rattle.snmp_outcome.specs.declared.fault.TakeFault.TheVariants.{OutOfMemory}
 use Rattle.snmp_sending.specs.Classes.{is_confirmed}
 use Rattle.snmp_sending.specs.Sends.{send_refusal}
 use Rattle.snmp_sending.specs.UpTo.{UpTo}
+use Rattle.snmp_sending.specs.Fronts.{FrontText, front_answer}
+use Rattle.snmp_sending.specs.declared.front.Fronted.{Fronted}
 use Rattle.snmp_agent.specs.Agent.{AgentState}
-use Rattle.snmp_agent.specs.Sent.{responding, Sends, CanSendAt, RefusesSenderAt}
+use Rattle.snmp_agent.specs.Sent.{responding, Sends, SendsFront, CanSendAt, RefusesSenderAt}
 use Rattle.snmp_agent.specs.Dispatch.{HandledBy, Refuses, RefusalCanBeSent}
 use Rattle.snmp_agent.specs.declared.unhandled.Unhandled.{Unhandled}
-use Rattle.snmp_held.specs.Agents.{AgentHeld, IsAsked, HasNoBindings, LeavesMessage}
+use Rattle.snmp_held.specs.Agents.{AgentHeld, IsAsked, RefusesAnswer, LeavesMessage}
+use Rattle.snmp_held.specs.Between.{Answering}
 use Rattle.snmp_held.specs.declared.fault.CallFault.{CallFault}
-use Rattle.snmp_held.specs.declared.fault.CallFault.TheVariants.{Refused, BadArgument, NothingTaken, NotAsked, BadBindings}
+use Rattle.snmp_held.specs.declared.fault.CallFault.TheVariants.{Refused, NothingTaken}
 
 -- ---- answers within a limit
 
@@ -43,13 +46,8 @@ StopsWithin agent now g status index list salt limit fault =
     ⊎ (CanSendAt agent now g.user g.level × IfSome (send_refusal fault) (RespondsWithin agent now g status index list salt limit))
 
 abbrev pub RefusesWithin : AgentHeld → ℕ → ℕ → ℕ → List ℕ → List ℕ → ℕ → CallFault → Type 0
-RefusesWithin held now status index list salt limit (Refused fault) =
-    (g : Given) × IsAsked held g × StopsWithin held.agent now g status index list salt limit fault
-RefusesWithin held now status index list salt limit BadArgument = (2147483647 < status) ⊎ (2147483647 < index)
-RefusesWithin held now status index list salt limit NothingTaken = held.last ≡ None
-RefusesWithin held now status index list salt limit NotAsked = (g : Given) × (held.last ≡ Some g) × (is_confirmed g.tag ≡ false)
-RefusesWithin held now status index list salt limit BadBindings = (g : Given) × IsAsked held g × HasNoBindings held.agent now g list
-RefusesWithin held now status index list salt limit _ = ⊥
+RefusesWithin held now status index list salt limit fault =
+    RefusesAnswer held now status index list (λ g f. StopsWithin held.agent now g status index list salt limit f) fault
 
 -- The Response to what is kept, of at most so many octets, is to be sent. A refusal changes nothing.
 abbrev pub RespondsHeldWithin : {V : Type 0} → AgentHeld → ℕ → ℕ → ℕ → List ℕ → List ℕ → ℕ → Result V CallFault → AgentHeld → Type 0
@@ -57,15 +55,39 @@ RespondsHeldWithin old now status index list salt limit (Ok done) new =
     (g : Given) × (text : List ℕ) × IsAsked old g × RespondsWithin old.agent now g status index list salt limit (Ok text) × LeavesMessage old text new
 RespondsHeldWithin old now status index list salt limit (Err fault) new = RefusesWithin old now status index list salt limit fault × (new ≡ old)
 
+-- The Response to what was given, with the longest front of the bindings that these octets are that has room within so many octets, and
+-- how many that front has; or its refusal.
+abbrev pub RespondsFront : AgentState → ℕ → Given → ℕ → ℕ → List ℕ → List ℕ → ℕ → Result FrontText ℕ → Type 0
+RespondsFront agent now g status index list salt limit answer =
+    (vs : List Variable) × AreBindings vs list
+    × ((c : Contexts) (p : PduParts) → ScopedFront g.text c → PduText c.pdu p
+    → SendsFront agent now limit (λ own xs. responding agent.engine own g c p (pos status) (pos index) xs salt) vs answer)
+
+-- Nothing can be sent for its user at its level; or it can, and the Response is refused, has no room even without bindings, or finds no
+-- memory.
+abbrev pub StopsFront : AgentState → ℕ → Given → ℕ → ℕ → List ℕ → List ℕ → ℕ → TakeFault → Type 0
+StopsFront agent now g status index list salt limit fault =
+    RefusesSenderAt agent now g.user g.level fault
+    ⊎ (CanSendAt agent now g.user g.level × IfSome (front_answer (Err fault)) (RespondsFront agent now g status index list salt limit))
+
+-- The Response to what is kept, with the longest front that has room, is to be sent, and its count is told. A refusal changes nothing.
+abbrev pub RespondsHeldFront : AgentHeld → ℕ → ℕ → ℕ → List ℕ → List ℕ → ℕ → Result ℕ CallFault → AgentHeld → Type 0
+RespondsHeldFront old now status index list salt limit (Ok count) new =
+    (g : Given) × (text : List ℕ) × IsAsked old g × RespondsFront old.agent now g status index list salt limit (Ok (record { text = text; count = count }))
+    × LeavesMessage old text new
+RespondsHeldFront old now status index list salt limit (Err fault) new =
+    RefusesAnswer old now status index list (λ g f. StopsFront old.agent now g status index list salt limit f) fault × (new ≡ old)
+
 -- between the functions: the same of what is kept, before it is left to be sent
 abbrev pub AnswersWithin : AgentState → ℕ → Given → ℕ → ℕ → List ℕ → List ℕ → ℕ → Result (Vec ℕ) CallFault → Type 0
-AnswersWithin agent now g status index list salt limit (Ok text) =
-    (is_confirmed g.tag ≡ true) × RespondsWithin agent now g status index list salt limit (Ok text.items)
-AnswersWithin agent now g status index list salt limit (Err (Refused fault)) =
-    (is_confirmed g.tag ≡ true) × StopsWithin agent now g status index list salt limit fault
-AnswersWithin agent now g status index list salt limit (Err NotAsked) = is_confirmed g.tag ≡ false
-AnswersWithin agent now g status index list salt limit (Err BadBindings) = (is_confirmed g.tag ≡ true) × HasNoBindings agent now g list
-AnswersWithin agent now g status index list salt limit (Err _) = ⊥
+AnswersWithin agent now g status index list salt limit answer =
+    Answering agent now g list (λ text. RespondsWithin agent now g status index list salt limit (Ok text.items)) (λ f. StopsWithin agent now g status index list salt limit f) answer
+
+abbrev pub AnswersFront : AgentState → ℕ → Given → ℕ → ℕ → List ℕ → List ℕ → ℕ → Result Fronted CallFault → Type 0
+AnswersFront agent now g status index list salt limit answer =
+    Answering agent now g list
+    (λ told. RespondsFront agent now g status index list salt limit (Ok (record { text = told.text.items; count = told.count })))
+    (λ f. StopsFront agent now g status index list salt limit f) answer
 
 -- ---- who answers
 

@@ -4,18 +4,17 @@ ghost use Rattle.std.specs.Prelude.{◌≡◌, ◌≢◌, ◌≤◌, ◌↔◌, 
 ghost use Rattle.std.specs.Int.{to_be_bytes, w64};
 ghost use Rattle.snmp_message.specs.Scoped.{Contexts, ScopedFront};
 ghost use Rattle.snmp_msg.specs.Pdu.{PduParts, PduText};
-ghost use Rattle.snmp_msg.specs.Variables.{CanBeWritten, variable_of};
 ghost use Rattle.snmp_outcome.specs.Outcome.{Given};
 ghost use Rattle.snmp_agent.specs.Decides.{question_of};
 ghost use Rattle.snmp_agent.specs.Sent.{responding, notifying, Sends};
 ghost use Rattle.snmp_sending.specs.Sends.{send_answer};
-ghost use Rattle.snmp_sending.specs.Bodies.{BodyFits};
 ghost use Rattle.vacm_core.specs.Allowed.{Allowed};
 ghost use Rattle.snmp_held.specs.Agents.{Clears, IsOwnEngine, MakesAgent, TakesHeld, TakesNoMemory, AllowsHeld, MaySee, Counts, RespondsHeld, Notice, NotifiesHeld};
 ghost use Rattle.snmp_held.specs.Parts.{CopiesPart, CopiesMessage, AreNumbersOf};
 ghost use Rattle.snmp_held.specs.Between.{AnswersResponse, AnswersNotice, notice_of};
 
 use crate::bindings::bindings_of;
+use crate::dispatch::can_answer;
 use crate::fault::CallFault;
 use crate::numbers::{GREATEST, level_of, view_of};
 use crate::parts::{Part, copied_message, copied_part, numbers_of};
@@ -23,7 +22,7 @@ use engine_clock::EngineId;
 use snmp_agent::Agent;
 use snmp_ber::{Level, Oid};
 use snmp_outcome::{Kept, TakeFault};
-use snmp_sending::{Body, is_confirmed};
+use snmp_sending::Front;
 use snmpsec_config::{Config, ConfigFault};
 use std::alloc::Global;
 use std::marker::Model;
@@ -105,15 +104,10 @@ fn response(
     ensures answer { AnswersResponse agent.old now kept.now status index list.now salt result }
     ensures same { agent.new ≡ agent.old }
 {
-    if !is_confirmed(kept.taken().tag) {
-        return Err(CallFault::NotAsked);
-    }
+    can_answer(agent, now, kept)?;
     let taken = kept.taken();
-    if let Err(fault) = agent.supports(now, taken.user, taken.level) {
-        return Err(CallFault::Refused(fault));
-    }
     let bindings = bindings_of(alloc, list)?;
-    match agent.respond(now, &taken, status as i32, index as i32, &bindings, salt) {
+    match agent.respond_of(now, &taken, status as i32, index as i32, &bindings, salt) {
         Ok(text) => Ok(text),
         Err(fault) => Err(CallFault::Refused(fault)),
     }
@@ -139,16 +133,15 @@ fn notice(
         return Err(CallFault::Refused(fault));
     }
     let bindings = bindings_of(alloc, list)?;
-    let body = Body {
+    let front = Front {
         context_engine: to.context_engine,
         context_name: to.context_name,
         tag: 0xA7,
         id: to.request_id as i32,
         second: 0,
         third: 0,
-        bindings: &bindings,
     };
-    match agent.notify(now, to.id, to.user, level, &body, salt) {
+    match agent.notify_of(now, to.id, to.user, level, &front, &bindings, salt) {
         Ok(text) => Ok(text),
         Err(fault) => Err(CallFault::Refused(fault)),
     }

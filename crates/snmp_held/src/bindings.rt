@@ -1,38 +1,55 @@
 //! Variable bindings that a caller hands in as octets.
 
-ghost use Rattle.std.specs.Prelude.{◌≡◌, ◌≤◌, All, IfErr, IfOk, length, map};
+ghost use Rattle.std.specs.Prelude.{◌≡◌, ◌≤◌, All, IfErr, IfOk, List, length, map};
 ghost use Rattle.snmp_ber.specs.Element.{IsTag};
 ghost use Rattle.snmp_ber.specs.Oid.{IsObjectId};
-ghost use Rattle.snmp_msg.specs.Variables.{AreBindings, CanBeWritten, variable_of, variable_text};
+ghost use Rattle.snmp_msg.specs.Variables.{Variable, AreBindings, bound_variable, variable_text};
 ghost use Rattle.snmp_held.specs.Bindings.{RefusesBindings, ReadsAt, WritesBinding};
 
 use crate::fault::CallFault;
 use crate::parts::copied;
-use snmp_ber::{Oid, one_element, put_oid, put_tlv, read_oid};
-use snmp_msg::{Binding, LARGEST, read_binding, whole_slice};
+use snmp_ber::{ObjectName, Oid, one_element, put_oid, put_tlv, read_oid, read_tlv};
+use snmp_msg::{LARGEST, VariableBinding, read_binding, whole_slice};
 use snmp_outcome::TakeFault;
 use std::alloc::{AllocError, Global};
 
-/// The bindings whose texts the octets are, one after another. The error is BadBindings, exactly where they aren't bindings, or
-/// want of memory.
-pub(crate) fn bindings_of(alloc: Global, list: &[u8]) -> Result<Vec<Binding<'_>>, CallFault>
-    ensures all { IfOk result (λ v. AreBindings (map variable_of v.items) list.now) }
-    ensures written { IfOk result (λ v. All (λ b. CanBeWritten (variable_of b)) v.items) }
+/// How many elements the octets begin with, one after another: where they are bindings, how many they are.
+fn outer_count(list: &[u8]) -> usize
+    ensures { (vs : List Variable) → AreBindings vs list.now → result ≡ length vs }
+{
+    whole_slice();
+    one_element();
+    let mut count = 0;
+    let mut place = 0;
+    while place < list.len() {
+        let Ok(element) = read_tlv(list, place, list.len()) else {
+            return count;
+        };
+        count += 1;
+        place = element.end;
+    }
+    count
+}
+
+/// The bindings whose texts the octets are, one after another, with their names in these octets. The error is BadBindings, exactly where
+/// they aren't bindings, or want of memory, which is asked for once.
+pub(crate) fn bindings_of(alloc: Global, list: &[u8]) -> Result<Vec<VariableBinding<'_>>, CallFault>
+    ensures all { IfOk result (λ v. AreBindings (map bound_variable v.items) list.now) }
+    ensures written { IfOk result (λ v. All (λ b. IsTag b.tag) v.items) }
     ensures fault { IfErr result (RefusesBindings list.now) }
 {
     whole_slice();
     one_element();
-    let mut bindings = Vec::new(alloc);
+    let Ok(mut bindings) = Vec::with_capacity(alloc, outer_count(list)) else {
+        return Err(CallFault::Refused(TakeFault::OutOfMemory));
+    };
     let mut place = 0;
     while place < list.len() {
         let Ok(found) = read_binding(list, place, list.len()) else {
             return Err(CallFault::BadBindings);
         };
-        let Some(name) = read_oid(found.name.content) else {
-            unreachable!();
-        };
-        let binding = Binding {
-            name,
+        let binding = VariableBinding {
+            name: ObjectName::known(found.name.content),
             tag: found.value.tag,
             content: found.value.content,
         };

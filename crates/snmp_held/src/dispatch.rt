@@ -1,12 +1,15 @@
 //! What an agent does with what it accepted, besides answering it: how long the answer may be, whether anything answers it at all,
 //! the report where nothing does, and the counters (RFC 3412, sections 4.2.2 and 7.1; RFC 3413, section 3.2; RFC 3416, section 4.2).
 
-ghost use Rattle.std.specs.Prelude.{◌≡◌, ◌≤◌, OnErr, Some};
+ghost use Rattle.std.specs.Prelude.{◌≡◌, ◌≤◌, IfErr, IfOk, OnErr, Some, true};
 ghost use Rattle.std.specs.Int.{to_be_bytes, w64};
 ghost use Rattle.snmp_agent.specs.Counts.{count_at, one_more};
 ghost use Rattle.snmp_agent.specs.Dispatch.{HandledBy, Refuses};
+ghost use Rattle.snmp_agent.specs.Sent.{CanSendAt};
+ghost use Rattle.snmp_sending.specs.Classes.{is_confirmed};
 ghost use Rattle.snmp_sending.specs.declared.counter.Counter.TheVariants.{SilentDrops};
-ghost use Rattle.snmp_held.specs.Dispatch.{TellsMaxSize, RespondsHeldWithin, AnswersWithin, AnswersReport, IsHandled, TellsUnhandled, ReportsHeld};
+ghost use Rattle.snmp_held.specs.Between.{CannotAnswer};
+ghost use Rattle.snmp_held.specs.Dispatch.{TellsMaxSize, RespondsHeldWithin, RespondsHeldFront, AnswersWithin, AnswersFront, AnswersReport, IsHandled, TellsUnhandled, ReportsHeld};
 
 use crate::agent::AgentHandle;
 use crate::bindings::bindings_of;
@@ -15,8 +18,24 @@ use crate::numbers::GREATEST;
 use crate::parts::max_size_of;
 use snmp_agent::{Agent, Unhandled};
 use snmp_outcome::Kept;
-use snmp_sending::{Counter, is_confirmed};
+use snmp_sending::{Counter, Fronted, is_confirmed};
 use std::alloc::Global;
+
+/// Whether what was kept can be answered at all. The errors are NotAsked, where its PDU isn't of the Confirmed Class (RFC 3411, section
+/// 2.8), and those of `Agent::supports` for its user and its level.
+pub(crate) fn can_answer(agent: &Agent, now: u64, kept: &Kept) -> Result<(), CallFault>
+    ensures ok { IfOk result (λ _. (is_confirmed kept.now.tag ≡ true) × CanSendAt agent.now now kept.now.user kept.now.level) }
+    ensures err { IfErr result (CannotAnswer agent.now now kept.now) }
+{
+    let taken = kept.taken();
+    if !is_confirmed(taken.tag) {
+        return Err(CallFault::NotAsked);
+    }
+    match agent.supports(now, taken.user, taken.level) {
+        Ok(()) => Ok(()),
+        Err(fault) => Err(CallFault::Refused(fault)),
+    }
+}
 
 /// The Response to what was kept, with the bindings that these octets are, of at most `limit` octets.
 fn response_within(
@@ -35,15 +54,10 @@ fn response_within(
     ensures answer { AnswersWithin agent.old now kept.now status index list.now salt limit result }
     ensures same { agent.new ≡ agent.old }
 {
-    if !is_confirmed(kept.taken().tag) {
-        return Err(CallFault::NotAsked);
-    }
+    can_answer(agent, now, kept)?;
     let taken = kept.taken();
-    if let Err(fault) = agent.supports(now, taken.user, taken.level) {
-        return Err(CallFault::Refused(fault));
-    }
     let bindings = bindings_of(alloc, list)?;
-    match agent.respond_within(
+    match agent.respond_within_of(
         now,
         &taken,
         status as i32,
@@ -53,6 +67,41 @@ fn response_within(
         limit as usize,
     ) {
         Ok(text) => Ok(text),
+        Err(fault) => Err(CallFault::Refused(fault)),
+    }
+}
+
+/// The Response to what was kept, with the longest front of the bindings that these octets are that has room within `limit` octets.
+fn response_front(
+    alloc: Global,
+    agent: &mut Agent,
+    now: u64,
+    kept: &Kept,
+    status: u32,
+    index: u32,
+    list: &[u8],
+    salt: [u8; 8],
+    limit: u32,
+) -> Result<Fronted, CallFault>
+    requires status { status ≤ 2147483647 }
+    requires index { index ≤ 2147483647 }
+    ensures answer { AnswersFront agent.old now kept.now status index list.now salt limit result }
+    ensures same { agent.new ≡ agent.old }
+{
+    can_answer(agent, now, kept)?;
+    let taken = kept.taken();
+    let bindings = bindings_of(alloc, list)?;
+    let limit = limit as usize;
+    match agent.respond_front(
+        now,
+        &taken,
+        status as i32,
+        index as i32,
+        &bindings,
+        salt,
+        limit,
+    ) {
+        Ok(fronted) => Ok(fronted),
         Err(fault) => Err(CallFault::Refused(fault)),
     }
 }
@@ -127,6 +176,48 @@ impl AgentHandle {
             Ok(text) => {
                 self.message = Some(text);
                 Ok(())
+            }
+            Err(fault) => Err(fault),
+        }
+    }
+
+    /// Writes the Response with as many of the bindings, from the first on, as have room within `limit` octets, as
+    /// `Agent::respond_front` does, leaves it to be sent, and tells how many they are. One text is sealed, whatever is left out.
+    ///
+    /// The errors are those of `respond`, in its order; TooLarge (16) means that there is no room even for a Response without bindings.
+    /// They leave all as it was.
+    pub fn respond_front(
+        &mut self,
+        now: u64,
+        status: u32,
+        index: u32,
+        list: &[u8],
+        salt: u64,
+        limit: u32,
+    ) -> Result<usize, CallFault>
+        ensures { RespondsHeldFront self.old now status index list.now (to_be_bytes w64 salt) limit result self.new }
+    {
+        if status > GREATEST || index > GREATEST {
+            return Err(CallFault::BadArgument);
+        }
+        let Some(kept) = &self.last else {
+            return Err(CallFault::NothingTaken);
+        };
+        let salt = salt.to_be_bytes();
+        match response_front(
+            self.alloc,
+            &mut self.agent,
+            now,
+            kept,
+            status,
+            index,
+            list,
+            salt,
+            limit,
+        ) {
+            Ok(fronted) => {
+                self.message = Some(fronted.text);
+                Ok(fronted.count)
             }
             Err(fault) => Err(fault),
         }

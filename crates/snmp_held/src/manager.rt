@@ -19,7 +19,7 @@ use engine_clock::{ClockFault, Clocks, EngineId, Pair};
 use snmp_ber::Level;
 use snmp_manager::{Answer, Manager, Pending, answer_of};
 use snmp_outcome::{Kept, TakeFault};
-use snmp_sending::Body;
+use snmp_sending::Front;
 use snmpsec_config::{Config, ConfigFault};
 use std::alloc::Global;
 use std::marker::Model;
@@ -111,16 +111,15 @@ fn request(
         return Err(CallFault::Refused(fault));
     }
     let bindings = bindings_of(alloc, list)?;
-    let body = Body {
+    let front = Front {
         context_engine: of.context_engine,
         context_name: of.context_name,
         tag: of.tag as u8,
         id: of.request_id as i32,
         second: of.second as i32,
         third: of.third as i32,
-        bindings: &bindings,
     };
-    match manager.request(now, of.id, engine, of.user, level, &body, salt) {
+    match manager.request_of(now, of.id, engine, of.user, level, &front, &bindings, salt) {
         Ok(sent) => Ok(sent),
         Err(fault) => Err(CallFault::Refused(fault)),
     }

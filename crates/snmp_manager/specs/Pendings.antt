@@ -3,7 +3,7 @@ use Rattle.std.specs.Prelude.{◌≡◌, ℕ, ℤ, List, Option, Some, Result, O
 use Rattle.std.specs.Global.{Vec}
 use Rattle.snmp_ber.specs.declared.level.Level.{Level}
 use Rattle.snmp_outcome.specs.declared.fault.TakeFault.{TakeFault}
-use Rattle.snmp_sending.specs.declared.body.Body.{Body}
+use Rattle.snmp_sending.specs.declared.front.Front.{Front}
 use Rattle.snmp_sending.specs.Sends.{send_refusal}
 use Rattle.snmp_manager.specs.declared.pending.Pending.{Pending}
 
@@ -16,9 +16,9 @@ pub record Remembers (a : Pending) (id : ℕ) (engine user : List ℕ) (level : 
   pub context_name_is : a.context_name.items ≡ context_name
   pub request_id_is : a.request_id ≡ request_id
 
--- the same of a message with this body
-abbrev pub IsPending : Pending → ℕ → List ℕ → List ℕ → Level → Body → Type 0
-IsPending a id engine user level body = Remembers a id engine user level body.context_engine.now body.context_name.now body.id
+-- the same of a message with this front
+abbrev pub IsPending : Pending → ℕ → List ℕ → List ℕ → Level → Front → Type 0
+IsPending a id engine user level front = Remembers a id engine user level front.context_engine.now front.context_name.now front.id
 
 -- the text that was written, or the refusal; None for want of memory
 abbrev pub request_answer : Result (Vec ℕ × Pending) TakeFault → Option (Result (List ℕ) ℕ)

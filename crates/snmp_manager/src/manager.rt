@@ -1,6 +1,6 @@
 //! The manager.
 
-ghost use Rattle.std.specs.Prelude.{◌≡◌, ◌<◌, ◌≤◌, ℕ, pos, List, [], length, Ok, IfOk, IfErr, IfSome, IsErrOf, IsOk, IsSome, MatchResult, OnErr, OnOk, Some};
+ghost use Rattle.std.specs.Prelude.{◌≡◌, ◌<◌, ◌≤◌, ℕ, pos, List, [], All, length, map, Ok, IfOk, IfErr, IfSome, IsErrOf, IsOk, IsSome, MatchResult, OnErr, OnOk, Some};
 ghost use Rattle.std.specs.Option.{option_map};
 ghost use Rattle.engine_clock.specs.Pairs.{IsPair};
 ghost use Rattle.engine_clock.specs.Marks.{HoldsAll, SeenPair, mark_at, pair_at, IsMarkJoinOf, IsJoinOf};
@@ -10,8 +10,8 @@ ghost use Rattle.snmp_ber.specs.declared.level.Level.TheVariants.{NoAuthNoPriv};
 ghost use Rattle.usm_core.specs.Verified.{manager};
 ghost use Rattle.usm_core.specs.Sealed.{Seals, IsSealable};
 ghost use Rattle.snmp_outcome.specs.Answers.{answer_of, IsPlain};
-ghost use Rattle.snmp_msg.specs.Pdu.{IsSpelled};
-ghost use Rattle.snmp_sending.specs.Bodies.{BodyFits, pdu_in};
+ghost use Rattle.snmp_msg.specs.Pdu.{IsPduTag, IsSpelled};
+ghost use Rattle.snmp_sending.specs.Bodies.{BodyFits, front_in, variables_in, pdu_in, pdu_after};
 ghost use Rattle.snmp_sending.specs.Requests.{requesting, discovering};
 ghost use Rattle.snmp_sending.specs.Sends.{CanSend, RefusesSender};
 ghost use Rattle.snmp_manager.specs.Pendings.{Remembers, IsPending, request_answer};
@@ -26,8 +26,9 @@ use crate::requests::{no_pair, written_pair};
 use crate::weighing::{weigh, weigh_kept};
 use engine_clock::{Clocks, EngineId, Mark, Pair};
 use snmp_ber::Level;
+use snmp_msg::Spelled;
 use snmp_outcome::{Kept, TakeFault, Taken};
-use snmp_sending::{Body, Envelope, is_confirmed, send, send_plain, supports};
+use snmp_sending::{Body, Envelope, Front, is_confirmed, send_of, send_plain, supports};
 use std::alloc::{AllocError, Global};
 use std::marker::Model;
 use usm_core::{Role, Users};
@@ -243,29 +244,69 @@ impl Manager {
         requires id { id ≤ 2147483647 }
         requires user { length user.now ≤ 32 }
         requires body { BodyFits body.now }
-        ensures text { IfSome (request_answer result) (Seals self.old.users (requesting (mark_at self.old.clocks engine.now) now id engine.now user.now level body.now salt)) }
-        ensures memory { IsErrOf result TakeFault.OutOfMemory → IsSealable self.old.users (requesting (mark_at self.old.clocks engine.now) now id engine.now user.now level body.now salt) }
-        ensures pending { IfOk result (λ sent. IsPending sent.1 id engine.now user.now level body.now) }
+        ensures text { IfSome (request_answer result) (Seals self.old.users (requesting (mark_at self.old.clocks engine.now) now id engine.now user.now level (front_in body.now) (variables_in body.now) salt)) }
+        ensures memory { IsErrOf result TakeFault.OutOfMemory
+            → IsSealable self.old.users (requesting (mark_at self.old.clocks engine.now) now id engine.now user.now level (front_in body.now) (variables_in body.now) salt) }
+        ensures pending { IfOk result (λ sent. IsPending sent.1 id engine.now user.now level (front_in body.now)) }
 
         // With these the law that a request is accepted can be used of it.
         ensures pair { (mark : SeenPair) → mark_at self.old.clocks engine.now ≡ Some mark → IsPair mark.pair }
         ensures spelled { IfOk result (λ _. IsSpelled (pdu_in body.now)) }
         ensures same { self.new ≡ self.old }
     {
+        self.request_of(
+            now,
+            id,
+            engine,
+            user,
+            level,
+            &body.front(),
+            body.bindings,
+            salt,
+        )
+    }
+
+    /// The same request, with this front and bindings in any form that can be written: `VariableBinding` is the quick one, with its
+    /// name's octets, of which only the tags are asked.
+    ///
+    /// The errors are those of `request`, in its order.
+    pub fn request_of<B: Spelled>(
+        &mut self,
+        now: u64,
+        id: u32,
+        engine: &EngineId,
+        user: &[u8],
+        level: Level,
+        front: &Front<'_>,
+        bindings: &[B],
+        salt: [u8; 8],
+    ) -> Result<(Vec<u8>, Pending), TakeFault>
+        requires id { id ≤ 2147483647 }
+        requires user { length user.now ≤ 32 }
+        requires tag { IsPduTag front.now.tag }
+        requires fit { All (λ b. B.fits b) bindings.now }
+        ensures text { IfSome (request_answer result) (Seals self.old.users (requesting (mark_at self.old.clocks engine.now) now id engine.now user.now level front.now (map B.says bindings.now) salt)) }
+        ensures memory { IsErrOf result TakeFault.OutOfMemory
+            → IsSealable self.old.users (requesting (mark_at self.old.clocks engine.now) now id engine.now user.now level front.now (map B.says bindings.now) salt) }
+        ensures pending { IfOk result (λ sent. IsPending sent.1 id engine.now user.now level front.now) }
+        ensures pair { (mark : SeenPair) → mark_at self.old.clocks engine.now ≡ Some mark → IsPair mark.pair }
+        ensures spelled { IfOk result (λ _. IsSpelled (pdu_after front.now (map B.says bindings.now))) }
+        ensures same { self.new ≡ self.old }
+    {
         let envelope = Envelope {
             level,
             id,
-            reportable: is_confirmed(body.tag),
+            reportable: is_confirmed(front.tag),
             engine: engine.as_slice(),
             pair: written_pair(&self.clocks, engine, level, now),
             user,
             salt,
         };
-        let text = match send(self.alloc, &mut self.users, &envelope, body) {
+        let text = match send_of(self.alloc, &mut self.users, &envelope, front, bindings) {
             Ok(text) => text,
             Err(fault) => return Err(fault),
         };
-        match Pending::of(self.alloc, &envelope, body) {
+        match Pending::of(self.alloc, &envelope, front) {
             Ok(pending) => Ok((text, pending)),
             Err(_) => Err(TakeFault::OutOfMemory),
         }
@@ -302,6 +343,6 @@ impl Manager {
             Err(TakeFault::TooLarge) => unreachable!(),
             Err(_) => return Err(AllocError),
         };
-        Ok((text, Pending::of(self.alloc, &envelope, &body)?))
+        Ok((text, Pending::of(self.alloc, &envelope, &body.front())?))
     }
 }

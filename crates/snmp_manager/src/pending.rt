@@ -4,7 +4,7 @@ ghost use Rattle.std.specs.Prelude.{IfOk};
 ghost use Rattle.snmp_manager.specs.Pendings.{IsPending};
 
 use snmp_ber::Level;
-use snmp_sending::{Body, Envelope};
+use snmp_sending::{Envelope, Front};
 use std::alloc::{AllocError, Global};
 
 /// What a manager remembers of a message that it sent, to know the answers to it (RFC 3412, section 7.2, step 9).
@@ -34,22 +34,22 @@ pub enum Answer {
 }
 
 impl Pending {
-    /// What is remembered of the message with this envelope and this body. The error is want of memory.
+    /// What is remembered of the message with this envelope and this front. The error is want of memory.
     pub(crate) fn of(
         alloc: Global,
         envelope: &Envelope<'_>,
-        body: &Body<'_>,
+        front: &Front<'_>,
     ) -> Result<Pending, AllocError>
-        ensures { IfOk result (λ pending. IsPending pending envelope.now.id envelope.now.engine.now envelope.now.user.now envelope.now.level body.now) }
+        ensures { IfOk result (λ pending. IsPending pending envelope.now.id envelope.now.engine.now envelope.now.user.now envelope.now.level front.now) }
     {
         Ok(Pending {
             id: envelope.id,
             engine: envelope.engine.to_vec(alloc)?,
             user: envelope.user.to_vec(alloc)?,
             level: envelope.level,
-            context_engine: body.context_engine.to_vec(alloc)?,
-            context_name: body.context_name.to_vec(alloc)?,
-            request_id: body.id,
+            context_engine: front.context_engine.to_vec(alloc)?,
+            context_name: front.context_name.to_vec(alloc)?,
+            request_id: front.id,
         })
     }
 }

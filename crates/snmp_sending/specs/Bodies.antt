@@ -36,6 +36,13 @@ pdu_in b = pdu_with b.tag b.id b.second b.third (map variable_of b.bindings.now)
 abbrev pub scoped_of : Body → List ℕ
 scoped_of b = scoped_text b.context_engine.now b.context_name.now (pdu_text (pdu_in b))
 
+-- what it says besides its bindings, and these
+abbrev pub front_in : Body → Front
+front_in b = record { context_engine = b.context_engine; context_name = b.context_name; tag = b.tag; id = b.id; second = b.second; third = b.third }
+
+abbrev pub variables_in : Body → List Variable
+variables_in b = map variable_of b.bindings.now
+
 -- the PDU and the ScopedPDU of a front and bindings
 abbrev pub pdu_after : Front → List Variable → PduParts
 pdu_after f vs = pdu_with f.tag f.id f.second f.third vs

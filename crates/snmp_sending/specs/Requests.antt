@@ -1,18 +1,18 @@
 -- What a manager's requests are sent as (RFC 3414, sections 3.1 and 4).
-use Rattle.std.specs.Prelude.{◌≡◌, ◌≤◌, ℕ, pos, true, List, [], length, map, replicate, Option, Some, None}
+use Rattle.std.specs.Prelude.{◌≡◌, ◌≤◌, ℕ, pos, true, List, [], length, replicate, Option, Some, None}
 use Rattle.snmp_ber.specs.declared.level.Level.{Level}
 use Rattle.snmp_ber.specs.declared.level.Level.TheVariants.{NoAuthNoPriv, AuthNoPriv, AuthPriv}
 use Rattle.snmp_message.specs.Scoped.{scoped_text}
-use Rattle.snmp_msg.specs.Variables.{AllFit, variable_of}
+use Rattle.snmp_msg.specs.Variables.{Variable, AllFit}
 use Rattle.snmp_msg.specs.Pdu.{IsPduTag, AreInRange, pdu_with, pdu_text}
 use Rattle.engine_clock.specs.Pairs.{BootsAndTime, IsPair}
 use Rattle.engine_clock.specs.Marks.{SeenPair}
 use Rattle.engine_clock.specs.Windows.{notion_at}
 use Rattle.usm_core.specs.Authentic.{HasEngineLength}
 use Rattle.usm_core.specs.Sealed.{Sending}
-use Rattle.snmp_sending.specs.declared.body.Body.{Body}
+use Rattle.snmp_sending.specs.declared.front.Front.{Front}
 use Rattle.snmp_sending.specs.Classes.{is_confirmed}
-use Rattle.snmp_sending.specs.Bodies.{header_at, pdu_in, scoped_of}
+use Rattle.snmp_sending.specs.Bodies.{header_at, pdu_after, scoped_after}
 use Rattle.snmp_sending.specs.Speaks.{Speech}
 
 -- boots and time as they are sent where nothing is known
@@ -27,42 +27,42 @@ written_pair AuthPriv None now = no_pair
 written_pair AuthNoPriv (Some mark) now = record { boots = mark.pair.boots; time = notion_at now mark }
 written_pair AuthPriv (Some mark) now = record { boots = mark.pair.boots; time = notion_at now mark }
 
--- a request to the engine, of which this mark is held
-abbrev pub requesting : Option SeenPair → ℕ → ℕ → List ℕ → List ℕ → Level → Body → List ℕ → Sending
-requesting held now id engine user level body salt = record {
-  header = header_at level id (is_confirmed body.tag);
+-- a request with this front and these bindings to the engine, of which this mark is held
+abbrev pub requesting : Option SeenPair → ℕ → ℕ → List ℕ → List ℕ → Level → Front → List Variable → List ℕ → Sending
+requesting held now id engine user level f vs salt = record {
+  header = header_at level id (is_confirmed f.tag);
   engine = engine;
   pair = written_pair level held now;
   user = user;
   salt = salt;
-  scoped = scoped_of body;
+  scoped = scoped_after f vs;
 }
 
 -- the same as a speech
-abbrev pub request : Option SeenPair → ℕ → ℕ → List ℕ → List ℕ → Level → Body → List ℕ → Speech
-request held now id engine user level body salt = record {
+abbrev pub request : Option SeenPair → ℕ → ℕ → List ℕ → List ℕ → Level → Front → List Variable → List ℕ → Speech
+request held now id engine user level f vs salt = record {
   level = level;
   id = id;
-  reportable = is_confirmed body.tag;
+  reportable = is_confirmed f.tag;
   engine = engine;
   pair = written_pair level held now;
   user = user;
   salt = salt;
-  context_engine = body.context_engine.now;
-  context_name = body.context_name.now;
-  pdu = pdu_in body;
+  context_engine = f.context_engine.now;
+  context_name = f.context_name.now;
+  pdu = pdu_after f vs;
 }
 
--- The request's numbers, names, body and held pair are in their ranges.
-pub record RequestFits (held : Option SeenPair) (number : ℕ) (identifier name octets : List ℕ) (b : Body) : Type 0 where
+-- The request's numbers, names, bindings and held pair are in their ranges.
+pub record RequestFits (held : Option SeenPair) (number : ℕ) (identifier name octets : List ℕ) (f : Front) (vs : List Variable) : Type 0 where
   pub id : number ≤ 2147483647
   pub pair : (mark : SeenPair) → held ≡ Some mark → IsPair mark.pair
   pub engine : HasEngineLength identifier
   pub user : length name ≤ 32
   pub salt : length octets ≡ 8
-  pub tag : IsPduTag b.tag
-  pub numbers : AreInRange (pdu_in b)
-  pub bindings : AllFit (map variable_of b.bindings.now)
+  pub tag : IsPduTag f.tag
+  pub numbers : AreInRange (pdu_after f vs)
+  pub bindings : AllFit vs
 
 -- the discovery request: a GetRequest of nothing, for no engine and no user (RFC 3414, section 4)
 abbrev pub discovering : ℕ → Sending

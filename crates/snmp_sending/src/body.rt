@@ -4,7 +4,7 @@ ghost use Rattle.std.specs.Prelude.{◌≡◌, ◌<◌, ℕ, List, All, length, 
 ghost use Rattle.snmp_ber.specs.Element.{IsElement};
 ghost use Rattle.snmp_msg.specs.Pdu.{IsPduTag, IsSpelled};
 ghost use Rattle.snmp_msg.specs.Variables.{variable_of};
-ghost use Rattle.snmp_sending.specs.Bodies.{pdu_in, scoped_of, pdu_after, scoped_after};
+ghost use Rattle.snmp_sending.specs.Bodies.{pdu_in, scoped_of, front_in, pdu_after, scoped_after};
 
 use crate::front::Front;
 use snmp_msg::{Binding, LARGEST, Spelled, WriteFault, write_pdu_of, write_scoped};
@@ -32,8 +32,9 @@ pub struct Body<'a> {
 }
 
 impl<'a> Body<'a> {
-    /// What it says besides its bindings.
-    pub(crate) fn front(&self) -> Front<'a>
+    /// What it says besides its bindings. With these it says the same.
+    pub fn front(&self) -> Front<'a>
+        ensures is { result ≡ front_in self.now }
         ensures tag { result.tag ≡ self.now.tag }
         ensures pdu { pdu_after result (map variable_of self.now.bindings.now) ≡ pdu_in self.now }
         ensures scoped { scoped_after result (map variable_of self.now.bindings.now) ≡ scoped_of self.now }

@@ -4,14 +4,15 @@ ghost use Rattle.std.specs.Prelude.{◌≤◌, ◌-◌, ℕ, List, Option, Ok};
 ghost use Rattle.snmp_ber.specs.declared.level.Level.{Level};
 ghost use Rattle.snmp_message.specs.Scoped.{Contexts};
 ghost use Rattle.snmp_msg.specs.Pdu.{PduParts};
+ghost use Rattle.snmp_msg.specs.Variables.{Variable};
 ghost use Rattle.usm_users.specs.User.{User};
 ghost use Rattle.usm_core.specs.Sealed.{Sending, Seals};
 ghost use Rattle.engine_clock.specs.Pairs.{pair_max};
 ghost use Rattle.engine_clock.specs.Marks.{SeenPair};
 ghost use Rattle.usm_core.specs.Verified.{AllowsEngine, agent};
 ghost use Rattle.snmp_outcome.specs.Outcome.{Taker, as_agent, side_at, ClockRuns};
-ghost use Rattle.snmp_sending.specs.declared.body.Body.{Body as Asked};
-ghost use Rattle.snmp_sending.specs.Bodies.{pdu_in};
+ghost use Rattle.snmp_sending.specs.declared.front.Front.{Front as Asked};
+ghost use Rattle.snmp_sending.specs.Bodies.{pdu_after};
 ghost use Rattle.snmp_sending.specs.Accepts.{IsFor, IsTakenInTime};
 ghost use Rattle.snmp_sending.specs.Speaks.{Speech, spoken, spoken_contexts, SpeechFits, HasSameUser};
 ghost use Rattle.snmp_sending.specs.Requests.{requesting, request, RequestFits};
@@ -49,14 +50,14 @@ pub fn spoken_is_accepted()
     sealed_is_accepted();
 }
 
-/// What a manager's request is sent as is accepted by an agent of its engine that has its user, with the same ScopedPDU given
-/// on, exactly where the pair written is in the agent's window; at noAuthNoPriv always.
+/// What a manager's request is sent as, with any front and any bindings, is accepted by an agent of its engine that has its user, with
+/// the same ScopedPDU given on, exactly where the pair written is in the agent's window; at noAuthNoPriv always.
 pub fn request_is_accepted()
-    ensures { (senders users : List User) (engine : List ℕ) (boots started now : ℕ) (held : Option SeenPair) (moment id : ℕ) (user : List ℕ) (level : Level) (body : Asked) (salt text : List ℕ)
-        → RequestFits held id engine user salt body → HasSameUser (agent engine) senders users user level → now - started ≤ pair_max
-        → Seals senders (requesting held moment id engine user level body salt) (Ok text)
-        → IsTakenInTime (as_agent engine boots started) users now text (requesting held moment id engine user level body salt)
-        (spoken_contexts (request held moment id engine user level body salt)) (pdu_in body) }
+    ensures { (senders users : List User) (engine : List ℕ) (boots started now : ℕ) (held : Option SeenPair) (moment id : ℕ) (user : List ℕ) (level : Level) (front : Asked) (vs : List Variable) (salt text : List ℕ)
+        → RequestFits held id engine user salt front vs → HasSameUser (agent engine) senders users user level → now - started ≤ pair_max
+        → Seals senders (requesting held moment id engine user level front vs salt) (Ok text)
+        → IsTakenInTime (as_agent engine boots started) users now text (requesting held moment id engine user level front vs salt)
+        (spoken_contexts (request held moment id engine user level front vs salt)) (pdu_after front vs) }
 {
     spoken_is_accepted();
 }

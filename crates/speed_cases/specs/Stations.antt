@@ -3,7 +3,7 @@ use Rattle.std.specs.Prelude.{◌≡◌, ℕ, ◌+◌, Bool, true, false, length
 use Rattle.speed_cases.specs.declared.operation.Others.{Others}
 use Rattle.speed_cases.specs.declared.operation.Others.TheVariants.{Nobody, Thousand, TenThousand}
 use Rattle.speed_cases.specs.declared.operation.Operation.{Operation}
-use Rattle.speed_cases.specs.declared.operation.Operation.TheVariants.{PasswordKey, Mac, CfbSeal, CfbOpen, OpenAuth, Take, AgentTake, AgentAnswer, Seal}
+use Rattle.speed_cases.specs.declared.operation.Operation.TheVariants.{PasswordKey, Mac, CfbSeal, CfbOpen, OpenAuth, Take, AgentTake, AgentAnswer, Request, Seal}
 use Rattle.speed_cases.specs.declared.station.Station.{Station}
 
 abbrev pub number_of : Others → ℕ
@@ -19,7 +19,8 @@ openers CfbOpen = 0
 openers (OpenAuth auth) = 1
 openers (Take others) = 0
 openers AgentTake = 0
-openers AgentAnswer = 0
+openers (AgentAnswer form) = 0
+openers (Request form) = 0
 openers Seal = 1
 
 abbrev pub takers : Operation → ℕ
@@ -30,7 +31,8 @@ takers CfbOpen = 0
 takers (OpenAuth auth) = 0
 takers (Take others) = number_of others + 1
 takers AgentTake = 0
-takers AgentAnswer = 0
+takers (AgentAnswer form) = 0
+takers (Request form) = 1
 takers Seal = 0
 
 abbrev pub answerers : Operation → ℕ
@@ -41,7 +43,8 @@ answerers CfbOpen = 0
 answerers (OpenAuth auth) = 0
 answerers (Take others) = 0
 answerers AgentTake = 1
-answerers AgentAnswer = 1
+answerers (AgentAnswer form) = 1
+answerers (Request form) = 0
 answerers Seal = 0
 
 -- so many users open messages, take them, and take and answer them
@@ -57,5 +60,6 @@ is_of_a_message CfbOpen = false
 is_of_a_message (OpenAuth auth) = true
 is_of_a_message (Take others) = true
 is_of_a_message AgentTake = true
-is_of_a_message AgentAnswer = true
+is_of_a_message (AgentAnswer form) = true
+is_of_a_message (Request form) = true
 is_of_a_message Seal = true

@@ -2,8 +2,9 @@
 use Rattle.std.specs.Prelude.{ℕ, List, codes}
 use Rattle.usm_keys.specs.declared.auth.Auth.TheVariants.{Md5, Sha1, Sha256}
 use Rattle.speed_cases.specs.declared.operation.Others.TheVariants.{Nobody, Thousand, TenThousand}
+use Rattle.speed_cases.specs.declared.answering.Form.TheVariants.{Arcs, Octets}
 use Rattle.speed_cases.specs.declared.operation.Operation.{Operation}
-use Rattle.speed_cases.specs.declared.operation.Operation.TheVariants.{PasswordKey, Mac, CfbSeal, CfbOpen, OpenAuth, Take, AgentTake, AgentAnswer, Seal}
+use Rattle.speed_cases.specs.declared.operation.Operation.TheVariants.{PasswordKey, Mac, CfbSeal, CfbOpen, OpenAuth, Take, AgentTake, AgentAnswer, Request, Seal}
 
 abbrev pub operation_word : Operation → List ℕ
 operation_word (PasswordKey Md5) = codes "password-key-md5"
@@ -21,5 +22,8 @@ operation_word (Take Nobody) = codes "take"
 operation_word (Take Thousand) = codes "take-among-1000"
 operation_word (Take TenThousand) = codes "take-among-10000"
 operation_word AgentTake = codes "agent-take"
-operation_word AgentAnswer = codes "agent-answer"
+operation_word (AgentAnswer Arcs) = codes "agent-answer"
+operation_word (AgentAnswer Octets) = codes "agent-answer-octets"
+operation_word (Request Arcs) = codes "request"
+operation_word (Request Octets) = codes "request-octets"
 operation_word Seal = codes "seal"

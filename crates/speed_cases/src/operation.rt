@@ -1,13 +1,13 @@
 //! The operations that can be timed.
 
-ghost use Rattle.std.specs.Prelude.{◌≡◌, ◌++◌, ◌-◌, [], ◌∷◌, ℕ, IsTrue, false, All, IfOk, Ok, drop, length, map, replicate, take};
+ghost use Rattle.std.specs.Prelude.{◌≡◌, ◌++◌, ◌-◌, [], ◌∷◌, ℕ, IsTrue, false, IfOk, Ok, drop, length, map, replicate, take};
 ghost use Rattle.snmp_message.specs.Scoped.{IsOneElement};
-ghost use Rattle.snmp_msg.specs.Variables.{CanBeWritten, variable_of};
 ghost use Rattle.speed_cases.specs.declared.operation.Operation.{Operation as AnOperation};
 ghost use Rattle.speed_cases.specs.Words.{operation_word};
 ghost use Rattle.speed_cases.specs.Stations as count;
 ghost use Rattle.speed_cases.specs.Stations.{HasUsers, number_of};
 
+use crate::answering::{Form, answered_end, requested_end};
 use crate::station::{ENGINE, OAK, Station};
 use anyhow::{Context, Result, ensure};
 use arrayvec::ArrayVec;
@@ -15,8 +15,8 @@ use engine_clock::Pair;
 use snmp_agent::Agent;
 use snmp_ber::read_tlv;
 use snmp_manager::Manager;
-use snmp_msg::{Binding, Header, Pdu, USER_BASED, write_scoped};
-use std::alloc::{AllocError, Global};
+use snmp_msg::{Header, USER_BASED, write_scoped};
+use std::alloc::Global;
 use std::str::FromStr;
 use thiserror::Error;
 use usm_aes::{Schedule, cfb_open, cfb_seal, iv};
@@ -31,7 +31,7 @@ const BOOTS: u32 = 7;
 
 const TIME: u32 = 1000;
 
-const SALT: [u8; 8] = [0, 1, 2, 3, 4, 5, 6, 7];
+pub(crate) const SALT: [u8; 8] = [0, 1, 2, 3, 4, 5, 6, 7];
 
 /// The header of the messages that are sealed.
 const HEADER: Header = Header {
@@ -44,7 +44,7 @@ const HEADER: Header = Header {
 };
 
 /// The moment at which each message is taken.
-const MOMENT: u64 = 1000;
+pub(crate) const MOMENT: u64 = 1000;
 
 /// How many other users a manager has.
 #[derive(Clone, Copy, PartialEq, Eq, Debug)]
@@ -88,15 +88,19 @@ pub enum Operation {
     /// `agent-take`: the text, which is such a message to the engine of the captured ones, taken by an agent. The result is the
     /// last 16 octets of its PDU.
     AgentTake,
-    /// `agent-answer`: the same, and then a Response with the bindings of what was taken. The result is its last 16 octets.
-    AgentAnswer,
+    /// `agent-answer`, `agent-answer-octets`: the same, and then a Response with the bindings of what was taken, with the arcs of their
+    /// names or with their names' octets. The result is its last 16 octets.
+    AgentAnswer(Form),
+    /// `request`, `request-octets`: a request at authPriv by a manager that has `oak`, with the bindings of the text, which is a PDU, in the
+    /// same forms. The result is its last 16 octets.
+    Request(Form),
     /// `seal`: the text, which is a PDU, sealed by `oak` as a message at authPriv. The result is its last 16 octets.
     Seal,
 }
 
 /// No operation has this name.
 #[derive(Clone, Copy, PartialEq, Eq, Debug, Error)]
-#[error("OPERATION is password-key-HASH, mac-HASH, open-auth-HASH, cfb-seal, cfb-open, take, take-among-1000, take-among-10000, agent-take, agent-answer or seal, HASH being md5, sha1 or sha256")]
+#[error("OPERATION is password-key-HASH, mac-HASH, open-auth-HASH, cfb-seal, cfb-open, take, take-among-1000, take-among-10000, agent-take, agent-answer, agent-answer-octets, request, request-octets or seal, HASH being md5, sha1 or sha256")]
 pub struct UnknownOperation;
 
 impl FromStr for Operation {
@@ -122,7 +126,10 @@ impl FromStr for Operation {
             "take-among-1000" => Ok(Operation::Take(Others::Thousand)),
             "take-among-10000" => Ok(Operation::Take(Others::TenThousand)),
             "agent-take" => Ok(Operation::AgentTake),
-            "agent-answer" => Ok(Operation::AgentAnswer),
+            "agent-answer" => Ok(Operation::AgentAnswer(Form::Arcs)),
+            "agent-answer-octets" => Ok(Operation::AgentAnswer(Form::Octets)),
+            "request" => Ok(Operation::Request(Form::Arcs)),
+            "request-octets" => Ok(Operation::Request(Form::Octets)),
             "seal" => Ok(Operation::Seal),
             _ => Err(UnknownOperation),
         }
@@ -148,7 +155,8 @@ impl Operation {
             Operation::OpenAuth(_)
                 | Operation::Take(_)
                 | Operation::AgentTake
-                | Operation::AgentAnswer
+                | Operation::AgentAnswer(_)
+                | Operation::Request(_)
                 | Operation::Seal
         )
     }
@@ -174,7 +182,8 @@ impl Operation {
         match self {
             Operation::OpenAuth(auth) => Station::of_ann(alloc, auth),
             Operation::Take(others) => Station::of_oak_among(alloc, others.number()),
-            Operation::AgentTake | Operation::AgentAnswer => Station::of_agent(alloc),
+            Operation::Request(_) => Station::of_oak_among(alloc, 0),
+            Operation::AgentTake | Operation::AgentAnswer(_) => Station::of_agent(alloc),
             Operation::Seal => Station::of_sealer(alloc),
             _ => Station::empty(alloc),
         }
@@ -227,7 +236,8 @@ impl Operation {
             Operation::OpenAuth(_) => code_of(&mut station.users, text),
             Operation::Take(_) => taken_end(&mut station.manager, text),
             Operation::AgentTake => asked_end(&mut station.agent, text),
-            Operation::AgentAnswer => answered_end(alloc, &mut station.agent, text),
+            Operation::AgentAnswer(form) => answered_end(alloc, &mut station.agent, text, form),
+            Operation::Request(form) => requested_end(alloc, &mut station.manager, text, form),
             Operation::Seal => sealed_message_end(alloc, &mut station.users, text),
         }
     }
@@ -255,31 +265,6 @@ fn asked_end(agent: &mut Agent, message: &[u8]) -> Result<ArrayVec<u8, 32>> {
         Ok(taken) => Ok(end_of(taken.scoped().pdu)),
         Err(refused) => Err(refused.why.into()),
     }
-}
-
-/// The bindings of a PDU that can be written.
-fn bindings_of<'a>(alloc: Global, pdu: &Pdu<'a>) -> Result<Vec<Binding<'a>>, AllocError>
-    ensures { IfOk result (λ v. All (λ b. CanBeWritten (variable_of b)) v.items) }
-{
-    let mut bindings = Vec::new(alloc);
-    for binding in pdu.bindings() {
-        if binding.tag & 0x1F != 0x1F && binding.name.is_object_id() {
-            bindings.push(binding)?;
-        }
-    }
-    Ok(bindings)
-}
-
-/// The end of the Response to a message that an agent takes, with its bindings.
-fn answered_end(alloc: Global, agent: &mut Agent, message: &[u8]) -> Result<ArrayVec<u8, 32>> {
-    let taken = match agent.take(MOMENT, message) {
-        Ok(taken) => taken,
-        Err(refused) => return Err(refused.why.into()),
-    };
-    let pdu = taken.pdu();
-    let bindings = bindings_of(alloc, &pdu)?;
-    let response = agent.respond(MOMENT, &taken, 0, 0, &bindings, SALT)?;
-    Ok(end_of(&response))
 }
 
 /// Whether the text is one element.
@@ -320,7 +305,7 @@ fn opened_end(schedule: &Schedule, text: &mut [u8]) -> ArrayVec<u8, 32> {
 }
 
 /// The last 16 octets of the text, or all of a shorter one.
-fn end_of(text: &[u8]) -> ArrayVec<u8, 32>
+pub(crate) fn end_of(text: &[u8]) -> ArrayVec<u8, 32>
     ensures { result.items ≡ drop (length text.now - 16) text.now }
 {
     let mut end = ArrayVec::new();

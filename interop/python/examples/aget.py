@@ -14,7 +14,7 @@ UNKNOWN_ENGINES, NOT_IN_WINDOWS = 4, 2
 
 
 class NoAnswer(Exception):
-    """No answer came in time, or a report of another counter."""
+    """No answer came in time, or a report of another counter, or a Response that tells an error."""
 
 
 class Station(asyncio.DatagramProtocol):
@@ -38,7 +38,7 @@ class Station(asyncio.DatagramProtocol):
             if isinstance(datagram, Exception):
                 raise datagram
             if self.manager.take(int(time.time()), datagram) is None:
-                reply = self.manager.reply()
+                reply = self.manager.take_reply()
                 if reply.is_response or reply.report_of is not None:
                     return reply
 
@@ -61,6 +61,13 @@ class Station(asyncio.DatagramProtocol):
             self.engine = self.manager.part(Part.ENGINE)
         return self.engine
 
+    def answered(self) -> list[Binding]:
+        """What the Response tells."""
+        info = self.manager.info()
+        if info.error_status:
+            raise NoAnswer(f"error-status {info.error_status}, error-index {info.error_index}")
+        return bindings(self.manager.part(Part.BINDINGS))
+
     async def get(self, user: str, level: Level, names) -> list[Binding]:
         async with self.turn:
             engine = await self.discover()
@@ -69,7 +76,7 @@ class Station(asyncio.DatagramProtocol):
                                      octets=b"".join(binding(name, 5) for name in names), message_id=secrets.randbelow(1 << 31))
                 reply = await self.exchange()
                 if reply.is_response:
-                    return bindings(self.manager.part(Part.BINDINGS))
+                    return self.answered()
                 if reply.report_of != NOT_IN_WINDOWS:
                     raise NoAnswer(f"report of counter {reply.report_of}")
             raise NoAnswer("not in the time window")

@@ -4,8 +4,8 @@ use crate::calls::{
     self, snmpsec_agent_access, snmpsec_agent_counters, snmpsec_agent_counts, snmpsec_agent_free,
     snmpsec_agent_info, snmpsec_agent_max_size, snmpsec_agent_message, snmpsec_agent_new,
     snmpsec_agent_notify, snmpsec_agent_part, snmpsec_agent_refuse, snmpsec_agent_respond,
-    snmpsec_agent_respond_within, snmpsec_agent_silent_drop, snmpsec_agent_take,
-    snmpsec_agent_unhandled, snmpsec_agent_user_access, snmpsec_status_of,
+    snmpsec_agent_respond_front, snmpsec_agent_respond_within, snmpsec_agent_silent_drop,
+    snmpsec_agent_take, snmpsec_agent_unhandled, snmpsec_agent_user_access, snmpsec_status_of,
 };
 use crate::fault::{done, Error};
 use crate::held::{Calls, Held};
@@ -193,6 +193,34 @@ impl Agent {
                 limit,
             )
         })
+    }
+
+    /// The Response with as many of the bindings, from the first on, as have room in `limit` octets, and how many they are. It is refused as
+    /// TooLarge where there is no room even for a Response without bindings.
+    pub fn respond_front(
+        &mut self,
+        now: u64,
+        error_status: u32,
+        error_index: u32,
+        bindings: &[u8],
+        salt: u64,
+        limit: u32,
+    ) -> Result<usize, Error> {
+        let mut count = 0;
+        done(unsafe {
+            snmpsec_agent_respond_front(
+                self.held.at(),
+                now,
+                error_status,
+                error_index,
+                bindings.as_ptr(),
+                bindings.len(),
+                salt,
+                limit,
+                &mut count,
+            )
+        })?;
+        Ok(count)
     }
 
     /// How many octets the sender of what is kept takes, 484 to 2147483647 (msgMaxSize).

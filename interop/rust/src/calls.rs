@@ -207,6 +207,17 @@ extern "C" {
         salt: u64,
         limit: u32,
     ) -> i32;
+    pub fn snmpsec_agent_respond_front(
+        agent: *mut Opaque,
+        now: u64,
+        error_status: u32,
+        error_index: u32,
+        list: *const u8,
+        len: usize,
+        salt: u64,
+        limit: u32,
+        count: *mut usize,
+    ) -> i32;
     pub fn snmpsec_agent_max_size(agent: *mut Opaque, out: *mut u32) -> i32;
     pub fn snmpsec_agent_unhandled(agent: *mut Opaque, out: *mut u32) -> i32;
     pub fn snmpsec_agent_refuse(agent: *mut Opaque, now: u64, why: u32, salt: u64) -> i32;

@@ -2,6 +2,7 @@
 
 ghost use Rattle.std.specs.Prelude.{All, IfOk};
 ghost use Rattle.snmp_ber.specs.Element.{IsTag};
+ghost use Rattle.snmp_msg.specs.Variables.{CanBeWritten, variable_of};
 
 use super::bindings::{get_request, named, numbered};
 use super::is_too_large;
@@ -83,6 +84,45 @@ fn bindings_in_octets_are_written_as_those_with_arcs(rt: HostRuntime) -> Result<
     assert_eq!(rt; read.len(), 300);
     let again = write_pdu_of(rt.alloc(), pdu.tag, pdu.id, pdu.second, pdu.third, &read)?;
     assert_eq!(rt; again.as_slice(), written.as_slice());
+    Ok(())
+}
+
+/// How many octets the bindings have that these are written in, or None where one is longer than a datagram.
+fn list_len(bindings: &[Binding<'_>]) -> Option<usize>
+    requires { All (λ b. CanBeWritten (variable_of b)) bindings.now }
+{
+    let mut len = 0usize;
+    for binding in bindings {
+        len = len.saturating_add(binding_len(binding)?);
+    }
+    Some(len)
+}
+
+#[test]
+fn lengths_are_known_before_anything_is_written(rt: HostRuntime) -> Result<(), Fail> {
+    let bindings = numbered(rt.alloc(), 300)?;
+    let len = list_len(&bindings).ok_or("a length")?;
+    assert!(rt; len <= LARGEST);
+    for number in [0, 127, 128, -129, i32::MAX, i32::MIN] {
+        let written = write_pdu(rt.alloc(), 0xA2, number, 0, number, &bindings)?;
+        assert_eq!(rt; written_pdu_len(number, 0, number, len.min(LARGEST)), written.len());
+    }
+    Ok(())
+}
+
+#[test]
+fn a_binding_longer_than_a_datagram_has_no_length(rt: HostRuntime) -> Result<(), Fail> {
+    // 11 octets are of heads and the name
+    for (count, len) in [(65_496, Some(65_507)), (65_497, None)] {
+        let content = vec![in rt.alloc(); 0u8; count]?;
+        let name = ObjectName::of(&[0x2B]).ok_or("a name")?;
+        let binding = VariableBinding {
+            name,
+            tag: 0x04,
+            content: &content,
+        };
+        assert_eq!(rt; binding_len(&binding), len);
+    }
     Ok(())
 }
 

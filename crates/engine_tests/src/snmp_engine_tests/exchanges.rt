@@ -2,7 +2,8 @@
 
 use super::exchange_rows::exchanges;
 use super::*;
-use snmp_msg::{Binding, read_message, read_security};
+use snmp_ber::ObjectName;
+use snmp_msg::{Binding, VariableBinding, read_message, read_security};
 
 /// A user's request of 1.3.6.1.2.1.1.1.0 to an agent that started at the moment 0, by a manager that holds no pair.
 pub(super) struct Exchange {
@@ -81,6 +82,16 @@ fn response(agent: &mut Agent, now: u64, taken: &Taken<'_>) -> Result<Vec<u8>, F
         content: &[],
     }];
     Ok(agent.respond(now, taken, 0, 0, &bindings, SALT)?)
+}
+
+/// The same Response, with its name in octets.
+fn response_in_octets(agent: &mut Agent, now: u64, taken: &Taken<'_>) -> Result<Vec<u8>, Fail> {
+    let bindings = [VariableBinding {
+        name: ObjectName::of(&SYS_DESCR_OCTETS).ok_or("an identifier")?,
+        tag: 0x05,
+        content: &[],
+    }];
+    Ok(agent.respond_of(now, taken, 0, 0, &bindings, SALT)?)
 }
 
 /// A copy of an accepted message.
@@ -196,6 +207,8 @@ fn assert_answered(
 ) -> Result<Vec<u8>, Fail> {
     let taken = accepted(agent, 1010, text)?;
     assert_said(rt, alloc, &taken, exchange)?;
+    let response = response_in_octets(agent, 1010, &taken)?;
+    assert_octets(rt, alloc, &response, exchange.response)?;
     let kept = kept(alloc, &taken)?;
     late_response(agent, 1010, &kept)
 }

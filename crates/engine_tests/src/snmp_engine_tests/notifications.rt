@@ -2,7 +2,8 @@
 
 use super::exchange_rows::traps;
 use super::*;
-use snmp_msg::Binding;
+use snmp_ber::ObjectName;
+use snmp_msg::{Binding, VariableBinding};
 
 /// An SNMPv2-Trap of 1.3.6.1.2.1.1.1.0 with msgID and request-id 5, at the moment 1000.
 pub(super) struct Trap {
@@ -40,6 +41,37 @@ fn notified(
     agent.notify(now, 5, user, level, &body, SALT)
 }
 
+/// The same trap, with its name in octets, in the default context.
+fn notified_in_octets(agent: &mut Agent, trap: &Trap) -> Result<Vec<u8>, Fail> {
+    let bindings = [VariableBinding {
+        name: ObjectName::of(&SYS_DESCR_OCTETS).ok_or("an identifier")?,
+        tag: 0x05,
+        content: &[],
+    }];
+    let front = Front {
+        context_engine: &ENGINE,
+        context_name: b"",
+        tag: 0xA7,
+        id: 5,
+        second: 0,
+        third: 0,
+    };
+    let user = &trap.user[..trap.user.len().min(32)];
+    Ok(agent.notify_of(1000, 5, user, trap.level, &front, &bindings, SALT)?)
+}
+
+/// With its name in octets the trap has these octets too.
+fn assert_trap_in_octets(
+    rt: &impl Abort,
+    alloc: Global,
+    agent: &mut Agent,
+    trap: &Trap,
+) -> Result<(), Fail> {
+    let text = notified_in_octets(agent, trap)?;
+    assert_eq!(rt; hex_of(alloc, &text)?.as_str(), trap.text);
+    Ok(())
+}
+
 /// What the manager answers to the datagram.
 fn took(manager: &mut Manager, now: u64, datagram: &[u8]) -> Result<Outcome, AllocError> {
     manager.take_one(now, datagram)
@@ -55,6 +87,7 @@ fn assert_trap(
 ) -> Result<(), Fail> {
     let text = notified(agent, 1000, trap.user, trap.level, b"")?;
     assert_eq!(rt; hex_of(alloc, &text)?.as_str(), trap.text);
+    assert_trap_in_octets(rt, alloc, agent, trap)?;
     let mut manager = manager(alloc, users)?;
     assert_taken(rt, &mut manager, trap, &text)
 }

@@ -1,11 +1,14 @@
 //! Requests and discoveries. Their texts were made with Python's hmac and hashlib and its package cryptography.
 
 use super::*;
-use snmp_ber::Oid;
-use snmp_msg::Binding;
-use snmp_sending::Body;
+use snmp_ber::{ObjectName, Oid};
+use snmp_msg::{Binding, VariableBinding};
+use snmp_sending::{Body, Front};
 
 const SYS_DESCR: [u32; 9] = [1, 3, 6, 1, 2, 1, 1, 1, 0];
+
+/// The octets that spell it.
+const SYS_DESCR_OCTETS: [u8; 8] = [0x2B, 6, 1, 2, 1, 1, 1, 0];
 
 /// A GetRequest of 1.3.6.1.2.1.1.1.0 by a user, asked at the moment 1010 by a manager that began with these clocks.
 struct Request {
@@ -103,6 +106,44 @@ pub(super) fn asked(
     Ok(manager.request(1010, 2, &own(), user, level, &body, salt)?)
 }
 
+/// The same GetRequest, with its name in octets.
+fn asked_in_octets(
+    manager: &mut Manager,
+    user: &[u8],
+    level: Level,
+) -> Result<(Vec<u8>, Pending), Fail> {
+    let bindings = [VariableBinding {
+        name: ObjectName::of(&SYS_DESCR_OCTETS).ok_or("an identifier")?,
+        tag: 0x05,
+        content: &[],
+    }];
+    let front = Front {
+        context_engine: &ENGINE,
+        context_name: b"",
+        tag: 0xA0,
+        id: 2,
+        second: 0,
+        third: 0,
+    };
+    let user = &user[..user.len().min(32)];
+    let salt = [0, 1, 2, 3, 4, 5, 6, 7];
+    Ok(manager.request_of(1010, 2, &own(), user, level, &front, &bindings, salt)?)
+}
+
+/// With its name in octets the request is this text too.
+fn assert_text_in_octets(
+    rt: &impl Abort,
+    alloc: Global,
+    manager: &mut Manager,
+    number: usize,
+    request: &Request,
+) -> Result<(), Fail> {
+    let (text, _pending) = asked_in_octets(manager, request.user, request.level)?;
+    let wanted = hex::decode(alloc, request.text)?;
+    assert_octets(rt, number, &text, &wanted);
+    Ok(())
+}
+
 /// The request is this text.
 fn assert_text(
     rt: &impl Abort,
@@ -126,6 +167,7 @@ fn assert_request(
 ) -> Result<(), Fail> {
     let mut manager = begun(alloc, request.clocks)?;
     assert_text(rt, alloc, &mut manager, number, request)?;
+    assert_text_in_octets(rt, alloc, &mut manager, number, request)?;
     assert_saved(rt, &manager, request.clocks)
 }
 

@@ -578,6 +578,13 @@ class Agent(_Held):
         _done(self._call("respond_within", _ranged(now, 64), _ranged(error_status), _ranged(error_index), *_octets(octets), _ranged(salt, 64),
                          _ranged(limit)))
 
+    def respond_front(self, now: int, octets: Buffer, salt: int, limit: int, error_status: int = 0, error_index: int = 0) -> int:
+        """The Response with as many of the bindings, from the first on, as have room in `limit` octets, and how many they are."""
+        count = ctypes.c_size_t()
+        _done(self._call("respond_front", _ranged(now, 64), _ranged(error_status), _ranged(error_index), *_octets(octets), _ranged(salt, 64),
+                         _ranged(limit), ctypes.byref(count)))
+        return count.value
+
     def unhandled(self) -> Optional[Unhandled]:
         """Why nothing answers what is kept, or None where it is to be answered (RFC 3412, section 4.2.2; RFC 3413, section 3.2)."""
         out = _library.Enumeration()

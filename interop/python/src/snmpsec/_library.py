@@ -92,6 +92,7 @@ SIGNATURES = {
     "agent_user_access": (c_int, [c_void_p, Octets, c_uint, Octets, c_uint] + _arcs + [POINTER(Enumeration)]),
     "agent_respond": (c_int, [c_void_p, c_uint64, c_uint32, c_uint32] + _slice + [c_uint64]),
     "agent_respond_within": (c_int, [c_void_p, c_uint64, c_uint32, c_uint32] + _slice + [c_uint64, c_uint32]),
+    "agent_respond_front": (c_int, [c_void_p, c_uint64, c_uint32, c_uint32] + _slice + [c_uint64, c_uint32, POINTER(c_size_t)]),
     "agent_unhandled": (c_int, [c_void_p, POINTER(Enumeration)]),
     "agent_refuse": (c_int, [c_void_p, c_uint64, c_uint, c_uint64]),
     "agent_silent_drop": (c_int, [c_void_p]),

@@ -2,8 +2,8 @@ use Rattle.std.proofs.Common.{◌≡◌, ℕ, pos, List, Option, Result, Ok, inr
 use Rattle.std.specs.Prelude.{IfSome}
 use Rattle.snmp_message.specs.Scoped.{Contexts, ScopedFront}
 use Rattle.snmp_msg.specs.Pdu.{PduParts, PduText}
-use Rattle.snmp_msg.specs.Variables.{Variable, variable_of}
-use Rattle.snmp_msg.specs.declared.binding.Binding.{Binding}
+use Rattle.snmp_msg.specs.Variables.{Variable, bound_variable}
+use Rattle.snmp_msg.specs.declared.variable.VariableBinding.{VariableBinding}
 use Rattle.snmp_outcome.specs.Outcome.{Given}
 use Rattle.snmp_outcome.specs.Answers.{given_of}
 use Rattle.snmp_sending.specs.Classes.{is_confirmed}
@@ -15,28 +15,26 @@ use Rattle.snmp_held.proofs.agent.response.Goals as goal
 
 pub returns-in-Ok-clause-answer : goal.returns-in-Ok-clause-answer
 returns-in-Ok-clause-answer c =
-    let tag : c.taken.result.tag ≡ c.args.kept.now.tag = ap (λ (g : Given). g.tag) c.taken.ensures in
     let confirmed : is_confirmed c.args.kept.now.tag ≡ true = search rules in
     let status : to_z w32 c.args.status ≡ pos c.args.status = search rules in
     let index : to_z w32 c.args.index ≡ pos c.args.index = search rules in
-    let vs : List Variable = map variable_of c.in_ok-bindings.bindings.items in
-    let lent : map variable_of c.deref.result.now ≡ vs = ap (λ (bs : List Binding). map variable_of bs) c.deref.ensures.value in
+    let vs : List Variable = map bound_variable c.in_ok-bindings.bindings.items in
+    let lent : map bound_variable c.deref.result.now ≡ vs = ap (λ (bs : List VariableBinding). map bound_variable bs) c.deref.ensures.value in
     let R : Given → List Variable → Type 0 = λ g xs. (k : Contexts) (p : PduParts) → ScopedFront g.text k → PduText k.pdu p → Sends c.args.agent.now c.args.now (λ own. responding c.args.agent.now.engine own g k p (pos c.args.status) (pos c.args.index) xs c.args.salt) (Ok c.in-Ok.text.items) in
-    let rows : R (given_of c.taken-taken.result) (map variable_of c.deref.result.now) = rw (status, index) at c.in-Ok.ensures.answer in
+    let rows : R (given_of c.taken-taken.result) (map bound_variable c.deref.result.now) = rw (status, index) at c.in-Ok.ensures.answer in
     (confirmed, (vs, c.in_ok-bindings.ensures.all, subst (λ (g : Given). R g vs) c.taken-taken.ensures (subst (R (given_of c.taken-taken.result)) lent rows)))
 
 -- the Response is refused, of a user for whom it can be sent
 pub returns-clause-answer : goal.returns-clause-answer
 returns-clause-answer c =
-    let tag : c.taken.result.tag ≡ c.args.kept.now.tag = ap (λ (g : Given). g.tag) c.taken.ensures in
     let confirmed : is_confirmed c.args.kept.now.tag ≡ true = search rules in
     let status : to_z w32 c.args.status ≡ pos c.args.status = search rules in
     let index : to_z w32 c.args.index ≡ pos c.args.index = search rules in
-    let vs : List Variable = map variable_of c.in_ok-bindings.bindings.items in
-    let lent : map variable_of c.deref.result.now ≡ vs = ap (λ (bs : List Binding). map variable_of bs) c.deref.ensures.value in
-    let refusal = send_refusal c.in-Err-respond.fault in
+    let vs : List Variable = map bound_variable c.in_ok-bindings.bindings.items in
+    let lent : map bound_variable c.deref.result.now ≡ vs = ap (λ (bs : List VariableBinding). map bound_variable bs) c.deref.ensures.value in
+    let refusal = send_refusal c.in-Err.fault in
     let R : Given → List Variable → Type 0 = λ g xs. (k : Contexts) (p : PduParts) → ScopedFront g.text k → PduText k.pdu p → IfSome refusal (Sends c.args.agent.now c.args.now (λ own. responding c.args.agent.now.engine own g k p (pos c.args.status) (pos c.args.index) xs c.args.salt)) in
-    let rows : R (given_of c.taken-taken.result) (map variable_of c.deref.result.now) = rw (status, index) at c.in-Err-respond.ensures.answer in
+    let rows : R (given_of c.taken-taken.result) (map bound_variable c.deref.result.now) = rw (status, index) at c.in-Err.ensures.answer in
     let can : CanSendAt c.args.agent.now c.args.now c.args.kept.now.user c.args.kept.now.level = search rules in
     let of_kept : R c.args.kept.now vs = subst (λ (g : Given). R g vs) c.taken-taken.ensures (subst (R (given_of c.taken-taken.result)) lent rows) in (
       confirmed,

@@ -1,10 +1,12 @@
 use Rattle.std.proofs.Common.{◌≡◌, ◌<◌, ◌++◌, ℕ, List, [], ◌∷◌, Option, Some, None, length, map, slice_range, refl, sym, subst, ap, ◌∙◌, append_assoc, arith, rules}
+use Rattle.std.specs.Prelude.{is_some}
 use Rattle.std.proofs.lemmas.List.{map-append}
 use Rattle.std.proofs.lemmas.List.Elements.{All-push}
 use Rattle.std.proofs.lemmas.List.Edits.{length-between}
-use Rattle.snmp_ber.specs.Element.{IsElement}
-use Rattle.snmp_msg.specs.Variables.{Variable, IsBinding, IsReadBinding, AreBindings, CanBeWritten, variable_of}
-use Rattle.snmp_msg.specs.declared.binding.Binding.{Binding}
+use Rattle.snmp_ber.specs.Element.{IsTag, IsElement}
+use Rattle.snmp_ber.proofs.Oids.{identifier_in-again}
+use Rattle.snmp_msg.specs.Variables.{Variable, IsBinding, IsReadBinding, AreBindings, bound_variable}
+use Rattle.snmp_msg.specs.declared.variable.VariableBinding.{VariableBinding}
 use Rattle.snmp_held.proofs.bindings.bindings_of.Goals as goal
 
 nothing : (xs : List ℕ) → length xs ≡ 0 → xs ≡ []
@@ -15,11 +17,11 @@ abbrev the_name : Option (List ℕ) → List ℕ
 the_name None = []
 the_name (Some name) = name
 
-same_variable : (v : Variable) (b : Binding) → v.name ≡ b.name → v.tag ≡ b.tag → v.content ≡ b.content.now → v ≡ variable_of b
+same_variable : (v : Variable) (b : VariableBinding) → v.name ≡ b.name → v.tag ≡ b.tag → v.content ≡ b.content.now → v ≡ bound_variable b
 same_variable v b name tag content = rw (← name, ← tag, ← content) refl
 
-writable : (v : Variable) (text : List ℕ) → IsBinding text v → CanBeWritten v
-writable v text is = record { object_id = is.is_identifier.object_id; is_tag = is.is_value.1.tag_octet }
+tag_of_one : (v : Variable) (text : List ℕ) → IsBinding text v → IsTag v.tag
+tag_of_one v text is = is.is_value.1.tag_octet
 
 -- What doesn't begin with a binding isn't bindings, unless it has no octets.
 none_begins : (octets : List ℕ) → 0 < length octets → ((v : Variable) (text rest : List ℕ) → IsBinding text v → octets ≡ text ++ rest → ⊥)
@@ -38,7 +40,7 @@ after_one one octets rest text v some is parts (w ∷ ws) are =
 pub loop-place-init : goal.loop-place-init
 loop-place-init c =
     let w = c.args.list.now in
-    let none : c.new-bindings.result.items ≡ [] = c.new-bindings.ensures.items in
+    let none : c.in-Ok.bindings.items ≡ [] = c.in-Ok.ensures.items in
     let whole : slice_range w 0 (length w) ≡ w = c.whole_slice.ensures w in
     record {
       within = search rules;
@@ -47,34 +49,34 @@ loop-place-init c =
       back = λ vs are. (vs, subst (λ (octets : List ℕ). AreBindings vs octets) (sym whole) are);
     }
 
-pub returns-in_default-clause-fault : goal.returns-in_default-clause-fault
-returns-in_default-clause-fault c = λ vs are.
+pub returns-in_default-read_binding-clause-fault : goal.returns-in_default-read_binding-clause-fault
+returns-in_default-read_binding-clause-fault c = λ vs are.
     let w = c.args.list.now in
     let here = slice_range w c.loop-place.place (length w) in
     let rest = c.loop-place.invariant.back vs are in
     let some : 0 < length here = omega (arith, length-between w c.loop-place.place (length w), c.loop-place-test.true) in
-    none_begins here some c.in_default.ensures.none rest.0 rest.1
+    none_begins here some c.in_default-read_binding.ensures.none rest.0 rest.1
 
 pub loop-place-preserved : goal.loop-place-preserved
 loop-place-preserved c =
     let w = c.args.list.now in
     let inv = c.loop-place.invariant in
     let here = slice_range w c.loop-place.place (length w) in
-    let after = slice_range w c.in-Ok.found.end (length w) in
-    let read : IsReadBinding here after c.in-Ok.found = c.in-Ok.ensures.found in
-    let name : c.in-Some.name ≡ read.says.name = ap the_name ((c.in-Some.ensures.value read.says.name).1 read.name) in
-    let b : Binding = record { name = c.in-Some.name; tag = c.in-Ok.found.value.tag; content = c.in-Ok.found.value.content } in
+    let after = slice_range w c.in-Ok-read_binding.found.end (length w) in
+    let read : IsReadBinding here after c.in-Ok-read_binding.found = c.in-Ok-read_binding.ensures.found in
+    let name : c.known.result ≡ read.says.name = ap the_name (c.known.ensures.exact ∙ identifier_in-again read.says.name c.in-Ok-read_binding.found.name.content.now read.name) in
+    let b : VariableBinding = record { name = c.known.result; tag = c.in-Ok-read_binding.found.value.tag; content = c.in-Ok-read_binding.found.value.content } in
     let items : c.push.new.self.items ≡ c.loop-place.bindings.items ++ b ∷ [] = search rules in
-    let says : read.says ≡ variable_of b = same_variable read.says b (sym name) read.tag read.content in
-    let is : IsBinding read.text (variable_of b) = subst (λ (v : Variable). IsBinding read.text v) says read.is_binding in
+    let says : read.says ≡ bound_variable b = same_variable read.says b (sym name) read.tag read.content in
+    let is : IsBinding read.text (bound_variable b) = subst (λ (v : Variable). IsBinding read.text v) says read.is_binding in
     let some : 0 < length here = omega (arith, length-between w c.loop-place.place (length w), c.loop-place-test.true) in
     record {
-      within = c.in-Ok.ensures.ordered.2;
-      written = rw items (All-push (λ (x : Binding). CanBeWritten (variable_of x)) c.loop-place.bindings.items b inv.written (writable (variable_of b) read.text is));
+      within = c.in-Ok-read_binding.ensures.ordered.2;
+      written = rw items (All-push (λ (x : VariableBinding). IsTag x.tag) c.loop-place.bindings.items b inv.written (tag_of_one (bound_variable b) read.text is));
       joined = λ vs are.
-          let more : AreBindings (map variable_of c.loop-place.bindings.items ++ variable_of b ∷ vs) w = inv.joined (variable_of b ∷ vs) (read.text, after, is, read.parts, are) in
-          let same : map variable_of (c.loop-place.bindings.items ++ b ∷ []) ++ vs ≡ map variable_of c.loop-place.bindings.items ++ variable_of b ∷ vs
-          = ap (λ (xs : List Variable). xs ++ vs) (map-append variable_of c.loop-place.bindings.items (b ∷ [])) ∙ append_assoc (map variable_of c.loop-place.bindings.items) (variable_of b ∷ []) vs in
+          let more : AreBindings (map bound_variable c.loop-place.bindings.items ++ bound_variable b ∷ vs) w = inv.joined (bound_variable b ∷ vs) (read.text, after, is, read.parts, are) in
+          let same : map bound_variable (c.loop-place.bindings.items ++ b ∷ []) ++ vs ≡ map bound_variable c.loop-place.bindings.items ++ bound_variable b ∷ vs
+          = ap (λ (xs : List Variable). xs ++ vs) (map-append bound_variable c.loop-place.bindings.items (b ∷ [])) ∙ append_assoc (map bound_variable c.loop-place.bindings.items) (bound_variable b ∷ []) vs in
           rw items (subst (λ (xs : List Variable). AreBindings xs w) (sym same) more);
       back = λ vs are.
           let rest = inv.back vs are in
@@ -86,5 +88,11 @@ returns-clause-all c =
     let w = c.args.list.now in
     let here = slice_range w c.loop-place.place (length w) in
     let none : here ≡ [] = nothing here (omega (arith, length-between w c.loop-place.place (length w), c.loop-place.invariant.within, c.loop-place-test.false)) in
-    let all : AreBindings (map variable_of c.loop-place.bindings.items ++ []) w = c.loop-place.invariant.joined [] none in
+    let all : AreBindings (map bound_variable c.loop-place.bindings.items ++ []) w = c.loop-place.invariant.joined [] none in
     search rules
+
+pub known-requires : goal.known-requires
+known-requires c =
+    let w = c.args.list.now in
+    let read : IsReadBinding (slice_range w c.loop-place.place (length w)) (slice_range w c.in-Ok-read_binding.found.end (length w)) c.in-Ok-read_binding.found = c.in-Ok-read_binding.ensures.found in
+    ap is_some (identifier_in-again read.says.name c.in-Ok-read_binding.found.name.content.now read.name)

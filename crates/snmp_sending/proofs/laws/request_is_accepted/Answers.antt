@@ -1,14 +1,12 @@
 use Rattle.std.proofs.Common.{refl}
-use Rattle.std.specs.Prelude.{map}
-use Rattle.snmp_msg.specs.Variables.{variable_of}
 use Rattle.snmp_outcome.specs.Outcome.{as_agent}
 use Rattle.snmp_sending.specs.Requests.{request}
 use Rattle.snmp_sending.proofs.Spoken.{pair_fits}
 use Rattle.snmp_sending.proofs.laws.request_is_accepted.Goals as goal
 
 pub returns : goal.returns
-returns c = λ senders users engine boots started now held moment id user level body salt text fits same runs seals.
-    c.spoken_is_accepted.ensures (as_agent engine boots started) senders users now (request held moment id engine user level body salt) text
+returns c = λ senders users engine boots started now held moment id user level front vs salt text fits same runs seals.
+    c.spoken_is_accepted.ensures (as_agent engine boots started) senders users now (request held moment id engine user level front vs salt) text
     (record {
       id = fits.id;
       engine = fits.engine;
@@ -17,7 +15,7 @@ returns c = λ senders users engine boots started now held moment id user level 
       salt = fits.salt;
       tag = fits.tag;
       numbers = fits.numbers;
-      variables = map variable_of body.bindings.now;
+      variables = vs;
       bindings = fits.bindings;
       list = refl;
     })
