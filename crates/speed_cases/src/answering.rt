@@ -81,7 +81,12 @@ pub(crate) fn answered_end(
 }
 
 /// A request of the PDU's bindings, with their names' octets.
-fn request_of(alloc: Global, manager: &mut Manager, engine: &EngineId, pdu: &Pdu<'_>) -> Result<Vec<u8>>
+fn request_of(
+    alloc: Global,
+    manager: &mut Manager,
+    engine: &EngineId,
+    pdu: &Pdu<'_>,
+) -> Result<Vec<u8>>
     requires { IsPduTag pdu.now.tag }
 {
     let front = Front {
@@ -107,7 +112,12 @@ fn request_of(alloc: Global, manager: &mut Manager, engine: &EngineId, pdu: &Pdu
 }
 
 /// The same, with the arcs of their names.
-fn request(alloc: Global, manager: &mut Manager, engine: &EngineId, pdu: &Pdu<'_>) -> Result<Vec<u8>>
+fn request(
+    alloc: Global,
+    manager: &mut Manager,
+    engine: &EngineId,
+    pdu: &Pdu<'_>,
+) -> Result<Vec<u8>>
     requires { IsPduTag pdu.now.tag }
 {
     let bindings = bindings_of(alloc, pdu)?;

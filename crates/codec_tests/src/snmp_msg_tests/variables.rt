@@ -105,7 +105,10 @@ fn lengths_are_known_before_anything_is_written(rt: HostRuntime) -> Result<(), F
     assert!(rt; len <= LARGEST);
     for number in [0, 127, 128, -129, i32::MAX, i32::MIN] {
         let written = write_pdu(rt.alloc(), 0xA2, number, 0, number, &bindings)?;
-        assert_eq!(rt; written_pdu_len(number, 0, number, len.min(LARGEST)), written.len());
+        assert_eq!(rt;
+            written_pdu_len(number, 0, number, len.min(LARGEST)),
+            written.len()
+        );
     }
     Ok(())
 }
