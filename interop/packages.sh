@@ -24,7 +24,7 @@ mkdir -p "$tree/docs" "$tree/tools"
 chmod -R u+w "$tree"
 mv "$tree/interop/debian" "$tree/debian"
 cp "$repository/docs/snmpsec.1" "$tree/docs"
-cp "$repository/tools/snmpsec.bash" "$tree/tools"
+cp "$repository/tools/snmpsec.bash" "$repository/tools/_snmpsec" "$tree/tools"
 (cd "$out" && tar czf "snmpsec_$version.orig.tar.gz" --exclude=debian "snmpsec-$version")
 (cd "$tree" && DEB_BUILD_OPTIONS=noautodbgsym dpkg-buildpackage -us -uc -b)
 

@@ -12,7 +12,9 @@ use snmpsec_texts::{
     Output, check_config_text, check_text, explain_text, merge_text, moment_of, open_text,
     sees_text, show_text, who_text,
 };
-use snmpsec_words::{Command, ReplayWords, SeesWords, WhoWords, not_text, parse};
+use snmpsec_words::{
+    Command, ReplayWords, SeesWords, WhoWords, manual_text, not_text, parse, version_text,
+};
 use std::alloc::{AllocError, Global};
 use std::io::{BufReader, BufWriter, Input, Read, Write};
 use std::rt::{Env, Files};
@@ -99,7 +101,23 @@ pub fn command<R: Files + Input + AllocGlobal, O: Write, E: Write>(
         Command::Replay(words) => replay_log(rt, words, out),
         Command::MergeClocks { moment, files } => merge_clocks(rt, moment.unwrap_or("0"), files),
         Command::Datagrams { ports, file } => log_datagrams(rt, ports, file, out, err),
+        Command::Manual { command } => manual(rt.alloc(), *command),
+        Command::Version => version(rt.alloc()),
     }
+}
+
+/// What the parser's help says of a command, or of all, on standard output. A command that isn't there is told as the parser's text.
+fn manual(alloc: Global, command: Option<&str>) -> Result<Output, AllocError> {
+    match manual_text(alloc, command) {
+        Ok(text) => Ok(Output::out(alloc, text.into_bytes(), 0)),
+        Err(fault) => usage(alloc, &fault),
+    }
+}
+
+/// The name and the version of the program.
+fn version(alloc: Global) -> Result<Output, AllocError> {
+    let text = version_text(alloc)?;
+    Ok(Output::out(alloc, text.into_bytes(), 0))
 }
 
 /// Reads the configuration whole, before it looks at another word, and then asks it.

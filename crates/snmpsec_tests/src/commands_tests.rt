@@ -15,7 +15,7 @@ mod who_sees;
 
 use clap::error::ErrorKind;
 use snmpsec_commands::show_text;
-use snmpsec_words::parse;
+use snmpsec_words::{manual_text, parse};
 use std::alloc::AllocError;
 use std::test::Fail;
 
@@ -208,6 +208,27 @@ fn help_says_what_each_word_is(rt: HostRuntime) -> Result<(), Fail> {
         assert!(rt; help.as_str().contains(word), "{help}");
         assert!(rt; help.as_str().contains("Status: 0"), "{help}");
     }
+    Ok(())
+}
+
+/// The manual of a command, or of all.
+fn manual_of(rt: &HostRuntime, command: Option<&str>) -> Result<String, Fail> {
+    match manual_text(rt.alloc(), command) {
+        Ok(text) => Ok(text),
+        Err(fault) if fault.kind() == ErrorKind::OutOfMemory => Err(AllocError.into()),
+        Err(_) => String::from_str(rt.alloc(), "refused").map_err(Fail::from),
+    }
+}
+
+#[test]
+fn the_manual_is_what_help_says(rt: HostRuntime) -> Result<(), Fail> {
+    for (command, _) in HELP {
+        let help = refusal_of(&rt, &["snmpsec", command, "--help"])?;
+        assert_eq!(rt; manual_of(&rt, Some(command))?.as_str(), help.as_str());
+    }
+    let help = refusal_of(&rt, &["snmpsec", "--help"])?;
+    assert_eq!(rt; manual_of(&rt, None)?.as_str(), help.as_str());
+    assert_eq!(rt; manual_of(&rt, Some("shout"))?.as_str(), "refused");
     Ok(())
 }
 

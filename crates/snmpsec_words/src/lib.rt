@@ -5,10 +5,12 @@ ghost use Rattle.std.specs.Prelude.{◌≡◌, IfOk};
 ghost use Rattle.clap.specs.Values.{kind_of};
 ghost use Rattle.clap.specs.declared.error.kind.ErrorKind.TheVariants.{InvalidValue};
 
+mod own;
 mod wide;
 
 use clap::error::ErrorKind;
 use clap::{Arg, ArgAction, ArgMatches, Error};
+pub use own::{VERSION, manual_text, version_text};
 use std::alloc::{AllocError, Global};
 pub use wide::{SeesWords, WhoWords};
 
@@ -82,6 +84,12 @@ pub enum Command<'a> {
         ports: Vec<&'a str>,
         file: &'a str,
     },
+    /// `manual [COMMAND]`
+    Manual {
+        command: Option<&'a str>,
+    },
+    /// `version`
+    Version,
 }
 
 /// The words of check-access and explain-access.
@@ -300,7 +308,9 @@ fn parser<'a>(alloc: Global) -> Result<clap::Command<'a>, AllocError> {
         .subcommand(check_config(alloc)?)?
         .subcommand(replay(alloc)?)?
         .subcommand(merge_clocks(alloc)?)?
-        .subcommand(datagrams(alloc)?)
+        .subcommand(datagrams(alloc)?)?
+        .subcommand(own::manual(alloc)?)?
+        .subcommand(own::version(alloc))
 }
 
 /// The word of an argument that the parser requires.
@@ -365,6 +375,10 @@ pub fn parse<'a>(alloc: Global, words: &'a [String]) -> Result<Command<'a>, Erro
             ports: words.get_strs("PORT").unwrap_or(&[]).to_vec(alloc)?,
             file: given(alloc, words, "FILE")?,
         }),
+        Some(("manual", words)) => Ok(Command::Manual {
+            command: words.get_str("COMMAND"),
+        }),
+        Some(("version", _)) => Ok(Command::Version),
         _ => Err(parser(alloc)?.error(ErrorKind::MissingSubcommand, "a command is missing")?),
     }
 }

@@ -5,7 +5,8 @@ use snmpsec_commands::run::command;
 use std::alloc::Global;
 
 /// A command line without the program's name, the status, standard output and standard error.
-static COMMANDS: [(&str, u8, &str, &str); 54] = [
+static COMMANDS: [(&str, u8, &str, &str); 55] = [
+    ("version", 0, "snmpsec 0.1.0\n", ""),
     // The configuration is read before another word is looked at.
     (
         "check-access /no/such/file 0 ann none see @ 1",

@@ -1,0 +1,56 @@
+//! Commands about the program itself: its version, and its help as a text that was asked for.
+
+ghost use Rattle.std.specs.Prelude.{◌≡◌, IfOk, codes, string_bytes};
+
+use crate::parser;
+use clap::error::ErrorKind;
+use clap::{Arg, ArgAction, Error};
+use std::alloc::{AllocError, Global};
+
+/// The version of the program, which is the library's.
+pub const VERSION: &str = "0.1.0";
+
+const VERSION_STATUS: &str = "Status: 0 printed, 2 a fault of the command line.";
+
+const MANUAL_STATUS: &str =
+    "What --help prints on standard error, with status 2, stands on standard output here, so that a pager can read it.
+Example: snmpsec manual show | less
+Status: 0 printed, 2 there is no such command, or a fault of the command line.";
+
+/// The parser of version.
+pub(crate) fn version<'a>(alloc: Global) -> clap::Command<'a> {
+    clap::Command::new(alloc, "version")
+        .about("Print the name and the version of the program")
+        .after_help(VERSION_STATUS)
+}
+
+/// The parser of manual.
+pub(crate) fn manual<'a>(alloc: Global) -> Result<clap::Command<'a>, AllocError> {
+    clap::Command::new(alloc, "manual")
+        .about("Print the help of a command, or of all, on standard output")
+        .after_help(MANUAL_STATUS)
+        .arg(
+            Arg::new(alloc, "COMMAND")
+                .action(ArgAction::Set)
+                .help("The command; the list of all commands if left out"),
+        )
+}
+
+/// The line that `snmpsec version` prints: the program's name and its version.
+pub fn version_text(alloc: Global) -> Result<String, AllocError>
+    ensures { IfOk result (λ text. string_bytes text ≡ codes "snmpsec 0.1.0\n") }
+{
+    format!(in alloc; "snmpsec {VERSION}\n")
+}
+
+/// What the parser's help says of a command, or of all where none is named. The fault is the parser's, where there is no such
+/// command, or want of memory.
+pub fn manual_text(alloc: Global, command: Option<&str>) -> Result<String, Error> {
+    let words = ["snmpsec", "help", command.unwrap_or("")];
+    let count = if command.is_some() { 3 } else { 2 };
+    match parser(alloc)?.try_get_matches_from(&words[..count]) {
+        Err(fault) if fault.kind() == ErrorKind::DisplayHelp => Ok(fault.to_string(alloc)?),
+        Err(fault) => Err(fault),
+        Ok(_) => Err(parser(alloc)?.error(ErrorKind::InvalidSubcommand, "there is no help")?),
+    }
+}
