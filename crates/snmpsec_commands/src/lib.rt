@@ -1,10 +1,14 @@
 //! The commands of `snmpsec`: from the command line and the files that it names to what is printed, and the status.
 #![tactic(auto)]
 
+mod checks;
 pub mod datagrams;
 mod files;
 pub mod replay;
 pub mod run;
+mod why;
+mod why_files;
+mod why_words;
 
 pub use files::{FileFault, read_whole};
 pub use snmpsec_texts::{

@@ -36,7 +36,7 @@ impl From<AllocError> for NoManager {
 }
 
 /// The greatest number that the first line of a log may have.
-const GREATEST_FIRST: u64 = 1_000_000_000_000_000;
+pub(crate) const GREATEST_FIRST: u64 = 1_000_000_000_000_000;
 
 /// The number of a log's first line, 1 to 10^15, in decimal without sign or leading zeros.
 pub fn first_line_of(word: &str) -> Option<u64>

@@ -1,10 +1,12 @@
 //! From the command line to what is written.
 
-ghost use Rattle.std.specs.Prelude.{◌≤◌};
+ghost use Rattle.std.specs.Prelude.{◌≡◌, ◌≤◌, ◌++◌, IfOk};
 
+use crate::checks::{check_clocks_files, check_log_file};
 use crate::datagrams::{Unread, datagrams, ports_of};
 use crate::files::{FileFault, open_log, read_file};
 use crate::replay::{first_line_of, replay_as};
+use crate::why::{says_why, why};
 use clap::error::ErrorKind;
 use snmpsec_replay::{Printing, ReplayFault};
 use snmpsec_streams::write_whole;
@@ -13,10 +15,11 @@ use snmpsec_texts::{
     sees_text, show_text, who_text,
 };
 use snmpsec_words::{
-    Command, ReplayWords, SeesWords, WhoWords, manual_text, not_text, parse, version_text,
+    Asked, Command, ReplayWords, SeesWords, WhoWords, manual_text, not_text, parse_asked,
+    version_text,
 };
 use std::alloc::{AllocError, Global};
-use std::io::{BufReader, BufWriter, Input, Read, Write};
+use std::io::{BufReader, BufWriter, Input, IsTerminal, Read, Write};
 use std::rt::{Env, Files};
 use std::{env, io};
 
@@ -25,7 +28,7 @@ const OUT_OF_MEMORY: &[u8] = b"snmpsec: out of memory\n";
 const CANNOT_WRITE: &[u8] = b"snmpsec: cannot write\n";
 
 /// Runs the program over its arguments, and answers its status.
-pub fn run<R: Files + Env + Input + AllocGlobal, O: Write, E: Write>(
+pub fn run<R: Files + Env + Input + AllocGlobal, O: Write, E: Write + IsTerminal>(
     rt: &R,
     out: &mut O,
     err: &mut E,
@@ -51,8 +54,8 @@ fn print<O: Write, E: Write>(output: &Output, out: &mut O, err: &mut E) -> u8 {
     output.status
 }
 
-/// What the program prints, beside what a command wrote as it went.
-fn answer<R: Files + Env + Input + AllocGlobal, O: Write, E: Write>(
+/// What the program prints, beside what a command wrote as it went. A person at a terminal is told what is wrong without asking.
+fn answer<R: Files + Env + Input + AllocGlobal, O: Write, E: Write + IsTerminal>(
     rt: &R,
     out: &mut O,
     err: &mut E,
@@ -64,10 +67,40 @@ fn answer<R: Files + Env + Input + AllocGlobal, O: Write, E: Write>(
         Err(_) => return usage(alloc, &not_text(alloc)?),
     };
     let words: Vec<String> = words.collect(alloc)?;
-    match parse(alloc, words.as_slice()) {
-        Ok(asked) => command(rt, &asked, out, err),
+    match parse_asked(alloc, words.as_slice()) {
+        Ok(asked) => {
+            let why = asked.why || err.is_terminal();
+            answer_asked(rt, &Asked { why, ..asked }, out, err)
+        }
         Err(fault) => usage(alloc, &fault),
     }
+}
+
+/// What the command that was given prints, and behind a refusal what is wrong, where that is asked for.
+pub fn answer_asked<R: Files + Input + AllocGlobal, O: Write, E: Write>(
+    rt: &R,
+    asked: &Asked<'_>,
+    out: &mut O,
+    err: &mut E,
+) -> Result<Output, AllocError> {
+    let output = command(rt, &asked.command, out, err)?;
+    if output.status == 0 || !(asked.why || says_why(&asked.command)) {
+        return Ok(output);
+    }
+    match why(rt, &asked.command)? {
+        Some(line) => with_line(output, &line),
+        None => Ok(output),
+    }
+}
+
+/// The same, and behind what stands on standard error this line.
+fn with_line(mut output: Output, line: &str) -> Result<Output, AllocError>
+    ensures out { IfOk result (λ told. told.out.items ≡ output.out.items) }
+    ensures err { IfOk result (λ told. told.err.items ≡ output.err.items ++ line.now) }
+    ensures status { IfOk result (λ told. told.status ≡ output.status) }
+{
+    output.err.extend_from_slice(line.as_bytes())?;
+    Ok(output)
 }
 
 /// The parser's text, on standard error whatever was asked, with status 2.
@@ -100,6 +133,8 @@ pub fn command<R: Files + Input + AllocGlobal, O: Write, E: Write>(
         Command::CheckConfig { config } => check_config(rt, config),
         Command::Replay(words) => replay_log(rt, words, out),
         Command::MergeClocks { moment, files } => merge_clocks(rt, moment.unwrap_or("0"), files),
+        Command::CheckClocks { files } => check_clocks_files(rt, files),
+        Command::CheckLog { log } => check_log_file(rt, log),
         Command::Datagrams { ports, file } => log_datagrams(rt, ports, file, out, err),
         Command::Manual { command } => manual(rt.alloc(), *command),
         Command::Version => version(rt.alloc()),
@@ -333,7 +368,7 @@ fn write_log<R: Read, O: Write, E: Write>(
 }
 
 /// What is printed of a file that wasn't read.
-fn unread(alloc: Global, fault: FileFault, name: &str) -> Result<Output, AllocError> {
+pub(crate) fn unread(alloc: Global, fault: FileFault, name: &str) -> Result<Output, AllocError> {
     match fault {
         FileFault::CannotRead => {
             Output::complaint(alloc, format!(in alloc; "cannot read {name}")?.as_str())

@@ -19,7 +19,7 @@ use Rattle.snmpsec_replay.proofs.Texts.{none_over_limit, none_unended, none_past
 
 -- ---- one line more
 
-lines_more : (k : ℕ) (es : List LogEntry) (read line : List ℕ) (e : LogEntry) → AreLines k es read → IsLineAt (k + length es) line e
+pub lines_more : (k : ℕ) (es : List LogEntry) (read line : List ℕ) (e : LogEntry) → AreLines k es read → IsLineAt (k + length es) line e
     → AreLines k (es ++ e ∷ []) (read ++ (line ++ 10 ∷ []))
 lines_more k [] read line e h at = (line, [], subst (λ n. IsLineAt n line e) (omega arith) at, ap (λ t. t ++ (line ++ 10 ∷ [])) h, refl)
 lines_more k (x ∷ es) read line e (l, rest, is, parts, later) at =

@@ -72,8 +72,10 @@ pub(crate) enum NextLine {
     Whole,
     /// No octet more.
     End,
-    /// Over the limit, or a last line without its line feed.
-    OutOfForm,
+    /// Over the limit.
+    TooLong,
+    /// A last line without its line feed.
+    NoLineFeed,
 }
 
 /// What octets that are read ahead are to a line.
@@ -228,9 +230,9 @@ pub(crate) fn read_line<R: BufRead>(reader: &mut R, line: &mut Vec<u8>) -> Resul
                 if line.is_empty() {
                     return Ok(NextLine::End);
                 }
-                return Ok(NextLine::OutOfForm);
+                return Ok(NextLine::NoLineFeed);
             }
-            Ahead::TooLong => return Ok(NextLine::OutOfForm),
+            Ahead::TooLong => return Ok(NextLine::TooLong),
         }
     }
 }

@@ -169,7 +169,8 @@ fn answer_lines<R: BufRead, W: Write>(
         match next {
             NextLine::Whole => {}
             NextLine::End => return Ok(Ending::Whole),
-            NextLine::OutOfForm => return Ok(Ending::LogLine(number)),
+            NextLine::TooLong => return Ok(Ending::LogLine(number)),
+            NextLine::NoLineFeed => return Ok(Ending::LogLine(number)),
         }
         match answer(alloc, manager, printing.lines, number, &line, waiting) {
             Step::Answered => {}

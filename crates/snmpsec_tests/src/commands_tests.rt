@@ -2,12 +2,14 @@
 
 mod access;
 mod captured;
+mod checked;
 mod commands;
 mod configs;
 mod examples;
 mod explained;
 mod merged;
 mod opened;
+mod reasons;
 mod replays;
 mod sees;
 mod streams;

@@ -5,9 +5,12 @@ ghost use Rattle.std.specs.Prelude.{◌≡◌, IfOk};
 ghost use Rattle.clap.specs.Values.{kind_of};
 ghost use Rattle.clap.specs.declared.error.kind.ErrorKind.TheVariants.{InvalidValue};
 
+mod asked;
 mod own;
+mod saved;
 mod wide;
 
+pub use asked::{Asked, parse_asked};
 use clap::error::ErrorKind;
 use clap::{Arg, ArgAction, ArgMatches, Error};
 pub use own::{VERSION, manual_text, version_text};
@@ -78,6 +81,14 @@ pub enum Command<'a> {
     MergeClocks {
         moment: Option<&'a str>,
         files: Vec<&'a str>,
+    },
+    /// `check-clocks FILE..`
+    CheckClocks {
+        files: Vec<&'a str>,
+    },
+    /// `check-log LOG`
+    CheckLog {
+        log: &'a str,
     },
     /// `datagrams [--port PORT].. FILE`
     Datagrams {
@@ -299,6 +310,7 @@ fn parser<'a>(alloc: Global) -> Result<clap::Command<'a>, AllocError> {
     clap::Command::new(alloc, "snmpsec")
         .about("Looks into SNMPv3 messages, view-based access, logs of datagrams and saved clocks")
         .subcommand_required(true)
+        .arg(asked::why(alloc))?
         .subcommand(show(alloc)?)?
         .subcommand(open(alloc)?)?
         .subcommand(check_access(alloc)?)?
@@ -308,6 +320,8 @@ fn parser<'a>(alloc: Global) -> Result<clap::Command<'a>, AllocError> {
         .subcommand(check_config(alloc)?)?
         .subcommand(replay(alloc)?)?
         .subcommand(merge_clocks(alloc)?)?
+        .subcommand(saved::check_clocks(alloc)?)?
+        .subcommand(saved::check_log(alloc)?)?
         .subcommand(datagrams(alloc)?)?
         .subcommand(own::manual(alloc)?)?
         .subcommand(own::version(alloc))
@@ -351,6 +365,11 @@ fn replay_words<'a>(alloc: Global, words: &ArgMatches<'a>) -> Result<ReplayWords
 /// Reads the words of a command line, the program's name first. A request for help is an error too.
 pub fn parse<'a>(alloc: Global, words: &'a [String]) -> Result<Command<'a>, Error> {
     let matches = parser(alloc)?.try_get_matches_from(words)?;
+    command_of(alloc, &matches)
+}
+
+/// The command that was given, with its words.
+fn command_of<'a>(alloc: Global, matches: &ArgMatches<'a>) -> Result<Command<'a>, Error> {
     match matches.subcommand() {
         Some(("show", words)) => Ok(Command::Show {
             digits: given(alloc, words, "HEX")?,
@@ -370,6 +389,12 @@ pub fn parse<'a>(alloc: Global, words: &'a [String]) -> Result<Command<'a>, Erro
         Some(("merge-clocks", words)) => Ok(Command::MergeClocks {
             moment: words.get_str("MOMENT"),
             files: words.get_strs("FILE").unwrap_or(&[]).to_vec(alloc)?,
+        }),
+        Some(("check-clocks", words)) => Ok(Command::CheckClocks {
+            files: words.get_strs("FILE").unwrap_or(&[]).to_vec(alloc)?,
+        }),
+        Some(("check-log", words)) => Ok(Command::CheckLog {
+            log: given(alloc, words, "LOG")?,
         }),
         Some(("datagrams", words)) => Ok(Command::Datagrams {
             ports: words.get_strs("PORT").unwrap_or(&[]).to_vec(alloc)?,

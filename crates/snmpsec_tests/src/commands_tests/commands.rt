@@ -5,8 +5,28 @@ use snmpsec_commands::run::command;
 use std::alloc::Global;
 
 /// A command line without the program's name, the status, standard output and standard error.
-static COMMANDS: [(&str, u8, &str, &str); 55] = [
+static COMMANDS: [(&str, u8, &str, &str); 60] = [
     ("version", 0, "snmpsec 0.1.0\n", ""),
+    ("check-log /dev/null", 0, "line 0\n", ""),
+    (
+        "check-log /no/such/file",
+        2,
+        "",
+        "snmpsec: cannot read /no/such/file\n",
+    ),
+    (
+        "check-clocks /dev/null",
+        1,
+        "refused clocks /dev/null line 1\n",
+        "snmpsec: line 1: snmp-clocks 2 is wanted\n",
+    ),
+    (
+        "check-clocks /no/such/file",
+        2,
+        "",
+        "snmpsec: cannot read /no/such/file\n",
+    ),
+    ("check-log /", 2, "", "snmpsec: cannot read /\n"),
     // The configuration is read before another word is looked at.
     (
         "check-access /no/such/file 0 ann none see @ 1",
@@ -312,7 +332,7 @@ fn commands() -> &'static [(&'static str, u8, &'static str, &'static str)] {
 }
 
 /// The words of a command line, with one blank between each two.
-fn line_of(alloc: Global, line: &str) -> Result<Vec<String>, Fail> {
+pub(super) fn line_of(alloc: Global, line: &str) -> Result<Vec<String>, Fail> {
     let mut words = Vec::new(alloc);
     words.push("snmpsec".to_string(alloc)?)?;
     for word in line.split(' ') {

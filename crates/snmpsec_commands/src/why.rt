@@ -1,0 +1,140 @@
+//! What is wrong with what a command was given, and what is wanted: the line behind a refusal.
+
+use crate::replay::first_line_of;
+use crate::why_files::{
+    look_at_clocks, look_at_config, look_at_file, look_at_files, look_at_log, look_at_whole_file,
+};
+use crate::why_words::{
+    Wrong, look_at_digits, look_at_first, look_at_level, look_at_model, look_at_moment,
+    look_at_ports, look_at_variable, look_at_view,
+};
+use snmpsec_notes::cut_message;
+use snmpsec_words::{AccessWords, Command, ReplayWords, SeesWords, WhoWords};
+use std::alloc::{AllocError, Global};
+use std::rt::Files;
+
+/// The line that says what is wrong and what is wanted, of a command that was refused: of the first that is at fault, in the order in
+/// which the command looks at its words and files. None where that was told already, or where it can't be found out any more.
+pub(crate) fn why<R: Files + AllocGlobal>(
+    rt: &R,
+    command: &Command<'_>,
+) -> Result<Option<String>, AllocError> {
+    match look_at(rt, command) {
+        Ok(()) => Ok(None),
+        Err(Wrong::Told(line)) => Ok(Some(line)),
+        Err(Wrong::OutOfMemory) => Err(AllocError),
+    }
+}
+
+/// Whether the command says what is wrong without being asked, as those do that are as new as that line.
+pub(crate) fn says_why(command: &Command<'_>) -> bool {
+    matches!(
+        command,
+        Command::WhoSees(_)
+            | Command::Sees(_)
+            | Command::Datagrams { .. }
+            | Command::CheckClocks { .. }
+            | Command::CheckLog { .. }
+    )
+}
+
+/// Looks at the words and the files of a command as it does.
+fn look_at<R: Files + AllocGlobal>(rt: &R, command: &Command<'_>) -> Result<(), Wrong> {
+    match command {
+        Command::Show { digits } => look_at_datagram(rt.alloc(), digits),
+        Command::Open { config, digits } => look_at_opened(rt, config, digits),
+        Command::CheckAccess(words) => look_at_question(rt, words),
+        Command::ExplainAccess(words) => look_at_question(rt, words),
+        Command::WhoSees(words) => look_at_who(rt, words),
+        Command::Sees(words) => look_at_sees(rt, words),
+        Command::CheckConfig { config } => look_at_whole_file(rt, config),
+        Command::Replay(words) => look_at_replay(rt, words),
+        Command::MergeClocks { moment, files } => look_at_merge(rt, *moment, files),
+        Command::CheckClocks { files } => look_at_files(rt, files),
+        Command::CheckLog { log } => look_at_file(rt, log, usize::MAX),
+        Command::Datagrams { ports, file } => look_at_capture(rt, ports, file),
+        Command::Manual { .. } | Command::Version => Ok(()),
+    }
+}
+
+/// HEX, and whether the message that it is goes on behind it.
+fn look_at_datagram(alloc: Global, digits: &str) -> Result<(), Wrong> {
+    look_at_digits(alloc, digits)?;
+    look_at_end(alloc, digits)
+}
+
+/// Whether a message goes on behind its datagram.
+fn look_at_end(alloc: Global, digits: &str) -> Result<(), Wrong> {
+    let Ok(datagram) = hex::decode(alloc, digits) else {
+        return Ok(());
+    };
+    match cut_message(&datagram) {
+        Some(cut) => Err(Wrong::Told(format!(in alloc; "snmpsec: {cut}\n")?)),
+        None => Ok(()),
+    }
+}
+
+fn look_at_opened<R: Files + AllocGlobal>(rt: &R, config: &str, digits: &str) -> Result<(), Wrong> {
+    look_at_whole_file(rt, config)?;
+    look_at_digits(rt.alloc(), digits)?;
+    look_at_config(rt, config)?;
+    look_at_end(rt.alloc(), digits)
+}
+
+fn look_at_question<R: Files + AllocGlobal>(rt: &R, words: &AccessWords<'_>) -> Result<(), Wrong> {
+    let [model, _, level, view, _, variable] = words.question;
+    look_at_whole_file(rt, words.config)?;
+    look_at_model(rt.alloc(), model)?;
+    look_at_level(rt.alloc(), level)?;
+    look_at_view(rt.alloc(), Some(view))?;
+    look_at_variable(rt.alloc(), variable)?;
+    look_at_config(rt, words.config)
+}
+
+fn look_at_who<R: Files + AllocGlobal>(rt: &R, words: &WhoWords<'_>) -> Result<(), Wrong> {
+    look_at_whole_file(rt, words.config)?;
+    look_at_variable(rt.alloc(), words.variable)?;
+    look_at_view(rt.alloc(), words.view)
+}
+
+fn look_at_sees<R: Files + AllocGlobal>(rt: &R, words: &SeesWords<'_>) -> Result<(), Wrong> {
+    look_at_whole_file(rt, words.config)?;
+    look_at_model(rt.alloc(), words.model)
+}
+
+fn look_at_replay<R: Files + AllocGlobal>(rt: &R, words: &ReplayWords<'_>) -> Result<(), Wrong> {
+    look_at_moment(rt.alloc(), words.moment)?;
+    look_at_first(rt.alloc(), words.from_line)?;
+    look_at_whole_file(rt, words.config)?;
+    look_at_whole_file(rt, words.clocks)?;
+    look_at_file(rt, words.log, usize::MAX)?;
+    look_at_config(rt, words.config)?;
+    look_at_clocks(rt, words.clocks)?;
+    let first = first_line_of(words.from_line.unwrap_or("1")).unwrap_or(1);
+    look_at_log(rt, words.log, first)
+}
+
+fn look_at_merge<R: Files + AllocGlobal>(
+    rt: &R,
+    moment: Option<&str>,
+    files: &[&str],
+) -> Result<(), Wrong> {
+    look_at_moment(rt.alloc(), moment)?;
+    look_at_files(rt, files)?;
+    for file in files {
+        look_at_clocks(rt, file)?;
+    }
+    Ok(())
+}
+
+fn look_at_capture<R: Files + AllocGlobal>(
+    rt: &R,
+    ports: &[&str],
+    file: &str,
+) -> Result<(), Wrong> {
+    look_at_ports(rt.alloc(), ports)?;
+    if file == "-" {
+        return Ok(());
+    }
+    look_at_file(rt, file, usize::MAX)
+}

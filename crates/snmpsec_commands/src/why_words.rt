@@ -1,0 +1,130 @@
+//! What is wrong with a word of the command line, and what is wanted.
+
+use crate::replay::GREATEST_FIRST;
+use snmp_ber::{Level, read_decimal};
+use snmpsec_access::view_word;
+use snmpsec_config::{MODEL_MAX, level_word};
+use snmpsec_notes::{Quoted, digits_fault, nearest, variable_fault};
+use std::alloc::{AllocError, Global};
+use thiserror::Error;
+use vacm_core::ViewType;
+
+/// What is wrong, told by a line that begins with `snmpsec: `.
+#[derive(Debug, Drop, Error)]
+pub(crate) enum Wrong {
+    #[error("{0}")]
+    Told(String),
+    /// A growth of memory was refused.
+    #[error("out of memory")]
+    OutOfMemory,
+}
+
+impl From<AllocError> for Wrong {
+    fn from(_fault: AllocError) -> Wrong {
+        Wrong::OutOfMemory
+    }
+}
+
+/// The line for a word.
+fn wrong_word(alloc: Global, name: &str, word: &str, why: &str, wanted: &str) -> Wrong {
+    let word = Quoted(word);
+    match format!(in alloc; "snmpsec: {name} {word}: {why}; {wanted}\n") {
+        Ok(line) => Wrong::Told(line),
+        Err(_) => Wrong::OutOfMemory,
+    }
+}
+
+/// HEX is one or more pairs of hex digits.
+pub(crate) fn look_at_digits(alloc: Global, word: &str) -> Result<(), Wrong> {
+    let Some(fault) = digits_fault(word) else {
+        return Ok(());
+    };
+    let why = format!(in alloc; "{fault}")?;
+    let wanted = "pairs of hex digits are wanted, as 3038; --from FILE takes other forms";
+    Err(wrong_word(alloc, "HEX", word, &why, wanted))
+}
+
+/// OID is the numbers of an object identifier.
+pub(crate) fn look_at_variable(alloc: Global, word: &str) -> Result<(), Wrong> {
+    let Some(fault) = variable_fault(word) else {
+        return Ok(());
+    };
+    let why = format!(in alloc; "{fault}")?;
+    let wanted = "numbers with dots between are wanted, as 1.3.6.1.2.1.1.5.0";
+    Err(wrong_word(alloc, "OID", word, &why, wanted))
+}
+
+/// A word of this name is a decimal from `least` to `most`.
+fn look_at_number(
+    alloc: Global,
+    name: &str,
+    word: &str,
+    least: u64,
+    most: u64,
+    wanted: &str,
+) -> Result<(), Wrong> {
+    match read_decimal(word.as_bytes(), most) {
+        Some(number) if number >= least => Ok(()),
+        _ => Err(wrong_word(alloc, name, word, "it is none", wanted)),
+    }
+}
+
+/// MODEL is the number of a security model.
+pub(crate) fn look_at_model(alloc: Global, word: &str) -> Result<(), Wrong> {
+    let wanted = "a whole number from 1 to 2147483647 is wanted; 3 is the user-based model";
+    look_at_number(alloc, "MODEL", word, 1, u64::from(MODEL_MAX), wanted)
+}
+
+/// MOMENT is a moment, where there is one.
+pub(crate) fn look_at_moment(alloc: Global, word: Option<&str>) -> Result<(), Wrong> {
+    let wanted = "whole seconds from 0 to 18446744073709551615 are wanted, as 1700000000";
+    look_at_number(alloc, "MOMENT", word.unwrap_or("0"), 0, u64::MAX, wanted)
+}
+
+/// N is the number of a log's first line, where there is one.
+pub(crate) fn look_at_first(alloc: Global, word: Option<&str>) -> Result<(), Wrong> {
+    let wanted = "a whole number from 1 to 1000000000000000 is wanted";
+    look_at_number(alloc, "N", word.unwrap_or("1"), 1, GREATEST_FIRST, wanted)
+}
+
+/// Each PORT is a port of UDP.
+pub(crate) fn look_at_ports(alloc: Global, words: &[&str]) -> Result<(), Wrong> {
+    for word in words {
+        let wanted = "a whole number from 0 to 65535 is wanted, as 161";
+        look_at_number(alloc, "PORT", word, 0, u64::from(u16::MAX), wanted)?;
+    }
+    Ok(())
+}
+
+/// A word of this name is one of these three.
+fn look_at_choice(alloc: Global, name: &str, words: [&str; 3], word: &str) -> Result<(), Wrong> {
+    let [first, second, third] = words;
+    if word == first || word == second || word == third {
+        return Ok(());
+    }
+    let why = match nearest(&words, word) {
+        Some(near) => format!(in alloc; "it is none, the nearest is {near}")?,
+        None => String::from_str(alloc, "it is none")?,
+    };
+    let wanted = format!(in alloc; "one of {first}, {second}, {third} is wanted")?;
+    Err(wrong_word(alloc, name, word, &why, &wanted))
+}
+
+/// LEVEL is a security level.
+pub(crate) fn look_at_level(alloc: Global, word: &str) -> Result<(), Wrong> {
+    let words = [Level::NoAuthNoPriv, Level::AuthNoPriv, Level::AuthPriv];
+    let [first, second, third] = words;
+    let words = [level_word(first), level_word(second), level_word(third)];
+    look_at_choice(alloc, "LEVEL", words, word)
+}
+
+/// VIEW is a view, where there is one.
+pub(crate) fn look_at_view(alloc: Global, word: Option<&str>) -> Result<(), Wrong> {
+    let read = view_word(ViewType::Read);
+    let words = [
+        read,
+        view_word(ViewType::Write),
+        view_word(ViewType::Notify),
+    ];
+    look_at_choice(alloc, "VIEW", words, word.unwrap_or(read))
+}

@@ -1,0 +1,19 @@
+use Rattle.std.proofs.Common.{sym, ◌∙◌, arith, refl, ◌∷◌, []}
+use Rattle.std.proofs.lemmas.Bool.{cases_eq}
+use Rattle.snmpsec_replay.specs.Replay.{from_line_1}
+use Rattle.snmpsec_replay.proofs.Replays.{bad_number, octet_at_end, octet_given}
+use Rattle.snmpsec_replay.proofs.Checks.{goes_on, ends}
+use Rattle.snmpsec_replay.proofs.checked.check_log.Goals as goal
+
+pub loop-taken-preserved : goal.loop-taken-preserved
+loop-taken-preserved g c =
+    let got = rw c.in-Sound.is at c.in_ok-check_line.ensures.ok in
+    record {
+      stands = goes_on _ _ c.loop-taken.taken c.loop-taken.invariant.stands _ got.0 got.1 (omega (arith, c.loop-taken-test.true)) got.2 got.3 got.4;
+      room = c.check_line.ensures.capacity;
+    }
+
+pub returns-then-is_some-clause-ok : goal.returns-then-is_some-clause-ok
+returns-then-is_some-clause-ok g c =
+    let got = octet_given _ _ c.in-Ok-read_octet.next (sym c.is_some.ensures ∙ c.if-is_some.true) c.in-Ok-read_octet.ensures.ok in
+    ends _ _ c.loop-taken.taken c.loop-taken.invariant.stands _ _ (got.0 ∷ []) got.1 (λ es n. bad_number from_line_1 _ _ got.0 (cases_eq got.0 10) (omega (arith)) es n)

@@ -1,0 +1,45 @@
+-- What a text is to a replay, where it is only looked at.
+use Rattle.std.specs.Prelude.{◌≡◌, ⊤, ℕ, ◌+◌, ◌≤◌, List, [], ◌∷◌, ◌++◌, length, Option}
+use Rattle.std.specs.Io.KnownBytes.{Consumes, IsAtEnd}
+use Rattle.snmp_ber.specs.Splits.{Lacks}
+use Rattle.snmpsec_replay.specs.Log.{LogEntry, IsLine, AreLines}
+use Rattle.snmpsec_replay.specs.Replay.{IsEnd, IsBad, from_line_1}
+use Rattle.snmpsec_replay.specs.declared.checked.CheckedLog.{CheckedLog}
+use Rattle.snmpsec_replay.specs.declared.checked.CheckedLog.TheVariants as logs
+use Rattle.snmpsec_replay.specs.declared.checked.CheckedLine.{CheckedLine}
+use Rattle.snmpsec_replay.specs.declared.checked.CheckedLine.TheVariants as lines
+
+-- lines of a log were read, and a part after them
+pub record ReadsLog (unread left : Option (List ℕ)) (IsPart : List LogEntry → List ℕ → Type 0) : Type 0 where
+  pub entries : List LogEntry
+  pub read : List ℕ
+  pub part : List ℕ
+  pub lines : AreLines 1 entries read
+  pub consumed : Consumes unread left (read ++ part)
+  pub is_part : IsPart entries part
+
+-- All of it is lines, and their number is told; or after some lines comes what is none, and its number is told.
+abbrev pub TellsLog : Option (List ℕ) → Option (List ℕ) → CheckedLog → Type 0
+TellsLog unread left (logs.Whole n) = ReadsLog unread left (λ es part. IsEnd left es part × (n ≡ length es))
+TellsLog unread left (logs.Faulty n why) = ReadsLog unread left (IsBad from_line_1 left n)
+
+-- ---- one line
+
+abbrev pub IsFaulty : CheckedLine → Type 0
+IsFaulty lines.Sound = ⊥
+IsFaulty lines.End = ⊥
+IsFaulty (lines.Faulty why) = ⊤
+
+-- A line with its line feed says something, or is faulty.
+abbrev pub TellsEntry : List ℕ → CheckedLine → Type 0
+TellsEntry line lines.Sound = (e : LogEntry) × IsLine line e
+TellsEntry line lines.End = ⊥
+TellsEntry line (lines.Faulty why) = (e : LogEntry) → IsLine line e → ⊥
+
+-- what was read next, where it may be a line
+abbrev pub TellsLine : Option (List ℕ) → Option (List ℕ) → CheckedLine → Type 0
+TellsLine unread left lines.Sound =
+    (line : List ℕ) × (e : LogEntry) × IsLine line e × (length line ≤ 131072) × Consumes unread left (line ++ 10 ∷ [])
+TellsLine unread left lines.End = Consumes unread left [] × IsAtEnd left
+TellsLine unread left (lines.Faulty why) =
+    (part : List ℕ) × Consumes unread left part × ((es : List LogEntry) (k : ℕ) → k ≡ length es → IsBad from_line_1 left (1 + k) es part)

@@ -1,0 +1,131 @@
+//! Whether a text is a log, and what is wrong where it isn't.
+
+ghost use Rattle.std.specs.Prelude.{◌≡◌, ◌≤◌, ◌⊎◌, IfOk, IfErr, vec_capacity};
+ghost use Rattle.snmpsec_replay.specs.Checked.{TellsLog, TellsLine, TellsEntry, IsFaulty};
+ghost use Rattle.snmpsec_replay.specs.declared.fault.ReplayFault.TheVariants as faults;
+
+use crate::fault::ReplayFault;
+use crate::line_fault::{LineFault, line_fault};
+use crate::log::{LINE_LIMIT, LINES_LIMIT, NextLine, read_entry, read_line};
+use snmpsec_notes::text_of;
+use snmpsec_streams::read_octet;
+use std::alloc::Global;
+use std::io::BufRead;
+
+/// What a text is to `replay_log`.
+#[derive(Debug, PartialEq, Eq, Drop)]
+pub enum CheckedLog {
+    /// A log of so many lines.
+    Whole(u64),
+    /// The line of this number, from 1, is the first that is none; and what is wrong with it.
+    Faulty { number: u64, why: String },
+}
+
+/// What is next in a log.
+#[derive(Drop)]
+pub(crate) enum CheckedLine {
+    /// A line.
+    Sound,
+    /// Nothing.
+    End,
+    /// What is no line, and why.
+    Faulty(String),
+}
+
+/// Reads a log line by line as `replay_log` does, and takes nothing of it: how many lines it has, or which is the first that is out of
+/// its form or past the limits, and why. One line is held at a time.
+///
+/// The errors are CannotRead, where a read fails or is interrupted 1,000 times in a row, and OutOfMemory.
+pub fn check_log<R: BufRead>(alloc: Global, reader: &mut R) -> Result<CheckedLog, ReplayFault>
+    ensures ok { IfOk result (TellsLog (R.remaining reader.old) (R.remaining reader.new)) }
+    ensures err { IfErr result (λ fault. (fault ≡ faults.CannotRead) ⊎ (fault ≡ faults.OutOfMemory)) }
+{
+    let Ok(mut line) = Vec::with_capacity(alloc, LINE_LIMIT) else {
+        return Err(ReplayFault::OutOfMemory);
+    };
+    for taken in 0..LINES_LIMIT {
+        match check_line(alloc, reader, &mut line)? {
+            CheckedLine::Sound => {}
+            CheckedLine::End => return Ok(CheckedLog::Whole(taken)),
+            CheckedLine::Faulty(why) => {
+                let number = taken + 1;
+                return Ok(CheckedLog::Faulty { number, why });
+            }
+        }
+    }
+    let Ok(next) = read_octet(reader) else {
+        return Err(ReplayFault::CannotRead);
+    };
+    if next.is_some() {
+        let why = told(alloc, LineFault::TooManyLines)?;
+        let number = LINES_LIMIT + 1;
+        return Ok(CheckedLog::Faulty { number, why });
+    }
+    Ok(CheckedLog::Whole(LINES_LIMIT))
+}
+
+/// Reads what is next, and looks at it.
+fn check_line<R: BufRead>(
+    alloc: Global,
+    reader: &mut R,
+    line: &mut Vec<u8>,
+) -> Result<CheckedLine, ReplayFault>
+    requires { 131072 ≤ vec_capacity line.old }
+    ensures capacity { 131072 ≤ vec_capacity line.new }
+    ensures ok { IfOk result (TellsLine (R.remaining reader.old) (R.remaining reader.new)) }
+    ensures err { IfErr result (λ fault. (fault ≡ faults.CannotRead) ⊎ (fault ≡ faults.OutOfMemory)) }
+{
+    let Ok(next) = read_line(reader, line) else {
+        return Err(ReplayFault::CannotRead);
+    };
+    match next {
+        NextLine::Whole => check_entry(alloc, line),
+        NextLine::End => Ok(CheckedLine::End),
+        NextLine::TooLong => {
+            let why = told(alloc, LineFault::TooLong)?;
+            Ok(CheckedLine::Faulty(why))
+        }
+        NextLine::NoLineFeed => {
+            let why = why_line(alloc, line, LineFault::NoLineFeed)?;
+            Ok(CheckedLine::Faulty(why))
+        }
+    }
+}
+
+/// What a line with its line feed is.
+fn check_entry(alloc: Global, line: &[u8]) -> Result<CheckedLine, ReplayFault>
+    ensures ok { IfOk result (TellsEntry line.now) }
+    ensures err { IfErr result (λ fault. (fault ≡ faults.CannotRead) ⊎ (fault ≡ faults.OutOfMemory)) }
+{
+    let Ok(entry) = read_entry(alloc, line) else {
+        return Err(ReplayFault::OutOfMemory);
+    };
+    if entry.is_some() {
+        return Ok(CheckedLine::Sound);
+    }
+    let why = why_line(alloc, line, LineFault::Words)?;
+    Ok(CheckedLine::Faulty(why))
+}
+
+/// What is wrong with the words of a line, or else this.
+fn why_line(alloc: Global, line: &[u8], other: LineFault<'_>) -> Result<String, ReplayFault>
+    ensures err { IfErr result (λ fault. fault ≡ faults.OutOfMemory) }
+{
+    let Ok(text) = text_of(alloc, line) else {
+        return Err(ReplayFault::OutOfMemory);
+    };
+    match line_fault(&text) {
+        Some(fault) => told(alloc, fault),
+        None => told(alloc, other),
+    }
+}
+
+/// A fault in words.
+fn told(alloc: Global, fault: LineFault<'_>) -> Result<String, ReplayFault>
+    ensures err { IfErr result (λ fault. fault ≡ faults.OutOfMemory) }
+{
+    match format!(in alloc; "{fault}") {
+        Ok(why) => Ok(why),
+        Err(_) => Err(ReplayFault::OutOfMemory),
+    }
+}

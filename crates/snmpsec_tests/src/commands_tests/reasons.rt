@@ -1,0 +1,139 @@
+//! What is wrong, told behind a refusal.
+
+use super::commands::line_of;
+use super::*;
+use snmpsec_commands::run::answer_asked;
+use snmpsec_words::parse_asked;
+
+/// A command line without the program's name, and standard error.
+static REASONS: [(&str, &str); 24] = [
+    (
+        "--why show 30:38",
+        "snmpsec: bad word HEX
+snmpsec: HEX \"30:38\": character 3, \":\", is no hex digit; pairs of hex digits are wanted, as 3038; --from FILE takes other forms
+",
+    ),
+    (
+        "show --why 303",
+        "snmpsec: bad word HEX
+snmpsec: HEX \"303\": its 3 digits are an odd number; pairs of hex digits are wanted, as 3038; --from FILE takes other forms
+",
+    ),
+    ("show 303", "snmpsec: bad word HEX\n"),
+    // of a message of 58 octets the first 41
+    (
+        "show --why 3038020103300e020101020300ffe30401040201030410300e0400020100020100040004000400301104000400",
+        "snmpsec: the message says 58 octets, and 49 are there\n",
+    ),
+    ("show --why 3000", ""),
+    (
+        "check-access --why /no/such/file 0 ann none see @ 1",
+        "snmpsec: cannot read /no/such/file\nsnmpsec: /no/such/file: there is no such file\n",
+    ),
+    (
+        "check-config / --why",
+        "snmpsec: cannot read /\nsnmpsec: /: it is a folder\n",
+    ),
+    (
+        "check-access --why /dev/null usm ann none see @ 1",
+        "snmpsec: bad word MODEL
+snmpsec: MODEL \"usm\": it is none; a whole number from 1 to 2147483647 is wanted; 3 is the user-based model
+",
+    ),
+    (
+        "check-access --why /dev/null 3 ann authpriv see @ 1",
+        "snmpsec: bad word LEVEL
+snmpsec: LEVEL \"authpriv\": it is none, the nearest is authPriv; one of noAuthNoPriv, authNoPriv, authPriv is wanted
+",
+    ),
+    (
+        "check-access --why /dev/null 3 ann authPriv x @ 1",
+        "snmpsec: bad word VIEW
+snmpsec: VIEW \"x\": it is none; one of read, write, notify is wanted
+",
+    ),
+    (
+        "check-access --why /dev/null 3 ann authPriv read @ .1.3.6",
+        "snmpsec: bad word OID
+snmpsec: OID \".1.3.6\": there is a dot in front, try \"1.3.6\"; numbers with dots between are wanted, as 1.3.6.1.2.1.1.5.0
+",
+    ),
+    (
+        "check-access --why /dev/null 3 ann authPriv read @ 1.3..6",
+        "snmpsec: bad word OID
+snmpsec: OID \"1.3..6\": number 3 is missing; numbers with dots between are wanted, as 1.3.6.1.2.1.1.5.0
+",
+    ),
+    (
+        "check-access --why /dev/null 3 ann authPriv read @ sysName",
+        "snmpsec: bad word OID
+snmpsec: OID \"sysName\": number 1, \"sysName\", is none (`snmptranslate -On` prints those of a name); numbers with dots between are wanted, as 1.3.6.1.2.1.1.5.0
+",
+    ),
+    (
+        "explain-access --why /dev/null 3 ann authPriv read @ 1.4294967296",
+        "snmpsec: bad word OID
+snmpsec: OID \"1.4294967296\": number 2, \"4294967296\", is above 4294967295 or has a 0 in front; numbers with dots between are wanted, as 1.3.6.1.2.1.1.5.0
+",
+    ),
+    // an answer is no refusal of words
+    ("check-access --why /dev/null 3 ann authPriv read @ 1.3", ""),
+    // newer commands say it without being asked
+    (
+        "sees /dev/null 0 ann",
+        "snmpsec: bad word MODEL
+snmpsec: MODEL \"0\": it is none; a whole number from 1 to 2147483647 is wanted; 3 is the user-based model
+",
+    ),
+    (
+        "who-sees /dev/null 1.3 reed",
+        "snmpsec: bad word VIEW
+snmpsec: VIEW \"reed\": it is none, the nearest is read; one of read, write, notify is wanted
+",
+    ),
+    (
+        "datagrams --port 65536 /dev/null",
+        "snmpsec: bad word PORT
+snmpsec: PORT \"65536\": it is none; a whole number from 0 to 65535 is wanted, as 161
+",
+    ),
+    (
+        "merge-clocks --why --moment 1.5 /dev/null",
+        "snmpsec: bad word MOMENT
+snmpsec: MOMENT \"1.5\": it is none; whole seconds from 0 to 18446744073709551615 are wanted, as 1700000000
+",
+    ),
+    ("merge-clocks /dev/null", ""),
+    (
+        "merge-clocks --why /dev/null",
+        "snmpsec: line 1: snmp-clocks 2 is wanted\n",
+    ),
+    (
+        "check-clocks /dev/null",
+        "snmpsec: line 1: snmp-clocks 2 is wanted\n",
+    ),
+    ("check-log /dev/null", ""),
+    (
+        "replay --why --from-line 0 /dev/null /dev/null /dev/null",
+        "snmpsec: bad word N
+snmpsec: N \"0\": it is none; a whole number from 1 to 1000000000000000 is wanted
+",
+    ),
+];
+
+fn reasons() -> &'static [(&'static str, &'static str)] {
+    &REASONS
+}
+
+#[test]
+fn what_is_wrong_stands_behind_a_refusal(rt: HostRuntime) -> Result<(), Fail> {
+    for (line, err) in reasons() {
+        let words = line_of(rt.alloc(), line)?;
+        let asked = parse_asked(rt.alloc(), &words)?;
+        let (mut written, mut told) = (Vec::new(rt.alloc()), Vec::new(rt.alloc()));
+        let output = answer_asked(&rt, &asked, &mut written, &mut told)?;
+        told.extend_from_slice(&output.err)?;
+        assert_eq!(rt; told.as_slice(), err.as_bytes(), "{line}");
+    }
+    Ok(())
+}
