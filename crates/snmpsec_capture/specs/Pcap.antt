@@ -70,9 +70,9 @@ pub record IsHead (order : Order) (octets : List ℕ) (h : Head) : Type 0 where
   pub original : h.original ≡ field32 order octets 12
   pub most : h.size ≤ 262144
 
--- at most a record was read
-abbrev pub ReadsPart : Option (List ℕ) → Option (List ℕ) → Type 0
-ReadsPart old new = (part : List ℕ) × (length part ≤ 262160) × Consumes old new part
+-- less than a record was read
+abbrev pub ReadsPart : Order → Option (List ℕ) → Option (List ℕ) → Type 0
+ReadsPart order old new = (part : List ℕ) × HasNoRecord order part × (length part ≤ 262160) × Consumes old new part
 
 -- the record that a header and a room of which the packet is the front make
 abbrev pub record_of : Head → List ℕ → Record

@@ -137,7 +137,7 @@ pub(crate) fn read_record<R: Read>(
     requires { length room.old ≡ 262144 }
     ensures room { length room.new ≡ 262144 }
     ensures ok { IfOk result (IsNext order room.new (R.remaining reader.old) (R.remaining reader.new)) }
-    ensures err { OnErr result (ReadsPart (R.remaining reader.old) (R.remaining reader.new)) }
+    ensures err { OnErr result (ReadsPart order (R.remaining reader.old) (R.remaining reader.new)) }
 {
     let mut octets = [0u8; HEAD];
     let Ok(count) = read_full(reader, &mut octets) else {
