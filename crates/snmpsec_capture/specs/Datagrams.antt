@@ -172,7 +172,7 @@ abbrev pub CannotBegin : Streams → CaptureFault → Type 0
 CannotBegin s (fault.Octet place) = StopsEarly s (IsBadHeader s.left place)
 CannotBegin s fault.CannotRead = StopsEarly s (λ part. length part < 24)
 CannotBegin s fault.CannotWrite = ⊥
-CannotBegin s fault.OutOfMemory = StopsEarly s (λ part. part ≡ [])
+CannotBegin s fault.OutOfMemory = StopsEarly s (λ part. (h : Header) × IsHeader part h)
 
 -- the header was read, and what is left then
 pub record HasBegun (unread left : Option (List ℕ)) (h : Header) : Type 0 where

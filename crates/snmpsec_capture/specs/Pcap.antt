@@ -1,5 +1,5 @@
 -- A capture in the format of libpcap: a header, and records of a header and a packet each. All numbers are in one order.
-use Rattle.std.specs.Prelude.{◌≡◌, ◌≢◌, ◌⊎◌, ℕ, ◌+◌, ◌*◌, ◌<◌, ◌≤◌, ◌==◌, ◌||◌, Bool, true, false, List, [], ◌∷◌, ◌++◌, length, take, drop, slice_index, Option, Some}
+use Rattle.std.specs.Prelude.{◌≡◌, ◌≢◌, ◌⊎◌, ℕ, ◌+◌, ◌*◌, ◌<◌, ◌≤◌, ◌==◌, ◌&&◌, ◌||◌, nat_le, Bool, true, false, List, [], ◌∷◌, ◌++◌, length, take, drop, slice_index, Option, Some}
 use Rattle.std.specs.Io.KnownBytes.{Consumes, IsAtEnd}
 use Rattle.snmpsec_capture.specs.Field.{field16, field32}
 use Rattle.snmpsec_capture.specs.declared.field.Order.{Order}
@@ -14,6 +14,10 @@ use Rattle.snmpsec_capture.specs.declared.pcap.Next.TheVariants as next
 -- it begins with a1b2c3d4, for microseconds, or with a1b23c4d, for nanoseconds
 abbrev pub is_magic : Order → List ℕ → Bool
 is_magic order octets = (field32 order octets 0 == 2712847316) || (field32 order octets 0 == 2712812621)
+
+-- the octets begin as a capture does
+abbrev pub begins_capture : List ℕ → Bool
+begins_capture octets = nat_le 4 (length octets) && (is_magic Big octets || is_magic Little octets)
 
 abbrev pub major : Order → List ℕ → ℕ
 major Big octets = field16 octets 4
