@@ -219,24 +219,22 @@ stops_record w left' written' told' octets c is consumes link number (fault.Octe
 stops_record w left' written' told' octets c is consumes link number fault.CannotRead stops = absurd stops
 stops_record w left' written' told' octets c is consumes link number fault.CannotWrite stops =
     writes_front w left' written' told' octets c is consumes link number stops
-stops_record {passed = passed} w left' written' told' octets c is consumes link number fault.OutOfMemory (kept, quiet) =
-    let long = is.long in
-    let most = is.most in (
-      passed,
-      record {
-        records = w.records;
-        read = w.read;
-        part = octets;
-        log = w.log;
-        notes = w.notes;
-        are_records = w.are_records;
-        sorts = w.sorts;
-        consumed = Consumes-trans _ _ _ _ _ (rw (w.is_part.none, append-nil w.read) at w.consumed) consumes;
-        is_part = omega (arith, long, most);
-        wrote = Appends-kept _ _ _ _ w.wrote kept;
-        tells = Appends-kept _ _ _ _ w.tells quiet;
-      },
-    )
+stops_record {passed = passed} w left' written' told' octets c is consumes link number fault.OutOfMemory (kept, quiet) = (
+  passed,
+  record {
+    records = w.records;
+    read = w.read;
+    part = octets;
+    log = w.log;
+    notes = w.notes;
+    are_records = w.are_records;
+    sorts = w.sorts;
+    consumed = Consumes-trans _ _ _ _ _ (rw (w.is_part.none, append-nil w.read) at w.consumed) consumes;
+    is_part = (record_from c, is);
+    wrote = Appends-kept _ _ _ _ w.wrote kept;
+    tells = Appends-kept _ _ _ _ w.tells quiet;
+  },
+)
 
 -- ---- the whole
 

@@ -1,13 +1,13 @@
 -- The log of a capture: a line for each datagram, in the order of the records. Each other record is told in a line of its own, or
 -- counted by its reason.
-use Rattle.std.specs.Prelude.{◌≡◌, ◌⊎◌, ⊤, ℕ, ◌+◌, ◌<◌, ◌≤◌, ◌==◌, ◌||◌, nat_le, Bool, true, false, List, [], ◌∷◌, ◌++◌, length, codes, Option, Some, decimal}
+use Rattle.std.specs.Prelude.{◌≡◌, ◌⊎◌, ℕ, ◌+◌, ◌<◌, ◌≤◌, ◌==◌, ◌||◌, nat_le, Bool, true, false, List, [], ◌∷◌, ◌++◌, length, codes, Option, Some, decimal}
 use Rattle.std.specs.List.{list_any}
 use Rattle.std.specs.Io.KnownBytes.{Appends, Consumes, IsAtEnd, Keeps}
 use Rattle.hex.specs.Hex.{encode_lower}
 use Rattle.snmpsec_streams.specs.Transfer.{WritesFront}
 use Rattle.snmpsec_capture.specs.Packet.{IsFound}
 use Rattle.snmpsec_capture.specs.Passed.{none_passed, one_more}
-use Rattle.snmpsec_capture.specs.Pcap.{Record, IsHeader, IsHeaderFault, AreRecords, HasNoRecord}
+use Rattle.snmpsec_capture.specs.Pcap.{Record, IsHeader, IsHeaderFault, IsRecord, AreRecords, HasNoRecord}
 use Rattle.snmpsec_capture.specs.declared.pcap.Header.{Header}
 use Rattle.snmpsec_capture.specs.declared.packet.Found.{Found}
 use Rattle.snmpsec_capture.specs.declared.packet.Found.TheVariants as found
@@ -148,12 +148,12 @@ pub record WriteFails (ports : List ℕ) (h : Header) (s : Streams) : Type 0 whe
   pub consumed : Consumes s.unread s.left read
   pub stops : StopsWriting s.held s.written log s.untold s.told notes
 
--- what is done behind the header where it stops with a fault
+-- What is done behind the header where it stops with a fault. A read fails before a record is whole, and memory may be wanted for what a record comes to.
 abbrev pub StopsRecords : List ℕ → Header → Streams → CaptureFault → Type 0
 StopsRecords ports h s (fault.Octet place) = (passed : Passed) × Stands ports h s (IsBad h s.left place) passed
-StopsRecords ports h s fault.CannotRead = (passed : Passed) × Stands ports h s (λ records read part. length part ≤ 262160) passed
+StopsRecords ports h s fault.CannotRead = (passed : Passed) × Stands ports h s (λ records read part. HasNoRecord h.order part × (length part ≤ 262160)) passed
 StopsRecords ports h s fault.CannotWrite = WriteFails ports h s
-StopsRecords ports h s fault.OutOfMemory = (passed : Passed) × Stands ports h s (λ records read part. length part ≤ 262160) passed
+StopsRecords ports h s fault.OutOfMemory = (passed : Passed) × Stands ports h s (λ records read part. (r : Record) × IsRecord h.order part r) passed
 
 -- what was read of the header, where it is at fault
 abbrev pub IsBadHeader : Option (List ℕ) → ℕ → List ℕ → Type 0
@@ -170,9 +170,9 @@ pub record StopsEarly (s : Streams) (IsPart : List ℕ → Type 0) : Type 0 wher
 
 abbrev pub CannotBegin : Streams → CaptureFault → Type 0
 CannotBegin s (fault.Octet place) = StopsEarly s (IsBadHeader s.left place)
-CannotBegin s fault.CannotRead = StopsEarly s (λ part. ⊤)
+CannotBegin s fault.CannotRead = StopsEarly s (λ part. length part < 24)
 CannotBegin s fault.CannotWrite = ⊥
-CannotBegin s fault.OutOfMemory = StopsEarly s (λ part. ⊤)
+CannotBegin s fault.OutOfMemory = StopsEarly s (λ part. (h : Header) × IsHeader part h)
 
 -- the header was read, and what is left then
 pub record HasBegun (unread left : Option (List ℕ)) (h : Header) : Type 0 where

@@ -1,5 +1,5 @@
 -- A capture in the format of libpcap: a header, and records of a header and a packet each. All numbers are in one order.
-use Rattle.std.specs.Prelude.{◌≡◌, ◌≢◌, ◌⊎◌, ℕ, ◌+◌, ◌*◌, ◌<◌, ◌≤◌, ◌==◌, ◌||◌, Bool, true, false, List, [], ◌∷◌, ◌++◌, length, take, drop, slice_index, Option, Some}
+use Rattle.std.specs.Prelude.{◌≡◌, ◌≢◌, ◌⊎◌, ℕ, ◌+◌, ◌*◌, ◌<◌, ◌≤◌, ◌==◌, ◌&&◌, ◌||◌, nat_le, Bool, true, false, List, [], ◌∷◌, ◌++◌, length, take, drop, slice_index, Option, Some}
 use Rattle.std.specs.Io.KnownBytes.{Consumes, IsAtEnd}
 use Rattle.snmpsec_capture.specs.Field.{field16, field32}
 use Rattle.snmpsec_capture.specs.declared.field.Order.{Order}
@@ -14,6 +14,10 @@ use Rattle.snmpsec_capture.specs.declared.pcap.Next.TheVariants as next
 -- it begins with a1b2c3d4, for microseconds, or with a1b23c4d, for nanoseconds
 abbrev pub is_magic : Order → List ℕ → Bool
 is_magic order octets = (field32 order octets 0 == 2712847316) || (field32 order octets 0 == 2712812621)
+
+-- the octets begin as a capture does
+abbrev pub begins_capture : List ℕ → Bool
+begins_capture octets = nat_le 4 (length octets) && (is_magic Big octets || is_magic Little octets)
 
 abbrev pub major : Order → List ℕ → ℕ
 major Big octets = field16 octets 4
@@ -70,9 +74,9 @@ pub record IsHead (order : Order) (octets : List ℕ) (h : Head) : Type 0 where
   pub original : h.original ≡ field32 order octets 12
   pub most : h.size ≤ 262144
 
--- at most a record was read
-abbrev pub ReadsPart : Option (List ℕ) → Option (List ℕ) → Type 0
-ReadsPart old new = (part : List ℕ) × (length part ≤ 262160) × Consumes old new part
+-- less than a record was read
+abbrev pub ReadsPart : Order → Option (List ℕ) → Option (List ℕ) → Type 0
+ReadsPart order old new = (part : List ℕ) × HasNoRecord order part × (length part ≤ 262160) × Consumes old new part
 
 -- the record that a header and a room of which the packet is the front make
 abbrev pub record_of : Head → List ℕ → Record

@@ -1,9 +1,9 @@
 //! The datagrams of a capture, as the lines of a log.
 
-ghost use Rattle.std.specs.Prelude.{◌≡◌, List, ℕ, Option, length, IfOk, IfErr, IfSome, string_bytes};
-ghost use Rattle.std.specs.Io.KnownBytes.{Appends};
+ghost use Rattle.std.specs.Prelude.{◌≡◌, ◌<◌, ◌≤◌, List, ℕ, Option, length, IfOk, IfErr, IfSome, string_bytes};
+ghost use Rattle.std.specs.Io.KnownBytes.{Appends, Consumes, IsAtEnd};
 ghost use Rattle.snmpsec_capture.specs.Passed.{IsBelow};
-ghost use Rattle.snmpsec_capture.specs.Datagrams.{CannotBegin, HasBegun, IsEnd, IsLogOf, IsSorted, Stands, StopsBy, StopsRecord, StopsRecords, WritesRecord, log_line, note_line, told_word};
+ghost use Rattle.snmpsec_capture.specs.Datagrams.{IsEnd, IsLogOf, IsSorted, Stands, StopsBy, StopsRecord, StopsRecords, WritesRecord, log_line, note_line, told_word};
 
 use crate::fault::CaptureFault;
 use crate::packet::{Found, find_datagram};
@@ -75,9 +75,9 @@ fn told_word(why: Telling) -> &'static str
     }
 }
 
-/// The line of a log for a datagram.
+/// The line of a log for a datagram, `MOMENT HEX` and a line feed, with the moment in decimal and two small hex digits an octet.
 #[tactic(auto, unfolding(crate::specs::Datagrams::log_line))]
-fn log_line(alloc: Global, moment: u32, datagram: &[u8]) -> Result<String, AllocError>
+pub fn log_line(alloc: Global, moment: u64, datagram: &[u8]) -> Result<String, AllocError>
     ensures { IfOk result (λ text. string_bytes text ≡ log_line moment datagram.now) }
 {
     let digits = hex::encode(alloc, datagram)?;
@@ -197,28 +197,6 @@ fn write_records<R: Read, L: Write, N: Write>(
     Err(CaptureFault::Octet(place))
 }
 
-/// Reads the header of a capture.
-fn begin<R: Read>(reader: &mut R) -> Result<Header, CaptureFault>
-    ensures ok { IfOk result (HasBegun (R.remaining reader.old) (R.remaining reader.new)) }
-    ensures err { (same told : Option (List ℕ)) → IfErr result (CannotBegin record {
-      unread = R.remaining reader.old;
-      left = R.remaining reader.new;
-      held = same;
-      written = same;
-      untold = told;
-      told = told;
-    }) }
-{
-    let mut octets = [0u8; HEADER];
-    let Ok(count) = read_full(reader, &mut octets) else {
-        return Err(CaptureFault::CannotRead);
-    };
-    match read_header(&octets[..count]) {
-        Ok(header) => Ok(header),
-        Err(place) => Err(CaptureFault::Octet(place)),
-    }
-}
-
 /// Writes the datagrams of a capture in the format of libpcap as a log, a line `MOMENT HEX` for each, and counts or tells what
 /// isn't in the log: `notes` gets a line `snmpsec: record N: REASON` for each piece of a datagram, each that was cut short when it
 /// was captured, each of a length that can't be and each that is empty; what else is no datagram from or to one of these ports is
@@ -249,12 +227,43 @@ pub fn write_datagrams<R: Read, L: Write, N: Write>(
       told = N.contents notes.new;
     }) }
 {
+    let mut octets = [0u8; HEADER];
+    let Ok(count) = read_full(reader, &mut octets) else {
+        return Err(CaptureFault::CannotRead);
+    };
+    write_datagrams_behind(alloc, &octets[..count], ports, reader, log, notes)
+}
+
+/// The same for a capture of which the first 24 octets were read, or all where it has fewer.
+pub fn write_datagrams_behind<R: Read, L: Write, N: Write>(
+    alloc: Global,
+    front: &[u8],
+    ports: &[u16],
+    reader: &mut R,
+    log: &mut L,
+    notes: &mut N,
+) -> Result<Passed, CaptureFault>
+    requires short { length front.now ≤ 24 }
+    requires end { length front.now < 24 → IsAtEnd (R.remaining reader.old) }
+    ensures ok { (unread : Option (List ℕ)) → Consumes unread (R.remaining reader.old) front.now
+        → IfOk result (λ passed. IfSome unread (λ capture. (lines : List ℕ) × (tells : List ℕ)
+        × IsLogOf ports.now capture lines tells passed
+        × Appends (L.contents log.old) (L.contents log.new) lines × Appends (N.contents notes.old) (N.contents notes.new) tells)) }
+    ensures err { (unread : Option (List ℕ)) → Consumes unread (R.remaining reader.old) front.now → IfErr result (StopsBy ports.now record {
+      unread = unread;
+      left = R.remaining reader.new;
+      held = L.contents log.old;
+      written = L.contents log.new;
+      untold = N.contents notes.old;
+      told = N.contents notes.new;
+    }) }
+{
+    let header = match read_header(front) {
+        Ok(header) => header,
+        Err(place) => return Err(CaptureFault::Octet(place)),
+    };
     let Ok(mut room) = vec![in alloc; 0u8; LARGEST] else {
         return Err(CaptureFault::OutOfMemory);
-    };
-    let header = match begin(reader) {
-        Ok(header) => header,
-        Err(fault) => return Err(fault),
     };
     write_records(
         alloc,

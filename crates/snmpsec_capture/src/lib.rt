@@ -8,7 +8,8 @@ mod packet;
 mod passed;
 mod pcap;
 
-pub use datagrams::write_datagrams;
+pub use datagrams::{log_line, write_datagrams, write_datagrams_behind};
 pub use fault::CaptureFault;
 pub use packet::{Found, find_datagram};
 pub use passed::Passed;
+pub use pcap::{HEADER, begins_capture};

@@ -2,14 +2,14 @@
 
 ghost use Rattle.std.specs.Prelude.{◌≡◌, true, false, ◌<◌, ◌≤◌, length, IfOk, IfErr, IfSome, IfNone, OnErr};
 ghost use Rattle.snmpsec_capture.specs.Field.{field32};
-ghost use Rattle.snmpsec_capture.specs.Pcap.{IsHead, IsHeader, IsHeaderFault, IsNext, ReadsPart, is_magic, major};
+ghost use Rattle.snmpsec_capture.specs.Pcap.{IsHead, IsHeader, IsHeaderFault, IsNext, ReadsPart, begins_capture, is_magic, major};
 
 use crate::field::{Order, read_16, read_32};
 use snmpsec_streams::{Failed, read_full};
 use std::io::Read;
 
-/// How many octets the header of a capture has.
-pub(crate) const HEADER: usize = 24;
+/// How many octets the header of a capture has, 24.
+pub const HEADER: usize = 24;
 
 /// How many octets the header of a record has.
 pub(crate) const HEAD: usize = 16;
@@ -36,7 +36,7 @@ pub(crate) struct Header {
 #[derive(Clone, Copy, Debug, PartialEq, Eq)]
 pub(crate) struct Head {
     /// When it was captured, in whole seconds.
-    pub(crate) moment: u32,
+    pub(crate) moment: u64,
     /// How many octets of it were captured, at most `LARGEST`.
     pub(crate) size: usize,
     /// How many octets it had.
@@ -61,6 +61,13 @@ fn is_magic(order: Order, octets: &[u8]) -> bool
 {
     let number = read_32(order, octets, 0);
     number == MICROSECONDS || number == NANOSECONDS
+}
+
+/// The octets begin as a capture does, with one of the numbers of its format in either order. Four octets are looked at.
+pub fn begins_capture(octets: &[u8]) -> bool
+    ensures { result ≡ begins_capture octets.now }
+{
+    octets.len() >= 4 && (is_magic(Order::Big, octets) || is_magic(Order::Little, octets))
 }
 
 /// The order in which the octets begin with the number of a capture.
@@ -122,7 +129,7 @@ fn read_head(order: Order, octets: &[u8]) -> Option<Head>
         return None;
     }
     Some(Head {
-        moment: read_32(order, octets, 0),
+        moment: u64::from(read_32(order, octets, 0)),
         size,
         original: read_32(order, octets, 12),
     })
@@ -137,7 +144,7 @@ pub(crate) fn read_record<R: Read>(
     requires { length room.old ≡ 262144 }
     ensures room { length room.new ≡ 262144 }
     ensures ok { IfOk result (IsNext order room.new (R.remaining reader.old) (R.remaining reader.new)) }
-    ensures err { OnErr result (ReadsPart (R.remaining reader.old) (R.remaining reader.new)) }
+    ensures err { OnErr result (ReadsPart order (R.remaining reader.old) (R.remaining reader.new)) }
 {
     let mut octets = [0u8; HEAD];
     let Ok(count) = read_full(reader, &mut octets) else {

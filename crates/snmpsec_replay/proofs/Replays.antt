@@ -9,7 +9,7 @@ use Rattle.snmp_manager.specs.Views.{Held}
 use Rattle.snmp_manager.specs.Runs.{TakesOne}
 use Rattle.snmpsec_replay.specs.Log.{LogEntry, IsLine, IsLineAt, AreLines, HasNoLine}
 use Rattle.snmpsec_streams.specs.Transfer.{WritesFront}
-use Rattle.snmpsec_replay.specs.Replay.{printed_line, Answers, ReplayText, Streams, Stands, Waits, IsLinePart, IsEnd, IsBad, WriteFails, StopsBy, Ends, SavesUnless, WritesSome}
+use Rattle.snmpsec_replay.specs.Replay.{printed_line, Answers, ReplayText, Streams, Stands, Waits, IsLinePart, IsEnd, IsBad, MayWant, WriteFails, StopsBy, Ends, SavesUnless, WritesSome}
 use Rattle.snmpsec_replay.specs.declared.fault.ReplayFault.{ReplayFault}
 use Rattle.snmpsec_replay.specs.declared.fault.ReplayFault.TheVariants as fault
 use Rattle.snmpsec_replay.specs.declared.printing.Printing.{Printing}
@@ -174,12 +174,20 @@ part_none part e = ([], tt, inl e)
 pub part_plain : (part : List ℕ) → Lacks 10 part → IsLinePart part
 part_plain part h = (part, h, inl refl)
 
-pub part_line : (line : List ℕ) → Lacks 10 line → IsLinePart (line ++ 10 ∷ [])
+part_line : (line : List ℕ) → Lacks 10 line → IsLinePart (line ++ 10 ∷ [])
 part_line line h = (line, h, inr refl)
 
 pub part_octet : (x : ℕ) → (x ≡ 10) ⊎ (x ≡ 10 → ⊥) → IsLinePart (x ∷ [])
 part_octet x (inl e) = ([], tt, inr (ap (λ y. y ∷ []) e))
 part_octet x (inr n) = (x ∷ [], (n, tt), inl refl)
+
+wanted_part : (left : Option (List ℕ)) (es : List LogEntry) (part : List ℕ) → MayWant left es part → IsLinePart part
+wanted_part left es part (inl none) = part_none part none.0
+wanted_part left es part (inr (line, lacks, is)) = (line, lacks, inr is)
+
+pub none_taken : (es : List LogEntry) → 0 ≡ length es → es ≡ []
+none_taken [] n = refl
+none_taken (e ∷ es) n = absurd (omega (arith, n))
 
 pub bad_front : (p : Printing) (left : Option (List ℕ)) (k : ℕ) (part : List ℕ) → Lacks 10 part → (131072 < length part) ⊎ ((0 < length part) × IsAtEnd left)
     → (es : List LogEntry) → k ≡ length es → IsBad p left (p.first + k) es part
@@ -232,7 +240,7 @@ save_fails {now = now} s written' fault.OutOfMemory k = (
   now,
   record {
     text = s.text;
-    reads = record { read = s.reads.read; part = s.reads.part; replays = s.reads.replays; consumed = s.reads.consumed; is_part = part_none _ s.reads.is_part.0 };
+    reads = record { read = s.reads.read; part = s.reads.part; replays = s.reads.replays; consumed = s.reads.consumed; is_part = inl (s.reads.is_part.0, inr s.reads.is_part.1) };
     wrote = Appends-kept _ _ _ _ s.wrote k;
   },
 )
@@ -243,7 +251,7 @@ pub ends_write_fails : (p : Printing) (begin now : Held) (unread left held writt
 ends_write_fails p begin now unread left held written waiting ending.Whole h written' w = write_fails h (λ es part is. part_none part is.0) written' w
 ends_write_fails p begin now unread left held written waiting (ending.LogLine n) h written' w = write_fails h.1 (λ es part is. is.line) written' w
 ends_write_fails p begin now unread left held written waiting ending.CannotRead h written' w = write_fails h.1 (λ es part is. part_plain part is) written' w
-ends_write_fails p begin now unread left held written waiting ending.OutOfMemory h written' w = write_fails h.1 (λ es part is. is) written' w
+ends_write_fails p begin now unread left held written waiting ending.OutOfMemory h written' w = write_fails h.1 (λ es part is. wanted_part left es part is) written' w
 
 -- ---- one octet
 

@@ -107,12 +107,16 @@ pub record WriteFails (p : Printing) (begin : Held) (s : Streams) : Type 0 where
   pub front : (Reads p begin s (λ es part. IsLinePart part) text after × WritesFront s.held s.written text)
       ⊎ (Reads p begin s (IsEnd s.left) text after × WritesFront s.held s.written (text ++ listing after.clocks))
 
+-- memory may be wanted before anything is read, behind a whole line, and at the end
+abbrev pub MayWant : Option (List ℕ) → List LogEntry → List ℕ → Type 0
+MayWant left es part = ((part ≡ []) × ((es ≡ []) ⊎ IsAtEnd left)) ⊎ ((line : List ℕ) × Lacks 10 line × (part ≡ line ++ 10 ∷ []))
+
 -- what a replay by the manager `begin` has done where it stops with a fault
 abbrev pub StopsBy : Printing → Held → Streams → ReplayFault → Type 0
 StopsBy p begin s (fault.LogLine n) = (after : Held) × Stands p begin s (IsBad p s.left n) after
 StopsBy p begin s fault.CannotRead = (after : Held) × Stands p begin s (λ es part. Lacks 10 part) after
 StopsBy p begin s fault.CannotWrite = WriteFails p begin s
-StopsBy p begin s fault.OutOfMemory = (after : Held) × Stands p begin s (λ es part. IsLinePart part) after
+StopsBy p begin s fault.OutOfMemory = (after : Held) × Stands p begin s (MayWant s.left) after
 
 -- ---- between the functions
 
@@ -129,7 +133,7 @@ abbrev pub Ends : Printing → Held → Held → Streams → List ℕ → Ending
 Ends p begin now s waiting ending.Whole = Waits p begin s waiting (IsEnd s.left) now
 Ends p begin now s waiting (ending.LogLine n) = (after : Held) × Waits p begin s waiting (IsBad p s.left n) after
 Ends p begin now s waiting ending.CannotRead = (after : Held) × Waits p begin s waiting (λ es part. Lacks 10 part) after
-Ends p begin now s waiting ending.OutOfMemory = (after : Held) × Waits p begin s waiting (λ es part. IsLinePart part) after
+Ends p begin now s waiting ending.OutOfMemory = (after : Held) × Waits p begin s waiting (MayWant s.left) after
 
 -- what one line does to the manager and to what is not yet written
 abbrev pub AnswersLine : Bool → Held → ℕ → List ℕ → List ℕ → Held → List ℕ → Step → Type 0

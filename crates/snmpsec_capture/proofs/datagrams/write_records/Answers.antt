@@ -13,7 +13,7 @@ loop-number-init g c = record {
 pub returns-in_default-clause-err : goal.returns-in_default-clause-err
 returns-in_default-clause-err g c =
     let part = c.in_default.ensures.err in
-    (c.loop-number.passed, reads_part c.loop-number.invariant.stands _ _ part.0 part.2 (λ records read n at. part.1))
+    (c.loop-number.passed, reads_part c.loop-number.invariant.stands _ _ part.0 part.3 (λ records read n at. (part.1, part.2)))
 
 pub returns-in-End-clause-ok : goal.returns-in-End-clause-ok
 returns-in-End-clause-ok g c =

@@ -1,8 +1,21 @@
-use Rattle.std.proofs.Common.{◌++◌, take, drop, arith, subst, ◌∙◌, take_all, length-append, length-take-le}
+use Rattle.std.proofs.Common.{◌++◌, [], take, drop, arith, subst, refl, ◌∙◌, take_all, append-nil, length-append, length-take-le}
 use Rattle.std.specs.Io.KnownBytes.{Consumes}
 use Rattle.std.proofs.KnownBytes.{Consumes-trans}
-use Rattle.snmpsec_capture.proofs.Records.{none_large, none_cut, is_record}
+use Rattle.snmpsec_capture.specs.Pcap.{HasNoRecord}
+use Rattle.snmpsec_capture.proofs.Records.{none_large, none_cut, none_short, is_record}
 use Rattle.snmpsec_capture.proofs.pcap.read_record.Goals as goal
+
+pub returns-in_default-clause-err : goal.returns-in_default-clause-err
+returns-in_default-clause-err g c =
+    let err = c.in_default.ensures.err in
+    let room = c.in_default.ensures.room in
+    let within = err.1 in
+    let part = length-take-le err.0 c.read_full.new.buf (omega (arith, within)) in (
+      take err.0 c.read_full.new.buf,
+      subst (HasNoRecord c.args.order) (append-nil _) (none_short c.args.order (take err.0 c.read_full.new.buf) [] (omega (arith, part, within, room)) refl),
+      omega (arith, part, within, room),
+      err.2,
+    )
 
 pub returns-in_default-read_head-clause-ok : goal.returns-in_default-read_head-clause-ok
 returns-in_default-read_head-clause-ok g c =
@@ -20,10 +33,13 @@ returns-in_default-read_full-clause-err g c =
     let most = c.in-Some.ensures.found.most in
     let room = c.in_default-read_full.ensures.room ∙ length-take-le c.in-Some.head.size c.args.room.now (omega (arith, most, c.requires)) in
     let err = c.in_default-read_full.ensures.err in
-    let part = length-take-le err.0 c.read_full-2.new.buf err.1 in
+    let within = err.1 in
+    let said = c.in-Some.ensures.found.size in
+    let part = length-take-le err.0 c.read_full-2.new.buf (omega (arith, within)) in
     let whole = length-append c.read_full.new.buf (take err.0 c.read_full-2.new.buf) in (
       c.read_full.new.buf ++ take err.0 c.read_full-2.new.buf,
-      (let within = err.1 in omega (arith, long, most, room, within, part, whole)),
+      subst (HasNoRecord c.args.order) (append-nil _) (none_cut c.args.order c.read_full.new.buf (take err.0 c.read_full-2.new.buf) [] long (omega (arith, part, said, room, within)) refl),
+      omega (arith, long, most, room, within, part, whole),
       Consumes-trans _ _ _ _ _ (subst (Consumes _ _) (take_all c.in-Ok.count c.read_full.new.buf (omega (arith, long, c.if-count-lt-HEAD.false))) c.in-Ok.ensures.ok) err.2,
     )
 
