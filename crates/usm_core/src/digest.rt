@@ -10,14 +10,12 @@ ghost use Rattle.usm_users.specs.Users.{user_named};
 ghost use Rattle.usm_core.specs.Cache.{AreCached, localised_to};
 ghost use Rattle.usm_core.specs.Authentic.{IsMac};
 ghost use Rattle.usm_core.specs.Sealed.{SendingFits, spelled_with, digest_of};
-ghost use Rattle.usm_core.specs.Writing.{sending_of, IsSecured, FieldAt};
+ghost use Rattle.usm_core.specs.Writing.{sending_of};
 
 use crate::cache::{KeyCache, Purpose};
 use crate::cached_key::CachedKey;
-use crate::spell::Outgoing;
-use snmp_message::{
-    Data, Message, Security, cut, field_filled, one_cut, read_message, read_security,
-};
+use crate::spell::{Outgoing, code_place};
+use snmp_message::{Data, Message, Security, cut, field_filled, one_cut};
 use usm_keys::{KeptKey, Key, localise};
 use usm_users::User;
 
@@ -92,20 +90,6 @@ pub(crate) fn is_digest_right(
     right
 }
 
-/// The place of the content of msgAuthenticationParameters.
-pub(crate) fn field_place(text: &[u8]) -> usize
-    requires { IsSecured text.now }
-    ensures { FieldAt text.now result }
-{
-    let Ok(message) = read_message(text) else {
-        unreachable!();
-    };
-    let Ok(security) = read_security(text, &message) else {
-        unreachable!();
-    };
-    security.auth_at
-}
-
 /// Puts the code of the text, with `size` zeros at this place, there, under a localised key.
 fn put_code(text: &mut Vec<u8>, at: usize, size: usize, local: &KeptKey)
     requires size { size ≡ mac_octets local.now.auth }
@@ -131,12 +115,11 @@ pub(crate) fn fill(
     requires fits { SendingFits (sending_of outgoing.now) }
     requires text { text.old.items ≡ spelled_with (sending_of outgoing.now) (tag_of body.now) (content_of body.now) (replicate (mac_octets key.now.auth) 0) }
     requires size { length text.old.items ≤ LARGEST }
-    requires secured { IsSecured text.old.items }
     ensures filled { text.new.items ≡ spelled_with (sending_of outgoing.now) (tag_of body.now) (content_of body.now) (digest_of key.now (sending_of outgoing.now) (tag_of body.now) (content_of body.now)) }
     ensures length { length text.new.items ≡ length text.old.items }
 {
     field_filled();
     let size = key.auth().mac_octets();
-    let at = field_place(text);
+    let at = code_place(text, outgoing, body.content().len(), size);
     put_code(text, at, size, local);
 }
