@@ -1,4 +1,4 @@
-use Rattle.std.proofs.Common.{◌≡◌, ℕ, ◌+◌, ◌-◌, ◌≤◌, List, [], length, sym, ap, ◌∙◌, arith}
+use Rattle.std.proofs.Common.{◌≡◌, ℕ, ◌+◌, [], length, sym, ap, ◌∙◌, arith}
 use Rattle.std.specs.Prelude.{if◌then◌else◌}
 use Rattle.snmp_ber.specs.Spelling.{head_size, element}
 use Rattle.snmp_message.proofs.Writes.{element-length}
