@@ -63,7 +63,7 @@ front_of_field : Header → Fields → ℕ → ℕ → ℕ → ℕ → List ℕ
 front_of_field h s message security fields auth =
     head_of 48 message ++ (number 3 ++ (element 48 (header_text h) ++ (head_of 4 security ++ (head_of 48 fields ++ (element 4 s.engine ++ (number s.boots ++ (number s.time ++ (element 4 s.user ++ head_of 4 auth))))))))
 
-front_of_text : Header → Fields → ℕ → List ℕ → List ℕ
+pub front_of_text : Header → Fields → ℕ → List ℕ → List ℕ
 front_of_text h s tag content = front_of_field h s (length (content_text h (security_text s) tag content)) (length (security_text s)) (length (fields_text s)) (length s.auth)
 
 cut_lists : (h n g i j e b t u k auth salt content : List ℕ)
@@ -94,7 +94,7 @@ same_element : (tag : ℕ) (a b : List ℕ) → length a ≡ length b → length
 same_element tag a b same = length-append (head_of tag (length a)) a ∙ rw same (sym (length-append (head_of tag (length b)) b))
 
 -- A message that was written, cut at the field.
-cut_text : (h : Header) (s : Fields) (tag : ℕ) (content : List ℕ) → message_text h (security_text s) tag content ≡ front_of_text h s tag content ++ (s.auth ++ (element 4 s.salt ++ element tag content))
+pub cut_text : (h : Header) (s : Fields) (tag : ℕ) (content : List ℕ) → message_text h (security_text s) tag content ≡ front_of_text h s tag content ++ (s.auth ++ (element 4 s.salt ++ element tag content))
 unfolding message_text content_text security_text fields_text front_of_text front_of_field
 cut_text h s tag content =
     cut_lists (head_of 48 (length (content_text h (security_text s) tag content))) (number 3) (element 48 (header_text h)) (head_of 4 (length (security_text s))) (head_of 48 (length (fields_text s)))
@@ -128,7 +128,7 @@ same_message h s tag content auth same =
     let t = same_content h s tag content auth same in
     length-append (head_of 48 (length (content_text h (security_text (with_auth auth s)) tag content))) (content_text h (security_text (with_auth auth s)) tag content) ∙ rw t (sym (length-append (head_of 48 (length (content_text h (security_text s) tag content))) (content_text h (security_text s) tag content)))
 
-same_front : (h : Header) (s : Fields) (tag : ℕ) (content auth : List ℕ) → length auth ≡ length s.auth → front_of_text h (with_auth auth s) tag content ≡ front_of_text h s tag content
+pub same_front : (h : Header) (s : Fields) (tag : ℕ) (content auth : List ℕ) → length auth ≡ length s.auth → front_of_text h (with_auth auth s) tag content ≡ front_of_text h s tag content
 unfolding front_of_text front_of_field
 same_front h s tag content auth same =
     let a = same_content h s tag content auth same in

@@ -1,3 +1,4 @@
 pub mod Rows
 pub mod Determined
 pub mod Replays
+pub mod Placed

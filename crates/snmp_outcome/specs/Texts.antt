@@ -1,7 +1,8 @@
 -- Octets that begin with a ScopedPDU.
-use Rattle.std.specs.Prelude.{◌≡◌, ℕ, List}
-use Rattle.snmp_message.specs.Scoped.{Contexts, ScopedFront}
-use Rattle.snmp_msg.specs.Pdu.{PduParts, PduText}
+use Rattle.std.specs.Prelude.{◌≡◌, ◌≤◌, ℕ, ℤ, List, length, slice_range, Option, Some, option_map, option_and_then}
+use Rattle.snmp_message.specs.Scoped.{Contexts, ScopedFront, scoped_front_in}
+use Rattle.snmp_msg.specs.Pdu.{PduParts, PduText, pdu_in}
+use Rattle.snmp_outcome.specs.declared.place.PduPlace.{PduPlace}
 use Rattle.snmp_outcome.specs.declared.octets.Octets.{Octets}
 use Rattle.snmp_outcome.specs.declared.octets.Octets.TheVariants.{Borrowed, Owned}
 
@@ -22,3 +23,22 @@ pub record PduOf (text : List ℕ) : Type 0 where
 -- The text begins with a ScopedPDU, whose data is a PDU with this tag.
 abbrev pub HasTag : List ℕ → ℕ → Type 0
 HasTag text tag = (s : FrontOf text) × (p : PduOf s.contexts.pdu) × (p.pdu.tag ≡ tag)
+
+-- ---- where its PDU was found
+
+-- the PDU of the ScopedPDU that the text begins with, as it is read
+abbrev pub pdu_read : List ℕ → Option PduParts
+pdu_read text = option_and_then (λ (c : Contexts). pdu_in c.pdu) (scoped_front_in text)
+
+-- a PDU with this tag, with these numbers and the list at this place
+abbrev pub pdu_placed : List ℕ → ℕ → PduPlace → PduParts
+pdu_placed text tag p = record { tag = tag; id = p.id; second = p.second; third = p.third; list = slice_range text p.list_at p.end }
+
+-- The PDU of the text has this tag, and its numbers and its list are those of the place.
+abbrev pub StandsThere : List ℕ → ℕ → PduPlace → Type 0
+StandsThere text tag p =
+    (option_map (λ (q : PduParts). q.tag) (pdu_read text) ≡ Some tag)
+    × (option_map (λ (q : PduParts). q.id) (pdu_read text) ≡ Some p.id)
+    × (option_map (λ (q : PduParts). q.second) (pdu_read text) ≡ Some p.second)
+    × (option_map (λ (q : PduParts). q.third) (pdu_read text) ≡ Some p.third)
+    × (option_map (λ (q : PduParts). q.list) (pdu_read text) ≡ Some (slice_range text p.list_at p.end))

@@ -4,6 +4,7 @@ ghost use Rattle.std.specs.Prelude.{◌≡◌, IfOk};
 ghost use Rattle.snmp_outcome.specs.Answers.{given_of};
 
 use crate::octets::Octets;
+use crate::place::PduPlace;
 use crate::taken::Taken;
 use engine_clock::EngineId;
 use snmp_ber::Level;
@@ -20,18 +21,20 @@ pub struct Kept {
     max_size: u32,
     tag: u8,
     text: Vec<u8>,
+    pdu: PduPlace,
 }
 
 impl Model for Kept {
     ghost use Rattle.std.specs.Prelude.{◌≤◌, length};
     ghost use Rattle.snmp_outcome.specs.Outcome.{Given};
-    ghost use Rattle.snmp_outcome.specs.Texts.{HasTag};
+    ghost use Rattle.snmp_outcome.specs.Texts.{HasTag, StandsThere};
 
     ghost Value = { Given };
 
     ghost view = { λ k. record { engine = k.engine; user = k.user.items; level = k.level; id = k.id; max_size = k.max_size; tag = k.tag; text = k.text.items } };
 
-    ghost invariant = { λ k. (length k.user.items ≤ 32) × (k.id ≤ 2147483647) × (484 ≤ k.max_size) × (k.max_size ≤ 2147483647) × ∥ HasTag k.text.items k.tag ∥₁ };
+    ghost invariant = { λ k. (length k.user.items ≤ 32) × (k.id ≤ 2147483647) × (484 ≤ k.max_size) × (k.max_size ≤ 2147483647) × ∥ HasTag k.text.items k.tag ∥₁
+        × StandsThere k.text.items k.tag k.pdu × (k.pdu.list_at ≤ k.pdu.end) × (k.pdu.end ≤ length k.text.items) };
 }
 
 impl Kept {
@@ -50,6 +53,7 @@ impl Kept {
             max_size: taken.max_size,
             tag: taken.tag,
             text: taken.text.as_slice().to_vec(alloc)?,
+            pdu: taken.pdu,
         })
     }
 
@@ -68,6 +72,7 @@ impl Kept {
             max_size: self.max_size,
             tag: self.tag,
             text: Octets::Borrowed(self.text.as_slice()),
+            pdu: self.pdu,
         }
     }
 }

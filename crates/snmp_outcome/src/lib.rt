@@ -6,6 +6,7 @@ mod fault;
 mod kept;
 mod laws;
 mod octets;
+mod place;
 mod reading;
 mod taken;
 

@@ -8,12 +8,13 @@ ghost use Rattle.snmp_message.specs.Level.{level_of};
 ghost use Rattle.usm_users.specs.Users.{HasUserAt};
 ghost use Rattle.usm_core.specs.Verified.{IsReadAs};
 ghost use Rattle.usm_core.specs.Answers.{verified_of};
-ghost use Rattle.snmp_outcome.specs.Texts.{text_of, HasTag};
+ghost use Rattle.snmp_outcome.specs.Texts.{text_of, HasTag, StandsThere};
 ghost use Rattle.snmp_outcome.specs.Outcome.{ReadsText};
 ghost use Rattle.snmp_outcome.specs.Answers.{answer_of, IsOpening, RefusesText};
 
 use crate::fault::TakeFault;
 use crate::octets::Octets;
+use crate::place::PduPlace;
 use crate::taken::Taken;
 use engine_clock::EngineId;
 use snmp_ber::Level;
@@ -74,8 +75,8 @@ pub fn read_text<'a>(
         Octets::Borrowed(_) => checked.message.data_at,
         Octets::Owned(_) => 0,
     };
-    let tag = match read_tag(text.as_slice(), base) {
-        Ok(tag) => tag,
+    let (tag, pdu) = match read_place(text.as_slice(), base) {
+        Ok(found) => found,
         Err(fault) => return Err(fault),
     };
     Ok(Taken {
@@ -86,12 +87,15 @@ pub fn read_text<'a>(
         max_size: checked.message.header.max_size,
         tag,
         text,
+        pdu,
     })
 }
 
-/// The tag of the PDU of the ScopedPDU that the text begins with. Places count from `base`.
-fn read_tag(text: &[u8], base: usize) -> Result<u8, TakeFault>
-    ensures tag { IfOk result (λ tag. HasTag text.now tag) }
+/// The tag of the PDU of the ScopedPDU that the text begins with, and where it stands. Places of faults count from `base`.
+fn read_place(text: &[u8], base: usize) -> Result<(u8, PduPlace), TakeFault>
+    ensures tag { IfOk result (λ found. HasTag text.now found.0) }
+    ensures stands { IfOk result (λ found. StandsThere text.now found.0 found.1) }
+    ensures within { IfOk result (λ found. (found.1.list_at ≤ found.1.end) × (found.1.end ≤ length text.now)) }
     ensures fault { IfErr result (RefusesText text.now) }
 {
     whole_slice();
@@ -112,5 +116,13 @@ fn read_tag(text: &[u8], base: usize) -> Result<u8, TakeFault>
             });
         }
     };
-    Ok(pdu.tag)
+    let end = scoped.data_at + scoped.pdu.len();
+    let place = PduPlace {
+        id: pdu.id,
+        second: pdu.second,
+        third: pdu.third,
+        list_at: end - pdu.list.len(),
+        end,
+    };
+    Ok((pdu.tag, place))
 }

@@ -1,12 +1,14 @@
 //! Accepted datagrams.
 
 ghost use Rattle.std.specs.Prelude.{◌≤◌, length};
-ghost use Rattle.snmp_outcome.specs.Texts.{text_of, HasTag};
+ghost use Rattle.std.proofs.Props.{props};
+ghost use Rattle.snmp_outcome.specs.Texts.{text_of, HasTag, StandsThere};
 
 use crate::octets::Octets;
+use crate::place::PduPlace;
 use engine_clock::EngineId;
 use snmp_ber::Level;
-use snmp_msg::{Pdu, Scoped, one_content, one_pdu, read_pdu, read_scoped_front, whole_slice};
+use snmp_msg::{Pdu, Scoped, read_scoped_front};
 
 /// An accepted datagram: from whom it is, and its ScopedPDU.
 #[derive(Drop)]
@@ -23,10 +25,13 @@ pub struct Taken<'a> {
     /// The tag of the PDU.
     pub tag: u8,
     pub(crate) text: Octets<'a>,
+    pub(crate) pdu: PduPlace,
     pub ghost user_fits: { length user.now ≤ 32 },
     pub ghost id_fits: { id ≤ 2147483647 },
     pub ghost size_fits: { (484 ≤ max_size) × (max_size ≤ 2147483647) },
     pub ghost is_read: { ∥ HasTag (text_of text) tag ∥₁ },
+    pub ghost stands: { StandsThere (text_of text) tag pdu } by { Prim.hlevel props },
+    pub ghost within: { (pdu.list_at ≤ pdu.end) × (pdu.end ≤ length (text_of text)) },
 }
 
 impl<'a> Taken<'a> {
@@ -44,18 +49,11 @@ impl<'a> Taken<'a> {
         }
     }
 
-    /// The PDU, the data of the ScopedPDU (RFC 3416, section 3). It takes no memory.
+    /// The PDU, the data of the ScopedPDU (RFC 3416, section 3), as it was read when the datagram was taken. It takes no memory.
     pub fn pdu(&self) -> Pdu<'_>
         ensures is_pdu { (c : Contexts) → ScopedFront (text_of self.now.text) c → PduText c.pdu (pdu_of result) }
         ensures tag { result.tag ≡ self.now.tag }
     {
-        one_content();
-        one_pdu();
-        whole_slice();
-        let scoped = self.scoped();
-        match read_pdu(scoped.pdu, 0, scoped.pdu.len()) {
-            Ok(pdu) => pdu,
-            Err(_) => unreachable!(),
-        }
+        self.pdu.lent(self.tag, self.text.as_slice())
     }
 }

@@ -10,3 +10,4 @@ pub mod Sealeds
 pub mod SealedSizes
 pub mod SealedLengths
 pub mod Caching
+pub mod Ends

@@ -1,5 +1,5 @@
 -- How long a sealed text is, by the sizes of its parts.
-use Rattle.std.proofs.Common.{◌≡◌, ℕ, ◌+◌, ◌<◌, ◌≤◌, Bool, true, false, List, [], ◌++◌, length, replicate, refl, sym, ap, subst, ◌∙◌, arith, rules, Option, Some, None}
+use Rattle.std.proofs.Common.{◌≡◌, ℕ, ◌+◌, ◌<◌, ◌≤◌, Bool, true, false, List, [], ◌++◌, length, replicate, refl, sym, ap, ◌∙◌, arith, rules, Option, Some, None}
 use Rattle.std.specs.Prelude.{IsSomeAnd, MatchBool, if◌then◌else◌}
 use Rattle.std.proofs.lemmas.List.{length-append}
 use Rattle.snmp_ber.specs.Element.{IsElement}
@@ -7,18 +7,17 @@ use Rattle.snmp_ber.specs.Spelling.{head_size, element}
 use Rattle.snmp_ber.proofs.Spellings.{element-is}
 use Rattle.snmp_message.specs.declared.header.Header.{Header}
 use Rattle.snmp_message.specs.Security.{Fields, FieldsFit, fields_text, security_text}
-use Rattle.snmp_message.specs.Spelling.{HeaderFits, number, content_size, message_text}
+use Rattle.snmp_message.specs.Spelling.{HeaderFits, number, message_text}
 use Rattle.snmp_message.proofs.Writes.{element-length, message_text-size}
-use Rattle.engine_clock.specs.Pairs.{BootsAndTime}
 use Rattle.usm_keys.specs.AuthKey.{AuthKey}
 use Rattle.usm_keys.specs.Keys.{kul}
 use Rattle.usm_keys.specs.Protocols.{hash_of, mac_octets}
 use Rattle.usm_keys.proofs.Sizes.{length-mac}
 use Rattle.usm_users.specs.User.{User}
 use Rattle.usm_users.specs.Users.{user_named}
-use Rattle.usm_core.specs.Sealed.{Sending, sending, SealedText, IsSentData, IsSentText, sent_fields, spelled_with, digest_of}
+use Rattle.usm_core.specs.Sealed.{Sending, SealedText, IsSentData, IsSentText, sent_fields, spelled_with, digest_of}
 use Rattle.usm_core.specs.Sizes.{data_size, whole_size}
-use Rattle.usm_core.proofs.SealedSizes.{by_bool, from_some}
+use Rattle.usm_core.proofs.SealedSizes.{from_some}
 
 -- ---- security parameters
 

@@ -1,8 +1,8 @@
 //! The digest of a message (RFC 3414, sections 6.3 and 7.3): whether it is right, and putting it in its place.
 
-ghost use Rattle.std.specs.Prelude.{◌≡◌, ◌+◌, ◌≤◌, ◌↔◌, ◌++◌, vec_len, replicate, take, drop, length, IsTrue, IsSomeAnd, IfSome, Some, None, List, true};
+ghost use Rattle.std.specs.Prelude.{◌≡◌, ℕ, ◌+◌, ◌≤◌, ◌↔◌, ◌++◌, vec_len, replicate, take, drop, length, IsTrue, IsSomeAnd, IfSome, Some, None, List, true};
 ghost use Rattle.snmp_message.specs.declared.message.TheConstants.{LARGEST};
-ghost use Rattle.snmp_message.specs.Message.{parts, tag_of, content_of};
+ghost use Rattle.snmp_message.specs.Message.{parts};
 ghost use Rattle.snmp_message.specs.Security.{IsCut, fields_of};
 ghost use Rattle.usm_keys.specs.Protocols.{mac as mac_by, mac_octets};
 ghost use Rattle.usm_users.specs.User.{User as UserOf};
@@ -10,14 +10,12 @@ ghost use Rattle.usm_users.specs.Users.{user_named};
 ghost use Rattle.usm_core.specs.Cache.{AreCached, localised_to};
 ghost use Rattle.usm_core.specs.Authentic.{IsMac};
 ghost use Rattle.usm_core.specs.Sealed.{SendingFits, spelled_with, digest_of};
-ghost use Rattle.usm_core.specs.Writing.{sending_of, IsSecured, FieldAt};
+ghost use Rattle.usm_core.specs.Writing.{sending_of};
 
 use crate::cache::{KeyCache, Purpose};
 use crate::cached_key::CachedKey;
-use crate::spell::Outgoing;
-use snmp_message::{
-    Data, Message, Security, cut, field_filled, one_cut, read_message, read_security,
-};
+use crate::spell::{Outgoing, code_place};
+use snmp_message::{Message, Security, cut, field_filled, one_cut};
 use usm_keys::{KeptKey, Key, localise};
 use usm_users::User;
 
@@ -92,20 +90,6 @@ pub(crate) fn is_digest_right(
     right
 }
 
-/// The place of the content of msgAuthenticationParameters.
-pub(crate) fn field_place(text: &[u8]) -> usize
-    requires { IsSecured text.now }
-    ensures { FieldAt text.now result }
-{
-    let Ok(message) = read_message(text) else {
-        unreachable!();
-    };
-    let Ok(security) = read_security(text, &message) else {
-        unreachable!();
-    };
-    security.auth_at
-}
-
 /// Puts the code of the text, with `size` zeros at this place, there, under a localised key.
 fn put_code(text: &mut Vec<u8>, at: usize, size: usize, local: &KeptKey)
     requires size { size ≡ mac_octets local.now.auth }
@@ -119,24 +103,25 @@ fn put_code(text: &mut Vec<u8>, at: usize, size: usize, local: &KeptKey)
     text[at..at + size].copy_from_slice(code.as_slice());
 }
 
-/// Puts the code in the place of the zeros, in the text itself, under the key localised to the message's engine.
+/// Puts the code in the place of the zeros, in the text itself, under the key localised to the message's engine. The content of
+/// its msgData has `data_len` octets.
 pub(crate) fn fill(
     text: &mut Vec<u8>,
     key: &Key,
     local: &KeptKey,
     outgoing: &Outgoing<'_>,
-    body: &Data<'_>,
+    data_len: usize,
 )
     requires local { local.now ≡ localised_to outgoing.now.engine.now key.now }
     requires fits { SendingFits (sending_of outgoing.now) }
-    requires text { text.old.items ≡ spelled_with (sending_of outgoing.now) (tag_of body.now) (content_of body.now) (replicate (mac_octets key.now.auth) 0) }
+    requires text { (tag : ℕ) × (content : List ℕ) × (length content ≡ data_len) × (text.old.items ≡ spelled_with (sending_of outgoing.now) tag content (replicate (mac_octets key.now.auth) 0)) }
     requires size { length text.old.items ≤ LARGEST }
-    requires secured { IsSecured text.old.items }
-    ensures filled { text.new.items ≡ spelled_with (sending_of outgoing.now) (tag_of body.now) (content_of body.now) (digest_of key.now (sending_of outgoing.now) (tag_of body.now) (content_of body.now)) }
+    ensures filled { (tag : ℕ) (content : List ℕ) → length content ≡ data_len → text.old.items ≡ spelled_with (sending_of outgoing.now) tag content (replicate (mac_octets key.now.auth) 0)
+        → text.new.items ≡ spelled_with (sending_of outgoing.now) tag content (digest_of key.now (sending_of outgoing.now) tag content) }
     ensures length { length text.new.items ≡ length text.old.items }
 {
     field_filled();
     let size = key.auth().mac_octets();
-    let at = field_place(text);
+    let at = code_place(text, outgoing, data_len, size);
     put_code(text, at, size, local);
 }

@@ -1,6 +1,6 @@
 //! The privacy of a message (RFC 3826, section 3.1).
 
-ghost use Rattle.std.specs.Prelude.{◌≡◌, ◌≢◌, ℕ, List, Some, length, take, IfOk, IfErr, IsErrOf, ◌≤◌, ◌⊎◌};
+ghost use Rattle.std.specs.Prelude.{◌≡◌, ◌≢◌, ℕ, List, ◌++◌, Some, length, take, IfOk, IfErr, IsErrOf, ◌≤◌, ◌⊎◌};
 ghost use Rattle.snmp_ber.specs.declared.level.Level.TheVariants.{AuthPriv};
 ghost use Rattle.snmp_message.specs.Message.{tag_of, content_of};
 ghost use Rattle.snmp_message.specs.Security.{fields_of};
@@ -66,19 +66,17 @@ fn user_schedule(users: &UserTable, cache: &mut KeyCache, name: &[u8], engine: &
     schedule_under(users, cache, key, name, engine)
 }
 
-/// The ciphertext of the scoped PDU.
-pub(crate) fn seal_octets(
-    alloc: Global,
-    schedule: &Schedule,
-    outgoing: &Outgoing<'_>,
-) -> Result<Vec<u8>, AllocError>
-    ensures sealed { IfOk result (λ v. IsSealed (enciphered schedule.now) (iv_of outgoing.now.boots outgoing.now.time outgoing.now.salt) outgoing.now.scoped.now v.items) }
-    ensures only { IfOk result (λ v. (octets : List ℕ) → IsSealed (enciphered schedule.now) (iv_of outgoing.now.boots outgoing.now.time outgoing.now.salt) outgoing.now.scoped.now octets → octets ≡ v.items) }
+/// Enciphers the ScopedPDU where it stands, at the end of the text.
+pub(crate) fn seal_end(schedule: &Schedule, outgoing: &Outgoing<'_>, text: &mut Vec<u8>)
+    requires { (front : List ℕ) × (text.old.items ≡ front ++ outgoing.now.scoped.now) }
+    ensures sealed { (front octets : List ℕ) → text.old.items ≡ front ++ outgoing.now.scoped.now
+        → IsSealed (enciphered schedule.now) (iv_of outgoing.now.boots outgoing.now.time outgoing.now.salt) outgoing.now.scoped.now octets
+        → text.new.items ≡ front ++ octets }
+    ensures length { length text.new.items ≡ length text.old.items }
 {
-    let mut text = outgoing.scoped.to_vec(alloc)?;
+    let at = text.len() - outgoing.scoped.len();
     let iv = iv(outgoing.boots, outgoing.time, &outgoing.salt);
-    cfb_seal(schedule, iv, &mut text);
-    Ok(text)
+    cfb_seal(schedule, iv, &mut text[at..]);
 }
 
 /// The plaintext of sealed octets.

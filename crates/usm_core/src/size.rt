@@ -67,7 +67,7 @@ fn code_octets(users: &UserTable, header: &Header, name: &[u8]) -> usize
 }
 
 /// How many octets msgPrivacyParameters have (RFC 3826, section 3.1.1.2): those of a salt where priv is set, and else none.
-fn salt_octets(header: &Header) -> usize
+pub(crate) fn salt_octets(header: &Header) -> usize
     ensures size { result ≡ (if header.now.privacy then 8 else 0) }
     ensures most { result ≤ 24 }
 {

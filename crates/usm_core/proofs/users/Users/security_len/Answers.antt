@@ -1,4 +1,4 @@
-use Rattle.std.proofs.Common.{◌≡◌, ◌≤◌, List, ℕ, [], take, length, replicate, refl, sym, ap, subst, ◌∙◌, arith, rules}
+use Rattle.std.proofs.Common.{◌≡◌, ◌≤◌, ℕ, take, length, replicate, refl, sym, ap, subst, ◌∙◌, arith}
 use Rattle.std.proofs.lemmas.List.{take-replicate, length-replicate}
 use Rattle.snmp_ber.specs.Spelling.{element}
 use Rattle.engine_clock.specs.Pairs.{BootsAndTime}
