@@ -20,10 +20,10 @@ snmpsec: HEX \"303\": its 3 digits are an odd number; pairs of hex digits are wa
 ",
     ),
     ("show 303", "snmpsec: bad word HEX\n"),
-    // of a message of 58 octets the first 41
+    // of a message of 58 octets the first 45
     (
         "show --why 3038020103300e020101020300ffe30401040201030410300e0400020100020100040004000400301104000400",
-        "snmpsec: the message says 58 octets, and 49 are there\n",
+        "snmpsec: the message says 58 octets, and 45 are there\n",
     ),
     ("show --why 3000", ""),
     (
