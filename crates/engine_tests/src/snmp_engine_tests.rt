@@ -15,6 +15,7 @@ mod agents;
 mod decisions;
 mod exchange_rows;
 mod exchanges;
+mod fronts;
 mod handling;
 mod memory;
 mod net_snmp;

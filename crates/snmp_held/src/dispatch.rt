@@ -128,7 +128,7 @@ fn refusal(
     let taken = kept.taken();
     match agent.refuse(now, &taken, why, salt) {
         Ok(report) => Ok(report),
-        Err(fault) => Err(CallFault::Refused(fault)),
+        Err(unsent) => Err(CallFault::Refused(unsent)),
     }
 }
 

@@ -1,6 +1,7 @@
 //! From the command line to what is written.
 
 ghost use Rattle.std.specs.Prelude.{◌≡◌, ◌≤◌, ◌++◌, IfOk};
+ghost use Rattle.snmpsec_notes.specs.Names.{AddsNames};
 
 use crate::checks::{check_clocks_files, check_log_file};
 use crate::datagrams::{Unread, datagrams, ports_of};
@@ -8,6 +9,7 @@ use crate::files::{FileFault, open_log, read_file};
 use crate::replay::{first_line_of, replay_as};
 use crate::why::{says_why, why};
 use clap::error::ErrorKind;
+use snmpsec_notes::with_names;
 use snmpsec_replay::{Printing, ReplayFault};
 use snmpsec_streams::write_whole;
 use snmpsec_texts::{
@@ -84,13 +86,34 @@ pub fn answer_asked<R: Files + Input + AllocGlobal, O: Write, E: Write>(
     err: &mut E,
 ) -> Result<Output, AllocError> {
     let output = command(rt, &asked.command, out, err)?;
-    if output.status == 0 || !(asked.why || says_why(&asked.command)) {
+    if output.status == 0 {
+        return if asked.names {
+            named(rt.alloc(), output)
+        } else {
+            Ok(output)
+        };
+    }
+    if !(asked.why || says_why(&asked.command)) {
         return Ok(output);
     }
     match why(rt, &asked.command)? {
         Some(line) => with_line(output, &line),
         None => Ok(output),
     }
+}
+
+/// The same, with names behind the lines of standard output that have one.
+fn named(alloc: Global, output: Output) -> Result<Output, AllocError>
+    ensures out { IfOk result (λ told. AddsNames output.out.items told.out.items) }
+    ensures err { IfOk result (λ told. told.err.items ≡ output.err.items) }
+    ensures status { IfOk result (λ told. told.status ≡ output.status) }
+{
+    let out = with_names(alloc, &output.out)?;
+    Ok(Output {
+        out,
+        err: output.err,
+        status: output.status,
+    })
 }
 
 /// The same, and behind what stands on standard error this line.

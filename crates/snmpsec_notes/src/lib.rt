@@ -1,10 +1,13 @@
-//! What is wrong with a word, with a line of saved clocks or with a datagram, in words for whoever wrote it.
+//! What is told beside what the commands print: what is wrong with a word, with a line of saved clocks or with a datagram, and the names
+//! of what is shown.
 #![tactic(auto)]
 
 mod choices;
 mod clocks;
+mod counters;
 mod digits;
 mod messages;
+mod names;
 mod quoted;
 mod variables;
 
@@ -12,5 +15,6 @@ pub use choices::nearest;
 pub use clocks::{ClocksFault, clocks_fault};
 pub use digits::{DigitsFault, digits_fault};
 pub use messages::{CutMessage, cut_message};
+pub use names::with_names;
 pub use quoted::{Quoted, text_of};
 pub use variables::{VariableFault, variable_fault};

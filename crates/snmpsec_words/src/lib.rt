@@ -189,6 +189,7 @@ fn show<'a>(alloc: Global) -> Result<clap::Command<'a>, AllocError> {
     clap::Command::new(alloc, "show")
         .about("Print the fields of an SNMPv3 message, a field a line, and its canonical spelling")
         .after_help(SHOW_STATUS)
+        .arg(asked::names(alloc))?
         .arg(hex_word(alloc))
 }
 
@@ -198,6 +199,7 @@ fn open<'a>(alloc: Global) -> Result<clap::Command<'a>, AllocError> {
             "Authenticate and decrypt an SNMPv3 message with the users' passwords, and print its fields",
         )
         .after_help(OPEN_STATUS)
+        .arg(asked::names(alloc))?
         .arg(word(alloc, "CONFIG", "TOML file with the users"))?
         .arg(hex_word(alloc))
 }

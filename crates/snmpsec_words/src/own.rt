@@ -46,9 +46,13 @@ pub fn version_text(alloc: Global) -> Result<String, AllocError>
 /// What the parser's help says of a command, or of all where none is named. The fault is the parser's, where there is no such
 /// command, or want of memory.
 pub fn manual_text(alloc: Global, command: Option<&str>) -> Result<String, Error> {
-    let words = ["snmpsec", "help", command.unwrap_or("")];
-    let count = if command.is_some() { 3 } else { 2 };
-    match parser(alloc)?.try_get_matches_from(&words[..count]) {
+    let mut words = Vec::new(alloc);
+    words.push(String::from_str(alloc, "snmpsec")?)?;
+    words.push(String::from_str(alloc, "help")?)?;
+    if let Some(command) = command {
+        words.push(String::from_str(alloc, command)?)?;
+    }
+    match parser(alloc)?.try_get_matches_from(words.as_slice()) {
         Err(fault) if fault.kind() == ErrorKind::DisplayHelp => Ok(fault.to_string(alloc)?),
         Err(fault) => Err(fault),
         Ok(_) => Err(parser(alloc)?.error(ErrorKind::InvalidSubcommand, "there is no help")?),

@@ -1,0 +1,108 @@
+//! Names behind the lines that `show` and `open` print.
+
+ghost use Rattle.std.specs.Prelude.{◌≡◌, ◌++◌, ℕ, List, IfOk, OnOk};
+ghost use Rattle.snmpsec_notes.specs.Names.{AddsNames, IsNote};
+
+use crate::counters::counter_name;
+use crate::quoted::write_escaped;
+use snmp_ber::split_once;
+use std::alloc::{AllocError, Global};
+use std::fmt;
+
+/// The text with the name behind each line that has one: ` # NAME`. Each line stands as it was.
+///
+/// The line of a PDU has the name of its type (RFC 3416, section 3), and that of a binding the name of the counter that a report tells (RFC
+/// 3412 and RFC 3414, section 5), with its value. Those of a user and of a context have the octets as text between quotes, where they
+/// are UTF-8.
+pub fn with_names(alloc: Global, text: &[u8]) -> Result<Vec<u8>, AllocError>
+    ensures { IfOk result (λ named. AddsNames text.now named.items) }
+{
+    let mut named = Vec::new(alloc);
+    let mut rest = text;
+    'lines: while let Some((line, behind)) = split_once(rest, b'\n') {
+        named.extend_from_slice(line)?;
+        push_note(alloc, &mut named, line)?;
+        named.extend_from_slice(b"\n")?;
+        rest = behind;
+    }
+    named.extend_from_slice(rest)?;
+    Ok(named)
+}
+
+/// Appends ` # ` and the name of a line, where it has one.
+fn push_note(alloc: Global, out: &mut Vec<u8>, line: &[u8]) -> Result<(), AllocError>
+    ensures { OnOk result ((note : List ℕ) × IsNote note × (out.new.items ≡ out.old.items ++ note)) }
+{
+    let name = name_of(alloc, line)?;
+    let octets = name.as_bytes();
+    if octets.is_empty() {
+        return Ok(());
+    }
+    let None = split_once(octets, b'\n') else {
+        return Ok(());
+    };
+    out.extend_from_slice(b" # ")?;
+    out.extend_from_slice(octets)?;
+    Ok(())
+}
+
+/// The name of a line, or nothing.
+fn name_of(alloc: Global, line: &[u8]) -> Result<String, AllocError> {
+    let none = String::new(alloc);
+    let Ok(line) = std::str::from_utf8(line) else {
+        return Ok(none);
+    };
+    let Some((what, words)) = line.split_once(' ') else {
+        return Ok(none);
+    };
+    match what {
+        "user" | "context" => text_name(alloc, words),
+        "pdu" => String::from_str(alloc, pdu_name(words.get(..2).unwrap_or(""))),
+        "binding" => counter_name(alloc, words),
+        _ => Ok(none),
+    }
+}
+
+/// The octets of these digits as text between quotes, where they are UTF-8.
+fn text_name(alloc: Global, digits: &str) -> Result<String, AllocError> {
+    let none = String::new(alloc);
+    if digits == "-" {
+        return Ok(none);
+    }
+    let Ok(octets) = hex::decode(alloc, digits) else {
+        return Ok(none);
+    };
+    match std::str::from_utf8(&octets) {
+        Ok(text) => format!(in alloc; "{}", Whole(text)),
+        Err(_) => Ok(none),
+    }
+}
+
+/// A text between quotes, all of it as a TOML basic string has it.
+#[derive(Clone, Copy)]
+struct Whole<'a>(&'a str);
+
+impl fmt::Display for Whole<'_> {
+    fn fmt<W: fmt::Write>(&self, f: &mut fmt::Formatter<W>) -> fmt::Result {
+        write!(f, "\"")?;
+        for character in self.0.chars() {
+            write_escaped(f, character)?;
+        }
+        write!(f, "\"")
+    }
+}
+
+/// The type of the PDU with this tag, in two hex digits (RFC 3416, section 3).
+fn pdu_name(tag: &str) -> &'static str {
+    match tag {
+        "a0" => "GetRequest",
+        "a1" => "GetNextRequest",
+        "a2" => "Response",
+        "a3" => "SetRequest",
+        "a5" => "GetBulkRequest",
+        "a6" => "InformRequest",
+        "a7" => "SNMPv2-Trap",
+        "a8" => "Report",
+        _ => "",
+    }
+}
