@@ -3,8 +3,10 @@
 
 pub mod datagrams;
 mod files;
+pub mod forms;
 pub mod replay;
 pub mod run;
+mod texts;
 
 pub use files::{FileFault, read_whole};
 pub use snmpsec_texts::{

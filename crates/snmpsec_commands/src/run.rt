@@ -2,8 +2,9 @@
 
 ghost use Rattle.std.specs.Prelude.{◌≤◌};
 
-use crate::datagrams::{Unread, datagrams, ports_of};
+use crate::datagrams::{Unread, ports_of};
 use crate::files::{FileFault, open_log, read_file};
+use crate::forms::{Asked, datagrams_of, form_of};
 use crate::replay::{first_line_of, replay_as};
 use clap::error::ErrorKind;
 use snmpsec_replay::{Printing, ReplayFault};
@@ -12,7 +13,7 @@ use snmpsec_texts::{
     Output, check_config_text, check_text, explain_text, merge_text, moment_of, open_text,
     sees_text, show_text, who_text,
 };
-use snmpsec_words::{Command, ReplayWords, SeesWords, WhoWords, not_text, parse};
+use snmpsec_words::{Command, DatagramsWords, ReplayWords, SeesWords, WhoWords, not_text, parse};
 use std::alloc::{AllocError, Global};
 use std::io::{BufReader, BufWriter, Input, Read, Write};
 use std::rt::{Env, Files};
@@ -98,7 +99,7 @@ pub fn command<R: Files + Input + AllocGlobal, O: Write, E: Write>(
         Command::CheckConfig { config } => check_config(rt, config),
         Command::Replay(words) => replay_log(rt, words, out),
         Command::MergeClocks { moment, files } => merge_clocks(rt, moment.unwrap_or("0"), files),
-        Command::Datagrams { ports, file } => log_datagrams(rt, ports, file, out, err),
+        Command::Datagrams(words) => log_datagrams(rt, words, out, err),
     }
 }
 
@@ -266,26 +267,53 @@ fn stopped(alloc: Global, fault: ReplayFault, log: &str) -> Result<Output, Alloc
     }
 }
 
-/// Looks at the ports before it opens the file, and then writes the log of its datagrams. `-` is standard input.
+/// Looks at the form, the ports and the moment before it opens the file, and then writes the log of its datagrams. `-` is standard
+/// input.
 fn log_datagrams<R: Files + Input + AllocGlobal, O: Write, E: Write>(
     rt: &R,
-    ports: &[&str],
+    words: &DatagramsWords<'_>,
+    out: &mut O,
+    err: &mut E,
+) -> Result<Output, AllocError> {
+    let alloc = rt.alloc();
+    let form = match words.form {
+        None => None,
+        Some(word) => match form_of(word) {
+            Some(form) => Some(form),
+            None => return Output::complaint(alloc, "bad word FORM"),
+        },
+    };
+    let Some(ports) = ports_of(alloc, &words.ports)? else {
+        return Output::complaint(alloc, "bad word PORT");
+    };
+    let Some(moment) = moment_of(words.moment.unwrap_or("0")) else {
+        return Output::complaint(alloc, "bad word MOMENT");
+    };
+    let asked = Asked {
+        form,
+        moment,
+        ports: &ports,
+    };
+    log_file(rt, asked, words.file, out, err)
+}
+
+/// Opens the file, and writes the log of its datagrams.
+fn log_file<R: Files + Input + AllocGlobal, O: Write, E: Write>(
+    rt: &R,
+    asked: Asked<'_>,
     name: &str,
     out: &mut O,
     err: &mut E,
 ) -> Result<Output, AllocError> {
     let alloc = rt.alloc();
-    let Some(ports) = ports_of(alloc, ports)? else {
-        return Output::complaint(alloc, "bad word PORT");
-    };
     if name == "-" {
         let Ok(mut reader) = BufReader::new(alloc, rt.reader()) else {
             return Err(AllocError);
         };
-        return write_log(alloc, &ports, name, &mut reader, out, err);
+        return write_log(alloc, asked, name, &mut reader, out, err);
     }
     match open_log(rt, name) {
-        Ok(mut reader) => write_log(alloc, &ports, name, &mut reader, out, err),
+        Ok(mut reader) => write_log(alloc, asked, name, &mut reader, out, err),
         Err(fault) => unread(alloc, fault, name),
     }
 }
@@ -293,7 +321,7 @@ fn log_datagrams<R: Files + Input + AllocGlobal, O: Write, E: Write>(
 /// Writes the log of what is read, as much at once as a buffer has room for.
 fn write_log<R: Read, O: Write, E: Write>(
     alloc: Global,
-    ports: &[u16],
+    asked: Asked<'_>,
     name: &str,
     reader: &mut R,
     out: &mut O,
@@ -302,7 +330,7 @@ fn write_log<R: Read, O: Write, E: Write>(
     let Ok(mut log) = BufWriter::new(alloc, out) else {
         return Err(AllocError);
     };
-    let answer = datagrams(alloc, ports, name, reader, &mut log, err);
+    let answer = datagrams_of(alloc, asked, name, reader, &mut log, err);
     if log.flush().is_err() {
         return Output::complaint(alloc, "cannot write");
     }

@@ -5,11 +5,13 @@ ghost use Rattle.std.specs.Prelude.{◌≡◌, IfOk};
 ghost use Rattle.clap.specs.Values.{kind_of};
 ghost use Rattle.clap.specs.declared.error.kind.ErrorKind.TheVariants.{InvalidValue};
 
+mod capture;
 mod wide;
 
 use clap::error::ErrorKind;
 use clap::{Arg, ArgAction, ArgMatches, Error};
 use std::alloc::{AllocError, Global};
+pub use capture::DatagramsWords;
 pub use wide::{SeesWords, WhoWords};
 
 const SHOW_STATUS: &str =
@@ -40,11 +42,6 @@ const REPLAY_STATUS: &str =
     "A log of more than 1000000 lines is replayed in pieces, each with --clocks-only; merge-clocks joins what they save.
 Example: snmpsec replay examples/replay/config.toml examples/replay/begin.clocks examples/replay/captured.log
 Status: 0 replayed, 1 a refused configuration or clocks file, 2 a fault of the command line or of a line of the log, or a file that can't be read.";
-
-const DATAGRAMS_STATUS: &str =
-    "A record that can't be a datagram of these ports is counted, and one that may be part of one is told, on standard error.
-Example: snmpsec datagrams examples/replay/captured.pcap | snmpsec replay examples/replay/config.toml examples/replay/begin.clocks /dev/stdin
-Status: 0 read, 1 refused (a line 'refused datagrams FILE octet N' behind what came before), 2 a fault of the command line or a file that can't be read.";
 
 /// A command with its words. None of them has been looked at beyond what the parser asks.
 #[derive(Drop)]
@@ -77,11 +74,8 @@ pub enum Command<'a> {
         moment: Option<&'a str>,
         files: Vec<&'a str>,
     },
-    /// `datagrams [--port PORT].. FILE`
-    Datagrams {
-        ports: Vec<&'a str>,
-        file: &'a str,
-    },
+    /// `datagrams [--form FORM] [--port PORT].. [--moment MOMENT] FILE`
+    Datagrams(DatagramsWords<'a>),
 }
 
 /// The words of check-access and explain-access.
@@ -144,17 +138,6 @@ fn from_line<'a>(alloc: Global) -> Arg<'a> {
         .action(ArgAction::Set)
         .allow_negative_numbers(true)
         .help("Number of the log's first line, 1 to 1000000000000000; 1 if left out")
-}
-
-/// The ports of the datagrams that are wanted. A number below 0 is a word of the option too.
-fn port<'a>(alloc: Global) -> Arg<'a> {
-    Arg::new(alloc, "PORT")
-        .long("port")
-        .action(ArgAction::Append)
-        .allow_negative_numbers(true)
-        .help(
-            "A port that the datagrams are from or to, 0 to 65535; may be given again; 161 and 162 if left out",
-        )
 }
 
 /// The datagram of a command.
@@ -272,20 +255,6 @@ fn merge_clocks<'a>(alloc: Global) -> Result<clap::Command<'a>, AllocError> {
         .arg(files)
 }
 
-fn datagrams<'a>(alloc: Global) -> Result<clap::Command<'a>, AllocError> {
-    clap::Command::new(alloc, "datagrams")
-        .about(
-            "Print the UDP datagrams of a capture as a log for replay, a line MOMENT HEX for each",
-        )
-        .after_help(DATAGRAMS_STATUS)
-        .arg(port(alloc))?
-        .arg(word(
-            alloc,
-            "FILE",
-            "A capture in the format of libpcap, as tcpdump -w writes it; - is standard input",
-        ))
-}
-
 /// The parser of the command line.
 fn parser<'a>(alloc: Global) -> Result<clap::Command<'a>, AllocError> {
     clap::Command::new(alloc, "snmpsec")
@@ -300,7 +269,7 @@ fn parser<'a>(alloc: Global) -> Result<clap::Command<'a>, AllocError> {
         .subcommand(check_config(alloc)?)?
         .subcommand(replay(alloc)?)?
         .subcommand(merge_clocks(alloc)?)?
-        .subcommand(datagrams(alloc)?)
+        .subcommand(capture::datagrams(alloc)?)
 }
 
 /// The word of an argument that the parser requires.
@@ -361,10 +330,9 @@ pub fn parse<'a>(alloc: Global, words: &'a [String]) -> Result<Command<'a>, Erro
             moment: words.get_str("MOMENT"),
             files: words.get_strs("FILE").unwrap_or(&[]).to_vec(alloc)?,
         }),
-        Some(("datagrams", words)) => Ok(Command::Datagrams {
-            ports: words.get_strs("PORT").unwrap_or(&[]).to_vec(alloc)?,
-            file: given(alloc, words, "FILE")?,
-        }),
+        Some(("datagrams", words)) => {
+            Ok(Command::Datagrams(capture::datagrams_words(alloc, words)?))
+        }
         _ => Err(parser(alloc)?.error(ErrorKind::MissingSubcommand, "a command is missing")?),
     }
 }
