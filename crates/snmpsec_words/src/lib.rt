@@ -8,10 +8,10 @@ ghost use Rattle.clap.specs.declared.error.kind.ErrorKind.TheVariants.{InvalidVa
 mod capture;
 mod wide;
 
+pub use capture::DatagramsWords;
 use clap::error::ErrorKind;
 use clap::{Arg, ArgAction, ArgMatches, Error};
 use std::alloc::{AllocError, Global};
-pub use capture::DatagramsWords;
 pub use wide::{SeesWords, WhoWords};
 
 const SHOW_STATUS: &str =
