@@ -15,11 +15,14 @@ _snmpsec() {
       who-sees:[45]) choices="read write notify" ;;
       open:2 | check-config:2 | check-access:2 | explain-access:2 | who-sees:[23] | sees:2 | replay:* | merge-clocks:* | datagrams:*) mapfile -t COMPREPLY < <(compgen -f -- "$word") ;;
     esac
+    case ${COMP_WORDS[COMP_CWORD - 1]} in
+      --form) COMPREPLY=() choices="pcap hex" command= ;;
+    esac
     case $command in
       who-sees) choices="$choices --users" ;;
       replay) choices="--moment --clocks-only --from-line" ;;
       merge-clocks) choices="--moment" ;;
-      datagrams) choices="--port" ;;
+      datagrams) choices="--form --port --moment" ;;
     esac
   fi
   [ -z "$choices" ] || mapfile -t -O "${#COMPREPLY[@]}" COMPREPLY < <(compgen -W "$choices" -- "$word")

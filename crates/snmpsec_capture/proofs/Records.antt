@@ -1,8 +1,9 @@
 -- Records of a capture, and what is none.
-use Rattle.std.proofs.Common.{◌≡◌, ℕ, ◌+◌, ◌<◌, ◌≤◌, List, [], ◌++◌, length, take, refl, sym, ap, ◌∙◌, arith, length-append, take_at, drop_at}
+use Rattle.std.proofs.Common.{◌≡◌, ◌⊎◌, inl, inr, append-nil, ℕ, ◌+◌, ◌<◌, ◌≤◌, List, [], ◌++◌, length, take, refl, sym, ap, ◌∙◌, arith, length-append, take_at, drop_at}
 use Rattle.std.proofs.lemmas.List.{get_or_append_left}
+use Rattle.std.proofs.lemmas.Bool.{le-leb}
 use Rattle.snmpsec_capture.specs.Field.{field32}
-use Rattle.snmpsec_capture.specs.Pcap.{IsRecord, HasNoRecord, IsHead, record_of}
+use Rattle.snmpsec_capture.specs.Pcap.{IsRecord, HasNoRecord, IsHead, record_of, begins_capture}
 use Rattle.snmpsec_capture.specs.declared.field.Order.{Order}
 use Rattle.snmpsec_capture.specs.declared.field.Order.TheVariants.{Big, Little}
 use Rattle.snmpsec_capture.specs.declared.pcap.Head.{Head}
@@ -74,3 +75,17 @@ is_record order octets packet back h long is size =
       packet = front ∙ sym (drop_at octets packet 16 long);
       most = omega (arith, count, size, most);
     }
+
+-- ---- the beginning of a file
+
+-- the first octets tell, four at least or all
+pub same_beginning : (front rest : List ℕ) → (length front < 4) ⊎ (4 ≤ length front) → (length front < 24 → rest ≡ []) → begins_capture (front ++ rest) ≡ begins_capture front
+same_beginning front rest (inl short) end = ap (λ r. begins_capture (front ++ r)) (end (omega (arith, short))) ∙ ap begins_capture (append-nil front)
+same_beginning front rest (inr long) end =
+    let all = length-append front rest in
+    rw (
+      le-leb 4 (length (front ++ rest)) (omega (arith, long, all)),
+      le-leb 4 (length front) long,
+      field32_front Big front rest 0 (omega (arith, long)),
+      field32_front Little front rest 0 (omega (arith, long)),
+    ) refl

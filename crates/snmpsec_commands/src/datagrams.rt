@@ -1,12 +1,12 @@
 //! `snmpsec datagrams`: the datagrams of a capture, as a log.
 
-ghost use Rattle.std.specs.Prelude.{◌≡◌, ◌<◌, ◌^◌, ℕ, decimal, map, IfErr, IfOk, IfSome, IfNone, OnOk, Some, string_bytes};
-ghost use Rattle.std.specs.Io.KnownBytes.{Appends};
+ghost use Rattle.std.specs.Prelude.{◌≡◌, ◌<◌, ◌≤◌, ◌^◌, ℕ, List, Option, length, decimal, map, IfErr, IfOk, IfSome, IfNone, OnOk, Some, string_bytes};
+ghost use Rattle.std.specs.Io.KnownBytes.{Appends, Consumes, IsAtEnd};
 ghost use Rattle.snmpsec_commands.specs.Datagrams.{AskPorts, HasNoPort, LosesLine, Tells, TellsNot, passed_line, refused_line};
 
 use snmp_ber::read_decimal;
-use snmpsec_capture::{CaptureFault, Passed, write_datagrams};
-use snmpsec_streams::write_whole;
+use snmpsec_capture::{CaptureFault, HEADER, Passed, write_datagrams_behind};
+use snmpsec_streams::{read_full, write_whole};
 use std::alloc::{AllocError, Global};
 use std::io::{Read, Write};
 use thiserror::Error;
@@ -85,7 +85,43 @@ pub fn datagrams<R: Read, L: Write, N: Write>(
       told = N.contents notes.new;
     }) }
 {
-    match write_datagrams(alloc, ports, reader, log, notes) {
+    let mut octets = [0u8; HEADER];
+    let Ok(count) = read_full(reader, &mut octets) else {
+        return Err(Unread::CannotRead);
+    };
+    datagrams_behind(alloc, &octets[..count], ports, name, reader, log, notes)
+}
+
+/// The same for a capture of which the first 24 octets were read, or all where it has fewer.
+pub(crate) fn datagrams_behind<R: Read, L: Write, N: Write>(
+    alloc: Global,
+    front: &[u8],
+    ports: &[u16],
+    name: &str,
+    reader: &mut R,
+    log: &mut L,
+    notes: &mut N,
+) -> Result<u8, Unread>
+    requires short { length front.now ≤ 24 }
+    requires end { length front.now < 24 → IsAtEnd (R.remaining reader.old) }
+    ensures ok { (unread : Option (List ℕ)) → Consumes unread (R.remaining reader.old) front.now → IfOk result (Tells ports.now name.now record {
+      unread = unread;
+      left = R.remaining reader.new;
+      held = L.contents log.old;
+      written = L.contents log.new;
+      untold = N.contents notes.old;
+      told = N.contents notes.new;
+    }) }
+    ensures err { (unread : Option (List ℕ)) → Consumes unread (R.remaining reader.old) front.now → IfErr result (TellsNot ports.now name.now record {
+      unread = unread;
+      left = R.remaining reader.new;
+      held = L.contents log.old;
+      written = L.contents log.new;
+      untold = N.contents notes.old;
+      told = N.contents notes.new;
+    }) }
+{
+    match write_datagrams_behind(alloc, front, ports, reader, log, notes) {
         Ok(passed) => match tell_passed(alloc, passed, notes) {
             Ok(()) => Ok(0),
             Err(fault) => Err(fault),

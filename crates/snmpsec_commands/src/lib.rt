@@ -4,8 +4,10 @@
 mod checks;
 pub mod datagrams;
 mod files;
+pub mod forms;
 pub mod replay;
 pub mod run;
+mod texts;
 mod why;
 mod why_files;
 mod why_words;

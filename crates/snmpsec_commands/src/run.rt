@@ -4,8 +4,9 @@ ghost use Rattle.std.specs.Prelude.{◌≡◌, ◌≤◌, ◌++◌, IfOk};
 ghost use Rattle.snmpsec_notes.specs.Names.{AddsNames};
 
 use crate::checks::{check_clocks_files, check_log_file};
-use crate::datagrams::{Unread, datagrams, ports_of};
+use crate::datagrams::{Unread, ports_of};
 use crate::files::{FileFault, open_log, read_file};
+use crate::forms::{self, datagrams_of, form_of};
 use crate::replay::{first_line_of, replay_as};
 use crate::why::{says_why, why};
 use clap::error::ErrorKind;
@@ -17,8 +18,8 @@ use snmpsec_texts::{
     sees_text, show_text, who_text,
 };
 use snmpsec_words::{
-    Asked, Command, ReplayWords, SeesWords, WhoWords, manual_text, not_text, parse_asked,
-    version_text,
+    Asked, Command, DatagramsWords, ReplayWords, SeesWords, WhoWords, manual_text, not_text,
+    parse_asked, version_text,
 };
 use std::alloc::{AllocError, Global};
 use std::io::{BufReader, BufWriter, Input, IsTerminal, Read, Write};
@@ -158,7 +159,7 @@ pub fn command<R: Files + Input + AllocGlobal, O: Write, E: Write>(
         Command::MergeClocks { moment, files } => merge_clocks(rt, moment.unwrap_or("0"), files),
         Command::CheckClocks { files } => check_clocks_files(rt, files),
         Command::CheckLog { log } => check_log_file(rt, log),
-        Command::Datagrams { ports, file } => log_datagrams(rt, ports, file, out, err),
+        Command::Datagrams(words) => log_datagrams(rt, words, out, err),
         Command::Manual { command } => manual(rt.alloc(), *command),
         Command::Version => version(rt.alloc()),
     }
@@ -342,26 +343,53 @@ fn stopped(alloc: Global, fault: ReplayFault, log: &str) -> Result<Output, Alloc
     }
 }
 
-/// Looks at the ports before it opens the file, and then writes the log of its datagrams. `-` is standard input.
+/// Looks at the form, the ports and the moment before it opens the file, and then writes the log of its datagrams. `-` is standard
+/// input.
 fn log_datagrams<R: Files + Input + AllocGlobal, O: Write, E: Write>(
     rt: &R,
-    ports: &[&str],
+    words: &DatagramsWords<'_>,
+    out: &mut O,
+    err: &mut E,
+) -> Result<Output, AllocError> {
+    let alloc = rt.alloc();
+    let form = match words.form {
+        None => None,
+        Some(word) => match form_of(word) {
+            Some(form) => Some(form),
+            None => return Output::complaint(alloc, "bad word FORM"),
+        },
+    };
+    let Some(ports) = ports_of(alloc, &words.ports)? else {
+        return Output::complaint(alloc, "bad word PORT");
+    };
+    let Some(moment) = moment_of(words.moment.unwrap_or("0")) else {
+        return Output::complaint(alloc, "bad word MOMENT");
+    };
+    let asked = forms::Asked {
+        form,
+        moment,
+        ports: &ports,
+    };
+    log_file(rt, asked, words.file, out, err)
+}
+
+/// Opens the file, and writes the log of its datagrams.
+fn log_file<R: Files + Input + AllocGlobal, O: Write, E: Write>(
+    rt: &R,
+    asked: forms::Asked<'_>,
     name: &str,
     out: &mut O,
     err: &mut E,
 ) -> Result<Output, AllocError> {
     let alloc = rt.alloc();
-    let Some(ports) = ports_of(alloc, ports)? else {
-        return Output::complaint(alloc, "bad word PORT");
-    };
     if name == "-" {
         let Ok(mut reader) = BufReader::new(alloc, rt.reader()) else {
             return Err(AllocError);
         };
-        return write_log(alloc, &ports, name, &mut reader, out, err);
+        return write_log(alloc, asked, name, &mut reader, out, err);
     }
     match open_log(rt, name) {
-        Ok(mut reader) => write_log(alloc, &ports, name, &mut reader, out, err),
+        Ok(mut reader) => write_log(alloc, asked, name, &mut reader, out, err),
         Err(fault) => unread(alloc, fault, name),
     }
 }
@@ -369,7 +397,7 @@ fn log_datagrams<R: Files + Input + AllocGlobal, O: Write, E: Write>(
 /// Writes the log of what is read, as much at once as a buffer has room for.
 fn write_log<R: Read, O: Write, E: Write>(
     alloc: Global,
-    ports: &[u16],
+    asked: forms::Asked<'_>,
     name: &str,
     reader: &mut R,
     out: &mut O,
@@ -378,7 +406,7 @@ fn write_log<R: Read, O: Write, E: Write>(
     let Ok(mut log) = BufWriter::new(alloc, out) else {
         return Err(AllocError);
     };
-    let answer = datagrams(alloc, ports, name, reader, &mut log, err);
+    let answer = datagrams_of(alloc, asked, name, reader, &mut log, err);
     if log.flush().is_err() {
         return Output::complaint(alloc, "cannot write");
     }

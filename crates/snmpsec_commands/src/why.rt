@@ -5,11 +5,11 @@ use crate::why_files::{
     look_at_clocks, look_at_config, look_at_file, look_at_files, look_at_log, look_at_whole_file,
 };
 use crate::why_words::{
-    Wrong, look_at_digits, look_at_first, look_at_level, look_at_model, look_at_moment,
-    look_at_ports, look_at_variable, look_at_view,
+    Wrong, look_at_digits, look_at_first, look_at_form, look_at_level, look_at_model,
+    look_at_moment, look_at_ports, look_at_variable, look_at_view,
 };
 use snmpsec_notes::cut_message;
-use snmpsec_words::{AccessWords, Command, ReplayWords, SeesWords, WhoWords};
+use snmpsec_words::{AccessWords, Command, DatagramsWords, ReplayWords, SeesWords, WhoWords};
 use std::alloc::{AllocError, Global};
 use std::rt::Files;
 
@@ -32,7 +32,7 @@ pub(crate) fn says_why(command: &Command<'_>) -> bool {
         command,
         Command::WhoSees(_)
             | Command::Sees(_)
-            | Command::Datagrams { .. }
+            | Command::Datagrams(_)
             | Command::CheckClocks { .. }
             | Command::CheckLog { .. }
     )
@@ -52,7 +52,7 @@ fn look_at<R: Files + AllocGlobal>(rt: &R, command: &Command<'_>) -> Result<(), 
         Command::MergeClocks { moment, files } => look_at_merge(rt, *moment, files),
         Command::CheckClocks { files } => look_at_files(rt, files),
         Command::CheckLog { log } => look_at_file(rt, log, usize::MAX),
-        Command::Datagrams { ports, file } => look_at_capture(rt, ports, file),
+        Command::Datagrams(words) => look_at_capture(rt, words),
         Command::Manual { .. } | Command::Version => Ok(()),
     }
 }
@@ -129,12 +129,13 @@ fn look_at_merge<R: Files + AllocGlobal>(
 
 fn look_at_capture<R: Files + AllocGlobal>(
     rt: &R,
-    ports: &[&str],
-    file: &str,
+    words: &DatagramsWords<'_>,
 ) -> Result<(), Wrong> {
-    look_at_ports(rt.alloc(), ports)?;
-    if file == "-" {
+    look_at_form(rt.alloc(), words.form)?;
+    look_at_ports(rt.alloc(), &words.ports)?;
+    look_at_moment(rt.alloc(), words.moment)?;
+    if words.file == "-" {
         return Ok(());
     }
-    look_at_file(rt, file, usize::MAX)
+    look_at_file(rt, words.file, usize::MAX)
 }

@@ -1,5 +1,6 @@
 //! What is wrong with a word of the command line, and what is wanted.
 
+use crate::forms::form_of;
 use crate::replay::GREATEST_FIRST;
 use snmp_ber::{Level, read_decimal};
 use snmpsec_access::view_word;
@@ -85,6 +86,17 @@ pub(crate) fn look_at_moment(alloc: Global, word: Option<&str>) -> Result<(), Wr
 pub(crate) fn look_at_first(alloc: Global, word: Option<&str>) -> Result<(), Wrong> {
     let wanted = "a whole number from 1 to 1000000000000000 is wanted";
     look_at_number(alloc, "N", word.unwrap_or("1"), 1, GREATEST_FIRST, wanted)
+}
+
+/// FORM is a form of files, where there is one.
+pub(crate) fn look_at_form(alloc: Global, word: Option<&str>) -> Result<(), Wrong> {
+    match word {
+        Some(word) if form_of(word).is_none() => {
+            let wanted = "one of pcap, hex is wanted";
+            Err(wrong_word(alloc, "FORM", word, "it is none", wanted))
+        }
+        _ => Ok(()),
+    }
 }
 
 /// Each PORT is a port of UDP.

@@ -6,11 +6,13 @@ ghost use Rattle.clap.specs.Values.{kind_of};
 ghost use Rattle.clap.specs.declared.error.kind.ErrorKind.TheVariants.{InvalidValue};
 
 mod asked;
+mod capture;
 mod own;
 mod saved;
 mod wide;
 
 pub use asked::{Asked, parse_asked};
+pub use capture::DatagramsWords;
 use clap::error::ErrorKind;
 use clap::{Arg, ArgAction, ArgMatches, Error};
 pub use own::{VERSION, manual_text, version_text};
@@ -45,11 +47,6 @@ const REPLAY_STATUS: &str =
     "A log of more than 1000000 lines is replayed in pieces, each with --clocks-only; merge-clocks joins what they save.
 Example: snmpsec replay examples/replay/config.toml examples/replay/begin.clocks examples/replay/captured.log
 Status: 0 replayed, 1 a refused configuration or clocks file, 2 a fault of the command line or of a line of the log, or a file that can't be read.";
-
-const DATAGRAMS_STATUS: &str =
-    "A record that can't be a datagram of these ports is counted, and one that may be part of one is told, on standard error.
-Example: snmpsec datagrams examples/replay/captured.pcap | snmpsec replay examples/replay/config.toml examples/replay/begin.clocks /dev/stdin
-Status: 0 read, 1 refused (a line 'refused datagrams FILE octet N' behind what came before), 2 a fault of the command line or a file that can't be read.";
 
 /// A command with its words. None of them has been looked at beyond what the parser asks.
 #[derive(Drop)]
@@ -90,11 +87,8 @@ pub enum Command<'a> {
     CheckLog {
         log: &'a str,
     },
-    /// `datagrams [--port PORT].. FILE`
-    Datagrams {
-        ports: Vec<&'a str>,
-        file: &'a str,
-    },
+    /// `datagrams [--form FORM] [--port PORT].. [--moment MOMENT] FILE`
+    Datagrams(DatagramsWords<'a>),
     /// `manual [COMMAND]`
     Manual {
         command: Option<&'a str>,
@@ -163,17 +157,6 @@ fn from_line<'a>(alloc: Global) -> Arg<'a> {
         .action(ArgAction::Set)
         .allow_negative_numbers(true)
         .help("Number of the log's first line, 1 to 1000000000000000; 1 if left out")
-}
-
-/// The ports of the datagrams that are wanted. A number below 0 is a word of the option too.
-fn port<'a>(alloc: Global) -> Arg<'a> {
-    Arg::new(alloc, "PORT")
-        .long("port")
-        .action(ArgAction::Append)
-        .allow_negative_numbers(true)
-        .help(
-            "A port that the datagrams are from or to, 0 to 65535; may be given again; 161 and 162 if left out",
-        )
 }
 
 /// The datagram of a command.
@@ -293,20 +276,6 @@ fn merge_clocks<'a>(alloc: Global) -> Result<clap::Command<'a>, AllocError> {
         .arg(files)
 }
 
-fn datagrams<'a>(alloc: Global) -> Result<clap::Command<'a>, AllocError> {
-    clap::Command::new(alloc, "datagrams")
-        .about(
-            "Print the UDP datagrams of a capture as a log for replay, a line MOMENT HEX for each",
-        )
-        .after_help(DATAGRAMS_STATUS)
-        .arg(port(alloc))?
-        .arg(word(
-            alloc,
-            "FILE",
-            "A capture in the format of libpcap, as tcpdump -w writes it; - is standard input",
-        ))
-}
-
 /// The parser of the command line.
 fn parser<'a>(alloc: Global) -> Result<clap::Command<'a>, AllocError> {
     clap::Command::new(alloc, "snmpsec")
@@ -324,7 +293,7 @@ fn parser<'a>(alloc: Global) -> Result<clap::Command<'a>, AllocError> {
         .subcommand(merge_clocks(alloc)?)?
         .subcommand(saved::check_clocks(alloc)?)?
         .subcommand(saved::check_log(alloc)?)?
-        .subcommand(datagrams(alloc)?)?
+        .subcommand(capture::datagrams(alloc)?)?
         .subcommand(own::manual(alloc)?)?
         .subcommand(own::version(alloc))
 }
@@ -398,10 +367,9 @@ fn command_of<'a>(alloc: Global, matches: &ArgMatches<'a>) -> Result<Command<'a>
         Some(("check-log", words)) => Ok(Command::CheckLog {
             log: given(alloc, words, "LOG")?,
         }),
-        Some(("datagrams", words)) => Ok(Command::Datagrams {
-            ports: words.get_strs("PORT").unwrap_or(&[]).to_vec(alloc)?,
-            file: given(alloc, words, "FILE")?,
-        }),
+        Some(("datagrams", words)) => {
+            Ok(Command::Datagrams(capture::datagrams_words(alloc, words)?))
+        }
         Some(("manual", words)) => Ok(Command::Manual {
             command: words.get_str("COMMAND"),
         }),

@@ -1,0 +1,21 @@
+use Rattle.std.proofs.Common.{inl, inr, refl}
+use Rattle.snmpsec_commands.proofs.Tellings.{tells_beside, tells_in_log, lost_beside, lost_in_log}
+use Rattle.snmpsec_commands.proofs.datagrams.datagrams_behind.Goals as goal
+
+pub returns-in-Ok-tell_passed-clause-ok : goal.returns-in-Ok-tell_passed-clause-ok
+returns-in-Ok-tell_passed-clause-ok g c unread read =
+    tells_beside _ _ _ _ _ _ (inl (refl, c.in-Ok.passed, record { log_is = c.in-Ok.ensures.ok unread read }, refl, refl)) c.in-Ok-tell_passed.ensures.ok
+
+pub returns-in-Err-clause-err : goal.returns-in-Err-clause-err
+returns-in-Err-clause-err g c unread read =
+    lost_beside _ _ _ _ _ c.in-Err.fault (inl (refl, c.in-Ok.passed, record { log_is = c.in-Ok.ensures.ok unread read }, refl, refl)) c.in-Err.ensures.err
+
+pub returns-in-Ok-refuse-clause-ok : goal.returns-in-Ok-refuse-clause-ok
+returns-in-Ok-refuse-clause-ok g c unread read =
+    let stops = rw c.in-Err-Octet.field-0-is at (c.in-Err-Octet.ensures.err unread read) in
+    tells_in_log _ _ _ _ _ _ (inr (refl, c.in-Err-Octet.place, stops, refl, refl)) c.in-Ok-refuse.ensures.ok
+
+pub returns-in-Err-refuse-clause-err : goal.returns-in-Err-refuse-clause-err
+returns-in-Err-refuse-clause-err g c unread read =
+    let stops = rw c.in-Err-Octet.field-0-is at (c.in-Err-Octet.ensures.err unread read) in
+    lost_in_log _ _ _ _ _ c.in-Err-refuse.fault (inr (refl, c.in-Err-Octet.place, stops, refl, refl)) c.in-Err-refuse.ensures.err

@@ -1,0 +1,82 @@
+//! The command line of `datagrams`.
+
+use crate::{given, word};
+use clap::{Arg, ArgAction, ArgMatches, Error};
+use std::alloc::{AllocError, Global};
+
+const DATAGRAMS_STATUS: &str =
+    "A record that can't be a datagram of these ports is counted, and one that may be part of one is told, on standard error. Pasted hex is one datagram.
+Example: snmpsec datagrams examples/replay/captured.pcap | snmpsec replay examples/replay/config.toml examples/replay/begin.clocks /dev/stdin
+Status: 0 read, 1 refused (a line 'refused datagrams FILE octet N' behind what came before, or of hex 'refused datagrams FILE line N column M'),
+2 a fault of the command line or a file that can't be read.";
+
+/// The words of datagrams.
+#[derive(Drop)]
+pub struct DatagramsWords<'a> {
+    /// The form of the file, where its first octets aren't to tell.
+    pub form: Option<&'a str>,
+    /// The ports of the datagrams that are wanted.
+    pub ports: Vec<&'a str>,
+    /// When pasted hex was received.
+    pub moment: Option<&'a str>,
+    /// The name of the file.
+    pub file: &'a str,
+}
+
+/// The form of the file.
+fn form<'a>(alloc: Global) -> Arg<'a> {
+    Arg::new(alloc, "FORM")
+        .long("form")
+        .action(ArgAction::Set)
+        .help("What FILE is: pcap, or hex; found by its first octets if left out")
+}
+
+/// The ports of the datagrams that are wanted. A number below 0 is a word of the option too.
+fn port<'a>(alloc: Global) -> Arg<'a> {
+    Arg::new(alloc, "PORT")
+        .long("port")
+        .action(ArgAction::Append)
+        .allow_negative_numbers(true)
+        .help(
+            "A port that the datagrams are from or to, 0 to 65535; may be given again; 161 and 162 if left out",
+        )
+}
+
+/// The moment of what has none. A number below 0 is a word of the option too.
+fn moment<'a>(alloc: Global) -> Arg<'a> {
+    Arg::new(alloc, "MOMENT")
+        .long("moment")
+        .action(ArgAction::Set)
+        .allow_negative_numbers(true)
+        .help("When pasted hex was received, in whole seconds; 0 if left out")
+}
+
+/// The parser of datagrams.
+pub(crate) fn datagrams<'a>(alloc: Global) -> Result<clap::Command<'a>, AllocError> {
+    clap::Command::new(alloc, "datagrams")
+        .about(
+            "Print the UDP datagrams of a capture as a log for replay, a line MOMENT HEX for each",
+        )
+        .after_help(DATAGRAMS_STATUS)
+        .arg(form(alloc))?
+        .arg(port(alloc))?
+        .arg(moment(alloc))?
+        .arg(word(
+            alloc,
+            "FILE",
+            "A capture in the format of libpcap, as tcpdump -w writes it, or pasted hex; - is standard input",
+        ))
+}
+
+/// The words of datagrams.
+pub(crate) fn datagrams_words<'a>(
+    alloc: Global,
+    words: &ArgMatches<'a>,
+) -> Result<DatagramsWords<'a>, Error> {
+    Ok(DatagramsWords {
+        form: words.get_str("FORM"),
+        ports: words.get_strs("PORT").unwrap_or(&[]).to_vec(alloc)?,
+        moment: words.get_str("MOMENT"),
+        file: given(alloc, words, "FILE")?,
+    })
+}
