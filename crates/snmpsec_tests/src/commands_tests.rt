@@ -8,6 +8,7 @@ mod configs;
 mod examples;
 mod explained;
 mod merged;
+mod named;
 mod opened;
 mod reasons;
 mod replays;
