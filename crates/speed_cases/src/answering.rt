@@ -29,11 +29,23 @@ pub enum Form {
 /// The msgID of each request.
 const ID: u32 = 1;
 
+/// The fewest octets of a VarBind: its head, those of its name and of its value, and an octet of its name.
+const LEAST_BINDING: usize = 7;
+
+/// How many bindings a PDU has.
+fn count_of(pdu: &Pdu<'_>) -> usize {
+    let mut count = 0usize;
+    for _ in pdu.variable_bindings() {
+        count = count.saturating_add(1);
+    }
+    count
+}
+
 /// The bindings of a PDU that can be written, with the arcs of their names.
 fn bindings_of<'a>(alloc: Global, pdu: &Pdu<'a>) -> Result<Vec<Binding<'a>>, AllocError>
     ensures { IfOk result (λ v. All (λ b. CanBeWritten (variable_of b)) v.items) }
 {
-    let mut bindings = Vec::new(alloc);
+    let mut bindings = Vec::with_capacity(alloc, count_of(pdu))?;
     for binding in pdu.bindings() {
         if binding.tag & 0x1F != 0x1F && binding.name.is_object_id() {
             bindings.push(binding)?;
@@ -46,7 +58,7 @@ fn bindings_of<'a>(alloc: Global, pdu: &Pdu<'a>) -> Result<Vec<Binding<'a>>, All
 fn variables_of<'a>(alloc: Global, pdu: &Pdu<'a>) -> Result<Vec<VariableBinding<'a>>, AllocError>
     ensures { IfOk result (λ v. All (λ b. IsTag b.tag) v.items) }
 {
-    let mut bindings = Vec::new(alloc);
+    let mut bindings = Vec::with_capacity(alloc, pdu.list.len() / LEAST_BINDING)?;
     for binding in pdu.variable_bindings() {
         if binding.tag & 0x1F != 0x1F {
             bindings.push(binding)?;
