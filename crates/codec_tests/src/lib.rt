@@ -1,4 +1,4 @@
-//! Tests of the lowest libraries over their public items: elements and numbers, messages, clocks, access, captures.
+//! Tests of the lowest libraries over their public items: elements and numbers, messages, clocks, access, captures, lines of snmpd.conf.
 #![tactic(auto)]
 
 #[cfg(test)]
@@ -9,5 +9,7 @@ mod snmp_ber_tests;
 mod snmp_msg_tests;
 #[cfg(test)]
 mod snmpsec_capture_tests;
+#[cfg(test)]
+mod snmpsec_import_tests;
 #[cfg(test)]
 mod vacm_core_tests;
