@@ -1,4 +1,4 @@
-//! Tests of the lowest libraries over their public items: elements and numbers, messages, clocks, access, captures, hex.
+//! Tests of the lowest libraries over their public items: elements and numbers, messages, clocks, access, captures, hex, lines of snmpd.conf.
 #![tactic(auto)]
 
 #[cfg(test)]
@@ -11,5 +11,7 @@ mod snmp_msg_tests;
 mod snmpsec_capture_tests;
 #[cfg(test)]
 mod snmpsec_hex_tests;
+#[cfg(test)]
+mod snmpsec_import_tests;
 #[cfg(test)]
 mod vacm_core_tests;

@@ -1,0 +1,11 @@
+//! Lines of snmpd.conf.
+
+mod accesses;
+mod choice;
+mod entries;
+mod groups;
+mod lines;
+mod subtrees;
+mod values;
+mod views;
+mod words;

@@ -1,0 +1,29 @@
+//! Users, groups, access rows and views of snmpd.conf, as net-snmp 5.9.3 reads them.
+#![tactic(auto)]
+
+mod accesses;
+mod choice;
+mod directives;
+mod entries;
+mod fault;
+mod files;
+mod groups;
+mod lines;
+mod masks;
+mod subtrees;
+mod values;
+mod views;
+mod words;
+
+pub use accesses::access_row;
+pub use choice::snmpd_choice;
+pub use directives::{Directive, directive_of};
+pub use entries::{Entry, Note, read_entry};
+pub use fault::{LineFault, Refusal};
+pub use files::read_entries;
+pub use groups::group_row;
+pub use lines::{Line, Section, read_line};
+pub use subtrees::{Subtree, subtree_of};
+pub use values::{level_of, matching_of, model_of};
+pub use views::family_row;
+pub use words::{Word, go_on, take_token, take_word};
