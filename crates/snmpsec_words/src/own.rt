@@ -43,6 +43,17 @@ pub fn version_text(alloc: Global) -> Result<String, AllocError>
     format!(in alloc; "snmpsec {VERSION}\n")
 }
 
+/// What the parser answers to words for which it has no command to run: its help, or what is wrong.
+fn answer_to<'a>(alloc: Global, words: &'a [String]) -> Result<Error, Error> {
+    match parser(alloc)?.try_get_matches_from(words) {
+        Ok(_matches) => {
+            let fault = parser(alloc)?.error(ErrorKind::InvalidSubcommand, "there is no help")?;
+            Ok(fault)
+        }
+        Err(fault) => Ok(fault),
+    }
+}
+
 /// What the parser's help says of a command, or of all where none is named. The fault is the parser's, where there is no such
 /// command, or want of memory.
 pub fn manual_text(alloc: Global, command: Option<&str>) -> Result<String, Error> {
@@ -52,9 +63,9 @@ pub fn manual_text(alloc: Global, command: Option<&str>) -> Result<String, Error
     if let Some(command) = command {
         words.push(String::from_str(alloc, command)?)?;
     }
-    match parser(alloc)?.try_get_matches_from(words.as_slice()) {
-        Err(fault) if fault.kind() == ErrorKind::DisplayHelp => Ok(fault.to_string(alloc)?),
-        Err(fault) => Err(fault),
-        Ok(_) => Err(parser(alloc)?.error(ErrorKind::InvalidSubcommand, "there is no help")?),
+    let answer = answer_to(alloc, &words)?;
+    if answer.kind() == ErrorKind::DisplayHelp {
+        return Ok(answer.to_string(alloc)?);
     }
+    Err(answer)
 }
