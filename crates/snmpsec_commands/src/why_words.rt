@@ -108,35 +108,39 @@ pub(crate) fn look_at_ports(alloc: Global, words: &[&str]) -> Result<(), Wrong> 
     Ok(())
 }
 
-/// A word of this name is one of these three.
-fn look_at_choice(alloc: Global, name: &str, words: [&str; 3], word: &str) -> Result<(), Wrong> {
-    let [first, second, third] = words;
-    if word == first || word == second || word == third {
+/// A word of this name is one of these.
+fn look_at_choice(
+    alloc: Global,
+    name: &str,
+    words: &[&str],
+    wanted: &str,
+    word: &str,
+) -> Result<(), Wrong> {
+    if words.iter().any(|known| *known == word) {
         return Ok(());
     }
-    let why = match nearest(&words, word) {
+    let why = match nearest(words, word) {
         Some(near) => format!(in alloc; "it is none, the nearest is {near}")?,
         None => String::from_str(alloc, "it is none")?,
     };
-    let wanted = format!(in alloc; "one of {first}, {second}, {third} is wanted")?;
-    Err(wrong_word(alloc, name, word, &why, &wanted))
+    Err(wrong_word(alloc, name, word, &why, wanted))
 }
 
 /// LEVEL is a security level.
 pub(crate) fn look_at_level(alloc: Global, word: &str) -> Result<(), Wrong> {
-    let words = [Level::NoAuthNoPriv, Level::AuthNoPriv, Level::AuthPriv];
-    let [first, second, third] = words;
-    let words = [level_word(first), level_word(second), level_word(third)];
-    look_at_choice(alloc, "LEVEL", words, word)
+    let none = level_word(Level::NoAuthNoPriv);
+    let auth = level_word(Level::AuthNoPriv);
+    let both = level_word(Level::AuthPriv);
+    let wanted = format!(in alloc; "one of {none}, {auth}, {both} is wanted")?;
+    look_at_choice(alloc, "LEVEL", &[none, auth, both], &wanted, word)
 }
 
 /// VIEW is a view, where there is one.
 pub(crate) fn look_at_view(alloc: Global, word: Option<&str>) -> Result<(), Wrong> {
     let read = view_word(ViewType::Read);
-    let words = [
-        read,
-        view_word(ViewType::Write),
-        view_word(ViewType::Notify),
-    ];
-    look_at_choice(alloc, "VIEW", words, word.unwrap_or(read))
+    let write = view_word(ViewType::Write);
+    let notify = view_word(ViewType::Notify);
+    let wanted = format!(in alloc; "one of {read}, {write}, {notify} is wanted")?;
+    let word = word.unwrap_or(read);
+    look_at_choice(alloc, "VIEW", &[read, write, notify], &wanted, word)
 }
