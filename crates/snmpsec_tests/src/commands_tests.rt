@@ -10,6 +10,7 @@ mod explained;
 mod merged;
 mod named;
 mod opened;
+mod pasted;
 mod reasons;
 mod replays;
 mod sees;
@@ -186,7 +187,7 @@ fn a_usage_fault_names_what_is_wrong(rt: HostRuntime) -> Result<(), Fail> {
 }
 
 /// A command, and a word of its help.
-const HELP: [(&str, &str); 15] = [
+const HELP: [(&str, &str); 16] = [
     ("show", "pairs of hex digits"),
     ("open", "examples/replay/config.toml"),
     ("open", "pairs of hex digits"),
@@ -202,6 +203,7 @@ const HELP: [(&str, &str); 15] = [
     ("merge-clocks", "examples/station-a.clocks"),
     ("datagrams", "examples/replay/captured.pcap"),
     ("datagrams", "161 and 162 if left out"),
+    ("datagrams", "pcap, or hex"),
 ];
 
 #[test]

@@ -5,7 +5,7 @@ use snmpsec_commands::run::command;
 use std::alloc::Global;
 
 /// A command line without the program's name, the status, standard output and standard error.
-static COMMANDS: [(&str, u8, &str, &str); 60] = [
+static COMMANDS: [(&str, u8, &str, &str); 65] = [
     ("version", 0, "snmpsec 0.1.0\n", ""),
     ("check-log /dev/null", 0, "line 0\n", ""),
     (
@@ -322,8 +322,39 @@ static COMMANDS: [(&str, u8, &str, &str); 60] = [
     (
         "datagrams --port 161 --port 161 /dev/null",
         1,
+        "refused datagrams /dev/null line 1 column 1\n",
+        "",
+    ),
+    (
+        "datagrams --form pcap /dev/null",
+        1,
         "refused datagrams /dev/null octet 0\n",
         "",
+    ),
+    // The form is looked at first, and the moment after the ports.
+    (
+        "datagrams --form PCAP --port -1 --moment x /no/such/file",
+        2,
+        "",
+        "snmpsec: bad word FORM\n",
+    ),
+    (
+        "datagrams --port -1 --moment x /no/such/file",
+        2,
+        "",
+        "snmpsec: bad word PORT\n",
+    ),
+    (
+        "datagrams --form hex --moment 18446744073709551616 /no/such/file",
+        2,
+        "",
+        "snmpsec: bad word MOMENT\n",
+    ),
+    (
+        "datagrams --form hex --moment 0 /no/such/file",
+        2,
+        "",
+        "snmpsec: cannot read /no/such/file\n",
     ),
 ];
 
