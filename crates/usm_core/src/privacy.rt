@@ -39,14 +39,14 @@ pub(crate) fn schedule_under(
     ensures schedule { result ≡ schedule (take 16 (kul (hash_of key.now.auth) key.now.octets engine.now)) }
     ensures cache { AreCached users.now cache.new }
 {
-    let (schedule, made) = match cache.find(name, engine, Purpose::Privacy) {
-        Some(local) => (local.schedule(), None),
-        None => {
-            let local = CachedKey::for_privacy(localise(key, engine));
-            (local.schedule(), Some(local))
-        }
-    };
-    cache.note_use(name, engine, Purpose::Privacy, made);
+    if let Some(local) = cache.find(name, engine, Purpose::Privacy) {
+        let schedule = local.schedule();
+        cache.note_use(name, engine, Purpose::Privacy, None);
+        return schedule;
+    }
+    let local = CachedKey::for_privacy(localise(key, engine));
+    let schedule = local.schedule();
+    cache.note_use(name, engine, Purpose::Privacy, Some(local));
     schedule
 }
 

@@ -2,8 +2,8 @@ use Rattle.usm_core.specs.declared.cache.Purpose.TheVariants.{Privacy}
 use Rattle.usm_core.proofs.Caching.{cached_is, localised-least}
 use Rattle.usm_core.proofs.privacy.schedule_under.Goals as goal
 
-pub schedule-requires : goal.schedule-requires
-schedule-requires c =
+pub schedule-schedule-requires : goal.schedule-schedule-requires
+schedule-schedule-requires c =
     let u = c.requires.key in
     let local = c.in-Some.local.now in
     let is = cached_is c.args.users.now c.args.name.now c.args.engine.now Privacy u.0 c.args.key.now local u.1 u.2 (c.in-Some.ensures c.args.users.now c.requires.cache) in
