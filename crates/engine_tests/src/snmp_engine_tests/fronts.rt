@@ -59,7 +59,7 @@ fn assert_front(
     let front = agent.respond_front(1010, taken, 0, 0, bindings, SALT, whole.len())?;
     assert_eq!(rt; front.count, count);
     assert!(rt; front.text == whole);
-    let fewer = count_within(agent, taken, bindings, whole.len() - 1)?;
+    let fewer = count_within(agent, taken, bindings, whole.len().saturating_sub(1))?;
     assert_eq!(rt; fewer, count.checked_sub(1));
     Ok(())
 }
