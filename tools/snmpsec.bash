@@ -1,30 +1,72 @@
-# Completion of snmpsec's words for bash: `source tools/snmpsec.bash`.
+# Completion of snmpsec's words for bash: `source tools/snmpsec.bash`. Written by tools/completions.
+
+# The word that comes next of those of the command, without the options and their values.
+_snmpsec_place() {
+  local at=2 place=1
+  while [ "$at" -lt "$COMP_CWORD" ]; do
+    case ${COMP_WORDS[at]} in
+      --form | --from-line | --moment | --port) at=$((at + 1)) ;;
+      --*) ;;
+      *) place=$((place + 1)) ;;
+    esac
+    at=$((at + 1))
+  done
+  echo "$place"
+}
 
 _snmpsec() {
-  local word=${COMP_WORDS[COMP_CWORD]} command=${COMP_WORDS[1]-}
-  local choices=
+  local word=${COMP_WORDS[COMP_CWORD]} command=${COMP_WORDS[1]-} choices='' files=''
   COMPREPLY=()
   if [ "$COMP_CWORD" -eq 1 ]; then
-    choices="show open check-config check-access explain-access who-sees sees replay merge-clocks datagrams"
+    choices='show open check-access explain-access who-sees sees check-config replay merge-clocks check-clocks check-log datagrams manual version'
   else
-    case $command:$COMP_CWORD in
-      check-access:3 | explain-access:3 | sees:3) choices="3" ;;
-      check-access:5 | explain-access:5) choices="noAuthNoPriv authNoPriv authPriv" ;;
-      check-access:6 | explain-access:6) choices="read write notify" ;;
-      check-access:7 | explain-access:7) choices="@" ;;
-      who-sees:[45]) choices="read write notify" ;;
-      open:2 | check-config:2 | check-access:2 | explain-access:2 | who-sees:[23] | sees:2 | replay:* | merge-clocks:* | datagrams:*) mapfile -t COMPREPLY < <(compgen -f -- "$word") ;;
-    esac
     case ${COMP_WORDS[COMP_CWORD - 1]} in
-      --form) COMPREPLY=() choices="pcap hex" command= ;;
+      --form | --from-line | --moment | --port) return ;;
+    esac
+    case $command:$(_snmpsec_place) in
+      open:1) files=yes ;;
+      check-access:1) files=yes ;;
+      check-access:2) choices='3' ;;
+      check-access:4) choices='noAuthNoPriv authNoPriv authPriv' ;;
+      check-access:5) choices='read write notify' ;;
+      check-access:6) choices='@' ;;
+      explain-access:1) files=yes ;;
+      explain-access:2) choices='3' ;;
+      explain-access:4) choices='noAuthNoPriv authNoPriv authPriv' ;;
+      explain-access:5) choices='read write notify' ;;
+      explain-access:6) choices='@' ;;
+      who-sees:1) files=yes ;;
+      who-sees:3) choices='read write notify' ;;
+      sees:1) files=yes ;;
+      sees:2) choices='3' ;;
+      check-config:1) files=yes ;;
+      replay:1) files=yes ;;
+      replay:2) files=yes ;;
+      replay:3) files=yes ;;
+      merge-clocks:*) files=yes ;;
+      check-clocks:*) files=yes ;;
+      check-log:1) files=yes ;;
+      datagrams:1) files=yes ;;
+      manual:1) choices='show open check-access explain-access who-sees sees check-config replay merge-clocks check-clocks check-log datagrams manual version' ;;
     esac
     case $command in
-      who-sees) choices="$choices --users" ;;
-      replay) choices="--moment --clocks-only --from-line" ;;
-      merge-clocks) choices="--moment" ;;
-      datagrams) choices="--form --port --moment" ;;
+      show) choices="$choices --names --why" ;;
+      open) choices="$choices --names --why" ;;
+      check-access) choices="$choices --why" ;;
+      explain-access) choices="$choices --why" ;;
+      who-sees) choices="$choices --users --why" ;;
+      sees) choices="$choices --why" ;;
+      check-config) choices="$choices --why" ;;
+      replay) choices="$choices --moment --why --clocks-only --from-line" ;;
+      merge-clocks) choices="$choices --moment --why" ;;
+      check-clocks) choices="$choices --why" ;;
+      check-log) choices="$choices --why" ;;
+      datagrams) choices="$choices --form --why --port --moment" ;;
+      manual) choices="$choices --why" ;;
+      version) choices="$choices --why" ;;
     esac
   fi
+  [ -z "$files" ] || mapfile -t COMPREPLY < <(compgen -f -- "$word")
   [ -z "$choices" ] || mapfile -t -O "${#COMPREPLY[@]}" COMPREPLY < <(compgen -W "$choices" -- "$word")
 }
 
