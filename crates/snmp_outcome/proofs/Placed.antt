@@ -29,7 +29,6 @@ parts_of (Some q) tag id second third list a b c d e =
 pub stands_read : (text : List ℕ) (tag : ℕ) (p : PduPlace) → StandsThere text tag p → pdu_read text ≡ Some (pdu_placed text tag p)
 stands_read text tag p s = parts_of (pdu_read text) tag p.id p.second p.third (slice_range text p.list_at p.end) s.0 s.1 s.2 s.3 s.4
 
-
 -- ---- its list
 
 -- A PDU ends with the content of its list.
