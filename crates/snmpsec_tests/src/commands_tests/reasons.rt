@@ -10,13 +10,13 @@ static REASONS: [(&str, &str); 24] = [
     (
         "--why show 30:38",
         "snmpsec: bad word HEX
-snmpsec: HEX \"30:38\": character 3, \":\", is no hex digit; pairs of hex digits are wanted, as 3038; --from FILE takes other forms
+snmpsec: HEX \"30:38\": character 3, \":\", is no hex digit; pairs of hex digits are wanted, as 3038; snmpsec datagrams takes other forms
 ",
     ),
     (
         "show --why 303",
         "snmpsec: bad word HEX
-snmpsec: HEX \"303\": its 3 digits are an odd number; pairs of hex digits are wanted, as 3038; --from FILE takes other forms
+snmpsec: HEX \"303\": its 3 digits are an odd number; pairs of hex digits are wanted, as 3038; snmpsec datagrams takes other forms
 ",
     ),
     ("show 303", "snmpsec: bad word HEX\n"),
