@@ -1,6 +1,6 @@
 //! The command line of `datagrams`.
 
-use crate::{given, word};
+use crate::{Command, given, word};
 use clap::{Arg, ArgAction, ArgMatches, Error};
 use std::alloc::{AllocError, Global};
 
@@ -72,11 +72,11 @@ pub(crate) fn datagrams<'a>(alloc: Global) -> Result<clap::Command<'a>, AllocErr
 pub(crate) fn datagrams_words<'a>(
     alloc: Global,
     words: &ArgMatches<'a>,
-) -> Result<DatagramsWords<'a>, Error> {
-    Ok(DatagramsWords {
+) -> Result<Command<'a>, Error> {
+    Ok(Command::Datagrams(DatagramsWords {
         form: words.get_str("FORM"),
         ports: words.get_strs("PORT").unwrap_or(&[]).to_vec(alloc)?,
         moment: words.get_str("MOMENT"),
         file: given(alloc, words, "FILE")?,
-    })
+    }))
 }

@@ -123,6 +123,76 @@ pub struct ReplayWords<'a> {
     pub log: &'a str,
 }
 
+/// A word that must be given: its name, and what it is.
+type Word = (&'static str, &'static str);
+
+/// What the files of saved clocks are.
+const CLOCKS_FILES: &str = "Saved clocks, each at most 16 MiB";
+
+/// The file of a configuration.
+const CONFIG: Word = (
+    "CONFIG",
+    "TOML file with users, contexts, groups, access rows and families",
+);
+
+const MODEL: Word = (
+    "MODEL",
+    "Number of the security model: 3 is the user-based one",
+);
+
+const NAME: Word = ("NAME", "Security name: with model 3 the user's name");
+
+const VARIABLE: Word = (
+    "OID",
+    "The variable, as 1.3.6.1.2.1.1.5.0: no name, no dot in front",
+);
+
+/// The datagram of a command.
+const HEX: Word = (
+    "HEX",
+    "The datagram: one or more pairs of hex digits, without blanks, colons or 0x",
+);
+
+/// A question of who may see what.
+const QUESTION: [Word; 7] = [
+    CONFIG,
+    MODEL,
+    NAME,
+    ("LEVEL", "noAuthNoPriv, authNoPriv or authPriv"),
+    ("VIEW", "read, write or notify"),
+    (
+        "CONTEXT",
+        "Name of the context; @ is the default one, with the empty name",
+    ),
+    VARIABLE,
+];
+
+/// The files of a replay.
+const REPLAYED: [Word; 3] = [
+    ("CONFIG", "TOML file with the manager's users"),
+    (
+        "CLOCKS",
+        "Saved clocks that the manager begins with, at most 16 MiB",
+    ),
+    (
+        "LOG",
+        "Lines MOMENT HEX: when a datagram came, in whole seconds, and its octets",
+    ),
+];
+
+/// The command with these words behind those that it has, each of which must be given.
+fn with_words<'a>(
+    alloc: Global,
+    command: clap::Command<'a>,
+    words: &[(&'a str, &'a str)],
+) -> Result<clap::Command<'a>, AllocError> {
+    let mut command = command;
+    for (name, help) in words {
+        command = command.arg(word(alloc, name, help))?;
+    }
+    Ok(command)
+}
+
 /// A word that must be given, and what it is.
 fn word<'a>(alloc: Global, name: &'a str, help: &'a str) -> Arg<'a> {
     Arg::new(alloc, name)
@@ -159,91 +229,51 @@ fn from_line<'a>(alloc: Global) -> Arg<'a> {
         .help("Number of the log's first line, 1 to 1000000000000000; 1 if left out")
 }
 
-/// The datagram of a command.
-fn hex_word<'a>(alloc: Global) -> Arg<'a> {
-    word(
-        alloc,
-        "HEX",
-        "The datagram: one or more pairs of hex digits, without blanks, colons or 0x",
-    )
-}
-
 fn show<'a>(alloc: Global) -> Result<clap::Command<'a>, AllocError> {
-    clap::Command::new(alloc, "show")
+    let command = clap::Command::new(alloc, "show")
         .about("Print the fields of an SNMPv3 message, a field a line, and its canonical spelling")
         .after_help(SHOW_STATUS)
-        .arg(asked::names(alloc))?
-        .arg(hex_word(alloc))
+        .arg(asked::names(alloc))?;
+    with_words(alloc, command, &[HEX])
 }
 
 fn open<'a>(alloc: Global) -> Result<clap::Command<'a>, AllocError> {
-    clap::Command::new(alloc, "open")
+    let command = clap::Command::new(alloc, "open")
         .about(
             "Authenticate and decrypt an SNMPv3 message with the users' passwords, and print its fields",
         )
         .after_help(OPEN_STATUS)
-        .arg(asked::names(alloc))?
-        .arg(word(alloc, "CONFIG", "TOML file with the users"))?
-        .arg(hex_word(alloc))
-}
-
-/// A question of who may see what.
-fn with_question<'a>(
-    alloc: Global,
-    command: clap::Command<'a>,
-) -> Result<clap::Command<'a>, AllocError> {
-    command
-        .arg(word(
-            alloc,
-            "CONFIG",
-            "TOML file with users, contexts, groups, access rows and families",
-        ))?
-        .arg(word(
-            alloc,
-            "MODEL",
-            "Number of the security model: 3 is the user-based one",
-        ))?
-        .arg(word(alloc, "NAME", "Security name: with model 3 the user's name"))?
-        .arg(word(alloc, "LEVEL", "noAuthNoPriv, authNoPriv or authPriv"))?
-        .arg(word(alloc, "VIEW", "read, write or notify"))?
-        .arg(word(
-            alloc,
-            "CONTEXT",
-            "Name of the context; @ is the default one, with the empty name",
-        ))?
-        .arg(word(
-            alloc,
-            "OID",
-            "The variable, as 1.3.6.1.2.1.1.5.0: no name, no dot in front",
-        ))
+        .arg(asked::names(alloc))?;
+    with_words(
+        alloc,
+        command,
+        &[("CONFIG", "TOML file with the users"), HEX],
+    )
 }
 
 fn check_access<'a>(alloc: Global) -> Result<clap::Command<'a>, AllocError> {
     let command = clap::Command::new(alloc, "check-access")
         .about("Ask whether a user may read, write or be notified of a variable (RFC 3415)")
         .after_help(CHECK_STATUS);
-    with_question(alloc, command)
+    with_words(alloc, command, &QUESTION)
 }
 
 fn explain_access<'a>(alloc: Global) -> Result<clap::Command<'a>, AllocError> {
     let command = clap::Command::new(alloc, "explain-access")
         .about("Ask as check-access does, and print which rows of the configuration decided")
         .after_help(EXPLAIN_STATUS);
-    with_question(alloc, command)
+    with_words(alloc, command, &QUESTION)
 }
 
 fn check_config<'a>(alloc: Global) -> Result<clap::Command<'a>, AllocError> {
-    clap::Command::new(alloc, "check-config")
+    let command = clap::Command::new(alloc, "check-config")
         .about("Read a configuration: print how many rows each table has, or what is wrong with it")
-        .after_help(CONFIG_STATUS)
-        .arg(word(
-            alloc,
-            "CONFIG",
-            "TOML file with users, contexts, groups, access rows and families",
-        ))
+        .after_help(CONFIG_STATUS);
+    with_words(alloc, command, &[CONFIG])
 }
 
-fn replay<'a>(alloc: Global) -> Result<clap::Command<'a>, AllocError> {
+/// The options of replay.
+fn replay_options<'a>(alloc: Global) -> Result<clap::Command<'a>, AllocError> {
     clap::Command::new(alloc, "replay")
         .about(
             "Take a log of datagrams as a manager does: print what each comes to, and then the clocks",
@@ -251,51 +281,85 @@ fn replay<'a>(alloc: Global) -> Result<clap::Command<'a>, AllocError> {
         .after_help(REPLAY_STATUS)
         .arg(moment(alloc))?
         .arg(clocks_only(alloc))?
-        .arg(from_line(alloc))?
-        .arg(word(alloc, "CONFIG", "TOML file with the manager's users"))?
-        .arg(word(
-            alloc,
-            "CLOCKS",
-            "Saved clocks that the manager begins with, at most 16 MiB",
-        ))?
-        .arg(word(
-            alloc,
-            "LOG",
-            "Lines MOMENT HEX: when a datagram came, in whole seconds, and its octets",
-        ))
+        .arg(from_line(alloc))
+}
+
+fn replay<'a>(alloc: Global) -> Result<clap::Command<'a>, AllocError> {
+    with_words(alloc, replay_options(alloc)?, &REPLAYED)
+}
+
+/// One or more files.
+fn files<'a>(alloc: Global, help: &'a str) -> Arg<'a> {
+    word(alloc, "FILE", help)
+        .num_args(1..)
+        .action(ArgAction::Append)
 }
 
 fn merge_clocks<'a>(alloc: Global) -> Result<clap::Command<'a>, AllocError> {
-    let files = word(alloc, "FILE", "Saved clocks, each at most 16 MiB")
-        .num_args(1..)
-        .action(ArgAction::Append);
     clap::Command::new(alloc, "merge-clocks")
         .about("Print the join of saved clocks: of each engine the greatest boots and time")
         .after_help(MERGE_STATUS)
         .arg(moment(alloc))?
-        .arg(files)
+        .arg(files(alloc, CLOCKS_FILES))
+}
+
+/// The parser with this command too, or the want of memory to make it.
+fn with<'a>(
+    parser: clap::Command<'a>,
+    command: Result<clap::Command<'a>, AllocError>,
+) -> Result<clap::Command<'a>, AllocError> {
+    parser.subcommand(command?)
+}
+
+/// The commands that look into a message.
+fn with_messages<'a>(
+    alloc: Global,
+    parser: clap::Command<'a>,
+) -> Result<clap::Command<'a>, AllocError> {
+    let parser = with(parser, show(alloc))?;
+    with(parser, open(alloc))
+}
+
+/// The commands that ask a configuration.
+fn with_access<'a>(
+    alloc: Global,
+    parser: clap::Command<'a>,
+) -> Result<clap::Command<'a>, AllocError> {
+    let parser = with(parser, check_access(alloc))?;
+    let parser = with(parser, explain_access(alloc))?;
+    let parser = with(parser, wide::who_sees(alloc))?;
+    let parser = with(parser, wide::sees(alloc))?;
+    with(parser, check_config(alloc))
+}
+
+/// The commands that read logs, clocks and captures.
+fn with_logs<'a>(
+    alloc: Global,
+    parser: clap::Command<'a>,
+) -> Result<clap::Command<'a>, AllocError> {
+    let parser = with(parser, replay(alloc))?;
+    let parser = with(parser, merge_clocks(alloc))?;
+    let parser = with(parser, saved::check_clocks(alloc))?;
+    let parser = with(parser, saved::check_log(alloc))?;
+    with(parser, capture::datagrams(alloc))
+}
+
+/// The commands about the program itself.
+fn with_own<'a>(alloc: Global, parser: clap::Command<'a>) -> Result<clap::Command<'a>, AllocError> {
+    let parser = with(parser, own::manual(alloc))?;
+    parser.subcommand(own::version(alloc))
 }
 
 /// The parser of the command line.
 fn parser<'a>(alloc: Global) -> Result<clap::Command<'a>, AllocError> {
-    clap::Command::new(alloc, "snmpsec")
+    let parser = clap::Command::new(alloc, "snmpsec")
         .about("Looks into SNMPv3 messages, view-based access, logs of datagrams and saved clocks")
         .subcommand_required(true)
-        .arg(asked::why(alloc))?
-        .subcommand(show(alloc)?)?
-        .subcommand(open(alloc)?)?
-        .subcommand(check_access(alloc)?)?
-        .subcommand(explain_access(alloc)?)?
-        .subcommand(wide::who_sees(alloc)?)?
-        .subcommand(wide::sees(alloc)?)?
-        .subcommand(check_config(alloc)?)?
-        .subcommand(replay(alloc)?)?
-        .subcommand(merge_clocks(alloc)?)?
-        .subcommand(saved::check_clocks(alloc)?)?
-        .subcommand(saved::check_log(alloc)?)?
-        .subcommand(capture::datagrams(alloc)?)?
-        .subcommand(own::manual(alloc)?)?
-        .subcommand(own::version(alloc))
+        .arg(asked::why(alloc))?;
+    let parser = with_messages(alloc, parser)?;
+    let parser = with_access(alloc, parser)?;
+    let parser = with_logs(alloc, parser)?;
+    with_own(alloc, parser)
 }
 
 /// The word of an argument that the parser requires.
@@ -321,15 +385,40 @@ fn access_words<'a>(alloc: Global, words: &ArgMatches<'a>) -> Result<AccessWords
     })
 }
 
-/// The words of replay.
-fn replay_words<'a>(alloc: Global, words: &ArgMatches<'a>) -> Result<ReplayWords<'a>, Error> {
-    Ok(ReplayWords {
+fn show_words<'a>(alloc: Global, words: &ArgMatches<'a>) -> Result<Command<'a>, Error> {
+    Ok(Command::Show {
+        digits: given(alloc, words, "HEX")?,
+    })
+}
+
+fn open_words<'a>(alloc: Global, words: &ArgMatches<'a>) -> Result<Command<'a>, Error> {
+    Ok(Command::Open {
+        config: given(alloc, words, "CONFIG")?,
+        digits: given(alloc, words, "HEX")?,
+    })
+}
+
+fn config_words<'a>(alloc: Global, words: &ArgMatches<'a>) -> Result<Command<'a>, Error> {
+    Ok(Command::CheckConfig {
+        config: given(alloc, words, "CONFIG")?,
+    })
+}
+
+fn replay_words<'a>(alloc: Global, words: &ArgMatches<'a>) -> Result<Command<'a>, Error> {
+    Ok(Command::Replay(ReplayWords {
         moment: words.get_str("MOMENT"),
         clocks_only: words.get_flag("clocks-only"),
         from_line: words.get_str("N"),
         config: given(alloc, words, "CONFIG")?,
         clocks: given(alloc, words, "CLOCKS")?,
         log: given(alloc, words, "LOG")?,
+    }))
+}
+
+fn merge_words<'a>(alloc: Global, words: &ArgMatches<'a>) -> Result<Command<'a>, Error> {
+    Ok(Command::MergeClocks {
+        moment: words.get_str("MOMENT"),
+        files: words.get_strs("FILE").unwrap_or(&[]).to_vec(alloc)?,
     })
 }
 
@@ -342,40 +431,41 @@ pub fn parse<'a>(alloc: Global, words: &'a [String]) -> Result<Command<'a>, Erro
 /// The command that was given, with its words.
 fn command_of<'a>(alloc: Global, matches: &ArgMatches<'a>) -> Result<Command<'a>, Error> {
     match matches.subcommand() {
-        Some(("show", words)) => Ok(Command::Show {
-            digits: given(alloc, words, "HEX")?,
-        }),
-        Some(("open", words)) => Ok(Command::Open {
-            config: given(alloc, words, "CONFIG")?,
-            digits: given(alloc, words, "HEX")?,
-        }),
+        Some(("show", words)) => show_words(alloc, words),
+        Some(("open", words)) => open_words(alloc, words),
         Some(("check-access", words)) => Ok(Command::CheckAccess(access_words(alloc, words)?)),
         Some(("explain-access", words)) => Ok(Command::ExplainAccess(access_words(alloc, words)?)),
-        Some(("who-sees", words)) => Ok(Command::WhoSees(wide::who_words(alloc, words)?)),
-        Some(("sees", words)) => Ok(Command::Sees(wide::sees_words(alloc, words)?)),
-        Some(("check-config", words)) => Ok(Command::CheckConfig {
-            config: given(alloc, words, "CONFIG")?,
-        }),
-        Some(("replay", words)) => Ok(Command::Replay(replay_words(alloc, words)?)),
-        Some(("merge-clocks", words)) => Ok(Command::MergeClocks {
-            moment: words.get_str("MOMENT"),
-            files: words.get_strs("FILE").unwrap_or(&[]).to_vec(alloc)?,
-        }),
-        Some(("check-clocks", words)) => Ok(Command::CheckClocks {
-            files: words.get_strs("FILE").unwrap_or(&[]).to_vec(alloc)?,
-        }),
-        Some(("check-log", words)) => Ok(Command::CheckLog {
-            log: given(alloc, words, "LOG")?,
-        }),
-        Some(("datagrams", words)) => {
-            Ok(Command::Datagrams(capture::datagrams_words(alloc, words)?))
-        }
-        Some(("manual", words)) => Ok(Command::Manual {
+        Some(("who-sees", words)) => wide::who_words(alloc, words),
+        Some(("sees", words)) => wide::sees_words(alloc, words),
+        Some(("check-config", words)) => config_words(alloc, words),
+        Some((name, words)) => log_command(alloc, name, words),
+        None => Err(no_command(alloc)?),
+    }
+}
+
+/// The command on logs, clocks or captures with this name, or on the program itself.
+fn log_command<'a>(
+    alloc: Global,
+    name: &str,
+    words: &ArgMatches<'a>,
+) -> Result<Command<'a>, Error> {
+    match name {
+        "replay" => replay_words(alloc, words),
+        "merge-clocks" => merge_words(alloc, words),
+        "check-clocks" => saved::clocks_words(alloc, words),
+        "check-log" => saved::log_words(alloc, words),
+        "datagrams" => capture::datagrams_words(alloc, words),
+        "manual" => Ok(Command::Manual {
             command: words.get_str("COMMAND"),
         }),
-        Some(("version", _)) => Ok(Command::Version),
-        _ => Err(parser(alloc)?.error(ErrorKind::MissingSubcommand, "a command is missing")?),
+        "version" => Ok(Command::Version),
+        _ => Err(no_command(alloc)?),
     }
+}
+
+/// The refusal of a command line without a command.
+fn no_command(alloc: Global) -> Result<Error, AllocError> {
+    parser(alloc)?.error(ErrorKind::MissingSubcommand, "a command is missing")
 }
 
 /// The refusal of words that are no text.

@@ -1,7 +1,7 @@
 //! Commands that look at a file, and take nothing of it.
 
-use crate::word;
-use clap::ArgAction;
+use crate::{CLOCKS_FILES, Command, files, given, word};
+use clap::{ArgMatches, Error};
 use std::alloc::{AllocError, Global};
 
 const CLOCKS_STATUS: &str = "Example: snmpsec check-clocks examples/station-a.clocks
@@ -15,11 +15,7 @@ pub(crate) fn check_clocks<'a>(alloc: Global) -> Result<clap::Command<'a>, Alloc
     clap::Command::new(alloc, "check-clocks")
         .about("Print how many engines each file of saved clocks has, or what is wrong with it")
         .after_help(CLOCKS_STATUS)
-        .arg(
-            word(alloc, "FILE", "Saved clocks, each at most 16 MiB")
-                .num_args(1..)
-                .action(ArgAction::Append),
-        )
+        .arg(files(alloc, CLOCKS_FILES))
 }
 
 /// The parser of check-log.
@@ -32,4 +28,21 @@ pub(crate) fn check_log<'a>(alloc: Global) -> Result<clap::Command<'a>, AllocErr
             "LOG",
             "A log: lines of a moment, a blank and a datagram in hex",
         ))
+}
+
+/// The words of check-clocks.
+pub(crate) fn clocks_words<'a>(
+    alloc: Global,
+    words: &ArgMatches<'a>,
+) -> Result<Command<'a>, Error> {
+    Ok(Command::CheckClocks {
+        files: words.get_strs("FILE").unwrap_or(&[]).to_vec(alloc)?,
+    })
+}
+
+/// The words of check-log.
+pub(crate) fn log_words<'a>(alloc: Global, words: &ArgMatches<'a>) -> Result<Command<'a>, Error> {
+    Ok(Command::CheckLog {
+        log: given(alloc, words, "LOG")?,
+    })
 }

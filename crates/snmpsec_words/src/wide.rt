@@ -1,6 +1,6 @@
 //! Commands that ask a configuration more than one question.
 
-use crate::{given, word};
+use crate::{CONFIG, Command, MODEL, NAME, VARIABLE, given, with_words};
 use clap::{Arg, ArgAction, ArgMatches, Error};
 use std::alloc::{AllocError, Global};
 
@@ -40,76 +40,54 @@ pub struct SeesWords<'a> {
     pub name: &'a str,
 }
 
+/// Whether the lines of users alone are wanted.
+fn users<'a>(alloc: Global) -> Arg<'a> {
+    Arg::new(alloc, "users")
+        .long("users")
+        .action(ArgAction::SetTrue)
+        .help("Print the lines alone of names that are users of CONFIG and support the level")
+}
+
 /// The parser of who-sees.
 pub(crate) fn who_sees<'a>(alloc: Global) -> Result<clap::Command<'a>, AllocError> {
-    clap::Command::new(alloc, "who-sees")
+    let command = clap::Command::new(alloc, "who-sees")
         .about(
             "Print who may read, write or be notified of a variable: MODEL NAME LEVEL VIEW CONTEXT",
         )
         .after_help(WHO_STATUS)
-        .arg(
-            Arg::new(alloc, "users")
-                .long("users")
-                .action(ArgAction::SetTrue)
-                .help(
-                    "Print the lines alone of names that are users of CONFIG and support the level",
-                ),
-        )?
-        .arg(word(
-            alloc,
-            "CONFIG",
-            "TOML file with users, contexts, groups, access rows and families",
-        ))?
-        .arg(word(
-            alloc,
-            "OID",
-            "The variable, as 1.3.6.1.2.1.1.5.0: no name, no dot in front",
-        ))?
-        .arg(
-            Arg::new(alloc, "VIEW")
-                .action(ArgAction::Set)
-                .help("read, write or notify; each of them if left out"),
-        )
+        .arg(users(alloc))?;
+    with_words(alloc, command, &[CONFIG, VARIABLE])?.arg(
+        Arg::new(alloc, "VIEW")
+            .action(ArgAction::Set)
+            .help("read, write or notify; each of them if left out"),
+    )
 }
 
 /// The words of who-sees.
-pub(crate) fn who_words<'a>(alloc: Global, words: &ArgMatches<'a>) -> Result<WhoWords<'a>, Error> {
-    Ok(WhoWords {
+pub(crate) fn who_words<'a>(alloc: Global, words: &ArgMatches<'a>) -> Result<Command<'a>, Error> {
+    Ok(Command::WhoSees(WhoWords {
         config: given(alloc, words, "CONFIG")?,
         variable: given(alloc, words, "OID")?,
         view: words.get_str("VIEW"),
         only_users: words.get_flag("users"),
-    })
+    }))
 }
 
 /// The parser of sees.
 pub(crate) fn sees<'a>(alloc: Global) -> Result<clap::Command<'a>, AllocError> {
-    clap::Command::new(alloc, "sees")
+    let command = clap::Command::new(alloc, "sees")
         .about(
             "Print what a user may read, write or be notified of: LEVEL VIEW CONTEXT and subtrees",
         )
-        .after_help(SEES_STATUS)
-        .arg(word(
-            alloc,
-            "CONFIG",
-            "TOML file with users, contexts, groups, access rows and families",
-        ))?
-        .arg(word(
-            alloc,
-            "MODEL",
-            "Number of the security model: 3 is the user-based one",
-        ))?
-        .arg(word(alloc, "NAME", "Security name: with model 3 the user's name"))
+        .after_help(SEES_STATUS);
+    with_words(alloc, command, &[CONFIG, MODEL, NAME])
 }
 
 /// The words of sees.
-pub(crate) fn sees_words<'a>(
-    alloc: Global,
-    words: &ArgMatches<'a>,
-) -> Result<SeesWords<'a>, Error> {
-    Ok(SeesWords {
+pub(crate) fn sees_words<'a>(alloc: Global, words: &ArgMatches<'a>) -> Result<Command<'a>, Error> {
+    Ok(Command::Sees(SeesWords {
         config: given(alloc, words, "CONFIG")?,
         model: given(alloc, words, "MODEL")?,
         name: given(alloc, words, "NAME")?,
-    })
+    }))
 }
