@@ -1,5 +1,5 @@
 -- The layout of a ScopedPDU (RFC 3412, section 6.8).
-use Rattle.std.specs.Prelude.{◌≡◌, ℕ, ◌+◌, ◌-◌, nat_lt, if◌then◌else◌, List, ◌++◌, length, Option, Some, None, true, false}
+use Rattle.std.specs.Prelude.{◌≡◌, ℕ, ◌+◌, ◌-◌, ◌≤◌, nat_lt, slice_range, if◌then◌else◌, List, ◌++◌, length, Option, Some, None, true, false}
 use Rattle.snmp_ber.specs.Element.{IsHead, IsElement}
 use Rattle.snmp_ber.specs.Reading.{Front, front_of}
 use Rattle.snmp_ber.specs.Spelling.{head_size, element}
@@ -7,6 +7,7 @@ use Rattle.snmp_message.specs.Steps.{◌>>=◌}
 use Rattle.snmp_message.specs.Layout.{Parts}
 use Rattle.snmp_message.specs.Reading.{element_in}
 use Rattle.snmp_message.specs.declared.scoped.Scoped.{Scoped}
+use Rattle.snmp_message.specs.declared.scoped.ScopedPlace.{ScopedPlace}
 
 -- What a ScopedPDU says. Its data is a whole element.
 pub record Contexts : Type 0 where
@@ -78,6 +79,21 @@ contexts_of s = record {
   name = s.name.now;
   pdu = s.pdu.now;
   pdu_at = s.data_at;
+}
+
+-- ---- its parts by their places
+
+-- The parts follow each other, and end within so many octets.
+abbrev pub StandsWithin : ℕ → ScopedPlace → Type 0
+StandsWithin size p = (p.engine_at ≤ p.engine_end) × (p.engine_end ≤ p.name_at) × (p.name_at ≤ p.data_at) × (p.data_at ≤ p.end) × (p.end ≤ size)
+
+-- what stands at these places of the octets
+abbrev pub contexts_there : List ℕ → ScopedPlace → Contexts
+contexts_there octets p = record {
+  engine = slice_range octets p.engine_at p.engine_end;
+  name = slice_range octets p.name_at p.data_at;
+  pdu = slice_range octets p.data_at p.end;
+  pdu_at = p.data_at;
 }
 
 -- ---- the canonical spelling

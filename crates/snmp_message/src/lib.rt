@@ -29,7 +29,8 @@ pub use message::{Data, LARGEST, Message, message_len, put_front, read_message, 
 pub use pieces::cut;
 pub use refusal::Refusal;
 pub use scoped::{
-    Scoped, contexts_len, put_contexts, read_scoped, read_scoped_front, write_scoped,
+    Scoped, ScopedPlace, contexts_len, place_scoped_front, put_contexts, read_scoped,
+    read_scoped_front, write_scoped,
 };
 pub use security::{
     Cut, Security, is_short, put_security, read_security, security_len, write_security,

@@ -6,7 +6,7 @@ ghost use Rattle.snmp_ber.specs.Element.{IsElement};
 ghost use Rattle.snmp_ber.specs.Spelling.{element, head_size};
 ghost use Rattle.snmp_message.specs.Layout.{Outer};
 ghost use Rattle.snmp_message.specs.Message.{parts};
-ghost use Rattle.snmp_message.specs.Scoped.{Contexts, ScopedText, HasScoped, HasSealed, ScopedFront, contexts_in, contexts_of, scoped_front_in, IsOneElement, contexts_size, contexts_text, scoped_text, contexts_placed};
+ghost use Rattle.snmp_message.specs.Scoped.{Contexts, ScopedText, HasScoped, HasSealed, ScopedFront, contexts_in, contexts_of, contexts_there, scoped_front_in, StandsWithin, IsOneElement, contexts_size, contexts_text, scoped_text, contexts_placed};
 ghost use Rattle.snmp_message.specs.Refusals.{RefusesScoped, RefusesFront};
 
 use crate::fault::{MsgFault, WriteFault};
@@ -28,14 +28,49 @@ pub struct Scoped<'a> {
     pub data_at: usize,
 }
 
-/// The ScopedPDU whose content stands between two places.
+/// Where the parts of a ScopedPDU stand in the octets that it was read in, counted from 0. Once it was read, no octet of its heads
+/// is read again.
+#[derive(Clone, Copy, Debug, PartialEq, Eq)]
+pub struct ScopedPlace {
+    /// The place of contextEngineID's first octet.
+    pub engine_at: usize,
+    /// The place after its last octet.
+    pub engine_end: usize,
+    /// The place of contextName's first octet. It ends where the data begins.
+    pub name_at: usize,
+    /// The place of the data's first octet.
+    pub data_at: usize,
+    /// The place after its last octet.
+    pub end: usize,
+}
+
+impl ScopedPlace {
+    /// The parts, lent from the octets that they were read in. It takes no memory.
+    pub fn lent<'a>(&self, octets: &'a [u8]) -> Scoped<'a>
+        requires { StandsWithin (length octets.now) self.now }
+        ensures engine { result.engine.now ≡ slice_range octets.now self.now.engine_at self.now.engine_end }
+        ensures name { result.name.now ≡ slice_range octets.now self.now.name_at self.now.data_at }
+        ensures pdu { result.pdu.now ≡ slice_range octets.now self.now.data_at self.now.end }
+        ensures data_at { result.data_at ≡ self.now.data_at }
+        ensures ends { result.data_at + length result.pdu.now ≡ self.now.end }
+    {
+        Scoped {
+            engine: &octets[self.engine_at..self.engine_end],
+            name: &octets[self.name_at..self.data_at],
+            pdu: &octets[self.data_at..self.end],
+            data_at: self.data_at,
+        }
+    }
+}
+
+/// The places of the ScopedPDU whose content stands between two places.
 #[tactic(auto, unfolding(crate::specs::Scoped::contexts_in))]
-fn read_contexts(octets: &[u8], at: usize, end: usize) -> Result<Scoped<'_>, BerFault>
+fn place_contexts(octets: &[u8], at: usize, end: usize) -> Result<ScopedPlace, BerFault>
     requires start { at ≤ end }
     requires within { end ≤ length octets.now }
-    ensures value { option_map contexts_of (result_ok result) ≡ contexts_in end (slice_range octets.now at end) }
-    ensures ends { IfOk result (λ s. s.data_at + length s.pdu.now ≡ end) }
-    ensures place { IfOk result (λ s. s.pdu.now ≡ slice_range octets.now s.data_at end) }
+    ensures value { option_map (contexts_there octets.now) (result_ok result) ≡ contexts_in end (slice_range octets.now at end) }
+    ensures stands { IfOk result (λ p. StandsWithin (length octets.now) p) }
+    ensures ends { IfOk result (λ p. p.end ≡ end) }
 {
     let engine = read_element(octets, at, end, OCTET_STRING)?;
     let name = read_element(octets, engine.end, end, OCTET_STRING)?;
@@ -43,12 +78,25 @@ fn read_contexts(octets: &[u8], at: usize, end: usize) -> Result<Scoped<'_>, Ber
     if pdu.end < end {
         return Err(BerFault { at: pdu.end });
     }
-    Ok(Scoped {
-        engine: engine.content,
-        name: name.content,
-        pdu: &octets[name.end..end],
+    Ok(ScopedPlace {
+        engine_at: engine.body,
+        engine_end: engine.end,
+        name_at: name.body,
         data_at: name.end,
+        end,
     })
+}
+
+/// The ScopedPDU whose content stands between two places.
+fn read_contexts(octets: &[u8], at: usize, end: usize) -> Result<Scoped<'_>, BerFault>
+    requires start { at ≤ end }
+    requires within { end ≤ length octets.now }
+    ensures value { option_map contexts_of (result_ok result) ≡ contexts_in end (slice_range octets.now at end) }
+    ensures ends { IfOk result (λ s. s.data_at + length s.pdu.now ≡ end) }
+    ensures place { IfOk result (λ s. s.pdu.now ≡ slice_range octets.now s.data_at end) }
+{
+    let place = place_contexts(octets, at, end)?;
+    Ok(place.lent(octets))
 }
 
 /// The ScopedPDU of a message whose priv flag is clear, and None for the sealed octets of one whose priv flag is set. The
@@ -83,15 +131,30 @@ pub fn read_scoped<'a>(
     }
 }
 
-/// The ScopedPDU in front of the octets.
+/// The places of the ScopedPDU in front of the octets.
 #[tactic(auto, unfolding(crate::specs::Scoped::scoped_front_in))]
-fn read_front(plaintext: &[u8]) -> Result<Scoped<'_>, BerFault>
-    ensures value { option_map contexts_of (result_ok result) ≡ scoped_front_in plaintext.now }
-    ensures within { IfOk result (λ s. s.data_at + length s.pdu.now ≤ length plaintext.now) }
-    ensures place { IfOk result (λ s. s.pdu.now ≡ slice_range plaintext.now s.data_at (s.data_at + length s.pdu.now)) }
+fn place_front(plaintext: &[u8]) -> Result<ScopedPlace, BerFault>
+    ensures value { option_map (contexts_there plaintext.now) (result_ok result) ≡ scoped_front_in plaintext.now }
+    ensures stands { IfOk result (λ p. StandsWithin (length plaintext.now) p) }
 {
     let whole = read_element(plaintext, 0, plaintext.len(), SEQUENCE)?;
-    read_contexts(plaintext, whole.body, whole.end)
+    place_contexts(plaintext, whole.body, whole.end)
+}
+
+/// Where the parts of the ScopedPDU stand that decrypted octets begin with. What follows it is padding, and isn't looked at.
+///
+/// The error is NotScoped, exactly where no front of the octets is a ScopedPDU; its place counts in the plaintext. No
+/// memory is taken.
+pub fn place_scoped_front(plaintext: &[u8]) -> Result<ScopedPlace, MsgFault>
+    ensures exact { MatchResult result (λ p. ScopedFront plaintext.now (contexts_there plaintext.now p)) (RefusesFront plaintext.now) }
+    ensures none { OnErr result ((s : Contexts) → ScopedFront plaintext.now s → ⊥) }
+    ensures stands { IfOk result (λ p. StandsWithin (length plaintext.now) p) }
+    ensures element { IfOk result (λ p. IsOneElement (slice_range plaintext.now p.data_at p.end)) }
+{
+    match place_front(plaintext) {
+        Ok(place) => Ok(place),
+        Err(fault) => Err(MsgFault::NotScoped { at: fault.at }),
+    }
 }
 
 /// The ScopedPDU that decrypted octets begin with. What follows it is padding, and isn't looked at.
@@ -105,10 +168,8 @@ pub fn read_scoped_front(plaintext: &[u8]) -> Result<Scoped<'_>, MsgFault>
     ensures place { IfOk result (λ s. s.pdu.now ≡ slice_range plaintext.now s.data_at (s.data_at + length s.pdu.now)) }
     ensures element { IfOk result (λ s. IsOneElement s.pdu.now) }
 {
-    match read_front(plaintext) {
-        Ok(scoped) => Ok(scoped),
-        Err(fault) => Err(MsgFault::NotScoped { at: fault.at }),
-    }
+    let place = place_scoped_front(plaintext)?;
+    Ok(place.lent(plaintext))
 }
 
 /// How many octets the content of a ScopedPDU has (RFC 3412, section 6.8) whose data has `pdu_len` octets.

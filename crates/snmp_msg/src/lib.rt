@@ -20,9 +20,9 @@ pub use laws::{canonical_again, one_pdu, one_whole, pdu_written_again};
 pub use list::{Spelled, binding_len};
 pub use pdu::{Pdu, read_pdu, write_pdu, write_pdu_of, written_pdu_len};
 pub use snmp_message::{
-    Cut, Data, Header, LARGEST, Message, MsgFault, Refusal, Scoped, Security, USER_BASED,
-    WriteFault, cut, field_filled, longer_whole, message_size, one_content, one_cut, one_message,
-    plain_from_data, read_message, read_scoped, read_scoped_front, read_security, whole_slice,
+    Cut, Data, Header, LARGEST, Message, MsgFault, Refusal, Scoped, ScopedPlace, Security,
+    USER_BASED, WriteFault, cut, field_filled, longer_whole, message_size, one_content, one_cut, one_message,
+    place_scoped_front, plain_from_data, read_message, read_scoped, read_scoped_front, read_security, whole_slice,
     write_message, write_scoped, write_security, written_again,
 };
 pub use value::{Syntax, value_is};

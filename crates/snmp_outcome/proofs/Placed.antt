@@ -4,7 +4,7 @@ use Rattle.std.specs.Prelude.{slice_range, option_map, option_and_then}
 use Rattle.std.proofs.lemmas.List.{drop_at, length-append}
 use Rattle.std.proofs.lemmas.Option.{same_Some}
 use Rattle.snmp_ber.proofs.Places.{range_rest}
-use Rattle.snmp_message.specs.Scoped.{Contexts, ScopedFront, scoped_front_in}
+use Rattle.snmp_message.specs.Scoped.{Contexts, ScopedFront}
 use Rattle.snmp_message.proofs.Scopeds.{scoped_front_in-again}
 use Rattle.snmp_msg.specs.Pdu.{PduParts, PduText, pdu_in}
 use Rattle.snmp_msg.proofs.Pdus.{pdu_in-again}

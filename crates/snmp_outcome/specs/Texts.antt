@@ -1,6 +1,7 @@
 -- Octets that begin with a ScopedPDU.
-use Rattle.std.specs.Prelude.{◌≡◌, ◌≤◌, ℕ, ℤ, List, length, slice_range, Option, Some, option_map, option_and_then}
-use Rattle.snmp_message.specs.Scoped.{Contexts, ScopedFront, scoped_front_in}
+use Rattle.std.specs.Prelude.{◌≡◌, ℕ, List, length, slice_range, Option, Some, option_map, option_and_then}
+use Rattle.snmp_message.specs.declared.scoped.ScopedPlace.{ScopedPlace}
+use Rattle.snmp_message.specs.Scoped.{Contexts, ScopedFront, scoped_front_in, contexts_there, StandsWithin}
 use Rattle.snmp_msg.specs.Pdu.{PduParts, PduText, pdu_in}
 use Rattle.snmp_outcome.specs.declared.place.PduPlace.{PduPlace}
 use Rattle.snmp_outcome.specs.declared.octets.Octets.{Octets}
@@ -23,6 +24,12 @@ pub record PduOf (text : List ℕ) : Type 0 where
 -- The text begins with a ScopedPDU, whose data is a PDU with this tag.
 abbrev pub HasTag : List ℕ → ℕ → Type 0
 HasTag text tag = (s : FrontOf text) × (p : PduOf s.contexts.pdu) × (p.pdu.tag ≡ tag)
+
+-- ---- where its parts were found
+
+-- The ScopedPDU that the text begins with has its parts at these places, and these are places of the text.
+abbrev pub ContextsThere : List ℕ → ScopedPlace → Type 0
+ContextsThere text p = (scoped_front_in text ≡ Some (contexts_there text p)) × StandsWithin (length text) p
 
 -- ---- where its PDU was found
 

@@ -8,6 +8,7 @@ use crate::place::PduPlace;
 use crate::taken::Taken;
 use engine_clock::EngineId;
 use snmp_ber::Level;
+use snmp_msg::ScopedPlace;
 use std::alloc::{AllocError, Global};
 use std::marker::Model;
 
@@ -21,20 +22,21 @@ pub struct Kept {
     max_size: u32,
     tag: u8,
     text: Vec<u8>,
+    contexts: ScopedPlace,
     pdu: PduPlace,
 }
 
 impl Model for Kept {
     ghost use Rattle.std.specs.Prelude.{◌≤◌, length};
     ghost use Rattle.snmp_outcome.specs.Outcome.{Given};
-    ghost use Rattle.snmp_outcome.specs.Texts.{HasTag, StandsThere};
+    ghost use Rattle.snmp_outcome.specs.Texts.{ContextsThere, HasTag, StandsThere};
 
     ghost Value = { Given };
 
     ghost view = { λ k. record { engine = k.engine; user = k.user.items; level = k.level; id = k.id; max_size = k.max_size; tag = k.tag; text = k.text.items } };
 
     ghost invariant = { λ k. (length k.user.items ≤ 32) × (k.id ≤ 2147483647) × (484 ≤ k.max_size) × (k.max_size ≤ 2147483647) × ∥ HasTag k.text.items k.tag ∥₁
-        × StandsThere k.text.items k.tag k.pdu × (k.pdu.list_at ≤ k.pdu.end) × (k.pdu.end ≤ length k.text.items) };
+        × ContextsThere k.text.items k.contexts × StandsThere k.text.items k.tag k.pdu × (k.pdu.list_at ≤ k.pdu.end) × (k.pdu.end ≤ length k.text.items) };
 }
 
 impl Kept {
@@ -53,6 +55,7 @@ impl Kept {
             max_size: taken.max_size,
             tag: taken.tag,
             text: taken.text.as_slice().to_vec(alloc)?,
+            contexts: taken.contexts,
             pdu: taken.pdu,
         })
     }
@@ -72,6 +75,7 @@ impl Kept {
             max_size: self.max_size,
             tag: self.tag,
             text: Octets::Borrowed(self.text.as_slice()),
+            contexts: self.contexts,
             pdu: self.pdu,
         }
     }

@@ -8,7 +8,7 @@ ghost use Rattle.snmp_message.specs.Level.{level_of};
 ghost use Rattle.usm_users.specs.Users.{HasUserAt};
 ghost use Rattle.usm_core.specs.Verified.{IsReadAs};
 ghost use Rattle.usm_core.specs.Answers.{verified_of};
-ghost use Rattle.snmp_outcome.specs.Texts.{text_of, HasTag, StandsThere};
+ghost use Rattle.snmp_outcome.specs.Texts.{text_of, ContextsThere, HasTag, StandsThere};
 ghost use Rattle.snmp_outcome.specs.Outcome.{ReadsText};
 ghost use Rattle.snmp_outcome.specs.Answers.{answer_of, IsOpening, RefusesText};
 
@@ -18,7 +18,7 @@ use crate::place::PduPlace;
 use crate::taken::Taken;
 use engine_clock::EngineId;
 use snmp_ber::Level;
-use snmp_msg::{MsgFault, plain_from_data, read_pdu, read_scoped_front, whole_slice};
+use snmp_msg::{MsgFault, ScopedPlace, place_scoped_front, plain_from_data, read_pdu, whole_slice};
 use std::alloc::AllocError;
 use usm_core::{Checked, Users, UsmFault};
 
@@ -75,7 +75,7 @@ pub fn read_text<'a>(
         Octets::Borrowed(_) => checked.message.data_at,
         Octets::Owned(_) => 0,
     };
-    let (tag, pdu) = match read_place(text.as_slice(), base) {
+    let (tag, contexts, pdu) = match read_place(text.as_slice(), base) {
         Ok(found) => found,
         Err(fault) => return Err(fault),
     };
@@ -87,26 +87,30 @@ pub fn read_text<'a>(
         max_size: checked.message.header.max_size,
         tag,
         text,
+        contexts,
         pdu,
     })
 }
 
-/// The tag of the PDU of the ScopedPDU that the text begins with, and where it stands. Places of faults count from `base`.
-fn read_place(text: &[u8], base: usize) -> Result<(u8, PduPlace), TakeFault>
+/// The tag of the PDU of the ScopedPDU that the text begins with, and where the contexts and the PDU stand. Places of faults count
+/// from `base`.
+fn read_place(text: &[u8], base: usize) -> Result<(u8, ScopedPlace, PduPlace), TakeFault>
     ensures tag { IfOk result (λ found. HasTag text.now found.0) }
-    ensures stands { IfOk result (λ found. StandsThere text.now found.0 found.1) }
-    ensures within { IfOk result (λ found. (found.1.list_at ≤ found.1.end) × (found.1.end ≤ length text.now)) }
+    ensures contexts { IfOk result (λ found. ContextsThere text.now found.1) }
+    ensures stands { IfOk result (λ found. StandsThere text.now found.0 found.2) }
+    ensures within { IfOk result (λ found. (found.2.list_at ≤ found.2.end) × (found.2.end ≤ length text.now)) }
     ensures fault { IfErr result (RefusesText text.now) }
 {
     whole_slice();
-    let scoped = match read_scoped_front(text) {
-        Ok(scoped) => scoped,
+    let contexts = match place_scoped_front(text) {
+        Ok(contexts) => contexts,
         Err(fault) => {
             return Err(TakeFault::BadScoped {
                 at: place(fault, base),
             });
         }
     };
+    let scoped = contexts.lent(text);
     let pdu = match read_pdu(scoped.pdu, 0, scoped.pdu.len()) {
         Ok(pdu) => pdu,
         Err(fault) => {
@@ -116,13 +120,12 @@ fn read_place(text: &[u8], base: usize) -> Result<(u8, PduPlace), TakeFault>
             });
         }
     };
-    let end = scoped.data_at + scoped.pdu.len();
     let place = PduPlace {
         id: pdu.id,
         second: pdu.second,
         third: pdu.third,
-        list_at: end - pdu.list.len(),
-        end,
+        list_at: contexts.end - pdu.list.len(),
+        end: contexts.end,
     };
-    Ok((pdu.tag, place))
+    Ok((pdu.tag, contexts, place))
 }

@@ -1,10 +1,10 @@
 use Rattle.std.proofs.Common.{sym}
-use Rattle.snmp_message.specs.Scoped.{contexts_of}
+use Rattle.snmp_message.specs.Scoped.{contexts_there}
 use Rattle.snmp_message.proofs.Scopeds.{scoped_front_in-is, no_front}
-use Rattle.snmp_message.proofs.scoped.read_scoped_front.Goals as goal
+use Rattle.snmp_message.proofs.scoped.place_scoped_front.Goals as goal
 
 pub returns-in-Ok-clause-exact : goal.returns-in-Ok-clause-exact
-returns-in-Ok-clause-exact c = scoped_front_in-is c.args.plaintext.now (contexts_of c.in-Ok.scoped) (sym c.in-Ok.ensures.value)
+returns-in-Ok-clause-exact c = scoped_front_in-is c.args.plaintext.now (contexts_there c.args.plaintext.now c.in-Ok.place) (sym c.in-Ok.ensures.value)
 
 pub returns-in-Err-clause-exact : goal.returns-in-Err-clause-exact
 returns-in-Err-clause-exact c = no_front c.args.plaintext.now (sym c.in-Err.ensures.value)

@@ -1,7 +1,7 @@
 use Rattle.std.proofs.Common.{◌≤◌, ℕ, List, length, refl, subst}
 use Rattle.std.proofs.lemmas.Grind.{merely}
 use Rattle.usm_core.specs.Answers.{verified_of}
-use Rattle.snmp_outcome.specs.Texts.{text_of, HasTag, StandsThere}
+use Rattle.snmp_outcome.specs.Texts.{text_of, ContextsThere, HasTag, StandsThere}
 use Rattle.snmp_outcome.specs.Answers.{RefusesText}
 use Rattle.snmp_outcome.specs.Refusals.{answer_number}
 use Rattle.snmp_outcome.proofs.Rows.{text_refused, text_read}
@@ -12,7 +12,7 @@ returns-in-Err c =
     text_refused (verified_of c.args.checked.now) (text_of c.args.text) (answer_number c.in-Err.fault) (subst (λ text. RefusesText text c.in-Err.fault) c.as_slice.ensures c.in-Err.ensures.fault)
 
 pub invariant_of-result : goal.invariant_of-result
-invariant_of-result c = record { user_fits = c.requires.user; id_fits = c.requires.id; size_fits = (c.requires.least, c.requires.most); is_read = merely (subst (λ text. HasTag text c.in-Ok.found.0) c.as_slice.ensures c.in-Ok.ensures.tag); stands = subst (λ text. StandsThere text c.in-Ok.found.0 c.in-Ok.found.1) c.as_slice.ensures c.in-Ok.ensures.stands; within = subst (λ (text : List ℕ). (c.in-Ok.found.1.list_at ≤ c.in-Ok.found.1.end) × (c.in-Ok.found.1.end ≤ length text)) c.as_slice.ensures c.in-Ok.ensures.within }
+invariant_of-result c = record { user_fits = c.requires.user; id_fits = c.requires.id; size_fits = (c.requires.least, c.requires.most); is_read = merely (subst (λ text. HasTag text c.in-Ok.found.0) c.as_slice.ensures c.in-Ok.ensures.tag); contexts_stand = subst (λ text. ContextsThere text c.in-Ok.found.1) c.as_slice.ensures c.in-Ok.ensures.contexts; stands = subst (λ text. StandsThere text c.in-Ok.found.0 c.in-Ok.found.2) c.as_slice.ensures c.in-Ok.ensures.stands; within = subst (λ (text : List ℕ). (c.in-Ok.found.2.list_at ≤ c.in-Ok.found.2.end) × (c.in-Ok.found.2.end ≤ length text)) c.as_slice.ensures c.in-Ok.ensures.within }
 
 pub returns : goal.returns
 returns c =

@@ -1,5 +1,5 @@
 use Rattle.std.proofs.Common.{◌≡◌, ◌≤◌, length, sym, subst, rules}
-use Rattle.snmp_outcome.specs.Texts.{HasTag, StandsThere, text_of}
+use Rattle.snmp_outcome.specs.Texts.{ContextsThere, HasTag, StandsThere, text_of}
 use Rattle.snmp_outcome.proofs.kept.Kept.of.Goals as goal
 
 pub invariant_of-result : goal.invariant_of-result
@@ -11,6 +11,7 @@ invariant_of-result c =
       c.args.taken.now.size_fits.0,
       c.args.taken.now.size_fits.1,
       subst (λ octets. ∥ HasTag octets c.args.taken.now.tag ∥₁) (sym text) c.args.taken.now.is_read,
+      subst (λ octets. ContextsThere octets c.args.taken.now.contexts) (sym text) c.args.taken.now.contexts_stand,
       subst (λ octets. StandsThere octets c.args.taken.now.tag c.args.taken.now.pdu) (sym text) c.args.taken.now.stands,
       c.args.taken.now.within.0,
       subst (λ octets. c.args.taken.now.pdu.end ≤ length octets) (sym text) c.args.taken.now.within.1,

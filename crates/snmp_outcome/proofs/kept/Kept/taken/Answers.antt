@@ -1,5 +1,5 @@
 use Rattle.std.proofs.Common.{◌≤◌, length, sym, subst}
-use Rattle.snmp_outcome.specs.Texts.{HasTag, StandsThere}
+use Rattle.snmp_outcome.specs.Texts.{ContextsThere, HasTag, StandsThere}
 use Rattle.snmp_outcome.proofs.kept.Kept.taken.Goals as goal
 
 pub invariant_of-result : goal.invariant_of-result
@@ -8,6 +8,7 @@ invariant_of-result c = record {
   id_fits = c.self.invariant.1;
   size_fits = (c.self.invariant.2, c.self.invariant.3);
   is_read = subst (λ text. ∥ HasTag text c.self.inside.tag ∥₁) (sym c.as_slice-3.ensures.value) c.self.invariant.4;
-  stands = subst (λ text. StandsThere text c.self.inside.tag c.self.inside.pdu) (sym c.as_slice-3.ensures.value) c.self.invariant.5;
-  within = (c.self.invariant.6, subst (λ text. c.self.inside.pdu.end ≤ length text) (sym c.as_slice-3.ensures.value) c.self.invariant.7);
+  contexts_stand = subst (λ text. ContextsThere text c.self.inside.contexts) (sym c.as_slice-3.ensures.value) c.self.invariant.5;
+  stands = subst (λ text. StandsThere text c.self.inside.tag c.self.inside.pdu) (sym c.as_slice-3.ensures.value) c.self.invariant.6;
+  within = (c.self.invariant.7, subst (λ text. c.self.inside.pdu.end ≤ length text) (sym c.as_slice-3.ensures.value) c.self.invariant.8);
 }

@@ -1,9 +1,9 @@
-use Rattle.std.proofs.Common.{◌≡◌, ℕ, List, Some, sym, subst, ap, ◌∙◌, arith, rules, FitsSigned, SFits, w32}
+use Rattle.std.proofs.Common.{arith, rules, FitsSigned, SFits, w32}
 use Rattle.std.proofs.lemmas.Int.{ints, to_z-of_z}
 use Rattle.snmp_ber.proofs.Oids.{octets_from}
-use Rattle.snmp_msg.specs.Pdu.{AreInRange, PduParts, pdu_of}
+use Rattle.snmp_msg.specs.Pdu.{AreInRange}
 use Rattle.snmp_msg.proofs.Pdus.{pdu_in-is}
-use Rattle.snmp_outcome.specs.Texts.{pdu_read, pdu_placed}
+use Rattle.snmp_outcome.specs.Texts.{pdu_placed}
 use Rattle.snmp_outcome.proofs.Placed.{read_of, octets_within}
 use Rattle.snmp_outcome.proofs.place.PduPlace.lent.Goals as goal
 

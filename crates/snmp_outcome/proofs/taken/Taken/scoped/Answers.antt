@@ -1,8 +1,16 @@
-use Rattle.std.proofs.Common.{sym, subst, List, ℕ}
-use Rattle.std.proofs.lemmas.Grind.{not_there}
-use Rattle.snmp_message.specs.Scoped.{ScopedFront}
+use Rattle.std.proofs.Common.{sym, subst, List, ℕ, length}
+use Rattle.snmp_message.specs.Scoped.{ScopedFront, StandsWithin, contexts_of, contexts_there}
+use Rattle.snmp_message.proofs.Scopeds.{scoped_front_in-is}
+use Rattle.snmp_outcome.specs.Texts.{text_of}
 use Rattle.snmp_outcome.proofs.taken.Taken.scoped.Goals as goal
 
-pub unreachable-requires : goal.unreachable-requires
-unreachable-requires c = not_there c.args.self.now.is_read
-    (λ r. c.in-Err.ensures.none r.0.contexts (subst (λ (t : List ℕ). ScopedFront t r.0.contexts) (sym c.as_slice.ensures) r.0.is))
+pub lent-requires : goal.lent-requires
+lent-requires c = subst (λ (text : List ℕ). StandsWithin (length text) c.args.self.now.contexts) (sym c.as_slice.ensures) c.args.self.now.contexts_stand.1
+
+pub returns : goal.returns
+returns c =
+    let t = c.args.self.now in
+    let text = c.as_slice.result.now in
+    let there = subst (λ (x : List ℕ). ScopedFront x (contexts_there x t.contexts)) (sym c.as_slice.ensures) (scoped_front_in-is (text_of t.text) (contexts_there (text_of t.text) t.contexts) t.contexts_stand.0) in
+    subst (λ (x : List ℕ). ScopedFront x (contexts_of c.lent.result)) c.as_slice.ensures
+    (rw (c.lent.ensures.engine, c.lent.ensures.name, c.lent.ensures.pdu, c.lent.ensures.data_at) there)
