@@ -4,7 +4,7 @@ ghost use Rattle.std.specs.Prelude.{◌≢◌, List, IfOk, MatchOption};
 ghost use Rattle.snmp_msg.specs.Variables.{Variable, AreBindings};
 ghost use Rattle.snmp_agent.specs.Decides.{question, IsDecidedBy, AreAnswers};
 
-use snmp_msg::{Pdu, USER_BASED};
+use snmp_msg::{GET_REQUEST, Pdu, SET_REQUEST, USER_BASED};
 use snmp_outcome::Taken;
 use std::alloc::{AllocError, Global};
 use vacm_core::{Access, Vacm, ViewType};
@@ -13,9 +13,9 @@ use vacm_core::{Access, Vacm, ViewType};
 pub(crate) fn view_for(tag: u8) -> Option<ViewType>
     ensures { MatchOption result ((tag ≢ 160) × (tag ≢ 163)) (IsDecidedBy tag) }
 {
-    if tag == 0xA0 {
+    if tag == GET_REQUEST {
         Some(ViewType::Read)
-    } else if tag == 0xA3 {
+    } else if tag == SET_REQUEST {
         Some(ViewType::Write)
     } else {
         None

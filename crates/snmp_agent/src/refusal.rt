@@ -9,7 +9,7 @@ ghost use Rattle.snmp_agent.specs.Dispatch.{refusing};
 
 use engine_clock::{EngineId, Pair};
 use snmp_ber::{Oid, int_content};
-use snmp_msg::{Binding, Pdu};
+use snmp_msg::{Binding, COUNTER32, Pdu, REPORT};
 use snmp_outcome::{TakeFault, Taken};
 use snmp_sending::{Body, Counter, Envelope, send};
 use std::alloc::Global;
@@ -44,13 +44,13 @@ pub(crate) fn send_refusal<'a>(
     let content = int_content(i64::from(counted.value));
     let bindings = [Binding {
         name,
-        tag: 0x41,
+        tag: COUNTER32,
         content: content.as_slice(),
     }];
     let body = Body {
         context_engine: engine.as_slice(),
         context_name: &[],
-        tag: 0xA8,
+        tag: REPORT,
         id: pdu.id,
         second: 0,
         third: 0,

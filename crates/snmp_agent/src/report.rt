@@ -17,7 +17,7 @@ use crate::counting::counter_of;
 use crate::engine::Engine;
 use engine_clock::{EngineId, Pair};
 use snmp_ber::{Level, Oid, int_content};
-use snmp_msg::{Binding, one_cut, one_message};
+use snmp_msg::{Binding, COUNTER32, REPORT, one_cut, one_message};
 use snmp_outcome::TakeFault;
 use snmp_sending::{Body, Envelope, counter_name, send};
 use std::alloc::{AllocError, Global};
@@ -91,13 +91,13 @@ fn send_report(
     let content = int_content(i64::from(value));
     let bindings = [Binding {
         name,
-        tag: 0x41,
+        tag: COUNTER32,
         content: content.as_slice(),
     }];
     let body = Body {
         context_engine: engine.as_slice(),
         context_name: &[],
-        tag: 0xA8,
+        tag: REPORT,
         id: asking.request_id,
         second: 0,
         third: 0,

@@ -16,7 +16,7 @@ ghost use Rattle.snmp_sending.specs.Speaks.{SpeechFits};
 ghost use Rattle.snmp_agent.specs.Sent.{response as speech, responding};
 
 use engine_clock::{EngineId, Pair};
-use snmp_msg::{Spelled, one_content, one_pdu};
+use snmp_msg::{RESPONSE, Spelled, one_content, one_pdu};
 use snmp_outcome::{TakeFault, Taken};
 use snmp_sending::{Envelope, Front, Fronted, send_front, send_of};
 use std::alloc::Global;
@@ -74,7 +74,7 @@ fn front<'a>(taken: &'a Taken<'_>, response: &Response) -> Front<'a>
     Front {
         context_engine: scoped.engine,
         context_name: scoped.name,
-        tag: 0xA2,
+        tag: RESPONSE,
         id: pdu.id,
         second: response.status,
         third: response.index,

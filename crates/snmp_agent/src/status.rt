@@ -3,6 +3,7 @@
 ghost use Rattle.std.specs.Prelude.{◌≡◌};
 ghost use Rattle.snmp_agent.specs.Statuses.{IsStatusOf, status_number};
 
+use snmp_msg::{GET_REQUEST, SET_REQUEST};
 use vacm_core::Access;
 
 /// What becomes of a variable of a request, or of the whole request, by the answer of isAccessAllowed on it.
@@ -51,9 +52,9 @@ pub fn status_of(access: Access, tag: u8) -> Status
             Status::AuthorizationError
         }
         Access::NotInView => {
-            if tag == 0xA3 {
+            if tag == SET_REQUEST {
                 Status::NoAccess
-            } else if tag == 0xA0 {
+            } else if tag == GET_REQUEST {
                 Status::NoSuchObject
             } else {
                 Status::NotSeen

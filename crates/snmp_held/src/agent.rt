@@ -136,7 +136,7 @@ fn notice(
     let front = Front {
         context_engine: to.context_engine,
         context_name: to.context_name,
-        tag: 0xA7,
+        tag: snmp_msg::TRAP,
         id: to.request_id as i32,
         second: 0,
         third: 0,

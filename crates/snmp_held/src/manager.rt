@@ -83,7 +83,10 @@ fn answer(kept: &Kept, pending: &Pending) -> Answer
 fn is_pdu_tag(tag: u32) -> bool
     ensures { IsTrue result ↔ IsPduTag tag }
 {
-    tag >= 0xA0 && tag <= 0xA8 && tag != 0xA4
+    match u8::try_from(tag) {
+        Ok(tag) => snmp_msg::is_pdu_tag(tag),
+        Err(_) => false,
+    }
 }
 
 /// The request at this level, with the bindings that these octets are.

@@ -26,7 +26,7 @@ use crate::requests::{no_pair, written_pair};
 use crate::weighing::{weigh, weigh_kept};
 use engine_clock::{Clocks, EngineId, Mark, Pair};
 use snmp_ber::Level;
-use snmp_msg::Spelled;
+use snmp_msg::{GET_REQUEST, Spelled};
 use snmp_outcome::{Kept, TakeFault, Taken};
 use snmp_sending::{Body, Envelope, Front, is_confirmed, send_of, send_plain, supports};
 use std::alloc::{AllocError, Global};
@@ -302,10 +302,7 @@ impl Manager {
             user,
             salt,
         };
-        let text = match send_of(self.alloc, &mut self.users, &envelope, front, bindings) {
-            Ok(text) => text,
-            Err(fault) => return Err(fault),
-        };
+        let text = send_of(self.alloc, &mut self.users, &envelope, front, bindings)?;
         match Pending::of(self.alloc, &envelope, front) {
             Ok(pending) => Ok((text, pending)),
             Err(_) => Err(TakeFault::OutOfMemory),
@@ -323,7 +320,7 @@ impl Manager {
         let body = Body {
             context_engine: &[],
             context_name: &[],
-            tag: 0xA0,
+            tag: GET_REQUEST,
             id: id as i32,
             second: 0,
             third: 0,

@@ -10,7 +10,7 @@ ghost use Rattle.snmp_manager.specs.Replies.{IsResponseTo, IsCounterOf, IsNameOf
 
 use crate::pending::{Answer, Pending};
 use snmp_ber::{Level, read_unsigned};
-use snmp_msg::{Binding, Pdu, Scoped, one_content, one_pdu};
+use snmp_msg::{Binding, COUNTER32, Pdu, REPORT, RESPONSE, Scoped, one_content, one_pdu};
 use snmp_outcome::Taken;
 use snmp_sending::{Counter, counter_name};
 
@@ -59,7 +59,7 @@ fn is_response(pending: &Pending, taken: &Taken<'_>, scoped: &Scoped<'_>, pdu: &
     if taken.id != pending.id {
         return false;
     }
-    if pdu.tag != 0xA2 {
+    if pdu.tag != RESPONSE {
         return false;
     }
     if taken.engine.as_slice() != pending.engine.as_slice() {
@@ -100,7 +100,7 @@ pub fn answer_of(pending: &Pending, taken: &Taken<'_>) -> Answer
     if taken.id != pending.id {
         return Answer::NotForIt;
     }
-    if pdu.tag != 0xA8 {
+    if pdu.tag != REPORT {
         return Answer::NotForIt;
     }
     Answer::Report(counter_in(&pdu))
@@ -126,7 +126,7 @@ fn told_name(name: &[u32]) -> u8
 fn count_in(binding: &Binding<'_>) -> Option<u32>
     ensures { IsCount (variable_of binding.now) result }
 {
-    if binding.tag != 0x41 {
+    if binding.tag != COUNTER32 {
         return None;
     }
     read_unsigned(binding.content)
@@ -156,7 +156,7 @@ pub fn report_of(pending: &Pending, taken: &Taken<'_>) -> Option<Report>
     if taken.id != pending.id {
         return None;
     }
-    if pdu.tag != 0xA8 {
+    if pdu.tag != REPORT {
         return None;
     }
     let (counter, value) = told_in(&pdu);

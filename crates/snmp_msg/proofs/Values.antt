@@ -1,5 +1,5 @@
 -- What is found exactly where it is.
-use Rattle.std.proofs.Common.{◌≡◌, Bool, true, false, Option, Some, None, IsTrue, refl}
+use Rattle.std.proofs.Common.{◌≡◌, Bool, Option, Some, None, IsTrue, refl}
 use Rattle.std.specs.Prelude.{is_some}
 
 pub told : {A : Type 0} (P : A → Type 0) (found : Option A) (some : Bool) → some ≡ is_some found

@@ -10,6 +10,7 @@ mod fault;
 mod laws;
 mod list;
 mod pdu;
+mod pdu_type;
 mod value;
 mod variable;
 mod whole;
@@ -19,12 +20,16 @@ pub use fault::CanonFault;
 pub use laws::{canonical_again, one_pdu, one_whole, pdu_written_again};
 pub use list::{Spelled, binding_len};
 pub use pdu::{Pdu, read_pdu, write_pdu, write_pdu_of, written_pdu_len};
+pub use pdu_type::{
+    GET_BULK_REQUEST, GET_NEXT_REQUEST, GET_REQUEST, INFORM_REQUEST, REPORT, RESPONSE, SET_REQUEST,
+    TRAP, is_pdu_tag,
+};
 pub use snmp_message::{
     Cut, Data, Header, LARGEST, Message, MsgFault, Refusal, Scoped, ScopedPlace, Security,
-    USER_BASED, WriteFault, cut, field_filled, longer_whole, message_size, one_content, one_cut, one_message,
-    place_scoped_front, plain_from_data, read_message, read_scoped, read_scoped_front, read_security, whole_slice,
-    write_message, write_scoped, write_security, written_again,
+    USER_BASED, WriteFault, cut, field_filled, longer_whole, message_size, one_content, one_cut,
+    one_message, place_scoped_front, plain_from_data, read_message, read_scoped, read_scoped_front,
+    read_security, whole_slice, write_message, write_scoped, write_security, written_again,
 };
-pub use value::{Syntax, value_is};
+pub use value::{COUNTER32, Syntax, value_is};
 pub use variable::{VariableBinding, VariableBindings};
 pub use whole::{Layer, Layers, canonical, read_layers, write_layers};

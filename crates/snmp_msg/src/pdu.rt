@@ -10,6 +10,7 @@ ghost use Rattle.snmp_msg.specs.Refusals.{RefusesPdu};
 
 use crate::binding::{Binding, Bindings, check_bindings};
 use crate::list::{Spelled, bindings_len, put_bindings};
+use crate::pdu_type::{GET_REQUEST, is_pdu_tag};
 use crate::variable::VariableBindings;
 use snmp_ber::{BerFault, put_head, put_int, read_tlv};
 use snmp_message::{
@@ -20,8 +21,7 @@ use std::alloc::{AllocError, Global};
 /// What a PDU says.
 #[derive(Clone, Copy, Debug, PartialEq, Eq)]
 pub struct Pdu<'a> {
-    /// A0 GetRequest, A1 GetNextRequest, A2 Response, A3 SetRequest, A5 GetBulkRequest, A6 InformRequest, A7 SNMPv2-Trap or
-    /// A8 Report.
+    /// One of the eight types of PDUs, as `GET_REQUEST`.
     pub tag: u8,
     /// request-id.
     pub id: i32,
@@ -51,13 +51,6 @@ impl<'a> Pdu<'a> {
     {
         VariableBindings::of(self.list)
     }
-}
-
-/// The tag of a PDU.
-fn is_pdu_tag(tag: u8) -> bool
-    ensures { IsTrue result ↔ IsPduTag tag }
-{
-    tag >= 0xA0 && tag <= 0xA8 && tag != 0xA4
 }
 
 /// The content of a PDU with this tag, which stands between two places.
@@ -143,7 +136,7 @@ pub fn written_pdu_len(id: i32, second: i32, third: i32, list_len: usize) -> usi
     ensures size { (tag : ℕ) (list : List ℕ) → length list ≡ list_len → result ≡ length (pdu_text (record { tag = tag; id = id; second = second; third = third; list = list })) }
     ensures most { result ≤ 3 * LARGEST }
 {
-    pdu_len(&numbered(0xA0, id, second, third), list_len)
+    pdu_len(&numbered(GET_REQUEST, id, second, third), list_len)
 }
 
 /// Appends what stands in a PDU before the content of its list, which has `list_len` octets.

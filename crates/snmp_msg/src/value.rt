@@ -6,6 +6,9 @@ ghost use Rattle.snmp_msg.specs.Values.{syntax_of, IsNumber32, IsSpelledAs, IsVa
 
 use snmp_ber::{is_oid, is_unsigned64, read_int, read_unsigned};
 
+/// The tag of a Counter32 (RFC 2578, section 7.1.6).
+pub const COUNTER32: u8 = 0x41;
+
 /// The most octets of a string (RFC 2578, section 7.1.2).
 const LONGEST_STRING: usize = 65535;
 
@@ -65,7 +68,7 @@ impl Syntax {
             0x05 => Some(Syntax::Null),
             0x06 => Some(Syntax::ObjectIdentifier),
             0x40 => Some(Syntax::IpAddress),
-            0x41 => Some(Syntax::Counter32),
+            COUNTER32 => Some(Syntax::Counter32),
             0x42 => Some(Syntax::Unsigned32),
             0x43 => Some(Syntax::TimeTicks),
             0x44 => Some(Syntax::Opaque),

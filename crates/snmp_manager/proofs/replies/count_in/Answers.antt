@@ -1,4 +1,4 @@
-use Rattle.std.proofs.Common.{◌≡◌, ℕ, rules}
+use Rattle.std.proofs.Common.{◌≡◌, rules}
 use Rattle.snmp_msg.specs.Variables.{variable_of}
 use Rattle.snmp_manager.proofs.Reports.{count_is}
 use Rattle.snmp_manager.proofs.replies.count_in.Goals as goal

@@ -1,5 +1,5 @@
-use Rattle.std.proofs.Common.{◌≡◌, List, [], ◌∷◌, inl, ap, subst, rules}
-use Rattle.snmp_msg.specs.Variables.{Variable, variable_of, bindings_left}
+use Rattle.std.proofs.Common.{◌≡◌, [], ◌∷◌, inl, rules}
+use Rattle.snmp_msg.specs.Variables.{variable_of, bindings_left}
 use Rattle.snmp_manager.specs.Replies.{IsToldName}
 use Rattle.snmp_manager.proofs.replies.told_in.Goals as goal
 

@@ -1,4 +1,4 @@
-use Rattle.std.proofs.Common.{◌≡◌, ℕ, ◌+◌, sym, subst, arith, FitsSigned, w32}
+use Rattle.std.proofs.Common.{◌≡◌, ◌+◌, sym, subst, arith, FitsSigned, w32}
 use Rattle.std.proofs.lemmas.Int.{ints, to_z-of_z}
 use Rattle.snmp_ber.specs.Spelling.{head_size}
 use Rattle.snmp_msg.specs.Pdu.{PduParts, pdu_content_size}
