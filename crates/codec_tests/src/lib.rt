@@ -14,4 +14,6 @@ mod snmpsec_hex_tests;
 #[cfg(test)]
 mod snmpsec_import_tests;
 #[cfg(test)]
+mod snmpsec_lists_tests;
+#[cfg(test)]
 mod vacm_core_tests;

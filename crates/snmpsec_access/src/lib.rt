@@ -12,4 +12,4 @@ mod words;
 pub use laws::no_other_sees;
 pub use seeing::{Seen, sees};
 pub use who::{Wanted, who_sees};
-pub use words::{access_word, view_word};
+pub use words::{access_word, put_quoted, view_word};

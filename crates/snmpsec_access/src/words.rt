@@ -77,7 +77,7 @@ fn put_quoted_octet(out: &mut Vec<u8>, octet: u8) -> Result<(), AllocError>
 }
 
 /// Appends the octets as a TOML basic string.
-fn put_quoted(out: &mut Vec<u8>, name: &[u8]) -> Result<(), AllocError>
+pub fn put_quoted(out: &mut Vec<u8>, name: &[u8]) -> Result<(), AllocError>
     ensures { OnOk result (out.new.items ≡ out.old.items ++ quoted name.now) }
 {
     out.extend_from_slice(b"\"")?;

@@ -5,6 +5,8 @@ mod checks;
 pub mod datagrams;
 mod files;
 pub mod forms;
+mod import;
+mod included;
 pub mod replay;
 pub mod run;
 mod texts;

@@ -7,6 +7,7 @@ use crate::checks::{check_clocks_files, check_log_file};
 use crate::datagrams::{Unread, ports_of};
 use crate::files::{FileFault, open_log, read_file};
 use crate::forms::{self, datagrams_of, form_of};
+use crate::import::import_snmpd;
 use crate::replay::{first_line_of, replay_as};
 use crate::why::{says_why, why};
 use clap::error::ErrorKind;
@@ -160,6 +161,7 @@ pub fn command<R: Files + Input + AllocGlobal, O: Write, E: Write>(
         Command::CheckClocks { files } => check_clocks_files(rt, files),
         Command::CheckLog { log } => check_log_file(rt, log),
         Command::Datagrams(words) => log_datagrams(rt, words, out, err),
+        Command::ImportSnmpd(words) => import_snmpd(rt, words),
         Command::Manual { command } => manual(rt.alloc(), *command),
         Command::Version => version(rt.alloc()),
     }

@@ -33,6 +33,7 @@ pub(crate) fn says_why(command: &Command<'_>) -> bool {
         Command::WhoSees(_)
             | Command::Sees(_)
             | Command::Datagrams(_)
+            | Command::ImportSnmpd(_)
             | Command::CheckClocks { .. }
             | Command::CheckLog { .. }
     )
@@ -53,6 +54,7 @@ fn look_at<R: Files + AllocGlobal>(rt: &R, command: &Command<'_>) -> Result<(), 
         Command::CheckClocks { files } => look_at_files(rt, files),
         Command::CheckLog { log } => look_at_file(rt, log, usize::MAX),
         Command::Datagrams(words) => look_at_capture(rt, words),
+        Command::ImportSnmpd(words) => look_at_files(rt, &words.files),
         Command::Manual { .. } | Command::Version => Ok(()),
     }
 }

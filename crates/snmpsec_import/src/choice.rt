@@ -29,7 +29,7 @@ fn fits_message(row: &AccessRow, group: &[u8], model: u32, level: Level, context
 }
 
 /// snmpd takes the row in place of the best so far.
-fn is_taken(best: &AccessRow, next: &AccessRow) -> bool
+pub fn is_taken(best: &AccessRow, next: &AccessRow) -> bool
     ensures { IsTrue result ↔ IsTaken best.now next.now }
 {
     let is_prefix = best.matching == Matching::Prefix;

@@ -11,7 +11,7 @@ use snmp_ber::split_once;
 use std::alloc::{AllocError, Global};
 
 /// The first line, without its line feed, and the text behind it.
-fn first_line(text: &[u8]) -> (&[u8], &[u8])
+pub fn first_line(text: &[u8]) -> (&[u8], &[u8])
     requires some { text.now ≢ [] }
     ensures line { IsFirstLine text.now result.0.now result.1.now }
     ensures shorter { length result.1.now < length text.now }
@@ -23,7 +23,7 @@ fn first_line(text: &[u8]) -> (&[u8], &[u8])
 }
 
 /// The section that is in force behind a line.
-fn section_behind(section: Section, entry: &Entry) -> Section
+pub fn section_behind(section: Section, entry: &Entry) -> Section
     ensures { result ≡ spec.section_behind section entry.now }
 {
     match entry {

@@ -16,11 +16,11 @@ mod views;
 mod words;
 
 pub use accesses::access_row;
-pub use choice::snmpd_choice;
+pub use choice::{is_taken, snmpd_choice};
 pub use directives::{Directive, directive_of};
 pub use entries::{Entry, Note, read_entry};
 pub use fault::{LineFault, Refusal};
-pub use files::read_entries;
+pub use files::{first_line, read_entries, section_behind};
 pub use groups::group_row;
 pub use lines::{Line, Section, read_line};
 pub use subtrees::{Subtree, subtree_of};

@@ -7,6 +7,7 @@ mod commands;
 mod configs;
 mod examples;
 mod explained;
+mod imported;
 mod merged;
 mod named;
 mod opened;

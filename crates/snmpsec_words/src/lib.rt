@@ -7,6 +7,7 @@ ghost use Rattle.clap.specs.declared.error.kind.ErrorKind.TheVariants.{InvalidVa
 
 mod asked;
 mod capture;
+mod import;
 mod own;
 mod saved;
 mod wide;
@@ -15,6 +16,7 @@ pub use asked::{Asked, parse_asked};
 pub use capture::DatagramsWords;
 use clap::error::ErrorKind;
 use clap::{Arg, ArgAction, ArgMatches, Error};
+pub use import::ImportWords;
 pub use own::{VERSION, manual_text, version_text};
 use std::alloc::{AllocError, Global};
 pub use wide::{SeesWords, WhoWords};
@@ -89,6 +91,8 @@ pub enum Command<'a> {
     },
     /// `datagrams [--form FORM] [--port PORT].. [--moment MOMENT] FILE`
     Datagrams(DatagramsWords<'a>),
+    /// `import-snmpd [--strict] [--no-include] [--context NAME].. FILE..`
+    ImportSnmpd(ImportWords<'a>),
     /// `manual [COMMAND]`
     Manual {
         command: Option<&'a str>,
@@ -320,7 +324,7 @@ fn with_messages<'a>(
     with(parser, open(alloc))
 }
 
-/// The commands that ask a configuration.
+/// The commands that ask a configuration, or make one.
 fn with_access<'a>(
     alloc: Global,
     parser: clap::Command<'a>,
@@ -329,7 +333,8 @@ fn with_access<'a>(
     let parser = with(parser, explain_access(alloc))?;
     let parser = with(parser, wide::who_sees(alloc))?;
     let parser = with(parser, wide::sees(alloc))?;
-    with(parser, check_config(alloc))
+    let parser = with(parser, check_config(alloc))?;
+    with(parser, import::import_snmpd(alloc))
 }
 
 /// The commands that read logs, clocks and captures.
@@ -438,6 +443,7 @@ fn command_of<'a>(alloc: Global, matches: &ArgMatches<'a>) -> Result<Command<'a>
         Some(("who-sees", words)) => wide::who_words(alloc, words),
         Some(("sees", words)) => wide::sees_words(alloc, words),
         Some(("check-config", words)) => config_words(alloc, words),
+        Some(("import-snmpd", words)) => import::import_words(alloc, words),
         Some((name, words)) => log_command(alloc, name, words),
         None => Err(no_command(alloc)?),
     }

@@ -1,0 +1,75 @@
+-- What is told of each line that isn't a row, and of each row that isn't printed.
+use Rattle.std.specs.Prelude.{⊤, List, [], ◌∷◌, Option, Some, None}
+use Rattle.snmpsec_import.specs.declared.fault.LineFault.{LineFault}
+use Rattle.snmpsec_import.specs.declared.fault.LineFault.TheVariants as faults
+use Rattle.snmpsec_import.specs.declared.entries.Note.{Note}
+use Rattle.snmpsec_import.specs.declared.entries.Note.TheVariants as notes
+use Rattle.snmpsec_import.specs.declared.entries.Entry.{Entry}
+use Rattle.snmpsec_import.specs.declared.entries.Entry.TheVariants as entries
+use Rattle.snmpsec_lists.specs.declared.rows.Place.{Place}
+use Rattle.snmpsec_lists.specs.declared.items.Include.{Include}
+use Rattle.snmpsec_lists.specs.declared.items.Include.TheVariants as includes
+use Rattle.snmpsec_lists.specs.declared.items.Followed.{Followed}
+use Rattle.snmpsec_lists.specs.declared.items.Followed.TheVariants as followed
+use Rattle.snmpsec_lists.specs.declared.items.Made.{Made}
+use Rattle.snmpsec_lists.specs.declared.items.Made.TheVariants as made
+use Rattle.snmpsec_lists.specs.declared.items.Item.{Item}
+use Rattle.snmpsec_imported.specs.declared.notes.Kind.{Kind}
+use Rattle.snmpsec_imported.specs.declared.notes.Kind.TheVariants.{Other, Ignored, LeftOut, Refused, Undefined, Differs, Order}
+use Rattle.snmpsec_imported.specs.declared.notes.Told.{Told}
+
+abbrev pub fault_kind : LineFault → Kind
+fault_kind (faults.Refused refusal) = Refused
+fault_kind faults.Undefined = Undefined
+fault_kind faults.NotInNumbers = LeftOut
+fault_kind faults.OutOfReach = Ignored
+fault_kind faults.OutOfMemory = LeftOut
+
+abbrev pub note_kind : Note → Kind
+note_kind notes.Unclosed = Refused
+note_kind notes.NoSection = Refused
+note_kind notes.Bare = Refused
+note_kind notes.Other = Other
+note_kind (notes.LeftOut directive) = LeftOut
+note_kind (notes.Fault directive fault) = fault_kind fault
+
+-- a line that snmpd doesn't read other files for is refused by it, and another has not been followed
+abbrev pub include_kind : Include → Kind
+include_kind includes.Unclear = Refused
+include_kind _ = LeftOut
+
+abbrev pub followed_kind : Followed → Kind
+followed_kind followed.Read = Other
+followed_kind followed.Several = Order
+followed_kind followed.Unread = Refused
+followed_kind followed.TooDeep = Refused
+followed_kind followed.LeftOut = LeftOut
+
+abbrev pub entry_kind : Entry → Option Kind
+entry_kind (entries.Told note) = Some (note_kind note)
+entry_kind _ = None
+
+-- of what kind the note on a line is; none is on a row, on an empty line, and on one that begins a section
+abbrev pub kind_of : Made → Option Kind
+kind_of (made.Entry entry) = entry_kind entry
+kind_of made.NotText = Some LeftOut
+kind_of (made.Include include) = Some (include_kind include)
+kind_of (made.Followed followed) = Some (followed_kind followed)
+
+-- what is told: where, and of what kind
+abbrev pub told_of : Told → Place × Kind
+told_of told = (told.place, told.kind)
+
+abbrev pub tells_kind : Place → Option Kind → List (Place × Kind)
+tells_kind place None = []
+tells_kind place (Some kind) = (place, kind) ∷ []
+
+-- the note on a line, where there is one
+abbrev pub tells : Item → List (Place × Kind)
+tells item = tells_kind item.place (kind_of item.made)
+
+-- with such a note the configuration may not be what snmpd does
+abbrev pub IsSerious : Kind → Type 0
+IsSerious Other = ⊥
+IsSerious Ignored = ⊥
+IsSerious _ = ⊤

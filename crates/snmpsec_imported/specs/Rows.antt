@@ -1,0 +1,46 @@
+-- The rows that are printed, and what a text says of them.
+use Rattle.std.specs.Prelude.{◌≡◌, ◌<◌, ℕ, List, [], length, get_or}
+use Rattle.vacm_core.specs.Tables.{Tables}
+use Rattle.vacm_core.specs.declared.rows.ContextRow.{ContextRow}
+use Rattle.vacm_core.specs.declared.rows.GroupRow.{GroupRow}
+use Rattle.vacm_core.specs.declared.rows.AccessRow.{AccessRow}
+use Rattle.vacm_core.specs.declared.rows.FamilyRow.{FamilyRow}
+use Rattle.snmpsec_config.specs.Refusals.{SaysSound}
+use Rattle.snmpsec_lists.specs.Kept.{AreGroupsKept, AreAccessKept, AreFamiliesKept}
+use Rattle.snmpsec_lists.specs.Lists.{Tables as HeldTables, at_start, HoldsAfter}
+use Rattle.snmpsec_lists.specs.declared.items.Item.{Item}
+use Rattle.snmpsec_lists.specs.declared.rows.HeldGroup.{HeldGroup}
+use Rattle.snmpsec_lists.specs.declared.rows.HeldAccess.{HeldAccess}
+use Rattle.snmpsec_lists.specs.declared.rows.HeldFamily.{HeldFamily}
+use Rattle.snmpsec_imported.specs.declared.rows.Kept.{Kept}
+
+-- Row by row this is the row of what is kept.
+pub record AreRowsOf {H R : Type 0} (row_of : H → R) (kept : List H) (rows : List R) : Type 0 where
+  pub count : length rows ≡ length kept
+  pub each : (k : ℕ) (h : H) (r : R) → k < length kept → get_or rows k r ≡ row_of (get_or kept k h)
+
+-- the tables are the rows of what is kept
+pub record AreTablesOf (kept : Kept) (rows : Tables) : Type 0 where
+  pub contexts : AreRowsOf (λ (row : ContextRow). row) kept.contexts.items rows.contexts
+  pub groups : AreRowsOf (λ (held : HeldGroup). held.row) kept.groups.items rows.groups
+  pub access : AreRowsOf (λ (held : HeldAccess). held.row) kept.access.items rows.access
+  pub families : AreRowsOf (λ (held : HeldFamily). held.row) kept.families.items rows.families
+
+-- The text is a configuration, and stands for exactly these rows and no users.
+abbrev pub Prints : Kept → List ℕ → Type 0
+Prints kept text = (rows : Tables) × SaysSound text [] rows × AreTablesOf kept rows
+
+-- Of what snmpd holds these rows count.
+pub record AreKept (held : HeldTables) (kept : Kept) : Type 0 where
+  pub groups : AreGroupsKept held.groups kept.groups.items
+  pub access : AreAccessKept held.access kept.access.items
+  pub families : AreFamiliesKept kept.access.items held.families kept.families.items
+
+-- The lines come to the text: the rows that count after them, with these contexts, are what it says.
+pub record ComesTo (items : List Item) (contexts : List ContextRow) (text : List ℕ) : Type 0 where
+  pub held : HeldTables
+  pub kept : Kept
+  pub holds : HoldsAfter at_start items held
+  pub are_kept : AreKept held kept
+  pub are_contexts : kept.contexts.items ≡ contexts
+  pub prints : Prints kept text

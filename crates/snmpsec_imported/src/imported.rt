@@ -1,0 +1,45 @@
+//! From lines to the configuration that they come to, and what is told of them.
+
+ghost use Rattle.std.specs.Prelude.{◌≡◌, ◌++◌, List, map, IfOk};
+ghost use Rattle.std.specs.List.{flat_map};
+ghost use Rattle.snmpsec_imported.specs.declared.notes.Told.{Told as ATold};
+ghost use Rattle.snmpsec_imported.specs.Rows.{ComesTo};
+ghost use Rattle.snmpsec_imported.specs.Notes.{told_of, tells};
+
+use crate::notes::{Told, line_notes};
+use crate::read_back::{TextFault, configuration};
+use crate::rows::kept_of;
+use crate::second::second_notes;
+use snmpsec_lists::{Item, lists_of};
+use std::alloc::Global;
+use vacm_core::ContextRow;
+
+/// What files of snmpd.conf come to.
+#[derive(Drop)]
+pub struct Imported {
+    /// The configuration.
+    pub text: Vec<u8>,
+    /// What isn't in it, or not as snmpd has it.
+    pub notes: Vec<Told>,
+}
+
+/// The configuration that these lines come to, with these contexts, given the names of the files that the lines are from.
+///
+/// Each line is in its rows, or is told: first those that make no row, in their order, and behind them the rows beside which another one
+/// counts. The fault is want of memory, or `NotReadBack`.
+pub fn import(
+    alloc: Global,
+    files: &[String],
+    items: &[Item],
+    contexts: Vec<ContextRow>,
+) -> Result<Imported, TextFault>
+    ensures text { IfOk result (λ done. ComesTo items.now contexts.items done.text.items) }
+    ensures notes { IfOk result (λ done. (second : List ATold) × (map told_of done.notes.items ≡ flat_map tells items.now ++ map told_of second)) }
+{
+    let lists = lists_of(alloc, items)?;
+    let kept = kept_of(alloc, &lists, contexts)?;
+    let text = configuration(alloc, files, &kept)?;
+    let mut notes = line_notes(alloc, items)?;
+    notes.append(&mut second_notes(alloc, &lists, &kept)?)?;
+    Ok(Imported { text, notes })
+}

@@ -1,0 +1,207 @@
+//! What is told of lines that are no rows.
+
+ghost use Rattle.std.specs.Prelude.{◌≡◌, ◌++◌, map, IfOk, OnOk};
+ghost use Rattle.std.specs.List.{flat_map};
+ghost use Rattle.snmpsec_imported.specs.Notes as spec;
+ghost use Rattle.snmpsec_imported.specs.Notes.{told_of, tells};
+
+use snmpsec_import::{Directive, Entry, LineFault, Note};
+use snmpsec_lists::{Followed, Include, Item, Made, Place};
+use std::alloc::{AllocError, Global};
+use std::fmt;
+
+/// What a note says of a line or a row.
+#[derive(Clone, Copy, Debug, PartialEq, Eq)]
+pub enum Kind {
+    /// It has nothing to do with users and access.
+    Other,
+    /// snmpd holds a row that changes no answer.
+    Ignored,
+    /// snmpd takes it, and there is no counterpart.
+    LeftOut,
+    /// snmpd tells a fault and goes on.
+    Refused,
+    /// snmpd reads octets that nothing wrote.
+    Undefined,
+    /// snmpd decides otherwise than RFC 3415 over these rows.
+    Differs,
+    /// The files of a folder are read by name.
+    Order,
+}
+
+impl fmt::Display for Kind {
+    fn fmt<W: fmt::Write>(&self, f: &mut fmt::Formatter<W>) -> fmt::Result {
+        match self {
+            Kind::Other => write!(f, "other"),
+            Kind::Ignored => write!(f, "ignored"),
+            Kind::LeftOut => write!(f, "left out"),
+            Kind::Refused => write!(f, "refused by snmpd"),
+            Kind::Undefined => write!(f, "undefined"),
+            Kind::Differs => write!(f, "differs"),
+            Kind::Order => write!(f, "order"),
+        }
+    }
+}
+
+/// Why something is told.
+#[derive(Clone, Copy, Debug, PartialEq, Eq)]
+pub enum Why {
+    /// The kind says it.
+    Plain,
+    /// These words say it.
+    Words(&'static str),
+    /// This is wrong with the line.
+    Fault(LineFault),
+    /// The row from there has the same index.
+    Same(Place),
+}
+
+/// A note.
+#[derive(Drop)]
+pub struct Told {
+    pub place: Place,
+    pub kind: Kind,
+    /// The directive's word; empty where there is none.
+    pub word: Vec<u8>,
+    pub why: Why,
+}
+
+/// The kind of a note on such a fault.
+fn fault_kind(fault: LineFault) -> Kind
+    ensures { result ≡ spec.fault_kind fault }
+{
+    match fault {
+        LineFault::Refused(_) => Kind::Refused,
+        LineFault::Undefined => Kind::Undefined,
+        LineFault::NotInNumbers | LineFault::OutOfMemory => Kind::LeftOut,
+        LineFault::OutOfReach => Kind::Ignored,
+    }
+}
+
+/// The kind of a note on a line.
+fn note_kind(note: Note) -> Kind
+    ensures { result ≡ spec.note_kind note }
+{
+    match note {
+        Note::Unclosed | Note::NoSection | Note::Bare => Kind::Refused,
+        Note::Other => Kind::Other,
+        Note::LeftOut(_) => Kind::LeftOut,
+        Note::Fault(_, fault) => fault_kind(fault),
+    }
+}
+
+/// The kind of a note on other files that were asked for.
+fn followed_kind(followed: Followed) -> Kind
+    ensures { result ≡ spec.followed_kind followed }
+{
+    match followed {
+        Followed::Read => Kind::Other,
+        Followed::Several => Kind::Order,
+        Followed::Unread | Followed::TooDeep => Kind::Refused,
+        Followed::LeftOut => Kind::LeftOut,
+    }
+}
+
+/// The kind of a note on other files that weren't followed.
+fn include_kind(include: &Include) -> Kind
+    ensures { result ≡ spec.include_kind include.now }
+{
+    match include {
+        Include::Unclear => Kind::Refused,
+        Include::Search | Include::File(_) | Include::Folder(_) => Kind::LeftOut,
+    }
+}
+
+/// The kind of the note on a line, where there is one.
+fn kind_of(made: &Made) -> Option<Kind>
+    ensures { result ≡ spec.kind_of made.now }
+{
+    match made {
+        Made::Entry(Entry::Told(note)) => Some(note_kind(*note)),
+        Made::Entry(_) => None,
+        Made::NotText => Some(Kind::LeftOut),
+        Made::Include(include) => Some(include_kind(include)),
+        Made::Followed(followed) => Some(followed_kind(*followed)),
+    }
+}
+
+/// Why lines of this directive aren't read.
+fn why_left_out(directive: Directive) -> Why {
+    match directive {
+        Directive::Mapping => {
+            Why::Words("a community's name here is that of a group row of model 1 or 2")
+        }
+        Directive::Saved => Why::Words("a row that snmpd itself has saved"),
+        Directive::ReadCommunity | Directive::WriteCommunity | Directive::AuthCommunity => {
+            Why::Words("messages of SNMPv1 and SNMPv2c are refused here")
+        }
+        _ => Why::Words("such lines are not taken over"),
+    }
+}
+
+/// Why a line makes no row.
+fn why_note(note: Note) -> Why {
+    match note {
+        Note::Unclosed => Why::Words("section without a closing bracket"),
+        Note::NoSection => Why::Words("no such section"),
+        Note::Bare => Why::Words("nothing behind it"),
+        Note::Other => Why::Plain,
+        Note::LeftOut(directive) => why_left_out(directive),
+        Note::Fault(_, fault) => Why::Fault(fault),
+    }
+}
+
+/// What came of other files.
+fn why_followed(followed: Followed) -> Why {
+    Why::Words(match followed {
+        Followed::Read => "read in its place",
+        Followed::Several =>
+            "several files, read by name; snmpd takes them as the folder gives them",
+        Followed::Unread => "can't be read",
+        Followed::TooDeep => "too many files, or too many in one another",
+        Followed::LeftOut => "not followed: name the files on the command line",
+    })
+}
+
+/// Why there is no row.
+fn why_of(made: &Made) -> Why {
+    match made {
+        Made::Entry(Entry::Told(note)) => why_note(*note),
+        Made::Entry(_) => Why::Plain,
+        Made::NotText => Why::Words("a name isn't UTF-8"),
+        Made::Include(Include::Unclear) => {
+            Why::Words("includeFile, includeDir or includeSearch, and a name, are wanted")
+        }
+        Made::Include(_) => Why::Words("name the file on the command line"),
+        Made::Followed(followed) => why_followed(*followed),
+    }
+}
+
+/// Appends the note on a line, where there is one.
+fn put_note(alloc: Global, notes: &mut Vec<Told>, item: &Item) -> Result<(), AllocError>
+    ensures { OnOk result (map told_of notes.new.items ≡ map told_of notes.old.items ++ tells item.now) }
+{
+    let Some(kind) = kind_of(&item.made) else {
+        return Ok(());
+    };
+    notes.push(Told {
+        place: item.place,
+        kind,
+        word: Vec::from_slice(alloc, &item.word)?,
+        why: why_of(&item.made),
+    })?;
+    Ok(())
+}
+
+/// The notes on these lines, one for each that is neither a row nor empty nor begins a section, in their order.
+///
+/// The error is want of memory.
+pub fn line_notes(alloc: Global, items: &[Item]) -> Result<Vec<Told>, AllocError>
+    ensures { IfOk result (λ notes. map told_of notes.items ≡ flat_map tells items.now) }
+{
+    let mut notes = Vec::new(alloc);
+    for item in items {
+        put_note(alloc, &mut notes, item)?;
+    }
+    Ok(notes)
+}

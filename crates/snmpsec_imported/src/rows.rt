@@ -1,0 +1,36 @@
+//! The rows that are printed.
+
+ghost use Rattle.std.specs.Prelude.{◌≡◌, IfOk};
+ghost use Rattle.snmpsec_lists.specs.Lists.{tables_of};
+ghost use Rattle.snmpsec_imported.specs.Rows.{AreKept};
+
+use snmpsec_lists::{
+    HeldAccess, HeldFamily, HeldGroup, Lists, access_kept, families_kept, groups_kept,
+};
+use std::alloc::{AllocError, Global};
+use vacm_core::ContextRow;
+
+/// The rows of a configuration, those of lines with their places.
+#[derive(Drop)]
+pub struct Kept {
+    pub contexts: Vec<ContextRow>,
+    pub groups: Vec<HeldGroup>,
+    pub access: Vec<HeldAccess>,
+    pub families: Vec<HeldFamily>,
+}
+
+/// The rows that count, of those that snmpd holds, and these contexts.
+///
+/// The error is want of memory.
+pub fn kept_of(alloc: Global, lists: &Lists, contexts: Vec<ContextRow>) -> Result<Kept, AllocError>
+    ensures contexts { IfOk result (λ kept. kept.contexts.items ≡ contexts.items) }
+    ensures kept { IfOk result (AreKept (tables_of lists.now)) }
+{
+    let access = access_kept(alloc, &lists.access)?;
+    Ok(Kept {
+        contexts,
+        groups: groups_kept(alloc, &lists.groups)?,
+        families: families_kept(alloc, &access, &lists.families)?,
+        access,
+    })
+}

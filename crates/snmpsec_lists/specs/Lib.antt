@@ -1,0 +1,4 @@
+pub mod Orders
+pub mod Items
+pub mod Lists
+pub mod Kept

@@ -1,0 +1,61 @@
+-- What snmpd holds after lines (net-snmp 5.9.3).
+use Rattle.std.specs.Prelude.{◌≡◌, ℕ, Bool, true, false, List, [], ◌∷◌, codes}
+use Rattle.snmpsec_import.specs.declared.entries.Entry.{Entry}
+use Rattle.snmpsec_import.specs.declared.entries.Entry.TheVariants.{Group, Access, Family}
+use Rattle.snmpsec_lists.specs.declared.rows.Place.{Place}
+use Rattle.snmpsec_lists.specs.declared.rows.Place.TheVariants.{BuiltIn}
+use Rattle.snmpsec_lists.specs.declared.rows.HeldGroup.{HeldGroup}
+use Rattle.snmpsec_lists.specs.declared.rows.HeldAccess.{HeldAccess}
+use Rattle.snmpsec_lists.specs.declared.rows.HeldFamily.{HeldFamily}
+use Rattle.snmpsec_lists.specs.declared.lists.Lists.{Lists}
+use Rattle.snmpsec_lists.specs.declared.items.Item.{Item}
+use Rattle.snmpsec_lists.specs.declared.items.Made.{Made}
+use Rattle.snmpsec_lists.specs.declared.items.Made.TheVariants as made
+use Rattle.snmpsec_lists.specs.Orders.{Adds, order_of_groups, order_of_access, order_of_families}
+
+-- the rows of the three tables, in snmpd's order
+pub record Tables : Type 0 where
+  pub groups : List HeldGroup
+  pub access : List HeldAccess
+  pub families : List HeldFamily
+
+abbrev pub tables_of : Lists → Tables
+tables_of lists = record { groups = lists.groups.items; access = lists.access.items; families = lists.families.items }
+
+-- ---- what snmpd has from the start
+
+abbrev pub built_in_row : List ℕ → ℕ → Bool → HeldFamily
+built_in_row view arc include = record { place = BuiltIn; row = record { view = view; subtree = arc ∷ []; mask = []; include = include } }
+
+-- the views `_all_` and `_none_`, which include and exclude all there is
+abbrev pub built_in : List HeldFamily
+built_in =
+    built_in_row (codes "_all_") 0 true ∷ built_in_row (codes "_all_") 1 true ∷ built_in_row (codes "_all_") 2 true
+    ∷ built_in_row (codes "_none_") 0 false ∷ built_in_row (codes "_none_") 1 false ∷ built_in_row (codes "_none_") 2 false ∷ []
+
+abbrev pub at_start : Tables
+at_start = record { groups = []; access = []; families = built_in }
+
+-- ---- line by line
+
+-- A row goes into its table, and no other table changes.
+abbrev pub TakesEntry : Place → Entry → Tables → Tables → Type 0
+TakesEntry place (Group row) before after =
+    Adds order_of_groups before.groups (record { place = place; row = row }) after.groups × (after.access ≡ before.access) × (after.families ≡ before.families)
+TakesEntry place (Access row) before after =
+    Adds order_of_access before.access (record { place = place; row = row }) after.access × (after.groups ≡ before.groups) × (after.families ≡ before.families)
+TakesEntry place (Family row) before after =
+    Adds order_of_families before.families (record { place = place; row = row }) after.families × (after.groups ≡ before.groups) × (after.access ≡ before.access)
+TakesEntry place _ before after = after ≡ before
+
+abbrev pub TakesMade : Place → Made → Tables → Tables → Type 0
+TakesMade place (made.Entry entry) before after = TakesEntry place entry before after
+TakesMade place _ before after = after ≡ before
+
+abbrev pub Takes : Item → Tables → Tables → Type 0
+Takes item before after = TakesMade item.place item.made before after
+
+-- After these lines, one after another, the tables are these.
+abbrev pub HoldsAfter : Tables → List Item → Tables → Type 0
+HoldsAfter before [] after = before ≡ after
+HoldsAfter before (item ∷ items) after = (next : Tables) × Takes item before next × HoldsAfter next items after

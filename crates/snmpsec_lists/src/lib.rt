@@ -1,0 +1,18 @@
+//! What snmpd 5.9.3 holds after the lines of its files: users' groups, access rows and views in its own order, and of each index the row
+//! that counts.
+#![tactic(auto)]
+
+mod add;
+mod copies;
+mod items;
+mod kept;
+mod lists;
+mod rows;
+mod settled;
+
+pub use copies::{copy_access, copy_family, copy_group};
+pub use items::{Followed, Include, Item, Made, read_items};
+pub use kept::{families_kept, find, groups_kept};
+pub use lists::{Lists, lists_of};
+pub use rows::{Held, HeldAccess, HeldFamily, HeldGroup, Place};
+pub use settled::access_kept;
