@@ -2,8 +2,8 @@
 """Compares the log that `snmpsec datagrams` prints of captures with what tshark shows of them: captures.py PROGRAM
 
 Captures are made of packets of each kind that the slow model writes, of examples/replay/captured.pcap, of that one by editcap in other
-formats and cut, and by tcpdump of the same exchange over the loopback link, where it may listen there. What differs is printed, and the status
-is then 1. Of a datagram that is cut short and of a first piece tshark shows what there is, so the records that the program tells are left out.
+formats and cut, of all these in pcapng, and by tcpdump of the same exchange over the loopback link, where it may listen there. What differs is
+printed, and the status is then 1. Of a datagram that is cut short and of a first piece tshark shows what there is, so the records that the program tells are left out.
 """
 import pathlib
 import re
@@ -106,6 +106,9 @@ def main():
             for name, words in [("nano", ["-F", "nsecpcap"]), ("cut", ["-F", "pcap", "-s", "100"]), ("later", ["-F", "pcap", "-t", "3600.5"])]:
                 tried.append((f"{room}/{name}.pcap", [161, 162]))
                 subprocess.run(["editcap", *words, REPLAY / "captured.pcap", tried[-1][0]], check=True, stderr=subprocess.DEVNULL)
+            for path, ports in list(tried):
+                tried.append((f"{path}.pcapng", ports))
+                subprocess.run(["editcap", "-F", "pcapng", path, tried[-1][0]], check=True, stderr=subprocess.DEVNULL)
         port = heard(f"{room}/heard.pcap") if shutil.which("tcpdump") else None
         if port:
             tried.append((f"{room}/heard.pcap", [port]))

@@ -1,8 +1,9 @@
-"""Captures in the format of libpcap, and the datagrams that they hold (docs/formats.md, `datagrams`)."""
+"""Captures in the format of libpcap and in pcapng, and the datagrams that they hold (docs/formats.md, `datagrams`)."""
 import struct
 
 LARGEST = 262144
 MICROSECONDS, NANOSECONDS = 0xA1B2C3D4, 0xA1B23C4D
+SECTION, MAGIC = 0x0A0D0D0A, 0x1A2B3C4D
 TAGS = (0x8100, 0x88A8)
 SKIPPED = (0, 43, 44, 60)  # extension headers of IPv6: hop by hop, routing, fragment, destination
 FRAMES = {1: (12, 14), 113: (14, 16), 276: (0, 20)}  # the place of the type, and the size of the header
@@ -128,13 +129,77 @@ def records(octets, order):
         at += 16 + size
 
 
+def described(order, content):
+    """What the content of an interface block says: the link, the units of a second, and the offset in seconds."""
+    (link,) = struct.unpack(order + "H", content[:2])
+    units, offset, rest = 10**6, 0, content[8:]
+    while len(rest) >= 4:
+        code, size = struct.unpack(order + "HH", rest[:4])
+        value = rest[4 : 4 + size]
+        if code == 0 or len(value) < size:
+            break
+        if (code, size) == (9, 1):
+            units = 2 ** (value[0] - 128) if value[0] >= 128 else 10 ** value[0]
+        if (code, size) == (14, 8):
+            (offset,) = struct.unpack(order + "q", value)
+        rest = rest[4 + -(-size // 4) * 4 :]
+    return link, units, offset
+
+
+def blocks(octets):
+    """The place, the order, the kind and the content of each block of pcapng."""
+    at, order = 0, None
+    while at < len(octets):
+        head = octets[at : at + 12]
+        if head[:4] == SECTION.to_bytes(4, "big"):
+            order = {struct.pack(it + "I", MAGIC): it for it in "><"}.get(head[8:])
+        if len(head) < 12 or order is None:
+            raise OutOfForm(at)
+        kind, size = struct.unpack(order + "II", head[:8])
+        text = octets[at : at + size]
+        if size < (28 if kind == SECTION else 12) or size % 4 or len(text) < size or text[-4:] != head[4:8]:
+            raise OutOfForm(at)
+        yield at, order, kind, text[8:-4]
+        at += size
+
+
+def packets(octets):
+    """The link, the moment or None, the packet, and whether it was captured whole, of each record of a capture."""
+    if octets[:4] != SECTION.to_bytes(4, "big"):
+        order, link = header(octets)
+        for moment, packet, is_whole in records(octets, order):
+            yield link, moment, packet, is_whole
+        return
+    interfaces = []
+    for at, order, kind, content in blocks(octets):
+        if kind == SECTION:
+            interfaces = []
+            if struct.unpack(order + "H", content[4:6])[0] != 1:
+                raise OutOfForm(at)
+        elif kind == 1:
+            if not 8 <= len(content) <= LARGEST + 16:
+                raise OutOfForm(at)
+            interfaces.append(described(order, content))
+        elif kind == 6:
+            fields = struct.unpack(order + "IIIII", content[:20]) if len(content) >= 20 else (len(interfaces), 0, 0, 0, 0)
+            which, high, low, size, original = fields
+            if which >= len(interfaces) or size > min(len(content) - 20, LARGEST):
+                raise OutOfForm(at)
+            link, units, offset = interfaces[which]
+            moment = (high * 2**32 + low) // units + offset
+            yield link, moment if 0 <= moment < 2**64 else None, content[20 : 20 + size], original <= size
+        elif kind in (2, 3):
+            yield 0, None, b"", True
+
+
 def datagrams(name, octets, ports):
     """What `datagrams` prints, on both streams, and its status."""
     log, told, counts = [], [], {}
     try:
-        order, link = header(octets)
-        for place, (moment, packet, is_whole) in enumerate(records(octets, order), 1):
+        for place, (link, moment, packet, is_whole) in enumerate(packets(octets), 1):
             try:
+                if moment is None:
+                    raise Told("no moment")
                 log.append(f"{moment} {datagram(link, packet, is_whole, ports).hex()}\n")
             except Told as why:
                 told.append(f"snmpsec: record {place}: {why}\n")
@@ -180,3 +245,25 @@ def capture(order, magic, link, rows):
     """A capture of these records: the moment, the packet, and how many octets it had."""
     text = struct.pack(order + "IHHiIII", magic, 2, 4, 0, 0, LARGEST, link)
     return text + b"".join(struct.pack(order + "IIII", moment, 7, len(packet), original) + packet for moment, packet, original in rows)
+
+
+def block(order, kind, content):
+    size = 12 + -(-len(content) // 4) * 4
+    return struct.pack(order + "II", kind, size) + content.ljust(size - 12, b"\0") + struct.pack(order + "I", size)
+
+
+def option(order, code, value):
+    return struct.pack(order + "HH", code, len(value)) + value + bytes(-len(value) % 4)
+
+
+def section(order, rows):
+    """A section: of each row the interface's place, its time, the packet and how many octets it had, or a block's kind and content."""
+    text = block(order, SECTION, struct.pack(order + "IHHq", MAGIC, 1, 0, -1))
+    for row in rows:
+        if len(row) == 2:
+            text += block(order, *row)
+            continue
+        which, time, packet, original = row
+        fields = struct.pack(order + "IIIII", which, time >> 32, time & 0xFFFFFFFF, len(packet), original)
+        text += block(order, 6, fields + packet)
+    return text

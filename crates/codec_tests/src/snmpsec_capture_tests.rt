@@ -1,5 +1,6 @@
 //! Captures that are read, and the first octet at which one isn't.
 
+mod blocks;
 mod records;
 
 use snmpsec_capture::{CaptureFault, Found, Passed, find_datagram, write_datagrams};
@@ -37,14 +38,13 @@ const TWO: &str =
 const ONE: &[u8] = b"1700000000 3003020103\n";
 
 /// A capture that was changed at these octets, or cut behind so many, and the octet that is told.
-static FAULTS: [(usize, &[u8], usize, u64); 12] = [
+static FAULTS: [(usize, &[u8], usize, u64); 11] = [
     // no octet, the header without its last octet
     (0, b"", 0, 0),
     (0, b"", 23, 0),
-    // other numbers at the beginning: of a capture of another format, of none, and of a newer one
+    // other numbers at the beginning: of none, and of another format
     (0, b"\xd4\xc3\xb2\xa0", 150, 0),
     (0, b"\x34\xcd\xb2\xa1", 150, 0),
-    (0, b"\x0a\x0d\x0d\x0a", 150, 0),
     // another version, a link above the greatest
     (4, b"\x01", 150, 4),
     (4, b"\x00\x02", 150, 4),

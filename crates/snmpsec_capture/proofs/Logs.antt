@@ -1,178 +1,186 @@
--- The log of a capture, record by record.
-use Rattle.std.proofs.Common.{◌≡◌, ℕ, ◌+◌, ◌*◌, ◌<◌, ◌≤◌, List, [], ◌∷◌, ◌++◌, length, Option, IfSome, inl, inr, refl, sym, ap, ◌∙◌, arith, append_assoc, append-nil, length-append, subst}
-use Rattle.std.specs.Io.KnownBytes.{Appends, Consumes}
+-- The log of a capture, item by item.
+use Rattle.std.proofs.Common.{◌≡◌, ℕ, ◌+◌, ◌*◌, ◌<◌, ◌≤◌, List, [], ◌∷◌, ◌++◌, length, Option, Some, None, IfSome, inl, inr, refl, sym, ap, ◌∙◌, arith, append_assoc, append-nil, length-append, subst}
+use Rattle.std.specs.Io.KnownBytes.{Appends, Consumes, Keeps}
 use Rattle.std.proofs.KnownBytes.{Appends-nil, Appends-trans, Appends-kept, Consumes-nil, Consumes-trans, Consumes-whole}
 use Rattle.snmpsec_streams.specs.Transfer.{WritesFront}
-use Rattle.snmpsec_capture.specs.Pcap.{Record, IsRecord, AreRecords}
-use Rattle.snmpsec_capture.specs.Passed.{none_passed, IsBelow}
-use Rattle.snmpsec_capture.specs.Datagrams.{IsSortedRecord, log_of, note_of, count_of, Sorts, IsLogOf, Streams, Stands, StopsWriting, WriteFails, StopsRecords, HasBegun, record_from, WritesRecord, WritesRecordFront, StopsRecord, IsEnd}
-use Rattle.snmpsec_capture.specs.declared.field.Order.{Order}
-use Rattle.snmpsec_capture.specs.declared.pcap.Header.{Header}
+use Rattle.snmpsec_capture.specs.Items.{Record}
+use Rattle.snmpsec_capture.specs.Formats.{AreItems, HasBegun, IsItem, State, StopsItem, records_of}
+use Rattle.snmpsec_capture.specs.Passed.{Counts, none_passed}
+use Rattle.snmpsec_capture.specs.Datagrams.{IsSortedRecord, log_of, note_of, count_of, Sorts, IsLogOf, Streams, Stands, StopsWriting, WriteFails, StopsItems, WritesItem, WritesRecord, WritesRecordFront, StopsRecord, StopsWrite, IsEnd, IsLess, IsWholeItem}
 use Rattle.snmpsec_capture.specs.declared.datagrams.Sorted.{Sorted}
-use Rattle.snmpsec_capture.specs.declared.datagrams.Sorted.TheVariants.{Logged, Told, Counted}
-use Rattle.snmpsec_capture.specs.declared.passed.Reason.TheVariants as reason
-use Rattle.snmpsec_capture.specs.declared.passed.Passed.{Passed}
-use Rattle.snmpsec_capture.specs.declared.datagrams.Captured.{Captured}
 use Rattle.snmpsec_capture.specs.declared.fault.CaptureFault.{CaptureFault}
 use Rattle.snmpsec_capture.specs.declared.fault.CaptureFault.TheVariants as fault
 
--- ---- one record more
+-- ---- one item more
 
-records_more : (order : Order) (rs : List Record) (read octets : List ℕ) (r : Record) → AreRecords order rs read → IsRecord order octets r
-    → AreRecords order (rs ++ r ∷ []) (read ++ octets)
-records_more order [] read octets r h is = (octets, [], is, ap (λ t. t ++ octets) h ∙ sym (append-nil octets), refl)
-records_more order (x ∷ rs) read octets r (front, rest, first, parts, later) is = (
+items_more : (s : State) (xs : List (Option Record)) (read octets : List ℕ) (x : Option Record) (mid t : State) → AreItems s xs read mid → IsItem mid octets x t
+    → AreItems s (xs ++ x ∷ []) (read ++ octets) t
+items_more s [] read octets x mid t h is =
+    (octets, [], t, subst (λ q. IsItem q octets x t) h.1 is, ap (λ o. o ++ octets) h.0 ∙ sym (append-nil octets), (refl, refl))
+items_more s (y ∷ ys) read octets x mid t (front, rest, next, first, parts, later) is = (
   front,
   rest ++ octets,
+  next,
   first,
-  ap (λ t. t ++ octets) parts ∙ append_assoc front rest octets,
-  records_more order rs rest octets r later is,
+  ap (λ o. o ++ octets) parts ∙ append_assoc front rest octets,
+  items_more next ys rest octets x mid t later is,
 )
 
-sorts_more : (ports : List ℕ) (link n : ℕ) (rs : List Record) (before : Passed) (log notes : List ℕ) (mid : Passed) (r : Record) (s : Sorted) (after : Passed)
-    → Sorts ports link n rs before log notes mid → IsSortedRecord ports link r s → after ≡ count_of s mid
-    → Sorts ports link n (rs ++ r ∷ []) before (log ++ log_of r.moment s) (notes ++ note_of (n + length rs) s) after
-sorts_more ports link n [] before log notes mid r s after h is counts =
+records_more : (xs : List (Option Record)) (r : Record) → records_of (xs ++ Some r ∷ []) ≡ records_of xs ++ r ∷ []
+records_more [] r = refl
+records_more (None ∷ xs) r = records_more xs r
+records_more (Some x ∷ xs) r = ap (λ t. x ∷ t) (records_more xs r)
+
+records_same : (xs : List (Option Record)) → records_of (xs ++ None ∷ []) ≡ records_of xs
+records_same [] = refl
+records_same (None ∷ xs) = records_same xs
+records_same (Some x ∷ xs) = ap (λ t. x ∷ t) (records_same xs)
+
+sorts_more : (ports : List ℕ) (n : ℕ) (rs : List Record) (before : Counts) (log notes : List ℕ) (mid : Counts) (r : Record) (s : Sorted) (after : Counts)
+    → Sorts ports n rs before log notes mid → IsSortedRecord ports r s → after ≡ count_of s mid
+    → Sorts ports n (rs ++ r ∷ []) before (log ++ log_of s) (notes ++ note_of (n + length rs) s) after
+sorts_more ports n [] before log notes mid r s after h is counts =
     let number : n + length {A = Record} [] ≡ n = omega arith in (
       s,
       [],
       [],
       is,
-      ap (λ t. t ++ log_of r.moment s) h.0 ∙ sym (append-nil _),
+      ap (λ t. t ++ log_of s) h.0 ∙ sym (append-nil _),
       ap (λ t. t ++ note_of (n + length {A = Record} []) s) h.1 ∙ ap (λ k. note_of k s) number ∙ sym (append-nil _),
       (refl, refl, counts ∙ ap (count_of s) h.2),
     )
-sorts_more ports link n (x ∷ rs) before log notes mid r s after (first, more, told, sorted, logs, tells, later) is counts =
+sorts_more ports n (x ∷ rs) before log notes mid r s after (first, more, told, sorted, logs, tells, later) is counts =
     let number : n + length (x ∷ rs) ≡ (n + 1) + length rs = omega arith in (
       first,
-      more ++ log_of r.moment s,
+      more ++ log_of s,
       told ++ note_of (n + length (x ∷ rs)) s,
       sorted,
-      ap (λ t. t ++ log_of r.moment s) logs ∙ append_assoc (log_of x.moment first) more _,
+      ap (λ t. t ++ log_of s) logs ∙ append_assoc (log_of first) more _,
       ap (λ t. t ++ note_of (n + length (x ∷ rs)) s) tells ∙ append_assoc (note_of n first) told _,
-      subst (λ k. Sorts ports link (n + 1) (rs ++ r ∷ []) (count_of first before) (more ++ log_of r.moment s) (told ++ note_of k s) after) (sym number)
-          (sorts_more ports link (n + 1) rs (count_of first before) more told mid r s after later is counts),
+      subst (λ k. Sorts ports (n + 1) (rs ++ r ∷ []) (count_of first before) (more ++ log_of s) (told ++ note_of k s) after) (sym number)
+          (sorts_more ports (n + 1) rs (count_of first before) more told mid r s after later is counts),
     )
-
--- ---- the counts
-
-below_on : (p : Passed) (n : ℕ) → IsBelow p n → IsBelow p (n + 1)
-below_on p n b =
-    let a = b.another_port in let l = b.other_link in let i = b.not_ip in let u = b.not_udp in
-    record { another_port = omega (arith, a); other_link = omega (arith, l); not_ip = omega (arith, i); not_udp = omega (arith, u) }
-
-below_more : (p : Passed) (n : ℕ) (s : Sorted) → IsBelow p n → IsBelow (count_of s p) (n + 1)
-below_more p n (Logged datagram) b = below_on p n b
-below_more p n (Told why) b = below_on p n b
-below_more p n (Counted reason.AnotherPort) b =
-    let a = b.another_port in let l = b.other_link in let i = b.not_ip in let u = b.not_udp in
-    record { another_port = omega (arith, a); other_link = omega (arith, l); not_ip = omega (arith, i); not_udp = omega (arith, u) }
-below_more p n (Counted reason.OtherLink) b =
-    let a = b.another_port in let l = b.other_link in let i = b.not_ip in let u = b.not_udp in
-    record { another_port = omega (arith, a); other_link = omega (arith, l); not_ip = omega (arith, i); not_udp = omega (arith, u) }
-below_more p n (Counted reason.NotIp) b =
-    let a = b.another_port in let l = b.other_link in let i = b.not_ip in let u = b.not_udp in
-    record { another_port = omega (arith, a); other_link = omega (arith, l); not_ip = omega (arith, i); not_udp = omega (arith, u) }
-below_more p n (Counted reason.NotUdp) b =
-    let a = b.another_port in let l = b.other_link in let i = b.not_ip in let u = b.not_udp in
-    record { another_port = omega (arith, a); other_link = omega (arith, l); not_ip = omega (arith, i); not_udp = omega (arith, u) }
-
-pub below_next : (p after : Passed) (n : ℕ) (s : Sorted) → IsBelow p n → after ≡ count_of s p → IsBelow after (n + 1)
-below_next p after n s b counts = subst (λ q. IsBelow q (n + 1)) (sym counts) (below_more p n s b)
-
-pub below_most : (p : Passed) (n : ℕ) → IsBelow p n → n < 1099511627776 → IsBelow p 18446744073709551615
-below_most p n b h =
-    let a = b.another_port in let l = b.other_link in let i = b.not_ip in let u = b.not_udp in
-    record { another_port = omega (arith, a, h); other_link = omega (arith, l, h); not_ip = omega (arith, i, h); not_udp = omega (arith, u, h) }
 
 -- ---- before record n, which begins at a place
 
 abbrev pub streams : Option (List ℕ) → Option (List ℕ) → Option (List ℕ) → Option (List ℕ) → Option (List ℕ) → Option (List ℕ) → Streams
 streams unread left held written untold told = record { unread = unread; left = left; held = held; written = written; untold = untold; told = told }
 
-pub record IsBefore (n place : ℕ) (records : List Record) (read part : List ℕ) : Type 0 where
+pub record IsBefore (begin n place : ℕ) (now state : State) (count : ℕ) (read part : List ℕ) : Type 0 where
   pub none : part ≡ []
-  pub number : n ≡ length records + 1
-  pub at : place ≡ 24 + length read
-  pub near : length read ≤ length records * 262160
+  pub same : state ≡ now
+  pub number : n ≡ count + 1
+  pub at : place ≡ begin + length read
 
-pub starts : (ports : List ℕ) (h : Header) (unread held untold : Option (List ℕ)) (passed : Passed) → passed ≡ none_passed h.link
-    → Stands ports h (streams unread unread held held untold untold) (IsBefore 1 24) passed
-starts ports h unread held untold passed none = record {
-  records = [];
+pub starts : (ports : List ℕ) (s : State) (begin place : ℕ) (unread held untold : Option (List ℕ)) (passed : Counts) → passed ≡ none_passed → place ≡ begin
+    → Stands ports s (streams unread unread held held untold untold) (IsBefore begin 1 place s) passed
+starts ports s begin place unread held untold passed none at = record {
+  items = [];
+  state = s;
   read = [];
   part = [];
   log = [];
   notes = [];
-  are_records = refl;
+  are_items = (refl, refl);
   sorts = (refl, refl, none);
   consumed = Consumes-nil unread;
-  is_part = record { none = refl; number = refl; at = refl; near = omega arith };
+  is_part = record { none = refl; same = refl; number = refl; at = omega (arith, at) };
   wrote = Appends-nil held;
   tells = Appends-nil untold;
 }
 
-pub starts_below : (link : ℕ) (passed : Passed) → passed ≡ none_passed link → IsBelow passed 1
-starts_below link passed none =
-    subst (λ q. IsBelow q 1) (sym none) (record { another_port = omega arith; other_link = omega arith; not_ip = omega arith; not_udp = omega arith })
-
 -- a part was read behind
-pub reads_part : {ports : List ℕ} {h : Header} {unread left held written untold told : Option (List ℕ)} {n place : ℕ} {passed : Passed}
-    → Stands ports h (streams unread left held written untold told) (IsBefore n place) passed
-    → (left' : Option (List ℕ)) (P : List Record → List ℕ → List ℕ → Type 0) (part : List ℕ) → Consumes left left' part
-    → ((records : List Record) (read : List ℕ) → n ≡ length records + 1 → place ≡ 24 + length read → P records read part)
-    → Stands ports h (streams unread left' held written untold told) P passed
+pub reads_part : {ports : List ℕ} {s : State} {unread left held written untold told : Option (List ℕ)} {begin n place : ℕ} {now : State} {passed : Counts}
+    → Stands ports s (streams unread left held written untold told) (IsBefore begin n place now) passed
+    → (left' : Option (List ℕ)) (P : State → ℕ → List ℕ → List ℕ → Type 0) (part : List ℕ) → Consumes left left' part
+    → ((count : ℕ) (read : List ℕ) → place ≡ begin + length read → P now count read part)
+    → Stands ports s (streams unread left' held written untold told) P passed
 reads_part w left' P part c p = record {
-  records = w.records;
+  items = w.items;
+  state = w.state;
   read = w.read;
   part = part;
   log = w.log;
   notes = w.notes;
-  are_records = w.are_records;
+  are_items = w.are_items;
   sorts = w.sorts;
   consumed = Consumes-trans _ _ _ _ _ (rw (w.is_part.none, append-nil w.read) at w.consumed) c;
-  is_part = p w.records w.read w.is_part.number w.is_part.at;
+  is_part = subst (λ q. P q (length (records_of w.items)) w.read part) (sym w.is_part.same) (p (length (records_of w.items)) w.read w.is_part.at);
   wrote = w.wrote;
   tells = w.tells;
 }
 
--- a record was read, and what it comes to is written
-pub reads_record : {ports : List ℕ} {h : Header} {unread left held written untold told : Option (List ℕ)} {n place : ℕ} {passed : Passed}
-    → Stands ports h (streams unread left held written untold told) (IsBefore n place) passed
-    → (left' written' told' : Option (List ℕ)) (octets : List ℕ) (c : Captured) (after : Passed) (place' : ℕ)
-    → IsRecord h.order octets (record_from c) → Consumes left left' octets → c.link ≡ h.link → c.number ≡ n
-    → WritesRecord ports c passed after written written' told told' → place' ≡ place + length octets
-    → Stands ports h (streams unread left' held written' untold told') (IsBefore (n + 1) place') after
-reads_record {ports = ports} {h = h} {n = n} {passed = passed} w left' written' told' octets c after place' is consumes link number wr next =
-    let more = record_from c in
-    let k : c.number ≡ 1 + length w.records = number ∙ w.is_part.number ∙ omega arith in
-    let longer : length (w.records ++ more ∷ []) ≡ length w.records + 1 = length-append w.records (more ∷ []) in
+-- ---- an item is taken
+
+reads_none : {ports : List ℕ} {s : State} {unread left held written untold told : Option (List ℕ)} {begin n place : ℕ} {now : State} {passed : Counts}
+    → Stands ports s (streams unread left held written untold told) (IsBefore begin n place now) passed
+    → (left' written' told' : Option (List ℕ)) (octets : List ℕ) (t : State) (next : ℕ) (after : Counts) (place' : ℕ)
+    → IsItem now octets None t → Consumes left left' octets → next ≡ n → after ≡ passed → Keeps written written' → Keeps told told' → place' ≡ place + length octets
+    → Stands ports s (streams unread left' held written' untold told') (IsBefore begin next place' t) after
+reads_none {ports = ports} w left' written' told' octets t next after place' is consumes number same kept quiet on =
     let further = length-append w.read octets in
-    let long = is.long in
-    let most = is.most in
     let at = w.is_part.at in
-    let near = w.is_part.near in
+    let records = records_same w.items in
     let before = w.is_part.number in
+    let count = ap length records in
     record {
-      records = w.records ++ more ∷ [];
+      items = w.items ++ None ∷ [];
+      state = t;
       read = w.read ++ octets;
       part = [];
-      log = w.log ++ log_of c.head.moment wr.sorted;
-      notes = w.notes ++ note_of c.number wr.sorted;
-      are_records = records_more h.order w.records w.read octets more w.are_records is;
-      sorts = subst (λ j. Sorts ports h.link 1 (w.records ++ more ∷ []) (none_passed h.link) (w.log ++ log_of c.head.moment wr.sorted) (w.notes ++ note_of j wr.sorted) after) (sym k)
-          (sorts_more ports h.link 1 w.records (none_passed h.link) w.log w.notes passed more wr.sorted after w.sorts
-          (subst (λ l. IsSortedRecord ports l more wr.sorted) link wr.sorts) wr.counts);
+      log = w.log;
+      notes = w.notes;
+      are_items = items_more _ w.items w.read octets None w.state t w.are_items (subst (λ q. IsItem q octets None t) (sym w.is_part.same) is);
+      sorts = subst (λ rs. Sorts ports 1 rs none_passed w.log w.notes after) (sym records) (subst (λ c. Sorts ports 1 (records_of w.items) none_passed w.log w.notes c) (sym same) w.sorts);
       consumed = rw (append-nil (w.read ++ octets)) (Consumes-trans _ _ _ _ _ (rw (w.is_part.none, append-nil w.read) at w.consumed) consumes);
-      is_part = record {
-        none = refl;
-        number = omega (arith, longer, before);
-        at = omega (arith, next, at, further);
-        near = omega (arith, near, further, longer, long, most);
-      };
+      is_part = record { none = refl; same = refl; number = omega (arith, number, before, count); at = omega (arith, on, at, further) };
+      wrote = Appends-kept _ _ _ _ w.wrote kept;
+      tells = Appends-kept _ _ _ _ w.tells quiet;
+    }
+
+reads_record : {ports : List ℕ} {s : State} {unread left held written untold told : Option (List ℕ)} {begin n place : ℕ} {now : State} {passed : Counts}
+    → Stands ports s (streams unread left held written untold told) (IsBefore begin n place now) passed
+    → (left' written' told' : Option (List ℕ)) (octets : List ℕ) (r : Record) (t : State) (next : ℕ) (after : Counts) (place' : ℕ)
+    → IsItem now octets (Some r) t → Consumes left left' octets → next ≡ n + 1 → WritesRecord ports r n passed after written written' told told'
+    → place' ≡ place + length octets
+    → Stands ports s (streams unread left' held written' untold told') (IsBefore begin next place' t) after
+reads_record {ports = ports} {n = n} {passed = passed} w left' written' told' octets r t next after place' is consumes number wr on =
+    let further = length-append w.read octets in
+    let at = w.is_part.at in
+    let records = records_more w.items r in
+    let before = w.is_part.number in
+    let longer = length-append (records_of w.items) (r ∷ []) in
+    let count = ap length records in
+    let k : n ≡ 1 + length (records_of w.items) = omega (arith, before) in
+    record {
+      items = w.items ++ Some r ∷ [];
+      state = t;
+      read = w.read ++ octets;
+      part = [];
+      log = w.log ++ log_of wr.sorted;
+      notes = w.notes ++ note_of n wr.sorted;
+      are_items = items_more _ w.items w.read octets (Some r) w.state t w.are_items (subst (λ q. IsItem q octets (Some r) t) (sym w.is_part.same) is);
+      sorts = subst (λ rs. Sorts ports 1 rs none_passed (w.log ++ log_of wr.sorted) (w.notes ++ note_of n wr.sorted) after) (sym records)
+          (subst (λ j. Sorts ports 1 (records_of w.items ++ r ∷ []) none_passed (w.log ++ log_of wr.sorted) (w.notes ++ note_of j wr.sorted) after) (sym k)
+          (sorts_more ports 1 (records_of w.items) none_passed w.log w.notes passed r wr.sorted after w.sorts wr.sorts wr.counts));
+      consumed = rw (append-nil (w.read ++ octets)) (Consumes-trans _ _ _ _ _ (rw (w.is_part.none, append-nil w.read) at w.consumed) consumes);
+      is_part = record { none = refl; same = refl; number = omega (arith, number, before, count, longer); at = omega (arith, on, at, further) };
       wrote = Appends-trans _ _ _ _ _ w.wrote wr.wrote;
       tells = Appends-trans _ _ _ _ _ w.tells wr.tells;
     }
+
+-- an item was read, and what it comes to is written
+pub reads_item : {ports : List ℕ} {s : State} {unread left held written untold told : Option (List ℕ)} {begin n place : ℕ} {now : State} {passed : Counts}
+    → Stands ports s (streams unread left held written untold told) (IsBefore begin n place now) passed
+    → (left' written' told' : Option (List ℕ)) (octets : List ℕ) (x : Option Record) (t : State) (next : ℕ) (after : Counts) (place' : ℕ)
+    → IsItem now octets x t → Consumes left left' octets → WritesItem ports x n next passed after written written' told told' → place' ≡ place + length octets
+    → Stands ports s (streams unread left' held written' untold told') (IsBefore begin next place' t) after
+reads_item w left' written' told' octets None t next after place' is consumes (number, same, kept, quiet) on =
+    reads_none w left' written' told' octets t next after place' is consumes number same kept quiet on
+reads_item w left' written' told' octets (Some r) t next after place' is consumes (number, wr) on =
+    reads_record w left' written' told' octets r t next after place' is consumes number wr on
+
+-- ---- writing stops
 
 front_more : (a b c : Option (List ℕ)) (text more : List ℕ) → Appends a b text → WritesFront b c more → WritesFront a c (text ++ more)
 front_more a b c text more first (front, rest, cut, some, second) =
@@ -183,70 +191,90 @@ stops_more : (a b c u v w : Option (List ℕ)) (log more notes told : List ℕ) 
 stops_more a b c u v w log more notes told wrote tells (inl (front, all)) = inl (front_more _ _ _ _ _ wrote front, Appends-trans _ _ _ _ _ tells all)
 stops_more a b c u v w log more notes told wrote tells (inr (all, front)) = inr (Appends-trans _ _ _ _ _ wrote all, front_more _ _ _ _ _ tells front)
 
--- a record was read, and what it comes to isn't written whole
-pub writes_front : {ports : List ℕ} {h : Header} {unread left held written untold told : Option (List ℕ)} {n place : ℕ} {passed : Passed}
-    → Stands ports h (streams unread left held written untold told) (IsBefore n place) passed
-    → (left' written' told' : Option (List ℕ)) (octets : List ℕ) (c : Captured)
-    → IsRecord h.order octets (record_from c) → Consumes left left' octets → c.link ≡ h.link → c.number ≡ n
-    → WritesRecordFront ports c written written' told told'
-    → WriteFails ports h (streams unread left' held written' untold told')
-writes_front {ports = ports} {h = h} {passed = passed} w left' written' told' octets c is consumes link number wr =
-    let more = record_from c in
-    let k : c.number ≡ 1 + length w.records = number ∙ w.is_part.number ∙ omega arith in
+writes_front : {ports : List ℕ} {s : State} {unread left held written untold told : Option (List ℕ)} {begin n place : ℕ} {now : State} {passed : Counts}
+    → Stands ports s (streams unread left held written untold told) (IsBefore begin n place now) passed
+    → (left' written' told' : Option (List ℕ)) (octets : List ℕ) (r : Record) (t : State)
+    → IsItem now octets (Some r) t → Consumes left left' octets → WritesRecordFront ports r n written written' told told'
+    → WriteFails ports s (streams unread left' held written' untold told')
+writes_front {ports = ports} {n = n} {passed = passed} w left' written' told' octets r t is consumes wr =
+    let before = w.is_part.number in
+    let k : n ≡ 1 + length (records_of w.items) = omega (arith, before) in
     let after = count_of wr.sorted passed in
     record {
-      records = w.records ++ more ∷ [];
+      items = w.items ++ Some r ∷ [];
+      state = t;
       read = w.read ++ octets;
-      log = w.log ++ log_of c.head.moment wr.sorted;
-      notes = w.notes ++ note_of c.number wr.sorted;
+      log = w.log ++ log_of wr.sorted;
+      notes = w.notes ++ note_of n wr.sorted;
       passed = after;
-      are_records = records_more h.order w.records w.read octets more w.are_records is;
-      sorts = subst (λ j. Sorts ports h.link 1 (w.records ++ more ∷ []) (none_passed h.link) (w.log ++ log_of c.head.moment wr.sorted) (w.notes ++ note_of j wr.sorted) after) (sym k)
-          (sorts_more ports h.link 1 w.records (none_passed h.link) w.log w.notes passed more wr.sorted after w.sorts
-          (subst (λ l. IsSortedRecord ports l more wr.sorted) link wr.sorts) refl);
+      are_items = items_more _ w.items w.read octets (Some r) w.state t w.are_items (subst (λ q. IsItem q octets (Some r) t) (sym w.is_part.same) is);
+      sorts = subst (λ rs. Sorts ports 1 rs none_passed (w.log ++ log_of wr.sorted) (w.notes ++ note_of n wr.sorted) after) (sym (records_more w.items r))
+          (subst (λ j. Sorts ports 1 (records_of w.items ++ r ∷ []) none_passed (w.log ++ log_of wr.sorted) (w.notes ++ note_of j wr.sorted) after) (sym k)
+          (sorts_more ports 1 (records_of w.items) none_passed w.log w.notes passed r wr.sorted after w.sorts wr.sorts refl));
       consumed = Consumes-trans _ _ _ _ _ (rw (w.is_part.none, append-nil w.read) at w.consumed) consumes;
       stops = stops_more _ _ _ _ _ _ _ _ _ _ w.wrote w.tells wr.stops;
     }
 
--- a record was read, and writing what it comes to stopped
-pub stops_record : {ports : List ℕ} {h : Header} {unread left held written untold told : Option (List ℕ)} {n place : ℕ} {passed : Passed}
-    → Stands ports h (streams unread left held written untold told) (IsBefore n place) passed
-    → (left' written' told' : Option (List ℕ)) (octets : List ℕ) (c : Captured)
-    → IsRecord h.order octets (record_from c) → Consumes left left' octets → c.link ≡ h.link → c.number ≡ n
-    → (f : CaptureFault) → StopsRecord ports c written written' told told' f
-    → StopsRecords ports h (streams unread left' held written' untold told') f
-stops_record w left' written' told' octets c is consumes link number (fault.Octet place) stops = absurd stops
-stops_record w left' written' told' octets c is consumes link number fault.CannotRead stops = absurd stops
-stops_record w left' written' told' octets c is consumes link number fault.CannotWrite stops =
-    writes_front w left' written' told' octets c is consumes link number stops
-stops_record {passed = passed} w left' written' told' octets c is consumes link number fault.OutOfMemory (kept, quiet) = (
+stops_record : {ports : List ℕ} {s : State} {unread left held written untold told : Option (List ℕ)} {begin n place : ℕ} {now : State} {passed : Counts}
+    → Stands ports s (streams unread left held written untold told) (IsBefore begin n place now) passed
+    → (left' written' told' : Option (List ℕ)) (octets : List ℕ) (r : Record) (t : State)
+    → IsItem now octets (Some r) t → Consumes left left' octets → (f : CaptureFault) → StopsRecord ports r n written written' told told' f
+    → StopsItems ports s begin (streams unread left' held written' untold told') f
+stops_record w left' written' told' octets r t is consumes (fault.Octet place) stops = absurd stops
+stops_record w left' written' told' octets r t is consumes fault.CannotRead stops = absurd stops
+stops_record w left' written' told' octets r t is consumes fault.CannotWrite stops = writes_front w left' written' told' octets r t is consumes stops
+stops_record {passed = passed} w left' written' told' octets r t is consumes fault.OutOfMemory (kept, quiet) = (
   passed,
   record {
-    records = w.records;
+    items = w.items;
+    state = w.state;
     read = w.read;
     part = octets;
     log = w.log;
     notes = w.notes;
-    are_records = w.are_records;
+    are_items = w.are_items;
     sorts = w.sorts;
     consumed = Consumes-trans _ _ _ _ _ (rw (w.is_part.none, append-nil w.read) at w.consumed) consumes;
-    is_part = (record_from c, is);
+    is_part = (Some r, t, subst (λ q. IsItem q octets (Some r) t) (sym w.is_part.same) is);
     wrote = Appends-kept _ _ _ _ w.wrote kept;
     tells = Appends-kept _ _ _ _ w.tells quiet;
   },
 )
 
+-- an item was read, and writing what it comes to stopped
+pub stops_item : {ports : List ℕ} {s : State} {unread left held written untold told : Option (List ℕ)} {begin n place : ℕ} {now : State} {passed : Counts}
+    → Stands ports s (streams unread left held written untold told) (IsBefore begin n place now) passed
+    → (left' written' told' : Option (List ℕ)) (octets : List ℕ) (x : Option Record) (t : State)
+    → IsItem now octets x t → Consumes left left' octets → (f : CaptureFault) → StopsWrite ports x n written written' told told' f
+    → StopsItems ports s begin (streams unread left' held written' untold told') f
+stops_item w left' written' told' octets None t is consumes f stops = absurd stops
+stops_item w left' written' told' octets (Some r) t is consumes f stops = stops_record w left' written' told' octets r t is consumes f stops
+
+-- the next item isn't read
+pub stops_reading : {ports : List ℕ} {s : State} {unread left held written untold told : Option (List ℕ)} {begin n place : ℕ} {now : State} {passed : Counts}
+    → Stands ports s (streams unread left held written untold told) (IsBefore begin n place now) passed
+    → (left' : Option (List ℕ)) (f : CaptureFault) → StopsItem now left left' f → StopsItems ports s begin (streams unread left' held written untold told) f
+stops_reading w left' (fault.Octet place) stops = absurd stops
+stops_reading w left' fault.CannotRead r = (_, reads_part w left' IsLess r.part r.consumed (λ count read at. (r.none, r.most)))
+stops_reading w left' fault.CannotWrite stops = absurd stops
+stops_reading w left' fault.OutOfMemory r = (_, reads_part w left' IsWholeItem r.part r.consumed (λ count read at. (r.item, r.next', r.is_item)))
+
+pub next_number : (ports : List ℕ) (x : Option Record) (n next : ℕ) (before after : Counts) (held written untold told : Option (List ℕ))
+    → WritesItem ports x n next before after held written untold told → next ≤ n + 1
+next_number ports None n next before after held written untold told (number, same, kept, quiet) = omega (arith, number)
+next_number ports (Some r) n next before after held written untold told (number, wr) = omega (arith, number)
+
 -- ---- the whole
 
-pub whole_log : (ports : List ℕ) (h : Header) (unread behind left held written untold told : Option (List ℕ)) (passed : Passed)
-    → HasBegun unread behind h → Stands ports h (streams behind left held written untold told) (IsEnd left) passed
+pub whole_log : (ports : List ℕ) (s : State) (begin : ℕ) (unread behind left held written untold told : Option (List ℕ)) (passed : Counts)
+    → HasBegun unread behind s begin → Stands ports s (streams behind left held written untold told) (IsEnd left) passed
     → IfSome unread (λ capture. (lines : List ℕ) × (tells : List ℕ) × IsLogOf ports capture lines tells passed × Appends held written lines × Appends untold told tells)
-whole_log ports h unread behind left held written untold told passed b w =
+whole_log ports s begin unread behind left held written untold told passed b w =
     let c = rw (w.is_part.0, append-nil w.read) at w.consumed in
     Consumes-whole unread left (b.front ++ w.read) _ (Consumes-trans _ _ _ _ _ b.consumed c) w.is_part.1 (
       w.log,
       w.notes,
-      record { header = h; front = b.front; rest = w.read; records = w.records; parts = refl; is_header = b.is_header; are_records = w.are_records; sorts = w.sorts },
+      record { front = b.front; rest = w.read; begun = s; items = w.items; ended = w.state; parts = refl; is_beginning = b.is_beginning; are_items = w.are_items; sorts = w.sorts },
       w.wrote,
       w.tells,
     )

@@ -1,14 +1,14 @@
 -- The log of a capture: a line for each datagram, in the order of the records. Each other record is told in a line of its own, or
 -- counted by its reason.
-use Rattle.std.specs.Prelude.{◌≡◌, ◌⊎◌, ℕ, ◌+◌, ◌<◌, ◌≤◌, ◌==◌, ◌||◌, nat_le, Bool, true, false, List, [], ◌∷◌, ◌++◌, length, codes, Option, Some, decimal}
+use Rattle.std.specs.Prelude.{◌≡◌, ◌⊎◌, ℕ, ◌+◌, ◌<◌, ◌≤◌, ◌==◌, ◌||◌, nat_le, Bool, true, false, List, [], ◌∷◌, ◌++◌, length, codes, Option, Some, None, decimal}
 use Rattle.std.specs.List.{list_any}
 use Rattle.std.specs.Io.KnownBytes.{Appends, Consumes, IsAtEnd, Keeps}
 use Rattle.hex.specs.Hex.{encode_lower}
 use Rattle.snmpsec_streams.specs.Transfer.{WritesFront}
 use Rattle.snmpsec_capture.specs.Packet.{IsFound}
-use Rattle.snmpsec_capture.specs.Passed.{none_passed, one_more}
-use Rattle.snmpsec_capture.specs.Pcap.{Record, IsHeader, IsHeaderFault, IsRecord, AreRecords, HasNoRecord}
-use Rattle.snmpsec_capture.specs.declared.pcap.Header.{Header}
+use Rattle.snmpsec_capture.specs.Passed.{Counts, none_passed, one_more}
+use Rattle.snmpsec_capture.specs.Items.{Record}
+use Rattle.snmpsec_capture.specs.Formats.{AreItems, HasBegun, HasNoItem, IsBeginning, IsItem, ReadsBeginning, State, records_of}
 use Rattle.snmpsec_capture.specs.declared.packet.Found.{Found}
 use Rattle.snmpsec_capture.specs.declared.packet.Found.TheVariants as found
 use Rattle.snmpsec_capture.specs.declared.datagrams.Sorted.{Sorted}
@@ -16,7 +16,6 @@ use Rattle.snmpsec_capture.specs.declared.datagrams.Sorted.TheVariants.{Logged, 
 use Rattle.snmpsec_capture.specs.declared.datagrams.Telling.{Telling}
 use Rattle.snmpsec_capture.specs.declared.datagrams.Telling.TheVariants as telling
 use Rattle.snmpsec_capture.specs.declared.passed.Reason.TheVariants as reason
-use Rattle.snmpsec_capture.specs.declared.passed.Passed.{Passed}
 use Rattle.snmpsec_capture.specs.declared.datagrams.Captured.{Captured}
 use Rattle.snmpsec_capture.specs.declared.fault.CaptureFault.{CaptureFault}
 use Rattle.snmpsec_capture.specs.declared.fault.CaptureFault.TheVariants as fault
@@ -27,25 +26,30 @@ use Rattle.snmpsec_capture.specs.declared.fault.CaptureFault.TheVariants as faul
 abbrev pub is_wanted : List ℕ → ℕ → ℕ → Bool
 is_wanted ports source destination = list_any (λ port. port == source) ports || list_any (λ port. port == destination) ports
 
-abbrev pub IsDatagramSorted : List ℕ → ℕ → ℕ → List ℕ → Sorted → Type 0
-IsDatagramSorted ports source destination octets (Logged datagram) =
-    (is_wanted ports source destination ≡ true) × (0 < length octets) × (datagram.now ≡ octets)
-IsDatagramSorted ports source destination octets (Told why) =
+abbrev pub IsDatagramSorted : List ℕ → ℕ → ℕ → ℕ → List ℕ → Sorted → Type 0
+IsDatagramSorted ports moment source destination octets (Logged at datagram) =
+    (is_wanted ports source destination ≡ true) × (0 < length octets) × (at ≡ moment) × (datagram.now ≡ octets)
+IsDatagramSorted ports moment source destination octets (Told why) =
     (is_wanted ports source destination ≡ true) × (octets ≡ []) × (why ≡ telling.Empty)
-IsDatagramSorted ports source destination octets (Counted why) = (is_wanted ports source destination ≡ false) × (why ≡ reason.AnotherPort)
+IsDatagramSorted ports moment source destination octets (Counted why) = (is_wanted ports source destination ≡ false) × (why ≡ reason.AnotherPort)
 
-abbrev pub IsSorted : List ℕ → Found → Sorted → Type 0
-IsSorted ports (found.Datagram source destination octets) s = IsDatagramSorted ports source destination octets.now s
-IsSorted ports found.Fragment s = s ≡ Told telling.Fragment
-IsSorted ports found.CutShort s = s ≡ Told telling.CutShort
-IsSorted ports found.BadLength s = s ≡ Told telling.BadLength
-IsSorted ports found.NotUdp s = s ≡ Counted reason.NotUdp
-IsSorted ports found.NotIp s = s ≡ Counted reason.NotIp
-IsSorted ports found.OtherLink s = s ≡ Counted reason.OtherLink
+abbrev pub IsSorted : List ℕ → ℕ → ℕ → Found → Sorted → Type 0
+IsSorted ports link moment (found.Datagram source destination octets) s = IsDatagramSorted ports moment source destination octets.now s
+IsSorted ports link moment found.Fragment s = s ≡ Told telling.Fragment
+IsSorted ports link moment found.CutShort s = s ≡ Told telling.CutShort
+IsSorted ports link moment found.BadLength s = s ≡ Told telling.BadLength
+IsSorted ports link moment found.NotUdp s = s ≡ Counted reason.NotUdp
+IsSorted ports link moment found.NotIp s = s ≡ Counted reason.NotIp
+IsSorted ports link moment found.OtherLink s = s ≡ Counted (reason.OtherLink link)
 
--- what becomes of a record on a link, where datagrams from and to these ports are wanted
-abbrev pub IsSortedRecord : List ℕ → ℕ → Record → Sorted → Type 0
-IsSortedRecord ports link r s = (f : Found) × IsFound link r.packet (nat_le r.original (length r.packet)) f × IsSorted ports f s
+-- a record is told that has no moment, and is else what is found in its packet
+abbrev pub IsSortedAt : Option ℕ → List ℕ → Record → Sorted → Type 0
+IsSortedAt None ports r s = s ≡ Told telling.NoMoment
+IsSortedAt (Some moment) ports r s = (f : Found) × IsFound r.link r.packet (nat_le r.original (length r.packet)) f × IsSorted ports r.link moment f s
+
+-- what becomes of a record, where datagrams from and to these ports are wanted
+abbrev pub IsSortedRecord : List ℕ → Record → Sorted → Type 0
+IsSortedRecord ports r s = IsSortedAt r.moment ports r s
 
 -- ---- the words
 
@@ -54,6 +58,7 @@ told_word telling.Fragment = codes "fragment"
 told_word telling.CutShort = codes "cut short"
 told_word telling.BadLength = codes "bad length"
 told_word telling.Empty = codes "empty datagram"
+told_word telling.NoMoment = codes "no moment"
 
 -- the line of a log for a datagram
 unfoldable pub log_line : ℕ → List ℕ → List ℕ
@@ -64,42 +69,43 @@ unfoldable pub note_line : ℕ → Telling → List ℕ
 note_line n why = codes "snmpsec: record " ++ (decimal n ++ (codes ": " ++ (told_word why ++ codes "\n")))
 
 -- what a record adds to the log
-abbrev pub log_of : ℕ → Sorted → List ℕ
-log_of moment (Logged datagram) = log_line moment datagram.now
-log_of moment (Told why) = []
-log_of moment (Counted why) = []
+abbrev pub log_of : Sorted → List ℕ
+log_of (Logged moment datagram) = log_line moment datagram.now
+log_of (Told why) = []
+log_of (Counted why) = []
 
 -- what record n adds to what is told
 abbrev pub note_of : ℕ → Sorted → List ℕ
-note_of n (Logged datagram) = []
+note_of n (Logged moment datagram) = []
 note_of n (Told why) = note_line n why
 note_of n (Counted why) = []
 
 -- what a record adds to the counts
-abbrev pub count_of : Sorted → Passed → Passed
-count_of (Logged datagram) p = p
-count_of (Told why) p = p
-count_of (Counted why) p = one_more p why
+abbrev pub count_of : Sorted → Counts → Counts
+count_of (Logged moment datagram) c = c
+count_of (Told why) c = c
+count_of (Counted why) c = one_more c why
 
 -- ---- the log
 
 -- The records from number n on are sorted, one by one: the log has the datagrams, the notes tell, and the counts go on from `before`.
-abbrev pub Sorts : List ℕ → ℕ → ℕ → List Record → Passed → List ℕ → List ℕ → Passed → Type 0
-Sorts ports link n [] before log notes after = (log ≡ []) × (notes ≡ []) × (after ≡ before)
-Sorts ports link n (r ∷ rs) before log notes after =
-    (s : Sorted) × (more : List ℕ) × (told : List ℕ) × IsSortedRecord ports link r s × (log ≡ log_of r.moment s ++ more) × (notes ≡ note_of n s ++ told)
-    × Sorts ports link (n + 1) rs (count_of s before) more told after
+abbrev pub Sorts : List ℕ → ℕ → List Record → Counts → List ℕ → List ℕ → Counts → Type 0
+Sorts ports n [] before log notes after = (log ≡ []) × (notes ≡ []) × (after ≡ before)
+Sorts ports n (r ∷ rs) before log notes after =
+    (s : Sorted) × (more : List ℕ) × (told : List ℕ) × IsSortedRecord ports r s × (log ≡ log_of s ++ more) × (notes ≡ note_of n s ++ told)
+    × Sorts ports (n + 1) rs (count_of s before) more told after
 
 -- The capture's records in order, as a log, what is told and what is counted.
-pub record IsLogOf (ports capture log notes : List ℕ) (passed : Passed) : Type 0 where
-  pub header : Header
+pub record IsLogOf (ports capture log notes : List ℕ) (passed : Counts) : Type 0 where
   pub front : List ℕ
   pub rest : List ℕ
-  pub records : List Record
+  pub begun : State
+  pub items : List (Option Record)
+  pub ended : State
   pub parts : capture ≡ front ++ rest
-  pub is_header : IsHeader front header
-  pub are_records : AreRecords header.order records rest
-  pub sorts : Sorts ports header.link 1 records (none_passed header.link) log notes passed
+  pub is_beginning : IsBeginning front begun
+  pub are_items : AreItems begun items rest ended
+  pub sorts : Sorts ports 1 (records_of items) none_passed log notes passed
 
 -- ---- where it stops
 
@@ -112,24 +118,33 @@ pub record Streams : Type 0 where
   pub untold : Option (List ℕ)
   pub told : Option (List ℕ)
 
--- Records were read, and then a part; all that they come to is written.
-pub record Stands (ports : List ℕ) (h : Header) (s : Streams) (IsPart : List Record → List ℕ → List ℕ → Type 0) (passed : Passed) : Type 0 where
-  pub records : List Record
+-- Items were read, and then a part; all that their records come to is written.
+pub record Stands (ports : List ℕ) (begun : State) (s : Streams) (IsPart : State → ℕ → List ℕ → List ℕ → Type 0) (passed : Counts) : Type 0 where
+  pub items : List (Option Record)
+  pub state : State
   pub read : List ℕ
   pub part : List ℕ
   pub log : List ℕ
   pub notes : List ℕ
-  pub are_records : AreRecords h.order records read
-  pub sorts : Sorts ports h.link 1 records (none_passed h.link) log notes passed
+  pub are_items : AreItems begun items read state
+  pub sorts : Sorts ports 1 (records_of items) none_passed log notes passed
   pub consumed : Consumes s.unread s.left (read ++ part)
-  pub is_part : IsPart records read part
+  pub is_part : IsPart state (length (records_of items)) read part
   pub wrote : Appends s.held s.written log
   pub tells : Appends s.untold s.told notes
 
--- Behind the header and what was read there is no record, or there are as many as are read.
-abbrev pub IsBad : Header → Option (List ℕ) → ℕ → List Record → List ℕ → List ℕ → Type 0
-IsBad h left place records read part = (place ≡ 24 + length read)
-    × ((length records ≡ 1099511627775) ⊎ ((0 < length part) × ((rest : List ℕ) → left ≡ Some rest → HasNoRecord h.order (part ++ rest))))
+-- Behind the beginning and what was read there is no item, or it is where no item is read any more.
+abbrev pub IsBad : ℕ → Option (List ℕ) → ℕ → State → ℕ → List ℕ → List ℕ → Type 0
+IsBad begin left place state count read part = (place ≡ begin + length read)
+    × ((4611686018427387904 ≤ place) ⊎ ((0 < length part) × ((rest : List ℕ) → left ≡ Some rest → HasNoItem state (part ++ rest))))
+
+-- less than an item was read
+abbrev pub IsLess : State → ℕ → List ℕ → List ℕ → Type 0
+IsLess state count read part = HasNoItem state part × (length part ≤ 4294967295)
+
+-- an item was read
+abbrev pub IsWholeItem : State → ℕ → List ℕ → List ℕ → Type 0
+IsWholeItem state count read part = (r : Option Record) × (t : State) × IsItem state part r t
 
 -- Of two texts for two writers a front of one is written, and not the whole, and the other whole.
 abbrev pub StopsWriting : Option (List ℕ) → Option (List ℕ) → List ℕ → Option (List ℕ) → Option (List ℕ) → List ℕ → Type 0
@@ -137,55 +152,38 @@ StopsWriting held written log untold told notes =
     (WritesFront held written log × Appends untold told notes) ⊎ (Appends held written log × WritesFront untold told notes)
 
 -- A write failed: what the records come to that were read is written but for an end, in the log or in what is told.
-pub record WriteFails (ports : List ℕ) (h : Header) (s : Streams) : Type 0 where
-  pub records : List Record
+pub record WriteFails (ports : List ℕ) (begun : State) (s : Streams) : Type 0 where
+  pub items : List (Option Record)
+  pub state : State
   pub read : List ℕ
   pub log : List ℕ
   pub notes : List ℕ
-  pub passed : Passed
-  pub are_records : AreRecords h.order records read
-  pub sorts : Sorts ports h.link 1 records (none_passed h.link) log notes passed
+  pub passed : Counts
+  pub are_items : AreItems begun items read state
+  pub sorts : Sorts ports 1 (records_of items) none_passed log notes passed
   pub consumed : Consumes s.unread s.left read
   pub stops : StopsWriting s.held s.written log s.untold s.told notes
 
--- What is done behind the header where it stops with a fault. A read fails before a record is whole, and memory may be wanted for what a record comes to.
-abbrev pub StopsRecords : List ℕ → Header → Streams → CaptureFault → Type 0
-StopsRecords ports h s (fault.Octet place) = (passed : Passed) × Stands ports h s (IsBad h s.left place) passed
-StopsRecords ports h s fault.CannotRead = (passed : Passed) × Stands ports h s (λ records read part. HasNoRecord h.order part × (length part ≤ 262160)) passed
-StopsRecords ports h s fault.CannotWrite = WriteFails ports h s
-StopsRecords ports h s fault.OutOfMemory = (passed : Passed) × Stands ports h s (λ records read part. (r : Record) × IsRecord h.order part r) passed
+-- What is done behind the beginning where it stops with a fault. A read fails before an item is whole, and memory may be wanted for what an item comes to.
+abbrev pub StopsItems : List ℕ → State → ℕ → Streams → CaptureFault → Type 0
+StopsItems ports begun begin s (fault.Octet place) = (passed : Counts) × Stands ports begun s (IsBad begin s.left place) passed
+StopsItems ports begun begin s fault.CannotRead = (passed : Counts) × Stands ports begun s IsLess passed
+StopsItems ports begun begin s fault.CannotWrite = WriteFails ports begun s
+StopsItems ports begun begin s fault.OutOfMemory = (passed : Counts) × Stands ports begun s IsWholeItem passed
 
--- what was read of the header, where it is at fault
-abbrev pub IsBadHeader : Option (List ℕ) → ℕ → List ℕ → Type 0
-IsBadHeader left place part = IsHeaderFault part place × ((length part < 24) → IsAtEnd left)
-
--- at most a header was read, and nothing is written
-pub record StopsEarly (s : Streams) (IsPart : List ℕ → Type 0) : Type 0 where
-  pub part : List ℕ
-  pub short : length part ≤ 24
-  pub consumed : Consumes s.unread s.left part
-  pub is_part : IsPart part
+-- it stops before a record was read, and nothing is written
+pub record CannotBegin (s : Streams) (f : CaptureFault) : Type 0 where
+  pub reads : ReadsBeginning s.unread s.left f
   pub wrote : Keeps s.held s.written
   pub tells : Keeps s.untold s.told
 
-abbrev pub CannotBegin : Streams → CaptureFault → Type 0
-CannotBegin s (fault.Octet place) = StopsEarly s (IsBadHeader s.left place)
-CannotBegin s fault.CannotRead = StopsEarly s (λ part. length part < 24)
-CannotBegin s fault.CannotWrite = ⊥
-CannotBegin s fault.OutOfMemory = StopsEarly s (λ part. (h : Header) × IsHeader part h)
-
--- the header was read, and what is left then
-pub record HasBegun (unread left : Option (List ℕ)) (h : Header) : Type 0 where
-  pub front : List ℕ
-  pub is_header : IsHeader front h
-  pub consumed : Consumes unread left front
-
--- it stops behind the header
+-- it stops behind the beginning
 pub record StopsLater (ports : List ℕ) (s : Streams) (f : CaptureFault) : Type 0 where
-  pub header : Header
+  pub state : State
+  pub begin : ℕ
   pub behind : Option (List ℕ)
-  pub begun : HasBegun s.unread behind header
-  pub stops : StopsRecords ports header (record s { unread = behind }) f
+  pub begun : HasBegun s.unread behind state begin
+  pub stops : StopsItems ports state begin (record s { unread = behind }) f
 
 -- What is done where it stops with a fault.
 abbrev pub StopsBy : List ℕ → Streams → CaptureFault → Type 0
@@ -195,28 +193,37 @@ StopsBy ports s f = CannotBegin s f ⊎ StopsLater ports s f
 
 -- the record that was captured
 abbrev pub record_from : Captured → Record
-record_from c = record { moment = c.head.moment; packet = c.packet.now; original = c.head.original }
+record_from c = record { link = c.head.link; moment = c.head.moment; packet = c.packet.now; original = c.head.original }
 
--- a record was sorted, and what it comes to is written
-pub record WritesRecord (ports : List ℕ) (c : Captured) (before after : Passed) (held written untold told : Option (List ℕ)) : Type 0 where
+-- record n was sorted, and what it comes to is written
+pub record WritesRecord (ports : List ℕ) (r : Record) (n : ℕ) (before after : Counts) (held written untold told : Option (List ℕ)) : Type 0 where
   pub sorted : Sorted
-  pub sorts : IsSortedRecord ports c.link (record_from c) sorted
+  pub sorts : IsSortedRecord ports r sorted
   pub counts : after ≡ count_of sorted before
-  pub wrote : Appends held written (log_of c.head.moment sorted)
-  pub tells : Appends untold told (note_of c.number sorted)
+  pub wrote : Appends held written (log_of sorted)
+  pub tells : Appends untold told (note_of n sorted)
 
 -- what it comes to isn't written whole
-pub record WritesRecordFront (ports : List ℕ) (c : Captured) (held written untold told : Option (List ℕ)) : Type 0 where
+pub record WritesRecordFront (ports : List ℕ) (r : Record) (n : ℕ) (held written untold told : Option (List ℕ)) : Type 0 where
   pub sorted : Sorted
-  pub sorts : IsSortedRecord ports c.link (record_from c) sorted
-  pub stops : StopsWriting held written (log_of c.head.moment sorted) untold told (note_of c.number sorted)
+  pub sorts : IsSortedRecord ports r sorted
+  pub stops : StopsWriting held written (log_of sorted) untold told (note_of n sorted)
 
-abbrev pub StopsRecord : List ℕ → Captured → Option (List ℕ) → Option (List ℕ) → Option (List ℕ) → Option (List ℕ) → CaptureFault → Type 0
-StopsRecord ports c held written untold told (fault.Octet place) = ⊥
-StopsRecord ports c held written untold told fault.CannotRead = ⊥
-StopsRecord ports c held written untold told fault.CannotWrite = WritesRecordFront ports c held written untold told
-StopsRecord ports c held written untold told fault.OutOfMemory = Keeps held written × Keeps untold told
+abbrev pub StopsRecord : List ℕ → Record → ℕ → Option (List ℕ) → Option (List ℕ) → Option (List ℕ) → Option (List ℕ) → CaptureFault → Type 0
+StopsRecord ports r n held written untold told (fault.Octet place) = ⊥
+StopsRecord ports r n held written untold told fault.CannotRead = ⊥
+StopsRecord ports r n held written untold told fault.CannotWrite = WritesRecordFront ports r n held written untold told
+StopsRecord ports r n held written untold told fault.OutOfMemory = Keeps held written × Keeps untold told
 
--- all records were read
-abbrev pub IsEnd : Option (List ℕ) → List Record → List ℕ → List ℕ → Type 0
-IsEnd left records read part = (part ≡ []) × IsAtEnd left
+-- an item was taken, of which the next record's number is known
+abbrev pub WritesItem : List ℕ → Option Record → ℕ → ℕ → Counts → Counts → Option (List ℕ) → Option (List ℕ) → Option (List ℕ) → Option (List ℕ) → Type 0
+WritesItem ports None n next before after held written untold told = (next ≡ n) × (after ≡ before) × Keeps held written × Keeps untold told
+WritesItem ports (Some r) n next before after held written untold told = (next ≡ n + 1) × WritesRecord ports r n before after held written untold told
+
+abbrev pub StopsWrite : List ℕ → Option Record → ℕ → Option (List ℕ) → Option (List ℕ) → Option (List ℕ) → Option (List ℕ) → CaptureFault → Type 0
+StopsWrite ports None n held written untold told f = ⊥
+StopsWrite ports (Some r) n held written untold told f = StopsRecord ports r n held written untold told f
+
+-- all items were read
+abbrev pub IsEnd : Option (List ℕ) → State → ℕ → List ℕ → List ℕ → Type 0
+IsEnd left state count read part = (part ≡ []) × IsAtEnd left

@@ -1,26 +1,43 @@
 -- How many records of a capture are passed over, by reason, and what is said of it.
-use Rattle.std.specs.Prelude.{ℕ, ◌+◌, ◌<◌, ◌==◌, if◌then◌else◌, List, [], ◌∷◌, ◌++◌, codes, decimal}
+use Rattle.std.specs.Prelude.{◌≡◌, ℕ, ◌+◌, ◌<◌, ◌==◌, if◌then◌else◌, List, [], ◌∷◌, ◌++◌, length, replicate, slice_index, slice_set, codes, decimal, IsPermutation, IsSorted}
+use Rattle.std.specs.Cmp.Lexicographic.{slice_cmp}
+use Rattle.std.specs.Ordering.{nat_cmp}
 use Rattle.std.specs.List.{join_by}
 use Rattle.snmpsec_capture.specs.declared.passed.Reason.{Reason}
 use Rattle.snmpsec_capture.specs.declared.passed.Reason.TheVariants as reason
 use Rattle.snmpsec_capture.specs.declared.passed.Passed.{Passed}
 
-abbrev pub none_passed : ℕ → Passed
-none_passed link = record { link = link; another_port = 0; other_link = 0; not_ip = 0; not_udp = 0 }
+-- The counts, those of links by the link's type.
+pub record Counts : Type 0 where
+  pub another_port : ℕ
+  pub other_links : List ℕ
+  pub not_ip : ℕ
+  pub not_udp : ℕ
+
+abbrev pub counts_of : Passed → Counts
+counts_of p = record { another_port = p.another_port; other_links = p.other_links.items; not_ip = p.not_ip; not_udp = p.not_udp }
+
+-- so many counts of nothing
+unfoldable pub zeros : ℕ → List ℕ
+zeros n = replicate n 0
+
+abbrev pub none_passed : Counts
+none_passed = record { another_port = 0; other_links = zeros 65536; not_ip = 0; not_udp = 0 }
 
 -- one more for a reason
-abbrev pub one_more : Passed → Reason → Passed
-one_more p reason.AnotherPort = record p { another_port = p.another_port + 1 }
-one_more p reason.OtherLink = record p { other_link = p.other_link + 1 }
-one_more p reason.NotIp = record p { not_ip = p.not_ip + 1 }
-one_more p reason.NotUdp = record p { not_udp = p.not_udp + 1 }
+abbrev pub one_more : Counts → Reason → Counts
+one_more c reason.AnotherPort = record c { another_port = c.another_port + 1 }
+one_more c (reason.OtherLink link) = record c { other_links = slice_set c.other_links link (slice_index c.other_links link + 1) }
+one_more c reason.NotIp = record c { not_ip = c.not_ip + 1 }
+one_more c reason.NotUdp = record c { not_udp = c.not_udp + 1 }
 
 -- each count is below n
-pub record IsBelow (p : Passed) (n : ℕ) : Type 0 where
-  pub another_port : p.another_port < n
-  pub other_link : p.other_link < n
-  pub not_ip : p.not_ip < n
-  pub not_udp : p.not_udp < n
+pub record IsBelow (c : Counts) (n : ℕ) : Type 0 where
+  pub another_port : c.another_port < n
+  pub other_links : (link : ℕ) → slice_index c.other_links link < n
+  pub links : length c.other_links ≡ 65536
+  pub not_ip : c.not_ip < n
+  pub not_udp : c.not_udp < n
 
 -- ---- the words
 
@@ -31,12 +48,19 @@ link_word link = codes "link type " ++ decimal link
 abbrev pub count_part : List ℕ → ℕ → List (List ℕ)
 count_part word count = if count == 0 then [] else (word ++ (codes " " ++ decimal count)) ∷ []
 
--- in the order of the octets of the reasons' words
-abbrev pub passed_parts : Passed → List (List ℕ)
-passed_parts p =
-    count_part (codes "another port") p.another_port
-    ++ (count_part (link_word p.link) p.other_link ++ (count_part (codes "not IP") p.not_ip ++ count_part (codes "not UDP") p.not_udp))
+-- the links from this type on
+abbrev pub link_parts : ℕ → List ℕ → List (List ℕ)
+link_parts link [] = []
+link_parts link (count ∷ counts) = count_part (link_word link) count ++ link_parts (link + 1) counts
 
--- with a comma and a blank between each two
-abbrev pub passed_words : Passed → List ℕ
-passed_words p = join_by (λ part. part) (codes ", ") (passed_parts p)
+abbrev pub passed_parts : Counts → List (List ℕ)
+passed_parts c =
+    count_part (codes "another port") c.another_port
+    ++ (link_parts 0 c.other_links ++ (count_part (codes "not IP") c.not_ip ++ count_part (codes "not UDP") c.not_udp))
+
+-- The reasons that there were, in the order of their octets, with a comma and a blank between each two.
+pub record IsPassedWords (c : Counts) (words : List ℕ) : Type 0 where
+  pub parts : List (List ℕ)
+  pub same : IsPermutation (passed_parts c) parts
+  pub sorted : IsSorted (slice_cmp nat_cmp) parts
+  pub is : words ≡ join_by (λ part. part) (codes ", ") parts

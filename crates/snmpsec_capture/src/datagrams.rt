@@ -1,26 +1,31 @@
 //! The datagrams of a capture, as the lines of a log.
 
-ghost use Rattle.std.specs.Prelude.{◌≡◌, ◌<◌, ◌≤◌, List, ℕ, Option, length, IfOk, IfErr, IfSome, string_bytes};
+ghost use Rattle.std.specs.Prelude.{◌≡◌, ◌+◌, ◌<◌, ◌≤◌, List, ℕ, Option, length, IfOk, IfErr, IfSome, OnOk, option_map, string_bytes};
 ghost use Rattle.std.specs.Io.KnownBytes.{Appends, Consumes, IsAtEnd};
-ghost use Rattle.snmpsec_capture.specs.Passed.{IsBelow};
-ghost use Rattle.snmpsec_capture.specs.Datagrams.{IsEnd, IsLogOf, IsSorted, Stands, StopsBy, StopsRecord, StopsRecords, WritesRecord, log_line, note_line, told_word};
+ghost use Rattle.snmpsec_capture.specs.Formats.{state_of};
+ghost use Rattle.snmpsec_capture.specs.Items.{record_of};
+ghost use Rattle.snmpsec_capture.specs.Passed.{IsBelow, counts_of, none_passed};
+ghost use Rattle.snmpsec_capture.specs.Datagrams.{IsEnd, IsLogOf, IsSorted, IsSortedRecord, Stands, StopsBy, StopsItems, StopsRecord, WritesItem, StopsWrite, WritesRecord, log_line, note_line, record_from, told_word};
 
 use crate::fault::CaptureFault;
+use crate::format::{Begun, begin, read_item};
+use crate::item::{Head, Item, Next};
 use crate::packet::{Found, find_datagram};
 use crate::passed::{Passed, Reason};
-use crate::pcap::{HEAD, HEADER, Head, Header, LARGEST, Next, read_header, read_record};
+use crate::pcap::HEADER;
+use crate::pcapng::ROOM;
 use snmpsec_streams::{read_full, write_whole};
 use std::alloc::{AllocError, Global};
 use std::io::{Read, Write};
 
-/// The most records of a capture, and one more.
-const RECORDS: u64 = 1_099_511_627_776;
+/// Where no item is read any more.
+const MOST: u64 = 4_611_686_018_427_387_904;
 
 /// What becomes of a record.
 #[derive(Clone, Copy, Debug, PartialEq, Eq)]
 pub(crate) enum Sorted<'a> {
-    /// Its datagram is a line of the log.
-    Logged(&'a [u8]),
+    /// Its datagram is a line of the log, at this moment.
+    Logged(u64, &'a [u8]),
     /// It is told by itself.
     Told(Telling),
     /// It is counted.
@@ -34,11 +39,12 @@ pub(crate) enum Telling {
     CutShort,
     BadLength,
     Empty,
+    NoMoment,
 }
 
-/// What becomes of a record in which this was found, where datagrams from and to these ports are wanted.
-fn sort<'a>(found: Found<'a>, ports: &[u16]) -> Sorted<'a>
-    ensures { IsSorted ports.now found.entry result }
+/// What becomes of a record of this moment and link in which this was found, where datagrams from and to these ports are wanted.
+fn sort<'a>(moment: u64, link: u16, found: Found<'a>, ports: &[u16]) -> Sorted<'a>
+    ensures { IsSorted ports.now link moment found.entry result }
 {
     match found {
         Found::Datagram {
@@ -52,15 +58,39 @@ fn sort<'a>(found: Found<'a>, ports: &[u16]) -> Sorted<'a>
             if octets.is_empty() {
                 return Sorted::Told(Telling::Empty);
             }
-            Sorted::Logged(octets)
+            Sorted::Logged(moment, octets)
         }
         Found::Fragment => Sorted::Told(Telling::Fragment),
         Found::CutShort => Sorted::Told(Telling::CutShort),
         Found::BadLength => Sorted::Told(Telling::BadLength),
         Found::NotUdp => Sorted::Counted(Reason::NotUdp),
         Found::NotIp => Sorted::Counted(Reason::NotIp),
-        Found::OtherLink => Sorted::Counted(Reason::OtherLink),
+        Found::OtherLink => Sorted::Counted(Reason::OtherLink(link)),
     }
+}
+
+/// A record that was read.
+#[derive(Clone, Copy)]
+pub(crate) struct Captured<'a> {
+    /// Its number, from 1.
+    pub(crate) number: u64,
+    /// What is known of it.
+    pub(crate) head: Head,
+    /// What was captured of its packet.
+    pub(crate) packet: &'a [u8],
+}
+
+/// What becomes of a record.
+fn sort_record<'a>(captured: Captured<'a>, ports: &[u16]) -> Sorted<'a>
+    ensures { IsSortedRecord ports.now (record_from captured.entry) result }
+{
+    let head = captured.head;
+    let Some(moment) = head.moment else {
+        return Sorted::Told(Telling::NoMoment);
+    };
+    let whole = head.original as usize <= captured.packet.len();
+    let found = find_datagram(u32::from(head.link), captured.packet, whole);
+    sort(moment, head.link, found, ports)
 }
 
 /// The words for a record that is told.
@@ -72,6 +102,7 @@ fn told_word(why: Telling) -> &'static str
         Telling::CutShort => "cut short",
         Telling::BadLength => "bad length",
         Telling::Empty => "empty datagram",
+        Telling::NoMoment => "no moment",
     }
 }
 
@@ -93,40 +124,26 @@ fn note_line(alloc: Global, number: u64, why: Telling) -> Result<String, AllocEr
     format!(in alloc; "snmpsec: record {number}: {word}\n")
 }
 
-/// A record that was read.
-#[derive(Clone, Copy)]
-pub(crate) struct Captured<'a> {
-    /// Its number, from 1.
-    pub(crate) number: u64,
-    /// The type of its link.
-    pub(crate) link: u32,
-    /// What its header says.
-    pub(crate) head: Head,
-    /// What was captured of its packet.
-    pub(crate) packet: &'a [u8],
-}
-
 /// Sorts a record, and writes what it comes to.
 fn write_record<L: Write, N: Write>(
     alloc: Global,
     ports: &[u16],
     captured: Captured<'_>,
-    passed: Passed,
+    passed: &mut Passed,
     log: &mut L,
     notes: &mut N,
-) -> Result<Passed, CaptureFault>
-    requires { IsBelow passed 18446744073709551615 }
-    ensures ok { IfOk result (λ after. WritesRecord ports.now captured.entry passed after (L.contents log.old) (L.contents log.new) (N.contents notes.old) (N.contents notes.new)) }
-    ensures err { IfErr result (StopsRecord ports.now captured.entry (L.contents log.old) (L.contents log.new) (N.contents notes.old) (N.contents notes.new)) }
+) -> Result<(), CaptureFault>
+    requires { IsBelow (counts_of passed.old) 18446744073709551615 }
+    ensures ok { OnOk result (WritesRecord ports.now (record_from captured.entry) captured.entry.number (counts_of passed.old) (counts_of passed.new) (L.contents log.old) (L.contents log.new) (N.contents notes.old) (N.contents notes.new)) }
+    ensures err { IfErr result (StopsRecord ports.now (record_from captured.entry) captured.entry.number (L.contents log.old) (L.contents log.new) (N.contents notes.old) (N.contents notes.new)) }
 {
-    let whole = captured.head.original as usize <= captured.packet.len();
-    match sort(find_datagram(captured.link, captured.packet, whole), ports) {
-        Sorted::Logged(datagram) => {
-            let Ok(line) = log_line(alloc, captured.head.moment, datagram) else {
+    match sort_record(captured, ports) {
+        Sorted::Logged(moment, datagram) => {
+            let Ok(line) = log_line(alloc, moment, datagram) else {
                 return Err(CaptureFault::OutOfMemory);
             };
             match write_whole(log, line.as_bytes()) {
-                Ok(()) => Ok(passed),
+                Ok(()) => Ok(()),
                 Err(_) => Err(CaptureFault::CannotWrite),
             }
         }
@@ -135,34 +152,71 @@ fn write_record<L: Write, N: Write>(
                 return Err(CaptureFault::OutOfMemory);
             };
             match write_whole(notes, line.as_bytes()) {
-                Ok(()) => Ok(passed),
+                Ok(()) => Ok(()),
                 Err(_) => Err(CaptureFault::CannotWrite),
             }
         }
-        Sorted::Counted(why) => Ok(passed.count(why)),
+        Sorted::Counted(why) => {
+            passed.count(why);
+            Ok(())
+        }
     }
 }
 
-/// Reads the records of a capture behind its header, and writes what they come to.
-fn write_records<R: Read, L: Write, N: Write>(
+/// Writes what an item comes to, whose packet stands in the room, and answers the number of the next record.
+fn write_item<L: Write, N: Write>(
     alloc: Global,
     ports: &[u16],
-    header: Header,
+    number: u64,
+    packet: Option<Head>,
+    room: &[u8],
+    passed: &mut Passed,
+    log: &mut L,
+    notes: &mut N,
+) -> Result<u64, CaptureFault>
+    requires within { IfSome packet (λ h. h.at + h.size ≤ length room.now) }
+    requires number { number < 18446744073709551615 }
+    requires below { IsBelow (counts_of passed.old) 18446744073709551615 }
+    ensures ok { IfOk result (λ next. WritesItem ports.now (option_map (λ h. record_of h room.now) packet) number next (counts_of passed.old) (counts_of passed.new) (L.contents log.old) (L.contents log.new) (N.contents notes.old) (N.contents notes.new)) }
+    ensures err { IfErr result (StopsWrite ports.now (option_map (λ h. record_of h room.now) packet) number (L.contents log.old) (L.contents log.new) (N.contents notes.old) (N.contents notes.new)) }
+{
+    let Some(head) = packet else {
+        return Ok(number);
+    };
+    let captured = Captured {
+        number,
+        head,
+        packet: &room[head.at..head.at + head.size],
+    };
+    match write_record(alloc, ports, captured, passed, log, notes) {
+        Ok(()) => Ok(number + 1),
+        Err(fault) => Err(fault),
+    }
+}
+
+/// Reads the items of a capture behind its beginning, and writes what they come to.
+fn write_items<R: Read, L: Write, N: Write>(
+    alloc: Global,
+    ports: &[u16],
+    begun: Begun,
+    passed: Passed,
     room: &mut [u8],
     reader: &mut R,
     log: &mut L,
     notes: &mut N,
 ) -> Result<Passed, CaptureFault>
-    requires { length room.old ≡ 262144 }
-    ensures ok { IfOk result (λ passed. Stands ports.now header record {
+    requires room { length room.old ≡ 262172 }
+    requires near { begun.place ≤ 4294967295 }
+    requires none { counts_of passed ≡ none_passed }
+    ensures ok { IfOk result (λ passed. Stands ports.now (state_of begun.format) record {
       unread = R.remaining reader.old;
       left = R.remaining reader.new;
       held = L.contents log.old;
       written = L.contents log.new;
       untold = N.contents notes.old;
       told = N.contents notes.new;
-    } (IsEnd (R.remaining reader.new)) passed) }
-    ensures err { IfErr result (StopsRecords ports.now header record {
+    } (IsEnd (R.remaining reader.new)) (counts_of passed)) }
+    ensures err { IfErr result (StopsItems ports.now (state_of begun.format) begun.place record {
       unread = R.remaining reader.old;
       left = R.remaining reader.new;
       held = L.contents log.old;
@@ -171,42 +225,48 @@ fn write_records<R: Read, L: Write, N: Write>(
       told = N.contents notes.new;
     }) }
 {
-    let mut passed = Passed::none(header.link);
-    let mut place = HEADER as u64;
-    for number in 1..RECORDS {
-        let Ok(next) = read_record(reader, header.order, room) else {
-            return Err(CaptureFault::CannotRead);
+    let mut format = begun.format;
+    let mut place = begun.place;
+    let mut passed = passed;
+    let mut number = 1u64;
+    while place < MOST {
+        let next = match read_item(reader, &mut format, room) {
+            Ok(next) => next,
+            Err(fault) => return Err(fault),
         };
-        let head = match next {
-            Next::Record(head) => head,
+        let item = match next {
+            Next::Item(item) => item,
             Next::End => return Ok(passed),
             Next::OutOfForm => return Err(CaptureFault::Octet(place)),
         };
-        let captured = Captured {
+        number = match write_item(
+            alloc,
+            ports,
             number,
-            link: header.link,
-            head,
-            packet: &room[..head.size],
-        };
-        passed = match write_record(alloc, ports, captured, passed, log, notes) {
-            Ok(passed) => passed,
+            item.packet,
+            room,
+            &mut passed,
+            log,
+            notes,
+        ) {
+            Ok(number) => number,
             Err(fault) => return Err(fault),
         };
-        place += (HEAD + head.size) as u64;
+        place += item.size as u64;
     }
     Err(CaptureFault::Octet(place))
 }
 
-/// Writes the datagrams of a capture in the format of libpcap as a log, a line `MOMENT HEX` for each, and counts or tells what
-/// isn't in the log: `notes` gets a line `snmpsec: record N: REASON` for each piece of a datagram, each that was cut short when it
-/// was captured, each of a length that can't be and each that is empty; what else is no datagram from or to one of these ports is
-/// counted. MOMENT is in whole seconds, and N counts from 1.
+/// Writes the datagrams of a capture in the format of libpcap or in pcapng as a log, a line `MOMENT HEX` for each, and counts or
+/// tells what isn't in the log: `notes` gets a line `snmpsec: record N: REASON` for each piece of a datagram, each that was cut short
+/// when it was captured, each of a length that can't be, each that is empty and each record without a moment; what else is no
+/// datagram from or to one of these ports is counted. MOMENT is in whole seconds, and N counts from 1.
 ///
-/// It holds one record at a time, of at most 262,144 octets. A reader that doesn't read ahead is given in a `BufReader`, and
-/// writers in a `BufWriter`.
+/// It holds one record at a time, of at most 262,144 octets, and of a section of pcapng what is said of its interfaces. A reader that
+/// doesn't read ahead is given in a `BufReader`, and writers in a `BufWriter`.
 ///
-/// The errors are Octet(n), where what begins at octet n is no header or no record, or is past the 1,099,511,627,775th; CannotRead
-/// and CannotWrite, where a read or a write fails, or is interrupted 1,000 times in a row; and OutOfMemory. Before each of them but
+/// The errors are Octet(n), where what begins at octet n is no header, record or block, or n is 2^62 or more; CannotRead and
+/// CannotWrite, where a read or a write fails, or is interrupted 1,000 times in a row; and OutOfMemory. Before each of them but
 /// CannotWrite all is written that the records before come to.
 pub fn write_datagrams<R: Read, L: Write, N: Write>(
     alloc: Global,
@@ -216,7 +276,7 @@ pub fn write_datagrams<R: Read, L: Write, N: Write>(
     notes: &mut N,
 ) -> Result<Passed, CaptureFault>
     ensures ok { IfOk result (λ passed. IfSome (R.remaining reader.old) (λ capture. (lines : List ℕ) × (tells : List ℕ)
-        × IsLogOf ports.now capture lines tells passed
+        × IsLogOf ports.now capture lines tells (counts_of passed)
         × Appends (L.contents log.old) (L.contents log.new) lines × Appends (N.contents notes.old) (N.contents notes.new) tells)) }
     ensures err { IfErr result (StopsBy ports.now record {
       unread = R.remaining reader.old;
@@ -247,7 +307,7 @@ pub fn write_datagrams_behind<R: Read, L: Write, N: Write>(
     requires end { length front.now < 24 → IsAtEnd (R.remaining reader.old) }
     ensures ok { (unread : Option (List ℕ)) → Consumes unread (R.remaining reader.old) front.now
         → IfOk result (λ passed. IfSome unread (λ capture. (lines : List ℕ) × (tells : List ℕ)
-        × IsLogOf ports.now capture lines tells passed
+        × IsLogOf ports.now capture lines tells (counts_of passed)
         × Appends (L.contents log.old) (L.contents log.new) lines × Appends (N.contents notes.old) (N.contents notes.new) tells)) }
     ensures err { (unread : Option (List ℕ)) → Consumes unread (R.remaining reader.old) front.now → IfErr result (StopsBy ports.now record {
       unread = unread;
@@ -258,17 +318,21 @@ pub fn write_datagrams_behind<R: Read, L: Write, N: Write>(
       told = N.contents notes.new;
     }) }
 {
-    let header = match read_header(front) {
-        Ok(header) => header,
-        Err(place) => return Err(CaptureFault::Octet(place)),
-    };
-    let Ok(mut room) = vec![in alloc; 0u8; LARGEST] else {
+    let Ok(mut room) = vec![in alloc; 0u8; ROOM] else {
         return Err(CaptureFault::OutOfMemory);
     };
-    write_records(
+    let Ok(passed) = Passed::none(alloc) else {
+        return Err(CaptureFault::OutOfMemory);
+    };
+    let begun = match begin(alloc, front, room.as_mut_slice(), reader) {
+        Ok(begun) => begun,
+        Err(fault) => return Err(fault),
+    };
+    write_items(
         alloc,
         ports,
-        header,
+        begun,
+        passed,
         room.as_mut_slice(),
         reader,
         log,

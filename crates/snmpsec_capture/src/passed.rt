@@ -1,7 +1,7 @@
 //! How many records of a capture were passed over, by reason.
 
 ghost use Rattle.std.specs.Prelude.{◌≡◌, ◌++◌, map, IfOk, OnOk, string_bytes};
-ghost use Rattle.snmpsec_capture.specs.Passed.{IsBelow, count_part, link_word, none_passed, one_more, passed_words};
+ghost use Rattle.snmpsec_capture.specs.Passed.{IsBelow, IsPassedWords, count_part, counts_of, link_parts, link_word, none_passed, one_more, zeros};
 
 use std::alloc::{AllocError, Global};
 
@@ -9,82 +9,80 @@ use std::alloc::{AllocError, Global};
 #[derive(Clone, Copy, Debug, PartialEq, Eq)]
 pub(crate) enum Reason {
     AnotherPort,
-    OtherLink,
+    /// The type of the link.
+    OtherLink(u16),
     NotIp,
     NotUdp,
 }
 
+/// How many types of links there are, numbers of LINKTYPE.
+const LINKS: usize = 65_536;
+
 /// How many records were passed over, by reason.
-#[derive(Clone, Copy, Debug, PartialEq, Eq)]
+#[derive(Debug, PartialEq, Eq, Drop)]
 pub struct Passed {
-    /// The type of the link, a number of LINKTYPE.
-    pub link: u32,
     /// Datagrams from and to other ports.
     pub another_port: u64,
-    /// Packets on a link whose frames aren't known.
-    pub other_link: u64,
+    /// Packets on a link whose frames aren't known, by its type, 0 to 65535 (a number of LINKTYPE).
+    pub other_links: Vec<u64>,
     /// Packets of other protocols than IP.
     pub not_ip: u64,
     /// Packets of other protocols over IP than UDP.
     pub not_udp: u64,
 }
 
+/// So many counts of nothing.
+#[tactic(auto, unfolding(crate::specs::Passed::zeros))]
+fn zeros(alloc: Global, count: usize) -> Result<Vec<u64>, AllocError>
+    ensures { IfOk result (λ counts. counts.items ≡ zeros count) }
+{
+    vec![in alloc; 0u64; count]
+}
+
 impl Passed {
     /// None yet.
-    pub(crate) fn none(link: u32) -> Passed
-        ensures { result ≡ none_passed link }
+    pub(crate) fn none(alloc: Global) -> Result<Passed, AllocError>
+        ensures { IfOk result (λ passed. counts_of passed ≡ none_passed) }
     {
-        Passed {
-            link,
+        let other_links = zeros(alloc, LINKS)?;
+        Ok(Passed {
             another_port: 0,
-            other_link: 0,
+            other_links,
             not_ip: 0,
             not_udp: 0,
-        }
+        })
     }
 
     /// One more, for this reason.
-    pub(crate) fn count(self, reason: Reason) -> Passed
-        requires { IsBelow self 18446744073709551615 }
-        ensures { result ≡ one_more self reason }
+    pub(crate) fn count(&mut self, reason: Reason)
+        requires { IsBelow (counts_of self.old) 18446744073709551615 }
+        ensures { counts_of self.new ≡ one_more (counts_of self.old) reason }
     {
         match reason {
-            Reason::AnotherPort => Passed {
-                another_port: self.another_port + 1,
-                ..self
-            },
-            Reason::OtherLink => Passed {
-                other_link: self.other_link + 1,
-                ..self
-            },
-            Reason::NotIp => Passed {
-                not_ip: self.not_ip + 1,
-                ..self
-            },
-            Reason::NotUdp => Passed {
-                not_udp: self.not_udp + 1,
-                ..self
-            },
+            Reason::AnotherPort => self.another_port += 1,
+            Reason::OtherLink(link) => self.other_links[usize::from(link)] += 1,
+            Reason::NotIp => self.not_ip += 1,
+            Reason::NotUdp => self.not_udp += 1,
         }
     }
 
     /// The reasons that there were, each with how often, as `another port 3, not UDP 20`: `another port`, `link type N`, `not IP` and
-    /// `not UDP`, in this order. Empty where no record was passed over.
-    pub fn words(self, alloc: Global) -> Result<String, AllocError>
-        ensures { IfOk result (λ text. string_bytes text ≡ passed_words self) }
+    /// `not UDP`, in the order of their octets. Empty where no record was passed over.
+    pub fn words(&self, alloc: Global) -> Result<String, AllocError>
+        ensures { IfOk result (λ text. IsPassedWords (counts_of self.now) (string_bytes text)) }
     {
-        let link = link_word(alloc, self.link)?;
         let mut parts: Vec<String> = Vec::new(alloc);
         push_part(alloc, &mut parts, "another port", self.another_port)?;
-        push_part(alloc, &mut parts, link.as_str(), self.other_link)?;
+        push_links(alloc, &mut parts, &self.other_links)?;
         push_part(alloc, &mut parts, "not IP", self.not_ip)?;
         push_part(alloc, &mut parts, "not UDP", self.not_udp)?;
+        parts.sort()?;
         parts.join(alloc, ", ")
     }
 }
 
-/// The words for a link whose frames aren't known.
-fn link_word(alloc: Global, link: u32) -> Result<String, AllocError>
+/// The word for a link whose frames aren't known.
+fn link_word(alloc: Global, link: usize) -> Result<String, AllocError>
     ensures { IfOk result (λ text. string_bytes text ≡ link_word link) }
 {
     format!(in alloc; "link type {link}")
@@ -104,5 +102,31 @@ fn push_part(
     }
     let part = format!(in alloc; "{word} {count}")?;
     parts.push(part)?;
+    Ok(())
+}
+
+/// Adds a type of a link and how often it was met, where it was.
+fn push_link(
+    alloc: Global,
+    parts: &mut Vec<String>,
+    link: usize,
+    count: u64,
+) -> Result<(), AllocError>
+    ensures { OnOk result (map string_bytes parts.new.items ≡ map string_bytes parts.old.items ++ count_part (link_word link) count) }
+{
+    if count == 0 {
+        return Ok(());
+    }
+    let word = link_word(alloc, link)?;
+    push_part(alloc, parts, &word, count)
+}
+
+/// Adds the types of links that were met, in the order of their numbers.
+fn push_links(alloc: Global, parts: &mut Vec<String>, counts: &[u64]) -> Result<(), AllocError>
+    ensures { OnOk result (map string_bytes parts.new.items ≡ map string_bytes parts.old.items ++ link_parts 0 counts.now) }
+{
+    for link in 0..counts.len() {
+        push_link(alloc, parts, link, counts[link])?;
+    }
     Ok(())
 }

@@ -2,9 +2,11 @@
 
 ghost use Rattle.std.specs.Prelude.{◌≡◌, true, false, ◌<◌, ◌≤◌, length, IfOk, IfErr, IfSome, IfNone, OnErr};
 ghost use Rattle.snmpsec_capture.specs.Field.{field32};
-ghost use Rattle.snmpsec_capture.specs.Pcap.{IsHead, IsHeader, IsHeaderFault, IsNext, ReadsPart, begins_capture, is_magic, major};
+ghost use Rattle.snmpsec_capture.specs.Formats.{IsNext, of_header};
+ghost use Rattle.snmpsec_capture.specs.Pcap.{IsHead, IsHeader, IsHeaderFault, ReadsPart, begins_pcap, is_magic, major};
 
-use crate::field::{Order, read_16, read_32};
+use crate::field::{Order, read_16_by, read_32};
+use crate::item::{Head, Item, Next};
 use snmpsec_streams::{Failed, read_full};
 use std::io::Read;
 
@@ -28,30 +30,8 @@ const NANOSECONDS: u32 = 0xa1b2_3c4d;
 pub(crate) struct Header {
     /// The order of the octets of all numbers.
     pub(crate) order: Order,
-    /// The type of the link, a number of LINKTYPE below 65,536.
-    pub(crate) link: u32,
-}
-
-/// What the header of a record says of its packet.
-#[derive(Clone, Copy, Debug, PartialEq, Eq)]
-pub(crate) struct Head {
-    /// When it was captured, in whole seconds.
-    pub(crate) moment: u64,
-    /// How many octets of it were captured, at most `LARGEST`.
-    pub(crate) size: usize,
-    /// How many octets it had.
-    pub(crate) original: u32,
-}
-
-/// What stands next in a capture.
-#[derive(Clone, Copy, Debug, PartialEq, Eq)]
-pub(crate) enum Next {
-    /// A record.
-    Record(Head),
-    /// No octet more.
-    End,
-    /// Octets that begin with no record.
-    OutOfForm,
+    /// The type of the link, a number of LINKTYPE.
+    pub(crate) link: u16,
 }
 
 /// The octets begin with the number of a capture, in this order.
@@ -63,9 +43,9 @@ fn is_magic(order: Order, octets: &[u8]) -> bool
     number == MICROSECONDS || number == NANOSECONDS
 }
 
-/// The octets begin as a capture does, with one of the numbers of its format in either order. Four octets are looked at.
-pub fn begins_capture(octets: &[u8]) -> bool
-    ensures { result ≡ begins_capture octets.now }
+/// The octets begin with one of the numbers of the format in either order. Four octets are looked at.
+pub(crate) fn begins_pcap(octets: &[u8]) -> bool
+    ensures { result ≡ begins_pcap octets.now }
 {
     octets.len() >= 4 && (is_magic(Order::Big, octets) || is_magic(Order::Little, octets))
 }
@@ -90,10 +70,7 @@ fn major(order: Order, octets: &[u8]) -> u16
     requires { 6 ≤ length octets.now }
     ensures { result ≡ major order octets.now }
 {
-    match order {
-        Order::Big => read_16(octets, 4),
-        Order::Little => u16::from(octets[5]) * 256 + u16::from(octets[4]),
-    }
+    read_16_by(order, octets, 4)
 }
 
 /// What the header says, or the place of its first fault.
@@ -115,21 +92,27 @@ pub(crate) fn read_header(octets: &[u8]) -> Result<Header, u64>
     if link > 65_535 {
         return Err(20);
     }
-    Ok(Header { order, link })
+    Ok(Header {
+        order,
+        link: link as u16,
+    })
 }
 
 /// What the header of a record says, or `None` where its packet is over the limit.
-fn read_head(order: Order, octets: &[u8]) -> Option<Head>
+fn read_head(header: Header, octets: &[u8]) -> Option<Head>
     requires { length octets.now ≡ 16 }
-    ensures found { IfSome result (IsHead order octets.now) }
-    ensures none { IfNone result (262144 < field32 order octets.now 8) }
+    ensures found { IfSome result (IsHead header octets.now) }
+    ensures none { IfNone result (262144 < field32 header.order octets.now 8) }
 {
+    let order = header.order;
     let size = read_32(order, octets, 8) as usize;
     if size > LARGEST {
         return None;
     }
     Some(Head {
-        moment: u64::from(read_32(order, octets, 0)),
+        link: header.link,
+        moment: Some(u64::from(read_32(order, octets, 0))),
+        at: 0,
         size,
         original: read_32(order, octets, 12),
     })
@@ -138,13 +121,13 @@ fn read_head(order: Order, octets: &[u8]) -> Option<Head>
 /// Reads the next record. Its packet is the front of `room`.
 pub(crate) fn read_record<R: Read>(
     reader: &mut R,
-    order: Order,
+    header: Header,
     room: &mut [u8],
 ) -> Result<Next, Failed>
-    requires { length room.old ≡ 262144 }
-    ensures room { length room.new ≡ 262144 }
-    ensures ok { IfOk result (IsNext order room.new (R.remaining reader.old) (R.remaining reader.new)) }
-    ensures err { OnErr result (ReadsPart order (R.remaining reader.old) (R.remaining reader.new)) }
+    requires { length room.old ≡ 262172 }
+    ensures room { length room.new ≡ 262172 }
+    ensures ok { IfOk result (IsNext (of_header header) (of_header header) room.new (R.remaining reader.old) (R.remaining reader.new)) }
+    ensures err { OnErr result (ReadsPart header (R.remaining reader.old) (R.remaining reader.new)) }
 {
     let mut octets = [0u8; HEAD];
     let Ok(count) = read_full(reader, &mut octets) else {
@@ -156,7 +139,7 @@ pub(crate) fn read_record<R: Read>(
     if count < HEAD {
         return Ok(Next::OutOfForm);
     }
-    let Some(head) = read_head(order, &octets) else {
+    let Some(head) = read_head(header, &octets) else {
         return Ok(Next::OutOfForm);
     };
     let Ok(size) = read_full(reader, &mut room[..head.size]) else {
@@ -165,5 +148,8 @@ pub(crate) fn read_record<R: Read>(
     if size < head.size {
         return Ok(Next::OutOfForm);
     }
-    Ok(Next::Record(head))
+    Ok(Next::Item(Item {
+        size: HEAD + head.size,
+        packet: Some(head),
+    }))
 }

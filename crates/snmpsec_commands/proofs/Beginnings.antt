@@ -2,7 +2,7 @@
 use Rattle.std.proofs.Common.{◌≡◌, ◌<◌, Bool, ℕ, List, [], ◌++◌, length, Option, Some, None, IfSome, sym, ap, ◌∙◌}
 use Rattle.std.proofs.lemmas.Bool.{cases_lt}
 use Rattle.std.specs.Io.KnownBytes.{Consumes, IsAtEnd}
-use Rattle.snmpsec_capture.specs.Pcap.{begins_capture}
+use Rattle.snmpsec_capture.specs.Formats.{begins_capture}
 use Rattle.snmpsec_capture.proofs.Records.{same_beginning}
 use Rattle.snmpsec_commands.specs.Forms.{is_capture}
 use Rattle.snmpsec_commands.specs.declared.forms.Form.{Form}

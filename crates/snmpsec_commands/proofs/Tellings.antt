@@ -3,10 +3,12 @@ use Rattle.std.proofs.Common.{◌≡◌, ℕ, ◌<◌, ◌^◌, List, [], ◌∷
 use Rattle.std.proofs.lemmas.List.{get_or-map, length-map}
 use Rattle.std.specs.Io.KnownBytes.{Appends}
 use Rattle.std.proofs.KnownBytes.{Appends-nil, Keeps-refl}
-use Rattle.snmpsec_capture.specs.Datagrams.{Streams}
+use Rattle.snmpsec_capture.specs.Datagrams.{StopsBy, Streams}
+use Rattle.snmpsec_capture.specs.Passed.{Counts}
+use Rattle.snmpsec_capture.specs.declared.fault.CaptureFault.TheVariants as capture
 use Rattle.snmpsec_commands.specs.declared.datagrams.Unread.{Unread}
 use Rattle.snmpsec_commands.specs.declared.datagrams.Unread.TheVariants as unread
-use Rattle.snmpsec_commands.specs.Datagrams.{Leaves, LosesLine, Tells, TellsNot, line_of, AskPorts, AreDecimals, HasNoPort}
+use Rattle.snmpsec_commands.specs.Datagrams.{IsWhole, Leaves, LosesLine, LosesPassed, Tells, TellsNot, line_of, refused_line, AskPorts, AreDecimals, HasNoPort}
 
 -- ---- the last line
 
@@ -38,55 +40,45 @@ tells_in_log ports name s written status line leaves wrote = record {
   tells = Appends-nil s.told;
 }
 
-pub lost_beside : (ports name : List ℕ) (s : Streams) (told : Option (List ℕ)) (line : List ℕ) (fault : Unread)
-    → Leaves ports name (record s { told = told }) 0 [] line → LosesLine told s.told line fault → TellsNot ports name s fault
-lost_beside ports name s told line unread.CannotRead leaves lost = absurd lost
-lost_beside ports name s told line unread.CannotWrite leaves lost = inr (inl (record {
+pub lost_beside : (ports name : List ℕ) (s : Streams) (told : Option (List ℕ)) (passed : Counts) (fault : Unread)
+    → IsWhole ports (record s { told = told }) passed → LosesPassed passed told s.told fault → TellsNot ports name s fault
+lost_beside ports name s told passed unread.CannotRead whole lost = absurd lost
+lost_beside ports name s told passed unread.CannotWrite whole lost = inr (inl (record {
   written = s.written;
   told = told;
   in_log = [];
-  beside = line;
-  leaves = leaves;
+  beside = lost.0;
+  leaves = inl (refl, passed, whole, refl, lost.1);
   wrote = Appends-nil s.written;
-  tells = lost;
+  tells = lost.2;
 }))
-lost_beside ports name s told line unread.OutOfMemory leaves lost = inr (
-  0,
-  record {
-    written = s.written;
-    told = told;
-    in_log = [];
-    beside = line;
-    leaves = leaves;
-    wrote = Keeps-refl s.written;
-    tells = lost;
-  },
-)
+lost_beside ports name s told passed unread.OutOfMemory whole lost = inr (record {
+  written = s.written;
+  told = told;
+  leaves = inl (passed, whole);
+  wrote = Keeps-refl s.written;
+  tells = lost;
+})
 
-pub lost_in_log : (ports name : List ℕ) (s : Streams) (written : Option (List ℕ)) (line : List ℕ) (fault : Unread)
-    → Leaves ports name (record s { written = written }) 1 line [] → LosesLine written s.written line fault → TellsNot ports name s fault
-lost_in_log ports name s written line unread.CannotRead leaves lost = absurd lost
-lost_in_log ports name s written line unread.CannotWrite leaves lost = inr (inr (record {
+pub lost_in_log : (ports name : List ℕ) (s : Streams) (written : Option (List ℕ)) (place : ℕ) (fault : Unread)
+    → StopsBy ports (record s { written = written }) (capture.Octet place) → LosesLine written s.written (refused_line name place) fault → TellsNot ports name s fault
+lost_in_log ports name s written place unread.CannotRead stops lost = absurd lost
+lost_in_log ports name s written place unread.CannotWrite stops lost = inr (inr (record {
   written = written;
   told = s.told;
-  in_log = line;
+  in_log = refused_line name place;
   beside = [];
-  leaves = leaves;
+  leaves = inr (refl, place, stops, refl, refl);
   wrote = lost;
   tells = Appends-nil s.told;
 }))
-lost_in_log ports name s written line unread.OutOfMemory leaves lost = inr (
-  1,
-  record {
-    written = written;
-    told = s.told;
-    in_log = line;
-    beside = [];
-    leaves = leaves;
-    wrote = lost;
-    tells = Keeps-refl s.told;
-  },
-)
+lost_in_log ports name s written place unread.OutOfMemory stops lost = inr (record {
+  written = written;
+  told = s.told;
+  leaves = inr (place, stops);
+  wrote = lost;
+  tells = Keeps-refl s.told;
+})
 
 -- ---- the ports
 

@@ -3,9 +3,8 @@ use Rattle.std.specs.Prelude.{◌≡◌, ◌⊎◌, ℕ, ◌<◌, ◌^◌, map, 
 use Rattle.std.specs.List.{All, Contains}
 use Rattle.std.specs.Io.KnownBytes.{Appends, Keeps}
 use Rattle.snmpsec_streams.specs.Transfer.{WritesFront}
-use Rattle.snmpsec_capture.specs.Passed.{passed_words}
+use Rattle.snmpsec_capture.specs.Passed.{Counts, IsPassedWords}
 use Rattle.snmpsec_capture.specs.Datagrams.{IsLogOf, Streams, StopsBy}
-use Rattle.snmpsec_capture.specs.declared.passed.Passed.{Passed}
 use Rattle.snmpsec_capture.specs.declared.fault.CaptureFault.TheVariants as capture
 use Rattle.snmpsec_commands.specs.declared.datagrams.Unread.{Unread}
 use Rattle.snmpsec_commands.specs.declared.datagrams.Unread.TheVariants as unread
@@ -32,8 +31,8 @@ abbrev pub line_of : List ℕ → List ℕ
 line_of [] = []
 line_of (x ∷ xs) = codes "snmpsec: passed over: " ++ ((x ∷ xs) ++ codes "\n")
 
-abbrev pub passed_line : Passed → List ℕ
-passed_line p = line_of (passed_words p)
+abbrev pub IsPassedLine : Counts → List ℕ → Type 0
+IsPassedLine c line = (words : List ℕ) × IsPassedWords c words × (line ≡ line_of words)
 
 -- the first octet of the file at which it is no capture
 abbrev pub refused_line : List ℕ → ℕ → List ℕ
@@ -42,15 +41,24 @@ refused_line name place = codes "refused datagrams " ++ (name ++ (codes " octet 
 -- ---- what is written
 
 -- The capture was read to its end, and the log of its datagrams is written; the line for what was passed over is to be told.
-pub record IsWhole (ports : List ℕ) (s : Streams) (passed : Passed) : Type 0 where
+pub record IsWhole (ports : List ℕ) (s : Streams) (passed : Counts) : Type 0 where
   pub log_is : IfSome s.unread (λ capture. (lines : List ℕ) × (tells : List ℕ) × IsLogOf ports capture lines tells passed
       × Appends s.held s.written lines × Appends s.untold s.told tells)
 
 -- What a capture comes to is written, as far as it is one. Then these lines are due, the one in the log and the other beside it.
 abbrev pub Leaves : List ℕ → List ℕ → Streams → ℕ → List ℕ → List ℕ → Type 0
 Leaves ports name s status in_log beside =
-    ((status ≡ 0) × (passed : Passed) × IsWhole ports s passed × (in_log ≡ []) × (beside ≡ passed_line passed))
+    ((status ≡ 0) × (passed : Counts) × IsWhole ports s passed × (in_log ≡ []) × IsPassedLine passed beside)
     ⊎ ((status ≡ 1) × (place : ℕ) × StopsBy ports s (capture.Octet place) × (in_log ≡ refused_line name place) × (beside ≡ []))
+
+-- What a capture comes to is written, as far as it is one, and no line behind it.
+pub record LeavesUntold (ports : List ℕ) (s : Streams) : Type 0 where
+  pub written : Option (List ℕ)
+  pub told : Option (List ℕ)
+  pub leaves : ((passed : Counts) × IsWhole ports (record s { written = written; told = told }) passed)
+      ⊎ ((place : ℕ) × StopsBy ports (record s { written = written; told = told }) (capture.Octet place))
+  pub wrote : Keeps written s.written
+  pub tells : Keeps told s.told
 
 -- What a capture comes to is written as far as it is one, of the last line in the log what `Writes` says, and of that beside it what `TellsLine` says.
 pub record Ends (ports name : List ℕ) (s : Streams) (Writes TellsLine : Option (List ℕ) → Option (List ℕ) → List ℕ → Type 0) (status : ℕ) : Type 0 where
@@ -71,7 +79,7 @@ abbrev pub TellsNot : List ℕ → List ℕ → Streams → Unread → Type 0
 TellsNot ports name s unread.CannotRead = StopsBy ports s capture.CannotRead
 TellsNot ports name s unread.CannotWrite =
     StopsBy ports s capture.CannotWrite ⊎ (Ends ports name s Appends WritesFront 0 ⊎ Ends ports name s WritesFront Appends 1)
-TellsNot ports name s unread.OutOfMemory = StopsBy ports s capture.OutOfMemory ⊎ ((status : ℕ) × Ends ports name s (λ old new line. Keeps old new) (λ old new line. Keeps old new) status)
+TellsNot ports name s unread.OutOfMemory = StopsBy ports s capture.OutOfMemory ⊎ LeavesUntold ports s
 
 -- ---- between the functions
 
@@ -80,3 +88,12 @@ abbrev pub LosesLine : Option (List ℕ) → Option (List ℕ) → List ℕ → 
 LosesLine old new line unread.CannotRead = ⊥
 LosesLine old new line unread.CannotWrite = WritesFront old new line
 LosesLine old new line unread.OutOfMemory = Keeps old new
+
+-- the line for what was passed over is told, or isn't
+abbrev pub TellsPassed : Counts → Option (List ℕ) → Option (List ℕ) → Type 0
+TellsPassed c old new = (line : List ℕ) × IsPassedLine c line × Appends old new line
+
+abbrev pub LosesPassed : Counts → Option (List ℕ) → Option (List ℕ) → Unread → Type 0
+LosesPassed c old new unread.CannotRead = ⊥
+LosesPassed c old new unread.CannotWrite = (line : List ℕ) × IsPassedLine c line × WritesFront old new line
+LosesPassed c old new unread.OutOfMemory = Keeps old new

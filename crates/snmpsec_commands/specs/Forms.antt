@@ -1,7 +1,7 @@
 -- What `snmpsec datagrams` does with a file in any of its forms.
 use Rattle.std.specs.Prelude.{◌≡◌, ◌⊎◌, Bool, true, false, List, ℕ, codes, Option, Some, None, IfSome}
 use Rattle.std.specs.Io.KnownBytes.{Keeps}
-use Rattle.snmpsec_capture.specs.Pcap.{begins_capture}
+use Rattle.snmpsec_capture.specs.Formats.{begins_capture}
 use Rattle.snmpsec_capture.specs.Datagrams.{Streams, CannotBegin}
 use Rattle.snmpsec_capture.specs.declared.fault.CaptureFault.TheVariants as capture
 use Rattle.snmpsec_commands.specs.Datagrams.{Tells, TellsNot}

@@ -2,7 +2,8 @@
 
 ghost use Rattle.std.specs.Prelude.{◌≡◌, ◌<◌, ◌≤◌, ◌^◌, ℕ, List, Option, length, decimal, map, IfErr, IfOk, IfSome, IfNone, OnOk, Some, string_bytes};
 ghost use Rattle.std.specs.Io.KnownBytes.{Appends, Consumes, IsAtEnd};
-ghost use Rattle.snmpsec_commands.specs.Datagrams.{AskPorts, HasNoPort, LosesLine, Tells, TellsNot, passed_line, refused_line};
+ghost use Rattle.snmpsec_commands.specs.Datagrams.{AskPorts, HasNoPort, IsPassedLine, LosesLine, LosesPassed, Tells, TellsNot, TellsPassed, refused_line};
+ghost use Rattle.snmpsec_capture.specs.Passed.{counts_of};
 
 use snmp_ber::read_decimal;
 use snmpsec_capture::{CaptureFault, HEADER, Passed, write_datagrams_behind};
@@ -122,7 +123,7 @@ pub(crate) fn datagrams_behind<R: Read, L: Write, N: Write>(
     }) }
 {
     match write_datagrams_behind(alloc, front, ports, reader, log, notes) {
-        Ok(passed) => match tell_passed(alloc, passed, notes) {
+        Ok(passed) => match tell_passed(alloc, &passed, notes) {
             Ok(()) => Ok(0),
             Err(fault) => Err(fault),
         },
@@ -137,9 +138,9 @@ pub(crate) fn datagrams_behind<R: Read, L: Write, N: Write>(
 }
 
 /// Writes the line for what was passed over.
-fn tell_passed<N: Write>(alloc: Global, passed: Passed, notes: &mut N) -> Result<(), Unread>
-    ensures ok { OnOk result (Appends (N.contents notes.old) (N.contents notes.new) (passed_line passed)) }
-    ensures err { IfErr result (LosesLine (N.contents notes.old) (N.contents notes.new) (passed_line passed)) }
+fn tell_passed<N: Write>(alloc: Global, passed: &Passed, notes: &mut N) -> Result<(), Unread>
+    ensures ok { OnOk result (TellsPassed (counts_of passed.now) (N.contents notes.old) (N.contents notes.new)) }
+    ensures err { IfErr result (LosesPassed (counts_of passed.now) (N.contents notes.old) (N.contents notes.new)) }
 {
     let Ok(line) = passed_line(alloc, passed) else {
         return Err(Unread::OutOfMemory);
@@ -165,8 +166,8 @@ fn refuse<L: Write>(alloc: Global, name: &str, place: u64, log: &mut L) -> Resul
 }
 
 /// The text for what was passed over: a line, or nothing where nothing was.
-fn passed_line(alloc: Global, passed: Passed) -> Result<String, AllocError>
-    ensures { IfOk result (λ text. string_bytes text ≡ passed_line passed) }
+fn passed_line(alloc: Global, passed: &Passed) -> Result<String, AllocError>
+    ensures { IfOk result (λ text. IsPassedLine (counts_of passed.now) (string_bytes text)) }
 {
     let words = passed.words(alloc)?;
     if words.is_empty() {
