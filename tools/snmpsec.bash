@@ -5,7 +5,7 @@ _snmpsec_place() {
   local at=2 place=1
   while [ "$at" -lt "$COMP_CWORD" ]; do
     case ${COMP_WORDS[at]} in
-      --form | --from-line | --moment | --port) at=$((at + 1)) ;;
+      --context | --form | --from-line | --moment | --port) at=$((at + 1)) ;;
       --*) ;;
       *) place=$((place + 1)) ;;
     esac
@@ -18,10 +18,10 @@ _snmpsec() {
   local word=${COMP_WORDS[COMP_CWORD]} command=${COMP_WORDS[1]-} choices='' files=''
   COMPREPLY=()
   if [ "$COMP_CWORD" -eq 1 ]; then
-    choices='show open check-access explain-access who-sees sees check-config replay merge-clocks check-clocks check-log datagrams manual version'
+    choices='show open check-access explain-access who-sees sees check-config import-snmpd replay merge-clocks check-clocks check-log datagrams manual version'
   else
     case ${COMP_WORDS[COMP_CWORD - 1]} in
-      --form | --from-line | --moment | --port) return ;;
+      --context | --form | --from-line | --moment | --port) return ;;
     esac
     case $command:$(_snmpsec_place) in
       open:1) files=yes ;;
@@ -40,6 +40,7 @@ _snmpsec() {
       sees:1) files=yes ;;
       sees:2) choices='3' ;;
       check-config:1) files=yes ;;
+      import-snmpd:*) files=yes ;;
       replay:1) files=yes ;;
       replay:2) files=yes ;;
       replay:3) files=yes ;;
@@ -47,7 +48,7 @@ _snmpsec() {
       check-clocks:*) files=yes ;;
       check-log:1) files=yes ;;
       datagrams:1) files=yes ;;
-      manual:1) choices='show open check-access explain-access who-sees sees check-config replay merge-clocks check-clocks check-log datagrams manual version' ;;
+      manual:1) choices='show open check-access explain-access who-sees sees check-config import-snmpd replay merge-clocks check-clocks check-log datagrams manual version' ;;
     esac
     case $command in
       show) choices="$choices --names --why" ;;
@@ -57,6 +58,7 @@ _snmpsec() {
       who-sees) choices="$choices --users --why" ;;
       sees) choices="$choices --why" ;;
       check-config) choices="$choices --why" ;;
+      import-snmpd) choices="$choices --strict --why --no-include --context" ;;
       replay) choices="$choices --moment --why --clocks-only --from-line" ;;
       merge-clocks) choices="$choices --moment --why" ;;
       check-clocks) choices="$choices --why" ;;

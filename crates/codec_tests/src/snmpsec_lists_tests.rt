@@ -62,8 +62,14 @@ fn lines_of_families(rt: &HostRuntime, rows: &[HeldFamily]) -> Result<Vec<usize>
 #[test]
 fn rows_are_held_by_their_indexes(rt: HostRuntime) -> Result<(), Fail> {
     let lists = lists(&rt, FILE)?;
-    assert_eq!(rt; lines_of_groups(&rt, &lists.groups)?.as_slice(), [4, 2, 3, 1].as_slice());
-    assert_eq!(rt; lines_of_access(&rt, &lists.access)?.as_slice(), [7, 5, 6, 8].as_slice());
+    assert_eq!(rt;
+        lines_of_groups(&rt, &lists.groups)?.as_slice(),
+        [4, 2, 3, 1].as_slice()
+    );
+    assert_eq!(rt;
+        lines_of_access(&rt, &lists.access)?.as_slice(),
+        [7, 5, 6, 8].as_slice()
+    );
     assert_eq!(rt;
         lines_of_families(&rt, &lists.families)?.as_slice(),
         [11, 9, 10, 0, 0, 0, 0, 0, 0].as_slice()
@@ -75,13 +81,27 @@ fn rows_are_held_by_their_indexes(rt: HostRuntime) -> Result<(), Fail> {
 fn of_each_index_one_row_counts(rt: HostRuntime) -> Result<(), Fail> {
     let lists = lists(&rt, FILE)?;
     let groups = groups_kept(rt.alloc(), &lists.groups)?;
-    assert_eq!(rt; lines_of_groups(&rt, &groups)?.as_slice(), [4, 4, 4, 1].as_slice());
-    assert!(rt; groups.iter().map(|held| held.row.model).eq([1, 2, 3, 3].iter().copied()));
+    assert_eq!(rt;
+        lines_of_groups(&rt, &groups)?.as_slice(),
+        [4, 4, 4, 1].as_slice()
+    );
+    assert!(rt;
+        groups
+            .iter()
+            .map(|held| held.row.model)
+            .eq([1, 2, 3, 3].iter().copied())
+    );
     let access = access_kept(rt.alloc(), &lists.access)?;
-    assert_eq!(rt; lines_of_access(&rt, &access)?.as_slice(), [7, 6, 8].as_slice());
+    assert_eq!(rt;
+        lines_of_access(&rt, &access)?.as_slice(),
+        [7, 6, 8].as_slice()
+    );
     assert!(rt; access[1].row.matching == Matching::Exact);
     let families = families_kept(rt.alloc(), &access, &lists.families)?;
-    assert_eq!(rt; lines_of_families(&rt, &families)?.as_slice(), [11, 9, 0, 0, 0].as_slice());
+    assert_eq!(rt;
+        lines_of_families(&rt, &families)?.as_slice(),
+        [11, 9, 0, 0, 0].as_slice()
+    );
     assert_eq!(rt; find(&access, &lists.access[1]), Some(1));
     Ok(())
 }

@@ -95,7 +95,12 @@ fn folder_of(path: &str) -> &str {
 }
 
 /// The path of a file that a line names: beside the file of the line, where it doesn't begin with a slash.
-fn path_of(alloc: Global, names: &[String], place: Place, name: &str) -> Result<String, AllocError> {
+fn path_of(
+    alloc: Global,
+    names: &[String],
+    place: Place,
+    name: &str,
+) -> Result<String, AllocError> {
     let folder = match place {
         Place::Line { file, .. } if !name.starts_with('/') => match names.get(file) {
             Some(path) => folder_of(path.as_str()),

@@ -55,10 +55,7 @@ pub(crate) fn import_snmpd<'a>(alloc: Global) -> Result<clap::Command<'a>, Alloc
         .arg(strict(alloc))?
         .arg(no_include(alloc))?
         .arg(context(alloc))?
-        .arg(files(
-            alloc,
-            "A file as /etc/snmp/snmpd.conf, at most 16 MiB",
-        ))
+        .arg(files(alloc, "A file as /etc/snmp/snmpd.conf, at most 16 MiB"))
 }
 
 /// The words of import-snmpd.

@@ -77,14 +77,20 @@ fn imported(rt: &HostRuntime, text: &[u8]) -> Result<Imported, Fail> {
 fn lines_come_to_a_configuration(rt: HostRuntime) -> Result<(), Fail> {
     let done = imported(&rt, FILE)?;
     assert_eq!(rt; done.text.as_slice(), TEXT);
-    assert_eq!(rt; notes_text(rt.alloc(), &files(&rt)?, &done.notes)?.as_slice(), NOTES);
+    assert_eq!(rt;
+        notes_text(rt.alloc(), &files(&rt)?, &done.notes)?.as_slice(),
+        NOTES
+    );
     Ok(())
 }
 
 #[test]
 fn no_lines_come_to_no_rows(rt: HostRuntime) -> Result<(), Fail> {
     let done = imported(&rt, b"# nothing\n\n[snmp]\n")?;
-    assert_eq!(rt; done.text.as_slice(), b"# context\n[[context]]\nname = \"\"\n".as_slice());
+    assert_eq!(rt;
+        done.text.as_slice(),
+        b"# context\n[[context]]\nname = \"\"\n".as_slice()
+    );
     assert!(rt; done.notes.is_empty());
     Ok(())
 }
@@ -92,7 +98,9 @@ fn no_lines_come_to_no_rows(rt: HostRuntime) -> Result<(), Fail> {
 #[test]
 fn notes_are_serious_or_not(rt: HostRuntime) -> Result<(), Fail> {
     assert!(rt; !is_serious(Kind::Other) && !is_serious(Kind::Ignored));
-    assert!(rt; is_serious(Kind::LeftOut) && is_serious(Kind::Refused) && is_serious(Kind::Undefined));
+    assert!(rt;
+        is_serious(Kind::LeftOut) && is_serious(Kind::Refused) && is_serious(Kind::Undefined)
+    );
     assert!(rt; is_serious(Kind::Differs) && is_serious(Kind::Order));
     Ok(())
 }
