@@ -96,22 +96,27 @@ fn of_each_index_one_row_counts(rt: HostRuntime) -> Result<(), Fail> {
         lines_of_access(&rt, &access)?.as_slice(),
         [7, 6, 8].as_slice()
     );
-    assert!(rt; access[1].row.matching == Matching::Exact);
+    let second = access.get(1).ok_or("a second row")?;
+    assert!(rt; second.row.matching == Matching::Exact);
     let families = families_kept(rt.alloc(), &access, &lists.families)?;
     assert_eq!(rt;
         lines_of_families(&rt, &families)?.as_slice(),
         [11, 9, 0, 0, 0].as_slice()
     );
-    assert_eq!(rt; find(&access, &lists.access[1]), Some(1));
+    let exact = lists.access.get(1).ok_or("a second row")?;
+    assert_eq!(rt; find(&access, exact), Some(1));
     Ok(())
 }
 
 #[test]
 fn copies_are_equal(rt: HostRuntime) -> Result<(), Fail> {
     let lists = lists(&rt, FILE)?;
-    assert!(rt; copy_group(&lists.groups[0].row).name == lists.groups[0].row.name);
-    assert!(rt; copy_access(&lists.access[0].row).read == lists.access[0].row.read);
-    assert!(rt; copy_family(&lists.families[0].row).subtree == lists.families[0].row.subtree);
+    let group = lists.groups.first().ok_or("a group row")?;
+    assert!(rt; copy_group(&group.row).name == group.row.name);
+    let access = lists.access.first().ok_or("an access row")?;
+    assert!(rt; copy_access(&access.row).read == access.row.read);
+    let family = lists.families.first().ok_or("a family row")?;
+    assert!(rt; copy_family(&family.row).subtree == family.row.subtree);
     Ok(())
 }
 

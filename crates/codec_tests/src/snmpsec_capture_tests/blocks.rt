@@ -141,6 +141,7 @@ fn other_block(alloc: Global, size: u32) -> Result<Vec<u8>, Fail> {
 #[test]
 fn a_block_of_any_length_is_passed_over(rt: HostRuntime) -> Result<(), Fail> {
     let section = hex::decode(rt.alloc(), SECTION)?;
+    let (begin, behind) = section.split_at_checked(28).ok_or("a section")?;
     for (size, cut, wanted) in [
         (262_172, 0, None),
         (262_176, 0, None),
@@ -150,11 +151,11 @@ fn a_block_of_any_length_is_passed_over(rt: HostRuntime) -> Result<(), Fail> {
         (300_000, 40_000, Some(28)),
     ] {
         let mut capture: Vec<u8> = Vec::new(rt.alloc());
-        capture.extend_from_slice(&section[..28])?;
+        capture.extend_from_slice(begin)?;
         capture.extend_from_slice(&other_block(rt.alloc(), size)?)?;
         match wanted {
             Some(_) => capture.truncate(capture.len().saturating_sub(cut)),
-            None => capture.extend_from_slice(&section[28..])?,
+            None => capture.extend_from_slice(behind)?,
         }
         let told = read(rt.alloc(), &[161], &capture)?;
         match wanted {
