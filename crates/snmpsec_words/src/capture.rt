@@ -28,7 +28,7 @@ fn form<'a>(alloc: Global) -> Arg<'a> {
     Arg::new(alloc, "FORM")
         .long("form")
         .action(ArgAction::Set)
-        .help("What FILE is: pcap, or hex; found by its first octets if left out")
+        .help("What FILE is: pcap (or pcapng), or hex; found by its first octets if left out")
 }
 
 /// The ports of the datagrams that are wanted. A number below 0 is a word of the option too.
@@ -64,7 +64,7 @@ pub(crate) fn datagrams<'a>(alloc: Global) -> Result<clap::Command<'a>, AllocErr
         .arg(word(
             alloc,
             "FILE",
-            "A capture in the format of libpcap, as tcpdump -w writes it, or pasted hex; - is standard input",
+            "A capture in the format of libpcap or pcapng, as tcpdump -w and Wireshark write it, or pasted hex; - is standard input",
         ))
 }
 
