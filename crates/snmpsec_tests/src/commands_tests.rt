@@ -204,7 +204,7 @@ const HELP: [(&str, &str); 16] = [
     ("merge-clocks", "examples/station-a.clocks"),
     ("datagrams", "examples/replay/captured.pcap"),
     ("datagrams", "161 and 162 if left out"),
-    ("datagrams", "pcap, or hex"),
+    ("datagrams", "pcap (or pcapng), or hex"),
 ];
 
 #[test]
