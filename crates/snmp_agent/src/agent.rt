@@ -129,7 +129,6 @@ impl Agent {
         let counters = counted(self.counters, why);
         let counts = one_more(self.counts, drop_counter_of(why));
         match report(
-            self.alloc,
             &mut self.users,
             &self.engine,
             now,
@@ -274,7 +273,6 @@ impl Agent {
             salt,
         };
         send_response(
-            self.alloc,
             &mut self.users,
             &self.engine.id,
             own,
@@ -349,7 +347,6 @@ impl Agent {
             salt,
         };
         send_notification(
-            self.alloc,
             &mut self.users,
             &self.engine.id,
             own,

@@ -132,7 +132,6 @@ impl Agent {
             salt,
         };
         match send_refusal(
-            self.alloc,
             &mut self.users,
             &self.engine.id,
             own,
@@ -249,7 +248,6 @@ impl Agent {
             salt,
         };
         send_response_front(
-            self.alloc,
             &mut self.users,
             &self.engine.id,
             own,

@@ -13,7 +13,6 @@ use snmp_ber::Level;
 use snmp_msg::Spelled;
 use snmp_outcome::TakeFault;
 use snmp_sending::{Envelope, Front, send_of};
-use std::alloc::Global;
 use usm_core::Users;
 
 /// To whom a notification goes.
@@ -28,7 +27,6 @@ pub(crate) struct Recipient<'a> {
 
 /// A message of this engine that isn't answered, with its own boots and time.
 pub(crate) fn send_notification<B: Spelled>(
-    alloc: Global,
     users: &mut Users,
     engine: &EngineId,
     own: Pair,
@@ -56,5 +54,5 @@ pub(crate) fn send_notification<B: Spelled>(
         user: to.user,
         salt: to.salt,
     };
-    send_of(alloc, users, &envelope, front, bindings)
+    send_of(users, &envelope, front, bindings)
 }

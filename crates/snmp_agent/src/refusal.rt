@@ -12,7 +12,6 @@ use snmp_ber::{Oid, int_content};
 use snmp_msg::{Binding, COUNTER32, Pdu, REPORT};
 use snmp_outcome::{TakeFault, Taken};
 use snmp_sending::{Body, Counter, Envelope, send};
-use std::alloc::Global;
 use usm_core::Users;
 
 /// What a report says besides what it copies.
@@ -26,7 +25,6 @@ pub(crate) struct Counted {
 
 /// The report on what was taken, at its level, from this engine with its own boots and time.
 pub(crate) fn send_refusal<'a>(
-    alloc: Global,
     users: &mut Users,
     engine: &'a EngineId,
     own: Pair,
@@ -66,5 +64,5 @@ pub(crate) fn send_refusal<'a>(
         user: taken.user,
         salt,
     };
-    send(alloc, users, &envelope, &body)
+    send(users, &envelope, &body)
 }

@@ -20,14 +20,13 @@ use snmp_ber::{Level, Oid, int_content};
 use snmp_msg::{Binding, COUNTER32, REPORT, one_cut, one_message};
 use snmp_outcome::TakeFault;
 use snmp_sending::{Body, Envelope, counter_name, send};
-use std::alloc::{AllocError, Global};
+use std::alloc::AllocError;
 use usm_core::{Users, verified_was_read};
 
 /// The report on a refusal of the datagram, or None where none is offered. These are the counters after the refusal.
 ///
 /// The error is want of memory. Where no report is offered, no memory is taken.
 pub(crate) fn report(
-    alloc: Global,
     users: &mut Users,
     engine: &Engine,
     now: u64,
@@ -53,7 +52,7 @@ pub(crate) fn report(
         unreachable!();
     };
     let value = counters[usize::from(n) - 1];
-    let text = send_report(alloc, users, &engine.id, own, n, value, &asking)?;
+    let text = send_report(users, &engine.id, own, n, value, &asking)?;
     Ok(Some(text))
 }
 
@@ -71,7 +70,6 @@ fn report_level(n: u8) -> Level
 /// The report of counter n. A report is short, and at a level with authentication its user has been authenticated; so the
 /// error is want of memory.
 fn send_report(
-    alloc: Global,
     users: &mut Users,
     engine: &EngineId,
     own: Pair,
@@ -112,7 +110,7 @@ fn send_report(
         user: asking.user,
         salt: [0; 8],
     };
-    match send(alloc, users, &envelope, &body) {
+    match send(users, &envelope, &body) {
         Ok(text) => Ok(text),
         Err(fault) => {
             if !fault.is_memory() {

@@ -19,7 +19,6 @@ use engine_clock::{EngineId, Pair};
 use snmp_msg::{RESPONSE, Spelled, one_content, one_pdu};
 use snmp_outcome::{TakeFault, Taken};
 use snmp_sending::{Envelope, Front, Fronted, send_front, send_of};
-use std::alloc::Global;
 use usm_core::Users;
 
 /// What a Response says besides what it copies and its bindings.
@@ -83,7 +82,6 @@ fn front<'a>(taken: &'a Taken<'_>, response: &Response) -> Front<'a>
 
 /// The Response to what was taken, with these bindings, from this engine with its own boots and time.
 pub(crate) fn send_response<B: Spelled>(
-    alloc: Global,
     users: &mut Users,
     engine: &EngineId,
     own: Pair,
@@ -103,12 +101,11 @@ pub(crate) fn send_response<B: Spelled>(
 {
     let envelope = envelope(engine, own, taken, response);
     let front = front(taken, response);
-    send_of(alloc, users, &envelope, &front, bindings)
+    send_of(users, &envelope, &front, bindings)
 }
 
 /// The Response to what was taken, with the longest front of these bindings that has room.
 pub(crate) fn send_response_front<B: Spelled>(
-    alloc: Global,
     users: &mut Users,
     engine: &EngineId,
     own: Pair,
@@ -129,5 +126,5 @@ pub(crate) fn send_response_front<B: Spelled>(
 {
     let envelope = envelope(engine, own, taken, response);
     let front = front(taken, response);
-    send_front(alloc, users, &envelope, &front, bindings, limit)
+    send_front(users, &envelope, &front, bindings, limit)
 }

@@ -302,7 +302,7 @@ impl Manager {
             user,
             salt,
         };
-        let text = send_of(self.alloc, &mut self.users, &envelope, front, bindings)?;
+        let text = send_of(&mut self.users, &envelope, front, bindings)?;
         match Pending::of(self.alloc, &envelope, front) {
             Ok(pending) => Ok((text, pending)),
             Err(_) => Err(TakeFault::OutOfMemory),
@@ -335,7 +335,7 @@ impl Manager {
             user: &[],
             salt: [0; 8],
         };
-        let text = match send_plain(self.alloc, &self.users, &envelope, &body) {
+        let text = match send_plain(&self.users, &envelope, &body) {
             Ok(text) => text,
             Err(TakeFault::TooLarge) => unreachable!(),
             Err(_) => return Err(AllocError),

@@ -18,8 +18,8 @@ mod whole;
 pub use binding::{Binding, Bindings, VarBind, read_binding};
 pub use fault::CanonFault;
 pub use laws::{canonical_again, one_pdu, one_whole, pdu_written_again};
-pub use list::{Spelled, binding_len};
-pub use pdu::{Pdu, read_pdu, write_pdu, write_pdu_of, written_pdu_len};
+pub use list::{Spelled, binding_len, bindings_len};
+pub use pdu::{Pdu, put_pdu_of, read_pdu, write_pdu, write_pdu_of, written_pdu_len};
 pub use pdu_type::{
     GET_BULK_REQUEST, GET_NEXT_REQUEST, GET_REQUEST, INFORM_REQUEST, REPORT, RESPONSE, SET_REQUEST,
     TRAP, is_pdu_tag,

@@ -129,8 +129,9 @@ fn put_binding<B: Spelled>(out: &mut Vec<u8>, binding: &B) -> Result<(), AllocEr
     put_tlv(out, binding.tag(), binding.content())
 }
 
-/// How many octets the bindings are written in, or None where they are more than a datagram can have.
-pub(crate) fn bindings_len<B: Spelled>(bindings: &[B]) -> Option<usize>
+/// How many octets the content of a list of these bindings is written in (RFC 3416, section 3), or None where they are more than a datagram
+/// can have, 65,507.
+pub fn bindings_len<B: Spelled>(bindings: &[B]) -> Option<usize>
     requires { All (λ b. B.fits b) bindings.now }
     ensures some { IfSome result (λ size. size ≡ length (variables_text (map B.says bindings.now))) }
     ensures most { IfSome result (λ size. size ≤ LARGEST) }

@@ -157,6 +157,44 @@ pub(crate) fn put_pdu_front(
     Ok(())
 }
 
+/// Appends a PDU with the tag and the numbers of `front` and with these bindings, whose list has `list_len` octets then.
+fn put_spelled<B: Spelled>(
+    out: &mut Vec<u8>,
+    front: &Pdu<'_>,
+    bindings: &[B],
+    list_len: usize,
+) -> Result<(), AllocError>
+    requires fit { All (λ b. B.fits b) bindings.now }
+    requires list { list_len ≡ length (variables_text (map B.says bindings.now)) }
+    requires within { list_len ≤ LARGEST }
+    ensures ok { OnOk result (out.new.items ≡ out.old.items ++ pdu_text (with_variables (pdu_of front.now) (map B.says bindings.now))) }
+{
+    put_pdu_front(out, front, list_len)?;
+    put_bindings(out, bindings)?;
+    Ok(())
+}
+
+/// Appends a PDU with these numbers and bindings, in the shortest spelling. The content of its list has `list_len` octets, as
+/// `bindings_len` tells.
+///
+/// The error is want of memory, and a front of the PDU may have been appended.
+pub fn put_pdu_of<B: Spelled>(
+    out: &mut Vec<u8>,
+    tag: u8,
+    id: i32,
+    second: i32,
+    third: i32,
+    bindings: &[B],
+    list_len: usize,
+) -> Result<(), AllocError>
+    requires fit { All (λ b. B.fits b) bindings.now }
+    requires list { list_len ≡ length (variables_text (map B.says bindings.now)) }
+    requires within { list_len ≤ LARGEST }
+    ensures ok { OnOk result (out.new.items ≡ out.old.items ++ pdu_text (pdu_with tag id second third (map B.says bindings.now))) }
+{
+    put_spelled(out, &numbered(tag, id, second, third), bindings, list_len)
+}
+
 /// Writes a PDU with these bindings, whose list has `list_len` octets then, into `size` octets of memory.
 fn spell_pdu<B: Spelled>(
     alloc: Global,
@@ -171,8 +209,7 @@ fn spell_pdu<B: Spelled>(
     ensures { IfOk result (λ v. v.items ≡ pdu_text (with_variables (pdu_of front.now) (map B.says bindings.now))) }
 {
     let mut out = Vec::with_capacity(alloc, size)?;
-    put_pdu_front(&mut out, front, list_len)?;
-    put_bindings(&mut out, bindings)?;
+    put_spelled(&mut out, front, bindings, list_len)?;
     Ok(out)
 }
 

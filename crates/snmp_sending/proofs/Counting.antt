@@ -4,11 +4,11 @@ use Rattle.std.specs.Prelude.{map, leb}
 use Rattle.std.proofs.lemmas.Bool.Decides.{leb_tells}
 use Rattle.snmp_ber.specs.Spelling.{head_size, element}
 use Rattle.snmp_message.specs.declared.header.Header.{Header}
-use Rattle.snmp_message.specs.Scoped.{contexts_text, scoped_text, contexts_size}
+use Rattle.snmp_message.specs.Scoped.{contexts_text, scoped_text}
 use Rattle.snmp_message.proofs.Lengths.{head_between}
 use Rattle.snmp_message.proofs.Scopeds.{contexts_text-length, scoped_text-size, scoped_text-longer}
 use Rattle.snmp_msg.specs.Variables.{Variable, variables_text}
-use Rattle.snmp_msg.specs.Pdu.{pdu_text, pdu_content_text}
+use Rattle.snmp_msg.specs.Pdu.{pdu_text}
 use Rattle.snmp_msg.proofs.Pdus.{pdu_text-longer}
 use Rattle.usm_users.specs.User.{User}
 use Rattle.usm_core.specs.Sealed.{Sending, sending, SealedText}

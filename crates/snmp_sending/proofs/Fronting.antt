@@ -1,7 +1,6 @@
 -- Fronts of bindings that are sent.
-use Rattle.std.proofs.Common.{◌≡◌, ◌⊎◌, inl, inr, ℕ, ◌<◌, ◌≤◌, List, [], length, true, refl, subst, arith, rules}
-use Rattle.std.specs.Prelude.{Result, Ok, Err, Option, Some, None, IfSome, IsSomeAnd, option_map}
-use Rattle.snmp_ber.specs.declared.level.Level.{Level}
+use Rattle.std.proofs.Common.{inl, ℕ, ◌≤◌, List, [], length, subst, arith, rules}
+use Rattle.std.specs.Prelude.{Result, Ok, Err, Option, Some, None, IfSome, option_map}
 use Rattle.snmp_message.specs.Level.{level_of}
 use Rattle.snmp_ber.specs.Element.{IsElement}
 use Rattle.snmp_ber.proofs.Spellings.{element-is}
@@ -17,7 +16,7 @@ use Rattle.snmp_outcome.specs.declared.fault.TakeFault.TheVariants.{NotMessage, 
 use Rattle.snmp_outcome.specs.Refusals.{answer_number}
 use Rattle.snmp_sending.specs.declared.envelope.Envelope.{Envelope}
 use Rattle.snmp_sending.specs.declared.front.Front.{Front}
-use Rattle.snmp_sending.specs.Bodies.{has_auth, pdu_after, scoped_after}
+use Rattle.snmp_sending.specs.Bodies.{pdu_after, scoped_after}
 use Rattle.snmp_sending.specs.Sends.{RefusesSender, sent_with}
 use Rattle.snmp_sending.specs.Fronts.{FrontText, SealsFront}
 use Rattle.snmp_sending.proofs.Levels.{flags_at, level_at, element_longer}

@@ -3,8 +3,6 @@ use Rattle.std.proofs.Common.{◌≡◌, ℕ, ◌<◌, ◌≤◌, List, true, le
 use Rattle.std.specs.Prelude.{Result, Ok, Err, Option, Some, None, IfSome, IsSomeAnd, IsErrOf, IsErrAnd, option_map}
 use Rattle.std.specs.Global.{Vec}
 use Rattle.snmp_ber.specs.declared.level.Level.{Level}
-use Rattle.snmp_message.specs.declared.fault.WriteFault.{WriteFault}
-use Rattle.snmp_message.specs.declared.fault.WriteFault.TheVariants as write
 use Rattle.snmp_message.specs.declared.refusal.Refusal.{Refusal}
 use Rattle.snmp_message.specs.declared.refusal.Refusal.TheVariants as refusals
 use Rattle.snmp_message.specs.Level.{level_of}
@@ -14,7 +12,7 @@ use Rattle.usm_core.specs.declared.fault.UsmFault.TheVariants.{NotMessage, BadVe
 use Rattle.usm_users.specs.Users.{user_named, HasUserAt}
 use Rattle.usm_core.specs.Refusals.{Supports, refusal_of}
 use Rattle.usm_core.specs.Table.{holds, fails}
-use Rattle.usm_core.specs.Answers.{seal_answer, write_fault}
+use Rattle.usm_core.specs.Answers.{seal_answer}
 use Rattle.usm_core.specs.Sealed.{Sending, SealedText, Seals, IsSealable}
 use Rattle.snmp_outcome.specs.declared.fault.TakeFault.{TakeFault}
 use Rattle.snmp_outcome.specs.declared.fault.TakeFault.TheVariants as take
@@ -91,27 +89,10 @@ module _ (users : List User) (m : Sending) (level : Level) (flags : m.header.pri
     -- ---- a body that is too long by itself
 
     module _ (least : (text : List ℕ) → SealedText users m text → length m.scoped ≤ length text) where
-      too_large : 65507 < length m.scoped → Seals users m (Err 16)
+      pub too_large : 65507 < length m.scoped → Seals users m (Err 16)
       unfolding Seals
       too_large long =
           holds flags (holds (λ auth. known (user_named users m.user) _ (at_level auth)) (holds at_level (refl, λ text s. let l = least text s in omega (arith, l, long))))
-
-      write_rows : (fault : WriteFault) → (IsErrOf {T = Vec ℕ} (Err fault) write.TooLarge → 65507 < length m.scoped) → IfSome (seal_answer (Err (write_fault fault))) (Seals users m)
-      write_rows write.TooLarge long = too_large (long refl)
-      write_rows write.OutOfMemory long = tt
-
-      pub told_write : (r : Result (Vec ℕ) UsmFault) (fault : WriteFault) → IsErrAnd r (λ e. e ≡ write_fault fault)
-          → (IsErrOf {T = Vec ℕ} (Err fault) write.TooLarge → 65507 < length m.scoped) → IfSome (seal_answer r) (Seals users m)
-      told_write (Ok v) fault e long = absurd e
-      told_write (Err other) fault e long = subst (λ (f : UsmFault). IfSome (seal_answer (Err f)) (Seals users m)) (sym e) (write_rows fault long)
-
-write_large : (fault : WriteFault) → write_fault fault ≡ TooLarge → fault ≡ write.TooLarge
-write_large write.TooLarge e = refl
-write_large write.OutOfMemory e = cc e
-
-pub write_too_large : (r : Result (Vec ℕ) UsmFault) (fault : WriteFault) → IsErrAnd r (λ e. e ≡ write_fault fault) → IsErrOf r TooLarge → IsErrOf {T = Vec ℕ} (Err fault) write.TooLarge
-write_too_large (Ok v) fault e is = absurd e
-write_too_large (Err other) fault e is = err_is fault write.TooLarge (write_large fault (sym e ∙ same_err other TooLarge is))
 
 -- ---- the same refusal, told as the engine's
 

@@ -3,7 +3,7 @@ use Rattle.std.specs.Prelude.{ℕ, Bool, true, false, List, map, All}
 use Rattle.snmp_ber.specs.declared.level.Level.{Level}
 use Rattle.snmp_ber.specs.declared.level.Level.TheVariants.{NoAuthNoPriv, AuthNoPriv, AuthPriv}
 use Rattle.snmp_message.specs.declared.header.Header.{Header}
-use Rattle.snmp_message.specs.Scoped.{scoped_text}
+use Rattle.snmp_message.specs.Scoped.{contexts_text, scoped_text}
 use Rattle.snmp_msg.specs.Variables.{Variable, CanBeWritten, variable_of}
 use Rattle.snmp_msg.specs.Pdu.{PduParts, IsPduTag, pdu_with, pdu_text}
 use Rattle.snmp_sending.specs.declared.body.Body.{Body}
@@ -46,6 +46,10 @@ variables_in b = map variable_of b.bindings.now
 -- the PDU and the ScopedPDU of a front and bindings
 abbrev pub pdu_after : Front → List Variable → PduParts
 pdu_after f vs = pdu_with f.tag f.id f.second f.third vs
+
+-- the content of that ScopedPDU
+abbrev pub contexts_after : Front → List Variable → List ℕ
+contexts_after f vs = contexts_text f.context_engine.now f.context_name.now (pdu_text (pdu_after f vs))
 
 abbrev pub scoped_after : Front → List Variable → List ℕ
 scoped_after f vs = scoped_text f.context_engine.now f.context_name.now (pdu_text (pdu_after f vs))

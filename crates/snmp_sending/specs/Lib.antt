@@ -1,6 +1,7 @@
 pub mod Classes
 pub mod Counters
 pub mod Bodies
+pub mod Scopeds
 pub mod Sends
 pub mod UpTo
 pub mod Speaks

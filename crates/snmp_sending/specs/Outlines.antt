@@ -1,12 +1,10 @@
 -- Messages of which all but the bindings is known, by their sizes.
 use Rattle.std.specs.Prelude.{ℕ, ◌≤◌, List, length}
-use Rattle.snmp_message.specs.Scoped.{contexts_text}
 use Rattle.snmp_message.specs.Spelling.{HeaderFits}
 use Rattle.snmp_msg.specs.Variables.{Variable}
-use Rattle.snmp_msg.specs.Pdu.{pdu_text}
 use Rattle.usm_core.specs.Sizes.{data_size, whole_size}
 use Rattle.snmp_sending.specs.declared.count.Outline.{Outline}
-use Rattle.snmp_sending.specs.Bodies.{pdu_after}
+use Rattle.snmp_sending.specs.Bodies.{contexts_after}
 
 -- Its parts can stand in a datagram.
 pub record OutlineFits (o : Outline) : Type 0 where
@@ -17,7 +15,7 @@ pub record OutlineFits (o : Outline) : Type 0 where
 
 -- the content of its ScopedPDU with these bindings
 abbrev pub content_size : Outline → List Variable → ℕ
-content_size o vs = length (contexts_text o.front.now.context_engine.now o.front.now.context_name.now (pdu_text (pdu_after o.front.now vs)))
+content_size o vs = length (contexts_after o.front.now vs)
 
 -- The content of its msgData can stand in a datagram, and the whole has at most so many octets.
 pub record HasAtMost (o : Outline) (limit : ℕ) (vs : List Variable) : Type 0 where

@@ -1,14 +1,11 @@
 //! Bodies of messages: contexts and a PDU.
 
-ghost use Rattle.std.specs.Prelude.{◌≡◌, ◌<◌, ℕ, List, All, length, map, IfOk, IsErrOf};
-ghost use Rattle.snmp_ber.specs.Element.{IsElement};
-ghost use Rattle.snmp_msg.specs.Pdu.{IsPduTag, IsSpelled};
+ghost use Rattle.std.specs.Prelude.{◌≡◌, map};
 ghost use Rattle.snmp_msg.specs.Variables.{variable_of};
 ghost use Rattle.snmp_sending.specs.Bodies.{pdu_in, scoped_of, front_in, pdu_after, scoped_after};
 
 use crate::front::Front;
-use snmp_msg::{Binding, LARGEST, Spelled, WriteFault, write_pdu_of, write_scoped};
-use std::alloc::Global;
+use snmp_msg::Binding;
 
 /// What a message says: a ScopedPDU (RFC 3412, section 6.8) with a PDU (RFC 3416, section 3).
 ///
@@ -47,34 +44,5 @@ impl<'a> Body<'a> {
             second: self.second,
             third: self.third,
         }
-    }
-}
-
-/// The ScopedPDU, in its shortest spelling.
-///
-/// The errors are TooLarge (16), where it is longer than 65,507 octets, and OutOfMemory.
-pub(crate) fn write_body<B: Spelled>(
-    alloc: Global,
-    front: &Front<'_>,
-    bindings: &[B],
-) -> Result<Vec<u8>, WriteFault>
-    requires tag { IsPduTag front.now.tag }
-    requires fit { All (λ b. B.fits b) bindings.now }
-    ensures ok { IfOk result (λ v. v.items ≡ scoped_after front.now (map B.says bindings.now)) }
-    ensures element { IfOk result (λ v. (content : List ℕ) × IsElement 48 content v.items) }
-    ensures spelled { IfOk result (λ _. IsSpelled (pdu_after front.now (map B.says bindings.now))) }
-    ensures too_large { IsErrOf result WriteFault.TooLarge → LARGEST < length (scoped_after front.now (map B.says bindings.now)) }
-{
-    let pdu = write_pdu_of(
-        alloc,
-        front.tag,
-        front.id,
-        front.second,
-        front.third,
-        bindings,
-    );
-    match pdu {
-        Ok(pdu) => write_scoped(alloc, front.context_engine, front.context_name, &pdu),
-        Err(fault) => Err(fault),
     }
 }

@@ -10,8 +10,8 @@ ghost use Rattle.snmp_sending.specs.Outlines.{OutlineFits, HasAtMost, content_si
 
 use crate::envelope::Envelope;
 use crate::front::Front;
-use snmp_message::{contexts_len, element_len, message_len};
-use snmp_msg::{Header, LARGEST, Spelled, binding_len, written_pdu_len};
+use snmp_message::{element_len, message_len};
+use snmp_msg::{Header, LARGEST, Spelled, binding_len};
 use usm_core::{Users, sealed_size};
 
 /// What is known of a message besides its bindings.
@@ -24,25 +24,13 @@ struct Outline<'a> {
 }
 
 impl<'a> Outline<'a> {
-    /// How many octets the content of its ScopedPDU has, with a list of bindings of this size.
-    fn content_len(&self, list_len: usize) -> usize
-        requires fits { OutlineFits self.now }
-        requires list { list_len ≤ LARGEST }
-        ensures size { (vs : List Variable) → length (variables_text vs) ≡ list_len → result ≡ content_size self.now vs }
-        ensures most { result ≤ 6 * LARGEST }
-    {
-        let front = self.front;
-        let pdu_len = written_pdu_len(front.id, front.second, front.third, list_len);
-        contexts_len(front.context_engine, front.context_name, pdu_len)
-    }
-
     /// How many octets the content of its msgData has, with a list of bindings of this size.
     fn data_len(&self, list_len: usize) -> usize
         requires fits { OutlineFits self.now }
         requires list { list_len ≤ LARGEST }
         ensures size { (vs : List Variable) → length (variables_text vs) ≡ list_len → result ≡ data_size self.now.header.privacy (content_size self.now vs) }
     {
-        let content_len = self.content_len(list_len);
+        let content_len = self.front.content_len(list_len);
         if self.header.privacy {
             element_len(content_len)
         } else {

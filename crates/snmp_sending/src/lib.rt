@@ -8,6 +8,7 @@ mod counter;
 mod envelope;
 mod front;
 mod laws;
+mod measured;
 mod sending;
 
 pub use body::Body;

@@ -12,14 +12,14 @@ ghost use Rattle.snmp_sending.specs.Fronts.{SealsFront, front_answer, room};
 ghost use Rattle.snmp_msg.specs.Pdu.{IsPduTag, IsSpelled};
 ghost use Rattle.snmp_sending.specs.Bodies.{has_auth, scoped_of, pdu_in, scoped_after, pdu_after, BodyFits};
 
-use crate::body::{Body, write_body};
+use crate::body::Body;
 use crate::count::count_within;
 use crate::envelope::Envelope;
 use crate::front::{Front, Fronted};
+use crate::measured::Measured;
 use snmp_ber::Level;
 use snmp_msg::{LARGEST, Spelled};
 use snmp_outcome::TakeFault;
-use std::alloc::Global;
 use usm_core::{Users, UsmFault, sealed_size, some_sealed};
 
 /// At a level with authentication, there is a user of this name that supports it.
@@ -51,7 +51,6 @@ pub fn supports(users: &Users, user: &[u8], level: Level) -> Result<(), TakeFaul
 
 /// The text of the message, as `send` says.
 fn seal_body<B: Spelled>(
-    alloc: Global,
     users: &mut Users,
     envelope: &Envelope<'_>,
     front: &Front<'_>,
@@ -69,8 +68,10 @@ fn seal_body<B: Spelled>(
 {
     sealed_size();
     has_user(users, envelope.user, envelope.level)?;
-    let scoped = write_body(alloc, front, bindings)?;
-    users.seal(
+    let Some(scoped) = Measured::of(front, bindings) else {
+        return Err(UsmFault::TooLarge);
+    };
+    users.seal_of(
         &envelope.header(),
         envelope.engine,
         envelope.pair,
@@ -86,7 +87,6 @@ fn seal_body<B: Spelled>(
 /// body is written; then TooLarge (16), only where the text would be longer than 65,507 octets, or OutOfMemory, whichever is
 /// met first.
 pub fn send(
-    alloc: Global,
     users: &mut Users,
     envelope: &Envelope<'_>,
     body: &Body<'_>,
@@ -104,14 +104,13 @@ pub fn send(
     ensures short { IsErrOf result TakeFault.TooLarge → LARGEST < 150 + length envelope.now.engine.now + length envelope.now.user.now + length (scoped_of body.now) }
     ensures users { users.new.users ≡ users.old.users }
 {
-    send_of(alloc, users, envelope, &body.front(), body.bindings)
+    send_of(users, envelope, &body.front(), body.bindings)
 }
 
 /// The same, of bindings in any form that can be written: `VariableBinding` is the quick one, of which only the tags are asked.
 ///
 /// The errors are those of `send`, in its order.
 pub fn send_of<B: Spelled>(
-    alloc: Global,
     users: &mut Users,
     envelope: &Envelope<'_>,
     front: &Front<'_>,
@@ -127,7 +126,7 @@ pub fn send_of<B: Spelled>(
     ensures short { IsErrOf result TakeFault.TooLarge → LARGEST < 150 + length envelope.now.engine.now + length envelope.now.user.now + length (scoped_after front.now (map B.says bindings.now)) }
     ensures users { users.new.users ≡ users.old.users }
 {
-    match seal_body(alloc, users, envelope, front, bindings) {
+    match seal_body(users, envelope, front, bindings) {
         Ok(text) => Ok(text),
         Err(fault) => Err(fault.into()),
     }
@@ -148,7 +147,6 @@ fn room(limit: usize) -> usize
 /// The errors are those of `send` before the text; then TooLarge (16), exactly where even the text without bindings has more octets than
 /// `limit`, or than 65,507; and OutOfMemory.
 pub fn send_front<B: Spelled>(
-    alloc: Global,
     users: &mut Users,
     envelope: &Envelope<'_>,
     front: &Front<'_>,
@@ -173,19 +171,14 @@ pub fn send_front<B: Spelled>(
     let Some(count) = count_within(users, envelope, front, bindings, room(limit)) else {
         return Err(TakeFault::TooLarge);
     };
-    match send_of(alloc, users, envelope, front, &bindings[..count]) {
+    match send_of(users, envelope, front, &bindings[..count]) {
         Ok(text) => Ok(Fronted { text, count }),
         Err(fault) => Err(fault),
     }
 }
 
 /// The text of the message, as `plain` says.
-fn seal_plain(
-    alloc: Global,
-    users: &Users,
-    envelope: &Envelope<'_>,
-    body: &Body<'_>,
-) -> Result<Vec<u8>, UsmFault>
+fn seal_plain(users: &Users, envelope: &Envelope<'_>, body: &Body<'_>) -> Result<Vec<u8>, UsmFault>
     requires id { envelope.now.id ≤ 2147483647 }
     requires user { length envelope.now.user.now ≤ 32 }
     requires level { envelope.now.level ≡ NoAuthNoPriv }
@@ -194,7 +187,9 @@ fn seal_plain(
     ensures short { IsErrOf result UsmFault.TooLarge → LARGEST < 150 + length envelope.now.engine.now + length envelope.now.user.now + length (scoped_of body.now) }
 {
     sealed_size();
-    let scoped = write_body(alloc, &body.front(), body.bindings)?;
+    let Some(scoped) = Measured::of(&body.front(), body.bindings) else {
+        return Err(UsmFault::TooLarge);
+    };
     users.write_plain(
         &envelope.header(),
         envelope.engine,
@@ -208,7 +203,6 @@ fn seal_plain(
 ///
 /// The errors are TooLarge (16), only where the text would be longer than 65,507 octets, and OutOfMemory.
 pub fn send_plain(
-    alloc: Global,
     users: &Users,
     envelope: &Envelope<'_>,
     body: &Body<'_>,
@@ -220,7 +214,7 @@ pub fn send_plain(
     ensures rows { IfSome (send_answer result) (Seals users.now.users (sent envelope.now body.now)) }
     ensures short { IsErrOf result TakeFault.TooLarge → LARGEST < 150 + length envelope.now.engine.now + length envelope.now.user.now + length (scoped_of body.now) }
 {
-    match seal_plain(alloc, users, envelope, body) {
+    match seal_plain(users, envelope, body) {
         Ok(text) => Ok(text),
         Err(fault) => Err(fault.into()),
     }

@@ -14,6 +14,7 @@ ghost use Rattle.usm_core.specs.Writing.{sending_of};
 
 use crate::cache::{KeyCache, Purpose};
 use crate::cached_key::CachedKey;
+use crate::scoped_pdu::ScopedPdu;
 use crate::spell::{Outgoing, code_place};
 use snmp_message::{Message, Security, cut, field_filled, one_cut};
 use usm_keys::{KeptKey, Key, localise};
@@ -105,19 +106,19 @@ fn put_code(text: &mut Vec<u8>, at: usize, size: usize, local: &KeptKey)
 
 /// Puts the code in the place of the zeros, in the text itself, under the key localised to the message's engine. The content of
 /// its msgData has `data_len` octets.
-pub(crate) fn fill(
+pub(crate) fn fill<S: ScopedPdu>(
     text: &mut Vec<u8>,
     key: &Key,
     local: &KeptKey,
-    outgoing: &Outgoing<'_>,
+    outgoing: &Outgoing<'_, S>,
     data_len: usize,
 )
     requires local { local.now ≡ localised_to outgoing.now.engine.now key.now }
-    requires fits { SendingFits (sending_of outgoing.now) }
-    requires text { (tag : ℕ) × (content : List ℕ) × (length content ≡ data_len) × (text.old.items ≡ spelled_with (sending_of outgoing.now) tag content (replicate (mac_octets key.now.auth) 0)) }
+    requires fits { SendingFits (sending_of S.octets outgoing.now) }
+    requires text { (tag : ℕ) × (content : List ℕ) × (length content ≡ data_len) × (text.old.items ≡ spelled_with (sending_of S.octets outgoing.now) tag content (replicate (mac_octets key.now.auth) 0)) }
     requires size { length text.old.items ≤ LARGEST }
-    ensures filled { (tag : ℕ) (content : List ℕ) → length content ≡ data_len → text.old.items ≡ spelled_with (sending_of outgoing.now) tag content (replicate (mac_octets key.now.auth) 0)
-        → text.new.items ≡ spelled_with (sending_of outgoing.now) tag content (digest_of key.now (sending_of outgoing.now) tag content) }
+    ensures filled { (tag : ℕ) (content : List ℕ) → length content ≡ data_len → text.old.items ≡ spelled_with (sending_of S.octets outgoing.now) tag content (replicate (mac_octets key.now.auth) 0)
+        → text.new.items ≡ spelled_with (sending_of S.octets outgoing.now) tag content (digest_of key.now (sending_of S.octets outgoing.now) tag content) }
     ensures length { length text.new.items ≡ length text.old.items }
 {
     field_filled();

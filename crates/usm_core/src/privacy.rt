@@ -18,6 +18,7 @@ use crate::cache::{KeyCache, Purpose};
 use crate::cached_key::CachedKey;
 use crate::checked::Checked;
 use crate::fault::UsmFault;
+use crate::scoped_pdu::ScopedPdu;
 use crate::spell::Outgoing;
 use snmp_message::Security;
 use std::alloc::{AllocError, Global};
@@ -67,14 +68,19 @@ fn user_schedule(users: &UserTable, cache: &mut KeyCache, name: &[u8], engine: &
 }
 
 /// Enciphers the ScopedPDU where it stands, at the end of the text.
-pub(crate) fn seal_end(schedule: &Schedule, outgoing: &Outgoing<'_>, text: &mut Vec<u8>)
-    requires { (front : List ℕ) × (text.old.items ≡ front ++ outgoing.now.scoped.now) }
-    ensures sealed { (front octets : List ℕ) → text.old.items ≡ front ++ outgoing.now.scoped.now
-        → IsSealed (enciphered schedule.now) (iv_of outgoing.now.boots outgoing.now.time outgoing.now.salt) outgoing.now.scoped.now octets
+pub(crate) fn seal_end<S: ScopedPdu>(
+    schedule: &Schedule,
+    outgoing: &Outgoing<'_, S>,
+    text: &mut Vec<u8>,
+)
+    requires fits { S.fits outgoing.now.scoped.now }
+    requires end { (front : List ℕ) × (text.old.items ≡ front ++ S.octets outgoing.now.scoped.now) }
+    ensures sealed { (front octets : List ℕ) → text.old.items ≡ front ++ S.octets outgoing.now.scoped.now
+        → IsSealed (enciphered schedule.now) (iv_of outgoing.now.boots outgoing.now.time outgoing.now.salt) (S.octets outgoing.now.scoped.now) octets
         → text.new.items ≡ front ++ octets }
     ensures length { length text.new.items ≡ length text.old.items }
 {
-    let at = text.len() - outgoing.scoped.len();
+    let at = text.len() - outgoing.scoped.octets_len();
     let iv = iv(outgoing.boots, outgoing.time, &outgoing.salt);
     cfb_seal(schedule, iv, &mut text[at..]);
 }

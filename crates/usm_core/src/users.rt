@@ -15,6 +15,7 @@ ghost use Rattle.usm_core.specs.Answers.{side_of, checked_answer, verified_of, s
 ghost use Rattle.usm_users.specs.Rows.{AreSound, IsTold, user_of};
 ghost use Rattle.usm_core.specs.Refusals.{Supports};
 ghost use Rattle.usm_core.specs.Sealed.{sending, Seals, IsSendable, IsSealable, IsPlaintext};
+ghost use Rattle.snmp_message.specs.Spelling.{HeaderFits};
 ghost use Rattle.usm_core.specs.Writing.{IsWriteFault};
 ghost use Rattle.usm_core.specs.declared.fault.UsmFault.TheVariants.{UnknownUser, DecryptionError, OutOfMemory};
 
@@ -23,6 +24,7 @@ use crate::checked::{Checked, Role};
 use crate::fault::UsmFault;
 use crate::laws::{has_engine, sealed_size, some_sealed};
 use crate::privacy::open_for;
+use crate::scoped_pdu::{ScopedOctets, ScopedPdu};
 use crate::seal::{seal_for, seal_open};
 use crate::spell::Outgoing;
 use crate::verify::verify;
@@ -214,6 +216,30 @@ impl Users {
         ensures short { IsErrOf result UsmFault.TooLarge → LARGEST < 150 + length engine.now + length user.now + length scoped.now }
         ensures users { self.new.users ≡ self.old.users }
     {
+        self.seal_of(header, engine, pair, user, salt, &ScopedOctets::of(scoped))
+    }
+
+    /// The same, of a ScopedPDU that is written where it stands in the message. The memory of the text is asked for once, and no octet
+    /// of it is copied from another text.
+    ///
+    /// The errors are those of `seal`, in its order.
+    pub fn seal_of<S: ScopedPdu>(
+        &mut self,
+        header: &Header,
+        engine: &[u8],
+        pair: Pair,
+        user: &[u8],
+        salt: [u8; 8],
+        scoped: &S,
+    ) -> Result<Vec<u8>, UsmFault>
+        requires header { HeaderFits header.now }
+        requires user { length user.now ≤ 32 }
+        requires scoped { S.fits scoped.now }
+        ensures rows { IfSome (seal_answer result) (Seals self.old.users (sending header.now engine.now pair user.now salt (S.octets scoped.now))) }
+        ensures memory { IsErrOf result UsmFault.OutOfMemory → IsSealable self.old.users (sending header.now engine.now pair user.now salt (S.octets scoped.now)) }
+        ensures short { IsErrOf result UsmFault.TooLarge → LARGEST < 150 + length engine.now + length user.now + length (S.octets scoped.now) }
+        ensures users { self.new.users ≡ self.old.users }
+    {
         some_sealed();
         sealed_size();
         let outgoing = Outgoing {
@@ -231,20 +257,22 @@ impl Users {
     /// The text of an outgoing message without auth, for which no key is looked up: what `seal` gives at noAuthNoPriv.
     ///
     /// The errors are TooLarge (16), only where the text would be longer than 65,507 octets, and OutOfMemory.
-    pub fn write_plain(
+    pub fn write_plain<S: ScopedPdu>(
         &self,
         header: &Header,
         engine: &[u8],
         pair: Pair,
         user: &[u8],
-        scoped: &[u8],
+        scoped: &S,
     ) -> Result<Vec<u8>, UsmFault>
-        requires fits { IsSendable header.now user.now scoped.now }
+        requires header { HeaderFits header.now }
+        requires user { length user.now ≤ 32 }
+        requires scoped { S.fits scoped.now }
         requires auth { header.now.auth ≡ false }
         requires privacy { header.now.privacy ≡ false }
-        ensures rows { IfSome (seal_answer result) (Seals self.now.users (sending header.now engine.now pair user.now (replicate 8 0) scoped.now)) }
+        ensures rows { IfSome (seal_answer result) (Seals self.now.users (sending header.now engine.now pair user.now (replicate 8 0) (S.octets scoped.now))) }
         ensures fault { IfErr result IsWriteFault }
-        ensures short { IsErrOf result UsmFault.TooLarge → LARGEST < 150 + length engine.now + length user.now + length scoped.now }
+        ensures short { IsErrOf result UsmFault.TooLarge → LARGEST < 150 + length engine.now + length user.now + length (S.octets scoped.now) }
     {
         some_sealed();
         sealed_size();

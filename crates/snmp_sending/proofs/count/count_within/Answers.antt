@@ -1,12 +1,10 @@
-use Rattle.std.proofs.Common.{◌≡◌, ◌+◌, ◌<◌, ◌≤◌, ◌⊎◌, inl, inr, ℕ, List, [], length, map, take, refl, ap, sym, subst, ◌∙◌, arith, rules}
+use Rattle.std.proofs.Common.{◌≡◌, ◌+◌, ◌<◌, ◌≤◌, ◌⊎◌, inl, inr, ℕ, List, [], length, map, take, refl, ap, sym, subst, arith, rules}
 use Rattle.std.proofs.lemmas.List.{length-map}
 use Rattle.snmp_msg.specs.Variables.{Variable}
 use Rattle.snmp_msg.proofs.Written.{no_text}
-use Rattle.usm_core.specs.Sealed.{SealedText}
 use Rattle.snmp_sending.specs.declared.count.Outline.{Outline}
 use Rattle.snmp_sending.specs.Bodies.{scoped_after}
 use Rattle.snmp_sending.specs.Sends.{sent_with}
-use Rattle.snmp_sending.specs.Outlines.{OutlineFits, HasAtMost}
 use Rattle.snmp_sending.specs.Fronts.{IsWithin, IsBeyond}
 use Rattle.snmp_sending.proofs.Counting.{within, beyond, scoped_short, contexts_least, take_map}
 use Rattle.snmp_sending.proofs.count.count_within.Goals as goal

@@ -1,10 +1,8 @@
-use Rattle.std.proofs.Common.{◌≡◌, ◌⊎◌, inr, ◌<◌, ◌≤◌, ◌^◌, ℕ, List, [], length, map, take, true, refl, ap, sym, subst, ◌∙◌, arith, rules}
-use Rattle.std.specs.Prelude.{Result, Ok, Err}
-use Rattle.snmp_ber.proofs.Spellings.{element-is}
+use Rattle.std.proofs.Common.{◌≡◌, inr, ℕ, List, [], length, map, take, refl, sym, subst, arith, rules}
+use Rattle.std.specs.Prelude.{Ok}
 use Rattle.snmp_msg.specs.Pdu.{IsSpelled}
 use Rattle.snmp_msg.specs.Variables.{Variable}
-use Rattle.usm_users.specs.Users.{HasUserAt}
-use Rattle.usm_core.specs.Sealed.{Sending, SendingFits, SealedText, Seals, IsSealable}
+use Rattle.usm_core.specs.Sealed.{Sending, SendingFits, Seals, IsSealable}
 use Rattle.snmp_outcome.specs.Refusals.{answer_number}
 use Rattle.snmp_sending.specs.Bodies.{pdu_after, scoped_after}
 use Rattle.snmp_sending.specs.Sends.{sent_with}

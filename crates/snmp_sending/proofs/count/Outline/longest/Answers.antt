@@ -1,4 +1,4 @@
-use Rattle.std.proofs.Common.{◌≡◌, ◌+◌, ◌<◌, ◌≤◌, ℕ, List, length, map, take, refl, ap, sym, ◌∙◌, subst, arith, rules}
+use Rattle.std.proofs.Common.{◌≡◌, ◌+◌, ℕ, length, map, take, refl, ap, sym, subst, arith, rules}
 use Rattle.snmp_msg.specs.Variables.{variables_text}
 use Rattle.snmp_msg.proofs.Written.{no_text, text_more_length}
 use Rattle.snmp_sending.specs.Outlines.{HasAtMost}

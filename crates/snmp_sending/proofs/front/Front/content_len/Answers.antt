@@ -1,15 +1,15 @@
-use Rattle.std.proofs.Common.{◌≡◌, ℕ, List, length, sym, ap, ◌∙◌, arith, rules, w32, SFits}
+use Rattle.std.proofs.Common.{ℕ, length, sym, ap, ◌∙◌, rules, w32, SFits}
 use Rattle.std.proofs.lemmas.Int.{to_z-of_z}
 use Rattle.snmp_message.specs.Scoped.{contexts_size}
 use Rattle.snmp_message.proofs.Scopeds.{contexts_text-length}
 use Rattle.snmp_msg.specs.Pdu.{pdu_text}
 use Rattle.snmp_msg.specs.Variables.{variables_text}
 use Rattle.snmp_sending.specs.Bodies.{pdu_after}
-use Rattle.snmp_sending.proofs.count.Outline.content_len.Goals as goal
+use Rattle.snmp_sending.proofs.front.Front.content_len.Goals as goal
 
 pub returns-clause-size : goal.returns-clause-size
 returns-clause-size c = λ vs size.
-    let f = c.args.self.now.front.now in
+    let f = c.args.self.now in
     let id : SFits w32 f.id = search rules in
     let second : SFits w32 f.second = search rules in
     let third : SFits w32 f.third = search rules in
