@@ -1,5 +1,5 @@
 -- Fronts of bindings, of one message told in two ways.
-use Rattle.std.proofs.Common.{◌≡◌, ◌⊎◌, inl, inr, ℕ, ◌<◌, ◌≤◌, ◌+◌, ◌-◌, List, [], length, take, sym, subst, Result, Ok, Err, Option, Some, None}
+use Rattle.std.proofs.Common.{◌≡◌, inl, inr, ℕ, ◌≤◌, ◌+◌, ◌-◌, List, [], take, subst, Result, Ok, Err, Option, Some, None}
 use Rattle.std.specs.Prelude.{IfSome, IfOk}
 use Rattle.snmp_msg.specs.Variables.{Variable}
 use Rattle.usm_users.specs.User.{User}

@@ -1,6 +1,6 @@
 -- The counters of messages that were refused without a report, that no application handled, or that had no answer short enough
 -- (RFC 3412, section 5; RFC 3413, section 4.1.2; RFC 3418).
-use Rattle.std.specs.Prelude.{ℕ, ◌+◌, ◌%◌, ◌^◌, ◌==◌, ◌||◌, if◌then◌else◌, List, [], ◌∷◌, slice_index, slice_set, Option, Some, None, Result, Ok, Err}
+use Rattle.std.specs.Prelude.{ℕ, ◌+◌, ◌%◌, ◌^◌, ◌==◌, ◌||◌, if◌then◌else◌, List, slice_index, slice_set, Option, Some, None, Result, Ok, Err}
 use Rattle.snmp_outcome.specs.Outcome.{Given}
 use Rattle.snmp_sending.specs.Counters.{place_of}
 use Rattle.snmp_sending.specs.declared.counter.Counter.{Counter}

@@ -1,11 +1,10 @@
-use Rattle.std.proofs.Common.{rules, ◌≡◌, length, List, ℕ, sym, ap, subst, ◌∙◌}
+use Rattle.std.proofs.Common.{rules, ◌≡◌, length, ap, subst, ◌∙◌}
 use Rattle.std.specs.Prelude.{map, IfOk, IfSome}
 use Rattle.snmp_msg.specs.Pdu.{PduParts, IsSpelled}
 use Rattle.usm_core.specs.Sealed.{Sending, Seals, IsSealable}
 use Rattle.snmp_outcome.specs.Answers.{given_of}
-use Rattle.snmp_sending.specs.Bodies.{scoped_after}
 use Rattle.snmp_sending.specs.Sends.{sent_with, send_answer}
-use Rattle.snmp_agent.specs.Sent.{response, responding}
+use Rattle.snmp_agent.specs.Sent.{response}
 use Rattle.snmp_agent.proofs.Accepted.{speech_fits}
 use Rattle.snmp_agent.proofs.response.send_response.Goals as goal
 

@@ -1,14 +1,14 @@
-use Rattle.std.proofs.Common.{rules, ◌≡◌, ◌≤◌, length, List, ℕ, [], sym, ap, subst, ◌∙◌, Ok, Err}
-use Rattle.std.specs.Prelude.{map, take, IfOk, IfSome}
-use Rattle.snmp_msg.specs.Pdu.{PduParts, IsSpelled}
+use Rattle.std.proofs.Common.{rules, ◌≡◌, ◌≤◌, length, List, ℕ, [], sym, ap, subst, ◌∙◌, Ok}
+use Rattle.std.specs.Prelude.{map, take}
+use Rattle.snmp_msg.specs.Pdu.{IsSpelled}
 use Rattle.snmp_msg.specs.Variables.{Variable}
-use Rattle.usm_core.specs.Sealed.{Sending, IsSealable}
+use Rattle.usm_core.specs.Sealed.{IsSealable}
 use Rattle.snmp_outcome.specs.declared.fault.TakeFault.{TakeFault}
 use Rattle.snmp_sending.specs.Speaks.{SpeechFits}
 use Rattle.snmp_outcome.specs.Answers.{given_of}
 use Rattle.snmp_sending.specs.Bodies.{pdu_after, scoped_after}
 use Rattle.snmp_sending.specs.Sends.{sent_with}
-use Rattle.snmp_sending.specs.Fronts.{SealsFront, front_answer}
+use Rattle.snmp_sending.specs.Fronts.{front_answer}
 use Rattle.snmp_agent.specs.Sent.{response, responding}
 use Rattle.snmp_agent.proofs.Accepted.{speech_fits}
 use Rattle.snmp_agent.proofs.Fronts.{same_message, fits_by}

@@ -1,4 +1,4 @@
-use Rattle.std.proofs.Common.{◌≡◌, List, [], subst, ap, arith, w32, SFits, rules}
+use Rattle.std.proofs.Common.{List, [], subst, ap, arith, w32, SFits, rules}
 use Rattle.std.specs.Prelude.{map, take, IfOk, IfSome}
 use Rattle.std.proofs.lemmas.Int.{to_z-of_z}
 use Rattle.snmp_msg.specs.Variables.{Variable}

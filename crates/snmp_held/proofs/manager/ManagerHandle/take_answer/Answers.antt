@@ -1,4 +1,4 @@
-use Rattle.std.proofs.Common.{◌≡◌, Option, Some, None, option_map, refl, subst, rules}
+use Rattle.std.proofs.Common.{◌≡◌, Option, None, option_map, refl, subst, rules}
 use Rattle.snmp_manager.specs.Replies.{IsAnswer}
 use Rattle.snmp_manager.specs.declared.pending.Pending.{Pending}
 use Rattle.snmp_manager.specs.declared.pending.Answer.{Answer}
