@@ -5,7 +5,7 @@ _snmpsec_place() {
   local at=2 place=1
   while [ "$at" -lt "$COMP_CWORD" ]; do
     case ${COMP_WORDS[at]} in
-      --context | --form | --from-line | --moment | --port) at=$((at + 1)) ;;
+      --context | --form | --from | --from-line | --moment | --port) at=$((at + 1)) ;;
       --*) ;;
       *) place=$((place + 1)) ;;
     esac
@@ -21,7 +21,11 @@ _snmpsec() {
     choices='show open check-access explain-access who-sees sees check-config import-snmpd replay merge-clocks check-clocks check-log datagrams manual version'
   else
     case ${COMP_WORDS[COMP_CWORD - 1]} in
-      --context | --form | --from-line | --moment | --port) return ;;
+      --from)
+        mapfile -t COMPREPLY < <(compgen -f -- "$word")
+        return
+        ;;
+      --context | --form | --from | --from-line | --moment | --port) return ;;
     esac
     case $command:$(_snmpsec_place) in
       open:1) files=yes ;;
@@ -51,8 +55,8 @@ _snmpsec() {
       manual:1) choices='show open check-access explain-access who-sees sees check-config import-snmpd replay merge-clocks check-clocks check-log datagrams manual version' ;;
     esac
     case $command in
-      show) choices="$choices --names --why" ;;
-      open) choices="$choices --names --why" ;;
+      show) choices="$choices --names --why --from --form --port --moment" ;;
+      open) choices="$choices --names --why --from --form --port --moment" ;;
       check-access) choices="$choices --why" ;;
       explain-access) choices="$choices --why" ;;
       who-sees) choices="$choices --users --why" ;;

@@ -3,14 +3,14 @@
 mod blocks;
 mod records;
 
-use snmpsec_capture::{CaptureFault, Found, Passed, find_datagram, write_datagrams};
+use snmpsec_capture::{CaptureFault, Found, Tally, find_datagram, write_datagrams};
 use std::alloc::{AllocError, Global};
 use std::test::Fail;
 
 /// How the reading of a capture ended, and what was written.
 #[derive(Drop)]
 struct Told {
-    answer: Result<Passed, CaptureFault>,
+    answer: Result<Tally, CaptureFault>,
     log: Vec<u8>,
     notes: Vec<u8>,
 }
@@ -26,7 +26,7 @@ fn read(alloc: Global, ports: &[u16], capture: &[u8]) -> Result<Told, Fail> {
 }
 
 /// The words for what was passed over.
-fn words_of(alloc: Global, answer: Result<Passed, CaptureFault>) -> Result<String, Fail> {
+fn words_of(alloc: Global, answer: Result<Tally, CaptureFault>) -> Result<String, Fail> {
     Ok(answer?.words(alloc)?)
 }
 

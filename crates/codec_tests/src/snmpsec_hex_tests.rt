@@ -1,6 +1,6 @@
 //! Texts of hex in each form that they are pasted in, and the first place at which one isn't.
 
-use snmpsec_hex::{HexFault, read_hex};
+use snmpsec_hex::{HexFault, dump_line, read_hex};
 use std::alloc::{AllocError, Global};
 use std::test::Fail;
 
@@ -71,6 +71,45 @@ fn the_first_place_that_is_no_hex_is_told(rt: HostRuntime) -> Result<(), Fail> {
             column: *column,
         };
         assert!(rt; answer.err() == Some(wanted));
+    }
+    Ok(())
+}
+
+/// Texts, and the line on which a dump begins.
+static DUMPS: [(&[u8], Option<u64>); 16] = [
+    // as xxd, as hexdump -C, as od -tx1 and as tcpdump -x print them
+    (
+        b"00000000: 3003 0201 03                             0....\n",
+        Some(1),
+    ),
+    (
+        b"00000000  30 03 02 01 03                           |0....|\n",
+        Some(1),
+    ),
+    (b"0000000 30 03 02 01 03\n0000005\n", Some(1)),
+    (b"\t0x0000:  3003 0201 03", Some(1)),
+    // behind other lines, and the first of two
+    (b"Frame 1:\r\n\r\n0000  30 03\r\n", Some(3)),
+    (b"0010  30\n0000\t30\n0000 30\n", Some(2)),
+    // three and nine digits, another offset
+    (b"000 30", None),
+    (b"000000000 30", None),
+    (b"0010 30", None),
+    // no blank, no octet, half of one, a digit that is none
+    (b"0000:30", None),
+    (b"00003003", None),
+    (b"0000 ", None),
+    (b"0000 3", None),
+    (b"0000 3g", None),
+    // not at the beginning of a line
+    (b"30 0000 30", None),
+    (b"", None),
+];
+
+#[test]
+fn a_dump_is_known_by_its_first_line(rt: HostRuntime) -> Result<(), Fail> {
+    for (text, line) in DUMPS {
+        assert_eq!(rt; dump_line(text), line);
     }
     Ok(())
 }

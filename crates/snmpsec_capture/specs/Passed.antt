@@ -1,28 +1,35 @@
--- How many records of a capture are passed over, by reason, and what is said of it.
-use Rattle.std.specs.Prelude.{◌≡◌, ℕ, ◌+◌, ◌<◌, ◌==◌, if◌then◌else◌, List, [], ◌∷◌, ◌++◌, length, replicate, slice_index, slice_set, codes, decimal, IsPermutation, IsSorted}
+-- How many datagrams of a capture are printed, and how many records are passed over, by reason, and what is said of these.
+use Rattle.std.specs.Prelude.{◌≡◌, ℕ, ◌+◌, ◌<◌, ◌==◌, ◌||◌, Bool, false, if◌then◌else◌, List, [], ◌∷◌, ◌++◌, length, replicate, slice_index, slice_set, codes, decimal, IsPermutation, IsSorted}
 use Rattle.std.specs.Cmp.Lexicographic.{slice_cmp}
 use Rattle.std.specs.Ordering.{nat_cmp}
 use Rattle.std.specs.List.{join_by}
 use Rattle.snmpsec_capture.specs.declared.passed.Reason.{Reason}
 use Rattle.snmpsec_capture.specs.declared.passed.Reason.TheVariants as reason
-use Rattle.snmpsec_capture.specs.declared.passed.Passed.{Passed}
+use Rattle.snmpsec_capture.specs.declared.passed.Tally.{Tally}
 
--- The counts, those of links by the link's type.
+-- How many datagrams there are, and whether what was printed of one tells a refusal; and how many records are passed over, those of links by
+-- the link's type.
 pub record Counts : Type 0 where
+  pub datagrams : ℕ
+  pub refused : Bool
   pub another_port : ℕ
   pub other_links : List ℕ
   pub not_ip : ℕ
   pub not_udp : ℕ
 
-abbrev pub counts_of : Passed → Counts
-counts_of p = record { another_port = p.another_port; other_links = p.other_links.items; not_ip = p.not_ip; not_udp = p.not_udp }
+abbrev pub counts_of : Tally → Counts
+counts_of p = record { datagrams = p.datagrams; refused = p.refused; another_port = p.another_port; other_links = p.other_links.items; not_ip = p.not_ip; not_udp = p.not_udp }
 
 -- so many counts of nothing
 unfoldable pub zeros : ℕ → List ℕ
 zeros n = replicate n 0
 
 abbrev pub none_passed : Counts
-none_passed = record { another_port = 0; other_links = zeros 65536; not_ip = 0; not_udp = 0 }
+none_passed = record { datagrams = 0; refused = false; another_port = 0; other_links = zeros 65536; not_ip = 0; not_udp = 0 }
+
+-- one datagram more, of which what was printed tells a refusal or doesn't
+abbrev pub one_printed : Counts → Bool → Counts
+one_printed c refused = record c { datagrams = c.datagrams + 1; refused = c.refused || refused }
 
 -- one more for a reason
 abbrev pub one_more : Counts → Reason → Counts
@@ -33,6 +40,7 @@ one_more c reason.NotUdp = record c { not_udp = c.not_udp + 1 }
 
 -- each count is below n
 pub record IsBelow (c : Counts) (n : ℕ) : Type 0 where
+  pub datagrams : c.datagrams < n
   pub another_port : c.another_port < n
   pub other_links : (link : ℕ) → slice_index c.other_links link < n
   pub links : length c.other_links ≡ 65536

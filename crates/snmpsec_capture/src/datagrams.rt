@@ -5,15 +5,16 @@ ghost use Rattle.std.specs.Io.KnownBytes.{Appends, Consumes, IsAtEnd};
 ghost use Rattle.snmpsec_capture.specs.Formats.{state_of};
 ghost use Rattle.snmpsec_capture.specs.Items.{record_of};
 ghost use Rattle.snmpsec_capture.specs.Passed.{IsBelow, counts_of, none_passed};
-ghost use Rattle.snmpsec_capture.specs.Datagrams.{IsEnd, IsLogOf, IsSorted, IsSortedRecord, Stands, StopsBy, StopsItems, StopsRecord, WritesItem, StopsWrite, WritesRecord, log_line, note_line, record_from, told_word};
+ghost use Rattle.snmpsec_capture.specs.Datagrams.{IsEnd, IsLogOf, IsSorted, IsSortedRecord, PrintsAs, PrintsLine, Stands, StopsDatagram, StopsBy, StopsItems, StopsRecord, StopsWrite, WritesDatagram, WritesItem, WritesRecord, log_line, note_line, record_from, told_word};
 
 use crate::fault::CaptureFault;
 use crate::format::{Begun, begin, read_item};
 use crate::item::{Head, Item, Next};
 use crate::packet::{Found, find_datagram};
-use crate::passed::{Passed, Reason};
+use crate::passed::{Reason, Tally};
 use crate::pcap::HEADER;
 use crate::pcapng::ROOM;
+use crate::printer::{Lines, Printer};
 use snmpsec_streams::{read_full, write_whole};
 use std::alloc::{AllocError, Global};
 use std::io::{Read, Write};
@@ -124,28 +125,50 @@ fn note_line(alloc: Global, number: u64, why: Telling) -> Result<String, AllocEr
     format!(in alloc; "snmpsec: record {number}: {word}\n")
 }
 
+/// Writes a datagram as it is printed, behind so many.
+fn write_datagram<P: Printer, L: Write>(
+    alloc: Global,
+    printer: &mut P,
+    moment: u64,
+    datagram: &[u8],
+    passed: &mut Tally,
+    log: &mut L,
+) -> Result<(), CaptureFault>
+    requires { IsBelow (counts_of passed.old) 18446744073709551615 }
+    ensures ok { OnOk result (WritesDatagram (P.prints printer.old) moment datagram.now (counts_of passed.old) (counts_of passed.new) (L.contents log.old) (L.contents log.new)) }
+    ensures err { IfErr result (StopsDatagram (P.prints printer.old) moment datagram.now (counts_of passed.old) (L.contents log.old) (L.contents log.new)) }
+    ensures keeps { PrintsAs (P.prints printer.new) (P.prints printer.old) }
+{
+    let Ok(printed) = printer.print(alloc, passed.datagrams + 1, moment, datagram) else {
+        return Err(CaptureFault::OutOfMemory);
+    };
+    match write_whole(log, &printed.text) {
+        Ok(()) => {
+            passed.print(printed.refused);
+            Ok(())
+        }
+        Err(_) => Err(CaptureFault::CannotWrite),
+    }
+}
+
 /// Sorts a record, and writes what it comes to.
-fn write_record<L: Write, N: Write>(
+fn write_record<P: Printer, L: Write, N: Write>(
     alloc: Global,
     ports: &[u16],
     captured: Captured<'_>,
-    passed: &mut Passed,
+    printer: &mut P,
+    passed: &mut Tally,
     log: &mut L,
     notes: &mut N,
 ) -> Result<(), CaptureFault>
     requires { IsBelow (counts_of passed.old) 18446744073709551615 }
-    ensures ok { OnOk result (WritesRecord ports.now (record_from captured.entry) captured.entry.number (counts_of passed.old) (counts_of passed.new) (L.contents log.old) (L.contents log.new) (N.contents notes.old) (N.contents notes.new)) }
-    ensures err { IfErr result (StopsRecord ports.now (record_from captured.entry) captured.entry.number (L.contents log.old) (L.contents log.new) (N.contents notes.old) (N.contents notes.new)) }
+    ensures ok { OnOk result (WritesRecord (P.prints printer.old) ports.now (record_from captured.entry) captured.entry.number (counts_of passed.old) (counts_of passed.new) (L.contents log.old) (L.contents log.new) (N.contents notes.old) (N.contents notes.new)) }
+    ensures err { IfErr result (StopsRecord (P.prints printer.old) ports.now (record_from captured.entry) captured.entry.number (counts_of passed.old).datagrams (L.contents log.old) (L.contents log.new) (N.contents notes.old) (N.contents notes.new)) }
+    ensures keeps { PrintsAs (P.prints printer.new) (P.prints printer.old) }
 {
     match sort_record(captured, ports) {
         Sorted::Logged(moment, datagram) => {
-            let Ok(line) = log_line(alloc, moment, datagram) else {
-                return Err(CaptureFault::OutOfMemory);
-            };
-            match write_whole(log, line.as_bytes()) {
-                Ok(()) => Ok(()),
-                Err(_) => Err(CaptureFault::CannotWrite),
-            }
+            write_datagram(alloc, printer, moment, datagram, passed, log)
         }
         Sorted::Told(why) => {
             let Ok(line) = note_line(alloc, captured.number, why) else {
@@ -164,21 +187,23 @@ fn write_record<L: Write, N: Write>(
 }
 
 /// Writes what an item comes to, whose packet stands in the room, and answers the number of the next record.
-fn write_item<L: Write, N: Write>(
+fn write_item<P: Printer, L: Write, N: Write>(
     alloc: Global,
     ports: &[u16],
     number: u64,
     packet: Option<Head>,
     room: &[u8],
-    passed: &mut Passed,
+    printer: &mut P,
+    passed: &mut Tally,
     log: &mut L,
     notes: &mut N,
 ) -> Result<u64, CaptureFault>
     requires within { IfSome packet (λ h. h.at + h.size ≤ length room.now) }
     requires number { number < 18446744073709551615 }
     requires below { IsBelow (counts_of passed.old) 18446744073709551615 }
-    ensures ok { IfOk result (λ next. WritesItem ports.now (option_map (λ h. record_of h room.now) packet) number next (counts_of passed.old) (counts_of passed.new) (L.contents log.old) (L.contents log.new) (N.contents notes.old) (N.contents notes.new)) }
-    ensures err { IfErr result (StopsWrite ports.now (option_map (λ h. record_of h room.now) packet) number (L.contents log.old) (L.contents log.new) (N.contents notes.old) (N.contents notes.new)) }
+    ensures ok { IfOk result (λ next. WritesItem (P.prints printer.old) ports.now (option_map (λ h. record_of h room.now) packet) number next (counts_of passed.old) (counts_of passed.new) (L.contents log.old) (L.contents log.new) (N.contents notes.old) (N.contents notes.new)) }
+    ensures err { IfErr result (StopsWrite (P.prints printer.old) ports.now (option_map (λ h. record_of h room.now) packet) number (counts_of passed.old).datagrams (L.contents log.old) (L.contents log.new) (N.contents notes.old) (N.contents notes.new)) }
+    ensures keeps { PrintsAs (P.prints printer.new) (P.prints printer.old) }
 {
     let Some(head) = packet else {
         return Ok(number);
@@ -188,27 +213,28 @@ fn write_item<L: Write, N: Write>(
         head,
         packet: &room[head.at..head.at + head.size],
     };
-    match write_record(alloc, ports, captured, passed, log, notes) {
+    match write_record(alloc, ports, captured, printer, passed, log, notes) {
         Ok(()) => Ok(number + 1),
         Err(fault) => Err(fault),
     }
 }
 
 /// Reads the items of a capture behind its beginning, and writes what they come to.
-fn write_items<R: Read, L: Write, N: Write>(
+fn write_items<P: Printer, R: Read, L: Write, N: Write>(
     alloc: Global,
     ports: &[u16],
     begun: Begun,
-    passed: Passed,
+    passed: Tally,
     room: &mut [u8],
+    printer: &mut P,
     reader: &mut R,
     log: &mut L,
     notes: &mut N,
-) -> Result<Passed, CaptureFault>
+) -> Result<Tally, CaptureFault>
     requires room { length room.old ≡ 262172 }
     requires near { begun.place ≤ 4294967295 }
     requires none { counts_of passed ≡ none_passed }
-    ensures ok { IfOk result (λ passed. Stands ports.now (state_of begun.format) record {
+    ensures ok { IfOk result (λ passed. Stands (P.prints printer.old) ports.now (state_of begun.format) record {
       unread = R.remaining reader.old;
       left = R.remaining reader.new;
       held = L.contents log.old;
@@ -216,7 +242,7 @@ fn write_items<R: Read, L: Write, N: Write>(
       untold = N.contents notes.old;
       told = N.contents notes.new;
     } (IsEnd (R.remaining reader.new)) (counts_of passed)) }
-    ensures err { IfErr result (StopsItems ports.now (state_of begun.format) begun.place record {
+    ensures err { IfErr result (StopsItems (P.prints printer.old) ports.now (state_of begun.format) begun.place record {
       unread = R.remaining reader.old;
       left = R.remaining reader.new;
       held = L.contents log.old;
@@ -245,6 +271,7 @@ fn write_items<R: Read, L: Write, N: Write>(
             number,
             item.packet,
             room,
+            printer,
             &mut passed,
             log,
             notes,
@@ -274,11 +301,11 @@ pub fn write_datagrams<R: Read, L: Write, N: Write>(
     reader: &mut R,
     log: &mut L,
     notes: &mut N,
-) -> Result<Passed, CaptureFault>
+) -> Result<Tally, CaptureFault>
     ensures ok { IfOk result (λ passed. IfSome (R.remaining reader.old) (λ capture. (lines : List ℕ) × (tells : List ℕ)
-        × IsLogOf ports.now capture lines tells (counts_of passed)
+        × IsLogOf PrintsLine ports.now capture lines tells (counts_of passed)
         × Appends (L.contents log.old) (L.contents log.new) lines × Appends (N.contents notes.old) (N.contents notes.new) tells)) }
-    ensures err { IfErr result (StopsBy ports.now record {
+    ensures err { IfErr result (StopsBy PrintsLine ports.now record {
       unread = R.remaining reader.old;
       left = R.remaining reader.new;
       held = L.contents log.old;
@@ -291,25 +318,35 @@ pub fn write_datagrams<R: Read, L: Write, N: Write>(
     let Ok(count) = read_full(reader, &mut octets) else {
         return Err(CaptureFault::CannotRead);
     };
-    write_datagrams_behind(alloc, &octets[..count], ports, reader, log, notes)
+    print_datagrams_behind(
+        alloc,
+        &octets[..count],
+        ports,
+        &mut Lines,
+        reader,
+        log,
+        notes,
+    )
 }
 
-/// The same for a capture of which the first 24 octets were read, or all where it has fewer.
-pub fn write_datagrams_behind<R: Read, L: Write, N: Write>(
+/// The same for a capture of which the first 24 octets were read, or all where it has fewer, with what a printer makes of each datagram in the
+/// place of its line. The datagrams count from 1.
+pub fn print_datagrams_behind<P: Printer, R: Read, L: Write, N: Write>(
     alloc: Global,
     front: &[u8],
     ports: &[u16],
+    printer: &mut P,
     reader: &mut R,
     log: &mut L,
     notes: &mut N,
-) -> Result<Passed, CaptureFault>
+) -> Result<Tally, CaptureFault>
     requires short { length front.now ≤ 24 }
     requires end { length front.now < 24 → IsAtEnd (R.remaining reader.old) }
     ensures ok { (unread : Option (List ℕ)) → Consumes unread (R.remaining reader.old) front.now
         → IfOk result (λ passed. IfSome unread (λ capture. (lines : List ℕ) × (tells : List ℕ)
-        × IsLogOf ports.now capture lines tells (counts_of passed)
+        × IsLogOf (P.prints printer.old) ports.now capture lines tells (counts_of passed)
         × Appends (L.contents log.old) (L.contents log.new) lines × Appends (N.contents notes.old) (N.contents notes.new) tells)) }
-    ensures err { (unread : Option (List ℕ)) → Consumes unread (R.remaining reader.old) front.now → IfErr result (StopsBy ports.now record {
+    ensures err { (unread : Option (List ℕ)) → Consumes unread (R.remaining reader.old) front.now → IfErr result (StopsBy (P.prints printer.old) ports.now record {
       unread = unread;
       left = R.remaining reader.new;
       held = L.contents log.old;
@@ -321,7 +358,7 @@ pub fn write_datagrams_behind<R: Read, L: Write, N: Write>(
     let Ok(mut room) = vec![in alloc; 0u8; ROOM] else {
         return Err(CaptureFault::OutOfMemory);
     };
-    let Ok(passed) = Passed::none(alloc) else {
+    let Ok(passed) = Tally::none(alloc) else {
         return Err(CaptureFault::OutOfMemory);
     };
     let begun = match begin(alloc, front, room.as_mut_slice(), reader) {
@@ -334,6 +371,7 @@ pub fn write_datagrams_behind<R: Read, L: Write, N: Write>(
         begun,
         passed,
         room.as_mut_slice(),
+        printer,
         reader,
         log,
         notes,

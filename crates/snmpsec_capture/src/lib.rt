@@ -12,10 +12,12 @@ mod packet;
 mod passed;
 mod pcap;
 mod pcapng;
+mod printer;
 
-pub use datagrams::{log_line, write_datagrams, write_datagrams_behind};
+pub use datagrams::{log_line, print_datagrams_behind, write_datagrams};
 pub use fault::CaptureFault;
 pub use format::begins_capture;
 pub use packet::{Found, find_datagram};
-pub use passed::Passed;
+pub use passed::Tally;
 pub use pcap::HEADER;
+pub use printer::{Lines, Printed, Printer};

@@ -1,7 +1,7 @@
-//! How many records of a capture were passed over, by reason.
+//! How many datagrams of a capture were printed, and how many records passed over, by reason.
 
 ghost use Rattle.std.specs.Prelude.{◌≡◌, ◌++◌, map, IfOk, OnOk, string_bytes};
-ghost use Rattle.snmpsec_capture.specs.Passed.{IsBelow, IsPassedWords, count_part, counts_of, link_parts, link_word, none_passed, one_more, zeros};
+ghost use Rattle.snmpsec_capture.specs.Passed.{IsBelow, IsPassedWords, count_part, counts_of, link_parts, link_word, none_passed, one_more, one_printed, zeros};
 
 use std::alloc::{AllocError, Global};
 
@@ -18,9 +18,13 @@ pub(crate) enum Reason {
 /// How many types of links there are, numbers of LINKTYPE.
 const LINKS: usize = 65_536;
 
-/// How many records were passed over, by reason.
+/// How many datagrams were printed, and how many records passed over, by reason.
 #[derive(Debug, PartialEq, Eq, Drop)]
-pub struct Passed {
+pub struct Tally {
+    /// Datagrams that were printed.
+    pub datagrams: u64,
+    /// Whether what was printed of one of them tells a refusal.
+    pub refused: bool,
     /// Datagrams from and to other ports.
     pub another_port: u64,
     /// Packets on a link whose frames aren't known, by its type, 0 to 65535 (a number of LINKTYPE).
@@ -39,13 +43,15 @@ fn zeros(alloc: Global, count: usize) -> Result<Vec<u64>, AllocError>
     vec![in alloc; 0u64; count]
 }
 
-impl Passed {
+impl Tally {
     /// None yet.
-    pub(crate) fn none(alloc: Global) -> Result<Passed, AllocError>
+    pub(crate) fn none(alloc: Global) -> Result<Tally, AllocError>
         ensures { IfOk result (λ passed. counts_of passed ≡ none_passed) }
     {
         let other_links = zeros(alloc, LINKS)?;
-        Ok(Passed {
+        Ok(Tally {
+            datagrams: 0,
+            refused: false,
             another_port: 0,
             other_links,
             not_ip: 0,
@@ -53,7 +59,16 @@ impl Passed {
         })
     }
 
-    /// One more, for this reason.
+    /// One datagram more, of which what was printed tells a refusal or doesn't.
+    pub(crate) fn print(&mut self, refused: bool)
+        requires { IsBelow (counts_of self.old) 18446744073709551615 }
+        ensures { counts_of self.new ≡ one_printed (counts_of self.old) refused }
+    {
+        self.datagrams += 1;
+        self.refused = self.refused || refused;
+    }
+
+    /// One record more that is passed over, for this reason.
     pub(crate) fn count(&mut self, reason: Reason)
         requires { IsBelow (counts_of self.old) 18446744073709551615 }
         ensures { counts_of self.new ≡ one_more (counts_of self.old) reason }

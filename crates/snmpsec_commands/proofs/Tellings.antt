@@ -1,14 +1,15 @@
 -- What is told of a capture: the last line, and the ports that are asked for.
-use Rattle.std.proofs.Common.{◌≡◌, ℕ, ◌<◌, ◌^◌, List, [], ◌∷◌, ◌++◌, length, map, decimal, codes, Option, slice_index_or, refl, sym, subst, inl, inr}
+use Rattle.std.proofs.Common.{◌≡◌, ℕ, ◌<◌, ◌≤◌, ◌^◌, Bool, List, [], ◌∷◌, ◌++◌, length, map, decimal, codes, Option, slice_index_or, refl, sym, subst, inl, inr}
 use Rattle.std.proofs.lemmas.List.{get_or-map, length-map}
-use Rattle.std.specs.Io.KnownBytes.{Appends}
+use Rattle.std.specs.Io.KnownBytes.{Appends, Consumes, IsAtEnd}
 use Rattle.std.proofs.KnownBytes.{Appends-nil, Keeps-refl}
-use Rattle.snmpsec_capture.specs.Datagrams.{StopsBy, Streams}
+use Rattle.snmpsec_capture.specs.Datagrams.{Printing, StopsBy, Streams}
 use Rattle.snmpsec_capture.specs.Passed.{Counts}
 use Rattle.snmpsec_capture.specs.declared.fault.CaptureFault.TheVariants as capture
 use Rattle.snmpsec_commands.specs.declared.datagrams.Unread.{Unread}
 use Rattle.snmpsec_commands.specs.declared.datagrams.Unread.TheVariants as unread
-use Rattle.snmpsec_commands.specs.Datagrams.{IsWhole, Leaves, LosesLine, LosesPassed, Tells, TellsNot, line_of, refused_line, AskPorts, AreDecimals, HasNoPort}
+use Rattle.snmpsec_commands.specs.Texts.{IsTextOf, StopsText, TellsText, TextStreams, WritesBoth, WritesPart}
+use Rattle.snmpsec_commands.specs.Datagrams.{IsWhole, Leaves, LosesLine, LosesPassed, Tells, TellsNot, line_of, refused_line, status_of, AskPorts, AreDecimals, HasNoPort}
 
 -- ---- the last line
 
@@ -16,9 +17,9 @@ pub line_made : (words : List ℕ) → (length words ≡ 0 → ⊥) → line_of 
 line_made [] some = absurd (some refl)
 line_made (x ∷ xs) some = refl
 
-pub tells_beside : (ports name : List ℕ) (s : Streams) (told : Option (List ℕ)) (status : ℕ) (line : List ℕ)
-    → Leaves ports name (record s { told = told }) status [] line → Appends told s.told line → Tells ports name s status
-tells_beside ports name s told status line leaves tells = record {
+pub tells_beside : (P : Printing) (ports name : List ℕ) (s : Streams) (told : Option (List ℕ)) (status : ℕ) (line : List ℕ)
+    → Leaves P ports name (record s { told = told }) status [] line → Appends told s.told line → Tells P ports name s status
+tells_beside P ports name s told status line leaves tells = record {
   written = s.written;
   told = told;
   in_log = [];
@@ -28,9 +29,9 @@ tells_beside ports name s told status line leaves tells = record {
   tells = tells;
 }
 
-pub tells_in_log : (ports name : List ℕ) (s : Streams) (written : Option (List ℕ)) (status : ℕ) (line : List ℕ)
-    → Leaves ports name (record s { written = written }) status line [] → Appends written s.written line → Tells ports name s status
-tells_in_log ports name s written status line leaves wrote = record {
+pub tells_in_log : (P : Printing) (ports name : List ℕ) (s : Streams) (written : Option (List ℕ)) (status : ℕ) (line : List ℕ)
+    → Leaves P ports name (record s { written = written }) status line [] → Appends written s.written line → Tells P ports name s status
+tells_in_log P ports name s written status line leaves wrote = record {
   written = written;
   told = s.told;
   in_log = line;
@@ -40,19 +41,22 @@ tells_in_log ports name s written status line leaves wrote = record {
   tells = Appends-nil s.told;
 }
 
-pub lost_beside : (ports name : List ℕ) (s : Streams) (told : Option (List ℕ)) (passed : Counts) (fault : Unread)
-    → IsWhole ports (record s { told = told }) passed → LosesPassed passed told s.told fault → TellsNot ports name s fault
-lost_beside ports name s told passed unread.CannotRead whole lost = absurd lost
-lost_beside ports name s told passed unread.CannotWrite whole lost = inr (inl (record {
-  written = s.written;
-  told = told;
-  in_log = [];
-  beside = lost.0;
-  leaves = inl (refl, passed, whole, refl, lost.1);
-  wrote = Appends-nil s.written;
-  tells = lost.2;
-}))
-lost_beside ports name s told passed unread.OutOfMemory whole lost = inr (record {
+pub lost_beside : (P : Printing) (ports name : List ℕ) (s : Streams) (told : Option (List ℕ)) (passed : Counts) (fault : Unread)
+    → IsWhole P ports (record s { told = told }) passed → LosesPassed passed told s.told fault → TellsNot P ports name s fault
+lost_beside P ports name s told passed unread.CannotRead whole lost = absurd lost
+lost_beside P ports name s told passed unread.CannotWrite whole lost = inr (
+  status_of passed.refused,
+  inl (record {
+    written = s.written;
+    told = told;
+    in_log = [];
+    beside = lost.0;
+    leaves = inl (passed, refl, whole, refl, lost.1);
+    wrote = Appends-nil s.written;
+    tells = lost.2;
+  }),
+)
+lost_beside P ports name s told passed unread.OutOfMemory whole lost = inr (record {
   written = s.written;
   told = told;
   leaves = inl (passed, whole);
@@ -60,25 +64,49 @@ lost_beside ports name s told passed unread.OutOfMemory whole lost = inr (record
   tells = lost;
 })
 
-pub lost_in_log : (ports name : List ℕ) (s : Streams) (written : Option (List ℕ)) (place : ℕ) (fault : Unread)
-    → StopsBy ports (record s { written = written }) (capture.Octet place) → LosesLine written s.written (refused_line name place) fault → TellsNot ports name s fault
-lost_in_log ports name s written place unread.CannotRead stops lost = absurd lost
-lost_in_log ports name s written place unread.CannotWrite stops lost = inr (inr (record {
-  written = written;
-  told = s.told;
-  in_log = refused_line name place;
-  beside = [];
-  leaves = inr (refl, place, stops, refl, refl);
-  wrote = lost;
-  tells = Appends-nil s.told;
-}))
-lost_in_log ports name s written place unread.OutOfMemory stops lost = inr (record {
+pub lost_in_log : (P : Printing) (ports name : List ℕ) (s : Streams) (written : Option (List ℕ)) (place : ℕ) (fault : Unread)
+    → StopsBy P ports (record s { written = written }) (capture.Octet place) → LosesLine written s.written (refused_line name place) fault → TellsNot P ports name s fault
+lost_in_log P ports name s written place unread.CannotRead stops lost = absurd lost
+lost_in_log P ports name s written place unread.CannotWrite stops lost = inr (
+  1,
+  inr (record {
+    written = written;
+    told = s.told;
+    in_log = refused_line name place;
+    beside = [];
+    leaves = inr (refl, place, stops, refl, refl);
+    wrote = lost;
+    tells = Appends-nil s.told;
+  }),
+)
+lost_in_log P ports name s written place unread.OutOfMemory stops lost = inr (record {
   written = written;
   told = s.told;
   leaves = inr (place, stops);
   wrote = lost;
   tells = Keeps-refl s.told;
 })
+
+-- ---- texts
+
+pub text_told : (P : Printing) (hex : Bool) (moment : ℕ) (name : List ℕ) (s : TextStreams) (text line note : List ℕ) (status told : ℕ) → Consumes s.unread s.left text × IsAtEnd s.left
+    → length text ≤ 16777216 → IsTextOf P hex moment name text line note told → status ≡ told → WritesBoth s line note → TellsText P hex moment name s status
+text_told P hex moment name s text line note status told read short is same wrote = record {
+  text = text;
+  line = line;
+  note = note;
+  consumed = read.0;
+  end = read.1;
+  short = short;
+  is_line = subst (λ k. IsTextOf P hex moment name text line note k) (sym same) is;
+  ends = wrote;
+}
+
+pub text_lost : (P : Printing) (hex : Bool) (moment : ℕ) (name : List ℕ) (s : TextStreams) (text line note : List ℕ) (told : ℕ) (f : Unread) → Consumes s.unread s.left text × IsAtEnd s.left
+    → length text ≤ 16777216 → IsTextOf P hex moment name text line note told → f ≡ unread.CannotWrite → WritesPart s line note → StopsText P hex moment name s f
+text_lost P hex moment name s text line note told f read short is same wrote =
+    subst (StopsText P hex moment name s) (sym same)
+    (told, record { text = text; line = line; note = note; consumed = read.0; end = read.1; short = short; is_line = is; ends = wrote })
 
 -- ---- the ports
 

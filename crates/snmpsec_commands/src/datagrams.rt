@@ -3,10 +3,11 @@
 ghost use Rattle.std.specs.Prelude.{◌≡◌, ◌<◌, ◌≤◌, ◌^◌, ℕ, List, Option, length, decimal, map, IfErr, IfOk, IfSome, IfNone, OnOk, Some, string_bytes};
 ghost use Rattle.std.specs.Io.KnownBytes.{Appends, Consumes, IsAtEnd};
 ghost use Rattle.snmpsec_commands.specs.Datagrams.{AskPorts, HasNoPort, IsPassedLine, LosesLine, LosesPassed, Tells, TellsNot, TellsPassed, refused_line};
+ghost use Rattle.snmpsec_capture.specs.Datagrams.{PrintsLine};
 ghost use Rattle.snmpsec_capture.specs.Passed.{counts_of};
 
 use snmp_ber::read_decimal;
-use snmpsec_capture::{CaptureFault, HEADER, Passed, write_datagrams_behind};
+use snmpsec_capture::{CaptureFault, HEADER, Lines, Printer, Tally, print_datagrams_behind};
 use snmpsec_streams::{read_full, write_whole};
 use std::alloc::{AllocError, Global};
 use std::io::{Read, Write};
@@ -69,7 +70,7 @@ pub fn datagrams<R: Read, L: Write, N: Write>(
     log: &mut L,
     notes: &mut N,
 ) -> Result<u8, Unread>
-    ensures ok { IfOk result (Tells ports.now name.now record {
+    ensures ok { IfOk result (Tells PrintsLine ports.now name.now record {
       unread = R.remaining reader.old;
       left = R.remaining reader.new;
       held = L.contents log.old;
@@ -77,7 +78,7 @@ pub fn datagrams<R: Read, L: Write, N: Write>(
       untold = N.contents notes.old;
       told = N.contents notes.new;
     }) }
-    ensures err { IfErr result (TellsNot ports.now name.now record {
+    ensures err { IfErr result (TellsNot PrintsLine ports.now name.now record {
       unread = R.remaining reader.old;
       left = R.remaining reader.new;
       held = L.contents log.old;
@@ -90,22 +91,33 @@ pub fn datagrams<R: Read, L: Write, N: Write>(
     let Ok(count) = read_full(reader, &mut octets) else {
         return Err(Unread::CannotRead);
     };
-    datagrams_behind(alloc, &octets[..count], ports, name, reader, log, notes)
+    datagrams_behind(
+        alloc,
+        &octets[..count],
+        ports,
+        name,
+        &mut Lines,
+        reader,
+        log,
+        notes,
+    )
 }
 
-/// The same for a capture of which the first 24 octets were read, or all where it has fewer.
-pub(crate) fn datagrams_behind<R: Read, L: Write, N: Write>(
+/// The same for a capture of which the first 24 octets were read, or all where it has fewer, with what the printer makes of each datagram; the
+/// status is 1 too where that tells a refusal.
+pub(crate) fn datagrams_behind<P: Printer, R: Read, L: Write, N: Write>(
     alloc: Global,
     front: &[u8],
     ports: &[u16],
     name: &str,
+    printer: &mut P,
     reader: &mut R,
     log: &mut L,
     notes: &mut N,
 ) -> Result<u8, Unread>
     requires short { length front.now ≤ 24 }
     requires end { length front.now < 24 → IsAtEnd (R.remaining reader.old) }
-    ensures ok { (unread : Option (List ℕ)) → Consumes unread (R.remaining reader.old) front.now → IfOk result (Tells ports.now name.now record {
+    ensures ok { (unread : Option (List ℕ)) → Consumes unread (R.remaining reader.old) front.now → IfOk result (Tells (P.prints printer.old) ports.now name.now record {
       unread = unread;
       left = R.remaining reader.new;
       held = L.contents log.old;
@@ -113,7 +125,7 @@ pub(crate) fn datagrams_behind<R: Read, L: Write, N: Write>(
       untold = N.contents notes.old;
       told = N.contents notes.new;
     }) }
-    ensures err { (unread : Option (List ℕ)) → Consumes unread (R.remaining reader.old) front.now → IfErr result (TellsNot ports.now name.now record {
+    ensures err { (unread : Option (List ℕ)) → Consumes unread (R.remaining reader.old) front.now → IfErr result (TellsNot (P.prints printer.old) ports.now name.now record {
       unread = unread;
       left = R.remaining reader.new;
       held = L.contents log.old;
@@ -122,9 +134,9 @@ pub(crate) fn datagrams_behind<R: Read, L: Write, N: Write>(
       told = N.contents notes.new;
     }) }
 {
-    match write_datagrams_behind(alloc, front, ports, reader, log, notes) {
+    match print_datagrams_behind(alloc, front, ports, printer, reader, log, notes) {
         Ok(passed) => match tell_passed(alloc, &passed, notes) {
-            Ok(()) => Ok(0),
+            Ok(()) => Ok(u8::from(passed.refused)),
             Err(fault) => Err(fault),
         },
         Err(CaptureFault::Octet(place)) => match refuse(alloc, name, place, log) {
@@ -138,7 +150,7 @@ pub(crate) fn datagrams_behind<R: Read, L: Write, N: Write>(
 }
 
 /// Writes the line for what was passed over.
-fn tell_passed<N: Write>(alloc: Global, passed: &Passed, notes: &mut N) -> Result<(), Unread>
+fn tell_passed<N: Write>(alloc: Global, passed: &Tally, notes: &mut N) -> Result<(), Unread>
     ensures ok { OnOk result (TellsPassed (counts_of passed.now) (N.contents notes.old) (N.contents notes.new)) }
     ensures err { IfErr result (LosesPassed (counts_of passed.now) (N.contents notes.old) (N.contents notes.new)) }
 {
@@ -166,7 +178,7 @@ fn refuse<L: Write>(alloc: Global, name: &str, place: u64, log: &mut L) -> Resul
 }
 
 /// The text for what was passed over: a line, or nothing where nothing was.
-fn passed_line(alloc: Global, passed: &Passed) -> Result<String, AllocError>
+fn passed_line(alloc: Global, passed: &Tally) -> Result<String, AllocError>
     ensures { IfOk result (λ text. IsPassedLine (counts_of passed.now) (string_bytes text)) }
 {
     let words = passed.words(alloc)?;

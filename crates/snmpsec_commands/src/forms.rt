@@ -2,12 +2,13 @@
 
 ghost use Rattle.std.specs.Prelude.{◌≡◌, ◌<◌, List, ℕ, Option, length, IfErr, IfOk, IfSome, Some};
 ghost use Rattle.std.specs.Io.KnownBytes.{Consumes, IsAtEnd};
-ghost use Rattle.snmpsec_commands.specs.Forms.{StopsFile, TellsFile, form_word, is_capture};
+ghost use Rattle.snmpsec_capture.specs.Datagrams.{PrintsLine};
+ghost use Rattle.snmpsec_commands.specs.Forms.{StopsFile, TellsFile, form_word, is_capture, is_hex};
 ghost use Rattle.snmpsec_commands.specs.declared.forms.Form.{Form as FormIs};
 
 use crate::datagrams::{Unread, datagrams_behind};
 use crate::texts::write_text;
-use snmpsec_capture::{HEADER, begins_capture};
+use snmpsec_capture::{HEADER, Lines, Printer, begins_capture};
 use snmpsec_streams::read_full;
 use std::alloc::Global;
 use std::io::{Read, Write};
@@ -57,6 +58,16 @@ fn is_capture(form: Option<Form>, front: &[u8]) -> bool
     }
 }
 
+/// Hex is asked for.
+fn is_hex(form: Option<Form>) -> bool
+    ensures { result ≡ is_hex form }
+{
+    match form {
+        Some(Form::Hex) => true,
+        Some(Form::Pcap) | None => false,
+    }
+}
+
 /// What `snmpsec datagrams` does with a file, with the status that it ends with: `datagrams` where it is a capture, and else the
 /// line of a log for the octets of pasted hex, or the line that refuses it.
 ///
@@ -69,7 +80,7 @@ pub fn datagrams_of<R: Read, L: Write, N: Write>(
     log: &mut L,
     notes: &mut N,
 ) -> Result<u8, Unread>
-    ensures ok { IfOk result (TellsFile asked.entry name.now record {
+    ensures ok { IfOk result (TellsFile PrintsLine asked.entry name.now record {
       unread = R.remaining reader.old;
       left = R.remaining reader.new;
       held = L.contents log.old;
@@ -77,7 +88,37 @@ pub fn datagrams_of<R: Read, L: Write, N: Write>(
       untold = N.contents notes.old;
       told = N.contents notes.new;
     }) }
-    ensures err { IfErr result (StopsFile asked.entry name.now record {
+    ensures err { IfErr result (StopsFile PrintsLine asked.entry name.now record {
+      unread = R.remaining reader.old;
+      left = R.remaining reader.new;
+      held = L.contents log.old;
+      written = L.contents log.new;
+      untold = N.contents notes.old;
+      told = N.contents notes.new;
+    }) }
+{
+    print_datagrams(alloc, asked, name, &mut Lines, reader, log, notes)
+}
+
+/// The same with what a printer makes of each datagram in the place of its line, and with status 1 too where that tells a refusal.
+pub fn print_datagrams<P: Printer, R: Read, L: Write, N: Write>(
+    alloc: Global,
+    asked: Asked<'_>,
+    name: &str,
+    printer: &mut P,
+    reader: &mut R,
+    log: &mut L,
+    notes: &mut N,
+) -> Result<u8, Unread>
+    ensures ok { IfOk result (TellsFile (P.prints printer.old) asked.entry name.now record {
+      unread = R.remaining reader.old;
+      left = R.remaining reader.new;
+      held = L.contents log.old;
+      written = L.contents log.new;
+      untold = N.contents notes.old;
+      told = N.contents notes.new;
+    }) }
+    ensures err { IfErr result (StopsFile (P.prints printer.old) asked.entry name.now record {
       unread = R.remaining reader.old;
       left = R.remaining reader.new;
       held = L.contents log.old;
@@ -92,8 +133,19 @@ pub fn datagrams_of<R: Read, L: Write, N: Write>(
     };
     let front = &octets[..count];
     if is_capture(asked.form, front) {
-        datagrams_behind(alloc, front, asked.ports, name, reader, log, notes)
+        datagrams_behind(alloc, front, asked.ports, name, printer, reader, log, notes)
     } else {
-        write_text(alloc, front, asked.moment, name, reader, log)
+        let hex = is_hex(asked.form);
+        write_text(
+            alloc,
+            front,
+            hex,
+            asked.moment,
+            name,
+            printer,
+            reader,
+            log,
+            notes,
+        )
     }
 }

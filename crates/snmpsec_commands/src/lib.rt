@@ -1,6 +1,7 @@
 //! The commands of `snmpsec`: from the command line and the files that it names to what is printed, and the status.
 #![tactic(auto)]
 
+mod captured;
 mod checks;
 pub mod datagrams;
 mod files;
@@ -9,6 +10,7 @@ mod import;
 mod included;
 pub mod replay;
 pub mod run;
+pub mod shown;
 mod texts;
 mod why;
 mod why_files;

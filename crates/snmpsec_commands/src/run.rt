@@ -3,10 +3,9 @@
 ghost use Rattle.std.specs.Prelude.{◌≡◌, ◌≤◌, ◌++◌, IfOk};
 ghost use Rattle.snmpsec_notes.specs.Names.{AddsNames};
 
+use crate::captured::{log_file, open_file, show_file};
 use crate::checks::{check_clocks_files, check_log_file};
-use crate::datagrams::{Unread, ports_of};
 use crate::files::{FileFault, open_log, read_file};
-use crate::forms::{self, datagrams_of, form_of};
 use crate::import::import_snmpd;
 use crate::replay::{first_line_of, replay_as};
 use crate::why::{says_why, why};
@@ -19,11 +18,11 @@ use snmpsec_texts::{
     sees_text, show_text, who_text,
 };
 use snmpsec_words::{
-    Asked, Command, DatagramsWords, ReplayWords, SeesWords, WhoWords, manual_text, not_text,
-    parse_asked, version_text,
+    Asked, Command, ReplayWords, SeesWords, WhoWords, manual_text, not_text, parse_asked,
+    version_text,
 };
 use std::alloc::{AllocError, Global};
-use std::io::{BufReader, BufWriter, Input, IsTerminal, Read, Write};
+use std::io::{Input, IsTerminal, Write};
 use std::rt::{Env, Files};
 use std::{env, io};
 
@@ -98,7 +97,7 @@ pub fn answer_asked<R: Files + Input + AllocGlobal, O: Write, E: Write>(
     if !(asked.why || says_why(&asked.command)) {
         return Ok(output);
     }
-    match why(rt, &asked.command)? {
+    match why(rt, &asked.command, output.status)? {
         Some(line) => with_line(output, &line),
         None => Ok(output),
     }
@@ -141,7 +140,7 @@ fn usage(alloc: Global, fault: &clap::Error) -> Result<Output, AllocError> {
     })
 }
 
-/// What the command that was given prints. That of replay is written as it goes, but for a fault.
+/// What the command that was given prints. That of replay, and of a file of datagrams, is written as it goes, but for a fault.
 pub fn command<R: Files + Input + AllocGlobal, O: Write, E: Write>(
     rt: &R,
     command: &Command<'_>,
@@ -150,7 +149,9 @@ pub fn command<R: Files + Input + AllocGlobal, O: Write, E: Write>(
 ) -> Result<Output, AllocError> {
     match command {
         Command::Show { digits } => show_text(rt.alloc(), digits),
+        Command::ShowFrom(from) => show_file(rt, from, out, err),
         Command::Open { config, digits } => open_message(rt, config, digits),
+        Command::OpenFrom { config, from } => open_file(rt, config, from, out, err),
         Command::CheckAccess(words) => check_access(rt, words.config, &words.question),
         Command::ExplainAccess(words) => explain_access(rt, words.config, &words.question),
         Command::WhoSees(words) => who_sees(rt, words),
@@ -160,7 +161,7 @@ pub fn command<R: Files + Input + AllocGlobal, O: Write, E: Write>(
         Command::MergeClocks { moment, files } => merge_clocks(rt, moment.unwrap_or("0"), files),
         Command::CheckClocks { files } => check_clocks_files(rt, files),
         Command::CheckLog { log } => check_log_file(rt, log),
-        Command::Datagrams(words) => log_datagrams(rt, words, out, err),
+        Command::Datagrams(words) => log_file(rt, words, out, err),
         Command::ImportSnmpd(words) => import_snmpd(rt, words),
         Command::Manual { command } => manual(rt.alloc(), *command),
         Command::Version => version(rt.alloc()),
@@ -342,81 +343,6 @@ fn stopped(alloc: Global, fault: ReplayFault, log: &str) -> Result<Output, Alloc
         ReplayFault::CannotRead => unread(alloc, FileFault::CannotRead, log),
         ReplayFault::CannotWrite => Output::complaint(alloc, "cannot write"),
         ReplayFault::OutOfMemory => Err(AllocError),
-    }
-}
-
-/// Looks at the form, the ports and the moment before it opens the file, and then writes the log of its datagrams. `-` is standard
-/// input.
-fn log_datagrams<R: Files + Input + AllocGlobal, O: Write, E: Write>(
-    rt: &R,
-    words: &DatagramsWords<'_>,
-    out: &mut O,
-    err: &mut E,
-) -> Result<Output, AllocError> {
-    let alloc = rt.alloc();
-    let form = match words.form {
-        None => None,
-        Some(word) => match form_of(word) {
-            Some(form) => Some(form),
-            None => return Output::complaint(alloc, "bad word FORM"),
-        },
-    };
-    let Some(ports) = ports_of(alloc, &words.ports)? else {
-        return Output::complaint(alloc, "bad word PORT");
-    };
-    let Some(moment) = moment_of(words.moment.unwrap_or("0")) else {
-        return Output::complaint(alloc, "bad word MOMENT");
-    };
-    let asked = forms::Asked {
-        form,
-        moment,
-        ports: &ports,
-    };
-    log_file(rt, asked, words.file, out, err)
-}
-
-/// Opens the file, and writes the log of its datagrams.
-fn log_file<R: Files + Input + AllocGlobal, O: Write, E: Write>(
-    rt: &R,
-    asked: forms::Asked<'_>,
-    name: &str,
-    out: &mut O,
-    err: &mut E,
-) -> Result<Output, AllocError> {
-    let alloc = rt.alloc();
-    if name == "-" {
-        let Ok(mut reader) = BufReader::new(alloc, rt.reader()) else {
-            return Err(AllocError);
-        };
-        return write_log(alloc, asked, name, &mut reader, out, err);
-    }
-    match open_log(rt, name) {
-        Ok(mut reader) => write_log(alloc, asked, name, &mut reader, out, err),
-        Err(fault) => unread(alloc, fault, name),
-    }
-}
-
-/// Writes the log of what is read, as much at once as a buffer has room for.
-fn write_log<R: Read, O: Write, E: Write>(
-    alloc: Global,
-    asked: forms::Asked<'_>,
-    name: &str,
-    reader: &mut R,
-    out: &mut O,
-    err: &mut E,
-) -> Result<Output, AllocError> {
-    let Ok(mut log) = BufWriter::new(alloc, out) else {
-        return Err(AllocError);
-    };
-    let answer = datagrams_of(alloc, asked, name, reader, &mut log, err);
-    if log.flush().is_err() {
-        return Output::complaint(alloc, "cannot write");
-    }
-    match answer {
-        Ok(status) => Ok(Output::out(alloc, Vec::new(alloc), status)),
-        Err(Unread::CannotRead) => unread(alloc, FileFault::CannotRead, name),
-        Err(Unread::CannotWrite) => Output::complaint(alloc, "cannot write"),
-        Err(Unread::OutOfMemory) => Err(AllocError),
     }
 }
 

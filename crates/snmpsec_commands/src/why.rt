@@ -18,8 +18,9 @@ use std::rt::Files;
 pub(crate) fn why<R: Files + AllocGlobal>(
     rt: &R,
     command: &Command<'_>,
+    status: u8,
 ) -> Result<Option<String>, AllocError> {
-    match look_at(rt, command) {
+    match look_at(rt, command, status) {
         Ok(()) => Ok(None),
         Err(Wrong::Told(line)) => Ok(Some(line)),
         Err(Wrong::OutOfMemory) => Err(AllocError),
@@ -32,6 +33,8 @@ pub(crate) fn says_why(command: &Command<'_>) -> bool {
         command,
         Command::WhoSees(_)
             | Command::Sees(_)
+            | Command::ShowFrom(_)
+            | Command::OpenFrom { .. }
             | Command::Datagrams(_)
             | Command::ImportSnmpd(_)
             | Command::CheckClocks { .. }
@@ -40,10 +43,12 @@ pub(crate) fn says_why(command: &Command<'_>) -> bool {
 }
 
 /// Looks at the words and the files of a command as it does.
-fn look_at<R: Files + AllocGlobal>(rt: &R, command: &Command<'_>) -> Result<(), Wrong> {
+fn look_at<R: Files + AllocGlobal>(rt: &R, command: &Command<'_>, status: u8) -> Result<(), Wrong> {
     match command {
         Command::Show { digits } => look_at_datagram(rt.alloc(), digits),
+        Command::ShowFrom(from) => look_at_capture(rt, &from.words, status),
         Command::Open { config, digits } => look_at_opened(rt, config, digits),
+        Command::OpenFrom { config, from } => look_at_opened_file(rt, config, &from.words, status),
         Command::CheckAccess(words) => look_at_question(rt, words),
         Command::ExplainAccess(words) => look_at_question(rt, words),
         Command::WhoSees(words) => look_at_who(rt, words),
@@ -53,7 +58,7 @@ fn look_at<R: Files + AllocGlobal>(rt: &R, command: &Command<'_>) -> Result<(), 
         Command::MergeClocks { moment, files } => look_at_merge(rt, *moment, files),
         Command::CheckClocks { files } => look_at_files(rt, files),
         Command::CheckLog { log } => look_at_file(rt, log, usize::MAX),
-        Command::Datagrams(words) => look_at_capture(rt, words),
+        Command::Datagrams(words) => look_at_capture(rt, words, status),
         Command::ImportSnmpd(words) => look_at_files(rt, &words.files),
         Command::Manual { .. } | Command::Version => Ok(()),
     }
@@ -129,15 +134,38 @@ fn look_at_merge<R: Files + AllocGlobal>(
     Ok(())
 }
 
+/// The words of a file with datagrams.
+fn look_at_wanted(alloc: Global, words: &DatagramsWords<'_>) -> Result<(), Wrong> {
+    look_at_form(alloc, words.form)?;
+    look_at_ports(alloc, &words.ports)?;
+    look_at_moment(alloc, words.moment)
+}
+
+/// Whether a file with datagrams can be read. One that was read to a refusal isn't read once more.
+fn look_at_source<R: Files + AllocGlobal>(rt: &R, name: &str, status: u8) -> Result<(), Wrong> {
+    if status == 1 || name == "-" {
+        return Ok(());
+    }
+    look_at_file(rt, name, usize::MAX)
+}
+
 fn look_at_capture<R: Files + AllocGlobal>(
     rt: &R,
     words: &DatagramsWords<'_>,
+    status: u8,
 ) -> Result<(), Wrong> {
-    look_at_form(rt.alloc(), words.form)?;
-    look_at_ports(rt.alloc(), &words.ports)?;
-    look_at_moment(rt.alloc(), words.moment)?;
-    if words.file == "-" {
-        return Ok(());
-    }
-    look_at_file(rt, words.file, usize::MAX)
+    look_at_wanted(rt.alloc(), words)?;
+    look_at_source(rt, words.file, status)
+}
+
+fn look_at_opened_file<R: Files + AllocGlobal>(
+    rt: &R,
+    config: &str,
+    words: &DatagramsWords<'_>,
+    status: u8,
+) -> Result<(), Wrong> {
+    look_at_wanted(rt.alloc(), words)?;
+    look_at_whole_file(rt, config)?;
+    look_at_source(rt, words.file, status)?;
+    look_at_config(rt, config)
 }

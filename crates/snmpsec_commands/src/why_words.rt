@@ -41,7 +41,7 @@ pub(crate) fn look_at_digits(alloc: Global, word: &str) -> Result<(), Wrong> {
         return Ok(());
     };
     let why = format!(in alloc; "{fault}")?;
-    let wanted = "pairs of hex digits are wanted, as 3038; snmpsec datagrams takes other forms";
+    let wanted = "pairs of hex digits are wanted, as 3038; --from FILE takes other forms";
     Err(wrong_word(alloc, "HEX", word, &why, wanted))
 }
 

@@ -1,3 +1,4 @@
 pub mod Begins
 pub mod Parts
 pub mod Places
+pub mod Dumps

@@ -15,7 +15,7 @@ pub(crate) enum Part {
 }
 
 /// The octet of the text at a place, or 0 behind its end.
-fn octet_at(text: &[u8], place: usize) -> u8
+pub(crate) fn octet_at(text: &[u8], place: usize) -> u8
     ensures { result ≡ slice_index text.now place }
 {
     match text.get(place) {
@@ -73,7 +73,7 @@ fn prefix_size(text: &[u8]) -> usize
 }
 
 /// The value of a hex digit of either case.
-fn digit_value(digit: u8) -> Option<u8>
+pub(crate) fn digit_value(digit: u8) -> Option<u8>
     ensures { result ≡ hex_digit_value digit }
 {
     match digit {

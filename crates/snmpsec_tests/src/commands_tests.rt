@@ -7,6 +7,7 @@ mod commands;
 mod configs;
 mod examples;
 mod explained;
+mod from;
 mod imported;
 mod merged;
 mod named;
@@ -187,11 +188,28 @@ fn a_usage_fault_names_what_is_wrong(rt: HostRuntime) -> Result<(), Fail> {
     Ok(())
 }
 
+#[test]
+fn a_word_and_a_file_exclude_each_other(rt: HostRuntime) -> Result<(), Fail> {
+    let both = refusal_of(&rt, &["snmpsec", "show", "30", "--from", "f"])?;
+    assert!(rt; both.as_str().contains("--from"), "{both}");
+    let none = refusal_of(&rt, &["snmpsec", "open", "c"])?;
+    assert!(rt; none.as_str().contains("HEX"), "{none}");
+    let alone = refusal_of(&rt, &["snmpsec", "show", "--port", "161"])?;
+    assert!(rt; alone.as_str().contains("--from"), "{alone}");
+    assert_eq!(rt;
+        refusal_of(&rt, &["snmpsec", "open", "c", "--from", "f"])?.len(),
+        0
+    );
+    Ok(())
+}
+
 /// A command, and a word of its help.
-const HELP: [(&str, &str); 16] = [
+const HELP: [(&str, &str); 18] = [
     ("show", "pairs of hex digits"),
     ("open", "examples/replay/config.toml"),
     ("open", "pairs of hex digits"),
+    ("show", "examples/replay/captured.pcap"),
+    ("open", "datagram N MOMENT"),
     ("explain-access", "examples/access.toml"),
     ("explain-access", "family POSITION"),
     ("check-access", "examples/access.toml"),

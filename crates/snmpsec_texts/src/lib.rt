@@ -21,6 +21,6 @@ pub use merge::{merge_text, refused_clocks};
 pub use open::{open_text, opened};
 pub use output::Output;
 pub use sees::sees_text;
-pub use show::show_text;
+pub use show::{show_text, shown};
 pub use who_sees::who_text;
 pub use words::moment_of;

@@ -34,8 +34,9 @@ pub fn open_text(alloc: Global, config: &[u8], digits: &str) -> Result<Output, A
 
 /// The lines of the message, or its refusal.
 pub fn opened(alloc: Global, users: &mut Users, datagram: &[u8]) -> Result<Output, AllocError>
-    ensures { IfOk result (λ output. let printed : Printed = record { out = output.out.items; err = output.err.items; status = output.status } in
+    ensures opens { IfOk result (λ output. let printed : Printed = record { out = output.out.items; err = output.err.items; status = output.status } in
         OpensBy users.old.users datagram.now printed) }
+    ensures users { users.new.users ≡ users.old.users }
 {
     match opened_lines(alloc, users, datagram) {
         Ok(lines) => Ok(Output::out(alloc, lines.into_bytes(), 0)),

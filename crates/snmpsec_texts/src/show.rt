@@ -5,7 +5,7 @@ ghost use Rattle.hex.specs.Hex.{decode_of};
 ghost use Rattle.snmp_msg.specs.Canonical.{Says, WholeFits, IsReadLayer, whole_of};
 ghost use Rattle.snmp_message.specs.declared.refusal.Refusal.TheVariants as refusals;
 ghost use Rattle.hex.specs.declared.FromHexError.TheVariants as hex_faults;
-ghost use Rattle.snmpsec_texts.specs.Show.{IsUsmMessage, Shows, RefusesShow, IsNoHex, ShowsText, contents_lines};
+ghost use Rattle.snmpsec_texts.specs.Show.{IsUsmMessage, Shows, RefusesShow, IsNoHex, ShowsDatagram, ShowsText, contents_lines};
 ghost use Rattle.snmpsec_texts.specs.Questions.{Printed};
 ghost use Rattle.snmpsec_texts.specs.Refusals.{refused_line};
 
@@ -94,7 +94,15 @@ pub fn show_text(alloc: Global, digits: &str) -> Result<Output, AllocError>
     let Some(datagram) = datagram_of(alloc, digits)? else {
         return Output::complaint(alloc, "bad word HEX");
     };
-    match message_text(alloc, &datagram) {
+    shown(alloc, &datagram)
+}
+
+/// What `snmpsec show` prints of a datagram: its lines with status 0, or the line of its refusal with status 1.
+pub fn shown(alloc: Global, datagram: &[u8]) -> Result<Output, AllocError>
+    ensures { IfOk result (λ output. let printed : Printed = record { out = output.out.items; err = output.err.items; status = output.status } in
+        ShowsDatagram datagram.now printed) }
+{
+    match message_text(alloc, datagram) {
         Ok(text) => Ok(Output::out(alloc, text.into_bytes(), 0)),
         Err(refused) => refused_output(alloc, refused),
     }

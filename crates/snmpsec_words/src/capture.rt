@@ -23,6 +23,15 @@ pub struct DatagramsWords<'a> {
     pub file: &'a str,
 }
 
+/// The words of show and open over the datagrams of a file.
+#[derive(Drop)]
+pub struct FromWords<'a> {
+    /// The file, and what is asked of it.
+    pub words: DatagramsWords<'a>,
+    /// Whether names are to stand behind the lines that have one.
+    pub names: bool,
+}
+
 /// The form of the file.
 fn form<'a>(alloc: Global) -> Arg<'a> {
     Arg::new(alloc, "FORM")
@@ -51,6 +60,10 @@ fn moment<'a>(alloc: Global) -> Arg<'a> {
         .help("When pasted hex was received, in whole seconds; 0 if left out")
 }
 
+/// What a file of datagrams is.
+const SOURCE: &str =
+    "A capture in the format of libpcap or pcapng, as tcpdump -w and Wireshark write it, or pasted hex; - is standard input";
+
 /// The parser of datagrams.
 pub(crate) fn datagrams<'a>(alloc: Global) -> Result<clap::Command<'a>, AllocError> {
     clap::Command::new(alloc, "datagrams")
@@ -61,11 +74,38 @@ pub(crate) fn datagrams<'a>(alloc: Global) -> Result<clap::Command<'a>, AllocErr
         .arg(form(alloc))?
         .arg(port(alloc))?
         .arg(moment(alloc))?
-        .arg(word(
-            alloc,
-            "FILE",
-            "A capture in the format of libpcap or pcapng, as tcpdump -w and Wireshark write it, or pasted hex; - is standard input",
-        ))
+        .arg(word(alloc, "FILE", SOURCE))
+}
+
+/// The command with the file of datagrams as an option, and what is asked of it, which goes with it alone.
+pub(crate) fn with_source<'a>(
+    alloc: Global,
+    command: clap::Command<'a>,
+) -> Result<clap::Command<'a>, AllocError> {
+    let source = Arg::new(alloc, "FROM")
+        .long("from")
+        .value_name("FILE")
+        .action(ArgAction::Set)
+        .help(SOURCE);
+    command
+        .arg(source)?
+        .arg(form(alloc).requires_arg("FROM")?)?
+        .arg(port(alloc).requires_arg("FROM")?)?
+        .arg(moment(alloc).requires_arg("FROM")?)
+}
+
+/// The words of a file of datagrams of this name.
+fn source_words<'a>(
+    alloc: Global,
+    words: &ArgMatches<'a>,
+    file: &'a str,
+) -> Result<DatagramsWords<'a>, AllocError> {
+    Ok(DatagramsWords {
+        form: words.get_str("FORM"),
+        ports: words.get_strs("PORT").unwrap_or(&[]).to_vec(alloc)?,
+        moment: words.get_str("MOMENT"),
+        file,
+    })
 }
 
 /// The words of datagrams.
@@ -73,10 +113,20 @@ pub(crate) fn datagrams_words<'a>(
     alloc: Global,
     words: &ArgMatches<'a>,
 ) -> Result<Command<'a>, Error> {
-    Ok(Command::Datagrams(DatagramsWords {
-        form: words.get_str("FORM"),
-        ports: words.get_strs("PORT").unwrap_or(&[]).to_vec(alloc)?,
-        moment: words.get_str("MOMENT"),
-        file: given(alloc, words, "FILE")?,
+    let file = given(alloc, words, "FILE")?;
+    Ok(Command::Datagrams(source_words(alloc, words, file)?))
+}
+
+/// The words of a command over the datagrams of a file, where one is given.
+pub(crate) fn from_words<'a>(
+    alloc: Global,
+    words: &ArgMatches<'a>,
+) -> Result<Option<FromWords<'a>>, AllocError> {
+    let Some(file) = words.get_str("FROM") else {
+        return Ok(None);
+    };
+    Ok(Some(FromWords {
+        words: source_words(alloc, words, file)?,
+        names: words.get_flag("names"),
     }))
 }

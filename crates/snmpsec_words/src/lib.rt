@@ -8,25 +8,19 @@ ghost use Rattle.clap.specs.declared.error.kind.ErrorKind.TheVariants.{InvalidVa
 mod asked;
 mod capture;
 mod import;
+mod messages;
 mod own;
 mod saved;
 mod wide;
 
 pub use asked::{Asked, parse_asked};
-pub use capture::DatagramsWords;
+pub use capture::{DatagramsWords, FromWords};
 use clap::error::ErrorKind;
 use clap::{Arg, ArgAction, ArgMatches, Error};
 pub use import::ImportWords;
 pub use own::{VERSION, manual_text, version_text};
 use std::alloc::{AllocError, Global};
 pub use wide::{SeesWords, WhoWords};
-
-const SHOW_STATUS: &str =
-    "Status: 0 shown, 1 refused (a line 'refused N NAME at PLACE'), 2 a fault of the command line.";
-
-const OPEN_STATUS: &str =
-    "The time window isn't looked at. Example: snmpsec open examples/replay/config.toml HEX, with a datagram of examples/replay/captured.log
-Status: 0 opened, 1 refused (a line 'refused N NAME at PLACE') or a refused configuration, 2 a fault of the command line or a file that can't be read.";
 
 const CHECK_STATUS: &str =
     "Example: snmpsec check-access examples/access.toml 3 nagios authPriv read @ 1.3.6.1.2.1.1.5.0
@@ -57,10 +51,17 @@ pub enum Command<'a> {
     Show {
         digits: &'a str,
     },
+    /// `show --from FILE`
+    ShowFrom(FromWords<'a>),
     /// `open CONFIG HEX`
     Open {
         config: &'a str,
         digits: &'a str,
+    },
+    /// `open CONFIG --from FILE`
+    OpenFrom {
+        config: &'a str,
+        from: FromWords<'a>,
     },
     /// `check-access CONFIG MODEL NAME LEVEL VIEW CONTEXT OID`
     CheckAccess(AccessWords<'a>),
@@ -151,12 +152,6 @@ const VARIABLE: Word = (
     "The variable, as 1.3.6.1.2.1.1.5.0: no name, no dot in front",
 );
 
-/// The datagram of a command.
-const HEX: Word = (
-    "HEX",
-    "The datagram: one or more pairs of hex digits, without blanks, colons or 0x",
-);
-
 /// A question of who may see what.
 const QUESTION: [Word; 7] = [
     CONFIG,
@@ -233,28 +228,6 @@ fn from_line<'a>(alloc: Global) -> Arg<'a> {
         .help("Number of the log's first line, 1 to 1000000000000000; 1 if left out")
 }
 
-fn show<'a>(alloc: Global) -> Result<clap::Command<'a>, AllocError> {
-    let command = clap::Command::new(alloc, "show")
-        .about("Print the fields of an SNMPv3 message, a field a line, and its canonical spelling")
-        .after_help(SHOW_STATUS)
-        .arg(asked::names(alloc))?;
-    with_words(alloc, command, &[HEX])
-}
-
-fn open<'a>(alloc: Global) -> Result<clap::Command<'a>, AllocError> {
-    let command = clap::Command::new(alloc, "open")
-        .about(
-            "Authenticate and decrypt an SNMPv3 message with the users' passwords, and print its fields",
-        )
-        .after_help(OPEN_STATUS)
-        .arg(asked::names(alloc))?;
-    with_words(
-        alloc,
-        command,
-        &[("CONFIG", "TOML file with the users"), HEX],
-    )
-}
-
 fn check_access<'a>(alloc: Global) -> Result<clap::Command<'a>, AllocError> {
     let command = clap::Command::new(alloc, "check-access")
         .about("Ask whether a user may read, write or be notified of a variable (RFC 3415)")
@@ -320,8 +293,8 @@ fn with_messages<'a>(
     alloc: Global,
     parser: clap::Command<'a>,
 ) -> Result<clap::Command<'a>, AllocError> {
-    let parser = with(parser, show(alloc))?;
-    with(parser, open(alloc))
+    let parser = with(parser, messages::show(alloc))?;
+    with(parser, messages::open(alloc))
 }
 
 /// The commands that ask a configuration, or make one.
@@ -390,19 +363,6 @@ fn access_words<'a>(alloc: Global, words: &ArgMatches<'a>) -> Result<AccessWords
     })
 }
 
-fn show_words<'a>(alloc: Global, words: &ArgMatches<'a>) -> Result<Command<'a>, Error> {
-    Ok(Command::Show {
-        digits: given(alloc, words, "HEX")?,
-    })
-}
-
-fn open_words<'a>(alloc: Global, words: &ArgMatches<'a>) -> Result<Command<'a>, Error> {
-    Ok(Command::Open {
-        config: given(alloc, words, "CONFIG")?,
-        digits: given(alloc, words, "HEX")?,
-    })
-}
-
 fn config_words<'a>(alloc: Global, words: &ArgMatches<'a>) -> Result<Command<'a>, Error> {
     Ok(Command::CheckConfig {
         config: given(alloc, words, "CONFIG")?,
@@ -436,8 +396,8 @@ pub fn parse<'a>(alloc: Global, words: &'a [String]) -> Result<Command<'a>, Erro
 /// The command that was given, with its words.
 fn command_of<'a>(alloc: Global, matches: &ArgMatches<'a>) -> Result<Command<'a>, Error> {
     match matches.subcommand() {
-        Some(("show", words)) => show_words(alloc, words),
-        Some(("open", words)) => open_words(alloc, words),
+        Some(("show", words)) => messages::show_words(alloc, words),
+        Some(("open", words)) => messages::open_words(alloc, words),
         Some(("check-access", words)) => Ok(Command::CheckAccess(access_words(alloc, words)?)),
         Some(("explain-access", words)) => Ok(Command::ExplainAccess(access_words(alloc, words)?)),
         Some(("who-sees", words)) => wide::who_words(alloc, words),

@@ -5,7 +5,7 @@ use snmpsec_commands::run::command;
 use std::alloc::Global;
 
 /// A command line without the program's name, the status, standard output and standard error.
-static COMMANDS: [(&str, u8, &str, &str); 65] = [
+static COMMANDS: [(&str, u8, &str, &str); 71] = [
     ("version", 0, "snmpsec 0.1.0\n", ""),
     ("check-log /dev/null", 0, "line 0\n", ""),
     (
@@ -93,6 +93,43 @@ static COMMANDS: [(&str, u8, &str, &str); 65] = [
     ),
     ("open /dev/null 3g", 2, "", "snmpsec: bad word HEX\n"),
     ("open /dev/null 30", 1, "refused 1 NotMessage at 0\n", ""),
+    // The words are looked at before a file is opened, and the configuration before the file.
+    (
+        "show --from /no/such/file --form x",
+        2,
+        "",
+        "snmpsec: bad word FORM\n",
+    ),
+    (
+        "show --from /no/such/file",
+        2,
+        "",
+        "snmpsec: cannot read /no/such/file\n",
+    ),
+    (
+        "show --from /dev/null --names",
+        1,
+        "refused datagrams /dev/null line 1 column 1\n",
+        "",
+    ),
+    (
+        "open /no/such/config --from /no/such/file --port x",
+        2,
+        "",
+        "snmpsec: bad word PORT\n",
+    ),
+    (
+        "open /no/such/config --from /no/such/file",
+        2,
+        "",
+        "snmpsec: cannot read /no/such/config\n",
+    ),
+    (
+        "open /dev/null --from /no/such/file",
+        2,
+        "",
+        "snmpsec: cannot read /no/such/file\n",
+    ),
     // A folder can be opened, and not read.
     (
         "check-access / 3 ann noAuthNoPriv read @ 1.3",

@@ -12,7 +12,7 @@ const CAPTURE: &[u8] =
     b"\xd4\xc3\xb2\xa1\x02\x00\x04\x00\x00\x00\x00\x00\x00\x00\x00\x00\x00\x00\x04\x00\x65\x00\x00\x00\x00\xf1\x53\x65\x00\x00\x00\x00\x21\x00\x00\x00\x21\x00\x00\x00\x45\x00\x00\x21\x00\x07\x00\x00\x40\x11\x00\x00\xc0\x00\x02\x01\xc0\x00\x02\x02\x9c\x40\x00\xa1\x00\x0d\x00\x00\x30\x03\x02\x01\x03";
 
 /// The form that is asked for, the file `f`, the status, and the log.
-const FILES: [(Option<Form>, &[u8], u8, &str); 13] = [
+const FILES: [(Option<Form>, &[u8], u8, &str); 18] = [
     (None, b"30 03\n02 01 03\n", 0, "7 3003020103\n"),
     (
         Some(Form::Hex),
@@ -63,7 +63,33 @@ const FILES: [(Option<Form>, &[u8], u8, &str); 13] = [
         "refused datagrams f octet 0\n",
     ),
     (Some(Form::Pcap), b"", 1, "refused datagrams f octet 0\n"),
+    // dumps by xxd, by od behind a line of another kind, and by tcpdump
+    (
+        None,
+        b"00000000: 3003 0201 03                             0....\n",
+        1,
+        "refused datagrams f line 1\n",
+    ),
+    (
+        None,
+        b"$ od -tx1 f\n0000000 30 03 02 01 03\n0000005\n",
+        1,
+        "refused datagrams f line 2\n",
+    ),
+    (
+        None,
+        b"\t0x0000:  3003 0201 03\n",
+        1,
+        "refused datagrams f line 1\n",
+    ),
+    // hex that is asked for, and what begins with three digits 0, or has no blank behind them
+    (Some(Form::Hex), b"0000 3003020103", 0, "7 00003003020103\n"),
+    (None, b"00 00:30,03", 0, "7 00003003\n"),
 ];
+
+/// What is told beside a dump.
+const DUMP: &str =
+    "snmpsec: line 1: a dump begins, with offsets before its octets, and dumps aren't read; pairs of hex digits are wanted, as xxd -p prints them, or a capture, as text2pcap makes one; --form hex takes offsets for octets\n";
 
 /// Reads the file `f`. Want of memory is handed on.
 fn answer_of<R: Read, L: Write>(
@@ -73,12 +99,23 @@ fn answer_of<R: Read, L: Write>(
     log: &mut L,
 ) -> Result<Result<u8, Unread>, Fail> {
     let mut notes = Vec::new(alloc);
+    noted_of(alloc, form, reader, log, &mut notes)
+}
+
+/// The same, with what is told beside.
+fn noted_of<R: Read, L: Write>(
+    alloc: Global,
+    form: Option<Form>,
+    reader: &mut R,
+    log: &mut L,
+    notes: &mut Vec<u8>,
+) -> Result<Result<u8, Unread>, Fail> {
     let asked = Asked {
         form,
         moment: 7,
         ports: &[161],
     };
-    match datagrams_of(alloc, asked, "f", reader, log, &mut notes) {
+    match datagrams_of(alloc, asked, "f", reader, log, notes) {
         Err(Unread::OutOfMemory) => Err(AllocError.into()),
         answer => Ok(answer),
     }
@@ -92,6 +129,18 @@ fn hex_is_a_log_of_one_line_or_refused(rt: HostRuntime) -> Result<(), Fail> {
         let answer = answer_of(rt.alloc(), form, &mut reader, &mut log)?;
         assert_eq!(rt; answer, Ok(status), "{wanted}");
         assert_eq!(rt; log.as_slice(), wanted.as_bytes());
+    }
+    Ok(())
+}
+
+#[test]
+fn what_a_dump_wants_is_told_beside(rt: HostRuntime) -> Result<(), Fail> {
+    for (file, wanted) in [(b"0000  3003".as_slice(), DUMP), (b"3003".as_slice(), "")] {
+        let mut reader = file;
+        let (mut log, mut notes) = (Vec::new(rt.alloc()), Vec::new(rt.alloc()));
+        let answer = noted_of(rt.alloc(), None, &mut reader, &mut log, &mut notes)?;
+        assert_eq!(rt; answer, Ok(u8::from(!wanted.is_empty())));
+        assert_eq!(rt; notes.as_slice(), wanted.as_bytes());
     }
     Ok(())
 }

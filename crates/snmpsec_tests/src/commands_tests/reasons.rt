@@ -6,17 +6,17 @@ use snmpsec_commands::run::answer_asked;
 use snmpsec_words::parse_asked;
 
 /// A command line without the program's name, and standard error.
-static REASONS: [(&str, &str); 24] = [
+static REASONS: [(&str, &str); 26] = [
     (
         "--why show 30:38",
         "snmpsec: bad word HEX
-snmpsec: HEX \"30:38\": character 3, \":\", is no hex digit; pairs of hex digits are wanted, as 3038; snmpsec datagrams takes other forms
+snmpsec: HEX \"30:38\": character 3, \":\", is no hex digit; pairs of hex digits are wanted, as 3038; --from FILE takes other forms
 ",
     ),
     (
         "show --why 303",
         "snmpsec: bad word HEX
-snmpsec: HEX \"303\": its 3 digits are an odd number; pairs of hex digits are wanted, as 3038; snmpsec datagrams takes other forms
+snmpsec: HEX \"303\": its 3 digits are an odd number; pairs of hex digits are wanted, as 3038; --from FILE takes other forms
 ",
     ),
     ("show 303", "snmpsec: bad word HEX\n"),
@@ -102,6 +102,14 @@ snmpsec: PORT \"65536\": it is none; a whole number from 0 to 65535 is wanted, a
         "snmpsec: bad word MOMENT
 snmpsec: MOMENT \"1.5\": it is none; whole seconds from 0 to 18446744073709551615 are wanted, as 1700000000
 ",
+    ),
+    (
+        "show --from /no/such/file",
+        "snmpsec: cannot read /no/such/file\nsnmpsec: /no/such/file: there is no such file\n",
+    ),
+    (
+        "open / --from /dev/null",
+        "snmpsec: cannot read /\nsnmpsec: /: it is a folder\n",
     ),
     ("merge-clocks /dev/null", ""),
     (

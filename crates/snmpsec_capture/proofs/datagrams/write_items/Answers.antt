@@ -1,7 +1,7 @@
 use Rattle.std.proofs.Common.{rules, ◌≡◌, ◌++◌, ◌+◌, ◌-◌, ◌<◌, ◌≤◌, [], take, drop, length, arith, subst, refl, ap, sym, ◌∙◌, take_all, append-nil, append_assoc, length-append, length-take-le, length-drop, inl, inr}
 use Rattle.std.specs.Io.KnownBytes.{Consumes}
 use Rattle.std.proofs.KnownBytes.{Consumes-trans, Consumes-nil}
-use Rattle.snmpsec_capture.proofs.Logs.{starts, reads_part, reads_item, stops_item, stops_reading, next_number}
+use Rattle.snmpsec_capture.proofs.Logs.{starts, reads_part, reads_item, stops_item, stops_reading, next_number, writes_as, stops_as}
 use Rattle.snmpsec_capture.proofs.Counts.{starts_below, below_next, below_most}
 use Rattle.snmpsec_capture.proofs.datagrams.write_items.Goals as goal
 
@@ -9,7 +9,8 @@ pub loop-place-init : goal.loop-place-init
 loop-place-init g c =
     let near = c.requires.near in
     record {
-      stands = starts _ _ _ _ _ _ _ _ c.requires.none refl;
+      stands = starts _ _ _ _ _ _ _ _ _ c.requires.none refl;
+      keeps = λ n moment datagram text refused prints. prints;
       below = starts_below _ c.requires.none;
       near = omega arith;
       most = omega (arith, near);
@@ -27,7 +28,8 @@ returns-in-OutOfForm-clause-err g c =
 pub returns-in-Err-write_item-clause-err : goal.returns-in-Err-write_item-clause-err
 returns-in-Err-write_item-clause-err g c =
     let got = rw c.in-Item.is at c.in-Ok.ensures.ok in
-    stops_item c.loop-place.invariant.stands _ _ _ got.octets _ _ got.is_item got.consumed c.in-Err-write_item.fault c.in-Err-write_item.ensures.err
+    stops_item c.loop-place.invariant.stands _ _ _ got.octets _ _ got.is_item got.consumed c.in-Err-write_item.fault
+    (stops_as _ _ _ _ _ _ _ _ _ _ c.in-Err-write_item.fault c.loop-place.invariant.keeps c.in-Err-write_item.ensures.err)
 
 pub loop-place-preserved : goal.loop-place-preserved
 loop-place-preserved g c =
@@ -36,10 +38,11 @@ loop-place-preserved g c =
     let least = got.least in
     let most = got.most in
     let near = c.loop-place.invariant.near in
-    let next = next_number _ _ _ _ _ _ _ _ _ _ c.in-Ok-write_item.ensures.ok in
+    let next = next_number _ _ _ _ _ _ _ _ _ _ _ c.in-Ok-write_item.ensures.ok in
     record {
-      stands = reads_item c.loop-place.invariant.stands _ _ _ got.octets _ _ _ _ _ got.is_item got.consumed c.in-Ok-write_item.ensures.ok (omega (arith, size));
-      below = below_next _ _ _ _ _ _ _ _ _ _ c.in-Ok-write_item.ensures.ok c.loop-place.invariant.below;
+      stands = reads_item c.loop-place.invariant.stands _ _ _ got.octets _ _ _ _ _ got.is_item got.consumed (writes_as _ _ _ _ _ _ _ _ _ _ _ _ c.loop-place.invariant.keeps c.in-Ok-write_item.ensures.ok) (omega (arith, size));
+      keeps = λ n moment datagram text refused prints. c.loop-place.invariant.keeps n moment datagram text refused (c.write_item.ensures.keeps n moment datagram text refused prints);
+      below = below_next _ _ _ _ _ _ _ _ _ _ _ c.in-Ok-write_item.ensures.ok c.loop-place.invariant.below;
       near = omega (arith, near, least, next);
       most = omega (arith, most, c.loop-place-test.true);
       room = c.read_item.ensures.room;

@@ -7,7 +7,7 @@ use Rattle.std.specs.Cmp.Lexicographic.{slice_cmp}
 use Rattle.std.specs.Ordering.{nat_cmp}
 use Rattle.snmpsec_capture.specs.Passed.{passed_parts, counts_of, link_parts}
 use Rattle.snmpsec_capture.proofs.Parts.{join_mapped, four, sorted_mapped}
-use Rattle.snmpsec_capture.proofs.passed.Passed.words.Goals as goal
+use Rattle.snmpsec_capture.proofs.passed.Tally.words.Goals as goal
 
 pub returns : goal.returns
 returns c =

@@ -2,7 +2,7 @@ use Rattle.std.proofs.Common.{inl, inr, arith, None}
 use Rattle.std.proofs.KnownBytes.{Keeps-refl}
 use Rattle.std.proofs.lemmas.Result.{IfOk-weaker, IfErr-weaker}
 use Rattle.snmpsec_capture.proofs.Logs.{whole_log}
-use Rattle.snmpsec_capture.proofs.datagrams.write_datagrams_behind.Goals as goal
+use Rattle.snmpsec_capture.proofs.datagrams.print_datagrams_behind.Goals as goal
 
 pub returns-in_default-clause-err : goal.returns-in_default-clause-err
 returns-in_default-clause-err g c unread read =
@@ -22,7 +22,7 @@ write_items-requires-clause-near g c = (c.in-Ok-begin.ensures.ok None tt).most
 
 pub returns-clause-ok : goal.returns-clause-ok
 returns-clause-ok g c unread read =
-    IfOk-weaker c.write_items.result _ _ (λ passed w. whole_log _ _ _ _ _ _ _ _ _ _ _ (c.in-Ok-begin.ensures.ok unread read) w) c.write_items.ensures.ok
+    IfOk-weaker c.write_items.result _ _ (λ passed w. whole_log _ _ _ _ _ _ _ _ _ _ _ _ (c.in-Ok-begin.ensures.ok unread read) w) c.write_items.ensures.ok
 
 pub returns-clause-err : goal.returns-clause-err
 returns-clause-err g c unread read =
