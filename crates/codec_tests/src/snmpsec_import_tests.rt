@@ -5,6 +5,7 @@ mod choice;
 mod entries;
 mod groups;
 mod lines;
+mod simple;
 mod subtrees;
 mod values;
 mod views;

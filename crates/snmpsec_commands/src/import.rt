@@ -43,9 +43,9 @@ pub(crate) fn import_snmpd<R: Files + AllocGlobal>(
             return unread(alloc, fault, name);
         }
     }
-    let sources = follow(rt, sources, words.no_include)?;
-    match import(alloc, &sources.names, &sources.items, contexts) {
-        Ok(done) => printed(alloc, &sources.names, done, words.strict),
+    let Sources { names, items } = follow(rt, sources, words.no_include)?;
+    match import(alloc, &names, items, contexts) {
+        Ok(done) => printed(alloc, &names, done, words.strict),
         Err(TextFault::OutOfMemory) => Err(AllocError),
         Err(TextFault::NotReadBack) => {
             Output::complaint(alloc, "the configuration isn't read back as it was written")

@@ -4,3 +4,4 @@ pub mod Dottings
 pub mod Reaches
 pub mod Maskings
 pub mod Choices
+pub mod Typings

@@ -1,11 +1,12 @@
 -- What each line of a file makes: a row, or a note of why there is none (net-snmp 5.9.3).
-use Rattle.std.specs.Prelude.{◌≡◌, ◌⊎◌, ⊤, ℕ, List, [], ◌∷◌, ◌++◌, Some, None}
+use Rattle.std.specs.Prelude.{◌≡◌, ◌≢◌, ◌⊎◌, ℕ, List, [], ◌∷◌, ◌++◌, Some, None}
 use Rattle.std.specs.List.{AllByRecursion}
 use Rattle.snmpsec_import.specs.Words.{IsBlank}
 use Rattle.snmpsec_import.specs.Lines.{IsLine, HasDirective}
 use Rattle.snmpsec_import.specs.Directives.{IsDirective}
 use Rattle.snmpsec_import.specs.Groups.{SaysGroup, TellsNoGroup}
 use Rattle.snmpsec_import.specs.Accesses.{SaysAccess, TellsNoAccess}
+use Rattle.snmpsec_import.specs.Simple.{simple_of, SaysSimpleLine, TellsNoSimpleLine}
 use Rattle.snmpsec_import.specs.Views.{SaysFamily, TellsNoFamily}
 use Rattle.snmpsec_import.specs.declared.lines.Section.{Section}
 use Rattle.snmpsec_import.specs.declared.lines.Section.TheVariants.{Snmpd}
@@ -15,7 +16,7 @@ use Rattle.snmpsec_import.specs.declared.directives.Directive.TheVariants as dir
 use Rattle.snmpsec_import.specs.declared.fault.LineFault.{LineFault}
 use Rattle.snmpsec_import.specs.declared.fault.LineFault.TheVariants as faults
 use Rattle.snmpsec_import.specs.declared.entries.Entry.{Entry}
-use Rattle.snmpsec_import.specs.declared.entries.Entry.TheVariants.{Nothing, Begins, Group, Access, Family, Told}
+use Rattle.snmpsec_import.specs.declared.entries.Entry.TheVariants.{Nothing, Begins, Group, Access, Family, Simple, Told}
 use Rattle.snmpsec_import.specs.declared.entries.Note.{Note}
 use Rattle.snmpsec_import.specs.declared.entries.Note.TheVariants.{Unclosed, NoSection, Bare, Other, LeftOut, Fault}
 
@@ -40,18 +41,16 @@ pub record HasText (force : Section) (line : List ℕ) (directive : Directive) (
 
 -- a directive whose lines aren't read: there is a note, and no row
 abbrev pub IsUnread : Directive → Type 0
-IsUnread directives.Group = ⊥
-IsUnread directives.Access = ⊥
-IsUnread directives.View = ⊥
-IsUnread directives.Other = ⊥
-IsUnread directive = ⊤
+IsUnread directive =
+    (directive ≢ directives.Group) × (directive ≢ directives.Access) × (directive ≢ directives.View) × (directive ≢ directives.Other)
+    × (simple_of directive ≡ None)
 
 -- why a line of this directive makes no row
 abbrev pub TellsNoRow : Directive → List ℕ → LineFault → Type 0
 TellsNoRow directives.Group text fault = TellsNoGroup text fault
 TellsNoRow directives.Access text fault = TellsNoAccess text fault
 TellsNoRow directives.View text fault = TellsNoFamily text fault
-TellsNoRow directive text fault = ⊥
+TellsNoRow directive text fault = TellsNoSimpleLine directive text fault
 
 -- What the note says of the line.
 abbrev pub IsNote : Section → List ℕ → Note → Type 0
@@ -71,15 +70,15 @@ IsEntry force line (Begins section) = IsLine force line (lines.Begins section)
 IsEntry force line (Group row) = (text : List ℕ) × HasText force line directives.Group text × SaysGroup text row
 IsEntry force line (Access row) = (text : List ℕ) × HasText force line directives.Access text × SaysAccess text row
 IsEntry force line (Family row) = (text : List ℕ) × HasText force line directives.View text × SaysFamily text row
+IsEntry force line (Simple simple) = (directive : Directive) × (text : List ℕ) × HasText force line directive text × SaysSimpleLine directive text simple
 IsEntry force line (Told note) = IsNote force line note
 
--- ---- between the calls
-
--- what stands behind a directive makes this
+-- What stands behind a directive makes this.
 abbrev pub IsMade : Directive → List ℕ → Entry → Type 0
 IsMade directive text (Group row) = (directive ≡ directives.Group) × SaysGroup text row
 IsMade directive text (Access row) = (directive ≡ directives.Access) × SaysAccess text row
 IsMade directive text (Family row) = (directive ≡ directives.View) × SaysFamily text row
+IsMade directive text (Simple simple) = SaysSimpleLine directive text simple
 IsMade directive text (Told Other) = directive ≡ directives.Other
 IsMade directive text (Told (LeftOut other)) = (other ≡ directive) × IsUnread directive
 IsMade directive text (Told (Fault other fault)) = (other ≡ directive) × TellsNoRow directive text fault × (fault ≡ faults.OutOfMemory → ⊥)

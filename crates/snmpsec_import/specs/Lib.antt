@@ -8,5 +8,7 @@ pub mod Groups
 pub mod Accesses
 pub mod Views
 pub mod Choice
+pub mod Types
+pub mod Simple
 pub mod Entries
 pub mod Files

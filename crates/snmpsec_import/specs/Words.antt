@@ -2,7 +2,7 @@
 use Rattle.std.specs.Prelude.{◌≡◌, ◌≢◌, ◌⊎◌, ⊤, ℕ, ◌≤◌, List, [], ◌∷◌, ◌++◌, take, Option, Some, None}
 use Rattle.std.specs.List.{AllByRecursion}
 use Rattle.snmpsec_import.specs.declared.words.Cut.{Cut}
-use Rattle.snmpsec_import.specs.declared.words.Cut.TheVariants.{AtGap, AtMark}
+use Rattle.snmpsec_import.specs.declared.words.Cut.TheVariants.{AtGap, AtMark, AtComma}
 use Rattle.snmpsec_import.specs.declared.words.Ends.{Ends}
 use Rattle.snmpsec_import.specs.declared.words.Ends.TheVariants.{AtBlank, AtQuote}
 
@@ -81,10 +81,12 @@ pub record TakesWord (most : ℕ) (text word : List ℕ) (later : Option (List �
 
 -- ---- tokens, and other parts without quotes
 
--- Where a text is cut: tokens at a space, a tab or a line feed; the octets of a mask at a space, a dot or a colon.
+-- Where a text is cut: tokens at a space, a tab or a line feed; the octets of a mask at a space, a dot or a colon; types of views at a comma, a bar or
+-- a colon.
 abbrev pub IsCut : Cut → ℕ → Type 0
 IsCut AtGap octet = (octet ≡ 32) ⊎ (octet ≡ 9) ⊎ (octet ≡ 10)
 IsCut AtMark octet = (octet ≡ 32) ⊎ (octet ≡ 46) ⊎ (octet ≡ 58)
+IsCut AtComma octet = (octet ≡ 44) ⊎ (octet ≡ 124) ⊎ (octet ≡ 58)
 
 abbrev pub IsNoCut : Cut → ℕ → Type 0
 IsNoCut cut octet = IsCut cut octet → ⊥

@@ -3,6 +3,7 @@
 ghost use Rattle.std.specs.Prelude.{ℕ, List, IfOk};
 ghost use Rattle.std.specs.Option.{option_map};
 ghost use Rattle.snmpsec_import.specs.Lines.{HasDirective};
+ghost use Rattle.snmpsec_import.specs.Simple.{IsSimple};
 ghost use Rattle.snmpsec_import.specs.Entries.{IsBeforeBlanks, IsEntry, IsMade, TellsNoRow};
 ghost use Rattle.snmpsec_import.specs.declared.lines.Section.{Section as ASection};
 
@@ -11,6 +12,8 @@ use crate::directives::{Directive, directive_of};
 use crate::fault::LineFault;
 use crate::groups::group_row;
 use crate::lines::{Line, Section, read_line};
+use crate::simple::{Simple, SimpleKind, simple_line, simple_of};
+use crate::types::Types;
 use crate::views::family_row;
 use crate::words::is_blank;
 use std::alloc::{AllocError, Global};
@@ -43,6 +46,8 @@ pub enum Entry {
     Group(GroupRow),
     Access(AccessRow),
     Family(FamilyRow),
+    /// What a simple line says: the lines that it stands for make its rows.
+    Simple(Simple),
     /// No row.
     Told(Note),
 }
@@ -71,8 +76,27 @@ fn note_of(directive: Directive, fault: LineFault) -> Result<Entry, AllocError>
     }
 }
 
-/// What stands behind a directive makes.
-fn entry_of(alloc: Global, directive: Directive, text: &[u8]) -> Result<Entry, AllocError>
+/// What stands behind such a directive makes.
+fn simple_entry(
+    alloc: Global,
+    directive: Directive,
+    kind: SimpleKind,
+    given: Option<Types>,
+    text: &[u8],
+) -> Result<Entry, AllocError>
+    requires { IsSimple directive kind given }
+    ensures { IfOk result (IsMade directive text.now) }
+{
+    match simple_line(alloc, kind, given, text) {
+        Ok(simple) => Ok(Entry::Simple(simple)),
+        Err(fault) => note_of(directive, fault),
+    }
+}
+
+/// What stands behind a directive makes, without the blanks behind it.
+///
+/// The error is want of memory.
+pub fn entry_of(alloc: Global, directive: Directive, text: &[u8]) -> Result<Entry, AllocError>
     ensures { IfOk result (IsMade directive text.now) }
 {
     match directive {
@@ -89,7 +113,10 @@ fn entry_of(alloc: Global, directive: Directive, text: &[u8]) -> Result<Entry, A
             Err(fault) => note_of(directive, fault),
         },
         Directive::Other => Ok(Entry::Told(Note::Other)),
-        _ => Ok(Entry::Told(Note::LeftOut(directive))),
+        _ => match simple_of(directive) {
+            Some((kind, given)) => simple_entry(alloc, directive, kind, given, text),
+            None => Ok(Entry::Told(Note::LeftOut(directive))),
+        },
     }
 }
 

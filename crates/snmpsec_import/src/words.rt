@@ -146,6 +146,8 @@ pub(crate) enum Cut {
     AtGap,
     /// At spaces, dots and colons.
     AtMark,
+    /// At commas, bars and colons.
+    AtComma,
 }
 
 impl Cut {
@@ -156,6 +158,7 @@ impl Cut {
         match self {
             Cut::AtGap => matches!(octet, b' ' | b'\t' | b'\n'),
             Cut::AtMark => matches!(octet, b' ' | b'.' | b':'),
+            Cut::AtComma => matches!(octet, b',' | b'|' | b':'),
         }
     }
 }

@@ -1,11 +1,14 @@
 -- What is told of each line that isn't a row, and of each row that isn't printed.
-use Rattle.std.specs.Prelude.{⊤, List, [], ◌∷◌, Option, Some, None}
+use Rattle.std.specs.Prelude.{⊤, if◌then◌else◌, List, [], ◌∷◌, Option, Some, None}
 use Rattle.snmpsec_import.specs.declared.fault.LineFault.{LineFault}
 use Rattle.snmpsec_import.specs.declared.fault.LineFault.TheVariants as faults
 use Rattle.snmpsec_import.specs.declared.entries.Note.{Note}
 use Rattle.snmpsec_import.specs.declared.entries.Note.TheVariants as notes
 use Rattle.snmpsec_import.specs.declared.entries.Entry.{Entry}
 use Rattle.snmpsec_import.specs.declared.entries.Entry.TheVariants as entries
+use Rattle.snmpsec_import.specs.declared.simple.Who.{Who}
+use Rattle.snmpsec_import.specs.declared.simple.Who.TheVariants as whom
+use Rattle.snmpsec_import.specs.declared.simple.Simple.{Simple}
 use Rattle.snmpsec_lists.specs.declared.rows.Place.{Place}
 use Rattle.snmpsec_lists.specs.declared.items.Include.{Include}
 use Rattle.snmpsec_lists.specs.declared.items.Include.TheVariants as includes
@@ -45,11 +48,21 @@ followed_kind followed.Unread = Refused
 followed_kind followed.TooDeep = Refused
 followed_kind followed.LeftOut = LeftOut
 
+-- the messages of communities are refused here
+abbrev pub who_kind : Who → Option Kind
+who_kind (whom.Community versions) = Some LeftOut
+who_kind _ = None
+
+-- snmpd refuses a word among the types of views that is for none, and takes the others
+abbrev pub simple_kind : Simple → Option Kind
+simple_kind simple = if simple.types.unknown then Some Refused else who_kind simple.named.who
+
 abbrev pub entry_kind : Entry → Option Kind
 entry_kind (entries.Told note) = Some (note_kind note)
+entry_kind (entries.Simple simple) = simple_kind simple
 entry_kind _ = None
 
--- of what kind the note on a line is; none is on a row, on an empty line, and on one that begins a section
+-- of what kind the note on a line is; none is on a row, on a simple line whose lines say all, on an empty line, and on one that begins a section
 abbrev pub kind_of : Made → Option Kind
 kind_of (made.Entry entry) = entry_kind entry
 kind_of made.NotText = Some LeftOut

@@ -1,5 +1,6 @@
 -- The rows that are printed, and what a text says of them.
-use Rattle.std.specs.Prelude.{◌≡◌, ◌<◌, ℕ, List, [], length, get_or}
+use Rattle.std.specs.Prelude.{◌≡◌, ◌<◌, ℕ, List, [], ◌++◌, length, get_or}
+use Rattle.std.specs.List.{flat_map}
 use Rattle.vacm_core.specs.Tables.{Tables}
 use Rattle.vacm_core.specs.declared.rows.ContextRow.{ContextRow}
 use Rattle.vacm_core.specs.declared.rows.GroupRow.{GroupRow}
@@ -8,11 +9,15 @@ use Rattle.vacm_core.specs.declared.rows.FamilyRow.{FamilyRow}
 use Rattle.snmpsec_config.specs.Refusals.{SaysSound}
 use Rattle.snmpsec_lists.specs.Kept.{AreGroupsKept, AreAccessKept, AreFamiliesKept}
 use Rattle.snmpsec_lists.specs.Lists.{Tables as HeldTables, at_start, HoldsAfter}
+use Rattle.snmpsec_lists.specs.Meant.{AreMeant}
 use Rattle.snmpsec_lists.specs.declared.items.Item.{Item}
+use Rattle.snmpsec_lists.specs.declared.rows.Place.{Place}
 use Rattle.snmpsec_lists.specs.declared.rows.HeldGroup.{HeldGroup}
 use Rattle.snmpsec_lists.specs.declared.rows.HeldAccess.{HeldAccess}
 use Rattle.snmpsec_lists.specs.declared.rows.HeldFamily.{HeldFamily}
 use Rattle.snmpsec_imported.specs.declared.rows.Kept.{Kept}
+use Rattle.snmpsec_imported.specs.declared.notes.Kind.{Kind}
+use Rattle.snmpsec_imported.specs.Notes.{tells as tells_of}
 
 -- Row by row this is the row of what is kept.
 pub record AreRowsOf {H R : Type 0} (row_of : H → R) (kept : List H) (rows : List R) : Type 0 where
@@ -36,11 +41,16 @@ pub record AreKept (held : HeldTables) (kept : Kept) : Type 0 where
   pub access : AreAccessKept held.access kept.access.items
   pub families : AreFamiliesKept kept.access.items held.families kept.families.items
 
--- The lines come to the text: the rows that count after them, with these contexts, are what it says.
-pub record ComesTo (items : List Item) (contexts : List ContextRow) (text : List ℕ) : Type 0 where
+-- The lines come to the text, and this is told of them: the rows that count after what they mean, with these contexts, are what the text says; and
+-- each line that makes no row is told, in their order, and behind them what is told of rows.
+pub record ComesTo (items : List Item) (contexts : List ContextRow) (text : List ℕ) (told : List (Place × Kind)) : Type 0 where
+  pub meant : List Item
   pub held : HeldTables
   pub kept : Kept
-  pub holds : HoldsAfter at_start items held
+  pub second : List (Place × Kind)
+  pub are_meant : AreMeant items meant
+  pub holds : HoldsAfter at_start meant held
   pub are_kept : AreKept held kept
   pub are_contexts : kept.contexts.items ≡ contexts
   pub prints : Prints kept text
+  pub tells : told ≡ flat_map tells_of meant ++ second

@@ -1,16 +1,14 @@
 //! From lines to the configuration that they come to, and what is told of them.
 
-ghost use Rattle.std.specs.Prelude.{◌≡◌, ◌++◌, List, map, IfOk};
-ghost use Rattle.std.specs.List.{flat_map};
-ghost use Rattle.snmpsec_imported.specs.declared.notes.Told.{Told as ATold};
+ghost use Rattle.std.specs.Prelude.{map, IfOk};
 ghost use Rattle.snmpsec_imported.specs.Rows.{ComesTo};
-ghost use Rattle.snmpsec_imported.specs.Notes.{told_of, tells};
+ghost use Rattle.snmpsec_imported.specs.Notes.{told_of};
 
 use crate::notes::{Told, line_notes};
 use crate::read_back::{TextFault, configuration};
 use crate::rows::kept_of;
 use crate::second::second_notes;
-use snmpsec_lists::{Item, lists_of};
+use snmpsec_lists::{Item, lists_of, meant};
 use std::alloc::Global;
 use vacm_core::ContextRow;
 
@@ -30,16 +28,16 @@ pub struct Imported {
 pub fn import(
     alloc: Global,
     files: &[String],
-    items: &[Item],
+    items: Vec<Item>,
     contexts: Vec<ContextRow>,
 ) -> Result<Imported, TextFault>
-    ensures text { IfOk result (λ done. ComesTo items.now contexts.items done.text.items) }
-    ensures notes { IfOk result (λ done. (second : List ATold) × (map told_of done.notes.items ≡ flat_map tells items.now ++ map told_of second)) }
+    ensures { IfOk result (λ done. ComesTo items.items contexts.items done.text.items (map told_of done.notes.items)) }
 {
-    let lists = lists_of(alloc, items)?;
+    let lines = meant(alloc, items)?;
+    let lists = lists_of(alloc, &lines)?;
     let kept = kept_of(alloc, &lists, contexts)?;
     let text = configuration(alloc, files, &kept)?;
-    let mut notes = line_notes(alloc, items)?;
+    let mut notes = line_notes(alloc, &lines)?;
     notes.append(&mut second_notes(alloc, &lists, &kept)?)?;
     Ok(Imported { text, notes })
 }

@@ -5,7 +5,7 @@ ghost use Rattle.std.specs.List.{flat_map};
 ghost use Rattle.snmpsec_imported.specs.Notes as spec;
 ghost use Rattle.snmpsec_imported.specs.Notes.{told_of, tells};
 
-use snmpsec_import::{Directive, Entry, LineFault, Note};
+use snmpsec_import::{Directive, Entry, LineFault, Note, Simple, Who};
 use snmpsec_lists::{Followed, Include, Item, Made, Place};
 use std::alloc::{AllocError, Global};
 use std::fmt;
@@ -112,12 +112,26 @@ fn include_kind(include: &Include) -> Kind
     }
 }
 
+/// The kind of the note on a simple line, where there is one.
+fn simple_kind(simple: &Simple) -> Option<Kind>
+    ensures { result ≡ spec.simple_kind simple.now }
+{
+    if simple.types.unknown {
+        return Some(Kind::Refused);
+    }
+    match simple.named.who {
+        Who::Community(_) => Some(Kind::LeftOut),
+        Who::User | Who::Group => None,
+    }
+}
+
 /// The kind of the note on a line, where there is one.
 fn kind_of(made: &Made) -> Option<Kind>
     ensures { result ≡ spec.kind_of made.now }
 {
     match made {
         Made::Entry(Entry::Told(note)) => Some(note_kind(*note)),
+        Made::Entry(Entry::Simple(simple)) => simple_kind(simple),
         Made::Entry(_) => None,
         Made::NotText => Some(Kind::LeftOut),
         Made::Include(include) => Some(include_kind(include)),
@@ -132,9 +146,6 @@ fn why_left_out(directive: Directive) -> Why {
             Why::Words("a community's name here is that of a group row of model 1 or 2")
         }
         Directive::Saved => Why::Words("a row that snmpd itself has saved"),
-        Directive::ReadCommunity | Directive::WriteCommunity | Directive::AuthCommunity => {
-            Why::Words("messages of SNMPv1 and SNMPv2c are refused here")
-        }
         _ => Why::Words("such lines are not taken over"),
     }
 }
@@ -149,6 +160,16 @@ fn why_note(note: Note) -> Why {
         Note::LeftOut(directive) => why_left_out(directive),
         Note::Fault(_, fault) => Why::Fault(fault),
     }
+}
+
+/// Why something of a simple line isn't taken over.
+fn why_simple(simple: &Simple) -> Why {
+    if simple.types.unknown {
+        return Why::Words("a word that is for no type of views");
+    }
+    Why::Words(
+        "messages of SNMPv1 and SNMPv2c are refused here; its rows are for a name of its own",
+    )
 }
 
 /// What came of other files.
@@ -167,6 +188,7 @@ fn why_followed(followed: Followed) -> Why {
 fn why_of(made: &Made) -> Why {
     match made {
         Made::Entry(Entry::Told(note)) => why_note(*note),
+        Made::Entry(Entry::Simple(simple)) => why_simple(simple),
         Made::Entry(_) => Why::Plain,
         Made::NotText => Why::Words("a name isn't UTF-8"),
         Made::Include(Include::Unclear) => {

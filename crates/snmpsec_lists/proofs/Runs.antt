@@ -1,10 +1,13 @@
 -- One row after another.
-use Rattle.std.proofs.Common.{◌≡◌, ℕ, ◌+◌, ◌<◌, ◌≤◌, suc, List, [], ◌∷◌, drop, length, get_or, ap, sym, ◌∙◌, subst, inl, inr, refl, arith, drop-cons}
+use Rattle.std.proofs.Common.{◌≡◌, ℕ, ◌+◌, ◌<◌, ◌≤◌, suc, List, [], ◌∷◌, ◌++◌, map, drop, length, get_or, ap, sym, ◌∙◌, subst, inl, inr, refl, arith, drop-cons}
 use Rattle.std.proofs.lemmas.List.{drop_all}
 use Rattle.std.specs.declared.cmp.Ordering.{Ordering}
 use Rattle.snmpsec_lists.specs.declared.rows.HeldAccess.{HeldAccess}
 use Rattle.snmpsec_lists.specs.declared.rows.HeldFamily.{HeldFamily}
 use Rattle.snmpsec_lists.specs.declared.items.Item.{Item}
+use Rattle.snmpsec_lists.specs.declared.stands.MadeLine.{MadeLine}
+use Rattle.snmpsec_lists.specs.Stands.{line_of, IsOwn, AreOwn}
+use Rattle.snmpsec_lists.specs.Meant.{Meant, Means, MeansAfter}
 use Rattle.snmpsec_lists.specs.Lists.{Tables, Takes, HoldsAfter}
 use Rattle.snmpsec_lists.specs.Kept.{Keeps, KeepsAfter, Settles, SettlesAfter, IsWanted, AreWanted}
 
@@ -38,6 +41,21 @@ pub wants_none : (access : List HeldAccess) (rows : List HeldFamily) (i : ℕ) (
     → (IsWanted access row → ⊥) → AreWanted access (drop (i + 1) rows) others → AreWanted access (drop i rows) others
 wants_none access rows i row others within is one later =
     subst (λ rs. AreWanted access rs others) (sym (in_front rows i row within is)) (inr (one, later))
+
+-- the line at this place makes its item
+pub owns_one : (item : Item) (lines : List MadeLine) (i : ℕ) (line : MadeLine) (own : Item) (others : List Item) → i < length lines → line ≡ get_or lines i line
+    → IsOwn item (line_of line) own → AreOwn item (map line_of (drop (i + 1) lines)) others → AreOwn item (map line_of (drop i lines)) (own ∷ others)
+owns_one item lines i line own others within is one later =
+    subst (λ ls. AreOwn item (map line_of ls) (own ∷ others)) (sym (in_front lines i line within is)) (own, others, refl, one, later)
+
+pub owns_end : (item : Item) (lines : List MadeLine) (i : ℕ) → length lines ≤ i → AreOwn item (map line_of (drop i lines)) []
+owns_end item lines i over = subst (λ ls. AreOwn item (map line_of ls) []) (sym (drop_all i lines over)) refl
+
+-- one item more
+pub means_more : (before : Meant) (items : List Item) (item : Item) (next after : Meant) → MeansAfter before items next → Means item next after
+    → MeansAfter before (items ++ item ∷ []) after
+means_more before [] item next after are means = (after, subst (λ m. Means item m after) (sym are) means, refl)
+means_more before (first ∷ items) item next after (behind, one, later) means = (behind, one, means_more behind items item next after later means)
 
 -- nothing is left to go through
 pub wants_end : (access : List HeldAccess) (rows : List HeldFamily) (i : ℕ) → length rows ≤ i → AreWanted access (drop i rows) []

@@ -2,3 +2,5 @@ pub mod Orders
 pub mod Items
 pub mod Lists
 pub mod Kept
+pub mod Stands
+pub mod Meant

@@ -129,14 +129,14 @@ fn is_text_access(row: &AccessRow) -> bool
 }
 
 /// The names of the entry's row are UTF-8.
-fn is_text_entry(entry: &Entry) -> bool
+pub(crate) fn is_text_entry(entry: &Entry) -> bool
     ensures { IsTrue result ↔ IsText entry.now }
 {
     match entry {
         Entry::Group(row) => is_text(&row.group) && is_text(&row.name),
         Entry::Access(row) => is_text_access(row),
         Entry::Family(row) => is_text(&row.view),
-        Entry::Nothing | Entry::Begins(_) | Entry::Told(_) => true,
+        Entry::Nothing | Entry::Begins(_) | Entry::Simple(_) | Entry::Told(_) => true,
     }
 }
 

@@ -7,12 +7,16 @@ mod copies;
 mod items;
 mod kept;
 mod lists;
+mod meaning;
 mod rows;
 mod settled;
+mod stands;
 
 pub use copies::{copy_access, copy_family, copy_group};
 pub use items::{Followed, Include, Item, Made, read_items};
 pub use kept::{families_kept, find, groups_kept};
 pub use lists::{Lists, lists_of};
+pub use meaning::meant;
 pub use rows::{Held, HeldAccess, HeldFamily, HeldGroup, Place};
 pub use settled::access_kept;
+pub use stands::{MadeLine, lines_of};

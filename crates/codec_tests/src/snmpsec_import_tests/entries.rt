@@ -17,13 +17,12 @@ view v includes .1
 rouser ann priv
 disk / 10%";
 
-const NOTES: [Note; 7] = [
+const NOTES: [Note; 6] = [
     Note::Other,
     Note::Other,
     Note::NoSection,
     Note::Bare,
     Note::Fault(Directive::View, LineFault::Refused(Refusal::BadType)),
-    Note::LeftOut(Directive::ReadUser),
     Note::Other,
 ];
 
@@ -47,6 +46,11 @@ fn each_line_makes_an_entry(rt: HostRuntime) -> Result<(), Fail> {
     );
     assert!(rt; matches!(&entries[2], Entry::Family(row) if row.include));
     assert!(rt; matches!(&entries[3], Entry::Access(row) if row.model == 0));
+    assert!(rt;
+        entries
+            .iter()
+            .any(|entry| matches!(entry, Entry::Simple(_)))
+    );
     assert_eq!(rt; notes(&rt, &entries)?.as_slice(), NOTES.as_slice());
     Ok(())
 }

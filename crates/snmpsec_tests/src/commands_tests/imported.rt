@@ -1,7 +1,7 @@
 //! Configurations that lines of snmpd.conf come to. The expected rows are net-snmp 5.9.3's.
 
 use snmpsec_imported::{Imported, Kind, import, is_serious, kept_of, notes_text};
-use snmpsec_lists::{lists_of, read_items};
+use snmpsec_lists::{lists_of, meant, read_items};
 use std::test::Fail;
 use vacm_core::{ContextRow, Name};
 
@@ -12,7 +12,7 @@ access watchers \"\" usm auth exact system none none
 access watchers \"\" usm auth prefix system none none
 view system included .1.3.6.1.2.1.1 ff:a0:ff
 view system included .1.3.6.1.2.1.1
-rouser ann
+rouser ann priv .1.3.6.1.2.1.2
 view system includes .1
 group g usm
 ";
@@ -21,11 +21,28 @@ const TEXT: &[u8] = b"# context
 [[context]]
 name = \"\"
 
+# f:8
+[[group]]
+model = 3
+name = \"ann\"
+group = \"grpann\"
+
 # f:2
 [[group]]
 model = 3
 name = \"walter \\\"w\\\"\"
 group = \"watchers\"
+
+# f:8
+[[access]]
+group = \"grpann\"
+prefix = \"\"
+model = 3
+level = \"authPriv\"
+match = \"prefix\"
+read = \"viewUSM1\"
+write = \"none\"
+notify = \"none\"
 
 # f:4
 [[access]]
@@ -44,10 +61,15 @@ view = \"system\"
 subtree = \"1.3.6.1.2.1.1\"
 include = true
 mask = \"ff\"
+
+# f:8
+[[family]]
+view = \"viewUSM1\"
+subtree = \"1.3.6.1.2.1.2\"
+include = true
 ";
 
 const NOTES: &[u8] = b"f:1: other: sysLocation
-f:8: left out: rouser: such lines are not taken over
 f:9: refused by snmpd: view: TYPE must be included/excluded?
 f:10: undefined: group: a word is missing
 f:3: ignored: group: the row of f:2 has the same index
@@ -70,7 +92,7 @@ fn files(rt: &HostRuntime) -> Result<Vec<String>, Fail> {
 
 fn imported(rt: &HostRuntime, text: &[u8]) -> Result<Imported, Fail> {
     let items = read_items(rt.alloc(), 0, text)?;
-    Ok(import(rt.alloc(), &files(rt)?, &items, contexts(rt)?)?)
+    Ok(import(rt.alloc(), &files(rt)?, items, contexts(rt)?)?)
 }
 
 #[test]
@@ -107,12 +129,12 @@ fn notes_are_serious_or_not(rt: HostRuntime) -> Result<(), Fail> {
 
 #[test]
 fn rows_that_count_are_kept(rt: HostRuntime) -> Result<(), Fail> {
-    let items = read_items(rt.alloc(), 0, FILE)?;
+    let items = meant(rt.alloc(), read_items(rt.alloc(), 0, FILE)?)?;
     let lists = lists_of(rt.alloc(), &items)?;
     let kept = kept_of(rt.alloc(), &lists, contexts(&rt)?)?;
-    assert_eq!(rt; lists.groups.len(), 2);
-    assert_eq!(rt; kept.groups.len(), 1);
-    assert_eq!(rt; kept.access.len(), 1);
-    assert_eq!(rt; kept.families.len(), 1);
+    assert_eq!(rt; lists.groups.len(), 3);
+    assert_eq!(rt; kept.groups.len(), 2);
+    assert_eq!(rt; kept.access.len(), 2);
+    assert_eq!(rt; kept.families.len(), 2);
     Ok(())
 }

@@ -1,0 +1,11 @@
+use Rattle.std.proofs.Common.{sym, subst, ◌∙◌, ap, map}
+use Rattle.std.specs.Option.{option_map}
+use Rattle.snmpsec_lists.specs.Stands.{line_of, AreOwn}
+use Rattle.snmpsec_lists.proofs.meaning.stood_for.Goals as goal
+
+pub returns : goal.returns
+returns c = (
+  c.in-Some.simple.now,
+  sym c.simple_in.ensures ∙ ap (option_map (λ simple. simple.now)) c.in-Some.is,
+  subst (λ ls. AreOwn c.args.item.now ls c.in_ok-own_items.field-0.items) (ap (map line_of) c.deref.ensures.value ∙ c.in_ok-lines.ensures) c.in_ok-own_items.ensures,
+)
