@@ -5,6 +5,7 @@ mod choice;
 mod entries;
 mod groups;
 mod lines;
+mod settings;
 mod simple;
 mod subtrees;
 mod values;

@@ -1,5 +1,6 @@
 //! What snmpd holds after lines, and which of it counts. The expected rows are net-snmp 5.9.3's.
 
+use snmp_ber::Level;
 use snmpsec_import::{Directive, Entry, Note};
 use snmpsec_lists::{
     HeldAccess, HeldFamily, HeldGroup, Include, Item, Lists, Made, MadeLine, Place, access_kept,
@@ -220,7 +221,32 @@ fn behind_a_simple_line_stand_those_that_it_stands_for(rt: HostRuntime) -> Resul
     );
     assert_eq!(rt;
         lines_of_access(&rt, &lists.access)?.as_slice(),
-        [1, 3, 4].as_slice()
+        [5, 1, 3, 4].as_slice()
     );
+    Ok(())
+}
+
+/// A row that fits the first line behind it, another index though it has; and a line that none fits.
+const SETS: &[u8] = b"access g \"\" any noauth prefix narrow none none
+setaccess g \"\" usm auth exact read wide
+setaccess g adm usm auth prefix write high
+setaccess g admin usm priv exact notify low
+";
+
+#[test]
+fn a_view_of_the_chosen_row_is_set(rt: HostRuntime) -> Result<(), Fail> {
+    let lists = lists(&rt, SETS)?;
+    assert_eq!(rt;
+        lines_of_access(&rt, &lists.access)?.as_slice(),
+        [1, 3].as_slice()
+    );
+    let first = &lists.access.first().ok_or("a first row")?.row;
+    assert!(rt; first.model == 0 && first.level == Level::NoAuthNoPriv);
+    assert!(rt; first.matching == Matching::Exact && first.read.as_slice() == b"wide".as_slice());
+    let second = &lists.access.get(1).ok_or("a second row")?.row;
+    assert!(rt; second.prefix.as_slice() == b"adm".as_slice() && second.read.as_slice().is_empty());
+    assert!(rt; second.write.as_slice() == b"high".as_slice());
+    assert!(rt; second.notify.as_slice() == b"low".as_slice());
+    assert!(rt; second.matching == Matching::Exact && second.level == Level::AuthNoPriv);
     Ok(())
 }

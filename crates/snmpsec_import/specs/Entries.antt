@@ -6,6 +6,7 @@ use Rattle.snmpsec_import.specs.Lines.{IsLine, HasDirective}
 use Rattle.snmpsec_import.specs.Directives.{IsDirective}
 use Rattle.snmpsec_import.specs.Groups.{SaysGroup, TellsNoGroup}
 use Rattle.snmpsec_import.specs.Accesses.{SaysAccess, TellsNoAccess}
+use Rattle.snmpsec_import.specs.Settings.{SaysSetAccess, TellsNoSetAccess}
 use Rattle.snmpsec_import.specs.Simple.{simple_of, SaysSimpleLine, TellsNoSimpleLine}
 use Rattle.snmpsec_import.specs.Views.{SaysFamily, TellsNoFamily}
 use Rattle.snmpsec_import.specs.declared.lines.Section.{Section}
@@ -16,7 +17,7 @@ use Rattle.snmpsec_import.specs.declared.directives.Directive.TheVariants as dir
 use Rattle.snmpsec_import.specs.declared.fault.LineFault.{LineFault}
 use Rattle.snmpsec_import.specs.declared.fault.LineFault.TheVariants as faults
 use Rattle.snmpsec_import.specs.declared.entries.Entry.{Entry}
-use Rattle.snmpsec_import.specs.declared.entries.Entry.TheVariants.{Nothing, Begins, Group, Access, Family, Simple, Told}
+use Rattle.snmpsec_import.specs.declared.entries.Entry.TheVariants.{Nothing, Begins, Group, Access, Family, Simple, Set, Told}
 use Rattle.snmpsec_import.specs.declared.entries.Note.{Note}
 use Rattle.snmpsec_import.specs.declared.entries.Note.TheVariants.{Unclosed, NoSection, Bare, Other, LeftOut, Fault}
 
@@ -42,13 +43,14 @@ pub record HasText (force : Section) (line : List ℕ) (directive : Directive) (
 -- a directive whose lines aren't read: there is a note, and no row
 abbrev pub IsUnread : Directive → Type 0
 IsUnread directive =
-    (directive ≢ directives.Group) × (directive ≢ directives.Access) × (directive ≢ directives.View) × (directive ≢ directives.Other)
+    (directive ≢ directives.Group) × (directive ≢ directives.Access) × (directive ≢ directives.SetAccess) × (directive ≢ directives.View) × (directive ≢ directives.Other)
     × (simple_of directive ≡ None)
 
 -- why a line of this directive makes no row
 abbrev pub TellsNoRow : Directive → List ℕ → LineFault → Type 0
 TellsNoRow directives.Group text fault = TellsNoGroup text fault
 TellsNoRow directives.Access text fault = TellsNoAccess text fault
+TellsNoRow directives.SetAccess text fault = TellsNoSetAccess text fault
 TellsNoRow directives.View text fault = TellsNoFamily text fault
 TellsNoRow directive text fault = TellsNoSimpleLine directive text fault
 
@@ -70,6 +72,7 @@ IsEntry force line (Begins section) = IsLine force line (lines.Begins section)
 IsEntry force line (Group row) = (text : List ℕ) × HasText force line directives.Group text × SaysGroup text row
 IsEntry force line (Access row) = (text : List ℕ) × HasText force line directives.Access text × SaysAccess text row
 IsEntry force line (Family row) = (text : List ℕ) × HasText force line directives.View text × SaysFamily text row
+IsEntry force line (Set setting) = (text : List ℕ) × HasText force line directives.SetAccess text × SaysSetAccess text setting
 IsEntry force line (Simple simple) = (directive : Directive) × (text : List ℕ) × HasText force line directive text × SaysSimpleLine directive text simple
 IsEntry force line (Told note) = IsNote force line note
 
@@ -78,6 +81,7 @@ abbrev pub IsMade : Directive → List ℕ → Entry → Type 0
 IsMade directive text (Group row) = (directive ≡ directives.Group) × SaysGroup text row
 IsMade directive text (Access row) = (directive ≡ directives.Access) × SaysAccess text row
 IsMade directive text (Family row) = (directive ≡ directives.View) × SaysFamily text row
+IsMade directive text (Set setting) = (directive ≡ directives.SetAccess) × SaysSetAccess text setting
 IsMade directive text (Simple simple) = SaysSimpleLine directive text simple
 IsMade directive text (Told Other) = directive ≡ directives.Other
 IsMade directive text (Told (LeftOut other)) = (other ≡ directive) × IsUnread directive

@@ -10,5 +10,6 @@ pub mod Views
 pub mod Choice
 pub mod Types
 pub mod Simple
+pub mod Settings
 pub mod Entries
 pub mod Files

@@ -18,8 +18,8 @@ fn fits_context(row: &AccessRow, context: &[u8]) -> bool
     }
 }
 
-/// The row is for such a message.
-fn fits_message(row: &AccessRow, group: &[u8], model: u32, level: Level, context: &[u8]) -> bool
+/// The row is for such a message (RFC 3415, section 3.2).
+pub fn fits_message(row: &AccessRow, group: &[u8], model: u32, level: Level, context: &[u8]) -> bool
     ensures { IsTrue result ↔ FitsMessage group.now model level context.now row.now }
 {
     row.group.as_slice() == group

@@ -12,6 +12,7 @@ use crate::directives::{Directive, directive_of};
 use crate::fault::LineFault;
 use crate::groups::group_row;
 use crate::lines::{Line, Section, read_line};
+use crate::settings::{Setting, set_access};
 use crate::simple::{Simple, SimpleKind, simple_line, simple_of};
 use crate::types::Types;
 use crate::views::family_row;
@@ -48,6 +49,8 @@ pub enum Entry {
     Family(FamilyRow),
     /// What a simple line says: the lines that it stands for make its rows.
     Simple(Simple),
+    /// A view that is set.
+    Set(Setting),
     /// No row.
     Told(Note),
 }
@@ -110,6 +113,10 @@ pub fn entry_of(alloc: Global, directive: Directive, text: &[u8]) -> Result<Entr
         },
         Directive::View => match family_row(text) {
             Ok(row) => Ok(Entry::Family(row)),
+            Err(fault) => note_of(directive, fault),
+        },
+        Directive::SetAccess => match set_access(text) {
+            Ok(setting) => Ok(Entry::Set(setting)),
             Err(fault) => note_of(directive, fault),
         },
         Directive::Other => Ok(Entry::Told(Note::Other)),

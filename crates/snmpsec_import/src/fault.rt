@@ -26,6 +26,8 @@ pub enum Refusal {
     LongIndex,
     #[error("TYPE must be included/excluded?")]
     BadType,
+    #[error("illegal view name")]
+    BadViewType,
     #[error("MASK too long")]
     LongMask,
     #[error("invalid MASK")]

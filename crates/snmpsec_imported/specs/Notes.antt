@@ -6,6 +6,8 @@ use Rattle.snmpsec_import.specs.declared.entries.Note.{Note}
 use Rattle.snmpsec_import.specs.declared.entries.Note.TheVariants as notes
 use Rattle.snmpsec_import.specs.declared.entries.Entry.{Entry}
 use Rattle.snmpsec_import.specs.declared.entries.Entry.TheVariants as entries
+use Rattle.snmpsec_import.specs.declared.types.ViewWord.{ViewWord}
+use Rattle.snmpsec_import.specs.declared.types.ViewWord.TheVariants as words
 use Rattle.snmpsec_import.specs.declared.simple.Who.{Who}
 use Rattle.snmpsec_import.specs.declared.simple.Who.TheVariants as whom
 use Rattle.snmpsec_import.specs.declared.simple.Simple.{Simple}
@@ -57,9 +59,17 @@ who_kind _ = None
 abbrev pub simple_kind : Simple → Option Kind
 simple_kind simple = if simple.types.unknown then Some Refused else who_kind simple.named.who
 
+-- views of these types are asked for by snmptrapd alone
+abbrev pub set_kind : ViewWord → Option Kind
+set_kind words.Log = Some LeftOut
+set_kind words.Execute = Some LeftOut
+set_kind words.Net = Some LeftOut
+set_kind _ = None
+
 abbrev pub entry_kind : Entry → Option Kind
 entry_kind (entries.Told note) = Some (note_kind note)
 entry_kind (entries.Simple simple) = simple_kind simple
+entry_kind (entries.Set setting) = set_kind setting.word
 entry_kind _ = None
 
 -- of what kind the note on a line is; none is on a row, on a simple line whose lines say all, on an empty line, and on one that begins a section

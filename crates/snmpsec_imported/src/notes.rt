@@ -5,7 +5,7 @@ ghost use Rattle.std.specs.List.{flat_map};
 ghost use Rattle.snmpsec_imported.specs.Notes as spec;
 ghost use Rattle.snmpsec_imported.specs.Notes.{told_of, tells};
 
-use snmpsec_import::{Directive, Entry, LineFault, Note, Simple, Who};
+use snmpsec_import::{Directive, Entry, LineFault, Note, Simple, ViewWord, Who};
 use snmpsec_lists::{Followed, Include, Item, Made, Place};
 use std::alloc::{AllocError, Global};
 use std::fmt;
@@ -125,6 +125,16 @@ fn simple_kind(simple: &Simple) -> Option<Kind>
     }
 }
 
+/// The kind of the note on a view of this type that is set, where there is one.
+fn set_kind(word: ViewWord) -> Option<Kind>
+    ensures { result ≡ spec.set_kind word }
+{
+    match word {
+        ViewWord::Log | ViewWord::Execute | ViewWord::Net => Some(Kind::LeftOut),
+        ViewWord::Read | ViewWord::Write | ViewWord::Notify => None,
+    }
+}
+
 /// The kind of the note on a line, where there is one.
 fn kind_of(made: &Made) -> Option<Kind>
     ensures { result ≡ spec.kind_of made.now }
@@ -132,6 +142,7 @@ fn kind_of(made: &Made) -> Option<Kind>
     match made {
         Made::Entry(Entry::Told(note)) => Some(note_kind(*note)),
         Made::Entry(Entry::Simple(simple)) => simple_kind(simple),
+        Made::Entry(Entry::Set(setting)) => set_kind(setting.word),
         Made::Entry(_) => None,
         Made::NotText => Some(Kind::LeftOut),
         Made::Include(include) => Some(include_kind(include)),
@@ -189,6 +200,7 @@ fn why_of(made: &Made) -> Why {
     match made {
         Made::Entry(Entry::Told(note)) => why_note(*note),
         Made::Entry(Entry::Simple(simple)) => why_simple(simple),
+        Made::Entry(Entry::Set(_)) => Why::Words("snmptrapd alone asks for views of this type"),
         Made::Entry(_) => Why::Plain,
         Made::NotText => Why::Words("a name isn't UTF-8"),
         Made::Include(Include::Unclear) => {

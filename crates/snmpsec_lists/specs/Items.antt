@@ -8,7 +8,7 @@ use Rattle.snmpsec_import.specs.declared.lines.Section.{Section}
 use Rattle.snmpsec_import.specs.declared.lines.Line.{Line}
 use Rattle.snmpsec_import.specs.declared.lines.Line.TheVariants.{Directive}
 use Rattle.snmpsec_import.specs.declared.entries.Entry.{Entry}
-use Rattle.snmpsec_import.specs.declared.entries.Entry.TheVariants.{Group, Access, Family}
+use Rattle.snmpsec_import.specs.declared.entries.Entry.TheVariants.{Group, Access, Family, Set}
 use Rattle.snmpsec_lists.specs.declared.rows.Place.TheVariants as places
 use Rattle.snmpsec_lists.specs.declared.items.Include.{Include}
 use Rattle.snmpsec_lists.specs.declared.items.Include.TheVariants.{Unclear, Search, File, Folder}
@@ -54,6 +54,7 @@ abbrev pub IsText : Entry → Type 0
 IsText (Group row) = IsUtf8 row.group × IsUtf8 row.name
 IsText (Access row) = IsUtf8 row.group × IsUtf8 row.prefix × IsUtf8 row.read × IsUtf8 row.write × IsUtf8 row.notify
 IsText (Family row) = IsUtf8 row.view
+IsText (Set setting) = IsUtf8 setting.group × IsUtf8 setting.context × IsUtf8 setting.view
 IsText _ = ⊤
 
 abbrev pub IsMade : Section → List ℕ → Line → Made → Type 0

@@ -1,7 +1,7 @@
 -- What snmpd holds after lines (net-snmp 5.9.3).
 use Rattle.std.specs.Prelude.{◌≡◌, ℕ, Bool, true, false, List, [], ◌∷◌, codes}
 use Rattle.snmpsec_import.specs.declared.entries.Entry.{Entry}
-use Rattle.snmpsec_import.specs.declared.entries.Entry.TheVariants.{Group, Access, Family}
+use Rattle.snmpsec_import.specs.declared.entries.Entry.TheVariants.{Group, Access, Family, Set}
 use Rattle.snmpsec_lists.specs.declared.rows.Place.{Place}
 use Rattle.snmpsec_lists.specs.declared.rows.Place.TheVariants.{BuiltIn}
 use Rattle.snmpsec_lists.specs.declared.rows.HeldGroup.{HeldGroup}
@@ -11,6 +11,7 @@ use Rattle.snmpsec_lists.specs.declared.lists.Lists.{Lists}
 use Rattle.snmpsec_lists.specs.declared.items.Item.{Item}
 use Rattle.snmpsec_lists.specs.declared.items.Made.{Made}
 use Rattle.snmpsec_lists.specs.declared.items.Made.TheVariants as made
+use Rattle.snmpsec_lists.specs.Sets.{SetsAccess}
 use Rattle.snmpsec_lists.specs.Orders.{Adds, order_of_groups, order_of_access, order_of_families}
 
 -- the rows of the three tables, in snmpd's order
@@ -38,7 +39,7 @@ at_start = record { groups = []; access = []; families = built_in }
 
 -- ---- line by line
 
--- A row goes into its table, and no other table changes.
+-- A row goes into its table, or a row of it is set, and no other table changes.
 abbrev pub TakesEntry : Place → Entry → Tables → Tables → Type 0
 TakesEntry place (Group row) before after =
     Adds order_of_groups before.groups (record { place = place; row = row }) after.groups × (after.access ≡ before.access) × (after.families ≡ before.families)
@@ -46,6 +47,8 @@ TakesEntry place (Access row) before after =
     Adds order_of_access before.access (record { place = place; row = row }) after.access × (after.groups ≡ before.groups) × (after.families ≡ before.families)
 TakesEntry place (Family row) before after =
     Adds order_of_families before.families (record { place = place; row = row }) after.families × (after.groups ≡ before.groups) × (after.access ≡ before.access)
+TakesEntry place (Set setting) before after =
+    SetsAccess place setting before.access after.access × (after.groups ≡ before.groups) × (after.families ≡ before.families)
 TakesEntry place _ before after = after ≡ before
 
 abbrev pub TakesMade : Place → Made → Tables → Tables → Type 0

@@ -12,7 +12,9 @@ ghost use Rattle.snmpsec_lists.specs.Items as spec;
 ghost use Rattle.snmpsec_lists.specs.Items.{BeginsSmall, IsIncludeWord, NamesFiles, IsInclude, IsText, IsMade, IsItem, AreItems, word_of};
 
 use crate::rows::Place;
-use snmpsec_import::{Entry, Line, Section, first_line, read_entry, read_line, section_behind};
+use snmpsec_import::{
+    Entry, Line, Section, Setting, first_line, read_entry, read_line, section_behind,
+};
 use std::alloc::{AllocError, Global};
 use vacm_core::{AccessRow, Name};
 
@@ -128,6 +130,13 @@ fn is_text_access(row: &AccessRow) -> bool
         && is_text(&row.notify)
 }
 
+/// The names of what is set are UTF-8.
+fn is_text_setting(setting: &Setting) -> bool
+    ensures { IsTrue result ↔ (IsUtf8 setting.now.group × IsUtf8 setting.now.context × IsUtf8 setting.now.view) }
+{
+    is_text(&setting.group) && is_text(&setting.context) && is_text(&setting.view)
+}
+
 /// The names of the entry's row are UTF-8.
 pub(crate) fn is_text_entry(entry: &Entry) -> bool
     ensures { IsTrue result ↔ IsText entry.now }
@@ -136,6 +145,7 @@ pub(crate) fn is_text_entry(entry: &Entry) -> bool
         Entry::Group(row) => is_text(&row.group) && is_text(&row.name),
         Entry::Access(row) => is_text_access(row),
         Entry::Family(row) => is_text(&row.view),
+        Entry::Set(setting) => is_text_setting(setting),
         Entry::Nothing | Entry::Begins(_) | Entry::Simple(_) | Entry::Told(_) => true,
     }
 }

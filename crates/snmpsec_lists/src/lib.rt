@@ -9,6 +9,7 @@ mod kept;
 mod lists;
 mod meaning;
 mod rows;
+mod sets;
 mod settled;
 mod stands;
 

@@ -1,7 +1,7 @@
 use Rattle.std.proofs.Common.{ℕ, List, Option}
 use Rattle.snmpsec_import.specs.declared.types.Types.{Types}
 use Rattle.snmpsec_import.specs.declared.directives.Directive.{Directive}
-use Rattle.snmpsec_import.specs.declared.directives.Directive.TheVariants.{Group, Access, View}
+use Rattle.snmpsec_import.specs.declared.directives.Directive.TheVariants.{Group, Access, SetAccess, View}
 use Rattle.snmpsec_import.specs.declared.simple.SimpleKind.{SimpleKind}
 use Rattle.snmpsec_import.specs.declared.fault.LineFault.{LineFault}
 use Rattle.snmpsec_import.specs.Simple.{IsSimple, TellsNoSimple}
@@ -12,6 +12,7 @@ tells_simple : (directive : Directive) (kind : SimpleKind) (given : Option Types
     → TellsNoSimple kind given text fault → TellsNoRow directive text fault
 tells_simple Group kind given text fault is tells = absurd (cc is)
 tells_simple Access kind given text fault is tells = absurd (cc is)
+tells_simple SetAccess kind given text fault is tells = absurd (cc is)
 tells_simple View kind given text fault is tells = absurd (cc is)
 tells_simple directive kind given text fault is tells = (kind, given, is, tells)
 
