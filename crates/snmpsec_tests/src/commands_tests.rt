@@ -195,7 +195,9 @@ fn a_word_and_a_file_exclude_each_other(rt: HostRuntime) -> Result<(), Fail> {
     let none = refusal_of(&rt, &["snmpsec", "open", "c"])?;
     assert!(rt; none.as_str().contains("HEX"), "{none}");
     let alone = refusal_of(&rt, &["snmpsec", "show", "--port", "161"])?;
-    assert!(rt; alone.as_str().contains("--from"), "{alone}");
+    assert!(rt; alone.as_str().contains("HEX"), "{alone}");
+    let beside = refusal_of(&rt, &["snmpsec", "show", "30", "--port", "161"])?;
+    assert!(rt; beside.as_str().contains("--port"), "{beside}");
     assert_eq!(rt;
         refusal_of(&rt, &["snmpsec", "open", "c", "--from", "f"])?.len(),
         0

@@ -89,9 +89,9 @@ pub(crate) fn with_source<'a>(
         .help(SOURCE);
     command
         .arg(source)?
-        .arg(form(alloc).requires_arg("FROM")?)?
-        .arg(port(alloc).requires_arg("FROM")?)?
-        .arg(moment(alloc).requires_arg("FROM")?)
+        .arg(form(alloc).conflicts_with("HEX")?)?
+        .arg(port(alloc).conflicts_with("HEX")?)?
+        .arg(moment(alloc).conflicts_with("HEX")?)
 }
 
 /// The words of a file of datagrams of this name.
