@@ -33,10 +33,10 @@ for test in calls manager_calls bindings keys exchange hostile; do
 done
 $cc "$@" "$here/tests/hold.c" "$out/words_of.o" $library -o "$out/hold"
 $cc "$@" -pthread "$here/tests/threads.c" $library -o "$out/threads"
-$cc "$@" "$here/tests/cost.c" $library -o "$out/cost"
+$cc "$@" "$here/tests/page.c" $library "$here/tests/cost.c" -o "$out/cost"
 # with nothing wiped
-plain="$here/tests/plain.c $out/proved.o $out/api.o $out/words.o"
-$cc "$@" "$here/tests/cost.c" $plain -o "$out/cost_plain"
+plain="$out/proved.o $here/tests/plain.c $out/api.o $out/words.o"
+$cc "$@" "$here/tests/page.c" $plain "$here/tests/cost.c" -o "$out/cost_plain"
 $cc "$@" "$here/tests/stack.c" $plain -o "$out/stack"
 $cc "$@" "$here/tests/boots.c" "$out/files.o" -o "$out/boots"
 $cc -shared "$@" $library -Wl,-soname,libsnmpsec.so.0 -Wl,--version-script="$here/snmpsec.map" -o "$out/libsnmpsec.so.0"
