@@ -5,6 +5,7 @@ ghost use Rattle.snmpsec_notes.specs.Names.{AddsNames, IsNote};
 
 use crate::counters::counter_name;
 use crate::quoted::write_escaped;
+use hex::FromHexError;
 use snmp_ber::split_once;
 use std::alloc::{AllocError, Global};
 use std::fmt;
@@ -69,8 +70,10 @@ fn text_name(alloc: Global, digits: &str) -> Result<String, AllocError> {
     if digits == "-" {
         return Ok(none);
     }
-    let Ok(octets) = hex::decode(alloc, digits) else {
-        return Ok(none);
+    let octets = match hex::decode(alloc, digits) {
+        Ok(octets) => octets,
+        Err(FromHexError::OutOfMemory) => return Err(AllocError),
+        Err(_) => return Ok(none),
     };
     match std::str::from_utf8(&octets) {
         Ok(text) => format!(in alloc; "{}", Whole(text)),
