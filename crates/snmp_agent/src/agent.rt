@@ -128,14 +128,7 @@ impl Agent {
         }
         let counters = counted(self.counters, why);
         let counts = one_more(self.counts, drop_counter_of(why));
-        match report(
-            &mut self.users,
-            &self.engine,
-            now,
-            &counters,
-            why,
-            datagram,
-        ) {
+        match report(&mut self.users, &self.engine, now, &counters, why, datagram) {
             Ok(report) => {
                 self.counters = counters;
                 self.counts = counts;
@@ -346,13 +339,6 @@ impl Agent {
             level,
             salt,
         };
-        send_notification(
-            &mut self.users,
-            &self.engine.id,
-            own,
-            &to,
-            front,
-            bindings,
-        )
+        send_notification(&mut self.users, &self.engine.id, own, &to, front, bindings)
     }
 }

@@ -131,14 +131,7 @@ impl Agent {
             value: counts[counter.place()],
             salt,
         };
-        match send_refusal(
-            &mut self.users,
-            &self.engine.id,
-            own,
-            taken,
-            pdu,
-            counted,
-        ) {
+        match send_refusal(&mut self.users, &self.engine.id, own, taken, pdu, counted) {
             Ok(text) => {
                 self.counts = counts;
                 Ok(Some(text))
