@@ -18,11 +18,14 @@ use usm_core::Users;
 /// To whom a notification goes.
 #[derive(Clone, Copy)]
 pub(crate) struct Recipient<'a> {
-    /// msgID.
+    /// msgID, at most 2147483647.
     pub(crate) id: u32,
+    /// msgUserName, at most 32 octets.
     pub(crate) user: &'a [u8],
     pub(crate) level: Level,
     pub(crate) salt: [u8; 8],
+    pub(crate) ghost id_fits: { id ≤ 2147483647 },
+    pub(crate) ghost user_fits: { length user.now ≤ 32 },
 }
 
 /// A message of this engine that isn't answered, with its own boots and time.
@@ -34,8 +37,6 @@ pub(crate) fn send_notification<B: Spelled>(
     front: &Front<'_>,
     bindings: &[B],
 ) -> Result<Vec<u8>, TakeFault>
-    requires id { to.now.id ≤ 2147483647 }
-    requires user { length to.now.user.now ≤ 32 }
     requires tag { IsPduTag front.now.tag }
     requires fit { All (λ b. B.fits b) bindings.now }
     requires pair { IsPair own }

@@ -92,9 +92,7 @@ pub fn count_within<B: Spelled>(
     bindings: &[B],
     limit: usize,
 ) -> Option<usize>
-    requires id { envelope.now.id ≤ 2147483647 }
     requires engine { length envelope.now.engine.now ≤ 32 }
-    requires user { length envelope.now.user.now ≤ 32 }
     requires fit { All (λ b. B.fits b) bindings.now }
     requires limit { limit ≤ LARGEST }
     ensures some { IfSome result (IsLongestFront users.now.users limit (λ vs. sent_with envelope.now (scoped_after front.now vs)) (map B.says bindings.now)) }

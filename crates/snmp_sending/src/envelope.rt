@@ -1,6 +1,6 @@
 //! Envelopes: to whom and how messages are sent.
 
-ghost use Rattle.std.specs.Prelude.{◌≡◌};
+ghost use Rattle.std.specs.Prelude.{◌≡◌, ◌≤◌, length};
 ghost use Rattle.snmp_sending.specs.Bodies.{header_at};
 
 use engine_clock::Pair;
@@ -23,6 +23,8 @@ pub struct Envelope<'a> {
     pub user: &'a [u8],
     /// msgPrivacyParameters at authPriv; the other levels send none.
     pub salt: [u8; 8],
+    pub ghost id_fits: { id ≤ 2147483647 },
+    pub ghost user_fits: { length user.now ≤ 32 },
 }
 
 impl<'a> Envelope<'a> {

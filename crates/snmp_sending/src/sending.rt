@@ -56,8 +56,6 @@ fn seal_body<B: Spelled>(
     front: &Front<'_>,
     bindings: &[B],
 ) -> Result<Vec<u8>, UsmFault>
-    requires id { envelope.now.id ≤ 2147483647 }
-    requires user { length envelope.now.user.now ≤ 32 }
     requires tag { IsPduTag front.now.tag }
     requires fit { All (λ b. B.fits b) bindings.now }
     ensures rows { IfSome (seal_answer result) (Seals users.old.users (sent_with envelope.now (scoped_after front.now (map B.says bindings.now)))) }
@@ -91,8 +89,6 @@ pub fn send(
     envelope: &Envelope<'_>,
     body: &Body<'_>,
 ) -> Result<Vec<u8>, TakeFault>
-    requires id { envelope.now.id ≤ 2147483647 }
-    requires user { length envelope.now.user.now ≤ 32 }
     requires body { BodyFits body.now }
     ensures rows { IfSome (send_answer result) (Seals users.old.users (sent envelope.now body.now)) }
 
@@ -116,8 +112,6 @@ pub fn send_of<B: Spelled>(
     front: &Front<'_>,
     bindings: &[B],
 ) -> Result<Vec<u8>, TakeFault>
-    requires id { envelope.now.id ≤ 2147483647 }
-    requires user { length envelope.now.user.now ≤ 32 }
     requires tag { IsPduTag front.now.tag }
     requires fit { All (λ b. B.fits b) bindings.now }
     ensures rows { IfSome (send_answer result) (Seals users.old.users (sent_with envelope.now (scoped_after front.now (map B.says bindings.now)))) }
@@ -153,9 +147,7 @@ pub fn send_front<B: Spelled>(
     bindings: &[B],
     limit: usize,
 ) -> Result<Fronted, TakeFault>
-    requires id { envelope.now.id ≤ 2147483647 }
     requires engine { length envelope.now.engine.now ≤ 32 }
-    requires user { length envelope.now.user.now ≤ 32 }
     requires pair { IsPair envelope.now.pair }
     requires tag { IsPduTag front.now.tag }
     requires fit { All (λ b. B.fits b) bindings.now }
@@ -179,8 +171,6 @@ pub fn send_front<B: Spelled>(
 
 /// The text of the message, as `plain` says.
 fn seal_plain(users: &Users, envelope: &Envelope<'_>, body: &Body<'_>) -> Result<Vec<u8>, UsmFault>
-    requires id { envelope.now.id ≤ 2147483647 }
-    requires user { length envelope.now.user.now ≤ 32 }
     requires level { envelope.now.level ≡ NoAuthNoPriv }
     requires body { BodyFits body.now }
     ensures rows { IfSome (seal_answer result) (Seals users.now.users (sent envelope.now body.now)) }
@@ -207,8 +197,6 @@ pub fn send_plain(
     envelope: &Envelope<'_>,
     body: &Body<'_>,
 ) -> Result<Vec<u8>, TakeFault>
-    requires id { envelope.now.id ≤ 2147483647 }
-    requires user { length envelope.now.user.now ≤ 32 }
     requires level { envelope.now.level ≡ NoAuthNoPriv }
     requires body { BodyFits body.now }
     ensures rows { IfSome (send_answer result) (Seals users.now.users (sent envelope.now body.now)) }

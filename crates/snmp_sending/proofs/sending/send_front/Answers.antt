@@ -56,10 +56,10 @@ returns-in-Err-send_of-clause-rows g c =
     let salt : length e.salt ≡ 8 = search rules in
     let scoped = scoped_is f (map says (take n bs)) c.in-Some.ensures.scoped in
     let fits : SendingFits m = record {
-      header = record { id = c.requires.id; least_size = omega arith; most_size = omega arith; least_model = omega arith; most_model = omega arith };
+      header = record { id = e.id_fits; least_size = omega arith; most_size = omega arith; least_model = omega arith; most_model = omega arith };
       boots = c.requires.pair.boots;
       time = c.requires.pair.time;
-      user = c.requires.user;
+      user = e.user_fits;
       salt = salt;
       content = scoped.0;
       scoped = scoped.1;
