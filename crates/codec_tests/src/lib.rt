@@ -4,6 +4,8 @@
 #[cfg(test)]
 mod engine_clock_tests;
 #[cfg(test)]
+mod examples;
+#[cfg(test)]
 mod snmp_ber_tests;
 #[cfg(test)]
 mod snmp_msg_tests;

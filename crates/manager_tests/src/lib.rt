@@ -2,6 +2,8 @@
 #![tactic(auto)]
 
 #[cfg(test)]
+mod examples;
+#[cfg(test)]
 mod snmp_manager_tests;
 #[cfg(test)]
 mod snmp_world_tests;

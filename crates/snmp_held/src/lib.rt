@@ -3,6 +3,15 @@
 //!
 //! Their calls are total: they take plain numbers and octets, and what is out of range is a fault of the call. What they give goes
 //! into buffers of the caller's.
+//!
+//! ```
+//! use snmp_held::AgentHandle;
+//!
+//! let config = b"[[user]]\nname = 'eve'\n";
+//! let mut agent = AgentHandle::of(rt.alloc(), config, b"\x80\x00\x1f\x88\x04k", 1, 0)?;
+//! assert!(rt; agent.take(1000, b"no message").is_err());
+//! assert_eq!(rt; agent.counter(4)?, 0);
+//! ```
 #![tactic(auto)]
 
 mod agent;

@@ -1,5 +1,15 @@
 //! What a datagram is answered: the table of refusals, from RFC 3412, section 7.2, and RFC 3414, section 3.2; and what is
 //! given on of a datagram that none of them refuses.
+//!
+//! ```
+//! use snmp_outcome::TakeFault;
+//!
+//! let fault = TakeFault::NotScoped { at: 39 };
+//! assert_eq!(rt;
+//!     (fault.number(), fault.name(), fault.place()),
+//!     (4, "NotScoped", Some(39))
+//! );
+//! ```
 #![tactic(auto)]
 
 mod fault;

@@ -1,4 +1,13 @@
 //! What goes out: the body of a message and its envelope, and the one way of writing them.
+//!
+//! ```
+//! use snmp_msg::{GET_REQUEST, RESPONSE};
+//! use snmp_sending::{Counter, is_confirmed};
+//!
+//! assert!(rt; is_confirmed(GET_REQUEST) && !is_confirmed(RESPONSE));
+//! let name = Counter::UnknownPduHandlers.name();
+//! assert_eq!(rt; name, [1, 3, 6, 1, 6, 3, 11, 2, 1, 3, 0].as_slice());
+//! ```
 #![tactic(auto)]
 
 mod body;

@@ -1,4 +1,11 @@
 //! The datagrams of a capture: what a file of captured packets holds, and which of them carry a datagram.
+//!
+//! ```
+//! use snmpsec_capture::begins_capture;
+//!
+//! assert!(rt; begins_capture(b"\xd4\xc3\xb2\xa1\x02\x00\x04\x00"));
+//! assert!(rt; !begins_capture(b"30 38 02 01 03"));
+//! ```
 #![tactic(auto)]
 
 mod blocks;

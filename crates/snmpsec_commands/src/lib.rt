@@ -1,4 +1,11 @@
 //! The commands of `snmpsec`: from the command line and the files that it names to what is printed, and the status.
+//!
+//! ```
+//! use snmpsec_commands::forms::{Form, form_of};
+//!
+//! assert!(rt; matches!(form_of("pcap"), Some(Form::Pcap)));
+//! assert!(rt; form_of("jpeg").is_none());
+//! ```
 #![tactic(auto)]
 
 mod captured;

@@ -2,6 +2,14 @@
 //!
 //! `Config::read` promises which rows a text stands for, and why a text is refused. A fault of a key says which key and what is
 //! wanted there. `AccessConfig::read` does the same without the keys of the users' passwords.
+//!
+//! ```
+//! use snmpsec_config::Config;
+//!
+//! let config = Config::read(rt.alloc(), b"[[user]]\nname = 'eve'\n")?;
+//! assert_eq!(rt; config.users.cached(), 0);
+//! assert!(rt; Config::read(rt.alloc(), b"[[user]]\nnam = 'eve'\n").is_err());
+//! ```
 #![tactic(auto)]
 
 mod config;

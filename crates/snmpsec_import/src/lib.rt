@@ -1,4 +1,12 @@
 //! Users, groups, access rows and views of snmpd.conf, as net-snmp 5.9.3 reads them.
+//!
+//! ```
+//! use snmpsec_import::group_row;
+//!
+//! let row = group_row(rt.alloc(), b"readers usm ann")?;
+//! assert_eq!(rt; row.model, 3);
+//! assert_eq!(rt; row.name.as_slice(), b"ann".as_slice());
+//! ```
 #![tactic(auto)]
 
 mod accesses;

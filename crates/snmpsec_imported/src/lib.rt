@@ -1,4 +1,15 @@
 //! The configuration that files of snmpd.conf come to, as text, and what isn't in it.
+//!
+//! ```
+//! use snmpsec_imported::import;
+//! use snmpsec_lists::read_items;
+//!
+//! let items = read_items(rt.alloc(), 0, b"group g usm ann\n")?;
+//! let mut files = Vec::new(rt.alloc());
+//! files.push("snmpd.conf".to_string(rt.alloc())?)?;
+//! let imported = import(rt.alloc(), &files, items, Vec::new(rt.alloc()))?;
+//! assert!(rt; imported.notes.is_empty());
+//! ```
 #![tactic(auto)]
 
 mod blocks;

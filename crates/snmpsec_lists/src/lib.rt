@@ -1,5 +1,13 @@
 //! What snmpd 5.9.3 holds after the lines of its files: users' groups, access rows and views in its own order, and of each index the row
 //! that counts.
+//!
+//! ```
+//! use snmpsec_lists::{lists_of, read_items};
+//!
+//! let items = read_items(rt.alloc(), 0, b"group g usm ann\nview v included .1.3\n")?;
+//! let lists = lists_of(rt.alloc(), &items)?;
+//! assert_eq!(rt; lists.groups.len(), 1);
+//! ```
 #![tactic(auto)]
 
 mod add;

@@ -1,5 +1,13 @@
 //! What is told beside what the commands print: what is wrong with a word, with a line of saved clocks or with a datagram, and the names
 //! of what is shown.
+//!
+//! ```
+//! use snmpsec_notes::{cut_message, nearest};
+//!
+//! let levels = ["noAuthNoPriv", "authNoPriv", "authPriv"];
+//! assert_eq!(rt; nearest(levels.as_slice(), "authpriv"), Some("authPriv"));
+//! assert!(rt; cut_message(&[0x30, 0x38, 0x02]).is_some());
+//! ```
 #![tactic(auto)]
 
 mod choices;

@@ -1,4 +1,11 @@
 //! What the program prints of a message: its fields, a line each, and a message opened by the keys of users.
+//!
+//! ```
+//! use snmpsec_open::octets_line;
+//!
+//! let line = octets_line(rt.alloc(), "user", b"ann")?;
+//! assert_eq!(rt; line.as_str(), "user 616e6e\n");
+//! ```
 #![tactic(auto)]
 
 mod laws;

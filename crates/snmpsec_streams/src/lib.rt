@@ -1,4 +1,15 @@
 //! Reads and writes of streams: what is read and written is known, and an interrupted one is tried again.
+//!
+//! ```
+//! use snmpsec_streams::{read_full, write_whole};
+//!
+//! let mut text: Vec<u8> = Vec::new(rt.alloc());
+//! write_whole(&mut text, b"snmp-clocks 2\n")?;
+//! let mut first = [0; 4];
+//! let mut reader = text.as_slice();
+//! assert_eq!(rt; read_full(&mut reader, &mut first)?, 4);
+//! assert_eq!(rt; first.as_slice(), b"snmp".as_slice());
+//! ```
 #![tactic(auto)]
 
 mod transfer;

@@ -3,3 +3,5 @@
 
 #[cfg(test)]
 mod commands_tests;
+#[cfg(test)]
+mod examples;

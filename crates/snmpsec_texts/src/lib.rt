@@ -1,5 +1,16 @@
 //! What the commands of `snmpsec` print that take no log, and their status: show, open, check-access, explain-access, who-sees,
 //! sees, check-config and merge-clocks.
+//!
+//! ```
+//! use snmpsec_texts::show_text;
+//!
+//! let output = show_text(rt.alloc(), "3005")?;
+//! assert_eq!(rt;
+//!     output.out.as_slice(),
+//!     b"refused 1 NotMessage at 0\n".as_slice()
+//! );
+//! assert_eq!(rt; output.status, 1);
+//! ```
 #![tactic(auto)]
 
 mod check;

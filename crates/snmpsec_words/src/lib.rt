@@ -1,4 +1,13 @@
 //! The command line: the commands, their words, and what help says of them.
+//!
+//! ```
+//! use snmpsec_words::{Command, parse};
+//!
+//! let mut words = Vec::new(rt.alloc());
+//! words.push("snmpsec".to_string(rt.alloc())?)?;
+//! words.push("version".to_string(rt.alloc())?)?;
+//! assert!(rt; matches!(parse(rt.alloc(), &words)?, Command::Version));
+//! ```
 #![tactic(auto)]
 
 ghost use Rattle.std.specs.Prelude.{◌≡◌, IfOk};

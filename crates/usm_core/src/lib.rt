@@ -1,5 +1,13 @@
 //! The user-based security model for SNMPv3 (RFC 3414): what users with the keys of their passwords make of a message that comes
 //! in or goes out.
+//!
+//! ```
+//! use usm_core::{Role, Users, UsmFault};
+//!
+//! let mut users = Users::load(rt.alloc(), &[])?;
+//! let answer = users.open_auth(Role::Manager, &[0x30, 0x05]).err();
+//! assert_eq!(rt; answer, Some(UsmFault::NotMessage { at: 0 }));
+//! ```
 #![tactic(auto)]
 
 mod cache;

@@ -2,6 +2,15 @@
 //! password to a key, from a key to an engine's own key, and the code of a message, with MD5, SHA-1
 //! and SHA-256 (RFC 7860).
 //! Nothing here takes memory.
+//!
+//! ```
+//! use usm_keys::{Auth, localise, password_key};
+//!
+//! let key = password_key(Auth::Md5, b"maplesyrup")?;
+//! let localised = localise(&key, &[0, 0, 0, 0, 0, 0, 0, 0, 0, 0, 0, 2]);
+//! let wanted = b"\x52\x6f\x5e\xed\x9f\xcc\xe2\x6f\x89\x64\xc2\x93\x07\x87\xd8\x2b";
+//! assert_eq!(rt; localised.as_slice(), wanted.as_slice());
+//! ```
 #![tactic(auto)]
 
 pub use auth::Auth;

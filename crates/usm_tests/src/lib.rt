@@ -2,6 +2,8 @@
 #![tactic(auto)]
 
 #[cfg(test)]
+mod examples;
+#[cfg(test)]
 mod snmp_outcome_tests;
 #[cfg(test)]
 mod snmpsec_config_tests;
