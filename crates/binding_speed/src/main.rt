@@ -14,12 +14,9 @@ ghost use Rattle.snmp_msg.specs.Variables.{CanBeWritten, variable_of};
 
 use anyhow::{Context, Result, bail};
 use pdus::{in_octets, made, read, with_arcs};
-use snmp_msg::{Binding, Pdu, VariableBinding, write_pdu, write_pdu_of};
+use snmp_msg::{Binding, Pdu, RESPONSE, VariableBinding, write_pdu, write_pdu_of};
 use std::alloc::Global;
 use std::env;
-
-/// The tag of the PDUs: a Response.
-const RESPONSE: u8 = 0xA2;
 
 fn walked_with_arcs(pdu: &Pdu<'_>) -> u64 {
     let mut octets = 0u64;

@@ -1,5 +1,6 @@
 //! Questions whose answers are known, over rows in every order, and the first row at fault.
 
+mod explained;
 mod questions;
 mod slow;
 

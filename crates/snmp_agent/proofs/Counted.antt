@@ -16,7 +16,7 @@ use Rattle.snmp_outcome.specs.declared.fault.TakeFault.TheVariants.{NotMessage, 
 use Rattle.snmp_outcome.specs.Refusals.{number_of, answer_number}
 use Rattle.snmp_outcome.specs.Outcome.{Given, Taker, as_agent, side_at, ClockRuns, ReadsText, ReadsMessage, Weighs, Outcome}
 use Rattle.snmp_outcome.specs.Answers.{refused}
-use Rattle.snmp_agent.specs.declared.asking.Asking.{Asking}
+use Rattle.snmp_agent.specs.declared.asking.ReportedMessage.{ReportedMessage}
 use Rattle.snmp_agent.specs.Counting.{counter_of}
 use Rattle.snmp_agent.specs.Report.{AsksForReport, Offers, IsAsking}
 use Rattle.snmp_agent.proofs.Requests.{same_parts}
@@ -190,7 +190,7 @@ module _ (read : (side : Side) (users : List User) (w : List ℕ) (v : Verified)
       ap (λ (f : Fields). f.user) (one_fields a.outer.parts.security_at a.outer.parts.security v.fields a.security.fields there a.security.is)
 
   -- the user of a message outside the window has authentication
-  pub known : (own : List ℕ) (boots started now n : ℕ) (users : List User) (w : List ℕ) (a : Asking) → n ≡ 10 → Outcome (as_agent own boots started) users now w (Err n) → IsAsking w a
+  pub known : (own : List ℕ) (boots started now n : ℕ) (users : List User) (w : List ℕ) (a : ReportedMessage) → n ≡ 10 → Outcome (as_agent own boots started) users now w (Err n) → IsAsking w a
       → HasUserAt users a.user.now AuthNoPriv
   known own boots started now n users w a e rows is =
       let (v, verified, auth) = outcome_stale (as_agent own boots started) users now w n e rows in

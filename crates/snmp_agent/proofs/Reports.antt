@@ -15,7 +15,7 @@ use Rattle.snmp_outcome.specs.declared.fault.TakeFault.TheVariants.{NotMessage, 
 use Rattle.snmp_outcome.specs.Refusals.{answer_number}
 use Rattle.snmp_sending.specs.Bodies.{has_auth, has_privacy, header_at}
 use Rattle.snmp_sending.specs.Sends.{send_refusal}
-use Rattle.snmp_agent.specs.declared.asking.Asking.{Asking}
+use Rattle.snmp_agent.specs.declared.asking.ReportedMessage.{ReportedMessage}
 use Rattle.snmp_agent.specs.Counting.{counter_of, counter_at}
 use Rattle.snmp_agent.specs.Report.{AsksForReport, IsAsking, IsReport, offered, missing, reporting_of}
 
@@ -26,7 +26,7 @@ module _ (users : List User) (engine : List ℕ) (own : BootsAndTime) (counters 
   pub not_asked : (AsksForReport w → ⊥) → IsReport users engine own counters w n None
   not_asked never = missing (λ o. never o.asks)
 
-  pub is_offered : (k : ℕ) → Some k ≡ counter_of n → (a : Asking) → IsAsking w a → (text : List ℕ) → SealedText users (reporting_of engine own k a (counter_at counters k)) text
+  pub is_offered : (k : ℕ) → Some k ≡ counter_of n → (a : ReportedMessage) → IsAsking w a → (text : List ℕ) → SealedText users (reporting_of engine own k a (counter_at counters k)) text
       → IsReport users engine own counters w n (Some text)
   is_offered k counter a is text sealed =
       offered (record { counter = k; counter_is = sym counter; asks = is.asks }) a.request_id text is.copied (rw (is.id_is, is.user_is) sealed)
@@ -91,7 +91,7 @@ level_two : (b : Bool) (id : ℕ) → b ≡ true → level_of (header_at (if b t
 level_two true id e = refl
 level_two false id e = absurd cc
 
-pub report_sealable : (users : List User) (engine : List ℕ) (own : BootsAndTime) (k : ℕ) (a : Asking) (value : ℕ) → (k ≡ 2 → HasUserAt users a.user.now AuthNoPriv)
+pub report_sealable : (users : List User) (engine : List ℕ) (own : BootsAndTime) (k : ℕ) (a : ReportedMessage) (value : ℕ) → (k ≡ 2 → HasUserAt users a.user.now AuthNoPriv)
     → IsSealable users (reporting_of engine own k a value)
 report_sealable users engine own k a value has = record {
   flags = λ e. no_privacy (k == 2) _ e;

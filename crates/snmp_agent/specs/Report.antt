@@ -16,7 +16,7 @@ use Rattle.snmp_outcome.specs.Outcome.{Taker, own_pair, Outcome}
 use Rattle.snmp_sending.specs.Classes.{is_confirmed}
 use Rattle.snmp_sending.specs.Counters.{counter_name}
 use Rattle.snmp_sending.specs.Bodies.{header_at}
-use Rattle.snmp_agent.specs.declared.asking.Asking.{Asking}
+use Rattle.snmp_agent.specs.declared.asking.ReportedMessage.{ReportedMessage}
 use Rattle.snmp_agent.specs.Counting.{counter_of, counter_at}
 use Rattle.snmp_agent.specs.Agent.{AgentState}
 
@@ -96,7 +96,7 @@ pub record IsCopied (w : List ℕ) (m : Parts) (id : ℤ) : Type 0 where
   pub is : IsCopiedId w m id
 
 -- what the code keeps of a message that asks for reports
-pub record IsAsking (w : List ℕ) (a : Asking) : Type 0 where
+pub record IsAsking (w : List ℕ) (a : ReportedMessage) : Type 0 where
   pub asks : AsksForReport w
   pub id_is : asks.outer.parts.header.id ≡ a.id
   pub user_is : asks.security.fields.user ≡ a.user.now
@@ -104,5 +104,5 @@ pub record IsAsking (w : List ℕ) (a : Asking) : Type 0 where
   pub id_fits : a.id ≤ 2147483647
   pub user_fits : length a.user.now ≤ 32
 
-abbrev pub reporting_of : List ℕ → BootsAndTime → ℕ → Asking → ℕ → Sending
+abbrev pub reporting_of : List ℕ → BootsAndTime → ℕ → ReportedMessage → ℕ → Sending
 reporting_of engine own k a value = reporting engine own a.id a.user.now a.request_id k value

@@ -7,7 +7,7 @@ ghost use Rattle.snmp_msg.specs.Pdu.{pdu_of};
 ghost use Rattle.snmp_sending.specs.Classes.{is_confirmed};
 ghost use Rattle.snmp_agent.specs.Report.{PlainPdu, AsksForReport, IsCopied, IsAsking};
 
-use crate::asking::Asking;
+use crate::asking::ReportedMessage;
 use snmp_msg::{
     Message, Pdu, one_content, one_cut, one_message, one_pdu, read_message, read_pdu, read_scoped,
     read_security,
@@ -51,7 +51,7 @@ fn copied_id(datagram: &[u8], message: &Message<'_>) -> Option<i32>
 }
 
 /// What a report takes from the message, where it asks for reports. It takes no memory.
-pub(crate) fn asking(datagram: &[u8]) -> Option<Asking<'_>>
+pub(crate) fn asking(datagram: &[u8]) -> Option<ReportedMessage<'_>>
     ensures { MatchOption result (AsksForReport datagram.now → ⊥) (IsAsking datagram.now) }
 {
     one_message();
@@ -68,7 +68,7 @@ pub(crate) fn asking(datagram: &[u8]) -> Option<Asking<'_>>
         return None;
     }
     match copied_id(datagram, &message) {
-        Some(request_id) => Some(Asking {
+        Some(request_id) => Some(ReportedMessage {
             id: message.header.id,
             user: security.user,
             request_id,

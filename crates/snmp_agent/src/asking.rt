@@ -2,7 +2,7 @@
 
 /// What a report takes from the message that it answers.
 #[derive(Clone, Copy)]
-pub(crate) struct Asking<'a> {
+pub(crate) struct ReportedMessage<'a> {
     /// msgID.
     pub(crate) id: u32,
     pub(crate) user: &'a [u8],

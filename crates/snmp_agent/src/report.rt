@@ -12,7 +12,7 @@ ghost use Rattle.snmp_agent.specs.Agent.{taker_at};
 ghost use Rattle.snmp_agent.specs.Report.{Offers, IsReport, report_level, reporting_of, report_of};
 
 use crate::asked::asking;
-use crate::asking::Asking;
+use crate::asking::ReportedMessage;
 use crate::counting::counter_of;
 use crate::engine::Engine;
 use engine_clock::{EngineId, Pair};
@@ -75,7 +75,7 @@ fn send_report(
     own: Pair,
     n: u8,
     value: u32,
-    asking: &Asking<'_>,
+    asking: &ReportedMessage<'_>,
 ) -> Result<Vec<u8>, AllocError>
     requires id { asking.now.id ≤ 2147483647 }
     requires user { length asking.now.user.now ≤ 32 }

@@ -7,12 +7,12 @@ use Rattle.vacm_core.specs.declared.access.Access.TheVariants.{NoSuchContext, No
 use Rattle.vacm_core.specs.Allowed.{Message, Allowed, ByView, HasContext, IsInGroup, HasView, view_name}
 use Rattle.vacm_core.specs.View.{AnswersView}
 use Rattle.vacm_core.proofs.Views.{by_view}
-use Rattle.snmpsec_explain.specs.Steps.{TellsContext, TellsGroup, TellsAccess, TellsView}
-use Rattle.snmpsec_explain.proofs.Positions.{contains}
-use Rattle.snmpsec_explain.specs.declared.steps.ContextStep.{ContextStep}
-use Rattle.snmpsec_explain.specs.declared.steps.GroupStep.{GroupStep}
-use Rattle.snmpsec_explain.specs.declared.steps.AccessStep.{AccessStep}
-use Rattle.snmpsec_explain.specs.declared.steps.ViewStep.{ViewStep}
+use Rattle.vacm_core.specs.Steps.{TellsContext, TellsGroup, TellsAccess, TellsView}
+use Rattle.vacm_core.proofs.Positions.{contains}
+use Rattle.vacm_core.specs.declared.steps.ContextStep.{ContextStep}
+use Rattle.vacm_core.specs.declared.steps.GroupStep.{GroupStep}
+use Rattle.vacm_core.specs.declared.steps.AccessStep.{AccessStep}
+use Rattle.vacm_core.specs.declared.steps.ViewStep.{ViewStep}
 use Rattle.snmpsec_access.specs.Askers.{Asker}
 use Rattle.snmpsec_access.specs.Seen.{Decision, refusal, by_lines, IsDecision, AreLinesOf, answer_of, is_included}
 use Rattle.snmpsec_access.specs.Rising.{IsOfView}
@@ -58,15 +58,15 @@ module _ (t : Tables) (q : Message) (view : ViewType) (asked : List ℕ) where
           tells_view : TellsView t.families (view_name view best.0) asked (Some step)
           tells_view = subst (λ (v : Option ViewStep). TellsView t.families (view_name view best.0) asked v) has_name best.2
 
-          pub named : step.name.now ≢ []
+          pub named : step.name ≢ []
           named none = tells_view.0 (sym tells_view.1 ∙ none)
 
-          by_name : (variable : List ℕ) (answer : Access) → AnswersView t.families step.name.now variable answer → Allowed t q view variable answer
+          by_name : (variable : List ℕ) (answer : Access) → AnswersView t.families step.name variable answer → Allowed t q view variable answer
           by_name variable answer answers =
               by_view t q view variable tells.0.group best.0 there in_group best.1.best answer
               (subst (λ (name : List ℕ). AnswersView t.families name variable answer) tells_view.1 answers)
 
-          pub by_its_name : (d : Decision) → IsOfView t.families step.name.now d → IsDecision t (question q view) d
+          pub by_its_name : (d : Decision) → IsOfView t.families step.name d → IsDecision t (question q view) d
           by_its_name (refusal answer) all = (all.0, λ variable. by_name variable answer (all.1 variable))
           by_its_name (by_lines lines) told = record {
             allowed = λ variable. by_name variable (answer_of (is_included lines variable)) (told.0 variable);

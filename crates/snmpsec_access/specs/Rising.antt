@@ -7,8 +7,8 @@ use Rattle.vacm_core.specs.declared.rows.FamilyRow.{FamilyRow}
 use Rattle.vacm_core.specs.Allowed.{family_order}
 use Rattle.vacm_core.specs.Tables.{Tables}
 use Rattle.vacm_core.specs.View.{AreExact, AnswersView}
-use Rattle.snmpsec_explain.specs.declared.steps.Asking.{Asking}
-use Rattle.snmpsec_explain.specs.Steps.{message_of}
+use Rattle.vacm_core.specs.declared.steps.Asking.{Asking}
+use Rattle.vacm_core.specs.Steps.{message_of}
 use Rattle.snmpsec_access.specs.declared.told.Told.{Told}
 use Rattle.snmpsec_access.specs.declared.told.Told.TheVariants.{Refusal, Rows}
 use Rattle.snmpsec_access.specs.declared.seeing.Seen.{Seen}

@@ -2,7 +2,7 @@
 
 ghost use Rattle.std.specs.Prelude.{◌≡◌, ◌∷◌, ◌++◌, ◌||◌, [], map, OnOk, IfOk};
 ghost use Rattle.std.specs.List.{flat_map, list_any};
-ghost use Rattle.vacm_core.specs.Tables.{tables_of};
+ghost use Rattle.vacm_core.specs.Tables.{tables_of, HaveSameRows};
 ghost use Rattle.vacm_core.specs.Distinct.{HasOneRowEach};
 ghost use Rattle.snmpsec_access.specs.Seen as spec;
 ghost use Rattle.snmpsec_access.specs.Seen.{by_lines, line_of, pattern_text, head, seen_line, answer_line, decision_text, includes, viewer, of_level, TellsSeen};
@@ -12,9 +12,8 @@ use crate::told::{Told, told_of};
 use crate::words::{access_word, put_context, view_word};
 use snmp_ber::Level;
 use snmpsec_config::level_word;
-use snmpsec_explain::{Asking, is_compared};
 use std::alloc::{AllocError, Global};
-use vacm_core::{Access, FamilyRow, Rows, ViewType};
+use vacm_core::{Access, Asking, FamilyRow, Mask, Rows, Vacm, ViewType};
 
 /// What a name may see, as lines.
 #[derive(Debug, PartialEq, Eq, Drop)]
@@ -25,9 +24,10 @@ pub struct Seen {
     pub included: bool,
 }
 
-/// A security name under a security model, and the rows over which it is asked.
+/// A security name under a security model, and over what it is asked: the tables, and the rows that they are made of.
 #[derive(Clone, Copy)]
 pub(crate) struct Viewer<'a> {
+    pub(crate) access: &'a Vacm,
     pub(crate) rows: &'a Rows,
     pub(crate) model: u32,
     pub(crate) name: &'a [u8],
@@ -44,14 +44,14 @@ fn dot_before(k: usize) -> &'static str
 fn put_arc(
     alloc: Global,
     out: &mut Vec<u8>,
-    mask: &[u8],
+    mask: &Mask,
     k: usize,
     arc: u32,
 ) -> Result<(), AllocError>
     ensures { OnOk result (out.new.items ≡ out.old.items ++ spec.arc_at mask.now k arc) }
 {
     out.extend_from_slice(dot_before(k).as_bytes())?;
-    if !is_compared(mask, k) {
+    if !mask.compares(k) {
         return out.extend_from_slice(b"*");
     }
     let text = format!(in alloc; "{arc}")?;
@@ -62,9 +62,8 @@ fn put_arc(
 fn put_subtree(alloc: Global, out: &mut Vec<u8>, row: &FamilyRow) -> Result<(), AllocError>
     ensures { OnOk result (out.new.items ≡ out.old.items ++ pattern_text (line_of row.now).pattern) }
 {
-    let mask = row.mask.as_slice();
     for (k, arc) in row.subtree.as_slice().iter().enumerate() {
-        put_arc(alloc, out, mask, k, *arc)?;
+        put_arc(alloc, out, &row.mask, k, *arc)?;
     }
     Ok(())
 }
@@ -182,13 +181,14 @@ fn told_includes(told: &Told<'_>) -> bool
 fn put_asked(
     alloc: Global,
     out: &mut Seen,
-    rows: &Rows,
+    who: &Viewer<'_>,
     asking: &Asking<'_>,
 ) -> Result<(), AllocError>
-    requires { HasOneRowEach (tables_of rows.now) }
-    ensures { OnOk result (SeesOn (tables_of rows.now) (asker_of asking.now ∷ []) out.old out.new) }
+    requires one_each { HasOneRowEach (tables_of who.now.rows.now) }
+    requires same_rows { HaveSameRows (tables_of who.now.rows.now) who.now.access.now }
+    ensures { OnOk result (SeesOn (tables_of who.now.rows.now) (asker_of asking.now ∷ []) out.old out.new) }
 {
-    let told = told_of(alloc, rows, asking)?;
+    let told = told_of(alloc, who.access, who.rows, asking)?;
     put_told(alloc, &mut out.text, asking, &told)?;
     out.included = out.included || told_includes(&told);
     Ok(())
@@ -202,7 +202,8 @@ fn put_view(
     level: Level,
     view: ViewType,
 ) -> Result<(), AllocError>
-    requires { HasOneRowEach (tables_of who.now.rows.now) }
+    requires one_each { HasOneRowEach (tables_of who.now.rows.now) }
+    requires same_rows { HaveSameRows (tables_of who.now.rows.now) who.now.access.now }
     ensures { OnOk result (SeesOn (tables_of who.now.rows.now) (map (viewer who.now.model who.now.name.now level view) who.now.rows.now.contexts.items) out.old out.new) }
 {
     'contexts: for context in &who.rows.contexts {
@@ -214,7 +215,7 @@ fn put_view(
             view,
             variable: &[],
         };
-        put_asked(alloc, out, who.rows, &asking)?;
+        put_asked(alloc, out, who, &asking)?;
     }
     Ok(())
 }
@@ -226,7 +227,8 @@ fn put_level(
     who: &Viewer<'_>,
     level: Level,
 ) -> Result<(), AllocError>
-    requires { HasOneRowEach (tables_of who.now.rows.now) }
+    requires one_each { HasOneRowEach (tables_of who.now.rows.now) }
+    requires same_rows { HaveSameRows (tables_of who.now.rows.now) who.now.access.now }
     ensures { OnOk result (SeesOn (tables_of who.now.rows.now) (of_level who.now.rows.now.contexts.items who.now.model who.now.name.now level) out.old out.new) }
 {
     put_view(alloc, out, who, level, ViewType::Read)?;
@@ -234,7 +236,7 @@ fn put_level(
     put_view(alloc, out, who, level, ViewType::Notify)
 }
 
-/// What the security name may see under the model, by the level, then the view, then the context row.
+/// What the security name may see under the model over tables that are made of the rows, by the level, then the view, then the context row.
 ///
 /// For each of them stands either a line `LEVEL VIEW CONTEXT ANSWER`, where each variable gets that answer, or lines
 /// `LEVEL VIEW CONTEXT + SUBTREE` and `LEVEL VIEW CONTEXT - SUBTREE`, an arc that may be any as `*`: the last that fits a variable says
@@ -243,11 +245,23 @@ fn put_level(
 /// a view with a wildcard they are all. The error is want of memory.
 ///
 /// For c contexts 9c questions are asked. Each goes over the tables once, and over the lines of its view for each row of it.
-pub fn sees(alloc: Global, rows: &Rows, model: u32, name: &[u8]) -> Result<Seen, AllocError>
-    requires { HasOneRowEach (tables_of rows.now) }
+pub fn sees(
+    alloc: Global,
+    access: &Vacm,
+    rows: &Rows,
+    model: u32,
+    name: &[u8],
+) -> Result<Seen, AllocError>
+    requires one_each { HasOneRowEach (tables_of rows.now) }
+    requires same_rows { HaveSameRows (tables_of rows.now) access.now }
     ensures { IfOk result (λ seen. TellsSeen (tables_of rows.now) model name.now seen.text.items seen.included) }
 {
-    let viewer = Viewer { rows, model, name };
+    let viewer = Viewer {
+        access,
+        rows,
+        model,
+        name,
+    };
     let mut out = Seen {
         text: Vec::new(alloc),
         included: false,

@@ -4,33 +4,19 @@ ghost use Rattle.std.specs.Prelude.{◌≡◌, IfOk, OnOk, MatchBool, Contains};
 ghost use Rattle.std.specs.List.Sorted.{IsSorted, IsPermutation};
 ghost use Rattle.vacm_core.specs.declared.rows.FamilyRow.{FamilyRow as ARow};
 ghost use Rattle.vacm_core.specs.Allowed.{family_order as spec_order};
-ghost use Rattle.vacm_core.specs.View.{IsExact, AreExact};
+ghost use Rattle.vacm_core.specs.View.{AreExact};
 ghost use Rattle.snmpsec_access.specs.Seen.{rows_of};
 ghost use Rattle.snmpsec_access.specs.Rising.{AreRising, AreLeft, AreKept, IsNext, rows_at, saying};
 
-use snmpsec_explain::{family_order, is_compared};
 use std::alloc::{AllocError, Global};
 use vacm_core::FamilyRow;
-
-/// The mask compares each arc.
-fn is_exact(row: &FamilyRow) -> bool
-    ensures { MatchBool result (IsExact row.now) (¬ IsExact row.now) }
-{
-    let mask = row.mask.as_slice();
-    for k in 0..row.subtree.as_slice().len() {
-        if !is_compared(mask, k) {
-            return false;
-        }
-    }
-    true
-}
 
 /// Each mask compares each arc.
 fn are_exact(rows: &[&FamilyRow]) -> bool
     ensures { MatchBool result (AreExact (rows_at rows.now)) (¬ AreExact (rows_at rows.now)) }
 {
     for row in rows {
-        if !is_exact(row) {
+        if !row.is_exact() {
             return false;
         }
     }
@@ -59,7 +45,7 @@ fn sort_rising(rows: &mut Vec<&FamilyRow>) -> Result<(), AllocError>
     ensures moved { IsPermutation (rows_at rows.old.items) (rows_at rows.new.items) }
     ensures rising { OnOk result (IsSorted spec_order (rows_at rows.new.items)) }
 {
-    rows.sort_by(|a, b| family_order(a, b))
+    rows.sort_by(|a, b| a.order(b))
 }
 
 /// The rows of the view, from the least up.

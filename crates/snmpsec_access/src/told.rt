@@ -2,15 +2,14 @@
 
 ghost use Rattle.std.specs.Prelude.{◌≡◌, ◌≢◌, [], IfOk, Contains};
 ghost use Rattle.vacm_core.specs.declared.rows.FamilyRow.{FamilyRow as ARow};
-ghost use Rattle.vacm_core.specs.Tables.{tables_of};
+ghost use Rattle.vacm_core.specs.Tables.{tables_of, HaveSameRows};
 ghost use Rattle.vacm_core.specs.Distinct.{HasOneRowEach};
 ghost use Rattle.snmpsec_access.specs.Seen.{IsDecision};
 ghost use Rattle.snmpsec_access.specs.Rising.{IsOfView, asker_of, decision_of};
 
 use crate::subtrees::{needed_rows, rising_rows};
-use snmpsec_explain::{Asking, steps_of};
 use std::alloc::{AllocError, Global};
-use vacm_core::{Access, FamilyRow, Rows};
+use vacm_core::{Access, Asking, FamilyRow, Rows, Vacm};
 
 /// What is told of a question, whatever the variable.
 #[derive(Drop)]
@@ -42,13 +41,16 @@ fn told_of_view<'a>(
 /// What is told of a question: the first answer that applies, or the rows of its view that decide. The variable isn't looked at.
 pub(crate) fn told_of<'a>(
     alloc: Global,
+    access: &Vacm,
     rows: &'a Rows,
     asking: &Asking<'_>,
 ) -> Result<Told<'a>, AllocError>
-    requires { HasOneRowEach (tables_of rows.now) }
+    requires one_each { HasOneRowEach (tables_of rows.now) }
+    requires same_rows { HaveSameRows (tables_of rows.now) access.now }
     ensures { IfOk result (λ told. IsDecision (tables_of rows.now) (asker_of asking.now) (decision_of told)) }
 {
-    let Some(context) = steps_of(rows, asking) else {
+    let explained = access.explain(rows, asking);
+    let Some(context) = explained.context else {
         return Ok(Told::Refusal(Access::NoSuchContext));
     };
     let Some(group) = context.group else {

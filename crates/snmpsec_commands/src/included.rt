@@ -20,7 +20,7 @@ pub(crate) struct Sources {
 
 /// A line that asks for other files.
 #[derive(Drop)]
-struct Asking {
+struct Include {
     place: Place,
     word: Vec<u8>,
 }
@@ -56,7 +56,7 @@ impl Sources {
     }
 
     /// Puts what came of a line.
-    fn tell(&mut self, asking: Asking, followed: Followed) -> Result<(), AllocError> {
+    fn tell(&mut self, asking: Include, followed: Followed) -> Result<(), AllocError> {
         self.items.push(Item {
             place: asking.place,
             word: asking.word,
@@ -70,7 +70,7 @@ impl Sources {
 fn follow_file<R: Files + AllocGlobal>(
     rt: &R,
     sources: &mut Sources,
-    asking: Asking,
+    asking: Include,
     path: &str,
 ) -> Result<(), AllocError> {
     if sources.names.len() >= FILES_MAX {
@@ -147,7 +147,7 @@ fn read_folder<R: Files + AllocGlobal>(rt: &R, path: &str) -> Result<Vec<String>
 fn follow_folder<R: Files + AllocGlobal>(
     rt: &R,
     sources: &mut Sources,
-    asking: Asking,
+    asking: Include,
     folder: &str,
 ) -> Result<(), AllocError> {
     let alloc = rt.alloc();
@@ -158,7 +158,7 @@ fn follow_folder<R: Files + AllocGlobal>(
     };
     for name in &names {
         let word = Vec::from_slice(alloc, &asking.word)?;
-        let file = Asking {
+        let file = Include {
             place: asking.place,
             word,
         };
@@ -196,7 +196,7 @@ fn follow_item<R: Files + AllocGlobal>(
             return Ok(());
         }
     };
-    let asking = Asking { place, word };
+    let asking = Include { place, word };
     let Ok(name) = str::from_utf8(&name) else {
         return sources.tell(asking, Followed::Unread);
     };

@@ -5,7 +5,7 @@ use Rattle.std.specs.List.{AllByRecursion}
 use Rattle.std.proofs.lemmas.List.Elements.{Contains-append_left, Contains-push, Contains-push_cases}
 use Rattle.snmpsec_import.specs.Words.{IsCut, TakesPart}
 use Rattle.snmpsec_import.specs.Types.{AreParts, view_word, IsNoType, Says, AreTypes, IsTypes, Sets, AddsType}
-use Rattle.snmpsec_import.specs.declared.words.Cut.TheVariants.{AtComma}
+use Rattle.snmpsec_import.specs.declared.words.Separator.TheVariants.{AtComma}
 use Rattle.snmpsec_import.specs.declared.types.Types.{Types}
 use Rattle.snmpsec_import.specs.declared.types.ViewWord.{ViewWord}
 use Rattle.snmpsec_import.specs.declared.types.ViewWord.TheVariants.{Read, Write, Notify, Log, Execute, Net}

@@ -3,7 +3,7 @@ use Rattle.std.proofs.Common.{◌≡◌, ◌≢◌, ℕ, ◌-◌, ◌<◌, ◌�
 use Rattle.std.specs.List.{AllByRecursion}
 use Rattle.std.proofs.lemmas.Grind.{common_steps}
 use Rattle.snmpsec_import.specs.Words.{IsBlank, IsBehindBlanks, IsEnd, IsEnded, Writes, behind_first, IsCut, IsNoCut, IsBehindCut, TakesPart}
-use Rattle.snmpsec_import.specs.declared.words.Cut.{Cut}
+use Rattle.snmpsec_import.specs.declared.words.Separator.{Separator}
 use Rattle.snmpsec_import.specs.declared.words.Ends.{Ends}
 
 -- what a slice pattern takes behind the first octet
@@ -35,25 +35,25 @@ writes_ended ends word text rest ended on = subst (λ w. Writes ends w text rest
 
 -- ---- parts
 
-all_front : (cut : Cut) (text : List ℕ) (n : ℕ) → n ≤ length text → ((k : ℕ) → k < n → IsCut cut (get_or text k 0) → ⊥) → AllByRecursion (IsNoCut cut) (take n text)
+all_front : (cut : Separator) (text : List ℕ) (n : ℕ) → n ≤ length text → ((k : ℕ) → k < n → IsCut cut (get_or text k 0) → ⊥) → AllByRecursion (IsNoCut cut) (take n text)
 all_front cut text zero within before = tt
 all_front cut [] (suc n) within before = absurd (omega arith)
 all_front cut (octet ∷ text) (suc n) within before = (before 0 (omega arith), all_front cut text n (omega arith) (λ k below. before (suc k) (omega arith)))
 
-at_cut : (cut : Cut) (text : List ℕ) (n : ℕ) → n ≤ length text → (n < length text → IsCut cut (get_or text n 0))
+at_cut : (cut : Separator) (text : List ℕ) (n : ℕ) → n ≤ length text → (n < length text → IsCut cut (get_or text n 0))
     → IsBehindCut cut (drop n text) (behind_first (drop n text))
 at_cut cut [] zero within found = refl
 at_cut cut [] (suc n) within found = refl
 at_cut cut (octet ∷ text) zero within found = (found (omega arith), refl)
 at_cut cut (octet ∷ text) (suc n) within found = at_cut cut text n (omega arith) (λ below. found (omega arith))
 
-some_front : (cut : Cut) (text : List ℕ) (n : ℕ) → 1 ≤ length text → (IsCut cut (get_or text 0 0) → ⊥) → (n < length text → IsCut cut (get_or text n 0)) → take n text ≢ []
+some_front : (cut : Separator) (text : List ℕ) (n : ℕ) → 1 ≤ length text → (IsCut cut (get_or text 0 0) → ⊥) → (n < length text → IsCut cut (get_or text n 0)) → take n text ≢ []
 some_front cut [] n some first found = absurd (omega arith)
 some_front cut (octet ∷ text) zero some first found = λ _. first (found (omega arith))
 some_front cut (octet ∷ text) (suc n) some first found = λ none. cc none
 
 -- the part in front, up to the first octet that cuts
-pub part_here : (cut : Cut) (text : List ℕ) (n : ℕ) → 1 ≤ length text → n ≤ length text → (IsCut cut (get_or text 0 0) → ⊥)
+pub part_here : (cut : Separator) (text : List ℕ) (n : ℕ) → 1 ≤ length text → n ≤ length text → (IsCut cut (get_or text 0 0) → ⊥)
     → ((k : ℕ) → k < n → IsCut cut (get_or text k 0) → ⊥) → (n < length text → IsCut cut (get_or text n 0))
     → TakesPart cut text (take n text) (behind_first (drop n text))
 part_here cut text n some within first before found = record {
@@ -66,7 +66,7 @@ part_here cut text n some within first before found = record {
   behind = at_cut cut text n within found;
 }
 
-pub part_later : (cut : Cut) (text part rest : List ℕ) → 1 ≤ length text → IsCut cut (get_or text 0 0) → TakesPart cut (take (length text - 1) (drop 1 text)) part rest
+pub part_later : (cut : Separator) (text part rest : List ℕ) → 1 ≤ length text → IsCut cut (get_or text 0 0) → TakesPart cut (take (length text - 1) (drop 1 text)) part rest
     → TakesPart cut text part rest
 part_later cut [] part rest some first t = absurd (omega arith)
 part_later cut (octet ∷ text) part rest some first t =
@@ -81,7 +81,7 @@ part_later cut (octet ∷ text) part rest some first t =
       behind = later.behind;
     }
 
-pub cuts_later : (cut : Cut) (text : List ℕ) → 1 ≤ length text → IsCut cut (get_or text 0 0) → AllByRecursion (IsCut cut) (take (length text - 1) (drop 1 text))
+pub cuts_later : (cut : Separator) (text : List ℕ) → 1 ≤ length text → IsCut cut (get_or text 0 0) → AllByRecursion (IsCut cut) (take (length text - 1) (drop 1 text))
     → AllByRecursion (IsCut cut) text
 cuts_later cut [] some first all = absurd (omega arith)
 cuts_later cut (octet ∷ text) some first all = (first, subst (AllByRecursion (IsCut cut)) (rest_is octet text) all)

@@ -3,7 +3,7 @@ use Rattle.std.specs.Prelude.{◌≡◌, ◌≢◌, ◌⊎◌, ℕ, ◌+◌, ◌
 use Rattle.std.specs.List.{AllByRecursion}
 use Rattle.snmpsec_import.specs.Words.{IsBehindBlanks, IsCut, TakesPart}
 use Rattle.snmpsec_import.specs.Subtrees.{IsDigit, AreDigits, number, IsX}
-use Rattle.snmpsec_import.specs.declared.words.Cut.TheVariants.{AtMark}
+use Rattle.snmpsec_import.specs.declared.words.Separator.TheVariants.{AtMark}
 use Rattle.snmpsec_import.specs.declared.fault.Refusal.TheVariants as refusals
 use Rattle.snmpsec_import.specs.declared.fault.LineFault.{LineFault}
 use Rattle.snmpsec_import.specs.declared.fault.LineFault.TheVariants.{Refused}

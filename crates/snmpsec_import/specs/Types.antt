@@ -2,7 +2,7 @@
 use Rattle.std.specs.Prelude.{◌≡◌, ◌⊎◌, ◌↔◌, List, [], ◌∷◌, ℕ, Bool, IsTrue, Contains, codes}
 use Rattle.std.specs.List.{AllByRecursion}
 use Rattle.snmpsec_import.specs.Words.{IsCut, TakesPart}
-use Rattle.snmpsec_import.specs.declared.words.Cut.TheVariants.{AtComma}
+use Rattle.snmpsec_import.specs.declared.words.Separator.TheVariants.{AtComma}
 use Rattle.snmpsec_import.specs.declared.types.Types.{Types}
 use Rattle.snmpsec_import.specs.declared.types.ViewWord.{ViewWord}
 use Rattle.snmpsec_import.specs.declared.types.ViewWord.TheVariants.{Read, Write, Notify, Log, Execute, Net}

@@ -1,8 +1,8 @@
 -- Lines of snmpd.conf, and how they are cut: into words, which quotes hold together, and into tokens, which they don't (net-snmp 5.9.3).
 use Rattle.std.specs.Prelude.{◌≡◌, ◌≢◌, ◌⊎◌, ⊤, ℕ, ◌≤◌, List, [], ◌∷◌, ◌++◌, take, Option, Some, None}
 use Rattle.std.specs.List.{AllByRecursion}
-use Rattle.snmpsec_import.specs.declared.words.Cut.{Cut}
-use Rattle.snmpsec_import.specs.declared.words.Cut.TheVariants.{AtGap, AtMark, AtComma}
+use Rattle.snmpsec_import.specs.declared.words.Separator.{Separator}
+use Rattle.snmpsec_import.specs.declared.words.Separator.TheVariants.{AtGap, AtMark, AtComma}
 use Rattle.snmpsec_import.specs.declared.words.Ends.{Ends}
 use Rattle.snmpsec_import.specs.declared.words.Ends.TheVariants.{AtBlank, AtQuote}
 
@@ -83,21 +83,21 @@ pub record TakesWord (most : ℕ) (text word : List ℕ) (later : Option (List �
 
 -- Where a text is cut: tokens at a space, a tab or a line feed; the octets of a mask at a space, a dot or a colon; types of views at a comma, a bar or
 -- a colon.
-abbrev pub IsCut : Cut → ℕ → Type 0
+abbrev pub IsCut : Separator → ℕ → Type 0
 IsCut AtGap octet = (octet ≡ 32) ⊎ (octet ≡ 9) ⊎ (octet ≡ 10)
 IsCut AtMark octet = (octet ≡ 32) ⊎ (octet ≡ 46) ⊎ (octet ≡ 58)
 IsCut AtComma octet = (octet ≡ 44) ⊎ (octet ≡ 124) ⊎ (octet ≡ 58)
 
-abbrev pub IsNoCut : Cut → ℕ → Type 0
+abbrev pub IsNoCut : Separator → ℕ → Type 0
 IsNoCut cut octet = IsCut cut octet → ⊥
 
 -- nothing, or what cuts in front of the rest
-abbrev pub IsBehindCut : Cut → List ℕ → List ℕ → Type 0
+abbrev pub IsBehindCut : Separator → List ℕ → List ℕ → Type 0
 IsBehindCut cut [] rest = rest ≡ []
 IsBehindCut cut (octet ∷ later) rest = IsCut cut octet × (later ≡ rest)
 
 -- behind octets that cut the text has the part, and then one of them and the rest; or it ends with the part, and the rest is nothing
-pub record TakesPart (cut : Cut) (text part rest : List ℕ) : Type 0 where
+pub record TakesPart (cut : Separator) (text part rest : List ℕ) : Type 0 where
   pub cuts : List ℕ
   pub later : List ℕ
   pub are : AllByRecursion (IsCut cut) cuts

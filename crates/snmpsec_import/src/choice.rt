@@ -2,30 +2,17 @@
 
 ghost use Rattle.std.specs.Prelude.{◌↔◌, IsTrue};
 ghost use Rattle.std.specs.Option.{option_map};
-ghost use Rattle.vacm_core.specs.Allowed.{FitsContext, FitsMessage};
+ghost use Rattle.vacm_core.specs.Allowed.{FitsMessage};
 ghost use Rattle.snmpsec_import.specs.Choice.{IsTaken, IsBetter, IsChosen};
 
 use snmp_ber::Level;
 use vacm_core::{AccessRow, Matching};
 
-/// The row's prefix is the context, or begins it and may.
-fn fits_context(row: &AccessRow, context: &[u8]) -> bool
-    ensures { IsTrue result ↔ FitsContext row.now context.now }
-{
-    match row.matching {
-        Matching::Exact => row.prefix.as_slice() == context,
-        Matching::Prefix => context.starts_with(row.prefix.as_slice()),
-    }
-}
-
 /// The row is for such a message (RFC 3415, section 3.2).
 pub fn fits_message(row: &AccessRow, group: &[u8], model: u32, level: Level, context: &[u8]) -> bool
     ensures { IsTrue result ↔ FitsMessage group.now model level context.now row.now }
 {
-    row.group.as_slice() == group
-        && (row.model == model || row.model == 0)
-        && row.level.number() <= level.number()
-        && fits_context(row, context)
+    row.group.as_slice() == group && row.fits_message(model, level, context)
 }
 
 /// snmpd takes the row in place of the best so far.

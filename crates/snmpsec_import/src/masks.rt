@@ -5,7 +5,7 @@ ghost use Rattle.snmpsec_import.specs.Masks.{BeginsHex, IsHexFront, IsBehindPref
 
 use crate::fault::{LineFault, Refusal};
 use crate::subtrees::{digit_of, is_x};
-use crate::words::{Cut, skip_blanks, take_part};
+use crate::words::{Separator, skip_blanks, take_part};
 use arrayvec::ArrayVec;
 
 /// The most octets of a mask that snmpd has room for.
@@ -98,7 +98,7 @@ pub(crate) fn mask_octets(text: &[u8]) -> Result<ArrayVec<u8, MASK_ROOM>, LineFa
 {
     let mut octets = ArrayVec::new();
     let mut rest = text;
-    'octets: while let Some((token, later)) = take_part(rest, Cut::AtMark) {
+    'octets: while let Some((token, later)) = take_part(rest, Separator::AtMark) {
         if octets.is_full() {
             return Err(LineFault::Refused(Refusal::LongMask));
         }

@@ -4,7 +4,7 @@ ghost use Rattle.std.specs.Prelude.{◌≡◌, IfSome, IfNone, IsTrue, ◌↔◌
 ghost use Rattle.snmpsec_import.specs.Types as spec;
 ghost use Rattle.snmpsec_import.specs.Types.{IsNoType, IsTypes, Sets, AddsType};
 
-use crate::words::{Cut, take_part};
+use crate::words::{Separator, take_part};
 
 /// A type of views. The last three are asked for by snmptrapd alone.
 #[derive(Clone, Copy, Debug, PartialEq, Eq)]
@@ -103,7 +103,7 @@ pub fn types_of(word: &[u8]) -> Types
 {
     let mut types = Types::NONE;
     let mut rest = word;
-    'parts: while let Some((part, later)) = take_part(rest, Cut::AtComma) {
+    'parts: while let Some((part, later)) = take_part(rest, Separator::AtComma) {
         types = types.with(part);
         rest = later;
     }

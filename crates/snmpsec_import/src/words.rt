@@ -141,7 +141,7 @@ pub fn take_word(alloc: Global, text: &[u8], most: usize) -> Result<Word<'_>, Al
 
 /// Where a text is cut into parts that no quotes hold together.
 #[derive(Clone, Copy, Debug, PartialEq, Eq)]
-pub(crate) enum Cut {
+pub(crate) enum Separator {
     /// At spaces, tabs and line feeds.
     AtGap,
     /// At spaces, dots and colons.
@@ -150,21 +150,21 @@ pub(crate) enum Cut {
     AtComma,
 }
 
-impl Cut {
+impl Separator {
     /// The octet cuts the text.
     fn is_cut(self, octet: u8) -> bool
         ensures { IsTrue result ↔ IsCut self octet }
     {
         match self {
-            Cut::AtGap => matches!(octet, b' ' | b'\t' | b'\n'),
-            Cut::AtMark => matches!(octet, b' ' | b'.' | b':'),
-            Cut::AtComma => matches!(octet, b',' | b'|' | b':'),
+            Separator::AtGap => matches!(octet, b' ' | b'\t' | b'\n'),
+            Separator::AtMark => matches!(octet, b' ' | b'.' | b':'),
+            Separator::AtComma => matches!(octet, b',' | b'|' | b':'),
         }
     }
 }
 
 /// The place of the first octet that cuts, or else the length.
-fn find_cut(text: &[u8], cut: Cut) -> usize
+fn find_cut(text: &[u8], cut: Separator) -> usize
     ensures within { result ≤ length text.now }
     ensures before { (k : ℕ) → k < result → IsNoCut cut (slice_index text.now k) }
     ensures found { result < length text.now → IsCut cut (slice_index text.now result) }
@@ -178,7 +178,7 @@ fn find_cut(text: &[u8], cut: Cut) -> usize
 }
 
 /// The first part of a text, and what stands behind the octet that ends it; `None` where there is none.
-pub(crate) fn take_part(text: &[u8], cut: Cut) -> Option<(&[u8], &[u8])>
+pub(crate) fn take_part(text: &[u8], cut: Separator) -> Option<(&[u8], &[u8])>
     ensures found { IfSome result (λ r. TakesPart cut text.now r.0.now r.1.now) }
     ensures none { IfNone result (AllByRecursion (IsCut cut) text.now) }
 {
@@ -198,5 +198,5 @@ pub fn take_token(text: &[u8]) -> Option<(&[u8], &[u8])>
     ensures found { IfSome result (λ r. TakesToken text.now r.0.now r.1.now) }
     ensures none { IfNone result (AllByRecursion IsGap text.now) }
 {
-    take_part(text, Cut::AtGap)
+    take_part(text, Separator::AtGap)
 }

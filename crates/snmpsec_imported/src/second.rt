@@ -2,7 +2,6 @@
 
 use crate::notes::{Kind, Told, Why};
 use crate::rows::Kept;
-use snmpsec_explain::is_compared;
 use snmpsec_lists::{HeldAccess, HeldFamily, HeldGroup, Lists, Place, find};
 use std::alloc::{AllocError, Global};
 use vacm_core::{FamilyRow, Matching};
@@ -27,9 +26,8 @@ fn put_second(
 
 /// Each arc that the first row compares the second compares too, so that the second has no variable that the first hasn't.
 fn covers(first: &FamilyRow, second: &FamilyRow) -> bool {
-    let (wide, narrow) = (first.mask.as_slice(), second.mask.as_slice());
     for k in 0..second.subtree.as_slice().len() {
-        if is_compared(wide, k) && !is_compared(narrow, k) {
+        if first.mask.compares(k) && !second.mask.compares(k) {
             return false;
         }
     }

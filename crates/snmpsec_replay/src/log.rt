@@ -93,7 +93,7 @@ pub(crate) enum Ahead {
 
 /// How octets that are read ahead are cut.
 #[derive(Clone, Copy, Debug, PartialEq, Eq)]
-pub(crate) struct Cut {
+pub(crate) struct CutAhead {
     pub(crate) ahead: Ahead,
     /// How many of them the line gets.
     pub(crate) taken: usize,
@@ -102,7 +102,7 @@ pub(crate) struct Cut {
 }
 
 /// Cuts octets that are read ahead, where the line has room for so many more.
-fn cut_ahead(octets: &[u8], room: usize) -> Cut
+fn cut_ahead(octets: &[u8], room: usize) -> CutAhead
     requires { room ≤ 131072 }
     ensures taken { (result.taken ≤ length octets.now) × (result.taken ≤ room) }
     ensures passed { result.passed ≤ length octets.now }
@@ -110,21 +110,21 @@ fn cut_ahead(octets: &[u8], room: usize) -> Cut
 {
     let end = find(octets, b'\n');
     if end > room {
-        return Cut {
+        return CutAhead {
             ahead: Ahead::TooLong,
             taken: 0,
             passed: room + 1,
         };
     }
     if end < octets.len() {
-        return Cut {
+        return CutAhead {
             ahead: Ahead::LineFeed,
             taken: end,
             passed: end + 1,
         };
     }
     let ahead = if end == 0 { Ahead::End } else { Ahead::More };
-    Cut {
+    CutAhead {
         ahead,
         taken: end,
         passed: end,

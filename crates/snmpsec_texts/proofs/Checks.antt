@@ -1,5 +1,5 @@
 -- What is printed for a question that was answered.
-use Rattle.std.proofs.Common.{◌≡◌, ℕ, zero, suc, List, [], ◌∷◌, ◌++◌, get_or, Result, Ok, Err, refl, ap, inl, inr, arith}
+use Rattle.std.proofs.Common.{◌≡◌, ℕ, zero, suc, List, [], ◌∷◌, ◌++◌, get_or, Option, Result, Ok, Err, refl, ap, inl, inr, arith}
 use Rattle.std.specs.Prelude.{map, IfOk, codes}
 use Rattle.vacm_core.specs.Allowed.{Allowed}
 use Rattle.vacm_core.specs.Tables.{Tables}
@@ -10,7 +10,10 @@ use Rattle.snmpsec_config.specs.Refusals.{SaysSound, RefusesText, refusal_line}
 use Rattle.snmpsec_config.specs.Told.{IsWhy}
 use Rattle.snmpsec_config.specs.declared.fault.ConfigFault.{ConfigFault}
 use Rattle.snmpsec_texts.specs.CheckConfig.{ChecksConfig, counts_text}
-use Rattle.snmpsec_texts.specs.Questions.{Asked, Asks, ChecksAccess, TellsSteps, ExplainsAccess}
+use Rattle.snmpsec_texts.specs.Questions.{Asked, Asks, ChecksAccess, ExplainsAccess}
+use Rattle.snmpsec_texts.specs.Steps.{context_lines}
+use Rattle.vacm_core.specs.Steps.{TellsContext}
+use Rattle.vacm_core.specs.declared.steps.ContextStep.{ContextStep}
 use Rattle.snmpsec_access.specs.Words.{access_word}
 use Rattle.snmpsec_texts.specs.Words.{access_status}
 
@@ -62,13 +65,13 @@ if_explained (Err x) out err status config fault told o e s = tt
 
 -- ---- explain-access
 
-pub if_reasoned : {A E : Type 0} (r : Result A E) (out err : A → List ℕ) (status : A → ℕ) (config : List ℕ) (words : List (List ℕ)) (asked : Asked) (users : List UserRow) (rows : Tables) (answer : Access)
-    → Asks words asked → SaysSound config users rows → Allowed rows asked.message asked.view asked.arcs answer
-    → IfOk r (λ x. TellsSteps rows asked (access_word answer ++ codes "\n") (out x)) → IfOk r (λ x. err x ≡ []) → IfOk r (λ x. status x ≡ access_status answer)
+pub if_reasoned : {A E : Type 0} (r : Result A E) (out err : A → List ℕ) (status : A → ℕ) (config : List ℕ) (words : List (List ℕ)) (asked : Asked) (users : List UserRow) (rows : Tables) (answer : Access) (steps : Option ContextStep)
+    → Asks words asked → SaysSound config users rows → Allowed rows asked.message asked.view asked.arcs answer → TellsContext rows asked.message asked.view asked.arcs steps
+    → IfOk r (λ x. out x ≡ (access_word answer ++ codes "\n") ++ context_lines steps) → IfOk r (λ x. err x ≡ []) → IfOk r (λ x. status x ≡ access_status answer)
     → IfOk r (λ x. ExplainsAccess config words (record { out = out x; err = err x; status = status x }))
-if_reasoned (Ok x) out err status config words asked users rows answer asks says allowed o e s = inr (
+if_reasoned (Ok x) out err status config words asked users rows answer steps asks says allowed decided o e s = inr (
   asked,
   asks,
-  inr (users, rows, says, record { answer = answer; allowed = allowed; out = o; err = e; status = s }),
+  inr (users, rows, says, record { answer = answer; allowed = allowed; out = record { steps = steps; decided = decided; text = o }; err = e; status = s }),
 )
-if_reasoned (Err x) out err status config words asked users rows answer asks says allowed o e s = tt
+if_reasoned (Err x) out err status config words asked users rows answer steps asks says allowed decided o e s = tt

@@ -10,7 +10,7 @@ use Rattle.usm_users.specs.User.{User}
 use Rattle.vacm_core.specs.Tables.{Tables}
 use Rattle.snmpsec_config.specs.Refusals.{Loads}
 use Rattle.snmpsec_open.specs.Opening.{Opens, refused}
-use Rattle.snmpsec_texts.specs.declared.refused.Refused.{Refused}
+use Rattle.snmpsec_texts.specs.declared.refused.RefusedAt.{RefusedAt}
 use Rattle.snmpsec_texts.specs.Refusals.{refused_line}
 use Rattle.snmpsec_texts.specs.Open.{OpensBy, OpensText}
 
@@ -38,7 +38,7 @@ in_table refusals.InvalidFlags h = refl
 cause : (users : List User) (w : List ℕ) (r : Refusal) → r ≢ refusals.OutOfMemory → IfSome (refused (number_in_table r)) (Opens users w) → Opens users w (Err (refusal_number r))
 cause users w r h opens = subst (λ (o : Option ℕ). IfSome (refused o) (Opens users w)) (in_table r h) opens
 
-pub if_refused : {A E : Type 0} (r : Result A E) (out err : A → List ℕ) (status : A → ℕ) (users : List User) (w : List ℕ) (told : Refused) → IfSome (refused (number_in_table told.refusal)) (Opens users w)
+pub if_refused : {A E : Type 0} (r : Result A E) (out err : A → List ℕ) (status : A → ℕ) (users : List User) (w : List ℕ) (told : RefusedAt) → IfSome (refused (number_in_table told.refusal)) (Opens users w)
     → OnOk r (told.refusal ≢ refusals.OutOfMemory) → IfOk r (λ x. out x ≡ refused_line told) → IfOk r (λ x. err x ≡ []) → IfOk r (λ x. status x ≡ 1)
     → IfOk r (λ x. OpensBy users w (record { out = out x; err = err x; status = status x }))
 if_refused (Ok x) out err status users w told opens h o e s = inr (record { told = told; cause = cause users w told.refusal h opens; out = o; err = e; status = s })

@@ -10,7 +10,7 @@ use Rattle.snmp_msg.specs.Canonical.{Whole, Says, whole_text}
 use Rattle.snmp_message.specs.Refusals.{msg_refusal, write_refusal}
 use Rattle.snmp_message.specs.declared.refusal.Refusal.TheVariants as refusals
 use Rattle.snmp_msg.specs.Refusals.{RefusesWhole}
-use Rattle.snmpsec_texts.specs.declared.refused.Refused.{Refused}
+use Rattle.snmpsec_texts.specs.declared.refused.RefusedAt.{RefusedAt}
 use Rattle.snmpsec_texts.specs.Refusals.{refused_line}
 use Rattle.snmpsec_texts.specs.Show.{RefusesShow, ShowsDatagram, ShowsText}
 
@@ -26,7 +26,7 @@ write_refused w m writes.TooLarge says large = (whole_text m, record { message =
 write_refused w m writes.OutOfMemory says large = tt
 
 -- the refusal of the datagram was printed
-pub if_told : {A E : Type 0} (r : Result A E) (out err : A → List ℕ) (status : A → ℕ) (datagram : List ℕ) (told : Refused) → RefusesShow datagram told.refusal
+pub if_told : {A E : Type 0} (r : Result A E) (out err : A → List ℕ) (status : A → ℕ) (datagram : List ℕ) (told : RefusedAt) → RefusesShow datagram told.refusal
     → OnOk r (told.refusal ≢ refusals.OutOfMemory) → IfOk r (λ x. out x ≡ refused_line told) → IfOk r (λ x. err x ≡ []) → IfOk r (λ x. status x ≡ 1)
     → IfOk r (λ x. ShowsDatagram datagram (record { out = out x; err = err x; status = status x }))
 if_told (Ok x) out err status datagram told why no_memory o e s = inr (record { told = told; cause = why; no_memory = no_memory; out = o; err = e; status = s })

@@ -2,6 +2,7 @@ pub mod Refusals
 pub mod Show
 pub mod Merge
 pub mod Words
+pub mod Steps
 pub mod Questions
 pub mod CheckConfig
 pub mod Open

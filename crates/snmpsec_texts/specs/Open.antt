@@ -6,7 +6,7 @@ use Rattle.usm_users.specs.User.{User}
 use Rattle.vacm_core.specs.Tables.{Tables}
 use Rattle.snmpsec_config.specs.Refusals.{Loads}
 use Rattle.snmpsec_open.specs.Opening.{Opens}
-use Rattle.snmpsec_texts.specs.declared.refused.Refused.{Refused as ARefused}
+use Rattle.snmpsec_texts.specs.declared.refused.RefusedAt.{RefusedAt as ARefused}
 use Rattle.snmpsec_texts.specs.Refusals.{refused_line}
 use Rattle.snmpsec_texts.specs.Show.{TellsNoHex}
 use Rattle.snmpsec_texts.specs.Questions.{Printed, TellsRefused}

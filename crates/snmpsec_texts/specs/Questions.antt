@@ -12,9 +12,9 @@ use Rattle.usm_users.specs.declared.load.UserRow.{UserRow}
 use Rattle.snmpsec_config.specs.declared.fault.ConfigFault.{ConfigFault}
 use Rattle.snmpsec_config.specs.Refusals.{SaysSound, RefusesText, refusal_line}
 use Rattle.snmpsec_config.specs.Words.{level_word}
-use Rattle.snmpsec_explain.specs.declared.steps.ContextStep.{ContextStep}
-use Rattle.snmpsec_explain.specs.Steps.{TellsContext}
-use Rattle.snmpsec_explain.specs.Lines.{context_lines}
+use Rattle.vacm_core.specs.declared.steps.ContextStep.{ContextStep}
+use Rattle.vacm_core.specs.Steps.{TellsContext}
+use Rattle.snmpsec_texts.specs.Steps.{context_lines}
 use Rattle.snmpsec_texts.specs.declared.check.Question.{Question}
 use Rattle.snmpsec_access.specs.Words.{view_word, access_word}
 use Rattle.snmpsec_texts.specs.Words.{access_status}

@@ -6,16 +6,16 @@ use Rattle.snmp_message.specs.Numbers.{refusal_number, refusal_name}
 use Rattle.snmp_message.specs.Refusals.{msg_refusal, place_of}
 use Rattle.snmp_outcome.specs.declared.fault.TakeFault.{TakeFault}
 use Rattle.snmp_outcome.specs.Refusals as take
-use Rattle.snmpsec_texts.specs.declared.refused.Refused.{Refused}
+use Rattle.snmpsec_texts.specs.declared.refused.RefusedAt.{RefusedAt}
 
 -- a refusal without a place
-abbrev pub plain_refused : Refusal → Refused
+abbrev pub plain_refused : Refusal → RefusedAt
 plain_refused refusal = record { refusal = refusal; at = None }
 
-abbrev pub msg_refused : MsgFault → Refused
+abbrev pub msg_refused : MsgFault → RefusedAt
 msg_refused fault = record { refusal = msg_refusal fault; at = place_of fault }
 
-abbrev pub take_refused : TakeFault → Refused
+abbrev pub take_refused : TakeFault → RefusedAt
 take_refused fault = record { refusal = take.refusal_of fault; at = take.place_of fault }
 
 -- " at PLACE", where there is one
@@ -24,8 +24,8 @@ place_text (Some at) = codes " at " ++ decimal at
 place_text None = codes ""
 
 -- the line of a refusal, without its line feed: its number and name, and its place where it has one
-abbrev pub refused_text : Refused → List ℕ
+abbrev pub refused_text : RefusedAt → List ℕ
 refused_text r = codes "refused " ++ (decimal (refusal_number r.refusal) ++ (codes " " ++ (refusal_name r.refusal ++ place_text r.at)))
 
-abbrev pub refused_line : Refused → List ℕ
+abbrev pub refused_line : RefusedAt → List ℕ
 refused_line r = refused_text r ++ codes "\n"

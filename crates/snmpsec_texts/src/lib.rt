@@ -22,6 +22,7 @@ mod output;
 mod refused;
 mod sees;
 mod show;
+mod steps;
 mod who_sees;
 mod words;
 

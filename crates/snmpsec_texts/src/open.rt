@@ -5,7 +5,7 @@ ghost use Rattle.snmpsec_texts.specs.Questions.{Printed};
 ghost use Rattle.snmpsec_texts.specs.Open.{OpensBy, OpensText};
 
 use crate::output::Output;
-use crate::refused::Refused;
+use crate::refused::RefusedAt;
 use crate::show::{datagram_of, refused_output};
 use snmpsec_config::Config;
 use snmpsec_open::opened_lines;
@@ -40,6 +40,6 @@ pub fn opened(alloc: Global, users: &mut Users, datagram: &[u8]) -> Result<Outpu
 {
     match opened_lines(alloc, users, datagram) {
         Ok(lines) => Ok(Output::out(alloc, lines.into_bytes(), 0)),
-        Err(fault) => refused_output(alloc, Refused::from(fault)),
+        Err(fault) => refused_output(alloc, RefusedAt::from(fault)),
     }
 }

@@ -14,21 +14,21 @@ use std::fmt;
 /// Why a message can't be shown or opened. The text is what the program prints: the number and the name of the refusal, and its place
 /// where it has one, in octets from 0.
 #[derive(Clone, Copy, Debug, PartialEq, Eq, Drop)]
-pub struct Refused {
+pub struct RefusedAt {
     pub refusal: Refusal,
     pub at: Option<usize>,
 }
 
-impl Refused {
+impl RefusedAt {
     /// A refusal that has no place.
-    pub fn plain(refusal: Refusal) -> Refused
+    pub fn plain(refusal: Refusal) -> RefusedAt
         ensures { result ≡ plain_refused refusal }
     {
-        Refused { refusal, at: None }
+        RefusedAt { refusal, at: None }
     }
 }
 
-impl fmt::Display for Refused {
+impl fmt::Display for RefusedAt {
     ghost use Rattle.std.specs.Prelude.{Some};
     ghost use Rattle.snmpsec_texts.specs.Refusals.{refused_text};
 
@@ -43,42 +43,42 @@ impl fmt::Display for Refused {
     }
 }
 
-impl Error for Refused {}
+impl Error for RefusedAt {}
 
-impl From<MsgFault> for Refused {
+impl From<MsgFault> for RefusedAt {
     ghost from_gives = { λ fault e. e ≡ msg_refused fault };
 
-    fn from(fault: MsgFault) -> Refused {
-        Refused {
+    fn from(fault: MsgFault) -> RefusedAt {
+        RefusedAt {
             refusal: fault.refusal(),
             at: fault.at(),
         }
     }
 }
 
-impl From<TakeFault> for Refused {
+impl From<TakeFault> for RefusedAt {
     ghost from_gives = { λ fault e. e ≡ take_refused fault };
 
-    fn from(fault: TakeFault) -> Refused {
-        Refused {
+    fn from(fault: TakeFault) -> RefusedAt {
+        RefusedAt {
             refusal: fault.refusal(),
             at: fault.place(),
         }
     }
 }
 
-impl From<WriteFault> for Refused {
+impl From<WriteFault> for RefusedAt {
     ghost from_gives = { λ fault e. e ≡ plain_refused (write_refusal fault) };
 
-    fn from(fault: WriteFault) -> Refused {
-        Refused::plain(fault.refusal())
+    fn from(fault: WriteFault) -> RefusedAt {
+        RefusedAt::plain(fault.refusal())
     }
 }
 
-impl From<AllocError> for Refused {
+impl From<AllocError> for RefusedAt {
     ghost from_gives = { λ _ e. e ≡ plain_refused OutOfMemory };
 
-    fn from(_fault: AllocError) -> Refused {
-        Refused::plain(Refusal::OutOfMemory)
+    fn from(_fault: AllocError) -> RefusedAt {
+        RefusedAt::plain(Refusal::OutOfMemory)
     }
 }

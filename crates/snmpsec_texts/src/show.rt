@@ -10,7 +10,7 @@ ghost use Rattle.snmpsec_texts.specs.Questions.{Printed};
 ghost use Rattle.snmpsec_texts.specs.Refusals.{refused_line};
 
 use crate::output::Output;
-use crate::refused::Refused;
+use crate::refused::RefusedAt;
 use hex::FromHexError;
 use snmp_msg::{Layer, Layers, Refusal, USER_BASED, read_layers, read_message, write_layers};
 use snmpsec_open::{message_lines, octets_line, scoped_lines};
@@ -27,7 +27,7 @@ fn contents_lines(alloc: Global, contents: &Layer<'_>) -> Result<String, AllocEr
 }
 
 /// What a message says in all its layers, or why it isn't shown.
-fn read_shown(datagram: &[u8]) -> Result<Layers<'_>, Refused>
+fn read_shown(datagram: &[u8]) -> Result<Layers<'_>, RefusedAt>
     ensures exact { MatchResult result (λ m. IsUsmMessage datagram.now × Says datagram.now (whole_of m)) (λ refused. RefusesShow datagram.now refused.refusal) }
     ensures fits { IfOk result (λ m. WholeFits (whole_of m)) }
     ensures list { IfOk result (λ m. IsReadLayer m.contents) }
@@ -35,17 +35,17 @@ fn read_shown(datagram: &[u8]) -> Result<Layers<'_>, Refused>
     let message = read_message(datagram)?;
     let header = message.header;
     if header.model != USER_BASED {
-        return Err(Refused::plain(Refusal::UnknownModel));
+        return Err(RefusedAt::plain(Refusal::UnknownModel));
     }
     let Some(_level) = header.level() else {
-        return Err(Refused::plain(Refusal::InvalidFlags));
+        return Err(RefusedAt::plain(Refusal::InvalidFlags));
     };
     let layers = read_layers(datagram, &message)?;
     Ok(layers)
 }
 
 /// The lines of what the datagram says, and of its canonical spelling.
-fn message_text(alloc: Global, datagram: &[u8]) -> Result<String, Refused>
+fn message_text(alloc: Global, datagram: &[u8]) -> Result<String, RefusedAt>
     ensures { MatchResult result (λ text. Shows datagram.now (string_bytes text)) (λ refused. RefusesShow datagram.now refused.refusal) }
 {
     let layers = read_shown(datagram)?;
@@ -109,7 +109,7 @@ pub fn shown(alloc: Global, datagram: &[u8]) -> Result<Output, AllocError>
 }
 
 /// The line for a refused message. Want of memory is handed on.
-pub(crate) fn refused_output(alloc: Global, refused: Refused) -> Result<Output, AllocError>
+pub(crate) fn refused_output(alloc: Global, refused: RefusedAt) -> Result<Output, AllocError>
     ensures line { IfOk result (λ output. output.out.items ≡ refused_line refused) }
     ensures err { IfOk result (λ output. output.err.items ≡ []) }
     ensures status { IfOk result (λ output. output.status ≡ 1) }

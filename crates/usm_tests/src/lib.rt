@@ -8,6 +8,4 @@ mod snmp_outcome_tests;
 #[cfg(test)]
 mod snmpsec_config_tests;
 #[cfg(test)]
-mod snmpsec_explain_tests;
-#[cfg(test)]
 mod usm_core_tests;

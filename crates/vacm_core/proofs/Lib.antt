@@ -1,8 +1,10 @@
+pub mod Choice
 pub mod Distinct
 pub mod Exact
 pub mod First
 pub mod Invariance
 pub mod Parts
+pub mod Positions
 pub mod Places
 pub mod Runs
 pub mod Seen

@@ -1,16 +1,16 @@
 -- The rows of a name are a run of those that stand by name.
-use Rattle.std.proofs.Common.{◌≡◌, ℕ, ◌+◌, ◌-◌, ◌<◌, ◌≤◌, ◌==◌, ◌↔◌, Bool, true, false, not, IsTrue, nat_lt, List, [], ◌∷◌, length, get_or, take, drop, Contains, sym, ap, subst, ◌∙◌, refl, inl, inr, arith, length-take}
+use Rattle.std.proofs.Common.{◌≡◌, ℕ, ◌+◌, ◌-◌, ◌<◌, ◌≤◌, Bool, true, false, nat_lt, List, length, get_or, take, drop, Contains, Option, Some, None, MatchOption, Bor, sym, ap, subst, ◌∙◌, refl, inl, inr, arith, length-take}
 use Rattle.std.specs.Cmp.Lexicographic.{slice_cmp}
 use Rattle.std.specs.Ordering.{nat_cmp, ordering_then, ordering_index, is_lt}
 use Rattle.std.specs.List.Sorted.{IsNonDecreasingBy, IsPartitionedBy, IsPartitionPoint}
 use Rattle.std.specs.declared.cmp.Ordering.{Ordering}
 use Rattle.std.specs.declared.cmp.Ordering.TheVariants.{Less, Equal, Greater}
-use Rattle.std.proofs.lemmas.Bool.Decides.{nat_tests}
 use Rattle.std.proofs.lemmas.Bool.{cases_lt}
 use Rattle.std.proofs.lemmas.Cmp.{nat_list_cmp_total, tied_itself}
 use Rattle.std.proofs.lemmas.List.{length-drop, get_or-take, get_or-drop}
 use Rattle.std.proofs.lemmas.List.Sorted.{searchable_from_sorted, IsPartitionedBy-ltb}
 use Rattle.std.proofs.lemmas.Map.Lookups.{exact_bytes}
+use Rattle.std.specs.Slice.{IsItemAt}
 use Rattle.vacm_core.specs.Place.{side_of, AreInPlace, HasRowOf, IsRunOf}
 
 first_part : (o p : Ordering) → is_lt (ordering_then o p) ≡ false → is_lt o ≡ false
@@ -157,13 +157,12 @@ module _ {R : Type 0} (name : R → List ℕ) (rank : R → R → Ordering) (wan
         subst (λ xs. IsRunOf name rank wanted rows (take high xs)) (sym is)
         (is_run rows low high (subst (λ xs. high ≤ length xs) is long) first (subst (λ xs. IsPartitionPoint (λ row. nat_lt (side_of name wanted row) 2 ≡ true) (λ row. nat_lt (side_of name wanted row) 2 ≡ false) xs high) is second) stands)
 
-  pub has_row : (rows run : List R) (b : Bool) → IsRunOf name rank wanted rows run → b ≡ (length run == 0) → IsTrue (not b) ↔ HasRowOf name wanted rows
-  has_row rows [] b is_run e =
-      let f : b ≡ true = e ∙ grind (arith, nat_tests) in (
-        λ t. let t' : IsTrue (not true) = subst (λ v. IsTrue (not v)) f t in let u : false ≡ true = t' in cc,
-        λ h. let c = is_run.whole h.0 h.1 h.2 in absurd (let w = c.1 in omega (arith, w)),
-      )
-  has_row rows (x ∷ xs) b is_run e =
-      let f : b ≡ false = e ∙ grind (arith, nat_tests) in
-      let there : Contains (x ∷ xs) x = (0, omega arith, refl) in
-      (λ t. (x, is_run.among x there, is_run.named x there), λ h. subst (λ v. IsTrue (not v)) (sym f) refl)
+  -- the first row of a run, where the name has one
+  pub first_row : (rows run : List R) (first : Option (Bor R)) → IsRunOf name rank wanted rows run → IsItemAt run 0 first
+      → MatchOption first (¬ HasRowOf name wanted rows) (λ row. Contains rows row.now × (name row.now ≡ wanted))
+  first_row rows run None is_run item = λ h.
+      let c = is_run.whole h.0 h.1 h.2 in
+      absurd (let past = item.3 in let within = c.1 in omega arith)
+  first_row rows run (Some row) is_run item =
+      let there : Contains run row.now = (0, item.3.0, sym (item.3.1 row.now)) in
+      (is_run.among row.now there, is_run.named row.now there)

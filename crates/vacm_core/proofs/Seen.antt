@@ -9,7 +9,7 @@ use Rattle.std.specs.declared.cmp.Ordering.{Ordering}
 use Rattle.std.proofs.lemmas.Option.{slice_get_read}
 use Rattle.std.proofs.lemmas.Bool.{cases_lt}
 use Rattle.std.proofs.lemmas.List.{take_more}
-use Rattle.vacm_core.specs.declared.fault.Wrong.TheVariants.{Bad, Twice}
+use Rattle.vacm_core.specs.declared.fault.Defect.TheVariants.{Bad, Twice}
 use Rattle.vacm_core.specs.Faults.{row_fault, fault_in}
 
 pub not_true : (b : Bool) → not b ≡ true → b ≡ false

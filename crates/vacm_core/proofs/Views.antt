@@ -1,5 +1,5 @@
 -- The rows of a view in two tables, and what they answer.
-use Rattle.std.proofs.Common.{◌≡◌, ◌≢◌, ℕ, ◌<◌, ◌⊎◌, List, [], ◌∷◌, ◌++◌, length, Contains, refl, inl, inr, arith}
+use Rattle.std.proofs.Common.{◌≡◌, ◌≢◌, ℕ, ◌<◌, ◌⊎◌, List, [], ◌∷◌, ◌++◌, length, Contains, Bool, true, false, cond, sym, subst, refl, inl, inr, arith}
 use Rattle.std.proofs.lemmas.List.Elements.{Contains-append_left, Contains-append_right, Contains-append_cases}
 use Rattle.vacm_core.specs.declared.access.Access.{Access}
 use Rattle.vacm_core.specs.declared.access.Access.TheVariants.{NoSuchContext, NoGroupName, NoAccessEntry, NoSuchView, NotInView, AccessAllowed}
@@ -59,6 +59,19 @@ module _ (xs ys xr yr : List FamilyRow) (view : List ℕ) (first : IsRunOf famil
       | inr c ↦ inr (let w = c.1 in omega arith)
     ],
   )
+
+-- no row fits where there is no view of this name
+pub none_of_no_view : (rows : List FamilyRow) (view variable : List ℕ) → ¬ HasView rows view → view ≢ [] → NoneFits rows (FitsVariable view variable)
+none_of_no_view rows view variable none some row there fits = none (record { named = some; has_row = (row, there, fits.same_view) })
+
+-- the row that decides says what is answered
+pub by_row : (rows : List FamilyRow) (view variable : List ℕ) (row : FamilyRow) → HasView rows view → IsBestOf rows (FitsVariable view variable) family_order row
+    → (answer : Access) → answer ≡ cond row.include AccessAllowed NotInView → AnswersView rows view variable answer
+by_row rows view variable row has best answer is = by row.include refl is
+  where
+    by : (include : Bool) → row.include ≡ include → answer ≡ cond include AccessAllowed NotInView → AnswersView rows view variable answer
+    by true e is = subst (λ a. AnswersView rows view variable a) (sym is) (has, (row, best, e))
+    by false e is = subst (λ a. AnswersView rows view variable a) (sym is) (has, inr (row, best, e))
 
 -- what the view answers is the answer
 pub by_view : (t : Tables) (q : Message) (view : ViewType) (variable group : List ℕ) (row : AccessRow)

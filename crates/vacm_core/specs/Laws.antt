@@ -1,6 +1,6 @@
 -- The orders of rows are total, and rows of one index are those whose indexes are equal.
-use Rattle.std.specs.Prelude.{◌≡◌, ℕ, Bool, ◌&&◌, ◌==◌, List, length}
-use Rattle.std.proofs.Common.{refl, sym, ◌∙◌, arith}
+use Rattle.std.specs.Prelude.{◌≡◌, ℕ, Bool, true, ◌&&◌, ◌==◌, List, length}
+use Rattle.std.proofs.Common.{refl, sym, ap, ◌∙◌, arith}
 use Rattle.std.proofs.lemmas.Bool.Decides.{nat_tests}
 use Rattle.std.specs.Cmp.{IsTotalOrder}
 use Rattle.std.specs.Cmp.Lexicographic.{slice_cmp, lists_total}
@@ -8,7 +8,7 @@ use Rattle.std.specs.Ordering.{nat_cmp, is_eq, ordering_then}
 use Rattle.std.specs.Str.{bytes_eq}
 use Rattle.std.specs.declared.cmp.Ordering.{Ordering}
 use Rattle.std.specs.declared.cmp.Ordering.TheVariants.{Less, Equal, Greater}
-use Rattle.std.proofs.lemmas.Cmp.{nat_cmp_total, on_total, then_total, nat_list_eq_equiv}
+use Rattle.std.proofs.lemmas.Cmp.{nat_cmp_total, nat_list_cmp_total, on_total, then_total, tied_itself, nat_list_eq_equiv}
 use Rattle.std.proofs.lemmas.Map.Text.{is_eq-slice_cmp}
 use Rattle.vacm_core.specs.Allowed.{access_order, family_order, specificity}
 use Rattle.vacm_core.specs.Faults.{is_same_context, is_same_group, is_same_access, is_same_family}
@@ -64,3 +64,19 @@ same_access row other =
 
 pub same_family : (row other : FamilyRow) → is_same_family row other ≡ is_eq (ordering_then (slice_cmp nat_cmp other.view row.view) (slice_cmp nat_cmp other.subtree row.subtree))
 same_family row other = both _ _ _ _ (bytes_order row.view other.view) (bytes_order row.subtree other.subtree)
+
+-- a row has its own index
+pub context_itself : (row : ContextRow) → is_same_context row row ≡ true
+context_itself row = same_context row row ∙ ap is_eq (tied_itself nat_list_cmp_total row.name)
+
+pub group_itself : (row : GroupRow) → is_same_group row row ≡ true
+group_itself row = same_group row row ∙ ap is_eq (tied_itself (then_total (on_total (λ (r : GroupRow). r.model) nat_cmp_total) (on_total (λ r. r.name) nat_list_cmp_total)) row)
+
+pub access_itself : (row : AccessRow) → is_same_access row row ≡ true
+access_itself row =
+    same_access row row
+    ∙ ap is_eq (tied_itself (then_total (on_total (λ (r : AccessRow). r.group) nat_list_cmp_total)
+    (then_total (on_total (λ r. r.prefix) nat_list_cmp_total) (then_total (on_total (λ r. r.model) nat_cmp_total) (on_total (λ r. level_number r.level) nat_cmp_total)))) row)
+
+pub family_itself : (row : FamilyRow) → is_same_family row row ≡ true
+family_itself row = same_family row row ∙ ap is_eq (tied_itself (then_total (on_total (λ (r : FamilyRow). r.view) nat_list_cmp_total) (on_total (λ r. r.subtree) nat_list_cmp_total)) row)

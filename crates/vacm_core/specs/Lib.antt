@@ -6,3 +6,4 @@ pub mod Place
 pub mod View
 pub mod Laws
 pub mod Numbers
+pub mod Steps

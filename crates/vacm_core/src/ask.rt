@@ -1,27 +1,31 @@
-//! Who asks, and the answer over the four tables.
-ghost use Rattle.std.specs.Prelude.{◌≡◌, ◌++◌, ℕ, ◌↔◌, IsTrue, MatchOption, List};
+//! What decides on a question over the four tables.
+ghost use Rattle.std.specs.Prelude.{◌≡◌, ◌++◌, MatchOption, Contains};
 ghost use Rattle.vacm_core.specs.Tables.{Tables};
-ghost use Rattle.vacm_core.specs.Allowed as spec;
 ghost use Rattle.vacm_core.specs.View.{AreExact};
-ghost use Rattle.vacm_core.specs.Allowed.{Allowed, HasContext, IsInGroup, IsBestOf, NoneFits, FitsMessage, FitsContext, access_order, view_name};
+ghost use Rattle.vacm_core.specs.Allowed.{Allowed, HasContext, IsGroupRow, IsBestOf, NoneFits, FitsMessage, access_order};
+ghost use Rattle.vacm_core.specs.Steps.{HasNoGroup, DecidesContext, message_of};
 
-use crate::rows::{AccessRow, ContextRow, FamilyRow, GroupRow, Matching};
+use crate::Access;
+use crate::rows::{AccessRow, ContextRow, FamilyRow, GroupRow};
+use crate::steps::Asking;
 use crate::table::OrderedTable;
-use crate::view::answer_of_view;
-use crate::{Access, ViewType};
+use crate::view::viewed;
 use snmp_ber::Level;
 
-/// There is a context of this name.
-pub(crate) fn has_context(rows: &OrderedTable<ContextRow>, context: &[u8]) -> bool
-    ensures { IsTrue result ↔ HasContext rows.now context.now }
+/// The row of the context of this name.
+pub(crate) fn context_row<'a>(
+    rows: &'a OrderedTable<ContextRow>,
+    context: &[u8],
+) -> Option<&'a ContextRow>
+    ensures { MatchOption result (¬ HasContext rows.now context.now) (λ row. Contains rows.now row.now × (row.now.name ≡ context.now)) }
 {
-    !rows.rows_of(context).is_empty()
+    rows.rows_of(context).first()
 }
 
 /// The row that has the security name's group under the model.
 fn group_of<'a>(rows: &'a OrderedTable<GroupRow>, model: u32, name: &[u8]) -> Option<&'a GroupRow>
-    ensures { MatchOption result ((group : List ℕ) → ¬ IsInGroup rows.now model name.now group)
-        (λ row. IsInGroup rows.now model name.now row.now.group) }
+    ensures { MatchOption result (HasNoGroup rows.now model name.now)
+        (λ row. Contains rows.now row.now × IsGroupRow model name.now row.now) }
 {
     let run = rows.rows_of(name);
     for row in run {
@@ -30,25 +34,6 @@ fn group_of<'a>(rows: &'a OrderedTable<GroupRow>, model: u32, name: &[u8]) -> Op
         }
     }
     None
-}
-
-/// The row's prefix is the context's name, or begins it where that is enough.
-fn fits_context(row: &AccessRow, context: &[u8]) -> bool
-    ensures { IsTrue result ↔ FitsContext row.now context.now }
-{
-    match row.matching {
-        Matching::Exact => row.prefix.as_slice() == context,
-        Matching::Prefix => context.starts_with(row.prefix.as_slice()),
-    }
-}
-
-/// The row matches a message of its group.
-fn fits_message(row: &AccessRow, model: u32, level: Level, context: &[u8]) -> bool
-    ensures { IsTrue result ↔ FitsMessage row.now.group model level context.now row.now }
-{
-    (row.model == model || row.model == 0)
-        && row.level.number() <= level.number()
-        && fits_context(row, context)
 }
 
 /// The best of the group's rows that match: they stand from the best down.
@@ -64,64 +49,63 @@ fn best_row<'a>(
 {
     let run = rows.rows_of(group);
     for row in run {
-        if fits_message(row, model, level, context) {
+        if row.fits_message(model, level, context) {
             return Some(row);
         }
     }
     None
 }
 
-/// The name of the view that is asked for.
-fn view_name(row: &AccessRow, view: ViewType) -> &[u8]
-    ensures { result.now ≡ view_name view row.now }
-{
-    match view {
-        ViewType::Read => row.read.as_slice(),
-        ViewType::Write => row.write.as_slice(),
-        ViewType::Notify => row.notify.as_slice(),
-    }
-}
-
-/// Who asks.
+/// What decides on a question: its answer, and each row, as far as it comes.
 #[derive(Clone, Copy)]
-pub(crate) struct Message<'a> {
-    pub(crate) model: u32,
-    pub(crate) name: &'a [u8],
-    pub(crate) level: Level,
-    pub(crate) context: &'a [u8],
+pub(crate) struct Deciding<'a> {
+    pub(crate) answer: Access,
+    pub(crate) context: Option<&'a ContextRow>,
+    pub(crate) group: Option<&'a GroupRow>,
+    pub(crate) access: Option<&'a AccessRow>,
+    pub(crate) family: Option<&'a FamilyRow>,
 }
 
-/// The answer over the tables.
-pub(crate) fn answer(
-    contexts: &OrderedTable<ContextRow>,
-    groups: &OrderedTable<GroupRow>,
-    access: &OrderedTable<AccessRow>,
-    exact: &OrderedTable<FamilyRow>,
-    others: &OrderedTable<FamilyRow>,
-    message: Message,
-    view: ViewType,
-    variable: &[u32],
-) -> Access
+/// What decides over the tables.
+pub(crate) fn decided<'a>(
+    contexts: &'a OrderedTable<ContextRow>,
+    groups: &'a OrderedTable<GroupRow>,
+    access: &'a OrderedTable<AccessRow>,
+    exact: &'a OrderedTable<FamilyRow>,
+    others: &'a OrderedTable<FamilyRow>,
+    asking: &Asking<'_>,
+) -> Deciding<'a>
     requires { AreExact exact.now }
-    ensures { let tables : Tables = record { contexts = contexts.now; groups = groups.now; access = access.now; families = exact.now ++ others.now } in
-        let asking : spec.Message = record { model = message.entry.model; name = message.entry.name.now; level = message.entry.level; context = message.entry.context.now } in
-        Allowed tables asking view variable.now result }
+    ensures answer { let tables : Tables = record { contexts = contexts.now; groups = groups.now; access = access.now; families = exact.now ++ others.now } in
+        Allowed tables (message_of asking.now) asking.now.view asking.now.variable.now result.answer }
+    ensures rows { let tables : Tables = record { contexts = contexts.now; groups = groups.now; access = access.now; families = exact.now ++ others.now } in
+        DecidesContext tables (message_of asking.now) asking.now.view asking.now.variable.now result }
 {
-    let Message {
-        model,
-        name,
-        level,
-        context,
-    } = message;
-    if !has_context(contexts, context) {
-        return Access::NoSuchContext;
-    }
-    let Some(group_row) = group_of(groups, model, name) else {
-        return Access::NoGroupName;
+    let mut found = Deciding {
+        answer: Access::NoSuchContext,
+        context: None,
+        group: None,
+        access: None,
+        family: None,
     };
-    let group = group_row.group.as_slice();
-    let Some(row) = best_row(access, group, model, level, context) else {
-        return Access::NoAccessEntry;
+    let Some(context) = context_row(contexts, asking.context) else {
+        return found;
     };
-    answer_of_view(exact, others, view_name(row, view), variable)
+    found.context = Some(context);
+    found.answer = Access::NoGroupName;
+    let Some(group) = group_of(groups, asking.model, asking.name) else {
+        return found;
+    };
+    found.group = Some(group);
+    found.answer = Access::NoAccessEntry;
+    let group = group.group.as_slice();
+    let Some(row) = best_row(access, group, asking.model, asking.level, asking.context) else {
+        return found;
+    };
+    found.access = Some(row);
+    let view = row.view(asking.view).as_slice();
+    let viewed = viewed(exact, others, view, asking.variable);
+    found.answer = viewed.answer;
+    found.family = viewed.row;
+    found
 }

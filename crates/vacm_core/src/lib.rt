@@ -34,12 +34,15 @@
 
 mod access;
 mod ask;
+mod explain;
 mod fault;
 pub mod laws;
 mod mask;
 mod name;
 mod place;
+mod row;
 mod rows;
+mod steps;
 mod table;
 mod vacm;
 mod view;
@@ -49,4 +52,5 @@ pub use fault::{Table, VacmFault};
 pub use mask::Mask;
 pub use name::Name;
 pub use rows::{AccessRow, ContextRow, FamilyRow, GroupRow, Matching, Rows};
+pub use steps::{AccessStep, Asking, ContextStep, Explained, GroupStep, ViewStep};
 pub use vacm::Vacm;

@@ -3,7 +3,7 @@ ghost use Rattle.std.specs.Prelude.{◌≡◌, ℕ, ◌<◌, ◌≤◌, length, 
 ghost use Rattle.std.specs.List.Sorted.{IsPermutation, IsPartitionedBy, IsPartitionPoint};
 ghost use Rattle.vacm_core.specs.Place.{place_order, side_of, AreInPlace, IsRunOf};
 
-use crate::rows::Row;
+use crate::row::TableRow;
 use std::alloc::{AllocError, Global};
 use std::cmp::Ordering;
 
@@ -11,7 +11,7 @@ use std::cmp::Ordering;
 const STRIDE: usize = 8;
 
 /// The order in which rows stand.
-fn place<R: Row>(a: &R, b: &R) -> Ordering
+fn place<R: TableRow>(a: &R, b: &R) -> Ordering
     ensures { result ≡ place_order R.name_of R.rank a.now b.now }
 {
     let (first, second) = (a.name().as_slice(), b.name().as_slice());
@@ -19,14 +19,14 @@ fn place<R: Row>(a: &R, b: &R) -> Ordering
 }
 
 /// The row stands before those of the name, or is one.
-fn is_upto<R: Row>(row: &R, wanted: &[u8]) -> bool
+fn is_upto<R: TableRow>(row: &R, wanted: &[u8]) -> bool
     ensures { result ≡ nat_lt (side_of R.name_of wanted.now row.now) 2 }
 {
     row.name().as_slice().cmp(wanted).is_le()
 }
 
 /// How many of the rows are not past the name.
-fn count_upto<R: Row>(rows: &[R], wanted: &[u8]) -> usize
+fn count_upto<R: TableRow>(rows: &[R], wanted: &[u8]) -> usize
     requires { IsPartitionedBy (λ row. nat_lt (side_of R.name_of wanted.now row) 2) rows.now }
     ensures bound { result ≤ length rows.now }
     ensures parted { IsPartitionPoint (λ row. nat_lt (side_of R.name_of wanted.now row) 2 ≡ true) (λ row. nat_lt (side_of R.name_of wanted.now row) 2 ≡ false) rows.now result }
@@ -35,7 +35,7 @@ fn count_upto<R: Row>(rows: &[R], wanted: &[u8]) -> usize
 }
 
 /// There is a row at the place, and it is not past the name.
-fn goes_on<R: Row>(rows: &[R], place: usize, wanted: &[u8]) -> bool
+fn goes_on<R: TableRow>(rows: &[R], place: usize, wanted: &[u8]) -> bool
     ensures { MatchBool result (place < length rows.now)
         ((d : R) → place < length rows.now → nat_lt (side_of R.name_of wanted.now (get_or rows.now place d)) 2 ≡ false) }
 {
@@ -46,7 +46,7 @@ fn goes_on<R: Row>(rows: &[R], place: usize, wanted: &[u8]) -> bool
 }
 
 /// The same, looked for near the first row, and then further and further away, since a name mostly has few rows.
-pub(crate) fn count_near<R: Row>(rows: &[R], wanted: &[u8]) -> usize
+pub(crate) fn count_near<R: TableRow>(rows: &[R], wanted: &[u8]) -> usize
     requires { IsPartitionedBy (λ row. nat_lt (side_of R.name_of wanted.now row) 2) rows.now }
     ensures bound { result ≤ length rows.now }
     ensures parted { IsPartitionPoint (λ row. nat_lt (side_of R.name_of wanted.now row) 2 ≡ true) (λ row. nat_lt (side_of R.name_of wanted.now row) 2 ≡ false) rows.now result }
@@ -60,7 +60,7 @@ pub(crate) fn count_near<R: Row>(rows: &[R], wanted: &[u8]) -> usize
 }
 
 /// The same rows.
-pub(crate) fn copies<R: Row>(alloc: Global, rows: &[R]) -> Result<Vec<R>, AllocError>
+pub(crate) fn copies<R: TableRow>(alloc: Global, rows: &[R]) -> Result<Vec<R>, AllocError>
     ensures { IfOk result (λ made. made.items ≡ rows.now) }
 {
     let mut made = Vec::new(alloc);
@@ -71,7 +71,7 @@ pub(crate) fn copies<R: Row>(alloc: Global, rows: &[R]) -> Result<Vec<R>, AllocE
 }
 
 /// The rows in their places.
-pub(crate) fn sort<R: Row>(rows: &mut Vec<R>) -> Result<(), AllocError>
+pub(crate) fn sort<R: TableRow>(rows: &mut Vec<R>) -> Result<(), AllocError>
     ensures same { IsPermutation rows.old.items rows.new.items }
     ensures in_place { OnOk result (AreInPlace R.name_of R.rank rows.new.items) }
 {

@@ -1,21 +1,13 @@
 //! The rows of the four tables (RFC 3415, section 4).
-ghost use Rattle.std.specs.Prelude.{◌≡◌, Bool, ℕ, List};
-ghost use Rattle.std.specs.Ordering.{is_eq};
-ghost use Rattle.std.specs.Cmp.{IsTotalOrder};
-ghost use Rattle.std.specs.declared.cmp.Ordering.{Ordering as Order};
-ghost use Rattle.snmp_ber.specs.Level.{level_number};
-ghost use Rattle.vacm_core.specs.Faults.{is_bad_context, is_bad_group, is_bad_access, is_bad_family, is_same_context, is_same_group, is_same_access, is_same_family};
-ghost use Rattle.vacm_core.specs.Allowed.{access_order, family_order, specificity};
-ghost use Rattle.vacm_core.specs.Place.{context_name, group_name, access_name, family_name, context_rank, group_rank, arcs_order};
-ghost use Rattle.vacm_core.specs.Laws.{equal_total, access_order-total, family_order-total, same_context, same_group, same_access, same_family};
-ghost use Rattle.std.proofs.lemmas.Cmp.{nat_cmp_total, on_total};
-ghost use Rattle.vacm_core.specs.declared.rows.GroupRow.{GroupRow as Group};
+ghost use Rattle.std.specs.Prelude.{◌≡◌, ◌↔◌, if◌then◌else◌, IsTrue};
+ghost use Rattle.vacm_core.specs.Allowed.{FitsContext, FitsMessage, family_order, specificity, view_name};
+ghost use Rattle.vacm_core.specs.Place.{arcs_order};
+ghost use Rattle.vacm_core.specs.View.{IsExact};
+ghost use Rattle.vacm_core.specs.declared.access.Access.TheVariants.{AccessAllowed, NotInView};
 
-use crate::{Mask, Name};
+use crate::{Access, Mask, Name, ViewType};
 use snmp_ber::{Level, Oid};
 use std::cmp::Ordering;
-
-const MODEL_MAX: u32 = 2147483647;
 
 /// A context that there is (vacmContextTable). Its index is the name.
 #[derive(Drop)]
@@ -80,186 +72,41 @@ pub struct Rows {
     pub families: Vec<FamilyRow>,
 }
 
-/// A row of a table: what makes it bad, its index, and where it stands.
-pub(crate) trait Row: Drop {
-    /// What no two rows of a table have in common.
-    type Index: Ord + Drop;
-
-    ghost is_bad_row: { Self → Bool };
-
-    ghost is_same: { Self → Self → Bool };
-
-    ghost index_of: { Self → Self.Index };
-
-    ghost name_of: { Self → List ℕ };
-
-    ghost rank: { Self → Self → Order };
-
-    fn is_bad(&self) -> bool
-        ensures { result ≡ is_bad_row self.now };
-
-    fn index(&self) -> Self::Index
-        ensures { result ≡ index_of self.now };
-
-    /// The name that the rows of its table stand by.
-    fn name(&self) -> &Name
-        ensures { result.now ≡ name_of self.now };
-
-    /// Which of two rows of one name is the better.
-    fn ranking(&self, other: &Self) -> Ordering
-        ensures { result ≡ rank self.now other.now };
-
-    /// The same row. It takes no memory.
-    fn copy(&self) -> Self
-        ensures { result ≡ self.now };
-
-    ghost same_index: { (row other : Self) → is_same row other ≡ is_eq (Self.Index.cmp (index_of other) (index_of row)) };
-
-    ghost rank_total: { IsTotalOrder rank };
-}
-
-impl Row for ContextRow {
-    type Index = Name;
-
-    ghost is_bad_row = { is_bad_context };
-
-    ghost is_same = { is_same_context };
-
-    ghost index_of = { λ row. row.name };
-
-    ghost name_of = { context_name };
-
-    ghost rank = { context_rank };
-
-    ghost same_index = { same_context };
-
-    ghost rank_total = { equal_total };
-
-    fn is_bad(&self) -> bool {
-        false
-    }
-
-    fn index(&self) -> Name {
-        self.name.copy()
-    }
-
-    fn name(&self) -> &Name {
-        &self.name
-    }
-
-    fn ranking(&self, _other: &ContextRow) -> Ordering {
-        Ordering::Equal
-    }
-
-    fn copy(&self) -> Self {
-        ContextRow {
-            name: self.name.copy(),
-        }
-    }
-}
-
-impl Row for GroupRow {
-    type Index = (u32, Name);
-
-    ghost is_bad_row = { is_bad_group };
-
-    ghost is_same = { is_same_group };
-
-    ghost index_of = { λ row. (row.model, row.name) };
-
-    ghost name_of = { group_name };
-
-    ghost rank = { group_rank };
-
-    ghost same_index = { same_group };
-
-    ghost rank_total = { on_total (λ (row : Group). row.model) nat_cmp_total };
-
-    fn is_bad(&self) -> bool {
-        self.model == 0
-            || self.model > MODEL_MAX
-            || self.name.as_slice().is_empty()
-            || self.group.as_slice().is_empty()
-    }
-
-    fn index(&self) -> (u32, Name) {
-        (self.model, self.name.copy())
-    }
-
-    fn name(&self) -> &Name {
-        &self.name
-    }
-
-    fn ranking(&self, other: &GroupRow) -> Ordering {
-        self.model.cmp(&other.model)
-    }
-
-    fn copy(&self) -> Self {
-        GroupRow {
-            model: self.model,
-            name: self.name.copy(),
-            group: self.group.copy(),
-        }
-    }
-}
-
 impl AccessRow {
     /// 1 where the row is for one security model, and 0 where it is for any.
-    fn specificity(&self) -> u8
+    pub(crate) fn specificity(&self) -> u8
         ensures { result ≡ specificity self.now }
     {
         if self.model == 0 { 0 } else { 1 }
     }
-}
 
-impl Row for AccessRow {
-    type Index = (Name, (Name, (u32, u8)));
-
-    ghost is_bad_row = { is_bad_access };
-
-    ghost is_same = { is_same_access };
-
-    ghost index_of = { λ row. (row.group, (row.prefix, (row.model, level_number row.level))) };
-
-    ghost name_of = { access_name };
-
-    ghost rank = { access_order };
-
-    ghost same_index = { same_access };
-
-    ghost rank_total = { access_order-total };
-
-    fn is_bad(&self) -> bool {
-        self.group.as_slice().is_empty() || self.model > MODEL_MAX
+    /// The prefix is the context's name, or begins it where that is enough.
+    fn fits_context(&self, context: &[u8]) -> bool
+        ensures { IsTrue result ↔ FitsContext self.now context.now }
+    {
+        match self.matching {
+            Matching::Exact => self.prefix.as_slice() == context,
+            Matching::Prefix => context.starts_with(self.prefix.as_slice()),
+        }
     }
 
-    fn index(&self) -> (Name, (Name, (u32, u8))) {
-        let numbers = (self.model, self.level.number());
-        (self.group.copy(), (self.prefix.copy(), numbers))
+    /// The row matches a message of its group with this security model and level, in the context of this name (RFC 3415, section 3.2).
+    pub fn fits_message(&self, model: u32, level: Level, context: &[u8]) -> bool
+        ensures { IsTrue result ↔ FitsMessage self.now.group model level context.now self.now }
+    {
+        (self.model == model || self.model == 0)
+            && self.level.number() <= level.number()
+            && self.fits_context(context)
     }
 
-    fn name(&self) -> &Name {
-        &self.group
-    }
-
-    fn ranking(&self, other: &AccessRow) -> Ordering {
-        let (first, second) = (self.prefix.as_slice().len(), other.prefix.as_slice().len());
-        self.specificity()
-            .cmp(&other.specificity())
-            .then(first.cmp(&second))
-            .then(self.level.number().cmp(&other.level.number()))
-    }
-
-    fn copy(&self) -> Self {
-        AccessRow {
-            group: self.group.copy(),
-            prefix: self.prefix.copy(),
-            model: self.model,
-            level: self.level,
-            matching: self.matching,
-            read: self.read.copy(),
-            write: self.write.copy(),
-            notify: self.notify.copy(),
+    /// The name of the view that is asked for.
+    pub(crate) fn view(&self, view: ViewType) -> &Name
+        ensures { result.now ≡ view_name view self.now }
+    {
+        match view {
+            ViewType::Read => &self.read,
+            ViewType::Write => &self.write,
+            ViewType::Notify => &self.notify,
         }
     }
 }
@@ -272,8 +119,15 @@ pub(crate) fn arcs_order(first: &[u32], second: &[u32]) -> Ordering
 }
 
 impl FamilyRow {
+    /// The order in which rows of one view decide (vacmViewTreeFamilyTable): by the number of arcs, then by the arcs.
+    pub fn order(&self, other: &FamilyRow) -> Ordering
+        ensures { result ≡ family_order self.now other.now }
+    {
+        arcs_order(self.subtree.as_slice(), other.subtree.as_slice())
+    }
+
     /// The same subtree. It takes no memory.
-    fn subtree_copy(&self) -> Oid
+    pub(crate) fn subtree_copy(&self) -> Oid
         ensures { result ≡ self.now.subtree }
     {
         let Ok(subtree) = self.subtree.clone() else {
@@ -281,47 +135,27 @@ impl FamilyRow {
         };
         subtree
     }
-}
 
-impl Row for FamilyRow {
-    type Index = (Name, Oid);
-
-    ghost is_bad_row = { is_bad_family };
-
-    ghost is_same = { is_same_family };
-
-    ghost index_of = { λ row. (row.view, row.subtree) };
-
-    ghost name_of = { family_name };
-
-    ghost rank = { family_order };
-
-    ghost same_index = { same_family };
-
-    ghost rank_total = { family_order-total };
-
-    fn is_bad(&self) -> bool {
-        self.view.as_slice().is_empty()
+    /// The mask compares each arc of the subtree: there is no wildcard.
+    pub fn is_exact(&self) -> bool
+        ensures { IsTrue result ↔ IsExact self.now }
+    {
+        for k in 0..self.subtree.as_slice().len() {
+            if !self.mask.compares(k) {
+                return false;
+            }
+        }
+        true
     }
 
-    fn index(&self) -> (Name, Oid) {
-        (self.view.copy(), self.subtree_copy())
-    }
-
-    fn name(&self) -> &Name {
-        &self.view
-    }
-
-    fn ranking(&self, other: &FamilyRow) -> Ordering {
-        arcs_order(self.subtree.as_slice(), other.subtree.as_slice())
-    }
-
-    fn copy(&self) -> Self {
-        FamilyRow {
-            view: self.view.copy(),
-            subtree: self.subtree_copy(),
-            mask: self.mask.copy(),
-            include: self.include,
+    /// What the row says of a variable on which it decides.
+    pub(crate) fn answer(&self) -> Access
+        ensures { result ≡ (if self.now.include then AccessAllowed else NotInView) }
+    {
+        if self.include {
+            Access::AccessAllowed
+        } else {
+            Access::NotInView
         }
     }
 }

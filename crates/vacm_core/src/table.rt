@@ -5,7 +5,7 @@ ghost use Rattle.vacm_core.specs.Place.{AreInPlace, AreRuns, IsRunOf};
 
 use crate::Name;
 use crate::place::{copies, count_near, sort};
-use crate::rows::Row;
+use crate::row::TableRow;
 use std::alloc::{AllocError, Global};
 use std::collections::HashMap;
 use std::marker::Model;
@@ -19,12 +19,12 @@ pub(crate) struct Run {
 
 /// Rows by name, those of a name from the best down. They are found through their run, whatever their number.
 #[derive(Drop)]
-pub(crate) struct OrderedTable<R: Row> {
+pub(crate) struct OrderedTable<R: TableRow> {
     rows: Vec<R>,
     runs: HashMap<Name, Run>,
 }
 
-impl<R: Row> Model for OrderedTable<R> {
+impl<R: TableRow> Model for OrderedTable<R> {
     ghost use Rattle.std.specs.Prelude.{List, length};
     ghost use Rattle.vacm_core.specs.Place.{AreRuns};
 
@@ -36,7 +36,7 @@ impl<R: Row> Model for OrderedTable<R> {
 }
 
 /// Whether the row at the place is the first of its name.
-fn is_first<R: Row>(rows: &[R], place: usize) -> bool
+fn is_first<R: TableRow>(rows: &[R], place: usize) -> bool
     requires in_place { AreInPlace R.name_of R.rank rows.now }
     requires within { place < length rows.now }
     ensures { MatchBool result ((k : ℕ) (d : R) → k < place → R.name_of (get_or rows.now k d) ≢ R.name_of (get_or rows.now place d))
@@ -46,7 +46,7 @@ fn is_first<R: Row>(rows: &[R], place: usize) -> bool
 }
 
 /// The run of the rows that have the name of this one, the first that has it.
-fn run_at<R: Row>(rows: &[R], first: usize) -> Run
+fn run_at<R: TableRow>(rows: &[R], first: usize) -> Run
     requires in_place { AreInPlace R.name_of R.rank rows.now }
     requires within { first < length rows.now }
     requires first { (k : ℕ) (d : R) → k < first → R.name_of (get_or rows.now k d) ≢ R.name_of (get_or rows.now first d) }
@@ -62,7 +62,7 @@ fn run_at<R: Row>(rows: &[R], first: usize) -> Run
 }
 
 /// The run of each name.
-fn runs_of<R: Row>(alloc: Global, rows: &[R]) -> Result<HashMap<Name, Run>, AllocError>
+fn runs_of<R: TableRow>(alloc: Global, rows: &[R]) -> Result<HashMap<Name, Run>, AllocError>
     requires { AreInPlace R.name_of R.rank rows.now }
     ensures { IfOk result (λ runs. AreRuns R.name_of R.rank rows.now (length rows.now) runs.entries) }
 {
@@ -75,7 +75,7 @@ fn runs_of<R: Row>(alloc: Global, rows: &[R]) -> Result<HashMap<Name, Run>, Allo
     Ok(runs)
 }
 
-impl<R: Row> OrderedTable<R> {
+impl<R: TableRow> OrderedTable<R> {
     /// Copies of the rows.
     pub(crate) fn of(alloc: Global, rows: &[R]) -> Result<OrderedTable<R>, AllocError>
         ensures { IfOk result (λ table. IsPermutation rows.now table) }

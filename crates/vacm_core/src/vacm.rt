@@ -9,12 +9,15 @@ ghost use Rattle.vacm_core.specs.declared.access.Access.{Access as Answer};
 ghost use Rattle.vacm_core.specs.Allowed as spec;
 ghost use Rattle.vacm_core.specs.Allowed.{Allowed, HasContext};
 ghost use Rattle.vacm_core.specs.View.{AreExact};
+ghost use Rattle.vacm_core.specs.Steps.{DecidesContext, TellsContext, message_of};
 
-use crate::ask::{Message, answer, has_context};
+use crate::ask::{Deciding, context_row, decided};
+use crate::explain::context_step;
 use crate::fault::find_fault;
-use crate::rows::{AccessRow, ContextRow, FamilyRow, GroupRow, Row};
+use crate::row::TableRow;
+use crate::rows::{AccessRow, ContextRow, FamilyRow, GroupRow};
+use crate::steps::{Asking, Explained};
 use crate::table::OrderedTable;
-use crate::view::is_exact;
 use crate::{Access, Rows, VacmFault, ViewType};
 use snmp_ber::{Level, Oid};
 use std::alloc::{AllocError, Global};
@@ -110,21 +113,46 @@ impl Vacm {
             Allowed self.now message view variable.now result }
         ensures one_row_each { HasOneRowEach self.now }
     {
-        let message = Message {
+        let asking = Asking {
             model,
             name,
             level,
             context,
+            view,
+            variable: variable.as_slice(),
         };
-        answer(
+        self.decided(&asking).answer
+    }
+
+    /// What decides on the question: its answer, and the rows that decide, by their positions. It takes no memory.
+    ///
+    /// The answer is that of `is_access_allowed`. The rows are those that the tables were made of, and each of their tables is gone
+    /// over once at most.
+    pub fn explain(&self, rows: &Rows, asking: &Asking<'_>) -> Explained
+        requires { HaveSameRows (tables_of rows.now) self.now }
+        ensures answer { Allowed self.now (message_of asking.now) asking.now.view asking.now.variable.now result.answer }
+        ensures steps { TellsContext (tables_of rows.now) (message_of asking.now) asking.now.view asking.now.variable.now result.context }
+    {
+        let decided = self.decided(asking);
+        Explained {
+            answer: decided.answer,
+            context: context_step(rows, asking, &decided),
+        }
+    }
+
+    /// The answer to the question, and the rows that decide.
+    fn decided(&self, asking: &Asking<'_>) -> Deciding<'_>
+        ensures answer { Allowed self.now (message_of asking.now) asking.now.view asking.now.variable.now result.answer }
+        ensures rows { DecidesContext self.now (message_of asking.now) asking.now.view asking.now.variable.now result }
+        ensures one_row_each { HasOneRowEach self.now }
+    {
+        decided(
             &self.contexts,
             &self.groups,
             &self.access,
             &self.exact,
             &self.others,
-            message,
-            view,
-            variable.as_slice(),
+            asking,
         )
     }
 
@@ -132,7 +160,7 @@ impl Vacm {
     pub fn has_context(&self, name: &[u8]) -> bool
         ensures { IsTrue result ↔ HasContext self.now.contexts name.now }
     {
-        has_context(&self.contexts, name)
+        context_row(&self.contexts, name).is_some()
     }
 }
 
@@ -158,7 +186,7 @@ fn split(alloc: Global, rows: &[FamilyRow]) -> Result<(Vec<FamilyRow>, Vec<Famil
     let mut exact = Vec::new(alloc);
     let mut others = Vec::new(alloc);
     for row in rows {
-        if is_exact(row) {
+        if row.is_exact() {
             exact.push(row.copy())?;
         } else {
             others.push(row.copy())?;

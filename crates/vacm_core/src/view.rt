@@ -2,44 +2,23 @@
 ghost use Rattle.std.specs.Prelude.{◌≡◌, ◌≢◌, ◌⊎◌, [], ◌++◌, ℕ, ◌<◌, ◌≤◌, ◌↔◌, length, IsTrue, MatchOption, MatchResult, slice_index, get_or};
 ghost use Rattle.std.specs.declared.cmp.Ordering.TheVariants.{Less, Greater};
 ghost use Rattle.vacm_core.specs.Place.{AreFalling, arcs_order};
-ghost use Rattle.vacm_core.specs.View.{AreExact, IsExact, HasArcs, AnswersView};
+ghost use Rattle.vacm_core.specs.View.{AreExact, HasArcs, AnswersView};
 ghost use Rattle.vacm_core.specs.declared.rows.FamilyRow.{FamilyRow as Family};
+ghost use Rattle.vacm_core.specs.Steps.{DecidesView};
 ghost use Rattle.vacm_core.specs.Allowed.{IsBestOf, NoneFits, family_order, mask_bit};
 
-use crate::Access;
-use crate::rows::{FamilyRow, Row, arcs_order};
+use crate::row::TableRow;
+use crate::rows::{FamilyRow, arcs_order};
 use crate::table::OrderedTable;
-
-/// The mask says that the arc of this number has to be equal.
-fn is_compared(mask: &[u8], k: usize) -> bool
-    ensures { IsTrue result ↔ (mask_bit mask.now k ≡ 1) }
-{
-    match mask.get(k / 8) {
-        Some(octet) => (*octet >> (7 - k % 8)) & 1 == 1,
-        None => true,
-    }
-}
-
-/// The mask compares each arc of the subtree: there is no wildcard.
-pub(crate) fn is_exact(row: &FamilyRow) -> bool
-    ensures { IsTrue result ↔ IsExact row.now }
-{
-    let mask = row.mask.as_slice();
-    for k in 0..row.subtree.as_slice().len() {
-        if !is_compared(mask, k) {
-            return false;
-        }
-    }
-    true
-}
+use crate::{Access, Mask};
 
 /// The arcs that the mask compares are equal.
-fn agrees(subtree: &[u32], mask: &[u8], variable: &[u32]) -> bool
+fn agrees(subtree: &[u32], mask: &Mask, variable: &[u32]) -> bool
     requires { length subtree.now ≤ length variable.now }
     ensures { IsTrue result ↔ ((k : ℕ) → k < length subtree.now → mask_bit mask.now k ≡ 1 → slice_index subtree.now k ≡ slice_index variable.now k) }
 {
     for (k, arc) in subtree.iter().enumerate() {
-        if is_compared(mask, k) && *arc != variable[k] {
+        if mask.compares(k) && *arc != variable[k] {
             return false;
         }
     }
@@ -51,7 +30,7 @@ fn has_arcs(row: &FamilyRow, variable: &[u32]) -> bool
     ensures { IsTrue result ↔ HasArcs variable.now row.now }
 {
     row.subtree.as_slice().len() <= variable.len()
-        && agrees(row.subtree.as_slice(), row.mask.as_slice(), variable)
+        && agrees(row.subtree.as_slice(), &row.mask, variable)
 }
 
 /// The first of the rows that has the variable.
@@ -143,27 +122,40 @@ fn has_view(exact: &[FamilyRow], others: &[FamilyRow], view: &[u8]) -> bool
     !view.is_empty() && !(exact.is_empty() && others.is_empty())
 }
 
+/// What a view says of a variable, and the row that decides.
+#[derive(Clone, Copy)]
+pub(crate) struct ViewAnswer<'a> {
+    pub(crate) answer: Access,
+    pub(crate) row: Option<&'a FamilyRow>,
+}
+
 /// What the view of this name says of the variable.
-pub(crate) fn answer_of_view(
-    exact: &OrderedTable<FamilyRow>,
-    others: &OrderedTable<FamilyRow>,
+pub(crate) fn viewed<'a>(
+    exact: &'a OrderedTable<FamilyRow>,
+    others: &'a OrderedTable<FamilyRow>,
     view: &[u8],
     variable: &[u32],
-) -> Access
+) -> ViewAnswer<'a>
     requires { AreExact exact.now }
-    ensures { AnswersView (exact.now ++ others.now) view.now variable.now result }
+    ensures answer { AnswersView (exact.now ++ others.now) view.now variable.now result.answer }
+    ensures row { DecidesView (exact.now ++ others.now) view.now variable.now result.row }
 {
     let exact = exact.rows_of(view);
     let others = others.rows_of(view);
     if !has_view(exact, others, view) {
-        return Access::NoSuchView;
+        return ViewAnswer {
+            answer: Access::NoSuchView,
+            row: None,
+        };
     }
     let Some(row) = deciding_row(exact, others, variable) else {
-        return Access::NotInView;
+        return ViewAnswer {
+            answer: Access::NotInView,
+            row: None,
+        };
     };
-    if row.include {
-        Access::AccessAllowed
-    } else {
-        Access::NotInView
+    ViewAnswer {
+        answer: row.answer(),
+        row: Some(row),
     }
 }

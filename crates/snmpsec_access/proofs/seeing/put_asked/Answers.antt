@@ -14,4 +14,4 @@ returns c =
       | then-out w ↦ w.out-is ∙ w.if-out.true ∙ sym (ap (λ b. b || includes decision) w.if-out.true)
       | else-out w ↦ w.out-is ∙ w.told_includes-out.ensures ∙ sym (ap (λ b. b || includes decision) w.if-out.false)
     ] in
-    told_on (tables_of c.args.rows.now) (asker_of c.args.asking.now) decision c.args.out.now _ c.in_ok-told.ensures c.in_ok-put_told.ensures some
+    told_on (tables_of c.args.who.now.rows.now) (asker_of c.args.asking.now) decision c.args.out.now _ c.in_ok-told.ensures c.in_ok-put_told.ensures some

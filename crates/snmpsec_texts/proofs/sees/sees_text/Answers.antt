@@ -3,8 +3,8 @@ use Rattle.vacm_core.proofs.Uniqueness.{one_row_each}
 use Rattle.snmpsec_texts.proofs.Seens.{if_seen}
 use Rattle.snmpsec_texts.proofs.sees.sees_text.Goals as goal
 
-pub listed-requires : goal.listed-requires
-listed-requires c = one_row_each (tables_of c.in-Ok.config.rows.access) c.in-Ok.ensures.says.sound_rows
+pub listed-requires-clause-one_each : goal.listed-requires-clause-one_each
+listed-requires-clause-one_each c = one_row_each (tables_of c.in-Ok.config.rows.access) c.in-Ok.ensures.says.sound_rows
 
 pub returns-in-Ok : goal.returns-in-Ok
 returns-in-Ok c =

@@ -1,4 +1,4 @@
-use Rattle.std.proofs.Common.{refl, ◌≡◌, ◌<◌, ◌∙◌, sym, ap, inl, inr, arith, get_or, Contains}
+use Rattle.std.proofs.Common.{◌≡◌, ◌<◌, ◌∙◌, sym, ap, inl, inr, arith, get_or, Contains}
 use Rattle.std.proofs.lemmas.Bool.{cases_lt}
 use Rattle.std.proofs.lemmas.List.{get_or_default}
 use Rattle.vacm_core.specs.declared.rows.GroupRow.{GroupRow}
@@ -22,7 +22,7 @@ pub returns-then-row-model : goal.returns-then-row-model
 returns-then-row-model c =
     let row = c.row-item.result in
     let there : Contains c.rows_of-run.result.now row = (c.loop-row.row-index, c.loop-row-test.true, sym c.row-item.is) in
-    (row, c.rows_of-run.ensures.among row there, record { same_model = c.if-row-model.true; same_name = c.rows_of-run.ensures.named row there }, refl)
+    (c.rows_of-run.ensures.among row there, record { same_model = c.if-row-model.true; same_name = c.rows_of-run.ensures.named row there })
 
 pub returns : goal.returns
 returns c group h =

@@ -8,10 +8,10 @@ use Rattle.vacm_core.proofs.place.sort.Goals as goal
 
 pub returns-clause-in_place : goal.returns-clause-in_place
 returns-clause-in_place g c =
-    let name = g.R.Row.name_of in
-    let rank = g.R.Row.rank in
+    let name = g.R.TableRow.name_of in
+    let rank = g.R.TableRow.rank in
     on_ok_weaker c.sort_by.result
     (λ sorted. sorted (λ a b. is_lt (place_order name rank a b))
-    (ranks_by (then_total (on_total name nat_list_cmp_total) (back_total g.met.R.Row.rank_total)) (λ x. x))
+    (ranks_by (then_total (on_total name nat_list_cmp_total) (back_total g.met.R.TableRow.rank_total)) (λ x. x))
     (always_returns_same _ _ _ (λ a r f k. search rules)))
     c.sort_by.ensures.sorted

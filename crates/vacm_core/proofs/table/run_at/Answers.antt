@@ -7,12 +7,12 @@ use Rattle.vacm_core.proofs.table.run_at.Goals as goal
 
 pub count_near-count-requires : goal.count_near-count-requires
 count_near-count-requires g c =
-    parted_slice g.R.Row.name_of g.R.Row.rank c.as_slice-wanted.result.now c.args.rows.now c.args.first c.requires.in_place _ (take_rest c.args.rows.now c.args.first) 2
+    parted_slice g.R.TableRow.name_of g.R.TableRow.rank c.as_slice-wanted.result.now c.args.rows.now c.args.first c.requires.in_place _ (take_rest c.args.rows.now c.args.first) 2
 
 pub returns-clause-run : goal.returns-clause-run
 returns-clause-run g c d =
-    let name = g.R.Row.name_of in
-    let rank = g.R.Row.rank in
+    let name = g.R.TableRow.name_of in
+    let rank = g.R.TableRow.rank in
     let rows = c.args.rows.now in
     let first = c.args.first in
     let wanted = c.as_slice-wanted.result.now in

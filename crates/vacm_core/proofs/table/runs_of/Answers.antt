@@ -8,15 +8,15 @@ use Rattle.vacm_core.proofs.table.runs_of.Goals as goal
 use Rattle.vacm_core.proofs.table.runs_of.Goals.{then-is_first+in_ok-insert, else-is_first}
 
 pub loop-place-init : goal.loop-place-init
-loop-place-init g c = none_looked_at g.R.Row.name_of g.R.Row.rank c.args.rows.now c.new-runs.result.entries c.new-runs.ensures.empty
+loop-place-init g c = none_looked_at g.R.TableRow.name_of g.R.TableRow.rank c.args.rows.now c.new-runs.result.entries c.new-runs.ensures.empty
 
 pub run_at-requires-clause-first : goal.run_at-requires-clause-first
 run_at-requires-clause-first g c = MatchBool-at_true _ _ c.if-is_first.true c.is_first.ensures
 
 pub loop-place-preserved : goal.loop-place-preserved
 loop-place-preserved g c =
-    let name = g.R.Row.name_of in
-    let rank = g.R.Row.rank in
+    let name = g.R.TableRow.name_of in
+    let rank = g.R.TableRow.rank in
     let rows = c.args.rows.now in
     let place = c.loop-place.place in
     let old = c.loop-place.runs.entries in

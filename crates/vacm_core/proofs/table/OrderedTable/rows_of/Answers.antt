@@ -4,9 +4,9 @@ use Rattle.vacm_core.proofs.Places.{no_run}
 use Rattle.vacm_core.proofs.table.OrderedTable.rows_of.Goals as goal
 
 pub returns-in_default : goal.returns-in_default
-returns-in_default g c = no_run g.R.Row.name_of g.R.Row.rank c.args.wanted.now c.args.self.now c.in_default.ensures
+returns-in_default g c = no_run g.R.TableRow.name_of g.R.TableRow.rank c.args.wanted.now c.args.self.now c.in_default.ensures
 
 pub returns : goal.returns
 returns g c =
     let run = c.in-Some.run' in
-    subst (λ (rows : List g.row.R.Denot). IsRunOf g.R.Row.name_of g.R.Row.rank c.args.wanted.now c.args.self.now (slice_range rows run.first run.end)) (sym (c.deref.ensures.value ∙ c.self.view_is)) c.in-Some.ensures.2
+    subst (λ (rows : List g.row.R.Denot). IsRunOf g.R.TableRow.name_of g.R.TableRow.rank c.args.wanted.now c.args.self.now (slice_range rows run.first run.end)) (sym (c.deref.ensures.value ∙ c.self.view_is)) c.in-Some.ensures.2

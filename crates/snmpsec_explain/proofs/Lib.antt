@@ -1,3 +1,0 @@
-pub mod Best
-pub mod Positions
-pub mod Uniqueness
