@@ -25,6 +25,6 @@ mod why_words;
 
 pub use files::{FileFault, read_whole};
 pub use snmpsec_texts::{
-    Output, check_config_text, check_text, explain_text, merge_text, open_text, opened, sees_text,
-    show_text, who_text,
+    Output, check_config_hinted, check_config_text, check_text, explain_text, merge_text,
+    open_text, opened, sees_text, show_text, who_text,
 };

@@ -14,8 +14,8 @@ use snmpsec_notes::with_names;
 use snmpsec_replay::{Printing, ReplayFault};
 use snmpsec_streams::write_whole;
 use snmpsec_texts::{
-    Output, check_config_text, check_text, explain_text, merge_text, moment_of, open_text,
-    sees_text, show_text, who_text,
+    Output, check_config_hinted, check_config_text, check_text, explain_text, merge_text,
+    moment_of, open_text, sees_text, show_text, who_text,
 };
 use snmpsec_words::{
     Asked, Command, ReplayWords, SeesWords, WhoWords, manual_text, not_text, parse_asked,
@@ -86,7 +86,7 @@ pub fn answer_asked<R: Files + Input + AllocGlobal, O: Write, E: Write>(
     out: &mut O,
     err: &mut E,
 ) -> Result<Output, AllocError> {
-    let output = command(rt, &asked.command, out, err)?;
+    let output = asked_output(rt, asked, out, err)?;
     if output.status == 0 {
         return if asked.names {
             named(rt.alloc(), output)
@@ -100,6 +100,19 @@ pub fn answer_asked<R: Files + Input + AllocGlobal, O: Write, E: Write>(
     match why(rt, &asked.command, output.status)? {
         Some(line) => with_line(output, &line),
         None => Ok(output),
+    }
+}
+
+/// What the command that was given prints, with hints beside it where it has some and they are asked for.
+fn asked_output<R: Files + Input + AllocGlobal, O: Write, E: Write>(
+    rt: &R,
+    asked: &Asked<'_>,
+    out: &mut O,
+    err: &mut E,
+) -> Result<Output, AllocError> {
+    match &asked.command {
+        Command::CheckConfig { config } if asked.why => check_config_hints(rt, config),
+        given => command(rt, given, out, err),
     }
 }
 
@@ -244,6 +257,15 @@ fn check_config<R: Files + AllocGlobal>(rt: &R, name: &str) -> Result<Output, Al
     let alloc = rt.alloc();
     match read_file(rt, name) {
         Ok(config) => check_config_text(alloc, &config),
+        Err(fault) => unread(alloc, fault, name),
+    }
+}
+
+/// The same, and what is no fault in it and hardly meant.
+fn check_config_hints<R: Files + AllocGlobal>(rt: &R, name: &str) -> Result<Output, AllocError> {
+    let alloc = rt.alloc();
+    match read_file(rt, name) {
+        Ok(config) => check_config_hinted(alloc, &config),
         Err(fault) => unread(alloc, fault, name),
     }
 }

@@ -9,7 +9,9 @@ use Rattle.usm_users.specs.declared.load.UserRow.{UserRow}
 use Rattle.snmpsec_config.specs.Refusals.{SaysSound, RefusesText, refusal_line}
 use Rattle.snmpsec_config.specs.Told.{IsWhy}
 use Rattle.snmpsec_config.specs.declared.fault.ConfigFault.{ConfigFault}
-use Rattle.snmpsec_texts.specs.CheckConfig.{ChecksConfig, counts_text}
+use Rattle.snmpsec_texts.specs.CheckConfig.{ChecksConfig, ChecksHinted, counts_text}
+use Rattle.snmpsec_hints.specs.Hints.{hints_of}
+use Rattle.snmpsec_hints.specs.Lines.{lines_of}
 use Rattle.snmpsec_texts.specs.Questions.{Asked, Asks, ChecksAccess, ExplainsAccess}
 use Rattle.snmpsec_texts.specs.Steps.{context_lines}
 use Rattle.vacm_core.specs.Steps.{TellsContext}
@@ -75,3 +77,15 @@ if_reasoned (Ok x) out err status config words asked users rows answer steps ask
   inr (users, rows, says, record { answer = answer; allowed = allowed; out = record { steps = steps; decided = decided; text = o }; err = e; status = s }),
 )
 if_reasoned (Err x) out err status config words asked users rows answer steps asks says allowed decided o e s = tt
+
+pub if_hinted : {A E : Type 0} (r : Result A E) (out err : A → List ℕ) (status : A → ℕ) (config : List ℕ) (users : List UserRow) (rows : Tables) → SaysSound config users rows
+    → IfOk r (λ x. out x ≡ counts_text users rows) → IfOk r (λ x. err x ≡ lines_of (hints_of users rows)) → IfOk r (λ x. status x ≡ 0)
+    → IfOk r (λ x. ChecksHinted config (record { out = out x; err = err x; status = status x }))
+if_hinted (Ok x) out err status config users rows says o e s = inl (record { users = users; rows = rows; says = says; out = o; err = e; status = s })
+if_hinted (Err x) out err status config users rows says o e s = tt
+
+pub if_hinted_not : {A E : Type 0} (r : Result A E) (out err : A → List ℕ) (status : A → ℕ) (config : List ℕ) (fault : ConfigFault) → RefusesText config fault
+    → IfOk r (λ x. out x ≡ refusal_line fault ++ codes "\n") → IfOk r (λ x. (why : List ℕ) × IsWhy fault why × (err x ≡ codes "snmpsec: " ++ (why ++ codes "\n"))) → IfOk r (λ x. status x ≡ 1)
+    → IfOk r (λ x. ChecksHinted config (record { out = out x; err = err x; status = status x }))
+if_hinted_not (Ok x) out err status config fault told o e s = inr (record { fault = fault; told = told; out = o; why = e.0; is_why = e.1; err = e.2; status = s })
+if_hinted_not (Err x) out err status config fault told o e s = tt

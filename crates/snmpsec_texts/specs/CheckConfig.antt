@@ -5,6 +5,8 @@ use Rattle.vacm_core.specs.Tables.{Tables}
 use Rattle.snmpsec_config.specs.declared.fault.ConfigFault.{ConfigFault}
 use Rattle.snmpsec_config.specs.Refusals.{SaysSound, RefusesText, refusal_line}
 use Rattle.snmpsec_config.specs.Told.{IsWhy}
+use Rattle.snmpsec_hints.specs.Hints.{hints_of}
+use Rattle.snmpsec_hints.specs.Lines.{lines_of}
 use Rattle.snmpsec_texts.specs.Questions.{Printed}
 
 -- a line for each table, with the number of its rows
@@ -37,3 +39,17 @@ pub record Explains (config : List ℕ) (printed : Printed) : Type 0 where
 
 abbrev pub ChecksConfig : List ℕ → Printed → Type 0
 ChecksConfig config printed = Counts config printed ⊎ Explains config printed
+
+-- ---- where hints are wanted
+
+-- The numbers of the rows that the configuration stands for are printed, and on standard error a line for each hint of these rows.
+pub record CountsHinted (config : List ℕ) (printed : Printed) : Type 0 where
+  pub users : List UserRow
+  pub rows : Tables
+  pub says : SaysSound config users rows
+  pub out : printed.out ≡ counts_text users rows
+  pub err : printed.err ≡ lines_of (hints_of users rows)
+  pub status : printed.status ≡ 0
+
+abbrev pub ChecksHinted : List ℕ → Printed → Type 0
+ChecksHinted config printed = CountsHinted config printed ⊎ Explains config printed

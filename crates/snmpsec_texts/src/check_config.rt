@@ -5,10 +5,13 @@ ghost use Rattle.vacm_core.specs.Tables.{tables_of};
 ghost use Rattle.snmpsec_config.specs.Refusals.{refusal_line};
 ghost use Rattle.snmpsec_config.specs.Told.{IsWhy};
 ghost use Rattle.snmpsec_texts.specs.Questions.{Printed};
-ghost use Rattle.snmpsec_texts.specs.CheckConfig.{ChecksConfig, counts_text};
+ghost use Rattle.snmpsec_texts.specs.CheckConfig.{ChecksConfig, ChecksHinted, counts_text};
+ghost use Rattle.snmpsec_hints.specs.Hints.{hints_of};
+ghost use Rattle.snmpsec_hints.specs.Lines.{lines_of};
 
 use crate::output::Output;
 use snmpsec_config::{AccessConfig, ConfigFault, ConfigRows};
+use snmpsec_hints::hint_text;
 use std::alloc::{AllocError, Global};
 
 /// What `snmpsec check-config` prints: a line for each table with the number of its rows, and status 0.
@@ -24,6 +27,34 @@ pub fn check_config_text(alloc: Global, config: &[u8]) -> Result<Output, AllocEr
         Err(fault) if fault.is_memory() => Err(AllocError),
         Err(fault) => explained(alloc, &fault),
     }
+}
+
+/// What `snmpsec check-config` prints where hints are wanted: the same, and beside the numbers of rows a line on standard error for each
+/// hint, as `snmpsec_hints::hints` finds them.
+pub fn check_config_hinted(alloc: Global, config: &[u8]) -> Result<Output, AllocError>
+    ensures { IfOk result (λ output. let printed : Printed = record { out = output.out.items; err = output.err.items; status = output.status } in
+        ChecksHinted config.now printed) }
+{
+    match AccessConfig::read(alloc, config) {
+        Ok(config) => hinted(alloc, &config.rows),
+        Err(fault) if fault.is_memory() => Err(AllocError),
+        Err(fault) => explained(alloc, &fault),
+    }
+}
+
+/// The lines of the numbers of rows, and beside them the hints.
+fn hinted(alloc: Global, rows: &ConfigRows) -> Result<Output, AllocError>
+    ensures out { IfOk result (λ output. output.out.items ≡ counts_text rows.now.users.items (tables_of rows.now.access)) }
+    ensures err { IfOk result (λ output. output.err.items ≡ lines_of (hints_of rows.now.users.items (tables_of rows.now.access))) }
+    ensures status { IfOk result (λ output. output.status ≡ 0) }
+{
+    let counts = counted(alloc, rows)?;
+    let hints = hint_text(alloc, rows)?;
+    Ok(Output {
+        out: counts.out,
+        err: hints,
+        status: counts.status,
+    })
 }
 
 /// The lines of the numbers of rows.

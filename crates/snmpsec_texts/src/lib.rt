@@ -27,7 +27,7 @@ mod who_sees;
 mod words;
 
 pub use check::check_text;
-pub use check_config::check_config_text;
+pub use check_config::{check_config_hinted, check_config_text};
 pub use explain::explain_text;
 pub use merge::{merge_text, refused_clocks};
 pub use open::{open_text, opened};

@@ -1,7 +1,7 @@
 //! What check-config prints of configurations.
 
 use super::access::{ALL_KEYS, refused_configurations};
-use snmpsec_commands::{Output, check_config_text};
+use snmpsec_commands::{Output, check_config_hinted, check_config_text};
 use std::alloc::{AllocError, Global};
 use std::test::Fail;
 
@@ -95,6 +95,86 @@ fn a_refused_growth_gives_no_other_count(rt: HostRuntime) -> Result<(), Fail> {
         let output = printed_in_the_end(rt.alloc(), config)?;
         assert_eq!(rt; output.out.as_slice(), out.as_bytes());
         assert_eq!(rt; output.err.as_slice(), err.as_bytes());
+    }
+    Ok(())
+}
+
+/// A configuration that is accepted, and the hints on it.
+static HINTED: [(&str, &str); 7] = [
+    ("", ""),
+    (
+        "user = [{ name = 'ann' }, { name = 'a\"b' }]
+group = [{ model = 2, name = 'ann', group = 'g' }, { model = 3, name = 'a\"b', group = 'g' }]
+access = [{ group = 'g', prefix = '', model = 0, level = 'authPriv', match = 'exact' }]",
+        "snmpsec: user 0: no group row of model 3 has the name \"ann\"\n",
+    ),
+    (
+        "group = [{ model = 1, name = 'public', group = 'g' }, { model = 3, name = 'bob', group = 'h' }]",
+        "snmpsec: group 0: no access row has the group \"g\"
+snmpsec: group 1: no access row has the group \"h\"
+snmpsec: group 1: no user has the name \"bob\"\n",
+    ),
+    (
+        "access = [
+    { group = 'g', prefix = '', model = 3, level = 'authPriv', match = 'exact', read = 'v', notify = '' },
+    { group = 'h', prefix = '', model = 3, level = 'noAuthNoPriv', match = 'exact', read = 'w', write = 'x', notify = 'y' },
+]
+family = [{ view = 'v', subtree = '1', include = true }]",
+        "snmpsec: access 0: no group row has the group \"g\"
+snmpsec: access 1: no group row has the group \"h\"
+snmpsec: access 1: no family row has the read view \"w\"
+snmpsec: access 1: no family row has the write view \"x\"
+snmpsec: access 1: no family row has the notify view \"y\"
+snmpsec: access 1: a message without authentication writes to the view \"x\"\n",
+    ),
+    (
+        "family = [{ view = 'v', subtree = '1', include = true }, { view = 'v', subtree = '2', include = false }]",
+        "snmpsec: family 0: no access row names the view \"v\"
+snmpsec: family 1: no access row names the view \"v\"\n",
+    ),
+    (
+        "user = [{ name = 'ann' }]
+group = [{ model = 3, name = 'ann', group = 'g' }]
+access = [{ group = 'g', prefix = '', model = 3, level = 'authPriv', match = 'exact', notify = 'v' }]
+family = [{ view = 'v', subtree = '1', include = true }]",
+        "",
+    ),
+    (
+        "user = [{ name = 'ann' }]
+group = [{ model = 3, name = 'Ann', group = 'g' }]
+access = [{ group = 'g', prefix = '', model = 3, level = 'authPriv', match = 'exact', write = 'v' }]
+family = [{ view = 'v ', subtree = '1', include = true }]",
+        "snmpsec: user 0: no group row of model 3 has the name \"ann\"
+snmpsec: group 0: no user has the name \"Ann\"
+snmpsec: access 0: no family row has the write view \"v\"
+snmpsec: family 0: no access row names the view \"v \"\n",
+    ),
+];
+
+fn hinted() -> &'static [(&'static str, &'static str)] {
+    &HINTED
+}
+
+#[test]
+fn each_row_that_is_hardly_meant_has_its_line(rt: HostRuntime) -> Result<(), Fail> {
+    for (config, hints) in hinted() {
+        let output = check_config_hinted(rt.alloc(), config.as_bytes())?;
+        let err = String::from_utf8(output.err)?;
+        assert_eq!(rt; err.as_str(), *hints, "{config}");
+        assert_eq!(rt; output.status, 0, "{config}");
+    }
+    Ok(())
+}
+
+#[test]
+fn beside_hints_the_same_is_printed(rt: HostRuntime) -> Result<(), Fail> {
+    for (config, status, out, err) in checked() {
+        let output = check_config_hinted(rt.alloc(), config.as_bytes())?;
+        assert_eq!(rt; output.out.as_slice(), out.as_bytes(), "{config}");
+        assert_eq!(rt; output.status, *status, "{config}");
+        if *status == 1 {
+            assert_eq!(rt; output.err.as_slice(), err.as_bytes(), "{config}");
+        }
     }
     Ok(())
 }

@@ -1,0 +1,4 @@
+pub mod Names
+pub mod Hints
+pub mod Lines
+pub mod Known
