@@ -12,6 +12,8 @@ mod snmp_msg_tests;
 #[cfg(test)]
 mod snmpsec_capture_tests;
 #[cfg(test)]
+mod snmpsec_choices_tests;
+#[cfg(test)]
 mod snmpsec_hex_tests;
 #[cfg(test)]
 mod snmpsec_import_tests;

@@ -1,7 +1,6 @@
 //! Lines of snmpd.conf.
 
 mod accesses;
-mod choice;
 mod entries;
 mod groups;
 mod lines;

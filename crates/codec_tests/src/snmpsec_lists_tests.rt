@@ -1,7 +1,8 @@
 //! What snmpd holds after lines, and which of it counts. The expected rows are net-snmp 5.9.3's.
 
 use snmp_ber::Level;
-use snmpsec_import::{Directive, Entry, Note};
+use snmpd_words::Directive;
+use snmpsec_import::{Entry, Note};
 use snmpsec_lists::{
     HeldAccess, HeldFamily, HeldGroup, Include, Item, Lists, Made, MadeLine, Place, access_kept,
     copy_access, copy_family, copy_group, families_kept, find, groups_kept, lines_of, lists_of,
@@ -230,7 +231,8 @@ fn behind_a_simple_line_stand_those_that_it_stands_for(rt: HostRuntime) -> Resul
 const SETS: &[u8] = b"access g \"\" any noauth prefix narrow none none
 setaccess g \"\" usm auth exact read wide
 setaccess g adm usm auth prefix write high
-setaccess g admin usm priv exact notify low
+authaccess notify,log g -s usm low priv admin
+authaccess read,write h all
 ";
 
 #[test]
@@ -238,7 +240,7 @@ fn a_view_of_the_chosen_row_is_set(rt: HostRuntime) -> Result<(), Fail> {
     let lists = lists(&rt, SETS)?;
     assert_eq!(rt;
         lines_of_access(&rt, &lists.access)?.as_slice(),
-        [1, 3].as_slice()
+        [1, 3, 5].as_slice()
     );
     let first = &lists.access.first().ok_or("a first row")?.row;
     assert!(rt; first.model == 0 && first.level == Level::NoAuthNoPriv);
@@ -248,5 +250,16 @@ fn a_view_of_the_chosen_row_is_set(rt: HostRuntime) -> Result<(), Fail> {
     assert!(rt; second.write.as_slice() == b"high".as_slice());
     assert!(rt; second.notify.as_slice() == b"low".as_slice());
     assert!(rt; second.matching == Matching::Exact && second.level == Level::AuthNoPriv);
+    let third = &lists.access.get(2).ok_or("a third row")?.row;
+    assert!(rt;
+        third.model == 0 && third.read == third.write && third.notify.as_slice().is_empty()
+    );
+    assert!(rt;
+        lists
+            .changes
+            .iter()
+            .map(|change| (line(change.place), line(change.changed)))
+            .eq([(2, 1), (4, 3)].iter().copied())
+    );
     Ok(())
 }

@@ -4,12 +4,12 @@ use Rattle.std.specs.List.{AllByRecursion}
 use Rattle.snmp_ber.specs.declared.level.Level.{Level}
 use Rattle.vacm_core.specs.declared.rows.Matching.{Matching}
 use Rattle.vacm_core.specs.declared.rows.AccessRow.{AccessRow}
-use Rattle.snmpsec_import.specs.Words.{IsGap, TakesToken}
-use Rattle.snmpsec_import.specs.Values.{IsModel, IsLevel, IsMatching}
+use Rattle.snmpd_words.specs.Words.{IsGap, TakesToken}
+use Rattle.snmpd_words.specs.Values.{IsModel, IsLevel, IsMatching}
 use Rattle.snmpsec_import.specs.declared.accesses.Conditions.{Conditions}
-use Rattle.snmpsec_import.specs.declared.fault.Refusal.TheVariants as refusals
-use Rattle.snmpsec_import.specs.declared.fault.LineFault.{LineFault}
-use Rattle.snmpsec_import.specs.declared.fault.LineFault.TheVariants.{Refused}
+use Rattle.snmpd_words.specs.declared.fault.Refusal.TheVariants as refusals
+use Rattle.snmpd_words.specs.declared.fault.LineFault.{LineFault}
+use Rattle.snmpd_words.specs.declared.fault.LineFault.TheVariants.{Refused}
 
 -- the text is these tokens, and then the rest
 abbrev pub AreTokens : List ℕ → List (List ℕ) → List ℕ → Type 0

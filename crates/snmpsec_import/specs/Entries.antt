@@ -1,21 +1,23 @@
 -- What each line of a file makes: a row, or a note of why there is none (net-snmp 5.9.3).
 use Rattle.std.specs.Prelude.{◌≡◌, ◌≢◌, ◌⊎◌, ℕ, List, [], ◌∷◌, ◌++◌, Some, None}
 use Rattle.std.specs.List.{AllByRecursion}
-use Rattle.snmpsec_import.specs.Words.{IsBlank}
-use Rattle.snmpsec_import.specs.Lines.{IsLine, HasDirective}
-use Rattle.snmpsec_import.specs.Directives.{IsDirective}
+use Rattle.snmpd_words.specs.Words.{IsBlank}
+use Rattle.snmpd_words.specs.Lines.{IsLine, HasDirective}
+use Rattle.snmpd_words.specs.Directives.{IsDirective}
 use Rattle.snmpsec_import.specs.Groups.{SaysGroup, TellsNoGroup}
 use Rattle.snmpsec_import.specs.Accesses.{SaysAccess, TellsNoAccess}
 use Rattle.snmpsec_import.specs.Settings.{SaysSetAccess, TellsNoSetAccess}
+use Rattle.snmpsec_import.specs.GroupViews.{SaysAuthAccess, TellsNoAuthAccess}
+use Rattle.snmpsec_import.specs.declared.settings.Setting.{Setting}
 use Rattle.snmpsec_import.specs.Simple.{simple_of, SaysSimpleLine, TellsNoSimpleLine}
 use Rattle.snmpsec_import.specs.Views.{SaysFamily, TellsNoFamily}
-use Rattle.snmpsec_import.specs.declared.lines.Section.{Section}
-use Rattle.snmpsec_import.specs.declared.lines.Section.TheVariants.{Snmpd}
-use Rattle.snmpsec_import.specs.declared.lines.Line.TheVariants as lines
-use Rattle.snmpsec_import.specs.declared.directives.Directive.{Directive}
-use Rattle.snmpsec_import.specs.declared.directives.Directive.TheVariants as directives
-use Rattle.snmpsec_import.specs.declared.fault.LineFault.{LineFault}
-use Rattle.snmpsec_import.specs.declared.fault.LineFault.TheVariants as faults
+use Rattle.snmpd_words.specs.declared.lines.Section.{Section}
+use Rattle.snmpd_words.specs.declared.lines.Section.TheVariants.{Snmpd}
+use Rattle.snmpd_words.specs.declared.lines.Line.TheVariants as lines
+use Rattle.snmpd_words.specs.declared.directives.Directive.{Directive}
+use Rattle.snmpd_words.specs.declared.directives.Directive.TheVariants as directives
+use Rattle.snmpd_words.specs.declared.fault.LineFault.{LineFault}
+use Rattle.snmpd_words.specs.declared.fault.LineFault.TheVariants as faults
 use Rattle.snmpsec_import.specs.declared.entries.Entry.{Entry}
 use Rattle.snmpsec_import.specs.declared.entries.Entry.TheVariants.{Nothing, Begins, Group, Access, Family, Simple, Set, Told}
 use Rattle.snmpsec_import.specs.declared.entries.Note.{Note}
@@ -43,14 +45,21 @@ pub record HasText (force : Section) (line : List ℕ) (directive : Directive) (
 -- a directive whose lines aren't read: there is a note, and no row
 abbrev pub IsUnread : Directive → Type 0
 IsUnread directive =
-    (directive ≢ directives.Group) × (directive ≢ directives.Access) × (directive ≢ directives.SetAccess) × (directive ≢ directives.View) × (directive ≢ directives.Other)
-    × (simple_of directive ≡ None)
+    (directive ≢ directives.Group) × (directive ≢ directives.Access) × (directive ≢ directives.SetAccess) × (directive ≢ directives.AuthAccess)
+    × (directive ≢ directives.View) × (directive ≢ directives.Other) × (simple_of directive ≡ None)
+
+-- what a line of the directive sets
+abbrev pub SaysSet : Directive → List ℕ → Setting → Type 0
+SaysSet directives.SetAccess text setting = SaysSetAccess text setting
+SaysSet directives.AuthAccess text setting = SaysAuthAccess text setting
+SaysSet _ text setting = ⊥
 
 -- why a line of this directive makes no row
 abbrev pub TellsNoRow : Directive → List ℕ → LineFault → Type 0
 TellsNoRow directives.Group text fault = TellsNoGroup text fault
 TellsNoRow directives.Access text fault = TellsNoAccess text fault
 TellsNoRow directives.SetAccess text fault = TellsNoSetAccess text fault
+TellsNoRow directives.AuthAccess text fault = TellsNoAuthAccess text fault
 TellsNoRow directives.View text fault = TellsNoFamily text fault
 TellsNoRow directive text fault = TellsNoSimpleLine directive text fault
 
@@ -72,7 +81,7 @@ IsEntry force line (Begins section) = IsLine force line (lines.Begins section)
 IsEntry force line (Group row) = (text : List ℕ) × HasText force line directives.Group text × SaysGroup text row
 IsEntry force line (Access row) = (text : List ℕ) × HasText force line directives.Access text × SaysAccess text row
 IsEntry force line (Family row) = (text : List ℕ) × HasText force line directives.View text × SaysFamily text row
-IsEntry force line (Set setting) = (text : List ℕ) × HasText force line directives.SetAccess text × SaysSetAccess text setting
+IsEntry force line (Set setting) = (directive : Directive) × (text : List ℕ) × HasText force line directive text × SaysSet directive text setting
 IsEntry force line (Simple simple) = (directive : Directive) × (text : List ℕ) × HasText force line directive text × SaysSimpleLine directive text simple
 IsEntry force line (Told note) = IsNote force line note
 
@@ -81,7 +90,7 @@ abbrev pub IsMade : Directive → List ℕ → Entry → Type 0
 IsMade directive text (Group row) = (directive ≡ directives.Group) × SaysGroup text row
 IsMade directive text (Access row) = (directive ≡ directives.Access) × SaysAccess text row
 IsMade directive text (Family row) = (directive ≡ directives.View) × SaysFamily text row
-IsMade directive text (Set setting) = (directive ≡ directives.SetAccess) × SaysSetAccess text setting
+IsMade directive text (Set setting) = SaysSet directive text setting
 IsMade directive text (Simple simple) = SaysSimpleLine directive text simple
 IsMade directive text (Told Other) = directive ≡ directives.Other
 IsMade directive text (Told (LeftOut other)) = (other ≡ directive) × IsUnread directive

@@ -1,7 +1,7 @@
 -- A whole file, line by line.
 use Rattle.std.specs.Prelude.{◌≡◌, ◌≢◌, ◌⊎◌, ℕ, List, [], ◌∷◌}
 use Rattle.snmp_ber.specs.Splits.{Lacks, IsSplit}
-use Rattle.snmpsec_import.specs.declared.lines.Section.{Section}
+use Rattle.snmpd_words.specs.declared.lines.Section.{Section}
 use Rattle.snmpsec_import.specs.declared.entries.Entry.{Entry}
 use Rattle.snmpsec_import.specs.declared.entries.Entry.TheVariants.{Begins}
 use Rattle.snmpsec_import.specs.Entries.{IsEntry}

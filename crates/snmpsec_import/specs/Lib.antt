@@ -1,15 +1,9 @@
-pub mod Words
-pub mod Lines
-pub mod Directives
-pub mod Values
-pub mod Subtrees
-pub mod Masks
 pub mod Groups
 pub mod Accesses
 pub mod Views
 pub mod Choice
-pub mod Types
 pub mod Simple
 pub mod Settings
+pub mod GroupViews
 pub mod Entries
 pub mod Files

@@ -2,13 +2,13 @@
 -- CONTEXT, MODEL and LEVEL, or of a new row where it would choose none (net-snmp 5.9.3).
 use Rattle.std.specs.Prelude.{◌≡◌, ◌⊎◌, ◌<◌, Bool, true, false, List, [], ◌∷◌, ℕ, length}
 use Rattle.snmpsec_import.specs.Accesses.{AreTokens, HasFewer, SaysConditions, TellsNoConditions, IsViewName}
-use Rattle.snmpsec_import.specs.Types.{view_word, IsNoType}
+use Rattle.snmpd_words.specs.Types.{view_word, only, IsNoType}
 use Rattle.snmpsec_import.specs.declared.accesses.Conditions.{Conditions}
-use Rattle.snmpsec_import.specs.declared.types.ViewWord.{ViewWord}
+use Rattle.snmpd_words.specs.declared.types.ViewWord.{ViewWord}
 use Rattle.snmpsec_import.specs.declared.settings.Setting.{Setting}
-use Rattle.snmpsec_import.specs.declared.fault.Refusal.TheVariants as refusals
-use Rattle.snmpsec_import.specs.declared.fault.LineFault.{LineFault}
-use Rattle.snmpsec_import.specs.declared.fault.LineFault.TheVariants.{Refused}
+use Rattle.snmpd_words.specs.declared.fault.Refusal.TheVariants as refusals
+use Rattle.snmpd_words.specs.declared.fault.LineFault.{LineFault}
+use Rattle.snmpd_words.specs.declared.fault.LineFault.TheVariants.{Refused}
 
 -- the setting of these conditions
 pub record IsSetting (conditions : Conditions) (type : ViewWord) (name : List ℕ) (setting : Setting) : Type 0 where
@@ -17,7 +17,7 @@ pub record IsSetting (conditions : Conditions) (type : ViewWord) (name : List �
   pub model : setting.model ≡ conditions.model
   pub level : setting.level ≡ conditions.level
   pub matching : setting.matching ≡ conditions.matching
-  pub word : setting.word ≡ type
+  pub types : setting.types ≡ only type
   pub is_view : IsViewName name setting.view
 
 -- conditions, and behind them a type and a view

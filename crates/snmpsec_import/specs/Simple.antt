@@ -3,16 +3,16 @@
 use Rattle.std.specs.Prelude.{◌≡◌, ◌≢◌, ◌⊎◌, ⊤, ℕ, Bool, true, false, List, [], ◌∷◌, ◌++◌, codes, Option, Some, None}
 use Rattle.vacm_core.specs.declared.rows.Matching.{Matching}
 use Rattle.vacm_core.specs.declared.rows.Matching.TheVariants.{Exact, Prefix}
-use Rattle.snmpsec_import.specs.Words.{GoesOn, TakesWord}
-use Rattle.snmpsec_import.specs.Values.{AreAlike}
+use Rattle.snmpd_words.specs.Words.{GoesOn, TakesWord}
+use Rattle.snmpd_words.specs.Values.{AreAlike}
 use Rattle.snmpsec_import.specs.Groups.{EndsBehindWord}
-use Rattle.snmpsec_import.specs.Types.{IsTypes}
-use Rattle.snmpsec_import.specs.declared.types.Types.{Types}
-use Rattle.snmpsec_import.specs.declared.directives.Directive.{Directive}
-use Rattle.snmpsec_import.specs.declared.directives.Directive.TheVariants as directives
-use Rattle.snmpsec_import.specs.declared.fault.Refusal.TheVariants as refusals
-use Rattle.snmpsec_import.specs.declared.fault.LineFault.{LineFault}
-use Rattle.snmpsec_import.specs.declared.fault.LineFault.TheVariants.{Refused, Undefined, OutOfMemory}
+use Rattle.snmpd_words.specs.Types.{IsTypes}
+use Rattle.snmpd_words.specs.declared.types.Types.{Types}
+use Rattle.snmpd_words.specs.declared.directives.Directive.{Directive}
+use Rattle.snmpd_words.specs.declared.directives.Directive.TheVariants as directives
+use Rattle.snmpd_words.specs.declared.fault.Refusal.TheVariants as refusals
+use Rattle.snmpd_words.specs.declared.fault.LineFault.{LineFault}
+use Rattle.snmpd_words.specs.declared.fault.LineFault.TheVariants.{Refused, Undefined, OutOfMemory}
 use Rattle.snmpsec_import.specs.declared.simple.Versions.{Versions}
 use Rattle.snmpsec_import.specs.declared.simple.Versions.TheVariants as versions
 use Rattle.snmpsec_import.specs.declared.simple.Who.{Who}

@@ -2,13 +2,13 @@
 use Rattle.std.specs.Prelude.{◌≡◌, ◌⊎◌, ℕ, ◌+◌, ◌/◌, ◌<◌, ◌≤◌, Bool, true, false, List, [], ◌∷◌, ◌++◌, take, length, codes}
 use Rattle.vacm_core.specs.declared.rows.FamilyRow.{FamilyRow}
 use Rattle.snmpsec_import.specs.Accesses.{AreTokens, HasFewer}
-use Rattle.snmpsec_import.specs.Subtrees.{SaysSubtree}
-use Rattle.snmpsec_import.specs.Masks.{AreMaskOctets, TellsNoMask}
-use Rattle.snmpsec_import.specs.declared.subtrees.Subtree.{Subtree}
-use Rattle.snmpsec_import.specs.declared.subtrees.Subtree.TheVariants as subtrees
-use Rattle.snmpsec_import.specs.declared.fault.Refusal.TheVariants as refusals
-use Rattle.snmpsec_import.specs.declared.fault.LineFault.{LineFault}
-use Rattle.snmpsec_import.specs.declared.fault.LineFault.TheVariants.{Refused, NotInNumbers, OutOfReach}
+use Rattle.snmpd_words.specs.Subtrees.{SaysSubtree}
+use Rattle.snmpd_words.specs.Masks.{AreMaskOctets, TellsNoMask}
+use Rattle.snmpd_words.specs.declared.subtrees.Subtree.{Subtree}
+use Rattle.snmpd_words.specs.declared.subtrees.Subtree.TheVariants as subtrees
+use Rattle.snmpd_words.specs.declared.fault.Refusal.TheVariants as refusals
+use Rattle.snmpd_words.specs.declared.fault.LineFault.{LineFault}
+use Rattle.snmpd_words.specs.declared.fault.LineFault.TheVariants.{Refused, NotInNumbers, OutOfReach}
 
 -- whether the subtree is in the view
 abbrev pub IsType : List ℕ → Bool → Type 0

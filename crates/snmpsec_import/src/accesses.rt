@@ -3,10 +3,8 @@
 ghost use Rattle.std.specs.Prelude.{◌≡◌, ◌<◌, length, [], ◌∷◌, IfOk, IfErr, IfSome, IfNone};
 ghost use Rattle.snmpsec_import.specs.Accesses.{AreTokens, HasFewer, IsContext, SaysConditions, TellsNoConditions, HasViewTokens, IsViewName, IsAccess, TellsTooLong, SaysAccess, TellsNoAccess};
 
-use crate::fault::{LineFault, Refusal};
-use crate::values::{level_of, matching_of, model_of};
-use crate::words::take_token;
 use snmp_ber::Level;
+use snmpd_words::{LineFault, Refusal, level_of, matching_of, model_of, take_token};
 use vacm_core::{AccessRow, Matching, Name};
 
 /// The most octets of a view's name that snmpd has room for. No view can have a name of so many.

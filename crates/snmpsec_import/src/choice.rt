@@ -1,9 +1,8 @@
-//! Which access row snmpd 5.9.3 chooses for a message. It isn't always the one that RFC 3415 says.
+//! Which access rows are for a message, and which of two snmpd 5.9.3 takes. It isn't always the one that RFC 3415 says.
 
 ghost use Rattle.std.specs.Prelude.{◌↔◌, IsTrue};
-ghost use Rattle.std.specs.Option.{option_map};
 ghost use Rattle.vacm_core.specs.Allowed.{FitsMessage};
-ghost use Rattle.snmpsec_import.specs.Choice.{IsTaken, IsBetter, IsChosen};
+ghost use Rattle.snmpsec_import.specs.Choice.{IsTaken};
 
 use snmp_ber::Level;
 use vacm_core::{AccessRow, Matching};
@@ -24,34 +23,4 @@ pub fn is_taken(best: &AccessRow, next: &AccessRow) -> bool
         || (is_prefix && next.matching == Matching::Exact)
         || (is_prefix && best.prefix.as_slice().len() < next.prefix.as_slice().len())
         || best.level.number() < next.level.number()
-}
-
-/// There is no other row so far, or snmpd takes this one in its place.
-fn is_better(best: Option<&AccessRow>, row: &AccessRow) -> bool
-    ensures { IsTrue result ↔ IsBetter (option_map (λ r. r.now) best.entry) row.now }
-{
-    match best {
-        Some(best) => is_taken(best, row),
-        None => true,
-    }
-}
-
-/// The row that snmpd chooses for a message of this group, of rows in the order in which it holds them: by group, prefix (the shorter first), model
-/// and level.
-pub fn snmpd_choice<'a>(
-    rows: &'a [AccessRow],
-    group: &[u8],
-    model: u32,
-    level: Level,
-    context: &[u8],
-) -> Option<&'a AccessRow>
-    ensures { IsChosen (FitsMessage group.now model level context.now) rows.now (option_map (λ row. row.now) result) }
-{
-    let mut best: Option<&AccessRow> = None;
-    for row in rows {
-        if fits_message(row, group, model, level, context) && is_better(best, row) {
-            best = Some(row);
-        }
-    }
-    best
 }

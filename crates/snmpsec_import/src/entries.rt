@@ -2,21 +2,18 @@
 
 ghost use Rattle.std.specs.Prelude.{ℕ, List, IfOk};
 ghost use Rattle.std.specs.Option.{option_map};
-ghost use Rattle.snmpsec_import.specs.Lines.{HasDirective};
+ghost use Rattle.snmpd_words.specs.Lines.{HasDirective};
 ghost use Rattle.snmpsec_import.specs.Simple.{IsSimple};
 ghost use Rattle.snmpsec_import.specs.Entries.{IsBeforeBlanks, IsEntry, IsMade, TellsNoRow};
-ghost use Rattle.snmpsec_import.specs.declared.lines.Section.{Section as ASection};
+ghost use Rattle.snmpd_words.specs.declared.lines.Section.{Section as ASection};
 
 use crate::accesses::access_row;
-use crate::directives::{Directive, directive_of};
-use crate::fault::LineFault;
+use crate::group_views::auth_access;
 use crate::groups::group_row;
-use crate::lines::{Line, Section, read_line};
 use crate::settings::{Setting, set_access};
 use crate::simple::{Simple, SimpleKind, simple_line, simple_of};
-use crate::types::Types;
 use crate::views::family_row;
-use crate::words::is_blank;
+use snmpd_words::{Directive, Line, LineFault, Section, Types, directive_of, is_blank, read_line};
 use std::alloc::{AllocError, Global};
 use vacm_core::{AccessRow, FamilyRow, GroupRow};
 
@@ -49,7 +46,7 @@ pub enum Entry {
     Family(FamilyRow),
     /// What a simple line says: the lines that it stands for make its rows.
     Simple(Simple),
-    /// A view that is set.
+    /// Views that are set.
     Set(Setting),
     /// No row.
     Told(Note),
@@ -116,6 +113,10 @@ pub fn entry_of(alloc: Global, directive: Directive, text: &[u8]) -> Result<Entr
             Err(fault) => note_of(directive, fault),
         },
         Directive::SetAccess => match set_access(text) {
+            Ok(setting) => Ok(Entry::Set(setting)),
+            Err(fault) => note_of(directive, fault),
+        },
+        Directive::AuthAccess => match auth_access(alloc, text) {
             Ok(setting) => Ok(Entry::Set(setting)),
             Err(fault) => note_of(directive, fault),
         },

@@ -3,11 +3,11 @@
 ghost use Rattle.std.specs.Prelude.{◌≡◌, ◌<◌, ◌≢◌, [], length, IfOk};
 ghost use Rattle.snmpsec_import.specs.Files as spec;
 ghost use Rattle.snmpsec_import.specs.Files.{IsFirstLine, AreEntries};
-ghost use Rattle.snmpsec_import.specs.declared.lines.Section.TheVariants as sections;
+ghost use Rattle.snmpd_words.specs.declared.lines.Section.TheVariants as sections;
 
 use crate::entries::{Entry, read_entry};
-use crate::lines::Section;
 use snmp_ber::split_once;
+use snmpd_words::Section;
 use std::alloc::{AllocError, Global};
 
 /// The first line, without its line feed, and the text behind it.

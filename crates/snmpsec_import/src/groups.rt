@@ -2,12 +2,10 @@
 
 ghost use Rattle.std.specs.Prelude.{◌≡◌, ◌↔◌, [], Some, IsTrue, IfOk, IfErr};
 ghost use Rattle.std.specs.Option.{option_map};
-ghost use Rattle.snmpsec_import.specs.Words.{TakesWord};
+ghost use Rattle.snmpd_words.specs.Words.{TakesWord};
 ghost use Rattle.snmpsec_import.specs.Groups.{SaysGroup, TellsNoGroup, TellsNoWord};
 
-use crate::fault::{LineFault, Refusal};
-use crate::values::model_of;
-use crate::words::take_word;
+use snmpd_words::{LineFault, Refusal, model_of, take_word};
 use std::alloc::{AllocError, Global};
 use vacm_core::{GroupRow, Name};
 

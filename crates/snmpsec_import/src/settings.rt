@@ -1,17 +1,15 @@
-//! Lines `setaccess`.
+//! Views that a line sets, and lines `setaccess`.
 
 ghost use Rattle.std.specs.Prelude.{◌≡◌, [], ◌∷◌, IfSome, IfNone, IfOk, IfErr};
 ghost use Rattle.snmpsec_import.specs.Accesses.{AreTokens, HasFewer};
 ghost use Rattle.snmpsec_import.specs.Settings.{HasLongIndex, SaysSetAccess, TellsNoSetAccess};
 
 use crate::accesses::{Conditions, conditions_of, view_name};
-use crate::fault::{LineFault, Refusal};
-use crate::types::ViewWord;
-use crate::words::take_token;
 use snmp_ber::Level;
+use snmpd_words::{LineFault, Refusal, Types, ViewWord, take_token};
 use vacm_core::{Matching, Name};
 
-/// What messages a line sets a view for, and the view.
+/// What messages a line sets views for, and the view.
 #[derive(Drop)]
 pub struct Setting {
     pub group: Name,
@@ -20,8 +18,8 @@ pub struct Setting {
     pub model: u32,
     pub level: Level,
     pub matching: Matching,
-    /// The type of the view.
-    pub word: ViewWord,
+    /// The types of the views that are set.
+    pub types: Types,
     pub view: Name,
 }
 
@@ -75,7 +73,7 @@ pub fn set_access(text: &[u8]) -> Result<Setting, LineFault>
         model: conditions.model,
         level: conditions.level,
         matching: conditions.matching,
-        word,
+        types: Types::only(word),
         view,
     })
 }

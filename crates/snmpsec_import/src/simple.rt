@@ -2,15 +2,12 @@
 
 ghost use Rattle.std.specs.Prelude.{◌≡◌, ◌≢◌, ◌++◌, ◌⊎◌, Some, None, IsTrue, ◌↔◌, codes, IfOk, IfErr, IfSome, IfNone, List, ℕ};
 ghost use Rattle.std.specs.Option.{option_map};
-ghost use Rattle.snmpsec_import.specs.Words.{GoesOn, TakesWord};
+ghost use Rattle.snmpd_words.specs.Words.{GoesOn, TakesWord};
 ghost use Rattle.snmpsec_import.specs.Simple as spec;
 ghost use Rattle.snmpsec_import.specs.Simple.{HasTypes, HasModelBehind, TellsNoModelBehind, HasModel, IsContextOf, TellsNoViewName, TakesOr, IsVersionWord, AreVersions, HasUser, HasCommunity, HasNamed, HasView, HasContext, HasReach, SaysSimple, TellsNoTypes, TellsNoModel, TellsNoView, TellsNoSimple, option_of};
 ghost use Rattle.snmpsec_import.specs.declared.simple.SimpleKind.TheVariants as kinds;
 
-use crate::directives::Directive;
-use crate::fault::{LineFault, Refusal};
-use crate::types::{Types, types_of};
-use crate::words::{Word, go_on, take_word};
+use snmpd_words::{Directive, LineFault, Refusal, Types, Word, go_on, take_word, types_of};
 use std::alloc::{AllocError, Global};
 use vacm_core::Matching;
 
@@ -117,7 +114,11 @@ pub(crate) fn simple_of(directive: Directive) -> Option<(SimpleKind, Option<Type
 }
 
 /// The types of views, and what stands behind them.
-fn take_types(alloc: Global, given: Option<Types>, text: &[u8]) -> Result<(Types, &[u8]), LineFault>
+pub(crate) fn take_types(
+    alloc: Global,
+    given: Option<Types>,
+    text: &[u8],
+) -> Result<(Types, &[u8]), LineFault>
     ensures types { IfOk result (λ r. HasTypes given text.now r.0 r.1.now) }
     ensures fault { IfErr result (TellsNoTypes given text.now) }
 {
@@ -308,15 +309,13 @@ fn take_view(alloc: Global, text: Option<&[u8]>) -> Result<(View, Option<&[u8]>)
 }
 
 /// The contexts that a word names: it is a prefix of them where a star ends it.
-fn context_of(word: Vec<u8>) -> (Vec<u8>, Matching)
-    ensures { IsContextOf word.items result.0.items result.1 }
+pub(crate) fn contexts_of(word: &[u8]) -> (&[u8], Matching)
+    ensures { IsContextOf word.now result.0.now result.1 }
 {
-    let mut context = word;
-    if context.as_slice().ends_with(b"*") {
-        let _ = context.pop();
-        return (context, Matching::Prefix);
+    match word {
+        [front @ .., b'*'] => (front, Matching::Prefix),
+        _ => (word, Matching::Exact),
     }
-    (context, Matching::Exact)
 }
 
 /// The contexts.
@@ -327,7 +326,8 @@ fn take_context(alloc: Global, text: Option<&[u8]>) -> Result<(Vec<u8>, Matching
         return Ok((Vec::new(alloc), Matching::Prefix));
     };
     let word = take_word(alloc, text, WORD_MAX)?;
-    Ok(context_of(word.octets))
+    let (context, matching) = contexts_of(&word.octets);
+    Ok((Vec::from_slice(alloc, context)?, matching))
 }
 
 /// What a line reaches.

@@ -4,11 +4,8 @@ ghost use Rattle.std.specs.Prelude.{◌≡◌, Bool, IfSome, IfNone, IfOk, IfErr
 ghost use Rattle.snmpsec_import.specs.Accesses.{HasFewer};
 ghost use Rattle.snmpsec_import.specs.Views.{IsType, IsWithoutDot, held_mask, AreViewWords, SaysFamily, TellsNoFamily};
 
-use crate::fault::{LineFault, Refusal};
-use crate::masks::mask_octets;
-use crate::subtrees::{Subtree, subtree_of};
-use crate::words::take_token;
 use snmp_ber::Oid;
+use snmpd_words::{LineFault, Refusal, Subtree, mask_octets, subtree_of, take_token};
 use vacm_core::{FamilyRow, Mask, Name};
 
 /// The bits of an octet.

@@ -1,13 +1,12 @@
 -- What is told of each line that isn't a row, and of each row that isn't printed.
-use Rattle.std.specs.Prelude.{⊤, if◌then◌else◌, List, [], ◌∷◌, Option, Some, None}
-use Rattle.snmpsec_import.specs.declared.fault.LineFault.{LineFault}
-use Rattle.snmpsec_import.specs.declared.fault.LineFault.TheVariants as faults
+use Rattle.std.specs.Prelude.{⊤, ◌||◌, if◌then◌else◌, List, [], ◌∷◌, Option, Some, None}
+use Rattle.snmpd_words.specs.declared.fault.LineFault.{LineFault}
+use Rattle.snmpd_words.specs.declared.fault.LineFault.TheVariants as faults
 use Rattle.snmpsec_import.specs.declared.entries.Note.{Note}
 use Rattle.snmpsec_import.specs.declared.entries.Note.TheVariants as notes
 use Rattle.snmpsec_import.specs.declared.entries.Entry.{Entry}
 use Rattle.snmpsec_import.specs.declared.entries.Entry.TheVariants as entries
-use Rattle.snmpsec_import.specs.declared.types.ViewWord.{ViewWord}
-use Rattle.snmpsec_import.specs.declared.types.ViewWord.TheVariants as words
+use Rattle.snmpd_words.specs.declared.types.Types.{Types}
 use Rattle.snmpsec_import.specs.declared.simple.Who.{Who}
 use Rattle.snmpsec_import.specs.declared.simple.Who.TheVariants as whom
 use Rattle.snmpsec_import.specs.declared.simple.Simple.{Simple}
@@ -19,6 +18,8 @@ use Rattle.snmpsec_lists.specs.declared.items.Followed.TheVariants as followed
 use Rattle.snmpsec_lists.specs.declared.items.Made.{Made}
 use Rattle.snmpsec_lists.specs.declared.items.Made.TheVariants as made
 use Rattle.snmpsec_lists.specs.declared.items.Item.{Item}
+use Rattle.snmpsec_lists.specs.declared.sets.Change.{Change}
+use Rattle.snmpsec_choices.specs.declared.comparison.Difference.{Difference}
 use Rattle.snmpsec_imported.specs.declared.notes.Kind.{Kind}
 use Rattle.snmpsec_imported.specs.declared.notes.Kind.TheVariants.{Other, Ignored, LeftOut, Refused, Undefined, Differs, Order}
 use Rattle.snmpsec_imported.specs.declared.notes.Told.{Told}
@@ -59,17 +60,14 @@ who_kind _ = None
 abbrev pub simple_kind : Simple → Option Kind
 simple_kind simple = if simple.types.unknown then Some Refused else who_kind simple.named.who
 
--- views of these types are asked for by snmptrapd alone
-abbrev pub set_kind : ViewWord → Option Kind
-set_kind words.Log = Some LeftOut
-set_kind words.Execute = Some LeftOut
-set_kind words.Net = Some LeftOut
-set_kind _ = None
+-- snmpd refuses a word among the types that is for none; views of the last three types are asked for by snmptrapd alone
+abbrev pub set_kind : Types → Option Kind
+set_kind types = if types.unknown then Some Refused else (if types.log || types.execute || types.net then Some LeftOut else None)
 
 abbrev pub entry_kind : Entry → Option Kind
 entry_kind (entries.Told note) = Some (note_kind note)
 entry_kind (entries.Simple simple) = simple_kind simple
-entry_kind (entries.Set setting) = set_kind setting.word
+entry_kind (entries.Set setting) = set_kind setting.types
 entry_kind _ = None
 
 -- of what kind the note on a line is; none is on a row, on a simple line whose lines say all, on an empty line, and on one that begins a section
@@ -90,6 +88,14 @@ tells_kind place (Some kind) = (place, kind) ∷ []
 -- the note on a line, where there is one
 abbrev pub tells : Item → List (Place × Kind)
 tells item = tells_kind item.place (kind_of item.made)
+
+-- a line that changed a row of another index than its own is told
+abbrev pub change_told : Change → Place × Kind
+change_told change = (change.place, Differs)
+
+-- a row that snmpd chooses for messages for which RFC 3415 comes to other views is told
+abbrev pub difference_told : Difference → Place × Kind
+difference_told difference = (difference.place, Differs)
 
 -- with such a note the configuration may not be what snmpd does
 abbrev pub IsSerious : Kind → Type 0

@@ -1,5 +1,5 @@
 -- The rows that are printed, and what a text says of them.
-use Rattle.std.specs.Prelude.{◌≡◌, ◌<◌, ℕ, List, [], ◌++◌, length, get_or}
+use Rattle.std.specs.Prelude.{◌≡◌, ◌<◌, ℕ, List, [], ◌++◌, length, get_or, map}
 use Rattle.std.specs.List.{flat_map}
 use Rattle.vacm_core.specs.Tables.{Tables}
 use Rattle.vacm_core.specs.declared.rows.ContextRow.{ContextRow}
@@ -17,7 +17,9 @@ use Rattle.snmpsec_lists.specs.declared.rows.HeldAccess.{HeldAccess}
 use Rattle.snmpsec_lists.specs.declared.rows.HeldFamily.{HeldFamily}
 use Rattle.snmpsec_imported.specs.declared.rows.Kept.{Kept}
 use Rattle.snmpsec_imported.specs.declared.notes.Kind.{Kind}
-use Rattle.snmpsec_imported.specs.Notes.{tells as tells_of}
+use Rattle.snmpsec_imported.specs.Notes.{tells as tells_of, change_told, difference_told}
+use Rattle.snmpsec_choices.specs.Questions.{Sides, TellsDifferences}
+use Rattle.snmpsec_choices.specs.declared.comparison.Difference.{Difference}
 
 -- Row by row this is the row of what is kept.
 pub record AreRowsOf {H R : Type 0} (row_of : H → R) (kept : List H) (rows : List R) : Type 0 where
@@ -41,16 +43,26 @@ pub record AreKept (held : HeldTables) (kept : Kept) : Type 0 where
   pub access : AreAccessKept held.access kept.access.items
   pub families : AreFamiliesKept kept.access.items held.families kept.families.items
 
--- The lines come to the text, and this is told of them: the rows that count after what they mean, with these contexts, are what the text says; and
--- each line that makes no row is told, in their order, and behind them what is told of rows.
+-- the contexts and groups of what is kept, and the access rows that snmpd holds and those that are kept
+abbrev pub compared : HeldTables → Kept → Sides
+compared held kept = record { contexts = kept.contexts.items; groups = kept.groups.items; held = held.access; kept = kept.access.items }
+
+-- What is told, in this order: of each of the lines that makes no row; of each that changed a row of another index than its own; of rows beside which
+-- others count; and of each row that snmpd chooses for messages for which RFC 3415 comes to other views, over the rows that are kept.
+pub record TellsAll (lines : List Item) (held : HeldTables) (kept : Kept) (told : List (Place × Kind)) : Type 0 where
+  pub second : List (Place × Kind)
+  pub differences : List Difference
+  pub differ : TellsDifferences (compared held kept) differences
+  pub tells : told ≡ flat_map tells_of lines ++ map change_told held.changes ++ second ++ map difference_told differences
+
+-- The lines come to the text, and this is told of them: the rows that count after what they mean, with these contexts, are what the text says.
 pub record ComesTo (items : List Item) (contexts : List ContextRow) (text : List ℕ) (told : List (Place × Kind)) : Type 0 where
   pub meant : List Item
   pub held : HeldTables
   pub kept : Kept
-  pub second : List (Place × Kind)
   pub are_meant : AreMeant items meant
   pub holds : HoldsAfter at_start meant held
   pub are_kept : AreKept held kept
   pub are_contexts : kept.contexts.items ≡ contexts
   pub prints : Prints kept text
-  pub tells : told ≡ flat_map tells_of meant ++ second
+  pub tells_all : TellsAll meant held kept told

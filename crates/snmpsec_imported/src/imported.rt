@@ -4,10 +4,10 @@ ghost use Rattle.std.specs.Prelude.{map, IfOk};
 ghost use Rattle.snmpsec_imported.specs.Rows.{ComesTo};
 ghost use Rattle.snmpsec_imported.specs.Notes.{told_of};
 
-use crate::notes::{Told, line_notes};
+use crate::notes::Told;
 use crate::read_back::{TextFault, configuration};
 use crate::rows::kept_of;
-use crate::second::second_notes;
+use crate::told::all_notes;
 use snmpsec_lists::{Item, lists_of, meant};
 use std::alloc::Global;
 use vacm_core::ContextRow;
@@ -23,8 +23,9 @@ pub struct Imported {
 
 /// The configuration that these lines come to, with these contexts, given the names of the files that the lines are from.
 ///
-/// Each line is in its rows, or is told: first those that make no row, in their order, and behind them the rows beside which another one
-/// counts. The fault is want of memory, or `NotReadBack`.
+/// Each line is in its rows, or is told: first those that make no row, in their order; then those that changed a row of another index than their own;
+/// then the rows beside which another one counts; and at last for which messages snmpd and RFC 3415 choose rows with other views. The fault is want of
+/// memory, or `NotReadBack`.
 pub fn import(
     alloc: Global,
     files: &[String],
@@ -37,7 +38,6 @@ pub fn import(
     let lists = lists_of(alloc, &lines)?;
     let kept = kept_of(alloc, &lists, contexts)?;
     let text = configuration(alloc, files, &kept)?;
-    let mut notes = line_notes(alloc, &lines)?;
-    notes.append(&mut second_notes(alloc, &lists, &kept)?)?;
+    let notes = all_notes(alloc, &lines, &lists, &kept)?;
     Ok(Imported { text, notes })
 }

@@ -19,6 +19,7 @@ mod read_back;
 mod rows;
 mod second;
 mod texts;
+mod told;
 
 pub use imported::{Imported, import};
 pub use notes::{Kind, Told, Why, line_notes};

@@ -5,7 +5,9 @@ ghost use Rattle.std.specs.List.{flat_map};
 ghost use Rattle.snmpsec_imported.specs.Notes as spec;
 ghost use Rattle.snmpsec_imported.specs.Notes.{told_of, tells};
 
-use snmpsec_import::{Directive, Entry, LineFault, Note, Simple, ViewWord, Who};
+use snmpd_words::{Directive, LineFault, Types};
+use snmpsec_choices::Difference;
+use snmpsec_import::{Entry, Note, Simple, Who};
 use snmpsec_lists::{Followed, Include, Item, Made, Place};
 use std::alloc::{AllocError, Global};
 use std::fmt;
@@ -44,7 +46,7 @@ impl fmt::Display for Kind {
 }
 
 /// Why something is told.
-#[derive(Clone, Copy, Debug, PartialEq, Eq)]
+#[derive(Drop)]
 pub enum Why {
     /// The kind says it.
     Plain,
@@ -54,6 +56,10 @@ pub enum Why {
     Fault(LineFault),
     /// The row from there has the same index.
     Same(Place),
+    /// The line changed the row from there, which has another index than the line names.
+    Changed(Place),
+    /// RFC 3415 chooses another row for such messages.
+    Chosen(Difference),
 }
 
 /// A note.
@@ -125,14 +131,17 @@ fn simple_kind(simple: &Simple) -> Option<Kind>
     }
 }
 
-/// The kind of the note on a view of this type that is set, where there is one.
-fn set_kind(word: ViewWord) -> Option<Kind>
-    ensures { result ≡ spec.set_kind word }
+/// The kind of the note on views of these types that are set, where there is one.
+fn set_kind(types: Types) -> Option<Kind>
+    ensures { result ≡ spec.set_kind types }
 {
-    match word {
-        ViewWord::Log | ViewWord::Execute | ViewWord::Net => Some(Kind::LeftOut),
-        ViewWord::Read | ViewWord::Write | ViewWord::Notify => None,
+    if types.unknown {
+        return Some(Kind::Refused);
     }
+    if types.log || types.execute || types.net {
+        return Some(Kind::LeftOut);
+    }
+    None
 }
 
 /// The kind of the note on a line, where there is one.
@@ -142,7 +151,7 @@ fn kind_of(made: &Made) -> Option<Kind>
     match made {
         Made::Entry(Entry::Told(note)) => Some(note_kind(*note)),
         Made::Entry(Entry::Simple(simple)) => simple_kind(simple),
-        Made::Entry(Entry::Set(setting)) => set_kind(setting.word),
+        Made::Entry(Entry::Set(setting)) => set_kind(setting.types),
         Made::Entry(_) => None,
         Made::NotText => Some(Kind::LeftOut),
         Made::Include(include) => Some(include_kind(include)),
@@ -173,6 +182,14 @@ fn why_note(note: Note) -> Why {
     }
 }
 
+/// Why views that a line sets aren't taken over.
+fn why_set(types: Types) -> Why {
+    if types.unknown {
+        return Why::Words("a word that is for no type of views");
+    }
+    Why::Words("snmptrapd alone asks for views of this type")
+}
+
 /// Why something of a simple line isn't taken over.
 fn why_simple(simple: &Simple) -> Why {
     if simple.types.unknown {
@@ -200,7 +217,7 @@ fn why_of(made: &Made) -> Why {
     match made {
         Made::Entry(Entry::Told(note)) => why_note(*note),
         Made::Entry(Entry::Simple(simple)) => why_simple(simple),
-        Made::Entry(Entry::Set(_)) => Why::Words("snmptrapd alone asks for views of this type"),
+        Made::Entry(Entry::Set(setting)) => why_set(setting.types),
         Made::Entry(_) => Why::Plain,
         Made::NotText => Why::Words("a name isn't UTF-8"),
         Made::Include(Include::Unclear) => {

@@ -5,7 +5,10 @@ ghost use Rattle.snmpsec_imported.specs.Notes.{IsSerious};
 
 use crate::blocks::put_place;
 use crate::notes::{Kind, Told, Why};
-use snmpsec_lists::Place;
+use snmpsec_access::put_quoted;
+use snmpsec_choices::Difference;
+use snmpsec_config::level_word;
+use snmpsec_lists::{Contexts, Place, Question};
 use std::alloc::{AllocError, Global};
 
 /// With such a note the configuration may not be what snmpd does.
@@ -40,8 +43,63 @@ fn put_same(
     out.extend_from_slice(b" has the same index")
 }
 
+/// Appends the row from there, which was changed.
+fn put_changed(
+    alloc: Global,
+    out: &mut Vec<u8>,
+    files: &[String],
+    place: Place,
+) -> Result<(), AllocError> {
+    out.extend_from_slice(b": changes the row of ")?;
+    put_place(alloc, out, files, place)?;
+    out.extend_from_slice(b", which has another index")
+}
+
+/// Appends contexts: the name of one, or a name and a star for those beyond it.
+fn put_contexts(out: &mut Vec<u8>, contexts: &Contexts) -> Result<(), AllocError> {
+    match contexts {
+        Contexts::Named(name) => put_quoted(out, name.as_slice()),
+        Contexts::Beyond(name) => {
+            put_quoted(out, name.as_slice())?;
+            out.extend_from_slice(b"*")
+        }
+    }
+}
+
+/// Appends messages.
+fn put_question(alloc: Global, out: &mut Vec<u8>, question: &Question) -> Result<(), AllocError> {
+    out.extend_from_slice(b": group ")?;
+    put_quoted(out, question.group.as_slice())?;
+    let (model, level) = (question.model, level_word(question.level));
+    out.extend_from_slice(format!(in alloc; ", model {model}, {level}, context ")?.as_bytes())?;
+    put_contexts(out, &question.contexts)
+}
+
+/// Appends the messages, and what RFC 3415 chooses for them.
+fn put_chosen(
+    alloc: Global,
+    out: &mut Vec<u8>,
+    files: &[String],
+    difference: &Difference,
+) -> Result<(), AllocError> {
+    put_question(alloc, out, &difference.question)?;
+    out.extend_from_slice(b": snmpd takes this row, RFC 3415 ")?;
+    match difference.other {
+        Some(place) => {
+            out.extend_from_slice(b"that of ")?;
+            put_place(alloc, out, files, place)
+        }
+        None => out.extend_from_slice(b"none"),
+    }
+}
+
 /// Appends why it is told.
-fn put_why(alloc: Global, out: &mut Vec<u8>, files: &[String], why: Why) -> Result<(), AllocError> {
+fn put_why(
+    alloc: Global,
+    out: &mut Vec<u8>,
+    files: &[String],
+    why: &Why,
+) -> Result<(), AllocError> {
     match why {
         Why::Plain => Ok(()),
         Why::Words(words) => {
@@ -49,7 +107,9 @@ fn put_why(alloc: Global, out: &mut Vec<u8>, files: &[String], why: Why) -> Resu
             out.extend_from_slice(words.as_bytes())
         }
         Why::Fault(fault) => { out.extend_from_slice(format!(in alloc; ": {fault}")?.as_bytes()) }
-        Why::Same(place) => put_same(alloc, out, files, place),
+        Why::Same(place) => put_same(alloc, out, files, *place),
+        Why::Changed(place) => put_changed(alloc, out, files, *place),
+        Why::Chosen(difference) => put_chosen(alloc, out, files, difference),
     }
 }
 
@@ -67,7 +127,7 @@ fn put_told(
         out.extend_from_slice(b": ")?;
         put_shown(out, &told.word)?;
     }
-    put_why(alloc, out, files, told.why)?;
+    put_why(alloc, out, files, &told.why)?;
     out.extend_from_slice(b"\n")
 }
 

@@ -3,7 +3,7 @@ use Rattle.std.proofs.Common.{◌≡◌, ℕ, ◌+◌, ◌<◌, suc, List, lengt
 use Rattle.std.proofs.lemmas.List.{get_or_read}
 use Rattle.vacm_core.specs.declared.rows.AccessRow.{AccessRow}
 use Rattle.snmpsec_lists.specs.declared.rows.HeldAccess.{HeldAccess}
-use Rattle.snmpsec_lists.specs.Sets.{IsBetterAt, IsNextAt, BestOf}
+use Rattle.snmpsec_lists.specs.Questions.{IsBetterAt, IsNextAt, BestOf}
 
 pub next_is : (Fits : AccessRow → Type 0) (rows : List HeldAccess) (best : Option ℕ) (place : ℕ) (held : HeldAccess) → place < length rows
     → held ≡ get_or rows place held → Fits held.row → IsBetterAt rows best held.row → IsNextAt Fits rows best place

@@ -1,12 +1,12 @@
 -- What each line of a file makes, with its place and the word that it begins with.
 use Rattle.std.specs.Prelude.{◌≡◌, ◌≢◌, ◌⊎◌, ⊤, ℕ, ◌+◌, List, [], ◌∷◌, codes, Option, Some, None, option_map, IsUtf8}
-use Rattle.snmpsec_import.specs.Values.{AreAlike}
-use Rattle.snmpsec_import.specs.Lines.{IsLine}
+use Rattle.snmpd_words.specs.Values.{AreAlike}
+use Rattle.snmpd_words.specs.Lines.{IsLine}
 use Rattle.snmpsec_import.specs.Entries.{IsEntry}
 use Rattle.snmpsec_import.specs.Files.{IsFirstLine, section_behind}
-use Rattle.snmpsec_import.specs.declared.lines.Section.{Section}
-use Rattle.snmpsec_import.specs.declared.lines.Line.{Line}
-use Rattle.snmpsec_import.specs.declared.lines.Line.TheVariants.{Directive}
+use Rattle.snmpd_words.specs.declared.lines.Section.{Section}
+use Rattle.snmpd_words.specs.declared.lines.Line.{Line}
+use Rattle.snmpd_words.specs.declared.lines.Line.TheVariants.{Directive}
 use Rattle.snmpsec_import.specs.declared.entries.Entry.{Entry}
 use Rattle.snmpsec_import.specs.declared.entries.Entry.TheVariants.{Group, Access, Family, Set}
 use Rattle.snmpsec_lists.specs.declared.rows.Place.TheVariants as places

@@ -7,6 +7,7 @@ use Rattle.snmpsec_lists.specs.declared.rows.Place.TheVariants.{BuiltIn}
 use Rattle.snmpsec_lists.specs.declared.rows.HeldGroup.{HeldGroup}
 use Rattle.snmpsec_lists.specs.declared.rows.HeldAccess.{HeldAccess}
 use Rattle.snmpsec_lists.specs.declared.rows.HeldFamily.{HeldFamily}
+use Rattle.snmpsec_lists.specs.declared.sets.Change.{Change}
 use Rattle.snmpsec_lists.specs.declared.lists.Lists.{Lists}
 use Rattle.snmpsec_lists.specs.declared.items.Item.{Item}
 use Rattle.snmpsec_lists.specs.declared.items.Made.{Made}
@@ -14,14 +15,15 @@ use Rattle.snmpsec_lists.specs.declared.items.Made.TheVariants as made
 use Rattle.snmpsec_lists.specs.Sets.{SetsAccess}
 use Rattle.snmpsec_lists.specs.Orders.{Adds, order_of_groups, order_of_access, order_of_families}
 
--- the rows of the three tables, in snmpd's order
+-- the rows of the three tables, in snmpd's order, and which lines changed access rows of other indexes than their own
 pub record Tables : Type 0 where
   pub groups : List HeldGroup
   pub access : List HeldAccess
   pub families : List HeldFamily
+  pub changes : List Change
 
 abbrev pub tables_of : Lists → Tables
-tables_of lists = record { groups = lists.groups.items; access = lists.access.items; families = lists.families.items }
+tables_of lists = record { groups = lists.groups.items; access = lists.access.items; families = lists.families.items; changes = lists.changes.items }
 
 -- ---- what snmpd has from the start
 
@@ -35,20 +37,23 @@ built_in =
     ∷ built_in_row (codes "_none_") 0 false ∷ built_in_row (codes "_none_") 1 false ∷ built_in_row (codes "_none_") 2 false ∷ []
 
 abbrev pub at_start : Tables
-at_start = record { groups = []; access = []; families = built_in }
+at_start = record { groups = []; access = []; families = built_in; changes = [] }
 
 -- ---- line by line
 
--- A row goes into its table, or a row of it is set, and no other table changes.
+-- A row goes into its table, or views of one are set, and no other table changes.
 abbrev pub TakesEntry : Place → Entry → Tables → Tables → Type 0
 TakesEntry place (Group row) before after =
     Adds order_of_groups before.groups (record { place = place; row = row }) after.groups × (after.access ≡ before.access) × (after.families ≡ before.families)
+    × (after.changes ≡ before.changes)
 TakesEntry place (Access row) before after =
     Adds order_of_access before.access (record { place = place; row = row }) after.access × (after.groups ≡ before.groups) × (after.families ≡ before.families)
+    × (after.changes ≡ before.changes)
 TakesEntry place (Family row) before after =
     Adds order_of_families before.families (record { place = place; row = row }) after.families × (after.groups ≡ before.groups) × (after.access ≡ before.access)
+    × (after.changes ≡ before.changes)
 TakesEntry place (Set setting) before after =
-    SetsAccess place setting before.access after.access × (after.groups ≡ before.groups) × (after.families ≡ before.families)
+    SetsAccess place setting before.access before.changes after.access after.changes × (after.groups ≡ before.groups) × (after.families ≡ before.families)
 TakesEntry place _ before after = after ≡ before
 
 abbrev pub TakesMade : Place → Made → Tables → Tables → Type 0

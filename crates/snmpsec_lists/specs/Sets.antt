@@ -1,45 +1,18 @@
--- What a line `setaccess` does to the access rows that snmpd holds (net-snmp 5.9.3).
-use Rattle.std.specs.Prelude.{◌≡◌, ◌⊎◌, ⊤, ℕ, zero, suc, List, [], length, get_or, set, Option, Some, None}
-use Rattle.vacm_core.specs.Allowed.{FitsMessage}
+-- What a line that sets views does to the access rows that snmpd holds (net-snmp 5.9.3).
+use Rattle.std.specs.Prelude.{◌≡◌, ◌⊎◌, ℕ, Bool, if◌then◌else◌, List, [], ◌∷◌, ◌++◌, get_or, set, Some, None}
 use Rattle.vacm_core.specs.declared.rows.AccessRow.{AccessRow}
-use Rattle.snmpsec_import.specs.Choice.{IsTaken}
-use Rattle.snmpsec_import.specs.declared.types.ViewWord.{ViewWord}
-use Rattle.snmpsec_import.specs.declared.types.ViewWord.TheVariants.{Read, Write, Notify}
 use Rattle.snmpsec_import.specs.declared.settings.Setting.{Setting}
 use Rattle.snmpsec_lists.specs.declared.rows.Place.{Place}
 use Rattle.snmpsec_lists.specs.declared.rows.HeldAccess.{HeldAccess}
+use Rattle.snmpsec_lists.specs.declared.sets.Change.{Change}
 use Rattle.snmpsec_lists.specs.Orders.{Adds, order_of_access}
-
--- ---- the place of the row that snmpd chooses
-
--- there is no other row so far, or snmpd takes this one in its place
-abbrev pub IsBetterAt : List HeldAccess → Option ℕ → AccessRow → Type 0
-IsBetterAt rows None row = ⊤
-IsBetterAt rows (Some k) row = (d : HeldAccess) → IsTaken (get_or rows k d).row row
-
--- the row at the place fits, and snmpd takes it
-abbrev pub IsNextAt : (AccessRow → Type 0) → List HeldAccess → Option ℕ → ℕ → Type 0
-IsNextAt Fits rows best place = (d : HeldAccess) → Fits (get_or rows place d).row × IsBetterAt rows best (get_or rows place d).row
-
--- of so many of the rows the best is at this place
-abbrev pub BestOf : (AccessRow → Type 0) → List HeldAccess → ℕ → Option ℕ → Type 0
-BestOf Fits rows zero best = best ≡ None
-BestOf Fits rows (suc n) best =
-    (before : Option ℕ) × BestOf Fits rows n before
-    × ((IsNextAt Fits rows before n × (best ≡ Some n)) ⊎ ((IsNextAt Fits rows before n → ⊥) × (best ≡ before)))
-
--- The place of the row that snmpd chooses, or none where none fits.
-abbrev pub ChoosesAt : (AccessRow → Type 0) → List HeldAccess → Option ℕ → Type 0
-ChoosesAt Fits rows chosen = BestOf Fits rows (length rows) chosen
+use Rattle.snmpsec_lists.specs.Questions.{question_of, FitsQuestion, ChoosesAt}
 
 -- ---- what is set
 
--- the row with this view of the type; for the types that snmptrapd alone asks for it has none
-abbrev pub with_view : ViewWord → List ℕ → AccessRow → AccessRow
-with_view Read view row = record row { read = view }
-with_view Write view row = record row { write = view }
-with_view Notify view row = record row { notify = view }
-with_view _ view row = row
+-- the view, or else the one that there is
+abbrev pub view_or : Bool → List ℕ → List ℕ → List ℕ
+view_or is_set view other = if is_set then view else other
 
 -- a row of these conditions without views
 abbrev pub bare_row : Setting → AccessRow
@@ -54,16 +27,43 @@ bare_row setting = record {
   notify = [];
 }
 
--- the view is set, and how contexts match; the index stays as it is
+-- the view of each type is set, and how contexts match; the index stays as it is. A row has no views of the types that snmptrapd alone asks for
 abbrev pub set_row : Setting → AccessRow → AccessRow
-set_row setting row = with_view setting.word setting.view (record row { matching = setting.matching })
+set_row setting row = record row {
+  matching = setting.matching;
+  read = view_or setting.types.read setting.view row.read;
+  write = view_or setting.types.write setting.view row.write;
+  notify = view_or setting.types.notify setting.view row.notify;
+}
 
-abbrev pub FitsSetting : Setting → AccessRow → Type 0
-FitsSetting setting row = FitsMessage setting.group setting.model setting.level setting.context row
+-- ---- a row of another index
 
--- The row that snmpd would choose is changed, whatever its index; or where it would choose none, a new row goes in.
-abbrev pub SetsAccess : Place → Setting → List HeldAccess → List HeldAccess → Type 0
-SetsAccess place setting rows after =
-    ((at : ℕ) × ChoosesAt (FitsSetting setting) rows (Some at)
-    × ((d : HeldAccess) → after ≡ set rows at (record { place = (get_or rows at d).place; row = set_row setting (get_or rows at d).row })))
-    ⊎ (ChoosesAt (FitsSetting setting) rows None × Adds order_of_access rows (record { place = place; row = set_row setting (bare_row setting) }) after)
+-- the row has the index that the line names
+pub record HasOwnIndex (setting : Setting) (row : AccessRow) : Type 0 where
+  pub prefix : row.prefix ≡ setting.context
+  pub model : row.model ≡ setting.model
+  pub level : row.level ≡ setting.level
+
+-- A change of a row of another index is told.
+abbrev pub TellsChange : Place → Setting → HeldAccess → List Change → List Change → Type 0
+TellsChange place setting held told after =
+    (HasOwnIndex setting held.row × (after ≡ told))
+    ⊎ ((HasOwnIndex setting held.row → ⊥) × (after ≡ told ++ record { place = place; changed = held.place } ∷ []))
+
+-- ---- the rows after the line
+
+-- what snmpd would choose for the messages that the line is for
+abbrev pub ChoosesFor : Setting → List HeldAccess → ℕ → Type 0
+ChoosesFor setting rows at = ChoosesAt (FitsQuestion (question_of setting)) rows (Some at)
+
+abbrev pub ChoosesNone : Setting → List HeldAccess → Type 0
+ChoosesNone setting rows = ChoosesAt (FitsQuestion (question_of setting)) rows None
+
+-- The row that snmpd would choose is changed, whatever its index, and that is told where it isn't the line's own; or where it would choose none, a new
+-- row goes in.
+abbrev pub SetsAccess : Place → Setting → List HeldAccess → List Change → List HeldAccess → List Change → Type 0
+SetsAccess place setting rows told after changes =
+    ((at : ℕ) × ChoosesFor setting rows at
+    × ((d : HeldAccess) → (after ≡ set rows at (record { place = (get_or rows at d).place; row = set_row setting (get_or rows at d).row }))
+    × TellsChange place setting (get_or rows at d) told changes))
+    ⊎ (ChoosesNone setting rows × Adds order_of_access rows (record { place = place; row = set_row setting (bare_row setting) }) after × (changes ≡ told))

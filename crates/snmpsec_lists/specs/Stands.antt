@@ -3,13 +3,13 @@ use Rattle.std.specs.Prelude.{◌≡◌, ◌+◌, ◌≤◌, ℕ, Bool, ◌&&◌
 use Rattle.std.specs.List.{flat_map}
 use Rattle.vacm_core.specs.declared.rows.Matching.{Matching}
 use Rattle.vacm_core.specs.declared.rows.Matching.TheVariants.{Exact, Prefix}
-use Rattle.snmpsec_import.specs.Types.{view_word}
+use Rattle.snmpd_words.specs.Types.{view_word}
 use Rattle.snmpsec_import.specs.Entries.{IsMade}
-use Rattle.snmpsec_import.specs.declared.types.Types.{Types}
-use Rattle.snmpsec_import.specs.declared.types.ViewWord.{ViewWord}
-use Rattle.snmpsec_import.specs.declared.types.ViewWord.TheVariants.{Read, Write, Notify, Log, Execute, Net}
-use Rattle.snmpsec_import.specs.declared.directives.Directive.{Directive}
-use Rattle.snmpsec_import.specs.declared.directives.Directive.TheVariants as directives
+use Rattle.snmpd_words.specs.declared.types.Types.{Types}
+use Rattle.snmpd_words.specs.declared.types.ViewWord.{ViewWord}
+use Rattle.snmpd_words.specs.declared.types.ViewWord.TheVariants.{Read, Write, Notify, Log, Execute, Net}
+use Rattle.snmpd_words.specs.declared.directives.Directive.{Directive}
+use Rattle.snmpd_words.specs.declared.directives.Directive.TheVariants as directives
 use Rattle.snmpsec_import.specs.declared.simple.Versions.{Versions}
 use Rattle.snmpsec_import.specs.declared.simple.Versions.TheVariants.{First, Second, Both}
 use Rattle.snmpsec_import.specs.declared.simple.Who.{Who}

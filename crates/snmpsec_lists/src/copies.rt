@@ -6,7 +6,7 @@ use snmp_ber::Oid;
 use vacm_core::{AccessRow, FamilyRow, GroupRow, Mask, Name};
 
 /// The same name.
-pub(crate) fn copy_name(name: &Name) -> Name
+pub fn copy_name(name: &Name) -> Name
     ensures { result ≡ name.now }
 {
     match Name::of(name.as_slice()) {

@@ -3,18 +3,17 @@
 ghost use Rattle.std.specs.Prelude.{◌≡◌, ◌↔◌, ℕ, List, IsTrue, IfOk, MatchOption, codes};
 ghost use Rattle.std.specs.Option.{option_map};
 ghost use Rattle.std.specs.Str.{IsUtf8};
-ghost use Rattle.snmpsec_import.specs.declared.lines.Section.TheVariants as sections;
-ghost use Rattle.snmpsec_import.specs.declared.lines.Section.{Section as ASection};
-ghost use Rattle.snmpsec_import.specs.declared.lines.Line.{Line as ALine};
-ghost use Rattle.snmpsec_import.specs.Lines.{IsLine};
+ghost use Rattle.snmpd_words.specs.declared.lines.Section.TheVariants as sections;
+ghost use Rattle.snmpd_words.specs.declared.lines.Section.{Section as ASection};
+ghost use Rattle.snmpd_words.specs.declared.lines.Line.{Line as ALine};
+ghost use Rattle.snmpd_words.specs.Lines.{IsLine};
 ghost use Rattle.snmpsec_import.specs.Entries.{IsEntry};
 ghost use Rattle.snmpsec_lists.specs.Items as spec;
 ghost use Rattle.snmpsec_lists.specs.Items.{BeginsSmall, IsIncludeWord, NamesFiles, IsInclude, IsText, IsMade, IsItem, AreItems, word_of};
 
 use crate::rows::Place;
-use snmpsec_import::{
-    Entry, Line, Section, Setting, first_line, read_entry, read_line, section_behind,
-};
+use snmpd_words::{Line, Section, read_line};
+use snmpsec_import::{Entry, Setting, first_line, read_entry, section_behind};
 use std::alloc::{AllocError, Global};
 use vacm_core::{AccessRow, Name};
 

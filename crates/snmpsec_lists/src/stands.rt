@@ -4,9 +4,10 @@ ghost use Rattle.std.specs.Prelude.{◌≡◌, ◌++◌, [], ◌∷◌, IfOk, On
 ghost use Rattle.std.specs.List.{flat_map};
 ghost use Rattle.snmpsec_lists.specs.Stands as spec;
 ghost use Rattle.snmpsec_lists.specs.Stands.{line_of, plain, user_group, community_name, context_word, in_quotes, matching_word, has, is_access, own_view, view_lines, group_line, version_lines, group_lines, conditions, set_lines, right_lines};
-ghost use Rattle.snmpsec_import.specs.declared.directives.Directive.TheVariants as directives;
+ghost use Rattle.snmpd_words.specs.declared.directives.Directive.TheVariants as directives;
 
-use snmpsec_import::{Directive, Reach, Simple, Types, Versions, View, ViewWord, Who};
+use snmpd_words::{Directive, Types, ViewWord};
+use snmpsec_import::{Reach, Simple, Versions, View, Who};
 use std::alloc::{AllocError, Global};
 use vacm_core::Matching;
 

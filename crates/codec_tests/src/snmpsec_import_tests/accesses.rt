@@ -1,6 +1,7 @@
 //! Lines `access`, and the row that counts. The expected ones are those of net-snmp 5.9.3.
 use snmp_ber::Level;
-use snmpsec_import::{LineFault, Refusal, access_row};
+use snmpd_words::{LineFault, Refusal};
+use snmpsec_import::access_row;
 use std::test::Fail;
 use vacm_core::{AccessRow, Matching};
 

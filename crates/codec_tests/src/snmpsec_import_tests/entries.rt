@@ -1,5 +1,6 @@
 //! What the lines of a file make. The expected rows and notes are those of net-snmp 5.9.3.
-use snmpsec_import::{Directive, Entry, LineFault, Note, Refusal, read_entries};
+use snmpd_words::{Directive, LineFault, Refusal};
+use snmpsec_import::{Entry, Note, read_entries};
 use std::test::Fail;
 
 const FILE: &[u8] = b"# access

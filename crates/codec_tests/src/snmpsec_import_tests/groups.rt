@@ -1,5 +1,6 @@
 //! Lines `group`. The expected rows are those of net-snmp 5.9.3.
-use snmpsec_import::{LineFault, Refusal, group_row};
+use snmpd_words::{LineFault, Refusal};
+use snmpsec_import::group_row;
 use std::test::Fail;
 use vacm_core::GroupRow;
 

@@ -1,5 +1,5 @@
 //! Lines and directives. The expected ones are those of net-snmp 5.9.3.
-use snmpsec_import::{Directive, Line, Section, directive_of, read_line};
+use snmpd_words::{Directive, Line, Section, directive_of, read_line};
 use std::test::Fail;
 
 /// Lines, and what they are in `[snmpd]`.

@@ -1,8 +1,6 @@
 //! Simple lines, for users, groups and communities. The expected words are those that net-snmp 5.9.3 takes.
-use snmpsec_import::{
-    Directive, Entry, LineFault, Note, Refusal, Simple, SimpleKind, Types, Versions, View,
-    ViewWord, Who, entry_of, simple_line, types_of,
-};
+use snmpd_words::{Directive, LineFault, Refusal, Types, ViewWord, types_of};
+use snmpsec_import::{Entry, Note, Simple, SimpleKind, Versions, View, Who, entry_of, simple_line};
 use std::test::Fail;
 use vacm_core::Matching;
 

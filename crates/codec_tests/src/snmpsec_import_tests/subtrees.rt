@@ -1,6 +1,6 @@
 //! Object identifiers in numbers. The expected ones are those of net-snmp 5.9.3.
 use snmp_ber::Oid;
-use snmpsec_import::{Subtree, subtree_of};
+use snmpd_words::{Subtree, subtree_of};
 use std::test::Fail;
 
 /// A text, and its arcs.

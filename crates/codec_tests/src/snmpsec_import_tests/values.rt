@@ -1,6 +1,6 @@
 //! What single words stand for. The expected ones are those of net-snmp 5.9.3.
 use snmp_ber::Level;
-use snmpsec_import::{level_of, matching_of, model_of};
+use snmpd_words::{level_of, matching_of, model_of};
 use vacm_core::Matching;
 
 const MODELS: [(&[u8], Option<u32>); 9] = [

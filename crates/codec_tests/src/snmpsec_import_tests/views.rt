@@ -1,6 +1,7 @@
 //! Lines `view`. The expected rows are those of net-snmp 5.9.3.
 use snmp_ber::Oid;
-use snmpsec_import::{LineFault, Refusal, family_row};
+use snmpd_words::{LineFault, Refusal};
+use snmpsec_import::family_row;
 use std::test::Fail;
 use vacm_core::FamilyRow;
 

@@ -1,5 +1,5 @@
 //! Words and tokens. The expected ones are those of net-snmp 5.9.3.
-use snmpsec_import::{go_on, take_token, take_word};
+use snmpd_words::{go_on, take_token, take_word};
 use std::test::Fail;
 
 /// A text, how many octets are held, its first word, and what the text goes on with.

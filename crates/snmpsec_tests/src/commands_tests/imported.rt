@@ -75,6 +75,20 @@ f:10: undefined: group: a word is missing
 f:3: ignored: group: the row of f:2 has the same index
 f:5: differs: access: the row of f:4 has the same index
 f:7: ignored: view: the row of f:6 has the same index
+f:5: differs: access: group \"watchers\", model 3, authNoPriv, context \"\"*: snmpd takes this row, RFC 3415 none
+f:5: differs: access: group \"watchers\", model 3, authPriv, context \"\"*: snmpd takes this row, RFC 3415 none
+";
+
+const CHOSEN: &[u8] = b"group \"a group\" usm ann
+group g usm bob
+access g \"\" usm auth prefix narrow none none
+access g bridge any auth prefix wide none none
+setaccess g bridge usm priv exact write all
+";
+
+const CHOSEN_NOTES: &[u8] = b"f:5: differs: access: changes the row of f:4, which has another index
+f:4: differs: access: group \"g\", model 3, authNoPriv, context \"bridge\": snmpd takes this row, RFC 3415 that of f:3
+f:4: differs: access: group \"g\", model 3, authPriv, context \"bridge\": snmpd takes this row, RFC 3415 that of f:3
 ";
 
 fn contexts(rt: &HostRuntime) -> Result<Vec<ContextRow>, Fail> {
@@ -102,6 +116,16 @@ fn lines_come_to_a_configuration(rt: HostRuntime) -> Result<(), Fail> {
     assert_eq!(rt;
         notes_text(rt.alloc(), &files(&rt)?, &done.notes)?.as_slice(),
         NOTES
+    );
+    Ok(())
+}
+
+#[test]
+fn other_choices_of_snmpd_are_told(rt: HostRuntime) -> Result<(), Fail> {
+    let done = imported(&rt, CHOSEN)?;
+    assert_eq!(rt;
+        notes_text(rt.alloc(), &files(&rt)?, &done.notes)?.as_slice(),
+        CHOSEN_NOTES
     );
     Ok(())
 }

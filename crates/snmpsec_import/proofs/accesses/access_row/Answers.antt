@@ -1,7 +1,7 @@
 use Rattle.std.proofs.Common.{ℕ, List, Result, Ok, Err, IfOk, IfErr, inr}
 use Rattle.vacm_core.specs.declared.rows.AccessRow.{AccessRow}
 use Rattle.snmpsec_import.specs.declared.accesses.Conditions.{Conditions}
-use Rattle.snmpsec_import.specs.declared.fault.LineFault.{LineFault}
+use Rattle.snmpd_words.specs.declared.fault.LineFault.{LineFault}
 use Rattle.snmpsec_import.specs.Accesses.{HasViews, IsAccess, TellsTooLong, SaysAccess, TellsNoAccess}
 use Rattle.snmpsec_import.proofs.accesses.access_row.Goals as goal
 

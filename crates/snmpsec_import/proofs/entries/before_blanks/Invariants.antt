@@ -1,6 +1,6 @@
 use Rattle.std.proofs.Common.{◌≡◌, ℕ, List, ◌++◌, length}
 use Rattle.std.specs.List.{AllByRecursion}
-use Rattle.snmpsec_import.specs.Words.{IsBlank}
+use Rattle.snmpd_words.specs.Words.{IsBlank}
 use Rattle.snmpsec_import.proofs.entries.before_blanks.Given as goal
 
 abbrev pub invariant-blanks : goal.invariant-blanks

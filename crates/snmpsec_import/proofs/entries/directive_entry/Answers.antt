@@ -1,12 +1,12 @@
 use Rattle.std.proofs.Common.{ℕ, List, Result, Ok, Err, Some, IfOk, inl, inr, sym, subst}
 use Rattle.std.specs.Option.{option_map}
 use Rattle.std.specs.declared.alloc.AllocError.{AllocError}
-use Rattle.snmpsec_import.specs.declared.lines.Section.{Section}
-use Rattle.snmpsec_import.specs.declared.directives.Directive.{Directive}
+use Rattle.snmpd_words.specs.declared.lines.Section.{Section}
+use Rattle.snmpd_words.specs.declared.directives.Directive.{Directive}
 use Rattle.snmpsec_import.specs.declared.entries.Entry.{Entry}
 use Rattle.snmpsec_import.specs.declared.entries.Entry.TheVariants.{Nothing, Begins, Group, Access, Family, Simple, Set, Told}
 use Rattle.snmpsec_import.specs.declared.entries.Note.TheVariants.{Unclosed, NoSection, Bare, Other, LeftOut, Fault}
-use Rattle.snmpsec_import.specs.Lines.{HasDirective}
+use Rattle.snmpd_words.specs.Lines.{HasDirective}
 use Rattle.snmpsec_import.specs.Entries.{HasText, IsUnread, TellsNoRow, IsMade, IsEntry}
 use Rattle.snmpsec_import.proofs.entries.directive_entry.Goals as goal
 
@@ -17,7 +17,7 @@ made_is force line directive text (Begins section) has made = absurd made
 made_is force line directive text (Group row) has made = (text, subst (λ d. HasText force line d text) made.0 has, made.1)
 made_is force line directive text (Access row) has made = (text, subst (λ d. HasText force line d text) made.0 has, made.1)
 made_is force line directive text (Family row) has made = (text, subst (λ d. HasText force line d text) made.0 has, made.1)
-made_is force line directive text (Set setting) has made = (text, subst (λ d. HasText force line d text) made.0 has, made.1)
+made_is force line directive text (Set setting) has made = (directive, text, has, made)
 made_is force line directive text (Simple simple) has made = (directive, text, has, made)
 made_is force line directive text (Told Unclosed) has made = absurd made
 made_is force line directive text (Told NoSection) has made = absurd made

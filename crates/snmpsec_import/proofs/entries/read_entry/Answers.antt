@@ -1,6 +1,6 @@
 use Rattle.std.proofs.Common.{sym, subst}
 use Rattle.std.specs.Option.{option_map}
-use Rattle.snmpsec_import.specs.Lines.{IsLine, HasDirective}
+use Rattle.snmpd_words.specs.Lines.{IsLine, HasDirective}
 use Rattle.snmpsec_import.proofs.entries.read_entry.Goals as goal
 
 pub returns-in-Directive : goal.returns-in-Directive

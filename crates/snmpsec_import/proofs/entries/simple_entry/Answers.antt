@@ -1,9 +1,9 @@
 use Rattle.std.proofs.Common.{ℕ, List, Option}
-use Rattle.snmpsec_import.specs.declared.types.Types.{Types}
-use Rattle.snmpsec_import.specs.declared.directives.Directive.{Directive}
-use Rattle.snmpsec_import.specs.declared.directives.Directive.TheVariants.{Group, Access, SetAccess, View}
+use Rattle.snmpd_words.specs.declared.types.Types.{Types}
+use Rattle.snmpd_words.specs.declared.directives.Directive.{Directive}
+use Rattle.snmpd_words.specs.declared.directives.Directive.TheVariants.{Group, Access, SetAccess, AuthAccess, View}
 use Rattle.snmpsec_import.specs.declared.simple.SimpleKind.{SimpleKind}
-use Rattle.snmpsec_import.specs.declared.fault.LineFault.{LineFault}
+use Rattle.snmpd_words.specs.declared.fault.LineFault.{LineFault}
 use Rattle.snmpsec_import.specs.Simple.{IsSimple, TellsNoSimple}
 use Rattle.snmpsec_import.specs.Entries.{TellsNoRow}
 use Rattle.snmpsec_import.proofs.entries.simple_entry.Goals as goal
@@ -13,6 +13,7 @@ tells_simple : (directive : Directive) (kind : SimpleKind) (given : Option Types
 tells_simple Group kind given text fault is tells = absurd (cc is)
 tells_simple Access kind given text fault is tells = absurd (cc is)
 tells_simple SetAccess kind given text fault is tells = absurd (cc is)
+tells_simple AuthAccess kind given text fault is tells = absurd (cc is)
 tells_simple View kind given text fault is tells = absurd (cc is)
 tells_simple directive kind given text fault is tells = (kind, given, is, tells)
 

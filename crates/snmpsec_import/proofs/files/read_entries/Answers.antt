@@ -1,7 +1,7 @@
 use Rattle.std.proofs.Common.{◌≡◌, ℕ, true, Bool, List, [], ◌∷◌, length, refl, subst, arith, append-nil}
 use Rattle.std.specs.Prelude.{◌==◌}
 use Rattle.std.proofs.lemmas.Bool.Decides.{nat_tests}
-use Rattle.snmpsec_import.specs.declared.lines.Section.TheVariants as sections
+use Rattle.snmpd_words.specs.declared.lines.Section.TheVariants as sections
 use Rattle.snmpsec_import.specs.Files.{AreEntries}
 use Rattle.snmpsec_import.proofs.files.read_entries.Goals as goal
 

@@ -1,6 +1,6 @@
 use Rattle.std.proofs.Common.{List, ◌++◌, length}
 use Rattle.snmpsec_import.specs.declared.entries.Entry.{Entry}
-use Rattle.snmpsec_import.specs.declared.lines.Section.TheVariants as sections
+use Rattle.snmpd_words.specs.declared.lines.Section.TheVariants as sections
 use Rattle.snmpsec_import.specs.Files.{AreEntries}
 use Rattle.snmpsec_import.proofs.files.read_entries.Given as goal
 

@@ -49,7 +49,7 @@ returns-clause-says c =
         model = refl;
         level = refl;
         matching = refl;
-        word = refl;
+        types = c.only.ensures;
         is_view = c.in-Some-view_name.ensures.found;
       };
     }

@@ -1,11 +1,11 @@
 use Rattle.std.proofs.Common.{ℕ, List, Option}
 use Rattle.std.specs.Option.{option_map}
 use Rattle.snmpsec_import.specs.Simple.{HasTypes, HasNamed, TellsNoView, TellsNoSimple}
-use Rattle.snmpsec_import.specs.declared.types.Types.{Types}
+use Rattle.snmpd_words.specs.declared.types.Types.{Types}
 use Rattle.snmpsec_import.specs.declared.simple.SimpleKind.{SimpleKind}
 use Rattle.snmpsec_import.specs.declared.simple.Named.{Named}
-use Rattle.snmpsec_import.specs.declared.fault.LineFault.{LineFault}
-use Rattle.snmpsec_import.specs.declared.fault.LineFault.TheVariants.{Refused, Undefined, NotInNumbers, OutOfReach, OutOfMemory}
+use Rattle.snmpd_words.specs.declared.fault.LineFault.{LineFault}
+use Rattle.snmpd_words.specs.declared.fault.LineFault.TheVariants.{Refused, Undefined, NotInNumbers, OutOfReach, OutOfMemory}
 use Rattle.snmpsec_import.proofs.simple.simple_line.Goals as goal
 
 tells_reach : (kind : SimpleKind) (given : Option Types) (text : List ℕ) (fault : LineFault) (types : Types) (named : Named) (behind_types : List ℕ)

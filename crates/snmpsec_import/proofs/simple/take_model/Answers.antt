@@ -1,11 +1,11 @@
 use Rattle.std.proofs.Common.{Bor, ◌≡◌, ℕ, List, Option, Result, Ok, Err, Some, IfOk, IfErr, inr, sym, subst, ◌∙◌, rules}
 use Rattle.std.specs.Option.{option_map}
-use Rattle.snmpsec_import.specs.Words.{TakesWord}
+use Rattle.snmpd_words.specs.Words.{TakesWord}
 use Rattle.snmpsec_import.specs.Simple.{HasModelBehind, HasModel, TellsNoModelBehind, TellsNoModel}
 use Rattle.snmpsec_import.specs.declared.simple.Modeled.{Modeled}
-use Rattle.snmpsec_import.specs.declared.fault.Refusal.TheVariants as refusals
-use Rattle.snmpsec_import.specs.declared.fault.LineFault.{LineFault}
-use Rattle.snmpsec_import.specs.declared.fault.LineFault.TheVariants.{Refused}
+use Rattle.snmpd_words.specs.declared.fault.Refusal.TheVariants as refusals
+use Rattle.snmpd_words.specs.declared.fault.LineFault.{LineFault}
+use Rattle.snmpd_words.specs.declared.fault.LineFault.TheVariants.{Refused}
 use Rattle.snmpsec_import.proofs.simple.take_model.Goals as goal
 
 modeled_is : (option other text behind : List ℕ) (r : Result Modeled LineFault) → TakesWord 255 text option (Some behind)

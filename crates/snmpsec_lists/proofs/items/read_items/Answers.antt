@@ -1,7 +1,7 @@
 use Rattle.std.proofs.Common.{◌≡◌, ℕ, true, Bool, List, [], ◌∷◌, ◌++◌, ◌+◌, length, refl, ap, ◌∙◌, subst, sym, arith, append-nil, append_assoc}
 use Rattle.std.specs.Prelude.{◌==◌}
 use Rattle.std.proofs.lemmas.Bool.Decides.{nat_tests}
-use Rattle.snmpsec_import.specs.declared.lines.Section.TheVariants as sections
+use Rattle.snmpd_words.specs.declared.lines.Section.TheVariants as sections
 use Rattle.std.specs.Vec.{vec_len}
 use Rattle.snmpsec_lists.specs.declared.items.Item.{Item}
 use Rattle.snmpsec_lists.specs.Items.{IsItem, AreItems, section_after}

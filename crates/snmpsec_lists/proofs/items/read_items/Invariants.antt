@@ -1,6 +1,6 @@
 use Rattle.std.proofs.Common.{◌≡◌, List, ◌++◌, ◌+◌, length}
 use Rattle.std.specs.Vec.{vec_len}
-use Rattle.snmpsec_import.specs.declared.lines.Section.TheVariants as sections
+use Rattle.snmpd_words.specs.declared.lines.Section.TheVariants as sections
 use Rattle.snmpsec_lists.specs.declared.items.Item.{Item}
 use Rattle.snmpsec_lists.specs.Items.{AreItems}
 use Rattle.snmpsec_lists.proofs.items.read_items.Given as goal

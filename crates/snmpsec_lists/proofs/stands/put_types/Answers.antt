@@ -1,8 +1,8 @@
 use Rattle.std.proofs.Common.{◌≡◌, ℕ, ◌+◌, ◌<◌, List, [], ◌∷◌, ◌++◌, ◌∙◌, ap, sym, take, length, get_or, map, arith}
 use Rattle.std.specs.List.{flat_map}
 use Rattle.std.proofs.lemmas.List.{flat_map_more, take_more}
-use Rattle.snmpsec_import.specs.declared.types.ViewWord.{ViewWord}
-use Rattle.snmpsec_import.specs.declared.types.ViewWord.TheVariants.{Read, Write, Notify, Log, Execute, Net}
+use Rattle.snmpd_words.specs.declared.types.ViewWord.{ViewWord}
+use Rattle.snmpd_words.specs.declared.types.ViewWord.TheVariants.{Read, Write, Notify, Log, Execute, Net}
 use Rattle.snmpsec_lists.specs.Stands.{line_of, set_lines}
 use Rattle.snmpsec_lists.proofs.stands.put_types.Goals as goal
 

@@ -1,0 +1,178 @@
+-- To each question snmpd has one choice, and RFC 3415 rows of one index.
+use Rattle.std.proofs.Common.{◌≡◌, ◌≢◌, ℕ, zero, suc, ◌<◌, ◌≤◌, List, [], ◌∷◌, ◌++◌, take, drop, length, get_or, Contains, Option, Some, None, ◌⊎◌, inl, inr, refl, ap, sym, subst, ◌∙◌, ◌↔◌, append_assoc, append-nil, arith, length-append}
+use Rattle.std.proofs.lemmas.Bool.{cases_lt}
+use Rattle.std.proofs.lemmas.Cmp.{on_total}
+use Rattle.std.proofs.lemmas.List.{take_all, take-append-le, take-append-drop}
+use Rattle.std.proofs.Math.Seq.{take-append_seam}
+use Rattle.std.proofs.lemmas.Map.Lookups.{exact_unsigned}
+use Rattle.snmp_ber.specs.declared.level.Level.{Level}
+use Rattle.snmp_ber.specs.Level.{level_number}
+use Rattle.std.specs.Cmp.{IsTotalOrder}
+use Rattle.std.specs.Ordering.{ordering_then, ordering_reverse}
+use Rattle.std.specs.declared.cmp.Ordering.{Ordering}
+use Rattle.std.specs.declared.cmp.Ordering.TheVariants.{Less, Equal, Greater}
+use Rattle.std.proofs.lemmas.Bool.Decides.{nat_tests}
+use Rattle.vacm_core.specs.Allowed.{IsBestOf, FitsMessage, FitsContext, IsPrefixOf, access_order, specificity}
+use Rattle.vacm_core.specs.Laws.{access_order-total}
+use Rattle.vacm_core.specs.declared.rows.AccessRow.{AccessRow}
+use Rattle.snmpsec_lists.specs.declared.rows.HeldAccess.{HeldAccess}
+use Rattle.snmpsec_lists.specs.declared.questions.Contexts.{Contexts}
+use Rattle.snmpsec_lists.specs.declared.questions.Contexts.TheVariants.{Named, Beyond}
+use Rattle.snmpsec_lists.specs.declared.questions.Question.{Question}
+use Rattle.snmpsec_lists.specs.Questions.{IsAbout, FitsContexts, FitsQuestion, IsNextAt, BestOf, ChoosesAt}
+use Rattle.snmpsec_lists.specs.declared.rows.Place.{Place}
+use Rattle.snmpsec_choices.specs.Differences.{FitsHeld, held_order, HasOneEach, HaveSameViews, ChoosesOther, IsDifference, Differs}
+
+-- ---- snmpd's choice
+
+one_so_far : (Fits : AccessRow → Type 0) (rows : List HeldAccess) (n : ℕ) (a b : Option ℕ) → BestOf Fits rows n a → BestOf Fits rows n b → a ≡ b
+one_so_far Fits rows zero a b x y = x ∙ sym y
+one_so_far Fits rows (suc n) a b x y =
+    let same : x.0 ≡ y.0 = one_so_far Fits rows n x.0 y.0 x.1 y.1 in
+    elim x.2 [
+      | inl taken ↦ elim y.2 [
+        | inl also ↦ taken.1 ∙ sym also.1
+        | inr left ↦ absurd (left.0 (subst (λ o. IsNextAt Fits rows o n) same taken.0))
+      ]
+      | inr left ↦ elim y.2 [
+        | inl taken ↦ absurd (left.0 (subst (λ o. IsNextAt Fits rows o n) (sym same) taken.0))
+        | inr also ↦ left.1 ∙ same ∙ sym also.1
+      ]
+    ]
+
+pub one_choice : (Fits : AccessRow → Type 0) (rows : List HeldAccess) (a b : Option ℕ) → ChoosesAt Fits rows a → ChoosesAt Fits rows b → a ≡ b
+one_choice Fits rows a b x y = one_so_far Fits rows (length rows) a b x y
+
+-- ---- RFC 3415's
+
+-- two rows that no other exceeds are alike in the order
+alike : {R : Type 0} (order : R → R → Ordering) → IsTotalOrder order → (x y : R) → order x y ≢ Less → order y x ≢ Less → order x y ≡ Equal
+alike order laws x y not_below not_above = by (order x y) (order y x) (laws.antisymm x y) not_below not_above
+  where
+    by : (o p : Ordering) → o ≡ ordering_reverse p → o ≢ Less → p ≢ Less → o ≡ Equal
+    by Less p e a b = absurd (a refl)
+    by Equal p e a b = refl
+    by Greater Less e a b = absurd (b refl)
+    by Greater Equal e a b = cc
+    by Greater Greater e a b = cc
+
+then_equal : (o p : Ordering) → ordering_then o p ≡ Equal → (o ≡ Equal) × (p ≡ Equal)
+then_equal Less p h = cc
+then_equal Equal p h = (refl, h)
+then_equal Greater p h = cc
+
+prefix_taken : (row : AccessRow) (context : List ℕ) → FitsContext row context → row.prefix ≡ take (length row.prefix) context
+prefix_taken row context (inl same) = rw same (sym (take_all (length context) context (omega arith)))
+prefix_taken row context (inr part) = rw part.1.1 (sym (take-append_seam row.prefix part.1.0))
+
+model_same : (model : ℕ) (x y : AccessRow) → (x.model ≡ model) ⊎ (x.model ≡ 0) → (y.model ≡ model) ⊎ (y.model ≡ 0) → specificity x ≡ specificity y → x.model ≡ y.model
+model_same model x y f g e = grind (arith, nat_tests)
+
+name_of : Contexts → List ℕ
+name_of (Named name) = name
+name_of (Beyond name) = name
+
+fits_at : (group : List ℕ) (model : ℕ) (level : Level) (contexts : Contexts) (row : AccessRow) → FitsContexts group model level contexts row
+    → (name : List ℕ) × FitsMessage group model level name row × (name ≡ name_of contexts)
+unfolding name_of
+fits_at group model level (Named name) row f = (name, f, refl)
+fits_at group model level (Beyond name) row f = (name, f.1, refl)
+
+fits_name : (q : Question) (row : AccessRow) → FitsQuestion q row → FitsMessage q.group q.model q.level (name_of q.contexts) row
+fits_name q row f =
+    let at = fits_at q.group q.model q.level q.contexts row f in
+    subst (λ name. FitsMessage q.group q.model q.level name row) at.2 at.1
+
+pub one_best : (kept : List HeldAccess) → HasOneEach kept → (q : Question) (x y : HeldAccess) → IsBestOf kept (FitsHeld q) held_order x
+    → IsBestOf kept (FitsHeld q) held_order y → x.row ≡ y.row
+one_best kept one q x y b d =
+    let f = fits_name q x.row b.fits in
+    let g = fits_name q y.row d.fits in
+    let total = on_total (λ (h : HeldAccess). h.row) access_order-total in
+    let order = alike held_order total x y (b.unexceeded y d.in_table d.fits) (d.unexceeded x b.in_table b.fits) in
+    let first = then_equal _ _ order in
+    let second = then_equal _ _ first.1 in
+    let model : x.row.model ≡ y.row.model = model_same q.model x.row y.row f.fits_model g.fits_model (exact_unsigned _ _ first.0) in
+    let len : length x.row.prefix ≡ length y.row.prefix = exact_unsigned _ _ second.0 in
+    let prefix : x.row.prefix ≡ y.row.prefix =
+    prefix_taken x.row (name_of q.contexts) f.fits_context ∙ ap (λ n. take n (name_of q.contexts)) len ∙ sym (prefix_taken y.row (name_of q.contexts) g.fits_context) in
+    let level : level_number x.row.level ≡ level_number y.row.level = exact_unsigned _ _ second.1 in
+    let in_group : x.row.group ≡ y.row.group = f.same_group ∙ sym g.same_group in
+    one x y b.in_table d.in_table in_group prefix model level
+
+-- ---- contexts
+
+prefix_on : (a b c : List ℕ) → IsPrefixOf a b → IsPrefixOf b c → IsPrefixOf a c
+prefix_on a b c p q = (p.0 ++ q.0, q.1 ∙ ap (λ xs. xs ++ q.0) p.1 ∙ append_assoc a p.0 q.0)
+
+-- of two fronts of one text the shorter is a front of the longer
+prefix_within : (a b c : List ℕ) → IsPrefixOf a c → IsPrefixOf b c → length a ≤ length b → IsPrefixOf a b
+prefix_within a b c p q short =
+    let front : take (length a) c ≡ a = ap (take (length a)) p.1 ∙ take-append_seam a p.0 in
+    let within : take (length a) c ≡ take (length a) b = ap (take (length a)) q.1 ∙ take-append-le (length a) b q.0 short in
+    (drop (length a) b, sym (take-append-drop (length a) b) ∙ ap (λ xs. xs ++ drop (length a) b) (sym within ∙ front))
+
+-- a front that isn't the whole is shorter
+shorter : (a b : List ℕ) → IsPrefixOf a b → b ≢ a → length a < length b
+shorter a b p other = by a b p.0 p.1 other
+  where
+    by : (a b rest : List ℕ) → b ≡ a ++ rest → b ≢ a → length a < length b
+    by a b [] is other = absurd (other (is ∙ append-nil a))
+    by a b (x ∷ rest) is other = let long = length-append a (x ∷ rest) in let same = ap length is in omega (arith, long, same)
+
+module _ (rows : List HeldAccess) (group : List ℕ) (model : ℕ) (level : Level) (context : List ℕ) (held : HeldAccess) (there : Contains rows held) where
+  pub about_is : (contexts : Contexts) → IsAbout rows group contexts context → FitsContexts group model level contexts held.row ↔ FitsMessage group model level context held.row
+  about_is (Named name) about =
+      (λ f. subst (λ c. FitsMessage group model level c held.row) (sym about) f, λ f. subst (λ c. FitsMessage group model level c held.row) about f)
+  about_is (Beyond name) about = (
+    λ f. record {
+      same_group = f.1.same_group;
+      fits_model = f.1.fits_model;
+      fits_context = elim f.1.fits_context [
+        | inl same ↦ inr (f.0, subst (λ xs. IsPrefixOf xs context) (sym same) about.0)
+        | inr part ↦ inr (f.0, prefix_on held.row.prefix name context part.1 about.0)
+      ];
+      fits_level = f.1.fits_level;
+    },
+    λ f. elim f.fits_context [
+      | inl same ↦ absurd
+          (about.2 held there f.same_group (let longer = shorter name context about.0 about.1 in subst (λ xs. length name < length xs) (sym same) longer)
+          ([], sym same ∙ sym (append-nil held.row.prefix)))
+      | inr part ↦ elim (cases_lt (length name) (length held.row.prefix)) [
+        | inl longer ↦ absurd (about.2 held there f.same_group longer part.1)
+        | inr short ↦ (
+          part.0,
+          record {
+            same_group = f.same_group;
+            fits_model = f.fits_model;
+            fits_context = inr (part.0, prefix_within held.row.prefix name context part.1 about.0 short);
+            fits_level = f.fits_level;
+          },
+        )
+      ]
+    ],
+  )
+
+-- ---- differences
+
+pub no_choice : (held kept : List HeldAccess) (q : Question) → ChoosesAt (FitsQuestion q) held None → Differs held kept q → ⊥
+no_choice held kept q none d =
+    let chosen = subst (λ x. ChoosesAt (FitsQuestion x) held (Some d.2.at)) d.1 d.2.chosen in
+    let same = one_choice (FitsQuestion q) held None (Some d.2.at) none chosen in
+    cc same
+
+no_other : (kept : List HeldAccess) → HasOneEach kept → (q : Question) (there here : HeldAccess) → IsBestOf kept (FitsHeld q) held_order here
+    → HaveSameViews there.row here.row → (o : Option Place) → ChoosesOther kept q there.row o → ⊥
+no_other kept one q there here best same None none = none here best.in_table best.fits
+no_other kept one q there here best same (Some place) other =
+    other.2 (subst (λ (r : AccessRow). HaveSameViews there.row r) (sym (one_best kept one q other.0 here other.1 best)) same)
+
+pub same_views : (held kept : List HeldAccess) → HasOneEach kept → (q : Question) (at : ℕ) (there here : HeldAccess) → ChoosesAt (FitsQuestion q) held (Some at)
+    → there ≡ get_or held at there → IsBestOf kept (FitsHeld q) held_order here → HaveSameViews there.row here.row → Differs held kept q → ⊥
+same_views held kept one q at there here chosen stands best same d =
+    let also = subst (λ x. ChoosesAt (FitsQuestion x) held (Some d.2.at)) d.1 d.2.chosen in
+    let alike = one_choice (FitsQuestion q) held (Some d.2.at) (Some at) also chosen in
+    let place : d.2.at ≡ at = cc alike in
+    let row : get_or held d.2.at there ≡ there = ap (λ k. get_or held k there) place ∙ sym stands in
+    no_other kept one q there here best same d.0.other
+    (subst (λ x. ChoosesOther kept x there.row d.0.other) d.1 (subst (λ (h : HeldAccess). ChoosesOther kept d.0.question h.row d.0.other) row (d.2.other there)))
