@@ -1,4 +1,13 @@
 //! Lines and words of snmpd.conf, as net-snmp 5.9.3 cuts and reads them: directives, models, levels, types of views, subtrees and masks.
+//!
+//! ```
+//! use snmp_ber::Level;
+//! use snmpd_words::{level_of, model_of};
+//!
+//! assert_eq!(rt; model_of(b"usm"), Some(3));
+//! assert_eq!(rt; model_of(b"v3"), None);
+//! assert_eq!(rt; level_of(b"Priv"), Some(Level::AuthPriv));
+//! ```
 #![tactic(auto)]
 
 mod directives;

@@ -1,4 +1,14 @@
 //! What is no fault in a configuration and hardly meant: names of one table that no row of another has, and a write view without authentication.
+//!
+//! ```
+//! use snmpsec_config::AccessConfig;
+//! use snmpsec_hints::hint_text;
+//!
+//! let text = b"[[group]]\nmodel = 3\nname = 'ann'\ngroup = 'g'\n";
+//! let config = AccessConfig::read(rt.alloc(), text)?;
+//! let hints = hint_text(rt.alloc(), &config.rows)?;
+//! assert!(rt; hints.starts_with(b"snmpsec: group 0"));
+//! ```
 #![tactic(auto)]
 
 mod hint;
