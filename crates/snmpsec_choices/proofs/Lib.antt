@@ -1,3 +1,3 @@
-pub mod Best
+pub mod Bests
 pub mod Choosing
 pub mod Telling

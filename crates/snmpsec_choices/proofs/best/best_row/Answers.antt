@@ -2,7 +2,7 @@ use Rattle.std.proofs.Common.{◌≡◌, true, false, refl, arith}
 use Rattle.std.proofs.lemmas.List.{take_all}
 use Rattle.std.proofs.lemmas.Cmp.{on_total}
 use Rattle.vacm_core.specs.Laws.{access_order-total}
-use Rattle.snmpsec_choices.proofs.Best.{passed_over-more, kept-more, taken-more, at_end}
+use Rattle.snmpsec_choices.proofs.Bests.{passed_over-more, kept-more, taken-more, at_end}
 use Rattle.snmpsec_lists.specs.declared.rows.HeldAccess.{HeldAccess}
 use Rattle.snmpsec_choices.specs.Differences.{FitsHeld, held_order}
 use Rattle.snmpsec_choices.proofs.best.best_row.Goals as goal

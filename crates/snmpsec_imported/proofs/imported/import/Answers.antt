@@ -5,8 +5,8 @@ use Rattle.snmpsec_imported.specs.Rows.{TellsAll}
 use Rattle.snmpsec_imported.proofs.OneEach.{one_each}
 use Rattle.snmpsec_imported.proofs.imported.import.Goals as goal
 
-pub all_notes-notes-requires : goal.all_notes-notes-requires
-all_notes-notes-requires c = one_each c.in_ok-kept.kept c.in_ok-text.text.items c.in_ok-text.ensures
+pub all_notes-requires : goal.all_notes-requires
+all_notes-requires c = one_each c.in_ok-kept.kept c.in_ok-text.text.items c.in_ok-text.ensures
 
 pub returns : goal.returns
 returns c = record {

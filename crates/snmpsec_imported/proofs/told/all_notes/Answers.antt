@@ -1,6 +1,7 @@
 use Rattle.std.proofs.Common.{◌++◌, ◌∙◌, map, ap}
 use Rattle.std.proofs.lemmas.List.{map-append}
-use Rattle.snmpsec_imported.specs.Notes.{told_of, change_told, difference_told}
+use Rattle.std.specs.List.{flat_map}
+use Rattle.snmpsec_imported.specs.Notes.{tells, told_of, change_told, difference_told}
 use Rattle.snmpsec_imported.proofs.told.all_notes.Goals as goal
 
 pub returns : goal.returns
@@ -14,5 +15,5 @@ returns c = record {
       (ap (map told_of) c.in_ok-append.ensures.items ∙ map-append told_of c.put_changes.new.notes.items c.in_ok-second_notes.field-0.items
       ∙ ap (λ front. front ++ map told_of c.in_ok-second_notes.field-0.items)
       (c.in_ok-put_changes.ensures ∙ ap (λ front. front ++ map change_told c.deref.result.now) c.in_ok-notes.ensures
-      ∙ ap (λ changes. _ ++ map change_told changes) c.deref.ensures.value));
+      ∙ ap (λ changes. flat_map tells c.args.lines.now ++ map change_told changes) c.deref.ensures.value));
 }
