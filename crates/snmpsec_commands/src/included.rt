@@ -20,7 +20,7 @@ pub(crate) struct Sources {
 
 /// A line that asks for other files.
 #[derive(Drop)]
-struct Include {
+struct IncludeLine {
     place: Place,
     word: Vec<u8>,
 }
@@ -56,10 +56,10 @@ impl Sources {
     }
 
     /// Puts what came of a line.
-    fn tell(&mut self, asking: Include, followed: Followed) -> Result<(), AllocError> {
+    fn tell(&mut self, line: IncludeLine, followed: Followed) -> Result<(), AllocError> {
         self.items.push(Item {
-            place: asking.place,
-            word: asking.word,
+            place: line.place,
+            word: line.word,
             made: Made::Followed(followed),
         })?;
         Ok(())
@@ -70,18 +70,18 @@ impl Sources {
 fn follow_file<R: Files + AllocGlobal>(
     rt: &R,
     sources: &mut Sources,
-    asking: Include,
+    line: IncludeLine,
     path: &str,
 ) -> Result<(), AllocError> {
     if sources.names.len() >= FILES_MAX {
-        return sources.tell(asking, Followed::TooDeep);
+        return sources.tell(line, Followed::TooDeep);
     }
     match read_file(rt, path) {
         Ok(text) => {
-            sources.tell(asking, Followed::Read)?;
+            sources.tell(line, Followed::Read)?;
             sources.put(rt.alloc(), path, &text)
         }
-        Err(FileFault::CannotRead) => sources.tell(asking, Followed::Unread),
+        Err(FileFault::CannotRead) => sources.tell(line, Followed::Unread),
         Err(FileFault::OutOfMemory) => Err(AllocError),
     }
 }
@@ -147,26 +147,26 @@ fn read_folder<R: Files + AllocGlobal>(rt: &R, path: &str) -> Result<Vec<String>
 fn follow_folder<R: Files + AllocGlobal>(
     rt: &R,
     sources: &mut Sources,
-    asking: Include,
+    line: IncludeLine,
     folder: &str,
 ) -> Result<(), AllocError> {
     let alloc = rt.alloc();
     let names = match read_folder(rt, folder) {
         Ok(names) => names,
-        Err(FileFault::CannotRead) => return sources.tell(asking, Followed::Unread),
+        Err(FileFault::CannotRead) => return sources.tell(line, Followed::Unread),
         Err(FileFault::OutOfMemory) => return Err(AllocError),
     };
     for name in &names {
-        let word = Vec::from_slice(alloc, &asking.word)?;
-        let file = Include {
-            place: asking.place,
+        let word = Vec::from_slice(alloc, &line.word)?;
+        let file = IncludeLine {
+            place: line.place,
             word,
         };
         let path = format!(in alloc; "{folder}{name}")?;
         follow_file(rt, sources, file, path.as_str())?;
     }
     if names.len() > 1 {
-        return sources.tell(asking, Followed::Several);
+        return sources.tell(line, Followed::Several);
     }
     Ok(())
 }
@@ -196,16 +196,16 @@ fn follow_item<R: Files + AllocGlobal>(
             return Ok(());
         }
     };
-    let asking = Include { place, word };
+    let line = IncludeLine { place, word };
     let Ok(name) = str::from_utf8(&name) else {
-        return sources.tell(asking, Followed::Unread);
+        return sources.tell(line, Followed::Unread);
     };
     if is_folder {
         let folder = with_slash(alloc, name)?;
-        return follow_folder(rt, sources, asking, folder.as_str());
+        return follow_folder(rt, sources, line, folder.as_str());
     }
     let path = path_of(alloc, &sources.names, place, name)?;
-    follow_file(rt, sources, asking, path.as_str())
+    follow_file(rt, sources, line, path.as_str())
 }
 
 /// Puts other files in the places of the lines that name them, but for the lines of those files.
