@@ -6,27 +6,44 @@
 //! ```
 //! use engine_clock::{Clocks, EngineId};
 //! use snmp_engine::{Agent, Answer, Manager, answer_of};
+//! use std::alloc::Global;
 //! use usm_core::Users;
 //! use vacm_core::{Rows, Vacm};
 //!
-//! let users = Users::load(rt.alloc(), &[])?;
-//! let engine = EngineId::of(b"\x80\x00\x1f\x88\x04k").ok_or("an engine ID")?;
-//! let rows = Rows {
-//!     contexts: Vec::new(rt.alloc()),
-//!     groups: Vec::new(rt.alloc()),
-//!     access: Vec::new(rt.alloc()),
-//!     families: Vec::new(rt.alloc()),
-//! };
-//! let vacm = Vacm::load(rt.alloc(), &rows)?;
-//! let mut manager = Manager::new(rt.alloc(), users.try_clone()?, Clocks::new(rt.alloc()));
-//! let mut agent = Agent::new(rt.alloc(), engine.clone()?, 1, 0, users, vacm);
+//! /// An agent without users and rows, of boots 1.
+//! fn agent(alloc: Global, engine: EngineId) -> Result<Agent, Fail> {
+//!     let rows = Rows {
+//!         contexts: Vec::new(alloc),
+//!         groups: Vec::new(alloc),
+//!         access: Vec::new(alloc),
+//!         families: Vec::new(alloc),
+//!     };
+//!     let vacm = Vacm::load(alloc, &rows)?;
+//!     let users = Users::load(alloc, &[])?;
+//!     Ok(Agent::new(alloc, engine, 1, 0, users, vacm))
+//! }
 //!
-//! let (request, pending) = manager.discover(7)?;
-//! let refused = agent.take(1000, &request).err().ok_or("a refusal")?;
-//! let report = refused.report.ok_or("a report")?;
-//! let taken = manager.take(2000, &report)?;
-//! assert_eq!(rt; taken.engine, engine);
-//! assert_eq!(rt; answer_of(&pending, &taken), Answer::Report(4));
+//! /// The report of an agent on a request.
+//! fn report_on(alloc: Global, request: &[u8]) -> Result<Vec<u8>, Fail> {
+//!     let engine = EngineId::of(b"\x80\x00\x1f\x88\x04k").ok_or("an engine ID")?;
+//!     let mut agent = agent(alloc, engine)?;
+//!     match agent.take(1000, request) {
+//!         Ok(_) => Err("a refusal".into()),
+//!         Err(refused) => Ok(refused.report.ok_or("a report")?),
+//!     }
+//! }
+//!
+//! /// What the report is to a manager that discovers.
+//! fn discovery(alloc: Global, manager: &mut Manager) -> Result<Answer, Fail> {
+//!     let (request, pending) = manager.discover(7)?;
+//!     let report = report_on(alloc, &request)?;
+//!     let taken = manager.take(2000, &report)?;
+//!     Ok(answer_of(&pending, &taken))
+//! }
+//!
+//! let users = Users::load(rt.alloc(), &[])?;
+//! let mut manager = Manager::new(rt.alloc(), users, Clocks::new(rt.alloc()));
+//! assert_eq!(rt; discovery(rt.alloc(), &mut manager)?, Answer::Report(4));
 //! ```
 #![tactic(auto)]
 
