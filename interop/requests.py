@@ -39,12 +39,8 @@ def children(octets):
     return found
 
 
-def main():
-    port, user, password = int(sys.argv[1]), sys.argv[2].encode(), sys.argv[3].encode()
-    seconds = float(sys.argv[4]) if len(sys.argv) > 4 else 5
-    sock = socket.socket(socket.AF_INET, socket.SOCK_DGRAM)
-    sock.connect(("127.0.0.1", port))
-    sock.settimeout(2)
+def asked(sock, user, password):
+    """A signed GetRequest of sysDescr.0 that the agent behind the socket answers within the time window."""
     empty = tlv(0xA0, number(1) + number(0) + number(0) + tlv(0x30, b""))
     sock.send(message(4, b"", 0, 0, b"", b"", empty))
     fields = children(children(children(children(sock.recv(65536))[0])[2])[0])
@@ -55,7 +51,21 @@ def main():
     pdu = tlv(0xA0, number(1) + number(0) + number(0) + tlv(0x30, tlv(0x30, name + tlv(5, b""))))
     unsigned = message(5, engine, boots, at, user, bytes(12), pdu)
     code = hmac.new(key, unsigned, "sha1").digest()[:12]
-    signed = message(5, engine, boots, at, user, code, pdu)
+    return message(5, engine, boots, at, user, code, pdu)
+
+
+def connected(port):
+    sock = socket.socket(socket.AF_INET, socket.SOCK_DGRAM)
+    sock.connect(("127.0.0.1", port))
+    sock.settimeout(2)
+    return sock
+
+
+def main():
+    port, user, password = int(sys.argv[1]), sys.argv[2].encode(), sys.argv[3].encode()
+    seconds = float(sys.argv[4]) if len(sys.argv) > 4 else 5
+    sock = connected(port)
+    signed = asked(sock, user, password)
     for _ in range(16):
         sock.send(signed)
     count, end = 0, time.monotonic() + seconds
@@ -67,4 +77,5 @@ def main():
     print(f"{count / seconds:.0f} requests a second")
 
 
-main()
+if __name__ == "__main__":
+    main()

@@ -39,8 +39,39 @@ def crates_named(rt, names):
     return [it for it in crates if not names or it.name in names]
 
 
+def built_from(rt, crate):
+    """What the library is built from, as it stands now: the sources, and the libraries below it."""
+    sums = []
+    for dep in crate.below():
+        lines = (rt.rtlib.text_of(f"{dep.rlib}/format") or "").split("\n")
+        sums += [f"{dep.name} {line}" for line in lines if line.startswith("sum ")] or [f"{dep.name} isn't there"]
+    return "\n".join([crate.stamp(), *sums])
+
+
+def note_built(crate, built):
+    """Notes beside the library from what it was built."""
+    with open(f"{crate.folder}/out/rlib/sources", "w", encoding="utf-8") as it:
+        it.write(built)
+
+
+def is_noted(rt, crate):
+    """Whether the library is there, and is noted to be built from what stands now."""
+    return os.path.exists(f"{crate.rlib}/format") and rt.rtlib.text_of(f"{crate.folder}/out/rlib/sources") == built_from(rt, crate)
+
+
 def is_there(rt, crate):
-    """Whether the library is built: by what rt notes of it, or as rt ci leaves it, which is newer than each source of it or below it."""
+    """Whether the library is built: by what rt or these tools note of it, or as rt ci leaves it, which is newer than each source of it or below it."""
     files = [file for it in [crate, *crate.below()] for file in rt.rtlib.files_of(it.folder)]
     made = f"{crate.rlib}/format"
-    return crate.is_built() or os.path.exists(made) and os.path.getmtime(made) > max(map(os.path.getmtime, files))
+    return crate.is_built() or is_noted(rt, crate) or os.path.exists(made) and os.path.getmtime(made) > max(map(os.path.getmtime, files))
+
+
+def build_library(rt, crate, flags):
+    """Proves a library and builds it over the libraries below it as they lie there; the status of the command. It is built as its statements alone, but over
+    one that keeps its work that can't be."""
+    built = built_from(rt, crate)
+    keeps = any(os.path.isdir(f"{it.folder}/out/incremental") for it in [crate, *crate.below()])
+    status = crate.build_rlib(flags, anew=not keeps)
+    if not status:
+        note_built(crate, built)
+    return status

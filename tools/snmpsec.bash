@@ -55,8 +55,8 @@ _snmpsec() {
       manual:1) choices='show open check-access explain-access who-sees sees check-config import-snmpd replay merge-clocks check-clocks check-log datagrams manual version' ;;
     esac
     case $command in
-      show) choices="$choices --names --why --from --form --port --moment" ;;
-      open) choices="$choices --names --why --from --form --port --moment" ;;
+      show) choices="$choices --names --why --from --form --port --moment --ip" ;;
+      open) choices="$choices --names --why --from --form --port --moment --ip" ;;
       check-access) choices="$choices --why" ;;
       explain-access) choices="$choices --why" ;;
       who-sees) choices="$choices --users --why" ;;
@@ -67,7 +67,7 @@ _snmpsec() {
       merge-clocks) choices="$choices --moment --why" ;;
       check-clocks) choices="$choices --why" ;;
       check-log) choices="$choices --why" ;;
-      datagrams) choices="$choices --form --why --port --moment" ;;
+      datagrams) choices="$choices --form --why --port --moment --ip" ;;
       manual) choices="$choices --why" ;;
       version) choices="$choices --why" ;;
     esac

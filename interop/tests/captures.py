@@ -2,8 +2,8 @@
 """Compares the log that `snmpsec datagrams` prints of captures with what tshark shows of them: captures.py PROGRAM
 
 Captures are made of packets of each kind that the slow model writes, of examples/replay/captured.pcap, of that one by editcap in other
-formats and cut, of all these in pcapng, and by tcpdump of the same exchange over the loopback link, where it may listen there. What differs is
-printed, and the status is then 1. Of a datagram that is cut short and of a first piece tshark shows what there is, so the records that the program tells are left out.
+formats and cut, of all these in pcapng, and by tcpdump of the same exchange over the loopback link, where it may listen there. Of tcpdump's dumps
+of captures with whole records `snmpsec datagrams --ip` prints the same octets, and tells the same. What differs is printed, and the status is then 1. Of a datagram that is cut short and of a first piece tshark shows what there is, so the records that the program tells are left out.
 """
 import pathlib
 import re
@@ -42,6 +42,16 @@ def differs(program, path, ports):
     told = {int(it) for it in TOLD.findall(done.stderr)}
     wanted = "".join(f"{moment} {octets}\n" for moment, octets, number in shown(path, ports) if number not in told)
     return None if (done.stdout, done.returncode) == (wanted, 0) else f"{path}: tshark: {wanted!r}, the program: {done}"
+
+
+def dumps_differ(program, path):
+    """What the program says of the records of a capture, and of tcpdump's dumps of them, where that isn't the same but for the moments."""
+    dumps = subprocess.run(["tcpdump", "-r", path, "-n", "-x"], capture_output=True, check=False).stdout
+    said = []
+    for words in [path], ["--ip", "-"]:
+        done = subprocess.run([program, "datagrams", *words], input=dumps, capture_output=True, check=False)
+        said.append(([line.split()[1] for line in done.stdout.splitlines()], done.stderr, done.returncode))
+    return None if said[0] == said[1] else f"{path}: by its records {said[0]}, by tcpdump's dumps {said[1]}"
 
 
 def made():
@@ -109,12 +119,16 @@ def main():
             for path, ports in list(tried):
                 tried.append((f"{path}.pcapng", ports))
                 subprocess.run(["editcap", "-F", "pcapng", path, tried[-1][0]], check=True, stderr=subprocess.DEVNULL)
+        wrong = []
+        if shutil.which("tcpdump"):
+            whole = [path for path, ports in tried if not path.endswith(("cut.pcap", ".pcapng"))]
+            wrong = [it for it in (dumps_differ(program, path) for path in whole) if it]
         port = heard(f"{room}/heard.pcap") if shutil.which("tcpdump") else None
         if port:
             tried.append((f"{room}/heard.pcap", [port]))
         else:
             print("skipped: tcpdump isn't installed, or may not listen on the loopback link", file=sys.stderr)
-        wrong = [it for it in (differs(program, path, ports) for path, ports in tried) if it]
+        wrong += [it for it in (differs(program, path, ports) for path, ports in tried) if it]
     print("\n".join(wrong) if wrong else f"{len(tried)} captures as tshark shows them")
     return 1 if wrong else 0
 

@@ -6,6 +6,7 @@ mod of_snmp_msg;
 mod of_snmpd_words;
 mod of_snmpsec_capture;
 mod of_snmpsec_choices;
+mod of_snmpsec_dump;
 mod of_snmpsec_hex;
 mod of_snmpsec_import;
 mod of_snmpsec_lists;

@@ -1,4 +1,4 @@
-//! Tests of the lowest libraries over their public items: elements and numbers, messages, clocks, access, captures, hex, lines of snmpd.conf.
+//! Tests of the lowest libraries over their public items: elements and numbers, messages, clocks, access, captures, hex, dumps, lines of snmpd.conf.
 #![tactic(auto)]
 
 #[cfg(test)]
@@ -13,6 +13,8 @@ mod snmp_msg_tests;
 mod snmpsec_capture_tests;
 #[cfg(test)]
 mod snmpsec_choices_tests;
+#[cfg(test)]
+mod snmpsec_dump_tests;
 #[cfg(test)]
 mod snmpsec_hex_tests;
 #[cfg(test)]

@@ -1,6 +1,7 @@
 //! Captures that are read, and the first octet at which one isn't.
 
 mod blocks;
+mod packets;
 mod records;
 
 use snmpsec_capture::{CaptureFault, Found, Tally, find_datagram, write_datagrams};

@@ -7,6 +7,7 @@ mod lines;
 mod settings;
 mod simple;
 mod subtrees;
+mod users;
 mod values;
 mod views;
 mod words;

@@ -1,16 +1,15 @@
 -- Reports and tooBigs are short.
 use Rattle.std.proofs.Common.{◌≡◌, ℕ, ℤ, pos, ◌+◌, ◌-◌, ◌<◌, ◌≤◌, ◌^◌, List, [], ◌∷◌, ◌++◌, length, refl, sym, subst, arith, rules}
-use Rattle.std.specs.Int.{w64, to_be_bytes, cast_unsigned}
-use Rattle.std.proofs.lemmas.List.{length-append, length-drop}
+use Rattle.std.proofs.lemmas.List.{length-append}
 use Rattle.snmp_ber.specs.Element.{IsTag, IsElement}
 use Rattle.snmp_ber.specs.Oid.{identifier}
-use Rattle.snmp_ber.specs.Spelling.{element, integer, octet_count}
+use Rattle.snmp_ber.specs.Spelling.{element, integer}
 use Rattle.snmp_ber.proofs.Identifiers.{subidentifiers-short}
 use Rattle.snmp_message.specs.Scoped.{contexts_text, scoped_text}
 use Rattle.snmp_msg.specs.Variables.{Variable, variable_content, variable_text, variables_text}
 use Rattle.snmp_message.specs.Spelling.{signed}
 use Rattle.snmp_msg.specs.Pdu.{PduParts, pdu_with, pdu_content_text, pdu_text}
-use Rattle.snmp_message.proofs.Lengths.{element_between}
+use Rattle.snmp_message.proofs.Lengths.{element_between, integer_most, length_of_three, length_of_four, signed_most}
 use Rattle.snmp_sending.specs.Counters.{counter_name}
 use Rattle.engine_clock.specs.Pairs.{BootsAndTime, IsPair}
 use Rattle.usm_core.specs.Sealed.{SendingFits}
@@ -21,28 +20,6 @@ use Rattle.snmp_sending.specs.Counters.{name_of}
 use Rattle.snmp_agent.specs.Dispatch.{count_variable}
 use Rattle.snmp_agent.specs.Report.{counter_variable, reporting}
 
-eight_octets : (n : ℕ) → length (to_be_bytes w64 n) ≡ 8
-eight_octets n = refl
-
-integer_most : (z : ℤ) → length (integer z) ≤ 8
-unfolding integer
-integer_most z =
-    let octets = to_be_bytes w64 (cast_unsigned w64 z) in
-    let cut = length-drop (8 - octet_count z) octets in
-    omega (arith, cut, eight_octets (cast_unsigned w64 z))
-
-signed_most : (z : ℤ) → length (signed z) ≤ 14
-signed_most z = let e = element_between 2 (integer z) in let i = integer_most z in omega (arith, e.1, i)
-
-two : (a b : List ℕ) → length (a ++ b) ≡ length a + length b
-two a b = length-append a b
-
-three : (a b c : List ℕ) → length (a ++ (b ++ c)) ≡ length a + (length b + length c)
-three a b c = rw (length-append a (b ++ c), length-append b c) refl
-
-four : (a b c d : List ℕ) → length (a ++ (b ++ (c ++ d))) ≡ length a + (length b + (length c + length d))
-four a b c d = rw (length-append a (b ++ (c ++ d)), length-append b (c ++ d), length-append c d) refl
-
 name_most : (k : ℕ) → length (identifier (counter_name k)) ≤ 50
 unfolding identifier
 name_most k = let short = subidentifiers-short (43 ∷ 6 ∷ 1 ∷ 6 ∷ 3 ∷ 15 ∷ 1 ∷ 1 ∷ k ∷ 0 ∷ []) in omega (arith, short)
@@ -51,21 +28,21 @@ variable_most : (k value : ℕ) → length (variable_text (counter_variable k va
 unfolding variable_text variable_content
 variable_most k value =
     let whole = element_between 48 (element 6 (identifier (counter_name k)) ++ element 65 (integer (pos value))) in
-    let joined = two (element 6 (identifier (counter_name k))) (element 65 (integer (pos value))) in
+    let joined = length-append (element 6 (identifier (counter_name k))) (element 65 (integer (pos value))) in
     let name = element_between 6 (identifier (counter_name k)) in
     let content = element_between 65 (integer (pos value)) in
     omega (arith, whole.1, joined, name.1, content.1, name_most k, integer_most (pos value))
 
 list_most : (k value : ℕ) → length (variables_text (counter_variable k value ∷ [])) ≤ 80
 unfolding variables_text
-list_most k value = let e = two (variable_text (counter_variable k value)) [] in let v = variable_most k value in omega (arith, e, v)
+list_most k value = let e = length-append (variable_text (counter_variable k value)) [] in let v = variable_most k value in omega (arith, e, v)
 
 pdu_most : (id : ℤ) (k value : ℕ) → length (pdu_text (pdu_with 168 id (pos 0) (pos 0) (counter_variable k value ∷ []))) ≤ 140
 unfolding pdu_text pdu_content_text
 pdu_most id k value =
     let list = variables_text (counter_variable k value ∷ []) in
     let whole = element_between 168 (signed id ++ (signed (pos 0) ++ (signed (pos 0) ++ element 48 list))) in
-    let joined = four (signed id) (signed (pos 0)) (signed (pos 0)) (element 48 list) in
+    let joined = length_of_four (signed id) (signed (pos 0)) (signed (pos 0)) (element 48 list) in
     let inner = element_between 48 list in
     omega (arith, whole.1, joined, inner.1, signed_most id, signed_most (pos 0), list_most k value)
 
@@ -76,7 +53,7 @@ unfolding scoped_text contexts_text
 scoped_most engine id k value short =
     let pdu = pdu_text (pdu_with 168 id (pos 0) (pos 0) (counter_variable k value ∷ [])) in
     let whole = element_between 48 (element 4 engine ++ (element 4 [] ++ pdu)) in
-    let joined = three (element 4 engine) (element 4 []) pdu in
+    let joined = length_of_three (element 4 engine) (element 4 []) pdu in
     let first = element_between 4 engine in
     let second = element_between 4 [] in
     omega (arith, whole.1, joined, first.1, second.1, pdu_most id k value, short)
@@ -113,7 +90,7 @@ unfolding pdu_text pdu_content_text
 pdu_most_with tag id second third vs =
     let list = variables_text vs in
     let whole = element_between tag (signed id ++ (signed second ++ (signed third ++ element 48 list))) in
-    let joined = four (signed id) (signed second) (signed third) (element 48 list) in
+    let joined = length_of_four (signed id) (signed second) (signed third) (element 48 list) in
     let inner = element_between 48 list in
     omega (arith, whole.1, joined, inner.1, signed_most id, signed_most second, signed_most third)
 
@@ -121,7 +98,7 @@ scoped_size : (engine name pdu : List ℕ) → length (scoped_text engine name p
 unfolding scoped_text contexts_text
 scoped_size engine name pdu =
     let whole = element_between 48 (element 4 engine ++ (element 4 name ++ pdu)) in
-    let joined = three (element 4 engine) (element 4 name) pdu in
+    let joined = length_of_three (element 4 engine) (element 4 name) pdu in
     let first = element_between 4 engine in
     let second = element_between 4 name in
     omega (arith, whole.1, joined, first.1, second.1)
@@ -175,10 +152,10 @@ pub count_list : (counter : Counter) (value : ℕ) → length (variables_text (c
 unfolding variables_text variable_text variable_content
 count_list counter value =
     let whole = element_between 48 (element 6 (identifier (name_of counter)) ++ element 65 (integer (pos value))) in
-    let joined = two (element 6 (identifier (name_of counter))) (element 65 (integer (pos value))) in
+    let joined = length-append (element 6 (identifier (name_of counter))) (element 65 (integer (pos value))) in
     let name = element_between 6 (identifier (name_of counter)) in
     let content = element_between 65 (integer (pos value)) in
-    let e = two (variable_text (count_variable counter value)) [] in
+    let e = length-append (variable_text (count_variable counter value)) [] in
     omega (arith, e, whole.1, joined, name.1, content.1, name_short counter, integer_most (pos value))
 
 pub empty_list : length (variables_text []) ≡ 0

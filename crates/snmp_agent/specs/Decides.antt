@@ -6,7 +6,7 @@ use Rattle.snmp_message.specs.Scoped.{Contexts}
 use Rattle.snmp_msg.specs.Variables.{Variable, AreBindings}
 use Rattle.snmp_msg.specs.Pdu.{PduParts}
 use Rattle.vacm_core.specs.Tables.{Tables, HaveSameRows}
-use Rattle.vacm_core.specs.Allowed.{Message, Allowed}
+use Rattle.vacm_core.specs.Allowed.{Requester, Allowed}
 use Rattle.vacm_core.specs.declared.access.ViewType.{ViewType}
 use Rattle.vacm_core.specs.declared.access.ViewType.TheVariants.{Read, Write}
 use Rattle.vacm_core.specs.declared.access.Access.{Access}
@@ -16,11 +16,11 @@ use Rattle.snmp_outcome.specs.Outcome.{Given}
 use Rattle.snmp_agent.specs.Agent.{AgentState}
 
 -- who asks: model 3, the user-based one, a user, its level, and the name of a context
-abbrev pub question : List ℕ → Level → List ℕ → Message
+abbrev pub question : List ℕ → Level → List ℕ → Requester
 question user level context = record { model = 3; name = user; level = level; context = context }
 
 -- the same of an accepted message: its user and level, and the name of its context
-abbrev pub question_of : Given → Contexts → Message
+abbrev pub question_of : Given → Contexts → Requester
 question_of g c = question g.user g.level c.name
 
 -- A GetRequest is decided by the read view, and a SetRequest by the write view.
@@ -28,7 +28,7 @@ abbrev pub IsDecidedBy : ℕ → ViewType → Type 0
 IsDecidedBy tag view = ((tag ≡ 160) × (view ≡ Read)) ⊎ ((tag ≡ 163) × (view ≡ Write))
 
 -- the answer for the name of each variable, in their order
-abbrev pub AreAnswers : Tables → Message → ViewType → List Variable → List Access → Type 0
+abbrev pub AreAnswers : Tables → Requester → ViewType → List Variable → List Access → Type 0
 AreAnswers tables message view vs answers = AllZip (λ v answer. Allowed tables message view v.name answer) vs answers
 
 abbrev pub IsDecision : Tables → Given → Contexts → PduParts → Decision → Type 0

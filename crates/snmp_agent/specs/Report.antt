@@ -56,6 +56,11 @@ IsCopiedId w m id = ((plain : PlainPdu w m) × (id ≡ plain.pdu.id)) ⊎ ((Plai
 abbrev pub counter_variable : ℕ → ℕ → Variable
 counter_variable n value = record { name = counter_name n; tag = 65; content = integer (pos value) }
 
+-- the ScopedPDU of the report of the counter of this name: in the default context of the engine, with the counter alone
+abbrev pub counter_scoped : List ℕ → ℤ → List ℕ → ℕ → List ℕ
+counter_scoped engine request_id name value =
+    scoped_text engine [] (pdu_text (pdu_with 168 request_id (pos 0) (pos 0) (record { name = name; tag = 65; content = integer (pos value) } ∷ [])))
+
 -- usmStatsNotInTimeWindows, whose number is 2, is reported with authentication (RFC 3414, section 3.2, step 7), and the others
 -- without
 abbrev pub report_level : ℕ → Level
@@ -69,7 +74,7 @@ reporting engine own id user request_id k value = record {
   pair = own;
   user = user;
   salt = replicate 8 0;
-  scoped = scoped_text engine [] (pdu_text (pdu_with 168 request_id (pos 0) (pos 0) (counter_variable k value ∷ [])));
+  scoped = counter_scoped engine request_id (counter_name k) value;
 }
 
 -- The report on refusal n of the datagram, by the users and the engine of the agent, its boots and time, and its counters after

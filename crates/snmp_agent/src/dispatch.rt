@@ -194,10 +194,7 @@ impl Agent {
             (response self.old.engine (own_pair self.old.boots self.old.started now) (given_of taken.now) c p status index (map B.says bindings.now) salt) text.items) }
         ensures same { self.new ≡ self.old }
     {
-        let text = match self.respond_of(now, taken, status, index, bindings, salt) {
-            Ok(text) => text,
-            Err(fault) => return Err(fault),
-        };
+        let text = self.respond_of(now, taken, status, index, bindings, salt)?;
         if text.len() > limit {
             return Err(TakeFault::TooLarge);
         }
@@ -208,7 +205,7 @@ impl Agent {
     /// 4.2.3), and how many bindings that has. One text is sealed, and of the others only the length is counted.
     ///
     /// The errors are those of `respond` before its text; then TooLarge (16), exactly where even the Response without bindings has more
-    /// octets than `limit`, or than 65,507; and OutOfMemory (14).
+    /// octets than `limit`, or than 65,507; and OutOfMemory (14), which the refusals before the text come before.
     pub fn respond_front<B: Spelled>(
         &mut self,
         now: u64,
@@ -222,8 +219,6 @@ impl Agent {
         requires { All (λ b. B.fits b) bindings.now }
         ensures answer { (c : Contexts) (p : PduParts) → ScopedFront (text_of taken.now.text) c → PduText c.pdu p
             → IfSome (front_answer result) (SendsFront self.old now limit (λ own vs. responding self.old.engine own (given_of taken.now) c p status index vs salt) (map B.says bindings.now)) }
-
-        // The refusals before the text come before want of memory.
         ensures memory { (c : Contexts) (p : PduParts) → ScopedFront (text_of taken.now.text) c → PduText c.pdu p → IsErrOf result TakeFault.OutOfMemory
             → CanBeSent self.old now (λ own. responding self.old.engine own (given_of taken.now) c p status index [] salt) }
         ensures accepted { (c : Contexts) (p : PduParts) → ScopedFront (text_of taken.now.text) c → PduText c.pdu p

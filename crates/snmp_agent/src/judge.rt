@@ -10,7 +10,7 @@ ghost use Rattle.snmp_agent.specs.Agent.{taker_at, IsOpened};
 
 use crate::engine::Engine;
 use engine_clock::{Pair, in_window_agent};
-use snmp_outcome::{TakeFault, Taken, open_text, read_text};
+use snmp_outcome::{TakeFault, Taken, read_text, scoped_octets};
 use usm_core::{Checked, Role, Users};
 
 /// Without auth, or inside the agent's window (RFC 3414, section 3.2, step 7).
@@ -47,7 +47,7 @@ pub(crate) fn judge<'a>(
     if !is_in_window(own, &checked) {
         return Err(TakeFault::NotInWindow);
     }
-    let Ok(opening) = open_text(users, datagram, &checked) else {
+    let Ok(opening) = scoped_octets(users, datagram, &checked) else {
         return Err(TakeFault::OutOfMemory);
     };
     let Some(text) = opening else {

@@ -9,7 +9,7 @@ ghost use Rattle.engine_clock.specs.Pairs.{BootsAndTime, IsPair};
 ghost use Rattle.engine_clock.specs.Marks.{Marks};
 ghost use Rattle.vacm_core.specs.Tables.{Tables, HaveSameRows};
 ghost use Rattle.vacm_core.specs.Faults.{AreSound};
-ghost use Rattle.vacm_core.specs.Allowed.{Message, Allowed};
+ghost use Rattle.vacm_core.specs.Allowed.{Requester, Allowed};
 ghost use Rattle.vacm_core.specs.declared.access.ViewType.{ViewType as Asked};
 ghost use Rattle.vacm_core.specs.declared.access.Access.{Access as Answer};
 ghost use Rattle.usm_users.specs.User.{User};
@@ -89,10 +89,10 @@ pub fn too_big_is_short()
 /// decide each access alike, and as isAccessAllowed defines on the rows (RFC 3415, section 3).
 pub fn agents_decide_alike()
     ensures defined { (rows : Tables) (agent : AgentState) → HoldsRows rows agent
-        → (message : Message) (view : Asked) (variable : List ℕ) (answer : Answer) → Allowed agent.tables message view variable answer → Allowed rows message view variable answer }
+        → (requester : Requester) (view : Asked) (variable : List ℕ) (answer : Answer) → Allowed agent.tables requester view variable answer → Allowed rows requester view variable answer }
     ensures alike { (rows others : Tables) (a b : AgentState) → AreSound rows → HaveSameRows rows others → HoldsRows rows a → HoldsRows others b
-        → (message : Message) (view : Asked) (variable : List ℕ) (answer other : Answer)
-        → Allowed a.tables message view variable answer → Allowed b.tables message view variable other → answer ≡ other }
+        → (requester : Requester) (view : Asked) (variable : List ℕ) (answer other : Answer)
+        → Allowed a.tables requester view variable answer → Allowed b.tables requester view variable other → answer ≡ other }
 {
     order_is_free();
 }

@@ -28,6 +28,7 @@ mod asked;
 mod asking;
 mod commands;
 mod counter;
+mod counter_report;
 mod counting;
 mod decision;
 mod dispatch;

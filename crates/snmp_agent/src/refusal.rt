@@ -7,11 +7,12 @@ ghost use Rattle.snmp_outcome.specs.Answers.{given_of};
 ghost use Rattle.snmp_sending.specs.Sends.{send_answer};
 ghost use Rattle.snmp_agent.specs.Dispatch.{refusing};
 
+use crate::counter_report::send_counter;
 use engine_clock::{EngineId, Pair};
-use snmp_ber::{Oid, int_content};
-use snmp_msg::{Binding, COUNTER32, Pdu, REPORT};
+use snmp_ber::Oid;
+use snmp_msg::Pdu;
 use snmp_outcome::{TakeFault, Taken};
-use snmp_sending::{Body, Counter, Envelope, send};
+use snmp_sending::{Counter, Envelope};
 use usm_core::Users;
 
 /// What a report says besides what it copies.
@@ -39,21 +40,6 @@ pub(crate) fn send_refusal<'a>(
     let Some(name) = Oid::of(counted.counter.name()) else {
         unreachable!();
     };
-    let content = int_content(i64::from(counted.value));
-    let bindings = [Binding {
-        name,
-        tag: COUNTER32,
-        content: content.as_slice(),
-    }];
-    let body = Body {
-        context_engine: engine.as_slice(),
-        context_name: &[],
-        tag: REPORT,
-        id: pdu.id,
-        second: 0,
-        third: 0,
-        bindings: &bindings,
-    };
     let salt = counted.salt;
     let envelope = Envelope {
         level: taken.level,
@@ -64,5 +50,5 @@ pub(crate) fn send_refusal<'a>(
         user: taken.user,
         salt,
     };
-    send(users, &envelope, &body)
+    send_counter(users, &envelope, engine, pdu.id, name, counted.value)
 }

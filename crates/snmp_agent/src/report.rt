@@ -13,13 +13,14 @@ ghost use Rattle.snmp_agent.specs.Report.{Offers, IsReport, report_level, report
 
 use crate::asked::asking;
 use crate::asking::ReportedMessage;
+use crate::counter_report::send_counter;
 use crate::counting::counter_of;
 use crate::engine::Engine;
 use engine_clock::{EngineId, Pair};
-use snmp_ber::{Level, Oid, int_content};
-use snmp_msg::{Binding, COUNTER32, REPORT, one_cut, one_message};
+use snmp_ber::{Level, Oid};
+use snmp_msg::{one_cut, one_message};
 use snmp_outcome::TakeFault;
-use snmp_sending::{Body, Envelope, counter_name, send};
+use snmp_sending::{Envelope, counter_name};
 use std::alloc::AllocError;
 use usm_core::{Users, verified_was_read};
 
@@ -86,21 +87,6 @@ fn send_report(
     let Some(name) = Oid::of(&counter_name(n)) else {
         unreachable!();
     };
-    let content = int_content(i64::from(value));
-    let bindings = [Binding {
-        name,
-        tag: COUNTER32,
-        content: content.as_slice(),
-    }];
-    let body = Body {
-        context_engine: engine.as_slice(),
-        context_name: &[],
-        tag: REPORT,
-        id: asking.request_id,
-        second: 0,
-        third: 0,
-        bindings: &bindings,
-    };
     let envelope = Envelope {
         level: report_level(n),
         id: asking.id,
@@ -110,7 +96,7 @@ fn send_report(
         user: asking.user,
         salt: [0; 8],
     };
-    match send(users, &envelope, &body) {
+    match send_counter(users, &envelope, engine, asking.request_id, name, value) {
         Ok(text) => Ok(text),
         Err(fault) => {
             if !fault.is_memory() {

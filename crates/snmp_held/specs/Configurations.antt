@@ -3,14 +3,14 @@ use Rattle.std.specs.Prelude.{◌≡◌, ◌<◌, ◌≤◌, ℕ, List, [], ◌�
 use Rattle.usm_users.specs.declared.load.UserRow.{UserRow}
 use Rattle.vacm_core.specs.Tables.{Tables}
 use Rattle.snmp_outcome.specs.declared.fault.TakeFault.TheVariants.{OutOfMemory}
-use Rattle.snmpsec_config.specs.declared.fault.ConfigTable.{ConfigTable}
-use Rattle.snmpsec_config.specs.declared.fault.ConfigTable.TheVariants as tables
-use Rattle.snmpsec_config.specs.declared.fault.Key.{Key}
-use Rattle.snmpsec_config.specs.declared.fault.Key.TheVariants as keys
+use Rattle.snmpsec_config.specs.declared.table.ConfigTable.{ConfigTable}
+use Rattle.snmpsec_config.specs.declared.table.ConfigTable.TheVariants as tables
+use Rattle.snmpsec_config.specs.declared.table.ConfigKey.{ConfigKey}
+use Rattle.snmpsec_config.specs.declared.table.ConfigKey.TheVariants as keys
 use Rattle.snmpsec_config.specs.declared.fault.KeyFault.{KeyFault}
 use Rattle.snmpsec_config.specs.declared.fault.KeyFault.TheVariants.{Unlisted, Missing, Value}
-use Rattle.snmpsec_config.specs.declared.fault.Wrong.{Wrong}
-use Rattle.snmpsec_config.specs.declared.fault.Wrong.TheVariants.{BadUser, ShortPassword, DuplicateUser, BadRow, Duplicate}
+use Rattle.snmpsec_config.specs.declared.fault.LoadFault.{LoadFault}
+use Rattle.snmpsec_config.specs.declared.fault.LoadFault.TheVariants.{BadUser, ShortPassword, DuplicateUser, BadRow, Duplicate}
 use Rattle.snmpsec_config.specs.declared.fault.ConfigFault.{ConfigFault}
 use Rattle.snmpsec_config.specs.declared.fault.ConfigFault.TheVariants as faults
 use Rattle.snmpsec_config.specs.Refusals.{SaysSound, RefusesText, refusal_line}
@@ -27,7 +27,7 @@ table_number tables.Group = 3
 table_number tables.Access = 4
 table_number tables.Family = 5
 
-abbrev pub key_number : Key → ℕ
+abbrev pub key_number : ConfigKey → ℕ
 key_number keys.Name = 1
 key_number keys.Auth = 2
 key_number keys.AuthPassword = 3
@@ -45,7 +45,7 @@ key_number keys.Subtree = 14
 key_number keys.Include = 15
 key_number keys.Mask = 16
 
-abbrev pub wrong_number : Wrong → ℕ
+abbrev pub wrong_number : LoadFault → ℕ
 wrong_number BadUser = 6
 wrong_number ShortPassword = 7
 wrong_number DuplicateUser = 8

@@ -6,7 +6,7 @@ ghost use Rattle.snmp_held.specs.Configurations.{TellsConfig, IsTold, numbers_of
 use crate::fault::CallFault;
 use crate::parts::copied;
 use snmp_outcome::TakeFault;
-use snmpsec_config::{AccessConfig, ConfigFault, ConfigTable, Key, KeyFault, Wrong};
+use snmpsec_config::{AccessConfig, ConfigFault, ConfigKey, ConfigTable, KeyFault, LoadFault};
 use std::alloc::{AllocError, Global};
 
 /// How many numbers tell a fault.
@@ -108,37 +108,37 @@ fn table_number(table: ConfigTable) -> usize
     }
 }
 
-fn key_number(key: Key) -> usize
+fn key_number(key: ConfigKey) -> usize
     ensures { result ≡ key_by key }
 {
     match key {
-        Key::Name => 1,
-        Key::Auth => 2,
-        Key::AuthPassword => 3,
-        Key::PrivPassword => 4,
-        Key::Model => 5,
-        Key::Group => 6,
-        Key::Prefix => 7,
-        Key::Level => 8,
-        Key::Match => 9,
-        Key::Read => 10,
-        Key::Write => 11,
-        Key::Notify => 12,
-        Key::View => 13,
-        Key::Subtree => 14,
-        Key::Include => 15,
-        Key::Mask => 16,
+        ConfigKey::Name => 1,
+        ConfigKey::Auth => 2,
+        ConfigKey::AuthPassword => 3,
+        ConfigKey::PrivPassword => 4,
+        ConfigKey::Model => 5,
+        ConfigKey::Group => 6,
+        ConfigKey::Prefix => 7,
+        ConfigKey::Level => 8,
+        ConfigKey::Match => 9,
+        ConfigKey::Read => 10,
+        ConfigKey::Write => 11,
+        ConfigKey::Notify => 12,
+        ConfigKey::View => 13,
+        ConfigKey::Subtree => 14,
+        ConfigKey::Include => 15,
+        ConfigKey::Mask => 16,
     }
 }
 
-fn wrong_number(wrong: Wrong) -> usize
+fn wrong_number(wrong: LoadFault) -> usize
     ensures { result ≡ wrong_by wrong }
 {
     match wrong {
-        Wrong::BadUser => 6,
-        Wrong::ShortPassword => 7,
-        Wrong::DuplicateUser => 8,
-        Wrong::BadRow => 9,
-        Wrong::Duplicate => 10,
+        LoadFault::BadUser => 6,
+        LoadFault::ShortPassword => 7,
+        LoadFault::DuplicateUser => 8,
+        LoadFault::BadRow => 9,
+        LoadFault::Duplicate => 10,
     }
 }

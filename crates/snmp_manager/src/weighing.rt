@@ -16,7 +16,7 @@ ghost use Rattle.snmp_manager.specs.Takes.{kept_answer};
 
 use crate::learning::{engine_of, is_fresh_once_learned};
 use engine_clock::Clocks;
-use snmp_outcome::{Kept, TakeFault, Taken, open_text, read_text};
+use snmp_outcome::{Kept, TakeFault, Taken, read_text, scoped_octets};
 use std::alloc::{AllocError, Global};
 use usm_core::{Checked, Users};
 
@@ -40,7 +40,7 @@ pub(crate) fn weigh<'a>(
     ensures weighs { IfOk result (λ answer. (learned : Marks) → LearnsChecked (verified_of checked.now) now clocks.now learned
         → IsSomeAnd (answer_of answer) (Weighs (as_manager learned) users.old.users now datagram.now (verified_of checked.now))) }
 {
-    let opening = open_text(users, datagram, checked)?;
+    let opening = scoped_octets(users, datagram, checked)?;
     if !is_fresh_once_learned(clocks, checked, now) {
         return Ok(Err(TakeFault::NotInWindow));
     }

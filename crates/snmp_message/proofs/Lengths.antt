@@ -1,14 +1,25 @@
 -- How long a message is that was written: no shorter than its parts, and not much longer.
-use Rattle.std.proofs.Common.{◌≡◌, ℕ, ◌+◌, ◌-◌, ◌≤◌, pos, Bool, true, false, List, [], ◌∷◌, ◌++◌, length, drop, refl, arith}
+use Rattle.std.proofs.Common.{◌≡◌, ℕ, ℤ, ◌+◌, ◌-◌, ◌≤◌, pos, Bool, true, false, List, [], ◌∷◌, ◌++◌, length, drop, refl, arith}
 use Rattle.std.specs.Prelude.{nat_lt, if◌then◌else◌}
-use Rattle.std.specs.Int.{w32, to_be_bytes}
+use Rattle.std.specs.Int.{w32, w64, to_be_bytes, cast_unsigned}
 use Rattle.std.proofs.lemmas.List.{length-append, length-drop}
-use Rattle.snmp_ber.specs.Spelling.{digit_count, shortest_length, head_size, element, integer}
+use Rattle.snmp_ber.specs.Spelling.{digit_count, octet_count, shortest_length, head_size, element, integer}
 use Rattle.snmp_ber.proofs.Spellings.{integer-positive}
 use Rattle.snmp_message.specs.declared.header.Header.{Header}
-use Rattle.snmp_message.specs.Spelling.{HeaderFits, number, header_text, content_size, message_text}
+use Rattle.snmp_message.specs.Spelling.{HeaderFits, number, signed, header_text, content_size, message_text}
 use Rattle.snmp_message.specs.Security.{Fields, FieldsFit, fields_text, security_text}
 use Rattle.snmp_message.proofs.Writes.{element-length, header_text-length, message_text-size}
+
+-- ---- several parts
+
+pub length_of_three : (a b c : List ℕ) → length (a ++ (b ++ c)) ≡ length a + (length b + length c)
+length_of_three a b c = rw (length-append a (b ++ c), length-append b c) refl
+
+pub length_of_four : (a b c d : List ℕ) → length (a ++ (b ++ (c ++ d))) ≡ length a + (length b + (length c + length d))
+length_of_four a b c d = rw (length-append a (b ++ (c ++ d)), length-append b (c ++ d), length-append c d) refl
+
+pub length_of_six : (a b c d e f : List ℕ) → length (a ++ (b ++ (c ++ (d ++ (e ++ f))))) ≡ length a + (length b + (length c + (length d + (length e + length f))))
+length_of_six a b c d e f = rw (length-append a (b ++ (c ++ (d ++ (e ++ f)))), length-append b (c ++ (d ++ (e ++ f))), length-append c (d ++ (e ++ f)), length-append d (e ++ f), length-append e f) refl
 
 -- ---- heads
 
@@ -34,6 +45,21 @@ element_between tag content =
     let h = head_between (length content) in
     (omega (arith, size, h.0), omega (arith, size, h.1))
 
+eight_octets : (n : ℕ) → length (to_be_bytes w64 n) ≡ 8
+eight_octets n = refl
+
+pub integer_most : (z : ℤ) → length (integer z) ≤ 8
+unfolding integer
+integer_most z =
+    let cut = length-drop (8 - octet_count z) (to_be_bytes w64 (cast_unsigned w64 z)) in
+    omega (arith, cut, eight_octets (cast_unsigned w64 z))
+
+pub signed_most : (z : ℤ) → length (signed z) ≤ 14
+signed_most z =
+    let e = element_between 2 (integer z) in
+    let content = integer_most z in
+    omega (arith, e.1, content)
+
 number_most : (n : ℕ) → n ≤ 2147483647 → length (number n) ≤ 10
 number_most n most =
     let e = element_between 2 (integer (pos n)) in
@@ -50,14 +76,11 @@ header_most h fits =
     let model = number_most h.model fits.most_model in
     omega (arith, size, id, max_size, model)
 
-six : (a b c d e f : List ℕ) → length (a ++ (b ++ (c ++ (d ++ (e ++ f))))) ≡ length a + (length b + (length c + (length d + (length e + length f))))
-six a b c d e f = rw (length-append a (b ++ (c ++ (d ++ (e ++ f)))), length-append b (c ++ (d ++ (e ++ f))), length-append c (d ++ (e ++ f)), length-append d (e ++ f), length-append e f) refl
-
 security_most : (s : Fields) → FieldsFit s → length (security_text s) ≤ 50 + length s.engine + length s.user + length s.auth + length s.salt
 unfolding security_text fields_text
 security_most s fits =
     let whole = element_between 48 (fields_text s) in
-    let joined : length (fields_text s) ≡ _ = six (element 4 s.engine) (number s.boots) (number s.time) (element 4 s.user) (element 4 s.auth) (element 4 s.salt) in
+    let joined : length (fields_text s) ≡ _ = length_of_six (element 4 s.engine) (number s.boots) (number s.time) (element 4 s.user) (element 4 s.auth) (element 4 s.salt) in
     let engine = element_between 4 s.engine in
     let boots = number_most s.boots fits.boots in
     let time = number_most s.time fits.time in

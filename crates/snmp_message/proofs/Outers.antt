@@ -14,6 +14,7 @@ use Rattle.snmp_message.specs.Layout.{IsNumber, IsGlobal, Parts, Outer, WrongVer
 use Rattle.snmp_message.specs.Reading.{element_in, header_of, version_in, with_data, after_version}
 use Rattle.snmp_message.proofs.Steps.{bind_some, same_some, TakesElement, element_in-is, element_in-again, begins_from_element}
 use Rattle.snmp_message.proofs.Headers.{header_of-is, header_of-again, ended}
+use Rattle.snmp_message.proofs.Lengths.{length_of_six}
 
 -- what was read of the version
 pub record TakesVersion (w : List ℕ) (z : ℤ) (others after : List ℕ) : Type 0 where
@@ -145,15 +146,12 @@ after_version-again size octets m t =
 
 -- ---- the whole
 
-parts_of_length : (a b c d e f : List ℕ) → length (a ++ (b ++ (c ++ (d ++ (e ++ f))))) ≡ length a + (length b + (length c + (length d + (length e + length f))))
-parts_of_length a b c d e f = simp length-append
-
 -- the octets after the version
 abbrev pub others : {w : List ℕ} {m : Parts} → Outer w m → List ℕ
 others {w} {m} o = o.global ++ (o.security_head ++ (m.security ++ o.data_text))
 
 outer_length : (w : List ℕ) (m : Parts) (o : Outer w m) → length w ≡ length o.head + (length o.version + (length o.global + (length o.security_head + (length m.security + length o.data_text))))
-outer_length w m o = ap length (o.whole ∙ ap (λ (c : List ℕ). o.head ++ c) o.joined) ∙ parts_of_length o.head o.version o.global o.security_head m.security o.data_text
+outer_length w m o = ap length (o.whole ∙ ap (λ (c : List ℕ). o.head ++ c) o.joined) ∙ length_of_six o.head o.version o.global o.security_head m.security o.data_text
 
 pub outer_version : (w : List ℕ) (m : Parts) (o : Outer w m) → version_in w ≡ Some (pos 3, others o, [])
 outer_version w m o =
@@ -204,7 +202,7 @@ outer_from w octets m first second =
     let joined : v.content ≡ version ++ (t.global ++ (t.security_head ++ (m.security ++ t.data_text))) =
     v.is_version.parts ∙ sym (append_assoc v.version_head v.version_content octets) ∙ ap (λ (r : List ℕ). version ++ r) t.joined in
     let size : length w ≡ length v.head + (length version + (length t.global + (length t.security_head + (length m.security + length t.data_text)))) =
-    ap length (whole ∙ ap (λ (c : List ℕ). v.head ++ c) joined) ∙ parts_of_length v.head version t.global t.security_head m.security t.data_text in
+    ap length (whole ∙ ap (λ (c : List ℕ). v.head ++ c) joined) ∙ length_of_six v.head version t.global t.security_head m.security t.data_text in
     record {
       version = version;
       is_version = is_version;

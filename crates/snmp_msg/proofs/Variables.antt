@@ -1,14 +1,15 @@
 -- Variable bindings: what is read is spelled so, and what is spelled so is read.
-use Rattle.std.proofs.Common.{◌≡◌, ℕ, zero, suc, ◌+◌, ◌-◌, ◌*◌, ◌≤◌, ◌<◌, ◌^◌, ltb, List, [], ◌∷◌, ◌++◌, length, take, drop, Option, Some, None, refl, sym, ap, subst, ◌∙◌, append_assoc, arith}
+use Rattle.std.proofs.Common.{◌≡◌, ℕ, zero, suc, ◌+◌, ◌-◌, ◌≤◌, ◌<◌, ltb, List, [], ◌∷◌, ◌++◌, length, take, drop, Option, Some, None, refl, sym, ap, subst, ◌∙◌, append_assoc, arith}
 use Rattle.std.specs.List.{AllByRecursion, flat_map}
 use Rattle.std.specs.Prelude.{slice_range, option_map, is_some, true}
 use Rattle.std.proofs.lemmas.List.{append-nil, length-append, nil_from_length}
 use Rattle.snmp_ber.specs.Element.{Begins}
-use Rattle.snmp_ber.specs.Oid.{AreArcs, IsIdentifier, AreSubidentifiers, identifier_in, identifier}
+use Rattle.snmp_ber.specs.Oid.{identifier_in, identifier}
 use Rattle.snmp_ber.specs.Reading.{Front, front_of}
 use Rattle.snmp_ber.specs.Spelling.{element}
 use Rattle.snmp_ber.proofs.Elements.{guard_some, front_of-begun}
 use Rattle.snmp_ber.proofs.Identifiers.{identifier-is, identifier-short}
+use Rattle.snmp_ber.proofs.ObjectNames.{arcs_from}
 use Rattle.snmp_ber.proofs.Oids.{identifier_in-is, identifier_in-again}
 use Rattle.snmp_ber.proofs.Spellings.{element-is}
 use Rattle.snmp_message.specs.Reading.{element_in}
@@ -233,18 +234,6 @@ places_read octets rest b bytes name named says = by (identifier_in b.name.conte
         }
 
 -- ---- bindings that can be written
-
-limits_from : (ns octets : List ℕ) → AreSubidentifiers ns octets → AllByRecursion (λ n. n < 2 ^ 32) ns
-limits_from [] octets h = tt
-limits_from (n ∷ ns) octets (text, rest, is, parts, others) = (omega (arith, is.limit), limits_from ns rest others)
-
--- the arcs of an identifier that was read
-pub arcs_from : (arcs content : List ℕ) → IsIdentifier arcs content → AreArcs arcs
-arcs_from [] content h = absurd h.object_id
-arcs_from (a ∷ []) content h = absurd h.object_id
-arcs_from (a ∷ b ∷ arcs) content h =
-    let limits = limits_from ((40 * a + b) ∷ arcs) content h.spelled in
-    record { some = omega arith; most = h.most; limit = (omega (arith, h.object_id.0), (omega (arith, h.object_id.2), limits.1)) }
 
 binding_fits : (v : Variable) (text : List ℕ) → IsBinding text v → VariableFits v
 binding_fits v text h = record { arcs = arcs_from v.name h.name_content h.is_identifier; object_id = h.is_identifier.object_id; is_tag = h.is_value.1.tag_octet }

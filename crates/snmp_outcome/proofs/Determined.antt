@@ -1,5 +1,5 @@
 -- The table gives one answer, and its row 12 is of a sealed message.
-use Rattle.std.proofs.Common.{◌≡◌, ℕ, ◌-◌, List, [], ◌++◌, append-nil, Bool, true, false, Option, Some, None, drop, refl, sym, ap, subst, ◌∙◌, inl, inr}
+use Rattle.std.proofs.Common.{◌≡◌, ℕ, arith, ◌-◌, List, [], ◌++◌, append-nil, Bool, true, false, Option, Some, None, drop, refl, sym, ap, subst, ◌∙◌, inl, inr}
 use Rattle.std.specs.Prelude.{Result, Ok, Err, IsSomeAnd, MatchBool}
 use Rattle.snmp_message.specs.Layout.{Parts, Outer}
 use Rattle.snmp_message.specs.Scoped.{Contexts, HasScoped, ScopedFront, ScopedText}
@@ -9,7 +9,8 @@ use Rattle.usm_users.specs.User.{User}
 use Rattle.usm_users.specs.Users.{user_named}
 use Rattle.usm_core.specs.Sealed.{IsPlaintext}
 use Rattle.usm_core.specs.Table.{Needs, Then, holds, fails, gives, refuses}
-use Rattle.usm_core.specs.Verified.{Side, Verified, Verifies, ReadsLayout, Judges, IsReadAs}
+use Rattle.usm_core.proofs.Determined.{needs_one, then_one, no_row}
+use Rattle.usm_core.specs.Verified.{Side, Verified, Verifies, IsReadAs}
 use Rattle.snmp_outcome.specs.Texts.{FrontOf, PduOf}
 use Rattle.snmp_outcome.specs.Outcome.{Given, Taker, side_at, ClockRuns, IsTextOf, ReadsText, ReadsMessage, Weighs, Outcome}
 
@@ -35,25 +36,6 @@ text_one users w v a b =
     (λ x y p q. same_user (user_named users v.fields.user) (λ u. u.privacy) _ x y p q) (λ x y p q. p ∙ sym q)
 
 -- ---- one answer
-
--- one row gives one answer, if what stands below it does
-pub needs_one : {X : Type 0} (P : Type 0) (n : ℕ) (below : P → Result X ℕ → Type 0) → ((p q : P) (a b : Result X ℕ) → below p a → below q b → a ≡ b)
-    → (a b : Result X ℕ) → Needs P n below a → Needs P n below b → a ≡ b
-needs_one P n below one a b (holds p x) (holds q y) = one p q a b x y
-needs_one P n below one a b (holds p x) (fails never) = absurd (never p)
-needs_one P n below one a b (fails never) (holds q y) = absurd (never q)
-needs_one P n below one a b (fails x) (fails y) = refl
-
--- one table after another gives one answer, if each of them does
-pub then_one : {X Y : Type 0} (first : Result X ℕ → Type 0) (below : X → Result Y ℕ → Type 0) → ((a b : Result X ℕ) → first a → first b → a ≡ b)
-    → ((x : X) (a b : Result Y ℕ) → below x a → below x b → a ≡ b) → (a b : Result Y ℕ) → Then first below a → Then first below b → a ≡ b
-then_one {X} {Y} first below one next a b (gives x p q) (gives y r s) =
-    let e : ◌≡◌ {A = Result X ℕ} (Ok x) (Ok y) = one (Ok x) (Ok y) p r in
-    let f : x ≡ y = cc in
-    next y a b (subst (λ (z : X). below z a) f q) s
-then_one {X} {Y} first below one next a b (gives x p q) (refuses n r) = let e : ◌≡◌ {A = Result X ℕ} (Ok x) (Err n) = one (Ok x) (Err n) p r in absurd cc
-then_one {X} {Y} first below one next a b (refuses n r) (gives x p q) = let e : ◌≡◌ {A = Result X ℕ} (Err n) (Ok x) = one (Err n) (Ok x) r p in absurd cc
-then_one {X} {Y} first below one next a b (refuses n r) (refuses k s) = let e : ◌≡◌ {A = Result X ℕ} (Err n) (Err k) = one (Err n) (Err k) r s in cc
 
 module _ (front : (z : List ℕ) (s t : Contexts) → ScopedFront z s → ScopedFront z t → s ≡ t) (pdu : (z : List ℕ) (p q : PduParts) → PduText z p → PduText z q → p ≡ q) where
   text_answer_one : (v : Verified) (text : List ℕ) (a b : Result Given ℕ) → ReadsText v text a → ReadsText v text b → a ≡ b
@@ -82,29 +64,6 @@ module _ (front : (z : List ℕ) (s t : Contexts) → ScopedFront z s → Scoped
       needs_one _ 15 _ (λ p q. then_one _ (Weighs taker users now w) (verified (side_at taker) users w) (weighs_one taker users now w))
 
 -- ---- row 12
-
-no_row-layout : (w : List ℕ) (n : ℕ) → n ≡ 12 → ReadsLayout w (Err n) → ⊥
-unfolding ReadsLayout
-no_row-layout w n e (fails never) = cc e
-no_row-layout w n e (holds _ (fails never)) = cc e
-no_row-layout w n e (holds _ (holds o (fails never))) = cc e
-no_row-layout w n e (holds _ (holds o (holds _ (fails never)))) = cc e
-no_row-layout w n e (holds _ (holds o (holds _ (holds _ (fails never))))) = cc e
-no_row-layout w n e (holds _ (holds o (holds _ (holds _ (holds _ (fails never)))))) = cc e
-no_row-layout w n e (holds _ (holds o (holds _ (holds _ (holds _ (holds t f)))))) = cc f
-
-no_row-judges : (side : Side) (users : List User) (w : List ℕ) (v : Verified) (n : ℕ) → n ≡ 12 → Judges side users w v (Err n) → ⊥
-unfolding Judges
-no_row-judges side users w v n e (fails never) = cc e
-no_row-judges side users w v n e (holds _ (fails never)) = cc e
-no_row-judges side users w v n e (holds _ (holds _ (fails never))) = cc e
-no_row-judges side users w v n e (holds _ (holds _ (holds _ (fails never)))) = cc e
-no_row-judges side users w v n e (holds _ (holds _ (holds _ (holds _ f)))) = cc f
-
-no_row : (side : Side) (users : List User) (w : List ℕ) (n : ℕ) → n ≡ 12 → Verifies side users w (Err n) → ⊥
-unfolding Verifies
-no_row side users w n e (gives v rows below) = no_row-judges side users w v n e below
-no_row side users w n e (refuses m rows) = no_row-layout w m e rows
 
 -- the text of row 12 begins with no ScopedPDU
 no_front : (v : Verified) (text : List ℕ) (n : ℕ) → n ≡ 12 → ReadsText v text (Err n) → FrontOf text → ⊥
@@ -146,7 +105,7 @@ module _ (read : (side : Side) (users : List User) (w : List ℕ) (v : Verified)
   then_sealed : (taker : Taker) (users : List User) (now : ℕ) (w : List ℕ) (n : ℕ) → n ≡ 12 → Then (Verifies (side_at taker) users w) (Weighs taker users now w) (Err n)
       → (v : Verified) × Verifies (side_at taker) users w (Ok v) × (v.parts.header.privacy ≡ true)
   then_sealed taker users now w n e (gives v rows x) = (v, rows, weighs_sealed taker users now w v n e (read (side_at taker) users w v rows) x)
-  then_sealed taker users now w n e (refuses k rows) = absurd (no_row (side_at taker) users w k e rows)
+  then_sealed taker users now w n e (refuses k rows) = absurd (no_row (side_at taker) users w k (omega (arith, e)) (omega (arith, e)) rows)
 
   pub outcome_sealed : (taker : Taker) (users : List User) (now : ℕ) (w : List ℕ) (n : ℕ) → n ≡ 12 → Outcome taker users now w (Err n)
       → (v : Verified) × Verifies (side_at taker) users w (Ok v) × (v.parts.header.privacy ≡ true)

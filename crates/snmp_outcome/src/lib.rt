@@ -24,5 +24,5 @@ pub use fault::TakeFault;
 pub use kept::Kept;
 pub use laws::{bad_scoped_is_sealed, one_answer, one_text, replay_bound};
 pub use octets::Octets;
-pub use reading::{open_text, read_text};
+pub use reading::{read_text, scoped_octets};
 pub use taken::Taken;

@@ -26,7 +26,7 @@ use usm_core::{Checked, Users, UsmFault};
 /// decrypted, since msgPrivacyParameters don't have the 8 octets of a salt (RFC 3826, section 3.2.1).
 ///
 /// Memory is taken at authPriv alone, to decrypt; the error is want of it.
-pub fn open_text<'a>(
+pub fn scoped_octets<'a>(
     users: &mut Users,
     datagram: &'a [u8],
     checked: &Checked<'a>,
@@ -54,7 +54,7 @@ fn place(fault: MsgFault, base: usize) -> usize {
     fault.at().unwrap_or(0).saturating_add(base)
 }
 
-/// What is given on of the message that `open_auth` gave, whose octets `open_text` gave.
+/// What is given on of the message that `open_auth` gave, whose octets `scoped_octets` gave.
 ///
 /// The error is BadScoped (12), exactly where the octets don't begin with a ScopedPDU, or BadPdu (13), exactly where its data
 /// is no PDU. It takes no memory.
@@ -75,10 +75,8 @@ pub fn read_text<'a>(
         Octets::Borrowed(_) => checked.message.data_at,
         Octets::Owned(_) => 0,
     };
-    let (tag, contexts, pdu) = match read_place(text.as_slice(), base) {
-        Ok(found) => found,
-        Err(fault) => return Err(fault),
-    };
+    let found = read_place(text.as_slice(), base)?;
+    let (tag, contexts, pdu) = found;
     Ok(Taken {
         engine,
         user: checked.security.user,

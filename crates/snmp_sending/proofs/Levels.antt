@@ -6,6 +6,7 @@ use Rattle.snmp_ber.specs.declared.level.Level.TheVariants.{NoAuthNoPriv, AuthNo
 use Rattle.snmp_ber.specs.Spelling.{element}
 use Rattle.snmp_message.specs.Level.{level_of}
 use Rattle.snmp_message.specs.Scoped.{contexts_text, scoped_text}
+use Rattle.snmp_message.proofs.Lengths.{length_of_three}
 use Rattle.snmp_sending.specs.Bodies.{has_auth, has_privacy, header_at}
 
 pub flags_at : (l : Level) → has_privacy l ≡ true → has_auth l ≡ true
@@ -22,13 +23,10 @@ level_at AuthPriv id r = refl
 pub element_longer : (tag : ℕ) (content : List ℕ) → length content ≤ length (element tag content)
 element_longer tag content = rw length-append (omega arith)
 
-three : (a b c : List ℕ) → length (a ++ (b ++ c)) ≡ length a + (length b + length c)
-three a b c = rw (length-append a (b ++ c), length-append b c) refl
-
 -- a ScopedPDU is no shorter than its data
 pub scoped_longer : (engine name pdu : List ℕ) → length pdu ≤ length (scoped_text engine name pdu)
 unfolding scoped_text contexts_text
 scoped_longer engine name pdu =
     let whole = element_longer 48 (element 4 engine ++ (element 4 name ++ pdu)) in
-    let joined = three (element 4 engine) (element 4 name) pdu in
+    let joined = length_of_three (element 4 engine) (element 4 name) pdu in
     omega (arith, whole, joined)

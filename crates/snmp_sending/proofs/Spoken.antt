@@ -1,13 +1,13 @@
 -- What is spoken is for whoever allows its engine and has its user.
 use Rattle.std.proofs.Common.{◌≡◌, ℕ, ◌+◌, ◌≤◌, List, ◌++◌, length, refl, sym, subst, arith}
 use Rattle.std.specs.Prelude.{min, Option, Some, None, Ok}
-use Rattle.std.proofs.lemmas.List.{length-append}
 use Rattle.snmp_ber.specs.declared.level.Level.{Level}
 use Rattle.snmp_ber.specs.declared.level.Level.TheVariants.{NoAuthNoPriv, AuthNoPriv, AuthPriv}
 use Rattle.snmp_ber.specs.Spelling.{head_size, element}
 use Rattle.snmp_message.specs.Scoped.{IsOneElement, ScopedText, contexts_text, scoped_text, contexts_placed}
 use Rattle.snmp_msg.specs.Variables.{Variable, AllFit, AreBindings, variables_text}
 use Rattle.snmp_message.specs.Spelling.{signed}
+use Rattle.snmp_message.proofs.Lengths.{length_of_four}
 use Rattle.snmp_msg.specs.Pdu.{PduParts, PduText, PduFits, pdu_content_text, pdu_text}
 use Rattle.engine_clock.specs.Marks.{SeenPair}
 use Rattle.engine_clock.specs.Pairs.{IsPair}
@@ -26,15 +26,12 @@ seals_text : (users : List User) (m : Sending) (text : List ℕ) → Seals users
 unfolding Seals
 seals_text users m text (holds flags (holds user (holds level w))) = w
 
-four : (a b c d : List ℕ) → length (a ++ (b ++ (c ++ d))) ≡ length a + (length b + (length c + length d))
-four a b c d = rw (length-append a (b ++ (c ++ d)), length-append b (c ++ d), length-append c d) refl
-
 pdu_longer : (p : PduParts) → length p.list ≤ length (pdu_text p)
 unfolding pdu_text pdu_content_text
 pdu_longer p =
     let whole = element_longer p.tag (signed p.id ++ (signed p.second ++ (signed p.third ++ element 48 p.list))) in
     let list = element_longer 48 p.list in
-    let joined = four (signed p.id) (signed p.second) (signed p.third) (element 48 p.list) in
+    let joined = length_of_four (signed p.id) (signed p.second) (signed p.third) (element 48 p.list) in
     omega (arith, whole, list, joined)
 
 module _ (again_scoped : (engine name pdu : List ℕ) → IsOneElement pdu → length (scoped_text engine name pdu) ≤ 65507

@@ -4,7 +4,7 @@ use Rattle.vacm_core.specs.Tables.{Tables}
 use Rattle.vacm_core.specs.declared.access.ViewType.{ViewType}
 use Rattle.vacm_core.specs.declared.access.Access.{Access}
 use Rattle.vacm_core.specs.declared.access.Access.TheVariants.{NoSuchContext, NoGroupName, NoAccessEntry, NoSuchView}
-use Rattle.vacm_core.specs.Allowed.{Message, Allowed, ByView, HasContext, IsInGroup, HasView, view_name}
+use Rattle.vacm_core.specs.Allowed.{Requester, Allowed, ByView, HasContext, IsInGroup, HasView, view_name}
 use Rattle.vacm_core.specs.View.{AnswersView}
 use Rattle.vacm_core.proofs.Views.{by_view}
 use Rattle.vacm_core.specs.Steps.{TellsContext, TellsGroup, TellsAccess, TellsView}
@@ -18,10 +18,10 @@ use Rattle.snmpsec_access.specs.Seen.{Decision, refusal, by_lines, IsDecision, A
 use Rattle.snmpsec_access.specs.Rising.{IsOfView}
 
 -- the question of a message for a view
-abbrev pub question : Message → ViewType → Asker
+abbrev pub question : Requester → ViewType → Asker
 question q view = record { message = q; view = view }
 
-module _ (t : Tables) (q : Message) (view : ViewType) (asked : List ℕ) where
+module _ (t : Tables) (q : Requester) (view : ViewType) (asked : List ℕ) where
   pub no_context : TellsContext t q view asked None → IsDecision t (question q view) (refusal NoSuchContext)
   no_context none = (tt, λ variable. none)
 

@@ -6,14 +6,14 @@ use Rattle.snmp_ber.specs.declared.level.Level.TheVariants.{NoAuthNoPriv, AuthNo
 use Rattle.vacm_core.specs.declared.access.ViewType.{ViewType}
 use Rattle.vacm_core.specs.declared.rows.ContextRow.{ContextRow}
 use Rattle.vacm_core.specs.declared.rows.GroupRow.{GroupRow}
-use Rattle.vacm_core.specs.Allowed.{Message}
+use Rattle.vacm_core.specs.Allowed.{Requester}
 use Rattle.vacm_core.specs.Tables.{Tables}
 use Rattle.snmpsec_config.specs.Words.{level_word}
 use Rattle.snmpsec_access.specs.Words.{view_word, name_word, context_word}
 
 -- who asks, and for which view
 pub record Asker : Type 0 where
-  pub message : Message
+  pub message : Requester
   pub view : ViewType
 
 -- the levels, as they rise

@@ -8,7 +8,7 @@ use Rattle.vacm_core.specs.Allowed.{family_order}
 use Rattle.vacm_core.specs.Tables.{Tables}
 use Rattle.vacm_core.specs.View.{AreExact, AnswersView}
 use Rattle.vacm_core.specs.declared.steps.Asking.{Asking}
-use Rattle.vacm_core.specs.Steps.{message_of}
+use Rattle.vacm_core.specs.Steps.{requester_of}
 use Rattle.snmpsec_access.specs.declared.told.Told.{Told}
 use Rattle.snmpsec_access.specs.declared.told.Told.TheVariants.{Refusal, Rows}
 use Rattle.snmpsec_access.specs.declared.seeing.Seen.{Seen}
@@ -58,7 +58,7 @@ IsOfView families view (by_lines lines) =
     ((variable : List ℕ) → AnswersView families view variable (answer_of (is_included lines variable))) × AreLinesOf families view lines
 
 abbrev pub asker_of : Asking → Asker
-asker_of asking = record { message = message_of asking; view = asking.view }
+asker_of asking = record { message = requester_of asking; view = asking.view }
 
 -- The text goes on with what is told of these questions.
 pub record SeesOn (t : Tables) (from : List Asker) (before after : Seen) : Type 0 where

@@ -10,7 +10,7 @@ use Rattle.vacm_core.specs.declared.access.Access.{Access}
 use Rattle.vacm_core.specs.declared.access.Access.TheVariants.{NoSuchContext, NoGroupName, NoAccessEntry, NoSuchView, NotInView, AccessAllowed}
 use Rattle.vacm_core.specs.declared.rows.ContextRow.{ContextRow}
 use Rattle.vacm_core.specs.declared.rows.FamilyRow.{FamilyRow}
-use Rattle.vacm_core.specs.Allowed.{Message, Allowed, ByView, mask_bit, family_order}
+use Rattle.vacm_core.specs.Allowed.{Requester, Allowed, ByView, mask_bit, family_order}
 use Rattle.vacm_core.specs.Tables.{Tables}
 use Rattle.vacm_core.specs.View.{AreExact}
 use Rattle.snmpsec_config.specs.Words.{level_word}
@@ -69,7 +69,7 @@ pub record AreLinesOf (families : List FamilyRow) (view : List ℕ) (lines : Lis
 -- ---- what is told of a question
 
 -- Each variable is decided by the lines as isAccessAllowed decides it (RFC 3415, section 3).
-pub record Decide (t : Tables) (q : Message) (view : ViewType) (lines : List Line) : Type 0 where
+pub record Decide (t : Tables) (q : Requester) (view : ViewType) (lines : List Line) : Type 0 where
   pub allowed : (variable : List ℕ) → Allowed t q view variable (answer_of (is_included lines variable))
   pub lines_of : ByView t q view (λ name. AreLinesOf t.families name lines)
 

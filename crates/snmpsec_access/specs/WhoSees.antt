@@ -8,7 +8,7 @@ use Rattle.usm_users.specs.Users.{HasUserAt}
 use Rattle.vacm_core.specs.declared.access.ViewType.{ViewType}
 use Rattle.vacm_core.specs.declared.access.Access.{Access}
 use Rattle.vacm_core.specs.declared.access.Access.TheVariants.{AccessAllowed}
-use Rattle.vacm_core.specs.Allowed.{Message, Allowed}
+use Rattle.vacm_core.specs.Allowed.{Requester, Allowed}
 use Rattle.vacm_core.specs.Distinct.{HasOneRowEach}
 use Rattle.vacm_core.specs.Tables.{Tables, tables_of}
 use Rattle.snmpsec_access.specs.declared.who.Wanted.{Wanted}
@@ -47,7 +47,7 @@ pub record TellsWho (t : Tables) (views : List ViewType) (only : Bool) (users : 
 
 -- The tables answer each question as it is answered over the rows, and of each index there is one row.
 pub record AnswerFor (tables rows : Tables) : Type 0 where
-  pub decides : (message : Message) (view : ViewType) (variable : List ℕ) (answer : Access)
+  pub decides : (message : Requester) (view : ViewType) (variable : List ℕ) (answer : Access)
       → Allowed tables message view variable answer → Allowed rows message view variable answer
   pub one_row_each : HasOneRowEach rows
 

@@ -8,3 +8,4 @@ pub mod Counts
 pub mod Logs
 pub mod Parts
 pub mod Units
+pub mod RawRecords

@@ -1,12 +1,12 @@
 -- The log of a capture, item by item.
-use Rattle.std.proofs.Common.{◌≡◌, ℕ, ◌+◌, ◌*◌, ◌<◌, ◌≤◌, Bool, List, [], ◌∷◌, ◌++◌, length, Option, Some, None, IfSome, inl, inr, refl, sym, ap, ◌∙◌, arith, append_assoc, append-nil, length-append, subst}
+use Rattle.std.proofs.Common.{◌≡◌, ℕ, ◌+◌, ◌≤◌, Bool, List, [], ◌∷◌, ◌++◌, length, Option, Some, None, IfSome, inl, inr, refl, sym, ap, ◌∙◌, arith, append_assoc, append-nil, length-append, subst}
 use Rattle.std.specs.Io.KnownBytes.{Appends, Consumes, Keeps}
 use Rattle.std.proofs.KnownBytes.{Appends-nil, Appends-trans, Appends-kept, Consumes-nil, Consumes-trans, Consumes-whole}
 use Rattle.snmpsec_streams.specs.Transfer.{WritesFront}
 use Rattle.snmpsec_capture.specs.Items.{Record}
 use Rattle.snmpsec_capture.specs.Formats.{AreItems, HasBegun, IsItem, State, StopsItem, records_of}
 use Rattle.snmpsec_capture.specs.Passed.{Counts, none_passed}
-use Rattle.snmpsec_capture.specs.Datagrams.{Printing, PrintsAs, PrintsRecord, IsSortedRecord, note_of, count_of, Sorts, IsLogOf, Streams, Stands, StopsWriting, WriteFails, StopsItems, WritesItem, WritesRecord, WritesRecordFront, StopsRecord, StopsWrite, IsEnd, IsLess, IsWholeItem}
+use Rattle.snmpsec_capture.specs.Datagrams.{Printing, PrintsAs, PrintsRecord, IsSortedRecord, note_of, count_of, Sorts, IsLogOf, streams, Stands, StopsWriting, WriteFails, StopsItems, WritesItem, WritesRecord, WritesRecordFront, StopsRecord, StopsWrite, IsEnd, IsLess, IsWholeItem}
 use Rattle.snmpsec_capture.specs.declared.datagrams.Sorted.{Sorted}
 use Rattle.snmpsec_capture.specs.declared.datagrams.Sorted.TheVariants.{Logged, Told, Counted}
 use Rattle.snmpsec_capture.specs.declared.fault.CaptureFault.{CaptureFault}
@@ -37,7 +37,7 @@ records_same [] = refl
 records_same (None ∷ xs) = records_same xs
 records_same (Some x ∷ xs) = ap (λ t. x ∷ t) (records_same xs)
 
-sorts_more : (P : Printing) (ports : List ℕ) (n : ℕ) (rs : List Record) (before : Counts) (log notes : List ℕ) (mid : Counts) (r : Record) (s : Sorted) (text : List ℕ) (refused : Bool)
+pub sorts_more : (P : Printing) (ports : List ℕ) (n : ℕ) (rs : List Record) (before : Counts) (log notes : List ℕ) (mid : Counts) (r : Record) (s : Sorted) (text : List ℕ) (refused : Bool)
     (after : Counts) → Sorts P ports n rs before log notes mid → IsSortedRecord ports r s → PrintsRecord P mid.datagrams s text refused → after ≡ count_of s refused mid
     → Sorts P ports n (rs ++ r ∷ []) before (log ++ text) (notes ++ note_of (n + length rs) s) after
 sorts_more P ports n [] before log notes mid r s text refused after h is prints counts =
@@ -69,9 +69,6 @@ sorts_more P ports n (x ∷ rs) before log notes mid r s text refused after (fir
     )
 
 -- ---- before record n, which begins at a place
-
-abbrev pub streams : Option (List ℕ) → Option (List ℕ) → Option (List ℕ) → Option (List ℕ) → Option (List ℕ) → Option (List ℕ) → Streams
-streams unread left held written untold told = record { unread = unread; left = left; held = held; written = written; untold = untold; told = told }
 
 pub record IsBefore (begin n place : ℕ) (now state : State) (count : ℕ) (read part : List ℕ) : Type 0 where
   pub none : part ≡ []

@@ -1,15 +1,14 @@
 -- What is read of a block, and what it comes to.
-use Rattle.std.proofs.Common.{◌≡◌, ◌⊎◌, inl, inr, ℕ, ◌+◌, ◌-◌, ◌<◌, ◌≤◌, ◌==◌, if◌then◌else◌, true, false, List, [], ◌++◌, length, take, drop, min, Option, Some, None, IfSome, refl, sym, ap, subst, ◌∙◌, arith, length-append, append-nil}
+use Rattle.std.proofs.Common.{◌≡◌, ◌⊎◌, inl, inr, ℕ, ◌+◌, ◌<◌, ◌≤◌, ◌==◌, if◌then◌else◌, true, false, List, [], ◌++◌, length, take, min, Option, Some, None, IfSome, refl, sym, ap, subst, ◌∙◌, arith, length-append, append-nil}
 use Rattle.std.specs.Prelude.{option_map}
-use Rattle.std.specs.Io.KnownBytes.{Consumes, IsAtEnd}
+use Rattle.std.specs.Io.KnownBytes.{Consumes}
 use Rattle.std.proofs.KnownBytes.{Consumes-trans}
 use Rattle.std.proofs.lemmas.Bool.{and_parts, cases_lt, le-leb, leb-true}
-use Rattle.std.proofs.lemmas.List.{length-take}
-use Rattle.std.proofs.Math.Nat.{min-le_left, min-le_right}
+use Rattle.std.proofs.Math.Nat.{min-le_right}
 use Rattle.snmpsec_capture.specs.Field.{field32}
 use Rattle.snmpsec_capture.specs.Items.{Record, record_of}
 use Rattle.snmpsec_capture.specs.Pcapng.{InSection, LOOKED_AT, Means, begins_section, least_size, nowhere}
-use Rattle.snmpsec_capture.specs.Formats.{BeginsSection, HasBegun, HasNoItem, ReadsBeginning, StopsItem, IsBlockHead, IsNextBlock, ReadsFront, ReadsItem, ReadsNoRest, ReadsNone, ReadsRest, ReadsWhole, TakesInterface, with_interface}
+use Rattle.snmpsec_capture.specs.Formats.{BeginsSection, HasBegun, HasNoItem, ReadsBeginning, StopsItem, IsBlockHead, IsNextBlock, ReadsFront, ReadsNoRest, ReadsNone, ReadsRest, ReadsWhole, TakesInterface, with_interface}
 use Rattle.snmpsec_capture.specs.declared.fault.CaptureFault.{CaptureFault}
 use Rattle.snmpsec_capture.specs.declared.fault.CaptureFault.TheVariants as fault
 use Rattle.snmpsec_capture.specs.declared.item.Head.{Head}

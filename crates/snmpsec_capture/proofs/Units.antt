@@ -1,5 +1,5 @@
 -- How many units a second has.
-use Rattle.std.proofs.Common.{◌≡◌, ℕ, ◌-◌, ◌^◌, ◌<◌, Bool, true, false, if◌then◌else◌, nat_le, arith}
+use Rattle.std.proofs.Common.{ℕ, ◌-◌, ◌^◌, ◌<◌, Bool, true, false, if◌then◌else◌, nat_le, arith}
 use Rattle.std.proofs.Math.Nat.{one-le-pow}
 use Rattle.snmpsec_capture.specs.Pcapng.{units}
 

@@ -134,6 +134,9 @@ pub record Streams : Type 0 where
   pub untold : Option (List ℕ)
   pub told : Option (List ℕ)
 
+abbrev pub streams : Option (List ℕ) → Option (List ℕ) → Option (List ℕ) → Option (List ℕ) → Option (List ℕ) → Option (List ℕ) → Streams
+streams unread left held written untold told = record { unread = unread; left = left; held = held; written = written; untold = untold; told = told }
+
 -- Items were read, and then a part; all that their records come to is written.
 pub record Stands (P : Printing) (ports : List ℕ) (begun : State) (s : Streams) (IsPart : State → ℕ → List ℕ → List ℕ → Type 0) (passed : Counts) : Type 0 where
   pub items : List (Option Record)

@@ -1,5 +1,5 @@
 -- A capture in either format, as items that are read one behind the other: records, and blocks that are none.
-use Rattle.std.specs.Prelude.{◌≡◌, ◌≢◌, ◌⊎◌, ℕ, ◌+◌, ◌-◌, ◌<◌, ◌≤◌, ◌==◌, ◌&&◌, ◌||◌, ⊤, nat_le, Bool, true, false, List, [], ◌∷◌, ◌++◌, length, take, filter_map, Option, Some, None, IfSome, option_map}
+use Rattle.std.specs.Prelude.{◌≡◌, ◌≢◌, ◌⊎◌, ℕ, ◌+◌, ◌-◌, ◌<◌, ◌≤◌, ◌||◌, ⊤, Bool, true, false, List, [], ◌∷◌, ◌++◌, length, take, filter_map, Option, Some, None, IfSome, option_map}
 use Rattle.std.specs.Io.KnownBytes.{Consumes, IsAtEnd}
 use Rattle.std.proofs.Common.{inl, inr}
 use Rattle.snmpsec_capture.specs.Field.{field16_by, field32}
@@ -7,12 +7,10 @@ use Rattle.snmpsec_capture.specs.Items.{Record, record_of}
 use Rattle.snmpsec_capture.specs.Pcap.{IsHeader, IsHeaderFault, IsRecord, begins_pcap}
 use Rattle.snmpsec_capture.specs.Pcapng.{InSection, IsBlockIn, IsFours, IsPacket, LOOKED_AT, Means, begins_section, block_order, least_size, nowhere, section_of}
 use Rattle.snmpsec_capture.specs.declared.field.Order.{Order}
-use Rattle.snmpsec_capture.specs.declared.field.Order.TheVariants.{Big, Little}
 use Rattle.snmpsec_capture.specs.declared.pcap.Header.{Header}
 use Rattle.snmpsec_capture.specs.declared.pcapng.BlockHead.{BlockHead}
 use Rattle.snmpsec_capture.specs.declared.pcapng.Meaning.{Meaning}
 use Rattle.snmpsec_capture.specs.declared.pcapng.Meaning.TheVariants as meaning
-use Rattle.snmpsec_capture.specs.declared.pcapng.Section.{Section}
 use Rattle.snmpsec_capture.specs.declared.format.Begun.{Begun}
 use Rattle.snmpsec_capture.specs.declared.format.Format.{Format}
 use Rattle.snmpsec_capture.specs.declared.format.Format.TheVariants as format

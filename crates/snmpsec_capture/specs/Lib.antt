@@ -6,3 +6,4 @@ pub mod Pcapng
 pub mod Formats
 pub mod Datagrams
 pub mod Passed
+pub mod Packets

@@ -5,7 +5,7 @@ ghost use Rattle.std.specs.Io.KnownBytes.{Appends, Consumes, IsAtEnd};
 ghost use Rattle.snmpsec_capture.specs.Formats.{state_of};
 ghost use Rattle.snmpsec_capture.specs.Items.{record_of};
 ghost use Rattle.snmpsec_capture.specs.Passed.{IsBelow, counts_of, none_passed};
-ghost use Rattle.snmpsec_capture.specs.Datagrams.{IsEnd, IsLogOf, IsSorted, IsSortedRecord, PrintsAs, PrintsLine, Stands, StopsDatagram, StopsBy, StopsItems, StopsRecord, StopsWrite, WritesDatagram, WritesItem, WritesRecord, log_line, note_line, record_from, told_word};
+ghost use Rattle.snmpsec_capture.specs.Datagrams.{IsEnd, IsLogOf, IsSorted, IsSortedRecord, PrintsAs, PrintsLine, Stands, StopsDatagram, StopsBy, StopsItems, StopsRecord, StopsWrite, WritesDatagram, WritesItem, WritesRecord, log_line, note_line, record_from, told_word, streams};
 
 use crate::fault::CaptureFault;
 use crate::format::{Begun, begin, read_item};
@@ -152,7 +152,7 @@ fn write_datagram<P: Printer, L: Write>(
 }
 
 /// Sorts a record, and writes what it comes to.
-fn write_record<P: Printer, L: Write, N: Write>(
+pub(crate) fn write_record<P: Printer, L: Write, N: Write>(
     alloc: Global,
     ports: &[u16],
     captured: Captured<'_>,
@@ -224,7 +224,7 @@ fn write_items<P: Printer, R: Read, L: Write, N: Write>(
     alloc: Global,
     ports: &[u16],
     begun: Begun,
-    passed: Tally,
+    mut passed: Tally,
     room: &mut [u8],
     printer: &mut P,
     reader: &mut R,
@@ -234,38 +234,18 @@ fn write_items<P: Printer, R: Read, L: Write, N: Write>(
     requires room { length room.old ≡ 262172 }
     requires near { begun.place ≤ 4294967295 }
     requires none { counts_of passed ≡ none_passed }
-    ensures ok { IfOk result (λ passed. Stands (P.prints printer.old) ports.now (state_of begun.format) record {
-      unread = R.remaining reader.old;
-      left = R.remaining reader.new;
-      held = L.contents log.old;
-      written = L.contents log.new;
-      untold = N.contents notes.old;
-      told = N.contents notes.new;
-    } (IsEnd (R.remaining reader.new)) (counts_of passed)) }
-    ensures err { IfErr result (StopsItems (P.prints printer.old) ports.now (state_of begun.format) begun.place record {
-      unread = R.remaining reader.old;
-      left = R.remaining reader.new;
-      held = L.contents log.old;
-      written = L.contents log.new;
-      untold = N.contents notes.old;
-      told = N.contents notes.new;
-    }) }
+    ensures ok { IfOk result (λ passed. Stands (P.prints printer.old) ports.now (state_of begun.format) (streams (R.remaining reader.old) (R.remaining reader.new) (L.contents log.old) (L.contents log.new) (N.contents notes.old) (N.contents notes.new)) (IsEnd (R.remaining reader.new)) (counts_of passed)) }
+    ensures err { IfErr result (StopsItems (P.prints printer.old) ports.now (state_of begun.format) begun.place (streams (R.remaining reader.old) (R.remaining reader.new) (L.contents log.old) (L.contents log.new) (N.contents notes.old) (N.contents notes.new))) }
 {
-    let mut format = begun.format;
-    let mut place = begun.place;
-    let mut passed = passed;
+    let (mut format, mut place) = (begun.format, begun.place);
     let mut number = 1u64;
     while place < MOST {
-        let next = match read_item(reader, &mut format, room) {
-            Ok(next) => next,
-            Err(fault) => return Err(fault),
-        };
-        let item = match next {
+        let item = match read_item(reader, &mut format, room)? {
             Next::Item(item) => item,
             Next::End => return Ok(passed),
             Next::OutOfForm => return Err(CaptureFault::Octet(place)),
         };
-        number = match write_item(
+        number = write_item(
             alloc,
             ports,
             number,
@@ -275,10 +255,7 @@ fn write_items<P: Printer, R: Read, L: Write, N: Write>(
             &mut passed,
             log,
             notes,
-        ) {
-            Ok(number) => number,
-            Err(fault) => return Err(fault),
-        };
+        )?;
         place += item.size as u64;
     }
     Err(CaptureFault::Octet(place))
@@ -305,14 +282,8 @@ pub fn write_datagrams<R: Read, L: Write, N: Write>(
     ensures ok { IfOk result (λ passed. IfSome (R.remaining reader.old) (λ capture. (lines : List ℕ) × (tells : List ℕ)
         × IsLogOf PrintsLine ports.now capture lines tells (counts_of passed)
         × Appends (L.contents log.old) (L.contents log.new) lines × Appends (N.contents notes.old) (N.contents notes.new) tells)) }
-    ensures err { IfErr result (StopsBy PrintsLine ports.now record {
-      unread = R.remaining reader.old;
-      left = R.remaining reader.new;
-      held = L.contents log.old;
-      written = L.contents log.new;
-      untold = N.contents notes.old;
-      told = N.contents notes.new;
-    }) }
+    ensures err { IfErr result (StopsBy PrintsLine ports.now
+        (streams (R.remaining reader.old) (R.remaining reader.new) (L.contents log.old) (L.contents log.new) (N.contents notes.old) (N.contents notes.new))) }
 {
     let mut octets = [0u8; HEADER];
     let Ok(count) = read_full(reader, &mut octets) else {
@@ -346,14 +317,8 @@ pub fn print_datagrams_behind<P: Printer, R: Read, L: Write, N: Write>(
         → IfOk result (λ passed. IfSome unread (λ capture. (lines : List ℕ) × (tells : List ℕ)
         × IsLogOf (P.prints printer.old) ports.now capture lines tells (counts_of passed)
         × Appends (L.contents log.old) (L.contents log.new) lines × Appends (N.contents notes.old) (N.contents notes.new) tells)) }
-    ensures err { (unread : Option (List ℕ)) → Consumes unread (R.remaining reader.old) front.now → IfErr result (StopsBy (P.prints printer.old) ports.now record {
-      unread = unread;
-      left = R.remaining reader.new;
-      held = L.contents log.old;
-      written = L.contents log.new;
-      untold = N.contents notes.old;
-      told = N.contents notes.new;
-    }) }
+    ensures err { (unread : Option (List ℕ)) → Consumes unread (R.remaining reader.old) front.now → IfErr result (StopsBy (P.prints printer.old) ports.now
+        (streams unread (R.remaining reader.new) (L.contents log.old) (L.contents log.new) (N.contents notes.old) (N.contents notes.new))) }
 {
     let Ok(mut room) = vec![in alloc; 0u8; ROOM] else {
         return Err(CaptureFault::OutOfMemory);
@@ -361,10 +326,7 @@ pub fn print_datagrams_behind<P: Printer, R: Read, L: Write, N: Write>(
     let Ok(passed) = Tally::none(alloc) else {
         return Err(CaptureFault::OutOfMemory);
     };
-    let begun = match begin(alloc, front, room.as_mut_slice(), reader) {
-        Ok(begun) => begun,
-        Err(fault) => return Err(fault),
-    };
+    let begun = begin(alloc, front, room.as_mut_slice(), reader)?;
     write_items(
         alloc,
         ports,

@@ -1,19 +1,13 @@
 -- To each question snmpd has one choice, and RFC 3415 rows of one index.
-use Rattle.std.proofs.Common.{◌≡◌, ◌≢◌, ℕ, zero, suc, ◌<◌, ◌≤◌, List, [], ◌∷◌, ◌++◌, take, drop, length, get_or, Contains, Option, Some, None, ◌⊎◌, inl, inr, refl, ap, sym, subst, ◌∙◌, ◌↔◌, append_assoc, append-nil, arith, length-append}
+use Rattle.std.proofs.Common.{◌≡◌, ◌≢◌, ℕ, zero, suc, ◌<◌, ◌≤◌, List, [], ◌∷◌, ◌++◌, take, drop, length, get_or, Contains, Option, Some, None, inl, inr, refl, ap, sym, subst, ◌∙◌, ◌↔◌, append_assoc, append-nil, arith, length-append}
 use Rattle.std.proofs.lemmas.Bool.{cases_lt}
 use Rattle.std.proofs.lemmas.Cmp.{on_total}
-use Rattle.std.proofs.lemmas.List.{take_all, take-append-le, take-append-drop}
+use Rattle.std.proofs.lemmas.List.{take-append-le, take-append-drop}
 use Rattle.std.proofs.Math.Seq.{take-append_seam}
-use Rattle.std.proofs.lemmas.Map.Lookups.{exact_unsigned}
 use Rattle.snmp_ber.specs.declared.level.Level.{Level}
-use Rattle.snmp_ber.specs.Level.{level_number}
-use Rattle.std.specs.Cmp.{IsTotalOrder}
-use Rattle.std.specs.Ordering.{ordering_then, ordering_reverse}
-use Rattle.std.specs.declared.cmp.Ordering.{Ordering}
-use Rattle.std.specs.declared.cmp.Ordering.TheVariants.{Less, Equal, Greater}
-use Rattle.std.proofs.lemmas.Bool.Decides.{nat_tests}
-use Rattle.vacm_core.specs.Allowed.{IsBestOf, FitsMessage, FitsContext, IsPrefixOf, access_order, specificity}
+use Rattle.vacm_core.specs.Allowed.{IsBestOf, FitsMessage, IsPrefixOf}
 use Rattle.vacm_core.specs.Laws.{access_order-total}
+use Rattle.vacm_core.proofs.Uniqueness.{alike, one_index}
 use Rattle.vacm_core.specs.declared.rows.AccessRow.{AccessRow}
 use Rattle.snmpsec_lists.specs.declared.rows.HeldAccess.{HeldAccess}
 use Rattle.snmpsec_lists.specs.declared.questions.Contexts.{Contexts}
@@ -21,7 +15,8 @@ use Rattle.snmpsec_lists.specs.declared.questions.Contexts.TheVariants.{Named, B
 use Rattle.snmpsec_lists.specs.declared.questions.Question.{Question}
 use Rattle.snmpsec_lists.specs.Questions.{IsAbout, FitsContexts, FitsQuestion, IsNextAt, BestOf, ChoosesAt}
 use Rattle.snmpsec_lists.specs.declared.rows.Place.{Place}
-use Rattle.snmpsec_choices.specs.Differences.{FitsHeld, held_order, HasOneEach, HaveSameViews, ChoosesOther, IsDifference, Differs}
+use Rattle.snmpsec_lists.specs.Kept.{HasOneEach}
+use Rattle.snmpsec_choices.specs.Differences.{FitsHeld, held_order, HaveSameViews, ChoosesOther, Differs}
 
 -- ---- snmpd's choice
 
@@ -45,29 +40,6 @@ one_choice Fits rows a b x y = one_so_far Fits rows (length rows) a b x y
 
 -- ---- RFC 3415's
 
--- two rows that no other exceeds are alike in the order
-alike : {R : Type 0} (order : R → R → Ordering) → IsTotalOrder order → (x y : R) → order x y ≢ Less → order y x ≢ Less → order x y ≡ Equal
-alike order laws x y not_below not_above = by (order x y) (order y x) (laws.antisymm x y) not_below not_above
-  where
-    by : (o p : Ordering) → o ≡ ordering_reverse p → o ≢ Less → p ≢ Less → o ≡ Equal
-    by Less p e a b = absurd (a refl)
-    by Equal p e a b = refl
-    by Greater Less e a b = absurd (b refl)
-    by Greater Equal e a b = cc
-    by Greater Greater e a b = cc
-
-then_equal : (o p : Ordering) → ordering_then o p ≡ Equal → (o ≡ Equal) × (p ≡ Equal)
-then_equal Less p h = cc
-then_equal Equal p h = (refl, h)
-then_equal Greater p h = cc
-
-prefix_taken : (row : AccessRow) (context : List ℕ) → FitsContext row context → row.prefix ≡ take (length row.prefix) context
-prefix_taken row context (inl same) = rw same (sym (take_all (length context) context (omega arith)))
-prefix_taken row context (inr part) = rw part.1.1 (sym (take-append_seam row.prefix part.1.0))
-
-model_same : (model : ℕ) (x y : AccessRow) → (x.model ≡ model) ⊎ (x.model ≡ 0) → (y.model ≡ model) ⊎ (y.model ≡ 0) → specificity x ≡ specificity y → x.model ≡ y.model
-model_same model x y f g e = grind (arith, nat_tests)
-
 name_of : Contexts → List ℕ
 name_of (Named name) = name
 name_of (Beyond name) = name
@@ -86,19 +58,10 @@ fits_name q row f =
 pub one_best : (kept : List HeldAccess) → HasOneEach kept → (q : Question) (x y : HeldAccess) → IsBestOf kept (FitsHeld q) held_order x
     → IsBestOf kept (FitsHeld q) held_order y → x.row ≡ y.row
 one_best kept one q x y b d =
-    let f = fits_name q x.row b.fits in
-    let g = fits_name q y.row d.fits in
     let total = on_total (λ (h : HeldAccess). h.row) access_order-total in
     let order = alike held_order total x y (b.unexceeded y d.in_table d.fits) (d.unexceeded x b.in_table b.fits) in
-    let first = then_equal _ _ order in
-    let second = then_equal _ _ first.1 in
-    let model : x.row.model ≡ y.row.model = model_same q.model x.row y.row f.fits_model g.fits_model (exact_unsigned _ _ first.0) in
-    let len : length x.row.prefix ≡ length y.row.prefix = exact_unsigned _ _ second.0 in
-    let prefix : x.row.prefix ≡ y.row.prefix =
-    prefix_taken x.row (name_of q.contexts) f.fits_context ∙ ap (λ n. take n (name_of q.contexts)) len ∙ sym (prefix_taken y.row (name_of q.contexts) g.fits_context) in
-    let level : level_number x.row.level ≡ level_number y.row.level = exact_unsigned _ _ second.1 in
-    let in_group : x.row.group ≡ y.row.group = f.same_group ∙ sym g.same_group in
-    one x y b.in_table d.in_table in_group prefix model level
+    let same = one_index q.group q.model q.level (name_of q.contexts) x.row y.row (fits_name q x.row b.fits) (fits_name q y.row d.fits) order in
+    one x y b.in_table d.in_table same.0 same.1 same.2 same.3
 
 -- ---- contexts
 

@@ -1,7 +1,6 @@
 -- Whether snmpd and RFC 3415 choose access rows with other views for the same messages.
-use Rattle.std.specs.Prelude.{◌≡◌, ℕ, List, get_or, Contains, Option, Some, None}
+use Rattle.std.specs.Prelude.{◌≡◌, ℕ, List, get_or, Option, Some, None}
 use Rattle.std.specs.declared.cmp.Ordering.{Ordering}
-use Rattle.snmp_ber.specs.Level.{level_number}
 use Rattle.vacm_core.specs.Allowed.{IsBestOf, NoneFits, access_order}
 use Rattle.vacm_core.specs.declared.rows.AccessRow.{AccessRow}
 use Rattle.snmpsec_lists.specs.declared.rows.Place.{Place}
@@ -22,12 +21,6 @@ pub record HaveSameViews (a b : AccessRow) : Type 0 where
   pub read : a.read ≡ b.read
   pub write : a.write ≡ b.write
   pub notify : a.notify ≡ b.notify
-
--- of each index there is one row
-abbrev pub HasOneEach : List HeldAccess → Type 0
-HasOneEach kept =
-    (x y : HeldAccess) → Contains kept x → Contains kept y → x.row.group ≡ y.row.group → x.row.prefix ≡ y.row.prefix → x.row.model ≡ y.row.model
-    → level_number x.row.level ≡ level_number y.row.level → x.row ≡ y.row
 
 -- Over these rows RFC 3415 chooses none for such messages, or one with other views than this one, and that one is from this place.
 abbrev pub ChoosesOther : List HeldAccess → Question → AccessRow → Option Place → Type 0

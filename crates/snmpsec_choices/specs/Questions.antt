@@ -1,12 +1,13 @@
 -- For which messages snmpd and RFC 3415 are compared.
 use Rattle.std.specs.Prelude.{◌≡◌, ◌⊎◌, ℕ, List, Contains}
-use Rattle.vacm_core.specs.Allowed.{HasContext}
+use Rattle.vacm_core.specs.Allowed.{HasContext, FitsContext}
 use Rattle.vacm_core.specs.declared.rows.ContextRow.{ContextRow}
 use Rattle.snmpsec_lists.specs.declared.rows.HeldAccess.{HeldAccess}
 use Rattle.snmpsec_lists.specs.declared.rows.HeldGroup.{HeldGroup}
 use Rattle.snmpsec_lists.specs.declared.questions.Contexts.{Contexts}
 use Rattle.snmpsec_lists.specs.declared.questions.Contexts.TheVariants.{Named, Beyond}
 use Rattle.snmpsec_lists.specs.declared.questions.Question.{Question}
+use Rattle.snmpsec_lists.specs.Questions.{IsAbout}
 use Rattle.snmpsec_choices.specs.declared.comparison.Chosen.{Chosen}
 use Rattle.snmpsec_choices.specs.declared.comparison.Difference.{Difference}
 use Rattle.snmpsec_choices.specs.declared.questions.Compared.{Compared}
@@ -45,6 +46,12 @@ pub record TellsDifferences (s : Sides) (found : List Difference) : Type 0 where
   pub each : (difference : Difference) → Contains found difference → IsAsked s difference.question × IsDifference s.held s.kept difference
   pub all : (question : Question) → IsAsked s question → Differs s.held s.kept question
       → (difference : Difference) × Contains found difference × (difference.question ≡ question)
+
+-- Some of the contexts that are tried for the group are those that this context is one of; or no row of the group is for it.
+abbrev pub IsCovered : Sides → List ℕ → List ℕ → Type 0
+IsCovered s group context =
+    ((contexts : Contexts) × IsTried s group contexts × IsAbout s.held group contexts context)
+    ⊎ ((held : HeldAccess) → Contains s.held held → held.row.group ≡ group → FitsContext held.row context → ⊥)
 
 -- ---- between the calls
 

@@ -1,7 +1,7 @@
 //! The messages that are asked for: of each group and model that a name has, at each level, in each context that rows tell apart.
 
 ghost use Rattle.std.specs.Prelude.{◌≡◌, ◌↔◌, ◌+◌, ◌<◌, IsTrue, OnOk, IfOk, length, take};
-ghost use Rattle.snmpsec_choices.specs.Differences.{HasOneEach};
+ghost use Rattle.snmpsec_lists.specs.Kept.{HasOneEach};
 ghost use Rattle.snmpsec_choices.specs.Questions.{sides_of, IsLike, HasPrefix, HasPair, IsOfPrefix, IsOfPrefixes, IsOfEither, IsOfPairs, Tells, GoesOn, TellsDifferences};
 
 use crate::comparison::{Chosen, Difference, difference_of};

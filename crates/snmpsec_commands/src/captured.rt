@@ -1,10 +1,11 @@
 //! Commands over the datagrams of a file: `datagrams`, `show --from` and `open --from`.
 
-use crate::datagrams::{Unread, ports_of};
-use crate::files::{FileFault, open_log, read_file};
-use crate::forms::{Asked, Form, form_of};
+use crate::files::{open_log, read_file};
 use crate::run::unread;
-use crate::shown::{Printout, write_printout};
+use snmpsec_datagrams::FileFault;
+use snmpsec_datagrams::datagrams::{Unread, ports_of};
+use snmpsec_datagrams::forms::{Asked, Form, form_of, may_be_dumps};
+use snmpsec_datagrams::shown::{Printout, write_printout};
 use snmpsec_texts::{Output, moment_of};
 use snmpsec_words::{DatagramsWords, FromWords};
 use std::alloc::{AllocError, Global};
@@ -37,14 +38,30 @@ enum Unwanted {
     OutOfMemory,
 }
 
-/// Looks at the form, the ports and the moment, in this order.
-fn wanted_of(alloc: Global, words: &DatagramsWords<'_>) -> Result<Wanted, Unwanted> {
+/// The form of the file, where its octets aren't to tell. That of dumps of packets goes with no other word than that of dumps.
+fn form_asked(words: &DatagramsWords<'_>) -> Result<Option<Form>, Unwanted> {
     let form = match words.form {
         None => None,
         Some(word) => match form_of(word) {
             Some(form) => Some(form),
             None => return Err(Unwanted::Word("bad word FORM")),
         },
+    };
+    if !words.ip {
+        return Ok(form);
+    }
+    if may_be_dumps(form) {
+        Ok(Some(Form::Packets))
+    } else {
+        Err(Unwanted::Word("bad word FORM"))
+    }
+}
+
+/// Looks at the form, the ports and the moment, in this order.
+fn wanted_of(alloc: Global, words: &DatagramsWords<'_>) -> Result<Wanted, Unwanted> {
+    let form = match form_asked(words) {
+        Ok(form) => form,
+        Err(why) => return Err(why),
     };
     let ports = match ports_of(alloc, &words.ports) {
         Ok(Some(ports)) => ports,

@@ -1,10 +1,11 @@
 //! `snmpsec check-clocks` and `snmpsec check-log`: whether a file is what it is to be, and what is wrong where it isn't.
 
-use crate::files::{FileFault, open_log, read_file};
+use crate::files::{open_log, read_file};
 use crate::run::unread;
 use crate::why_files::look_at_saved;
-use crate::why_words::Wrong;
+use crate::why_words::Complaint;
 use engine_clock::{ClockFault, Clocks};
+use snmpsec_datagrams::FileFault;
 use snmpsec_replay::{CheckedLog, ReplayFault, check_log};
 use snmpsec_texts::{Output, refused_clocks};
 use std::alloc::{AllocError, Global};
@@ -44,11 +45,11 @@ fn explained_clocks(
     let mut output = refused_clocks(alloc, name, fault)?;
     match look_at_saved(alloc, octets) {
         Ok(()) => Ok(output),
-        Err(Wrong::Told(line)) => {
+        Err(Complaint::Told(line)) => {
             output.err = line.into_bytes();
             Ok(output)
         }
-        Err(Wrong::OutOfMemory) => Err(AllocError),
+        Err(Complaint::OutOfMemory) => Err(AllocError),
     }
 }
 

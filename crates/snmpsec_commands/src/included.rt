@@ -1,6 +1,7 @@
 //! Files of snmpd.conf, and those that they name.
 
-use crate::files::{FILE_LIMIT, FileFault, read_file, read_whole};
+use crate::files::read_file;
+use snmpsec_datagrams::{FILE_LIMIT, FileFault, read_whole};
 use snmpsec_lists::{Followed, Include, Item, Made, Place, read_items};
 use std::alloc::{AllocError, Global};
 use std::rt::Files;

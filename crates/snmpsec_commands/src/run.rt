@@ -5,11 +5,12 @@ ghost use Rattle.snmpsec_notes.specs.Names.{AddsNames};
 
 use crate::captured::{log_file, open_file, show_file};
 use crate::checks::{check_clocks_files, check_log_file};
-use crate::files::{FileFault, open_log, read_file};
+use crate::files::{open_log, read_file};
 use crate::import::import_snmpd;
 use crate::replay::{first_line_of, replay_as};
 use crate::why::{says_why, why};
 use clap::error::ErrorKind;
+use snmpsec_datagrams::FileFault;
 use snmpsec_notes::with_names;
 use snmpsec_replay::{Printing, ReplayFault};
 use snmpsec_streams::write_whole;

@@ -5,7 +5,7 @@ use crate::why_files::{
     look_at_clocks, look_at_config, look_at_file, look_at_files, look_at_log, look_at_whole_file,
 };
 use crate::why_words::{
-    Wrong, look_at_digits, look_at_first, look_at_form, look_at_level, look_at_model,
+    Complaint, look_at_digits, look_at_first, look_at_form, look_at_level, look_at_model,
     look_at_moment, look_at_ports, look_at_variable, look_at_view,
 };
 use snmpsec_notes::cut_message;
@@ -22,8 +22,8 @@ pub(crate) fn why<R: Files + AllocGlobal>(
 ) -> Result<Option<String>, AllocError> {
     match look_at(rt, command, status) {
         Ok(()) => Ok(None),
-        Err(Wrong::Told(line)) => Ok(Some(line)),
-        Err(Wrong::OutOfMemory) => Err(AllocError),
+        Err(Complaint::Told(line)) => Ok(Some(line)),
+        Err(Complaint::OutOfMemory) => Err(AllocError),
     }
 }
 
@@ -43,7 +43,11 @@ pub(crate) fn says_why(command: &Command<'_>) -> bool {
 }
 
 /// Looks at the words and the files of a command as it does.
-fn look_at<R: Files + AllocGlobal>(rt: &R, command: &Command<'_>, status: u8) -> Result<(), Wrong> {
+fn look_at<R: Files + AllocGlobal>(
+    rt: &R,
+    command: &Command<'_>,
+    status: u8,
+) -> Result<(), Complaint> {
     match command {
         Command::Show { digits } => look_at_datagram(rt.alloc(), digits),
         Command::ShowFrom(from) => look_at_capture(rt, &from.words, status),
@@ -65,30 +69,37 @@ fn look_at<R: Files + AllocGlobal>(rt: &R, command: &Command<'_>, status: u8) ->
 }
 
 /// HEX, and whether the message that it is goes on behind it.
-fn look_at_datagram(alloc: Global, digits: &str) -> Result<(), Wrong> {
+fn look_at_datagram(alloc: Global, digits: &str) -> Result<(), Complaint> {
     look_at_digits(alloc, digits)?;
     look_at_end(alloc, digits)
 }
 
 /// Whether a message goes on behind its datagram.
-fn look_at_end(alloc: Global, digits: &str) -> Result<(), Wrong> {
+fn look_at_end(alloc: Global, digits: &str) -> Result<(), Complaint> {
     let Ok(datagram) = hex::decode(alloc, digits) else {
         return Ok(());
     };
     match cut_message(&datagram) {
-        Some(cut) => Err(Wrong::Told(format!(in alloc; "snmpsec: {cut}\n")?)),
+        Some(cut) => Err(Complaint::Told(format!(in alloc; "snmpsec: {cut}\n")?)),
         None => Ok(()),
     }
 }
 
-fn look_at_opened<R: Files + AllocGlobal>(rt: &R, config: &str, digits: &str) -> Result<(), Wrong> {
+fn look_at_opened<R: Files + AllocGlobal>(
+    rt: &R,
+    config: &str,
+    digits: &str,
+) -> Result<(), Complaint> {
     look_at_whole_file(rt, config)?;
     look_at_digits(rt.alloc(), digits)?;
     look_at_config(rt, config)?;
     look_at_end(rt.alloc(), digits)
 }
 
-fn look_at_question<R: Files + AllocGlobal>(rt: &R, words: &AccessWords<'_>) -> Result<(), Wrong> {
+fn look_at_question<R: Files + AllocGlobal>(
+    rt: &R,
+    words: &AccessWords<'_>,
+) -> Result<(), Complaint> {
     let [model, _, level, view, _, variable] = words.question;
     look_at_whole_file(rt, words.config)?;
     look_at_model(rt.alloc(), model)?;
@@ -98,18 +109,21 @@ fn look_at_question<R: Files + AllocGlobal>(rt: &R, words: &AccessWords<'_>) -> 
     look_at_config(rt, words.config)
 }
 
-fn look_at_who<R: Files + AllocGlobal>(rt: &R, words: &WhoWords<'_>) -> Result<(), Wrong> {
+fn look_at_who<R: Files + AllocGlobal>(rt: &R, words: &WhoWords<'_>) -> Result<(), Complaint> {
     look_at_whole_file(rt, words.config)?;
     look_at_variable(rt.alloc(), words.variable)?;
     look_at_view(rt.alloc(), words.view)
 }
 
-fn look_at_sees<R: Files + AllocGlobal>(rt: &R, words: &SeesWords<'_>) -> Result<(), Wrong> {
+fn look_at_sees<R: Files + AllocGlobal>(rt: &R, words: &SeesWords<'_>) -> Result<(), Complaint> {
     look_at_whole_file(rt, words.config)?;
     look_at_model(rt.alloc(), words.model)
 }
 
-fn look_at_replay<R: Files + AllocGlobal>(rt: &R, words: &ReplayWords<'_>) -> Result<(), Wrong> {
+fn look_at_replay<R: Files + AllocGlobal>(
+    rt: &R,
+    words: &ReplayWords<'_>,
+) -> Result<(), Complaint> {
     look_at_moment(rt.alloc(), words.moment)?;
     look_at_first(rt.alloc(), words.from_line)?;
     look_at_whole_file(rt, words.config)?;
@@ -125,7 +139,7 @@ fn look_at_merge<R: Files + AllocGlobal>(
     rt: &R,
     moment: Option<&str>,
     files: &[&str],
-) -> Result<(), Wrong> {
+) -> Result<(), Complaint> {
     look_at_moment(rt.alloc(), moment)?;
     look_at_files(rt, files)?;
     for file in files {
@@ -135,14 +149,14 @@ fn look_at_merge<R: Files + AllocGlobal>(
 }
 
 /// The words of a file with datagrams.
-fn look_at_wanted(alloc: Global, words: &DatagramsWords<'_>) -> Result<(), Wrong> {
-    look_at_form(alloc, words.form)?;
+fn look_at_wanted(alloc: Global, words: &DatagramsWords<'_>) -> Result<(), Complaint> {
+    look_at_form(alloc, words.form, words.ip)?;
     look_at_ports(alloc, &words.ports)?;
     look_at_moment(alloc, words.moment)
 }
 
 /// Whether a file with datagrams can be read. One that was read to a refusal isn't read once more.
-fn look_at_source<R: Files + AllocGlobal>(rt: &R, name: &str, status: u8) -> Result<(), Wrong> {
+fn look_at_source<R: Files + AllocGlobal>(rt: &R, name: &str, status: u8) -> Result<(), Complaint> {
     if status == 1 || name == "-" {
         return Ok(());
     }
@@ -153,7 +167,7 @@ fn look_at_capture<R: Files + AllocGlobal>(
     rt: &R,
     words: &DatagramsWords<'_>,
     status: u8,
-) -> Result<(), Wrong> {
+) -> Result<(), Complaint> {
     look_at_wanted(rt.alloc(), words)?;
     look_at_source(rt, words.file, status)
 }
@@ -163,7 +177,7 @@ fn look_at_opened_file<R: Files + AllocGlobal>(
     config: &str,
     words: &DatagramsWords<'_>,
     status: u8,
-) -> Result<(), Wrong> {
+) -> Result<(), Complaint> {
     look_at_wanted(rt.alloc(), words)?;
     look_at_whole_file(rt, config)?;
     look_at_source(rt, words.file, status)?;

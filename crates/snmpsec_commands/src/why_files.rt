@@ -1,9 +1,9 @@
 //! What is wrong with a file.
 
-use crate::files::{FILE_LIMIT, FileFault, read_file};
-use crate::why_words::Wrong;
-use engine_clock::{ClockFault, Clocks};
-use snmpsec_notes::{clocks_fault, text_of};
+use crate::files::read_file;
+use crate::why_words::Complaint;
+use snmpsec_datagrams::{FILE_LIMIT, FileFault};
+use snmpsec_notes::{CheckedClocks, check_clocks};
 use snmpsec_replay::{CheckedLog, ReplayFault, check_log};
 use snmpsec_texts::check_config_text;
 use std::alloc::{AllocError, Global};
@@ -16,24 +16,30 @@ pub(crate) fn look_at_file<R: Files + AllocGlobal>(
     rt: &R,
     name: &str,
     limit: usize,
-) -> Result<(), Wrong> {
+) -> Result<(), Complaint> {
     let why = match fs::open(rt, name) {
         Ok(mut file) => read_fault(&mut file, limit),
         Err(fault) => Some(fault_words(&fault)),
     };
     match why {
-        Some(why) => Err(Wrong::Told(format!(in rt.alloc(); "snmpsec: {name}: {why}\n")?)),
+        Some(why) => Err(Complaint::Told(format!(in rt.alloc(); "snmpsec: {name}: {why}\n")?)),
         None => Ok(()),
     }
 }
 
 /// A file that is read whole.
-pub(crate) fn look_at_whole_file<R: Files + AllocGlobal>(rt: &R, name: &str) -> Result<(), Wrong> {
+pub(crate) fn look_at_whole_file<R: Files + AllocGlobal>(
+    rt: &R,
+    name: &str,
+) -> Result<(), Complaint> {
     look_at_file(rt, name, FILE_LIMIT)
 }
 
 /// Each of these files, which are read whole.
-pub(crate) fn look_at_files<R: Files + AllocGlobal>(rt: &R, names: &[&str]) -> Result<(), Wrong> {
+pub(crate) fn look_at_files<R: Files + AllocGlobal>(
+    rt: &R,
+    names: &[&str],
+) -> Result<(), Complaint> {
     for name in names {
         look_at_whole_file(rt, name)?;
     }
@@ -67,16 +73,16 @@ fn read_fault<R: Read>(reader: &mut R, limit: usize) -> Option<&'static str> {
 }
 
 /// The octets of a file that can be read.
-fn octets_of<R: Files + AllocGlobal>(rt: &R, name: &str) -> Result<Option<Vec<u8>>, Wrong> {
+fn octets_of<R: Files + AllocGlobal>(rt: &R, name: &str) -> Result<Option<Vec<u8>>, Complaint> {
     match read_file(rt, name) {
         Ok(octets) => Ok(Some(octets)),
         Err(FileFault::CannotRead) => Ok(None),
-        Err(FileFault::OutOfMemory) => Err(Wrong::OutOfMemory),
+        Err(FileFault::OutOfMemory) => Err(Complaint::OutOfMemory),
     }
 }
 
 /// A configuration that was read isn't refused, or else what check-config says.
-pub(crate) fn look_at_config<R: Files + AllocGlobal>(rt: &R, name: &str) -> Result<(), Wrong> {
+pub(crate) fn look_at_config<R: Files + AllocGlobal>(rt: &R, name: &str) -> Result<(), Complaint> {
     let Some(octets) = octets_of(rt, name)? else {
         return Ok(());
     };
@@ -85,13 +91,13 @@ pub(crate) fn look_at_config<R: Files + AllocGlobal>(rt: &R, name: &str) -> Resu
         return Ok(());
     }
     match String::from_utf8(output.err) {
-        Ok(line) => Err(Wrong::Told(line)),
+        Ok(line) => Err(Complaint::Told(line)),
         Err(_) => Ok(()),
     }
 }
 
 /// A file that was read has saved clocks.
-pub(crate) fn look_at_clocks<R: Files + AllocGlobal>(rt: &R, name: &str) -> Result<(), Wrong> {
+pub(crate) fn look_at_clocks<R: Files + AllocGlobal>(rt: &R, name: &str) -> Result<(), Complaint> {
     match octets_of(rt, name)? {
         Some(octets) => look_at_saved(rt.alloc(), &octets),
         None => Ok(()),
@@ -99,16 +105,12 @@ pub(crate) fn look_at_clocks<R: Files + AllocGlobal>(rt: &R, name: &str) -> Resu
 }
 
 /// The octets are saved clocks.
-pub(crate) fn look_at_saved(alloc: Global, octets: &[u8]) -> Result<(), Wrong> {
-    let number = match Clocks::read_saved(alloc, octets, 0) {
-        Ok(_) => return Ok(()),
-        Err(ClockFault::Line(number)) => number,
-        Err(ClockFault::OutOfMemory) => return Err(Wrong::OutOfMemory),
-    };
-    let text = text_of(alloc, octets)?;
-    match clocks_fault(&text, number) {
-        Some(fault) => Err(Wrong::Told(format!(in alloc; "snmpsec: line {number}: {fault}\n")?)),
-        None => Ok(()),
+pub(crate) fn look_at_saved(alloc: Global, octets: &[u8]) -> Result<(), Complaint> {
+    match check_clocks(alloc, octets)? {
+        CheckedClocks::Whole => Ok(()),
+        CheckedClocks::Faulty { number, why } => {
+            Err(Complaint::Told(format!(in alloc; "snmpsec: line {number}: {why}\n")?))
+        }
     }
 }
 
@@ -117,20 +119,20 @@ pub(crate) fn look_at_log<R: Files + AllocGlobal>(
     rt: &R,
     name: &str,
     first: u64,
-) -> Result<(), Wrong> {
+) -> Result<(), Complaint> {
     let alloc = rt.alloc();
     let Ok(file) = fs::open(rt, name) else {
         return Ok(());
     };
     let Ok(mut reader) = BufReader::new(alloc, file) else {
-        return Err(Wrong::OutOfMemory);
+        return Err(Complaint::OutOfMemory);
     };
     match check_log(alloc, &mut reader) {
         Ok(CheckedLog::Faulty { number, why }) => {
             let number = number.saturating_add(first).saturating_sub(1);
-            Err(Wrong::Told(format!(in alloc; "snmpsec: line {number}: {why}\n")?))
+            Err(Complaint::Told(format!(in alloc; "snmpsec: line {number}: {why}\n")?))
         }
         Ok(CheckedLog::Whole(_)) | Err(ReplayFault::CannotRead) => Ok(()),
-        Err(_) => Err(Wrong::OutOfMemory),
+        Err(_) => Err(Complaint::OutOfMemory),
     }
 }

@@ -16,10 +16,10 @@ use Rattle.vacm_core.specs.Tables.{Tables}
 use Rattle.vacm_core.specs.Faults as access_rows
 use Rattle.vacm_core.specs.declared.fault.Table.{Table}
 use Rattle.vacm_core.specs.declared.fault.Table.TheVariants as vacm_tables
-use Rattle.snmpsec_config.specs.declared.fault.ConfigTable.{ConfigTable}
-use Rattle.snmpsec_config.specs.declared.fault.ConfigTable.TheVariants as tables
-use Rattle.snmpsec_config.specs.declared.fault.Wrong.{Wrong}
-use Rattle.snmpsec_config.specs.declared.fault.Wrong.TheVariants.{BadUser, ShortPassword, DuplicateUser, BadRow, Duplicate}
+use Rattle.snmpsec_config.specs.declared.table.ConfigTable.{ConfigTable}
+use Rattle.snmpsec_config.specs.declared.table.ConfigTable.TheVariants as tables
+use Rattle.snmpsec_config.specs.declared.fault.LoadFault.{LoadFault}
+use Rattle.snmpsec_config.specs.declared.fault.LoadFault.TheVariants.{BadUser, ShortPassword, DuplicateUser, BadRow, Duplicate}
 use Rattle.snmpsec_config.specs.declared.fault.ConfigFault.{ConfigFault}
 use Rattle.snmpsec_config.specs.declared.fault.ConfigFault.TheVariants as faults
 use Rattle.snmpsec_config.specs.Keys.{EachMember, FirstMember}
@@ -101,7 +101,7 @@ no_user_fault : (users others : List UserRow) (f : UserFault) → map user_value
 no_user_fault users others f e sound first =
     let never : None ≡ Some f = sym (sound first.position) ∙ (same_fault users others first.position e ∙ first.there) in cc
 
-no_access_fault : (rows : Tables) (of : Table) (position : ℕ) (wrong : Wrong) → access_rows.AreSound rows → TellsAccess rows of position wrong → ⊥
+no_access_fault : (rows : Tables) (of : Table) (position : ℕ) (wrong : LoadFault) → access_rows.AreSound rows → TellsAccess rows of position wrong → ⊥
 no_access_fault rows of position BadRow sound told = let never = sym (sound of position) ∙ told.there in cc
 no_access_fault rows of position Duplicate sound told = let never = sym (sound of position) ∙ told.there in cc
 no_access_fault rows of position BadUser sound told = told
@@ -136,14 +136,14 @@ no_bad_of d users rows tables.Family position s bad = no_bad IsFamilyRow _ _ pos
 
 -- ---- no cause
 
-no_user_told : (users others : List UserRow) (position : ℕ) (wrong : Wrong) → map user_values users ≡ map user_values others → user_rows.AreSound users → TellsUser others position wrong → ⊥
+no_user_told : (users others : List UserRow) (position : ℕ) (wrong : LoadFault) → map user_values users ≡ map user_values others → user_rows.AreSound users → TellsUser others position wrong → ⊥
 no_user_told users others position BadUser e sound told = no_user_fault users others (user_faults.BadUser position) e sound told
 no_user_told users others position ShortPassword e sound told = no_user_fault users others (user_faults.ShortPassword position) e sound told
 no_user_told users others position DuplicateUser e sound told = no_user_fault users others (user_faults.DuplicateUser position) e sound told
 no_user_told users others position BadRow e sound told = told
 no_user_told users others position Duplicate e sound told = told
 
-no_row_told : (users others : List UserRow) (rows : Tables) (of : ConfigTable) (position : ℕ) (wrong : Wrong) → map user_values users ≡ map user_values others → user_rows.AreSound users → access_rows.AreSound rows
+no_row_told : (users others : List UserRow) (rows : Tables) (of : ConfigTable) (position : ℕ) (wrong : LoadFault) → map user_values users ≡ map user_values others → user_rows.AreSound users → access_rows.AreSound rows
     → TellsRow others rows of position wrong → ⊥
 no_row_told users others rows tables.User position wrong e sound fine told = no_user_told users others position wrong e sound told
 no_row_told users others rows tables.Context position wrong e sound fine told = no_access_fault rows vacm_tables.Contexts position wrong fine told.1

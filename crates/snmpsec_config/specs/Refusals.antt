@@ -15,10 +15,10 @@ use Rattle.vacm_core.specs.declared.fault.Table.{Table}
 use Rattle.vacm_core.specs.declared.fault.Table.TheVariants as vacm_tables
 use Rattle.vacm_core.specs.declared.fault.VacmFault.{VacmFault}
 use Rattle.vacm_core.specs.declared.fault.VacmFault.TheVariants as vacm_faults
-use Rattle.snmpsec_config.specs.declared.fault.ConfigTable.{ConfigTable}
-use Rattle.snmpsec_config.specs.declared.fault.ConfigTable.TheVariants.{User, Context, Group, Access, Family}
-use Rattle.snmpsec_config.specs.declared.fault.Wrong.{Wrong}
-use Rattle.snmpsec_config.specs.declared.fault.Wrong.TheVariants.{BadUser, ShortPassword, DuplicateUser, BadRow, Duplicate}
+use Rattle.snmpsec_config.specs.declared.table.ConfigTable.{ConfigTable}
+use Rattle.snmpsec_config.specs.declared.table.ConfigTable.TheVariants.{User, Context, Group, Access, Family}
+use Rattle.snmpsec_config.specs.declared.fault.LoadFault.{LoadFault}
+use Rattle.snmpsec_config.specs.declared.fault.LoadFault.TheVariants.{BadUser, ShortPassword, DuplicateUser, BadRow, Duplicate}
 use Rattle.snmpsec_config.specs.declared.fault.KeyFault.{KeyFault}
 use Rattle.snmpsec_config.specs.declared.fault.KeyFault.TheVariants.{Unlisted, Missing, Value}
 use Rattle.snmpsec_config.specs.declared.fault.ConfigFault.{ConfigFault}
@@ -62,14 +62,14 @@ TellsKey of row (Missing key) = HasOnlyListed of row × IsFirstWrong of row key 
 TellsKey of row (Value key) = HasOnlyListed of row × IsFirstWrong of row key × (at row key ≢ None)
 
 -- what is wrong with a row of users, or of view-based access
-abbrev pub TellsUser : List UserRow → ℕ → Wrong → Type 0
+abbrev pub TellsUser : List UserRow → ℕ → LoadFault → Type 0
 TellsUser users position BadUser = user_rows.IsFirstFault users (user_faults.BadUser position)
 TellsUser users position ShortPassword = user_rows.IsFirstFault users (user_faults.ShortPassword position)
 TellsUser users position DuplicateUser = user_rows.IsFirstFault users (user_faults.DuplicateUser position)
 TellsUser users position BadRow = ⊥
 TellsUser users position Duplicate = ⊥
 
-abbrev pub TellsAccess : Tables → Table → ℕ → Wrong → Type 0
+abbrev pub TellsAccess : Tables → Table → ℕ → LoadFault → Type 0
 TellsAccess rows of position BadRow = access_rows.IsTold rows (vacm_faults.BadRow of position)
 TellsAccess rows of position Duplicate = access_rows.IsTold rows (vacm_faults.Duplicate of position)
 TellsAccess rows of position BadUser = ⊥
@@ -77,10 +77,10 @@ TellsAccess rows of position ShortPassword = ⊥
 TellsAccess rows of position DuplicateUser = ⊥
 
 -- a row of view-based access is at fault, and none of users
-abbrev pub TellsLoaded : List UserRow → Tables → Table → ℕ → Wrong → Type 0
+abbrev pub TellsLoaded : List UserRow → Tables → Table → ℕ → LoadFault → Type 0
 TellsLoaded users rows of position wrong = user_rows.AreSound users × TellsAccess rows of position wrong
 
-abbrev pub TellsRow : List UserRow → Tables → ConfigTable → ℕ → Wrong → Type 0
+abbrev pub TellsRow : List UserRow → Tables → ConfigTable → ℕ → LoadFault → Type 0
 TellsRow users rows User position wrong = TellsUser users position wrong
 TellsRow users rows Context position wrong = TellsLoaded users rows vacm_tables.Contexts position wrong
 TellsRow users rows Group position wrong = TellsLoaded users rows vacm_tables.Groups position wrong
@@ -153,7 +153,7 @@ row_refusal of position row_faults.OutOfMemory = faults.OutOfMemory
 
 -- ---- the line that is printed, without its line feed
 
-abbrev pub wrong_name : Wrong → List ℕ
+abbrev pub wrong_name : LoadFault → List ℕ
 wrong_name BadUser = codes "BadUser"
 wrong_name ShortPassword = codes "ShortPassword"
 wrong_name DuplicateUser = codes "DuplicateUser"

@@ -1,12 +1,12 @@
 -- What is wrong with a configuration and what is wanted, in words.
 use Rattle.std.specs.Prelude.{◌≡◌, ⊤, ℕ, List, ◌++◌, codes, decimal, string_bytes, Option, Some, None, IfSome, Contains}
-use Rattle.snmpsec_config.specs.declared.fault.ConfigTable.{ConfigTable}
-use Rattle.snmpsec_config.specs.declared.fault.ConfigTable.TheVariants as tables
-use Rattle.snmpsec_config.specs.declared.fault.Key.{Key}
-use Rattle.snmpsec_config.specs.declared.fault.Wanted.{Wanted}
-use Rattle.snmpsec_config.specs.declared.fault.Wanted.TheVariants as wanted
-use Rattle.snmpsec_config.specs.declared.fault.Wrong.{Wrong}
-use Rattle.snmpsec_config.specs.declared.fault.Wrong.TheVariants.{BadUser, ShortPassword, DuplicateUser, BadRow, Duplicate}
+use Rattle.snmpsec_config.specs.declared.table.ConfigTable.{ConfigTable}
+use Rattle.snmpsec_config.specs.declared.table.ConfigTable.TheVariants as tables
+use Rattle.snmpsec_config.specs.declared.table.ConfigKey.{ConfigKey}
+use Rattle.snmpsec_config.specs.declared.wanted.Wanted.{Wanted}
+use Rattle.snmpsec_config.specs.declared.wanted.Wanted.TheVariants as wanted
+use Rattle.snmpsec_config.specs.declared.fault.LoadFault.{LoadFault}
+use Rattle.snmpsec_config.specs.declared.fault.LoadFault.TheVariants.{BadUser, ShortPassword, DuplicateUser, BadRow, Duplicate}
 use Rattle.snmpsec_config.specs.declared.fault.KeyFault.{KeyFault}
 use Rattle.snmpsec_config.specs.declared.fault.KeyFault.TheVariants.{Unlisted, Missing, Value}
 use Rattle.snmpsec_config.specs.declared.fault.ConfigFault.{ConfigFault}
@@ -41,7 +41,7 @@ index_words tables.Group = codes "an earlier row has this model and name"
 index_words tables.Access = codes "an earlier row has this group, prefix, model and level"
 index_words tables.Family = codes "an earlier row has this view and subtree"
 
-abbrev pub wrong_words : ConfigTable → Wrong → List ℕ
+abbrev pub wrong_words : ConfigTable → LoadFault → List ℕ
 wrong_words of BadUser = codes "a name of 1 to 32 octets is wanted, and a priv-password only beside auth and auth-password"
 wrong_words of ShortPassword = codes "passwords of at least 8 octets are wanted"
 wrong_words of DuplicateUser = codes "an earlier user has this name"
@@ -53,14 +53,14 @@ abbrev pub row_words : ConfigTable → ℕ → List ℕ → List ℕ
 row_words of position words = table_name of ++ (codes " " ++ (decimal position ++ (codes ": " ++ words)))
 
 -- a listed key that is like the one that isn't, if any is
-abbrev pub near_words : Option Key → List ℕ
+abbrev pub near_words : Option ConfigKey → List ℕ
 near_words None = codes ""
 near_words (Some key) = codes ", the nearest is " ++ key_name key
 
 -- what is told of a key
 abbrev pub IsKeyWords : ConfigTable → KeyFault → List ℕ → Type 0
 IsKeyWords of (Unlisted key) text =
-    (near : Option Key) × IfSome near (Contains (listed of)) × (text ≡ string_bytes key ++ (codes ": not a key of this table" ++ near_words near))
+    (near : Option ConfigKey) × IfSome near (Contains (listed of)) × (text ≡ string_bytes key ++ (codes ": not a key of this table" ++ near_words near))
 IsKeyWords of (Missing key) text = text ≡ key_name key ++ (codes ": missing, " ++ wanted_words (wanted_at of key))
 IsKeyWords of (Value key) text = text ≡ key_name key ++ (codes ": " ++ wanted_words (wanted_at of key))
 

@@ -4,17 +4,17 @@ use Rattle.hex.specs.Hex.{decode_of}
 use Rattle.toml.specs.Data.{Data, Members, string, integer, boolean}
 use Rattle.snmpsec_config.specs.Keys.{at, listed, FirstKey}
 use Rattle.snmpsec_config.specs.declared.keys.ValueFault.{ValueFault}
-use Rattle.snmpsec_config.specs.declared.fault.ConfigTable.{ConfigTable}
-use Rattle.snmpsec_config.specs.declared.fault.ConfigTable.TheVariants as tables
-use Rattle.snmpsec_config.specs.declared.fault.Key.{Key}
-use Rattle.snmpsec_config.specs.declared.fault.Key.TheVariants as keys
+use Rattle.snmpsec_config.specs.declared.table.ConfigTable.{ConfigTable}
+use Rattle.snmpsec_config.specs.declared.table.ConfigTable.TheVariants as tables
+use Rattle.snmpsec_config.specs.declared.table.ConfigKey.{ConfigKey}
+use Rattle.snmpsec_config.specs.declared.table.ConfigKey.TheVariants as keys
 use Rattle.snmp_ber.specs.Oid.{AreArcs, dotted}
 use Rattle.snmp_ber.specs.declared.level.Level.{Level}
 use Rattle.usm_keys.specs.declared.auth.Auth.{Auth}
 use Rattle.vacm_core.specs.declared.rows.Matching.{Matching}
 use Rattle.snmpsec_config.specs.Words.{level_word, auth_word, matching_word}
-use Rattle.snmpsec_config.specs.declared.fault.Wanted.{Wanted}
-use Rattle.snmpsec_config.specs.declared.fault.Wanted.TheVariants as wanted
+use Rattle.snmpsec_config.specs.declared.wanted.Wanted.{Wanted}
+use Rattle.snmpsec_config.specs.declared.wanted.Wanted.TheVariants as wanted
 
 -- a text
 abbrev pub IsText : Option Data → List ℕ → Type 0
@@ -70,7 +70,7 @@ wanted_name tables.Group = wanted.Name
 wanted_name tables.Access = wanted.Name
 wanted_name tables.Family = wanted.Name
 
-abbrev pub wanted_at : ConfigTable → Key → Wanted
+abbrev pub wanted_at : ConfigTable → ConfigKey → Wanted
 wanted_at of keys.Name = wanted_name of
 wanted_at of keys.Auth = wanted.Auth
 wanted_at of keys.AuthPassword = wanted.Text
@@ -102,7 +102,7 @@ Allows wanted.Auth value = (auth : Auth) × IsText value (auth_word auth)
 
 -- The row may leave the key out. A user's protocol and password are both left out, or neither. (A mask that is left out is the
 -- empty one, and so is what is wanted.)
-abbrev pub MayMiss : Members → Key → Type 0
+abbrev pub MayMiss : Members → ConfigKey → Type 0
 MayMiss row keys.Auth = at row keys.AuthPassword ≡ None
 MayMiss row keys.AuthPassword = at row keys.Auth ≡ None
 MayMiss row keys.PrivPassword = ⊤
@@ -121,17 +121,17 @@ MayMiss row keys.Include = ⊥
 MayMiss row keys.Mask = ⊥
 
 -- What stands at the key is what is wanted there, or it is left out and may be.
-abbrev pub IsRightAt : ConfigTable → Members → Key → Type 0
+abbrev pub IsRightAt : ConfigTable → Members → ConfigKey → Type 0
 IsRightAt of row key = Allows (wanted_at of key) (at row key) ⊎ ((at row key ≡ None) × MayMiss row key)
 
 -- The first key, of those that the table lists, at which the row isn't right.
-abbrev pub IsFirstWrong : ConfigTable → Members → Key → Type 0
+abbrev pub IsFirstWrong : ConfigTable → Members → ConfigKey → Type 0
 IsFirstWrong of row key = FirstKey (IsRightAt of row) (listed of) key
 
 -- ---- between the calls
 
 -- what is told of the value at a key that isn't right
-abbrev pub value_fault : Option Data → Key → ValueFault
+abbrev pub value_fault : Option Data → ConfigKey → ValueFault
 value_fault value key = record { key = key; is_missing = is_none value }
 
 -- what is told of a user's protocol and password

@@ -1,247 +1,20 @@
 //! Why a configuration is refused, and how that is printed.
 
 ghost use Rattle.std.specs.Prelude.{◌≡◌, ◌≢◌, ◌++◌, codes, Option, Some, IfOk, IfSome, Contains, MatchBool, string_bytes};
-ghost use Rattle.snmpsec_config.specs.Keys.{table_name, key_name, listed, IsListed};
+ghost use Rattle.snmpsec_config.specs.Keys.{listed};
 ghost use Rattle.snmpsec_config.specs.Refusals.{user_refusal, vacm_refusal, wrong_name, refusal_line};
-ghost use Rattle.snmpsec_config.specs.Told.{wanted_words, bad_words, index_words, wrong_words, near_words, IsKeyWords, IsWhy};
-ghost use Rattle.snmpsec_config.specs.Values.{wanted_at};
-ghost use Rattle.snmpsec_config.specs.declared.fault.Key.{Key as AKey};
+ghost use Rattle.snmpsec_config.specs.Told.{wrong_words, near_words, IsKeyWords, IsWhy};
+ghost use Rattle.snmpsec_config.specs.declared.table.ConfigKey.{ConfigKey as AKey};
 ghost use Rattle.snmpsec_config.specs.declared.fault.ConfigFault.TheVariants.{OutOfMemory};
 
 use crate::near::nearest;
+use crate::table::{ConfigKey, ConfigTable};
+use crate::wanted::Wanted;
 use std::alloc::{AllocError, AllocFailed, Global};
 use std::fmt;
 use thiserror::Error;
 use usm_core::UserFault;
-use vacm_core::{Table, VacmFault};
-
-/// The tables of a configuration, in the order in which they are looked at.
-#[derive(Clone, Copy, Debug, PartialEq, Eq)]
-pub enum ConfigTable {
-    /// Users (RFC 3414, usmUserTable).
-    User,
-    /// Contexts (RFC 3415, vacmContextTable).
-    Context,
-    /// Groups of security names (vacmSecurityToGroupTable).
-    Group,
-    /// Access rows (vacmAccessTable).
-    Access,
-    /// View families (vacmViewTreeFamilyTable).
-    Family,
-}
-
-impl ConfigTable {
-    /// The key at the top of the configuration.
-    pub fn name(self) -> &'static str
-        ensures { result.now ≡ table_name self }
-    {
-        match self {
-            ConfigTable::User => "user",
-            ConfigTable::Context => "context",
-            ConfigTable::Group => "group",
-            ConfigTable::Access => "access",
-            ConfigTable::Family => "family",
-        }
-    }
-
-    /// The keys that it lists.
-    pub(crate) fn keys(self) -> &'static [Key]
-        ensures { result.now ≡ listed self }
-    {
-        match self {
-            ConfigTable::User => &[Key::Name, Key::Auth, Key::AuthPassword, Key::PrivPassword],
-            ConfigTable::Context => &[Key::Name],
-            ConfigTable::Group => &[Key::Model, Key::Name, Key::Group],
-            ConfigTable::Access => &[
-                Key::Group,
-                Key::Prefix,
-                Key::Model,
-                Key::Level,
-                Key::Match,
-                Key::Read,
-                Key::Write,
-                Key::Notify,
-            ],
-            ConfigTable::Family => &[Key::View, Key::Subtree, Key::Include, Key::Mask],
-        }
-    }
-
-    /// Whether it lists this key.
-    pub(crate) fn lists(self, name: &str) -> bool
-        ensures { MatchBool result (IsListed self name.now) (¬ IsListed self name.now) }
-    {
-        self.keys().iter().any(|key| key.name() == name)
-    }
-
-    /// What no row of it may have, in words.
-    fn bad_words(self) -> &'static str
-        ensures { result.now ≡ bad_words self }
-    {
-        match self {
-            ConfigTable::User => "its name or its passwords are none that a user can have",
-            ConfigTable::Context => "no such row",
-            ConfigTable::Group => {
-                "a model from 1 to 2147483647 is wanted, and a name and a group that aren't empty"
-            }
-            ConfigTable::Access => "a group that isn't empty is wanted",
-            ConfigTable::Family => "a view that isn't empty is wanted",
-        }
-    }
-
-    /// That a row has the index of an earlier one, in words.
-    fn index_words(self) -> &'static str
-        ensures { result.now ≡ index_words self }
-    {
-        match self {
-            ConfigTable::User | ConfigTable::Context => "an earlier row has this name",
-            ConfigTable::Group => "an earlier row has this model and name",
-            ConfigTable::Access => "an earlier row has this group, prefix, model and level",
-            ConfigTable::Family => "an earlier row has this view and subtree",
-        }
-    }
-}
-
-impl From<Table> for ConfigTable {
-    ghost use Rattle.snmpsec_config.specs.Refusals.{vacm_table};
-
-    ghost from_gives = { λ table e. e ≡ vacm_table table };
-
-    fn from(table: Table) -> ConfigTable {
-        match table {
-            Table::Contexts => ConfigTable::Context,
-            Table::Groups => ConfigTable::Group,
-            Table::Access => ConfigTable::Access,
-            Table::Families => ConfigTable::Family,
-        }
-    }
-}
-
-impl fmt::Display for ConfigTable {
-    ghost output = { λ table. Some (table_name table) };
-
-    fn fmt<W: fmt::Write>(&self, f: &mut fmt::Formatter<W>) -> fmt::Result {
-        f.write_str(self.name())
-    }
-}
-
-/// The keys that tables list.
-#[derive(Clone, Copy, Debug, PartialEq, Eq)]
-pub enum Key {
-    Name,
-    Auth,
-    AuthPassword,
-    PrivPassword,
-    Model,
-    Group,
-    Prefix,
-    Level,
-    Match,
-    Read,
-    Write,
-    Notify,
-    View,
-    Subtree,
-    Include,
-    Mask,
-}
-
-impl Key {
-    /// Its name in the text.
-    pub fn name(self) -> &'static str
-        ensures { result.now ≡ key_name self }
-    {
-        match self {
-            Key::Name => "name",
-            Key::Auth => "auth",
-            Key::AuthPassword => "auth-password",
-            Key::PrivPassword => "priv-password",
-            Key::Model => "model",
-            Key::Group => "group",
-            Key::Prefix => "prefix",
-            Key::Level => "level",
-            Key::Match => "match",
-            Key::Read => "read",
-            Key::Write => "write",
-            Key::Notify => "notify",
-            Key::View => "view",
-            Key::Subtree => "subtree",
-            Key::Include => "include",
-            Key::Mask => "mask",
-        }
-    }
-}
-
-impl fmt::Display for Key {
-    ghost output = { λ key. Some (key_name key) };
-
-    fn fmt<W: fmt::Write>(&self, f: &mut fmt::Formatter<W>) -> fmt::Result {
-        f.write_str(self.name())
-    }
-}
-
-/// What is wanted at a key.
-#[derive(Clone, Copy, Debug, PartialEq, Eq)]
-pub enum Wanted {
-    Text,
-    Name,
-    Model,
-    Level,
-    Matching,
-    Oid,
-    Mask,
-    Flag,
-    Auth,
-}
-
-impl Wanted {
-    /// What a table wants at a key.
-    pub fn at(table: ConfigTable, key: Key) -> Wanted
-        ensures { result ≡ wanted_at table key }
-    {
-        match key {
-            Key::Name => match table {
-                ConfigTable::User => Wanted::Text,
-                _ => Wanted::Name,
-            },
-            Key::AuthPassword | Key::PrivPassword => Wanted::Text,
-            Key::Auth => Wanted::Auth,
-            Key::Model => Wanted::Model,
-            Key::Level => Wanted::Level,
-            Key::Match => Wanted::Matching,
-            Key::Subtree => Wanted::Oid,
-            Key::Include => Wanted::Flag,
-            Key::Mask => Wanted::Mask,
-            Key::Group | Key::Prefix | Key::Read | Key::Write | Key::Notify | Key::View => {
-                Wanted::Name
-            }
-        }
-    }
-
-    /// What is wanted, in words.
-    pub fn words(self) -> &'static str
-        ensures { result.now ≡ wanted_words self }
-    {
-        match self {
-            Wanted::Text => "a text",
-            Wanted::Name => "a text of at most 32 octets",
-            Wanted::Model => "a whole number from 0 to 2147483647",
-            Wanted::Level => "one of noAuthNoPriv, authNoPriv, authPriv",
-            Wanted::Matching => "one of exact, prefix",
-            Wanted::Oid => "an object identifier in dotted decimal",
-            Wanted::Mask => "at most 16 octets in hex",
-            Wanted::Flag => "true or false",
-            Wanted::Auth => "one of md5, sha1, sha256",
-        }
-    }
-}
-
-impl fmt::Display for Wanted {
-    ghost output = { λ wanted. Some (wanted_words wanted) };
-
-    fn fmt<W: fmt::Write>(&self, f: &mut fmt::Formatter<W>) -> fmt::Result {
-        f.write_str(self.words())
-    }
-}
+use vacm_core::VacmFault;
 
 /// What is wrong with the keys of a row.
 #[derive(Debug, PartialEq, Eq, Drop)]
@@ -249,9 +22,9 @@ pub enum KeyFault {
     /// The table doesn't list this key.
     Unlisted { key: String },
     /// This key is missing.
-    Missing { key: Key },
+    Missing { key: ConfigKey },
     /// The value at this key isn't what is wanted.
-    Value { key: Key },
+    Value { key: ConfigKey },
 }
 
 impl KeyFault {
@@ -281,7 +54,7 @@ fn unlisted_words(alloc: Global, table: ConfigTable, key: &str) -> Result<String
 
 /// What is wrong with a row whose keys are right.
 #[derive(Clone, Copy, Debug, PartialEq, Eq)]
-pub enum Wrong {
+pub enum LoadFault {
     /// A user's name or passwords are none that a user can have.
     BadUser,
     /// A password has fewer than 8 octets.
@@ -315,22 +88,22 @@ pub enum ConfigFault {
     Row {
         table: ConfigTable,
         position: usize,
-        wrong: Wrong,
+        wrong: LoadFault,
     },
     OutOfMemory,
 }
 
-impl Wrong {
+impl LoadFault {
     /// The word that is printed.
     pub fn name(self) -> &'static str
         ensures { result.now ≡ wrong_name self }
     {
         match self {
-            Wrong::BadUser => "BadUser",
-            Wrong::ShortPassword => "ShortPassword",
-            Wrong::DuplicateUser => "DuplicateUser",
-            Wrong::BadRow => "BadRow",
-            Wrong::Duplicate => "Duplicate",
+            LoadFault::BadUser => "BadUser",
+            LoadFault::ShortPassword => "ShortPassword",
+            LoadFault::DuplicateUser => "DuplicateUser",
+            LoadFault::BadRow => "BadRow",
+            LoadFault::Duplicate => "Duplicate",
         }
     }
 
@@ -339,18 +112,18 @@ impl Wrong {
         ensures { result.now ≡ wrong_words table self }
     {
         match self {
-            Wrong::BadUser => {
+            LoadFault::BadUser => {
                 "a name of 1 to 32 octets is wanted, and a priv-password only beside auth and auth-password"
             }
-            Wrong::ShortPassword => "passwords of at least 8 octets are wanted",
-            Wrong::DuplicateUser => "an earlier user has this name",
-            Wrong::BadRow => table.bad_words(),
-            Wrong::Duplicate => table.index_words(),
+            LoadFault::ShortPassword => "passwords of at least 8 octets are wanted",
+            LoadFault::DuplicateUser => "an earlier user has this name",
+            LoadFault::BadRow => table.bad_words(),
+            LoadFault::Duplicate => table.index_words(),
         }
     }
 }
 
-impl fmt::Display for Wrong {
+impl fmt::Display for LoadFault {
     ghost output = { λ wrong. Some (wrong_name wrong) };
 
     fn fmt<W: fmt::Write>(&self, f: &mut fmt::Formatter<W>) -> fmt::Result {
@@ -453,9 +226,9 @@ impl From<UserFault> for ConfigFault {
 
     fn from(fault: UserFault) -> ConfigFault {
         let (position, wrong) = match fault {
-            UserFault::BadUser { position } => (position, Wrong::BadUser),
-            UserFault::ShortPassword { position } => (position, Wrong::ShortPassword),
-            UserFault::DuplicateUser { position } => (position, Wrong::DuplicateUser),
+            UserFault::BadUser { position } => (position, LoadFault::BadUser),
+            UserFault::ShortPassword { position } => (position, LoadFault::ShortPassword),
+            UserFault::DuplicateUser { position } => (position, LoadFault::DuplicateUser),
             UserFault::OutOfMemory => return ConfigFault::OutOfMemory,
         };
         ConfigFault::Row {
@@ -471,8 +244,8 @@ impl From<VacmFault> for ConfigFault {
 
     fn from(fault: VacmFault) -> ConfigFault {
         let (table, position, wrong) = match fault {
-            VacmFault::BadRow { table, position } => (table, position, Wrong::BadRow),
-            VacmFault::Duplicate { table, position } => (table, position, Wrong::Duplicate),
+            VacmFault::BadRow { table, position } => (table, position, LoadFault::BadRow),
+            VacmFault::Duplicate { table, position } => (table, position, LoadFault::Duplicate),
             VacmFault::OutOfMemory => return ConfigFault::OutOfMemory,
         };
         ConfigFault::Row {

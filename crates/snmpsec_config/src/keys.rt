@@ -7,11 +7,11 @@ ghost use Rattle.vacm_core.specs.declared.rows.Matching.{Matching as AMatching};
 ghost use Rattle.toml.specs.View.{view, table_view};
 ghost use Rattle.snmpsec_config.specs.Keys.{at, key_name};
 ghost use Rattle.snmpsec_config.specs.Values.{IsText, IsTextIfAny, IsTextOrEmpty, IsName, IsNameOrEmpty, IsModel, IsLevel, IsMatching, IsOid, IsMask, IsFlag, AreAuth, IsAuthFault, value_fault};
-ghost use Rattle.snmpsec_config.specs.declared.fault.Key.TheVariants as keys;
+ghost use Rattle.snmpsec_config.specs.declared.table.ConfigKey.TheVariants as keys;
 ghost use Rattle.snmpsec_config.specs.Words.{auth_word};
 ghost use Rattle.usm_keys.specs.declared.auth.Auth.{Auth as AnAuth};
 
-use crate::fault::Key;
+use crate::table::ConfigKey;
 use crate::words::{MODEL_MAX, auth_of, level_of, matching_of};
 use snmp_ber::{Level, Oid};
 use toml::{Table, Value};
@@ -24,19 +24,19 @@ const MASK_MAX: usize = 16;
 /// A key that is missing, or whose value isn't what is wanted.
 #[derive(Clone, Copy, Debug, PartialEq, Eq)]
 pub(crate) struct ValueFault {
-    pub(crate) key: Key,
+    pub(crate) key: ConfigKey,
     pub(crate) is_missing: bool,
 }
 
 /// The value at a key.
-fn value<'a>(row: &'a Table, key: Key) -> Option<&'a Value>
+fn value<'a>(row: &'a Table, key: ConfigKey) -> Option<&'a Value>
     ensures { option_map (λ v. view v.now) result ≡ at (table_view row.now) key }
 {
     row.get(key.name())
 }
 
 /// The fault of the value at a key.
-fn fault(row: &Table, key: Key) -> ValueFault
+fn fault(row: &Table, key: ConfigKey) -> ValueFault
     ensures { result ≡ value_fault (at (table_view row.now) key) key }
 {
     let is_missing = value(row, key).is_none();
@@ -44,7 +44,10 @@ fn fault(row: &Table, key: Key) -> ValueFault
 }
 
 /// The text at a key, if any.
-pub(crate) fn optional_text<'a>(row: &'a Table, key: Key) -> Result<Option<&'a str>, ValueFault>
+pub(crate) fn optional_text<'a>(
+    row: &'a Table,
+    key: ConfigKey,
+) -> Result<Option<&'a str>, ValueFault>
     ensures ok { IfOk result (λ text. IsTextIfAny (at (table_view row.now) key) (option_map (λ t. t.now) text)) }
     ensures fault { IfErr result (λ f. (f ≡ value_fault (at (table_view row.now) key) key) × ((text : Option (List ℕ)) → ¬ IsTextIfAny (at (table_view row.now) key) text)) }
 {
@@ -58,14 +61,14 @@ pub(crate) fn optional_text<'a>(row: &'a Table, key: Key) -> Result<Option<&'a s
 }
 
 /// The text at a key.
-fn text<'a>(row: &'a Table, key: Key) -> Option<&'a str>
+fn text<'a>(row: &'a Table, key: ConfigKey) -> Option<&'a str>
     ensures { MatchOption result ((text : List ℕ) → ¬ IsText (at (table_view row.now) key) text) (λ text. IsText (at (table_view row.now) key) text.now) }
 {
     value(row, key)?.as_str()
 }
 
 /// The text at a key, or the empty one where the key is absent.
-fn text_or_empty<'a>(row: &'a Table, key: Key) -> Option<&'a str>
+fn text_or_empty<'a>(row: &'a Table, key: ConfigKey) -> Option<&'a str>
     ensures { MatchOption result ((text : List ℕ) → ¬ IsTextOrEmpty (at (table_view row.now) key) text) (λ text. IsTextOrEmpty (at (table_view row.now) key) text.now) }
 {
     match value(row, key) {
@@ -75,7 +78,7 @@ fn text_or_empty<'a>(row: &'a Table, key: Key) -> Option<&'a str>
 }
 
 /// The text at a key.
-pub(crate) fn required_text<'a>(row: &'a Table, key: Key) -> Result<&'a str, ValueFault>
+pub(crate) fn required_text<'a>(row: &'a Table, key: ConfigKey) -> Result<&'a str, ValueFault>
     ensures ok { IfOk result (λ text. IsText (at (table_view row.now) key) text.now) }
     ensures fault { IfErr result (λ f. (f ≡ value_fault (at (table_view row.now) key) key) × ((text : List ℕ) → ¬ IsText (at (table_view row.now) key) text)) }
 {
@@ -86,7 +89,7 @@ pub(crate) fn required_text<'a>(row: &'a Table, key: Key) -> Result<&'a str, Val
 }
 
 /// The name at a key, of at most 32 octets.
-pub(crate) fn name(row: &Table, key: Key) -> Result<Name, ValueFault>
+pub(crate) fn name(row: &Table, key: ConfigKey) -> Result<Name, ValueFault>
     ensures ok { IfOk result (λ name. IsName (at (table_view row.now) key) name) }
     ensures fault { IfErr result (λ f. (f ≡ value_fault (at (table_view row.now) key) key) × ((name : List ℕ) → ¬ IsName (at (table_view row.now) key) name)) }
 {
@@ -100,7 +103,7 @@ pub(crate) fn name(row: &Table, key: Key) -> Result<Name, ValueFault>
 }
 
 /// The name at a key, empty where the key is absent.
-pub(crate) fn name_or_empty(row: &Table, key: Key) -> Result<Name, ValueFault>
+pub(crate) fn name_or_empty(row: &Table, key: ConfigKey) -> Result<Name, ValueFault>
     ensures ok { IfOk result (λ name. IsNameOrEmpty (at (table_view row.now) key) name) }
     ensures fault { IfErr result (λ f. (f ≡ value_fault (at (table_view row.now) key) key) × ((name : List ℕ) → ¬ IsNameOrEmpty (at (table_view row.now) key) name)) }
 {
@@ -114,7 +117,7 @@ pub(crate) fn name_or_empty(row: &Table, key: Key) -> Result<Name, ValueFault>
 }
 
 /// The number of a security model, or 0.
-pub(crate) fn model(row: &Table, key: Key) -> Result<u32, ValueFault>
+pub(crate) fn model(row: &Table, key: ConfigKey) -> Result<u32, ValueFault>
     ensures ok { IfOk result (λ model. IsModel (at (table_view row.now) key) model) }
     ensures fault { IfErr result (λ f. (f ≡ value_fault (at (table_view row.now) key) key) × ((model : ℕ) → ¬ IsModel (at (table_view row.now) key) model)) }
 {
@@ -125,7 +128,7 @@ pub(crate) fn model(row: &Table, key: Key) -> Result<u32, ValueFault>
 }
 
 /// The number of a security model, or 0.
-fn number(row: &Table, key: Key) -> Option<u32>
+fn number(row: &Table, key: ConfigKey) -> Option<u32>
     ensures { MatchOption result ((model : ℕ) → ¬ IsModel (at (table_view row.now) key) model) (IsModel (at (table_view row.now) key)) }
 {
     let number = value(row, key)?.as_integer()?;
@@ -137,7 +140,7 @@ fn number(row: &Table, key: Key) -> Option<u32>
 }
 
 /// The security level whose name stands at a key.
-pub(crate) fn level(row: &Table, key: Key) -> Result<Level, ValueFault>
+pub(crate) fn level(row: &Table, key: ConfigKey) -> Result<Level, ValueFault>
     ensures ok { IfOk result (IsLevel (at (table_view row.now) key)) }
     ensures fault { IfErr result (λ f. (f ≡ value_fault (at (table_view row.now) key) key) × ((level : ALevel) → ¬ IsLevel (at (table_view row.now) key) level)) }
 {
@@ -151,7 +154,7 @@ pub(crate) fn level(row: &Table, key: Key) -> Result<Level, ValueFault>
 }
 
 /// How a context prefix is compared.
-pub(crate) fn matching(row: &Table, key: Key) -> Result<Matching, ValueFault>
+pub(crate) fn matching(row: &Table, key: ConfigKey) -> Result<Matching, ValueFault>
     ensures ok { IfOk result (IsMatching (at (table_view row.now) key)) }
     ensures fault { IfErr result (λ f. (f ≡ value_fault (at (table_view row.now) key) key) × ((matching : AMatching) → ¬ IsMatching (at (table_view row.now) key) matching)) }
 {
@@ -165,7 +168,7 @@ pub(crate) fn matching(row: &Table, key: Key) -> Result<Matching, ValueFault>
 }
 
 /// The identifier whose dotted text stands at a key.
-pub(crate) fn oid(row: &Table, key: Key) -> Result<Oid, ValueFault>
+pub(crate) fn oid(row: &Table, key: ConfigKey) -> Result<Oid, ValueFault>
     ensures ok { IfOk result (λ oid. IsOid (at (table_view row.now) key) oid) }
     ensures fault { IfErr result (λ f. (f ≡ value_fault (at (table_view row.now) key) key) × ((arcs : List ℕ) → ¬ IsOid (at (table_view row.now) key) arcs)) }
 {
@@ -179,7 +182,7 @@ pub(crate) fn oid(row: &Table, key: Key) -> Result<Oid, ValueFault>
 }
 
 /// The truth value at a key.
-pub(crate) fn flag(row: &Table, key: Key) -> Result<bool, ValueFault>
+pub(crate) fn flag(row: &Table, key: ConfigKey) -> Result<bool, ValueFault>
     ensures ok { IfOk result (IsFlag (at (table_view row.now) key)) }
     ensures fault { IfErr result (λ f. (f ≡ value_fault (at (table_view row.now) key) key) × ((flag : Bool) → ¬ IsFlag (at (table_view row.now) key) flag)) }
 {
@@ -207,7 +210,7 @@ fn mask_of(digits: &str) -> Option<Mask>
 }
 
 /// The mask at a key, empty where the key is absent.
-pub(crate) fn mask(row: &Table, key: Key) -> Result<Mask, ValueFault>
+pub(crate) fn mask(row: &Table, key: ConfigKey) -> Result<Mask, ValueFault>
     ensures ok { IfOk result (λ mask. IsMask (at (table_view row.now) key) mask) }
     ensures fault { IfErr result (λ f. (f ≡ value_fault (at (table_view row.now) key) key) × ((mask : List ℕ) → ¬ IsMask (at (table_view row.now) key) mask)) }
 {
@@ -221,7 +224,7 @@ pub(crate) fn mask(row: &Table, key: Key) -> Result<Mask, ValueFault>
 }
 
 /// The protocol whose name stands at a key.
-fn protocol(row: &Table, key: Key) -> Result<Auth, ValueFault>
+fn protocol(row: &Table, key: ConfigKey) -> Result<Auth, ValueFault>
     ensures ok { IfOk result (λ auth. IsText (at (table_view row.now) key) (auth_word auth)) }
     ensures fault { IfErr result (λ f. (f ≡ value_fault (at (table_view row.now) key) key) × ((auth : AnAuth) → ¬ IsText (at (table_view row.now) key) (auth_word auth))) }
 {
@@ -235,7 +238,7 @@ fn protocol(row: &Table, key: Key) -> Result<Auth, ValueFault>
 }
 
 /// Whether the key stands in the row.
-fn has(row: &Table, key: Key) -> bool
+fn has(row: &Table, key: ConfigKey) -> bool
     ensures { result ≡ is_some (at (table_view row.now) key) }
 {
     value(row, key).is_some()
@@ -246,13 +249,13 @@ pub(crate) fn auth<'a>(row: &'a Table) -> Result<Option<(Auth, &'a str)>, ValueF
     ensures ok { IfOk result (λ own. AreAuth (at (table_view row.now) keys.Auth) (at (table_view row.now) keys.AuthPassword) (option_map (λ o. (o.0, o.1.now)) own)) }
     ensures fault { IfErr result (IsAuthFault (table_view row.now)) }
 {
-    if !has(row, Key::Auth) {
-        if has(row, Key::AuthPassword) {
-            return Err(fault(row, Key::Auth));
+    if !has(row, ConfigKey::Auth) {
+        if has(row, ConfigKey::AuthPassword) {
+            return Err(fault(row, ConfigKey::Auth));
         }
         return Ok(None);
     }
-    let auth = protocol(row, Key::Auth)?;
-    let password = required_text(row, Key::AuthPassword)?;
+    let auth = protocol(row, ConfigKey::Auth)?;
+    let password = required_text(row, ConfigKey::AuthPassword)?;
     Ok(Some((auth, password)))
 }

@@ -18,9 +18,13 @@ mod keys;
 mod laws;
 mod near;
 mod rows;
+mod table;
+mod wanted;
 mod words;
 
 pub use config::{AccessConfig, Config, ConfigRows};
-pub use fault::{ConfigFault, ConfigTable, Key, KeyFault, Wanted, Wrong};
+pub use fault::{ConfigFault, KeyFault, LoadFault};
 pub use laws::one_configuration;
+pub use table::{ConfigKey, ConfigTable};
+pub use wanted::Wanted;
 pub use words::{MODEL_MAX, level_of, level_word};

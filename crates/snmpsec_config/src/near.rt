@@ -3,7 +3,7 @@
 ghost use Rattle.std.specs.Prelude.{Contains, IfSome};
 ghost use Rattle.snmpsec_config.specs.Keys.{listed};
 
-use crate::fault::{ConfigTable, Key};
+use crate::table::{ConfigKey, ConfigTable};
 
 /// How many octets two names have in common at the front and at the back, none counted twice.
 fn likeness(first: &[u8], second: &[u8]) -> usize {
@@ -25,7 +25,7 @@ fn likeness(first: &[u8], second: &[u8]) -> usize {
 }
 
 /// The key of the table that is most like this name, if one has an octet in common with it.
-pub(crate) fn nearest(table: ConfigTable, name: &str) -> Option<Key>
+pub(crate) fn nearest(table: ConfigTable, name: &str) -> Option<ConfigKey>
     ensures { IfSome result (Contains (listed table)) }
 {
     let mut near = None;

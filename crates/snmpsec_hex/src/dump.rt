@@ -7,14 +7,14 @@ use crate::part::{digit_value, octet_at};
 use crate::place::place_behind;
 
 /// A blank or a tab.
-fn is_blank(octet: u8) -> bool
+pub fn is_blank(octet: u8) -> bool
     ensures { result ≡ is_blank octet }
 {
     octet == b' ' || octet == b'\t'
 }
 
 /// How many blanks and tabs the text begins with.
-fn blanks(text: &[u8]) -> usize
+pub fn blanks(text: &[u8]) -> usize
     ensures within { result ≤ length text.now }
     ensures is { result ≡ blanks text.now }
 {
@@ -40,7 +40,7 @@ fn zeros(text: &[u8]) -> usize
 }
 
 /// How many octets `0x` or `0X` has at the beginning of the text: 2, or 0 where neither stands there.
-fn prefix_size(text: &[u8]) -> usize
+pub fn prefix_size(text: &[u8]) -> usize
     ensures within { result ≤ length text.now }
     ensures is { result ≡ prefix_size text.now }
 {
@@ -53,7 +53,7 @@ fn prefix_size(text: &[u8]) -> usize
 }
 
 /// How many colons the text begins with, at most 1.
-fn colon_size(text: &[u8]) -> usize
+pub fn colon_size(text: &[u8]) -> usize
     ensures within { result ≤ length text.now }
     ensures is { result ≡ colon_size text.now }
 {

@@ -14,5 +14,6 @@ mod part;
 mod place;
 mod text;
 
-pub use dump::dump_line;
+pub use dump::{blanks, colon_size, dump_line, is_blank, prefix_size};
+pub use part::digit_value;
 pub use text::{HexFault, read_hex};

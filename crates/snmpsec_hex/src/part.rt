@@ -73,7 +73,7 @@ fn prefix_size(text: &[u8]) -> usize
 }
 
 /// The value of a hex digit of either case.
-pub(crate) fn digit_value(digit: u8) -> Option<u8>
+pub fn digit_value(digit: u8) -> Option<u8>
     ensures { result ≡ hex_digit_value digit }
 {
     match digit {

@@ -1,2 +1,4 @@
 pub mod Added
 pub mod Walks
+pub mod Numbering
+pub mod Told

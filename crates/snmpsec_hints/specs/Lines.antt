@@ -1,11 +1,14 @@
--- A hint as a line of standard error: the row's table and position, what is odd, and the name that it is about.
-use Rattle.std.specs.Prelude.{ℕ, List, ◌++◌, codes}
+-- A hint as a line of standard error: the row's table and position, the line in which it begins, what is odd, and the name that it is about.
+use Rattle.std.specs.Prelude.{ℕ, List, [], ◌++◌, codes, decimal, Option, Some, None}
 use Rattle.std.specs.List.{flat_map}
 use Rattle.vacm_core.specs.declared.access.ViewType.TheVariants.{Read, Write, Notify}
 use Rattle.snmpsec_access.specs.Words.{quoted}
-use Rattle.snmpsec_config.specs.Told.{row_words}
-use Rattle.snmpsec_config.specs.declared.fault.ConfigTable.{ConfigTable}
-use Rattle.snmpsec_config.specs.declared.fault.ConfigTable.TheVariants as tables
+use Rattle.usm_users.specs.declared.load.UserRow.{UserRow}
+use Rattle.vacm_core.specs.Tables.{Tables}
+use Rattle.snmpsec_config.specs.Keys.{table_name}
+use Rattle.snmpsec_config.specs.declared.table.ConfigTable.{ConfigTable}
+use Rattle.snmpsec_config.specs.declared.table.ConfigTable.TheVariants as tables
+use Rattle.snmpsec_hints.specs.Headings.{row_line}
 use Rattle.snmpsec_hints.specs.Hints.{Told}
 use Rattle.snmpsec_hints.specs.declared.hint.Oddity.{Oddity}
 use Rattle.snmpsec_hints.specs.declared.hint.Oddity.TheVariants.{UserWithoutGroup, GroupWithoutAccess, NameWithoutUser, GroupWithoutName, ViewWithoutFamily, WriteWithoutAuth, ViewWithoutAccess}
@@ -32,9 +35,20 @@ odd_words (ViewWithoutFamily Notify) = codes "no family row has the notify view 
 odd_words WriteWithoutAuth = codes "a message without authentication writes to the view "
 odd_words ViewWithoutAccess = codes "no access row names the view "
 
--- `snmpsec: TABLE POSITION: WORDS "NAME"`
-abbrev pub hint_line : Told → List ℕ
-hint_line it = codes "snmpsec: " ++ (row_words (table_of it.what) it.position (odd_words it.what ++ quoted it.name) ++ codes "\n")
+-- `, line LINE`, where the line is known
+abbrev pub line_words : Option ℕ → List ℕ
+line_words None = []
+line_words (Some line) = codes ", line " ++ decimal line
 
-abbrev pub lines_of : List Told → List ℕ
-lines_of its = flat_map hint_line its
+-- `snmpsec: TABLE POSITION, line LINE: WORDS `
+abbrev pub front : Option ℕ → Told → List ℕ
+front line it =
+    codes "snmpsec: " ++ (table_name (table_of it.what) ++ (codes " " ++ (decimal it.position ++ (line_words line ++ (codes ": " ++ odd_words it.what)))))
+
+-- and behind it `"NAME"`
+abbrev pub hint_line : Option ℕ → Told → List ℕ
+hint_line line it = front line it ++ (quoted it.name ++ codes "\n")
+
+-- The lines of hints on the rows that a text stands for.
+abbrev pub lines_of : List ℕ → List UserRow → Tables → List Told → List ℕ
+lines_of text users rows its = flat_map (λ it. hint_line (row_line text users rows (table_of it.what) it.position) it) its

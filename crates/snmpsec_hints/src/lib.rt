@@ -6,11 +6,12 @@
 //!
 //! let text = b"[[group]]\nmodel = 3\nname = 'ann'\ngroup = 'g'\n";
 //! let config = AccessConfig::read(rt.alloc(), text)?;
-//! let hints = hint_text(rt.alloc(), &config.rows)?;
-//! assert!(rt; hints.starts_with(b"snmpsec: group 0"));
+//! let hints = hint_text(rt.alloc(), text, &config.rows)?;
+//! assert!(rt; hints.starts_with(b"snmpsec: group 0, line 1: "));
 //! ```
 #![tactic(auto)]
 
+mod headings;
 mod hint;
 mod known;
 mod lines;

@@ -8,6 +8,8 @@ use Rattle.snmpsec_import.specs.Groups.{SaysGroup, TellsNoGroup}
 use Rattle.snmpsec_import.specs.Accesses.{SaysAccess, TellsNoAccess}
 use Rattle.snmpsec_import.specs.Settings.{SaysSetAccess, TellsNoSetAccess}
 use Rattle.snmpsec_import.specs.GroupViews.{SaysAuthAccess, TellsNoAuthAccess}
+use Rattle.snmpsec_import.specs.Users.{SaysUser, TellsNoUser}
+use Rattle.snmpsec_import.specs.declared.users.UserFault.TheVariants as user_faults
 use Rattle.snmpsec_import.specs.declared.settings.Setting.{Setting}
 use Rattle.snmpsec_import.specs.Simple.{simple_of, SaysSimpleLine, TellsNoSimpleLine}
 use Rattle.snmpsec_import.specs.Views.{SaysFamily, TellsNoFamily}
@@ -19,9 +21,9 @@ use Rattle.snmpd_words.specs.declared.directives.Directive.TheVariants as direct
 use Rattle.snmpd_words.specs.declared.fault.LineFault.{LineFault}
 use Rattle.snmpd_words.specs.declared.fault.LineFault.TheVariants as faults
 use Rattle.snmpsec_import.specs.declared.entries.Entry.{Entry}
-use Rattle.snmpsec_import.specs.declared.entries.Entry.TheVariants.{Nothing, Begins, Group, Access, Family, Simple, Set, Told}
+use Rattle.snmpsec_import.specs.declared.entries.Entry.TheVariants.{Nothing, Begins, Group, Access, Family, Simple, Set, User, Told}
 use Rattle.snmpsec_import.specs.declared.entries.Note.{Note}
-use Rattle.snmpsec_import.specs.declared.entries.Note.TheVariants.{Unclosed, NoSection, Bare, Other, LeftOut, Fault}
+use Rattle.snmpsec_import.specs.declared.entries.Note.TheVariants.{Unclosed, NoSection, Bare, Other, LeftOut, Fault, NoUser}
 
 -- a blank is behind
 abbrev pub EndsWithBlank : List ℕ → Type 0
@@ -46,7 +48,7 @@ pub record HasText (force : Section) (line : List ℕ) (directive : Directive) (
 abbrev pub IsUnread : Directive → Type 0
 IsUnread directive =
     (directive ≢ directives.Group) × (directive ≢ directives.Access) × (directive ≢ directives.SetAccess) × (directive ≢ directives.AuthAccess)
-    × (directive ≢ directives.View) × (directive ≢ directives.Other) × (simple_of directive ≡ None)
+    × (directive ≢ directives.View) × (directive ≢ directives.CreateUser) × (directive ≢ directives.Other) × (simple_of directive ≡ None)
 
 -- what a line of the directive sets
 abbrev pub SaysSet : Directive → List ℕ → Setting → Type 0
@@ -73,6 +75,8 @@ IsNote force line Other =
     ⊎ ((text : List ℕ) × HasText force line directives.Other text)
 IsNote force line (LeftOut directive) = (text : List ℕ) × HasText force line directive text × IsUnread directive
 IsNote force line (Fault directive fault) = (text : List ℕ) × HasText force line directive text × TellsNoRow directive text fault × (fault ≡ faults.OutOfMemory → ⊥)
+IsNote force line (NoUser fault) =
+    (text : List ℕ) × HasText force line directives.CreateUser text × TellsNoUser text fault × (fault ≡ user_faults.OutOfMemory → ⊥)
 
 -- What the line makes, where this section is in force.
 abbrev pub IsEntry : Section → List ℕ → Entry → Type 0
@@ -82,6 +86,7 @@ IsEntry force line (Group row) = (text : List ℕ) × HasText force line directi
 IsEntry force line (Access row) = (text : List ℕ) × HasText force line directives.Access text × SaysAccess text row
 IsEntry force line (Family row) = (text : List ℕ) × HasText force line directives.View text × SaysFamily text row
 IsEntry force line (Set setting) = (directive : Directive) × (text : List ℕ) × HasText force line directive text × SaysSet directive text setting
+IsEntry force line (User created) = (text : List ℕ) × HasText force line directives.CreateUser text × SaysUser text created
 IsEntry force line (Simple simple) = (directive : Directive) × (text : List ℕ) × HasText force line directive text × SaysSimpleLine directive text simple
 IsEntry force line (Told note) = IsNote force line note
 
@@ -91,8 +96,10 @@ IsMade directive text (Group row) = (directive ≡ directives.Group) × SaysGrou
 IsMade directive text (Access row) = (directive ≡ directives.Access) × SaysAccess text row
 IsMade directive text (Family row) = (directive ≡ directives.View) × SaysFamily text row
 IsMade directive text (Set setting) = SaysSet directive text setting
+IsMade directive text (User created) = (directive ≡ directives.CreateUser) × SaysUser text created
 IsMade directive text (Simple simple) = SaysSimpleLine directive text simple
 IsMade directive text (Told Other) = directive ≡ directives.Other
 IsMade directive text (Told (LeftOut other)) = (other ≡ directive) × IsUnread directive
 IsMade directive text (Told (Fault other fault)) = (other ≡ directive) × TellsNoRow directive text fault × (fault ≡ faults.OutOfMemory → ⊥)
+IsMade directive text (Told (NoUser fault)) = (directive ≡ directives.CreateUser) × TellsNoUser text fault × (fault ≡ user_faults.OutOfMemory → ⊥)
 IsMade directive text _ = ⊥

@@ -5,5 +5,7 @@ pub mod Choice
 pub mod Simple
 pub mod Settings
 pub mod GroupViews
+pub mod Protocols
+pub mod Users
 pub mod Entries
 pub mod Files

@@ -1,6 +1,6 @@
 -- What a line `setaccess GROUP CONTEXT MODEL LEVEL MATCH TYPE VIEW` sets: the view of one type, of the row that snmpd would choose for a message of GROUP,
 -- CONTEXT, MODEL and LEVEL, or of a new row where it would choose none (net-snmp 5.9.3).
-use Rattle.std.specs.Prelude.{◌≡◌, ◌⊎◌, ◌<◌, Bool, true, false, List, [], ◌∷◌, ℕ, length}
+use Rattle.std.specs.Prelude.{◌≡◌, ◌⊎◌, ◌<◌, List, [], ◌∷◌, ℕ, length}
 use Rattle.snmpsec_import.specs.Accesses.{AreTokens, HasFewer, SaysConditions, TellsNoConditions, IsViewName}
 use Rattle.snmpd_words.specs.Types.{view_word, only, IsNoType}
 use Rattle.snmpsec_import.specs.declared.accesses.Conditions.{Conditions}

@@ -1,6 +1,6 @@
 -- What a line `rouser [-s MODEL] NAME [LEVEL [OID | -V VIEW [CONTEXT]]]` says, and its like: `rwuser`, `authuser TYPES ..`, `authgroup TYPES ..`, and of
 -- communities `rocommunity [-v VERSION] NAME [SOURCE [OID | -V VIEW [CONTEXT]]]`, `rwcommunity` and `authcommunity TYPES ..` (net-snmp 5.9.3).
-use Rattle.std.specs.Prelude.{◌≡◌, ◌≢◌, ◌⊎◌, ⊤, ℕ, Bool, true, false, List, [], ◌∷◌, ◌++◌, codes, Option, Some, None}
+use Rattle.std.specs.Prelude.{◌≡◌, ◌≢◌, ◌⊎◌, ⊤, ℕ, true, false, List, [], ◌∷◌, ◌++◌, codes, Option, Some, None}
 use Rattle.vacm_core.specs.declared.rows.Matching.{Matching}
 use Rattle.vacm_core.specs.declared.rows.Matching.TheVariants.{Exact, Prefix}
 use Rattle.snmpd_words.specs.Words.{GoesOn, TakesWord}
@@ -73,10 +73,10 @@ abbrev pub EndsInOption : List ℕ → List ℕ → Type 0
 EndsInOption option text =
     TakesWord 255 text option None ⊎ ((behind : List ℕ) × TakesWord 255 text option (Some behind) × EndsBehindWord 2559 behind)
 
--- the next word, or where there is none this one
-abbrev pub TakesOr : List ℕ → Option (List ℕ) → List ℕ → Option (List ℕ) → Type 0
-TakesOr other None word later = (word ≡ other) × (later ≡ None)
-TakesOr other (Some text) word later = TakesWord 2559 text word later
+-- the next word, of which so many octets are held, or where there is none this one
+abbrev pub TakesOr : ℕ → List ℕ → Option (List ℕ) → List ℕ → Option (List ℕ) → Type 0
+TakesOr most other None word later = (word ≡ other) × (later ≡ None)
+TakesOr most other (Some text) word later = TakesWord most text word later
 
 -- the word for the model of a version: `1` and `2c` name versions too
 abbrev pub IsVersionWord : List ℕ → List ℕ → Type 0
@@ -95,13 +95,13 @@ AreVersions model versions.Both = (AreAlike model (codes "v1") → ⊥) × (AreA
 abbrev pub HasUser : List ℕ → Named → Option (List ℕ) → Type 0
 HasUser text named later =
     (behind : Option (List ℕ)) × HasModel (codes "-s") (codes "usm") text named.model.items named.name.items behind
-    × TakesOr (codes "auth") behind named.level.items later
+    × TakesOr 2559 (codes "auth") behind named.level.items later
 
 -- a line for a community, behind which its source stands
 abbrev pub HasCommunity : List ℕ → Named → Versions → Option (List ℕ) → Type 0
 HasCommunity text named given later =
     (word : List ℕ) × (source : List ℕ) × (behind : Option (List ℕ)) × HasModel (codes "-v") (codes "any") text word named.name.items behind
-    × IsVersionWord word named.model.items × AreVersions named.model.items given × (named.level.items ≡ codes "noauth") × TakesOr (codes "default") behind source later
+    × IsVersionWord word named.model.items × AreVersions named.model.items given × (named.level.items ≡ codes "noauth") × TakesOr 2559 (codes "default") behind source later
 
 abbrev pub HasNamedAs : Who → SimpleKind → List ℕ → Named → Option (List ℕ) → Type 0
 HasNamedAs whom.User kinds.User text named later = HasUser text named later

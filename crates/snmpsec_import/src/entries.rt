@@ -6,12 +6,14 @@ ghost use Rattle.snmpd_words.specs.Lines.{HasDirective};
 ghost use Rattle.snmpsec_import.specs.Simple.{IsSimple};
 ghost use Rattle.snmpsec_import.specs.Entries.{IsBeforeBlanks, IsEntry, IsMade, TellsNoRow};
 ghost use Rattle.snmpd_words.specs.declared.lines.Section.{Section as ASection};
+ghost use Rattle.snmpd_words.specs.declared.directives.Directive.TheVariants as directives;
 
 use crate::accesses::access_row;
 use crate::group_views::auth_access;
 use crate::groups::group_row;
 use crate::settings::{Setting, set_access};
 use crate::simple::{Simple, SimpleKind, simple_line, simple_of};
+use crate::users::{Created, UserFault, user_line};
 use crate::views::family_row;
 use snmpd_words::{Directive, Line, LineFault, Section, Types, directive_of, is_blank, read_line};
 use std::alloc::{AllocError, Global};
@@ -32,6 +34,8 @@ pub enum Note {
     LeftOut(Directive),
     /// What is wrong with a line of this directive: it is never want of memory.
     Fault(Directive, LineFault),
+    /// What is wrong with a line `createUser`: it is never want of memory.
+    NoUser(UserFault),
 }
 
 /// What a line makes.
@@ -48,6 +52,8 @@ pub enum Entry {
     Simple(Simple),
     /// Views that are set.
     Set(Setting),
+    /// A user.
+    User(Created),
     /// No row.
     Told(Note),
 }
@@ -93,6 +99,17 @@ fn simple_entry(
     }
 }
 
+/// What stands behind `createUser` makes.
+fn user_entry(alloc: Global, text: &[u8]) -> Result<Entry, AllocError>
+    ensures { IfOk result (IsMade directives.CreateUser text.now) }
+{
+    match user_line(alloc, text) {
+        Ok(created) => Ok(Entry::User(created)),
+        Err(UserFault::OutOfMemory) => Err(AllocError),
+        Err(fault) => Ok(Entry::Told(Note::NoUser(fault))),
+    }
+}
+
 /// What stands behind a directive makes, without the blanks behind it.
 ///
 /// The error is want of memory.
@@ -120,6 +137,7 @@ pub fn entry_of(alloc: Global, directive: Directive, text: &[u8]) -> Result<Entr
             Ok(setting) => Ok(Entry::Set(setting)),
             Err(fault) => note_of(directive, fault),
         },
+        Directive::CreateUser => user_entry(alloc, text),
         Directive::Other => Ok(Entry::Told(Note::Other)),
         _ => match simple_of(directive) {
             Some((kind, given)) => simple_entry(alloc, directive, kind, given, text),

@@ -72,15 +72,13 @@ fn take_group_and_view(text: &[u8]) -> Result<GroupView<'_>, LineFault>
             rest: behind,
         });
     }
-    match take_model_and_view(behind) {
-        Ok((model, view, rest)) => Ok(GroupView {
-            group,
-            model,
-            view,
-            rest,
-        }),
-        Err(fault) => Err(fault),
-    }
+    let (model, view, rest) = take_model_and_view(behind)?;
+    Ok(GroupView {
+        group,
+        model,
+        view,
+        rest,
+    })
 }
 
 /// The level where a line names none.
@@ -134,17 +132,11 @@ fn group_views(types: Types, text: &[u8]) -> Result<Setting, LineFault>
     ensures says { IfOk result (SaysGroupViews types text.now) }
     ensures fault { IfErr result (TellsNoGroupViews text.now) }
 {
-    let found = match take_group_and_view(text) {
-        Ok(found) => found,
-        Err(fault) => return Err(fault),
-    };
+    let found = take_group_and_view(text)?;
     let Some(view) = view_name(found.view) else {
         return Err(LineFault::Refused(Refusal::LongView));
     };
-    let (level, behind) = match take_level(found.model, found.rest) {
-        Ok(taken) => taken,
-        Err(fault) => return Err(fault),
-    };
+    let (level, behind) = take_level(found.model, found.rest)?;
     let (context, matching) = take_contexts(behind);
     let Some((group, context)) = names_of(found.group, context) else {
         return Err(LineFault::Refused(Refusal::LongIndex));
@@ -168,9 +160,6 @@ pub fn auth_access(alloc: Global, text: &[u8]) -> Result<Setting, LineFault>
     ensures says { IfOk result (SaysAuthAccess text.now) }
     ensures fault { IfErr result (TellsNoAuthAccess text.now) }
 {
-    let (types, rest) = match take_types(alloc, None, text) {
-        Ok(taken) => taken,
-        Err(fault) => return Err(fault),
-    };
+    let (types, rest) = take_types(alloc, None, text)?;
     group_views(types, rest)
 }

@@ -51,10 +51,7 @@ pub fn set_access(text: &[u8]) -> Result<Setting, LineFault>
     ensures says { IfOk result (SaysSetAccess text.now) }
     ensures fault { IfErr result (TellsNoSetAccess text.now) }
 {
-    let (conditions, rest) = match conditions_of(text) {
-        Ok(found) => found,
-        Err(fault) => return Err(fault),
-    };
+    let (conditions, rest) = conditions_of(text)?;
     let Some((kind, view, _)) = take_type_and_view(rest) else {
         return Err(LineFault::Refused(Refusal::MissingView));
     };

@@ -158,7 +158,7 @@ fn take_model_behind(alloc: Global, text: &[u8]) -> Result<Modeled<'_>, LineFaul
 }
 
 /// The word is this one.
-fn is_word(word: &[u8], other: &[u8]) -> bool
+pub(crate) fn is_word(word: &[u8], other: &[u8]) -> bool
     ensures { IsTrue result ↔ (word.now ≡ other.now) }
 {
     word == other
@@ -188,12 +188,17 @@ fn take_model<'a>(
     take_model_behind(alloc, rest)
 }
 
-/// The next word, or else this one.
-fn take_or<'a>(alloc: Global, text: Option<&'a [u8]>, other: &[u8]) -> Result<Word<'a>, AllocError>
-    ensures { IfOk result (λ word. TakesOr other.now (option_map (λ rest. rest.now) text.entry) word.octets.items (option_map (λ rest. rest.now) word.rest)) }
+/// The next word, of which so many octets are held, or else this one.
+pub(crate) fn take_or<'a>(
+    alloc: Global,
+    most: usize,
+    text: Option<&'a [u8]>,
+    other: &[u8],
+) -> Result<Word<'a>, AllocError>
+    ensures { IfOk result (λ word. TakesOr most other.now (option_map (λ rest. rest.now) text.entry) word.octets.items (option_map (λ rest. rest.now) word.rest)) }
 {
     match text {
-        Some(text) => take_word(alloc, text, WORD_MAX),
+        Some(text) => take_word(alloc, text, most),
         None => Ok(Word {
             octets: Vec::from_slice(alloc, other)?,
             rest: None,
@@ -238,7 +243,7 @@ fn take_user<'a>(
     ensures fault { IfErr result (TellsNoModel (codes "-s") text.now) }
 {
     let modeled = take_model(alloc, text, b"-s", b"usm")?;
-    let level = take_or(alloc, modeled.rest, b"auth")?;
+    let level = take_or(alloc, WORD_MAX, modeled.rest, b"auth")?;
     let named = Named {
         who,
         name: modeled.name,
@@ -254,7 +259,7 @@ fn take_community(alloc: Global, text: &[u8]) -> Result<(Named, Option<&[u8]>), 
     ensures fault { IfErr result (TellsNoModel (codes "-v") text.now) }
 {
     let modeled = take_model(alloc, text, b"-v", b"any")?;
-    let source = take_or(alloc, modeled.rest, b"default")?;
+    let source = take_or(alloc, WORD_MAX, modeled.rest, b"default")?;
     let model = version_word(alloc, modeled.model)?;
     let named = Named {
         who: Who::Community(versions_of(&model)),
@@ -358,12 +363,10 @@ pub fn simple_line(
 {
     let (types, rest) = take_types(alloc, given, text)?;
     let (named, rest) = take_named(alloc, kind, rest)?;
-    match take_reach(alloc, rest) {
-        Ok(reach) => Ok(Simple {
-            types,
-            named,
-            reach,
-        }),
-        Err(fault) => Err(fault),
-    }
+    let reach = take_reach(alloc, rest)?;
+    Ok(Simple {
+        types,
+        named,
+        reach,
+    })
 }

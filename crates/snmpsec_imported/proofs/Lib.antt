@@ -1,1 +1,3 @@
-pub mod OneEach
+pub mod Beside
+pub mod Covering
+pub mod Makers

@@ -1,2 +1,4 @@
 pub mod Rows
 pub mod Notes
+pub mod Users
+pub mod Seconds

@@ -10,6 +10,10 @@ use Rattle.snmpd_words.specs.declared.types.Types.{Types}
 use Rattle.snmpsec_import.specs.declared.simple.Who.{Who}
 use Rattle.snmpsec_import.specs.declared.simple.Who.TheVariants as whom
 use Rattle.snmpsec_import.specs.declared.simple.Simple.{Simple}
+use Rattle.snmpsec_import.specs.declared.users.UserFault.{UserFault}
+use Rattle.snmpsec_import.specs.declared.users.UserFault.TheVariants as user_faults
+use Rattle.snmpsec_import.specs.declared.users.Created.{Created}
+use Rattle.usm_users.specs.Rows.{is_bad_name}
 use Rattle.snmpsec_lists.specs.declared.rows.Place.{Place}
 use Rattle.snmpsec_lists.specs.declared.items.Include.{Include}
 use Rattle.snmpsec_lists.specs.declared.items.Include.TheVariants as includes
@@ -23,6 +27,7 @@ use Rattle.snmpsec_choices.specs.declared.comparison.Difference.{Difference}
 use Rattle.snmpsec_imported.specs.declared.notes.Kind.{Kind}
 use Rattle.snmpsec_imported.specs.declared.notes.Kind.TheVariants.{Other, Ignored, LeftOut, Refused, Undefined, Differs, Order}
 use Rattle.snmpsec_imported.specs.declared.notes.Told.{Told}
+use Rattle.snmpsec_imported.specs.Users.{lacks_auth, lacks_privacy, is_defaulted}
 
 abbrev pub fault_kind : LineFault → Kind
 fault_kind (faults.Refused refusal) = Refused
@@ -31,6 +36,13 @@ fault_kind faults.NotInNumbers = LeftOut
 fault_kind faults.OutOfReach = Ignored
 fault_kind faults.OutOfMemory = LeftOut
 
+-- snmpd 5.9.3 ends where a passphrase is missing
+abbrev pub user_fault_kind : UserFault → Kind
+user_fault_kind user_faults.MissingPassphrase = Undefined
+user_fault_kind user_faults.OneEngine = LeftOut
+user_fault_kind user_faults.OutOfMemory = LeftOut
+user_fault_kind _ = Refused
+
 abbrev pub note_kind : Note → Kind
 note_kind notes.Unclosed = Refused
 note_kind notes.NoSection = Refused
@@ -38,6 +50,7 @@ note_kind notes.Bare = Refused
 note_kind notes.Other = Other
 note_kind (notes.LeftOut directive) = LeftOut
 note_kind (notes.Fault directive fault) = fault_kind fault
+note_kind (notes.NoUser fault) = user_fault_kind fault
 
 -- a line that snmpd doesn't read other files for is refused by it, and another has not been followed
 abbrev pub include_kind : Include → Kind
@@ -64,10 +77,17 @@ simple_kind simple = if simple.types.unknown then Some Refused else who_kind sim
 abbrev pub set_kind : Types → Option Kind
 set_kind types = if types.unknown then Some Refused else (if types.log || types.execute || types.net then Some LeftOut else None)
 
+-- what has no counterpart is left out, the user or the privacy; or another hash is taken than is named
+abbrev pub user_kind : Created → Option Kind
+user_kind created =
+    if is_bad_name created.name.items || lacks_auth created.protection.authentication || lacks_privacy created.protection.privacy then Some LeftOut
+    else (if is_defaulted created.protection.authentication then Some Differs else None)
+
 abbrev pub entry_kind : Entry → Option Kind
 entry_kind (entries.Told note) = Some (note_kind note)
 entry_kind (entries.Simple simple) = simple_kind simple
 entry_kind (entries.Set setting) = set_kind setting.types
+entry_kind (entries.User created) = user_kind created
 entry_kind _ = None
 
 -- of what kind the note on a line is; none is on a row, on a simple line whose lines say all, on an empty line, and on one that begins a section

@@ -1,11 +1,8 @@
 -- The rows that are printed, and what a text says of them.
-use Rattle.std.specs.Prelude.{◌≡◌, ◌<◌, ℕ, List, [], ◌++◌, length, get_or, map}
+use Rattle.std.specs.Prelude.{◌≡◌, ◌<◌, ℕ, List, ◌++◌, length, get_or, map}
 use Rattle.std.specs.List.{flat_map}
 use Rattle.vacm_core.specs.Tables.{Tables}
 use Rattle.vacm_core.specs.declared.rows.ContextRow.{ContextRow}
-use Rattle.vacm_core.specs.declared.rows.GroupRow.{GroupRow}
-use Rattle.vacm_core.specs.declared.rows.AccessRow.{AccessRow}
-use Rattle.vacm_core.specs.declared.rows.FamilyRow.{FamilyRow}
 use Rattle.snmpsec_config.specs.Refusals.{SaysSound}
 use Rattle.snmpsec_lists.specs.Kept.{AreGroupsKept, AreAccessKept, AreFamiliesKept}
 use Rattle.snmpsec_lists.specs.Lists.{Tables as HeldTables, at_start, HoldsAfter}
@@ -18,6 +15,9 @@ use Rattle.snmpsec_lists.specs.declared.rows.HeldFamily.{HeldFamily}
 use Rattle.snmpsec_imported.specs.declared.rows.Kept.{Kept}
 use Rattle.snmpsec_imported.specs.declared.notes.Kind.{Kind}
 use Rattle.snmpsec_imported.specs.Notes.{tells as tells_of, change_told, difference_told}
+use Rattle.snmpsec_imported.specs.Users.{said_with_place, AreUsers, AreUsersOf}
+use Rattle.snmpsec_imported.specs.Seconds.{TellsSeconds}
+use Rattle.usm_users.specs.declared.load.UserRow.{UserRow}
 use Rattle.snmpsec_choices.specs.Questions.{Sides, TellsDifferences}
 use Rattle.snmpsec_choices.specs.declared.comparison.Difference.{Difference}
 
@@ -33,12 +33,13 @@ pub record AreTablesOf (kept : Kept) (rows : Tables) : Type 0 where
   pub access : AreRowsOf (λ (held : HeldAccess). held.row) kept.access.items rows.access
   pub families : AreRowsOf (λ (held : HeldFamily). held.row) kept.families.items rows.families
 
--- The text is a configuration, and stands for exactly these rows and no users.
+-- The text is a configuration, and stands for exactly these users and rows.
 abbrev pub Prints : Kept → List ℕ → Type 0
-Prints kept text = (rows : Tables) × SaysSound text [] rows × AreTablesOf kept rows
+Prints kept text = (users : List UserRow) × (rows : Tables) × SaysSound text users rows × AreUsersOf kept.users.items users × AreTablesOf kept rows
 
--- Of what snmpd holds these rows count.
-pub record AreKept (held : HeldTables) (kept : Kept) : Type 0 where
+-- The lines come to these users, and of what snmpd holds after them these rows count.
+pub record AreKept (lines : List Item) (held : HeldTables) (kept : Kept) : Type 0 where
+  pub users : AreUsers lines (map said_with_place kept.users.items)
   pub groups : AreGroupsKept held.groups kept.groups.items
   pub access : AreAccessKept held.access kept.access.items
   pub families : AreFamiliesKept kept.access.items held.families kept.families.items
@@ -51,6 +52,7 @@ compared held kept = record { contexts = kept.contexts.items; groups = kept.grou
 -- others count; and of each row that snmpd chooses for messages for which RFC 3415 comes to other views, over the rows that are kept.
 pub record TellsAll (lines : List Item) (held : HeldTables) (kept : Kept) (told : List (Place × Kind)) : Type 0 where
   pub second : List (Place × Kind)
+  pub seconds : TellsSeconds lines held kept second
   pub differences : List Difference
   pub differ : TellsDifferences (compared held kept) differences
   pub tells : told ≡ flat_map tells_of lines ++ map change_told held.changes ++ second ++ map difference_told differences
@@ -62,7 +64,7 @@ pub record ComesTo (items : List Item) (contexts : List ContextRow) (text : List
   pub kept : Kept
   pub are_meant : AreMeant items meant
   pub holds : HoldsAfter at_start meant held
-  pub are_kept : AreKept held kept
+  pub are_kept : AreKept meant held kept
   pub are_contexts : kept.contexts.items ≡ contexts
   pub prints : Prints kept text
   pub tells_all : TellsAll meant held kept told

@@ -2,10 +2,12 @@
 
 use crate::rows::Kept;
 use crate::texts::put_shown;
+use crate::users::HeldUser;
 use snmpsec_access::put_quoted;
 use snmpsec_config::level_word;
 use snmpsec_lists::{HeldAccess, HeldFamily, HeldGroup, Place};
 use std::alloc::{AllocError, Global};
+use usm_keys::Auth;
 use vacm_core::{ContextRow, Mask, Matching, Name};
 
 /// Appends a text.
@@ -45,12 +47,17 @@ pub(crate) fn put_place(
     put(out, format!(in alloc; ":{line}")?.as_str())
 }
 
-/// Appends a key with a name.
-fn put_name(out: &mut Vec<u8>, key: &str, name: &Name) -> Result<(), AllocError> {
+/// Appends a key with octets.
+fn put_octets(out: &mut Vec<u8>, key: &str, octets: &[u8]) -> Result<(), AllocError> {
     put(out, key)?;
     put(out, " = ")?;
-    put_quoted(out, name.as_slice())?;
+    put_quoted(out, octets)?;
     put(out, "\n")
+}
+
+/// Appends a key with a name.
+fn put_name(out: &mut Vec<u8>, key: &str, name: &Name) -> Result<(), AllocError> {
+    put_octets(out, key, name.as_slice())
 }
 
 /// Appends a key with the name of a view, where there is one.
@@ -68,6 +75,34 @@ fn put_mask(alloc: Global, out: &mut Vec<u8>, mask: &Mask) -> Result<(), AllocEr
     }
     let digits = hex::encode(alloc, mask.as_slice())?;
     put(out, format!(in alloc; "mask = \"{digits}\"\n")?.as_str())
+}
+
+/// The word for a hash.
+fn auth_word(auth: Auth) -> &'static str {
+    match auth {
+        Auth::Md5 => "md5",
+        Auth::Sha1 => "sha1",
+        Auth::Sha256 => "sha256",
+    }
+}
+
+/// Appends a user.
+fn put_user(
+    alloc: Global,
+    out: &mut Vec<u8>,
+    files: &[String],
+    held: &HeldUser,
+) -> Result<(), AllocError> {
+    begin(alloc, out, files, held.place, "user")?;
+    put_octets(out, "name", &held.row.name)?;
+    if let Some((auth, passphrase)) = &held.row.auth {
+        put_octets(out, "auth", auth_word(*auth).as_bytes())?;
+        put_octets(out, "auth-password", passphrase)?;
+    }
+    match &held.row.privacy {
+        Some(passphrase) => put_octets(out, "priv-password", passphrase),
+        None => Ok(()),
+    }
 }
 
 /// Appends a context.
@@ -143,6 +178,9 @@ fn put_family(
 /// The rows as a configuration's text.
 pub(crate) fn text_of(alloc: Global, files: &[String], kept: &Kept) -> Result<Vec<u8>, AllocError> {
     let mut out = Vec::new(alloc);
+    for held in &kept.users {
+        put_user(alloc, &mut out, files, held)?;
+    }
     for row in &kept.contexts {
         put_context(&mut out, row)?;
     }

@@ -36,7 +36,7 @@ pub fn import(
 {
     let lines = meant(alloc, items)?;
     let lists = lists_of(alloc, &lines)?;
-    let kept = kept_of(alloc, &lists, contexts)?;
+    let kept = kept_of(alloc, &lines, &lists, contexts)?;
     let text = configuration(alloc, files, &kept)?;
     let notes = all_notes(alloc, &lines, &lists, &kept)?;
     Ok(Imported { text, notes })

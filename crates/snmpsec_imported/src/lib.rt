@@ -20,6 +20,7 @@ mod rows;
 mod second;
 mod texts;
 mod told;
+mod users;
 
 pub use imported::{Imported, import};
 pub use notes::{Kind, Told, Why, line_notes};
@@ -27,3 +28,4 @@ pub use read_back::{TextFault, configuration};
 pub use rows::{Kept, kept_of};
 pub use second::second_notes;
 pub use texts::{is_serious, notes_text};
+pub use users::{HeldUser, users_of};

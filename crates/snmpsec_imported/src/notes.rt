@@ -5,9 +5,10 @@ ghost use Rattle.std.specs.List.{flat_map};
 ghost use Rattle.snmpsec_imported.specs.Notes as spec;
 ghost use Rattle.snmpsec_imported.specs.Notes.{told_of, tells};
 
+use crate::users::{is_bad_name, is_defaulted, lacks_auth, lacks_privacy};
 use snmpd_words::{Directive, LineFault, Types};
 use snmpsec_choices::Difference;
-use snmpsec_import::{Entry, Note, Simple, Who};
+use snmpsec_import::{Created, Entry, Note, Simple, UserFault, Who};
 use snmpsec_lists::{Followed, Include, Item, Made, Place};
 use std::alloc::{AllocError, Global};
 use std::fmt;
@@ -54,6 +55,8 @@ pub enum Why {
     Words(&'static str),
     /// This is wrong with the line.
     Fault(LineFault),
+    /// This is wrong with a line `createUser`.
+    NoUser(UserFault),
     /// The row from there has the same index.
     Same(Place),
     /// The line changed the row from there, which has another index than the line names.
@@ -84,6 +87,21 @@ fn fault_kind(fault: LineFault) -> Kind
     }
 }
 
+/// The kind of a note on such a fault of a line `createUser`.
+fn user_fault_kind(fault: UserFault) -> Kind
+    ensures { result ≡ spec.user_fault_kind fault }
+{
+    match fault {
+        UserFault::MissingPassphrase => Kind::Undefined,
+        UserFault::OneEngine | UserFault::OutOfMemory => Kind::LeftOut,
+        UserFault::UnknownHash
+        | UserFault::NoAuthKey
+        | UserFault::UnknownCipher
+        | UserFault::NoPrivKey
+        | UserFault::ShortKey => Kind::Refused,
+    }
+}
+
 /// The kind of a note on a line.
 fn note_kind(note: Note) -> Kind
     ensures { result ≡ spec.note_kind note }
@@ -93,6 +111,7 @@ fn note_kind(note: Note) -> Kind
         Note::Other => Kind::Other,
         Note::LeftOut(_) => Kind::LeftOut,
         Note::Fault(_, fault) => fault_kind(fault),
+        Note::NoUser(fault) => user_fault_kind(fault),
     }
 }
 
@@ -144,6 +163,23 @@ fn set_kind(types: Types) -> Option<Kind>
     None
 }
 
+/// The kind of the note on a user, where there is one.
+fn user_kind(created: &Created) -> Option<Kind>
+    ensures { result ≡ spec.user_kind created.now }
+{
+    let protection = &created.protection;
+    if is_bad_name(&created.name)
+        || lacks_auth(&protection.authentication)
+        || lacks_privacy(&protection.privacy)
+    {
+        Some(Kind::LeftOut)
+    } else if is_defaulted(&protection.authentication) {
+        Some(Kind::Differs)
+    } else {
+        None
+    }
+}
+
 /// The kind of the note on a line, where there is one.
 fn kind_of(made: &Made) -> Option<Kind>
     ensures { result ≡ spec.kind_of made.now }
@@ -152,6 +188,7 @@ fn kind_of(made: &Made) -> Option<Kind>
         Made::Entry(Entry::Told(note)) => Some(note_kind(*note)),
         Made::Entry(Entry::Simple(simple)) => simple_kind(simple),
         Made::Entry(Entry::Set(setting)) => set_kind(setting.types),
+        Made::Entry(Entry::User(created)) => user_kind(created),
         Made::Entry(_) => None,
         Made::NotText => Some(Kind::LeftOut),
         Made::Include(include) => Some(include_kind(include)),
@@ -179,6 +216,7 @@ fn why_note(note: Note) -> Why {
         Note::Other => Why::Plain,
         Note::LeftOut(directive) => why_left_out(directive),
         Note::Fault(_, fault) => Why::Fault(fault),
+        Note::NoUser(fault) => Why::NoUser(fault),
     }
 }
 
@@ -200,6 +238,19 @@ fn why_simple(simple: &Simple) -> Why {
     )
 }
 
+/// Why a user, or something of one, isn't taken over, or not as it is written.
+fn why_user(created: &Created) -> Why {
+    Why::Words(if is_bad_name(&created.name) {
+        "a user's name has 1 to 32 octets here"
+    } else if lacks_auth(&created.protection.authentication) {
+        "there is no counterpart to its hash, or a key stands in the place of a passphrase"
+    } else if lacks_privacy(&created.protection.privacy) {
+        "there is no counterpart to its cipher, or a key stands in the place of a passphrase: the user is without privacy"
+    } else {
+        "a passphrase that begins with `default` takes MD5 in the place of the hash that is named"
+    })
+}
+
 /// What came of other files.
 fn why_followed(followed: Followed) -> Why {
     Why::Words(match followed {
@@ -218,6 +269,7 @@ fn why_of(made: &Made) -> Why {
         Made::Entry(Entry::Told(note)) => why_note(*note),
         Made::Entry(Entry::Simple(simple)) => why_simple(simple),
         Made::Entry(Entry::Set(setting)) => why_set(setting.types),
+        Made::Entry(Entry::User(created)) => why_user(created),
         Made::Entry(_) => Why::Plain,
         Made::NotText => Why::Words("a name isn't UTF-8"),
         Made::Include(Include::Unclear) => {

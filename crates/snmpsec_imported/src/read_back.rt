@@ -1,19 +1,23 @@
 //! A configuration's text, which is read back before it is given out.
 
-ghost use Rattle.std.specs.Prelude.{◌≡◌, ℕ, List, [], IsTrue, IfOk, OnOk};
+ghost use Rattle.std.specs.Prelude.{◌≡◌, IsTrue, IfOk, OnOk};
 ghost use Rattle.vacm_core.specs.Tables.{tables_of};
 ghost use Rattle.vacm_core.specs.declared.rows.ContextRow.{ContextRow as AContext};
 ghost use Rattle.snmpsec_lists.specs.declared.rows.HeldGroup.{HeldGroup as AGroup};
 ghost use Rattle.snmpsec_lists.specs.declared.rows.HeldAccess.{HeldAccess as AnAccess};
 ghost use Rattle.snmpsec_lists.specs.declared.rows.HeldFamily.{HeldFamily as AFamily};
 ghost use Rattle.snmpsec_imported.specs.Rows.{AreRowsOf, AreTablesOf, Prints};
+ghost use Rattle.snmpsec_imported.specs.Users.{said_of, said_auth, said_privacy, AreUsersOf};
 
 use crate::blocks::text_of;
 use crate::rows::Kept;
+use crate::users::HeldUser;
 use snmpsec_config::AccessConfig;
 use snmpsec_lists::{HeldAccess, HeldFamily, HeldGroup};
 use std::alloc::{AllocError, Global};
 use thiserror::Error;
+use usm_keys::Auth;
+use usm_users::UserRow;
 use vacm_core::{AccessRow, ContextRow, FamilyRow, GroupRow, Rows};
 
 /// Why there is no text.
@@ -66,6 +70,54 @@ fn is_family(a: &FamilyRow, b: &FamilyRow) -> bool
         && a.subtree == b.subtree
         && a.include == b.include
         && a.mask.as_slice() == b.mask.as_slice()
+}
+
+/// The hashes and passphrases are equal.
+fn is_auth(a: &Option<(Auth, Vec<u8>)>, b: &Option<(Auth, Vec<u8>)>) -> bool
+    ensures { IsTrue result → said_auth a.now ≡ said_auth b.now }
+{
+    match (a, b) {
+        (Some((auth, passphrase)), Some((other, second))) => {
+            auth == other && passphrase.as_slice() == second.as_slice()
+        }
+        (None, None) => true,
+        _ => false,
+    }
+}
+
+/// The passphrases are equal.
+fn is_privacy(a: &Option<Vec<u8>>, b: &Option<Vec<u8>>) -> bool
+    ensures { IsTrue result → said_privacy a.now ≡ said_privacy b.now }
+{
+    match (a, b) {
+        (Some(passphrase), Some(second)) => passphrase.as_slice() == second.as_slice(),
+        (None, None) => true,
+        _ => false,
+    }
+}
+
+/// The users are equal.
+fn is_user(a: &UserRow, b: &UserRow) -> bool
+    ensures { IsTrue result → said_of a.now ≡ said_of b.now }
+{
+    a.name.as_slice() == b.name.as_slice()
+        && is_auth(&a.auth, &b.auth)
+        && is_privacy(&a.privacy, &b.privacy)
+}
+
+/// The users are equal, one by one.
+fn are_users(users: &[UserRow], kept: &[HeldUser]) -> bool
+    ensures { IsTrue result → AreUsersOf kept.now users.now }
+{
+    if users.len() != kept.len() {
+        return false;
+    }
+    for (place, held) in kept.iter().enumerate() {
+        if !is_user(&users[place], &held.row) {
+            return false;
+        }
+    }
+    true
 }
 
 /// The contexts are equal, one by one.
@@ -147,15 +199,15 @@ fn check(alloc: Global, text: &[u8], kept: &Kept) -> Result<(), TextFault>
         Err(fault) if fault.is_memory() => return Err(TextFault::OutOfMemory),
         Err(_) => return Err(TextFault::NotReadBack),
     };
-    if rows.users.as_slice().is_empty() && are_kept(&rows.access, kept) {
+    if are_users(&rows.users, &kept.users) && are_kept(&rows.access, kept) {
         Ok(())
     } else {
         Err(TextFault::NotReadBack)
     }
 }
 
-/// The text of a configuration with these rows, given the names of the files that they are from. It is accepted, and stands for exactly
-/// these rows.
+/// The text of a configuration with these users and rows, given the names of the files that they are from. It is accepted, and stands for exactly
+/// these.
 ///
 /// The fault is want of memory, or `NotReadBack` where the text doesn't do so: then there is none.
 pub fn configuration(alloc: Global, files: &[String], kept: &Kept) -> Result<Vec<u8>, TextFault>

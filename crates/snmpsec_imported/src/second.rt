@@ -1,31 +1,124 @@
 //! What is told of rows that snmpd holds and that don't count.
 
+ghost use Rattle.std.specs.Prelude.{◌≡◌, ◌++◌, ◌↔◌, List, map, IsTrue, IfOk, OnOk, MatchOption};
+ghost use Rattle.snmpsec_lists.specs.Lists.{tables_of};
+ghost use Rattle.snmpsec_lists.specs.declared.rows.Place.{Place as APlace};
+ghost use Rattle.snmpsec_imported.specs.declared.notes.Kind.{Kind as AKind};
+ghost use Rattle.snmpsec_imported.specs.Notes.{told_of, tells_kind};
+ghost use Rattle.snmpsec_imported.specs.Seconds as spec;
+ghost use Rattle.snmpsec_imported.specs.Seconds.{IsFor, IsSecondUser, AreUsersTold, IsSecondGroup, IsSecondAccess, IsSecondFamily, Covers, IsFamilyKind, AreTold, TellsSeconds, kind_in, place_of_group, place_of_access, place_of_family};
+
 use crate::notes::{Kind, Told, Why};
 use crate::rows::Kept;
-use snmpsec_lists::{HeldAccess, HeldFamily, HeldGroup, Lists, Place, find};
+use crate::users::{created_in, user_at};
+use snmpsec_lists::{HeldAccess, HeldFamily, HeldGroup, Item, Lists, Place, find};
 use std::alloc::{AllocError, Global};
-use vacm_core::{FamilyRow, Matching};
+use vacm_core::{FamilyRow, GroupRow, Matching};
 
-/// Appends a note on a row beside which the one from there counts.
-fn put_second(
-    alloc: Global,
-    notes: &mut Vec<Told>,
-    place: Place,
+/// What a row is beside which another one counts, and where that is from.
+#[derive(Clone, Copy, Debug, PartialEq, Eq)]
+struct Second {
     kind: Kind,
-    word: &[u8],
     first: Place,
-) -> Result<(), AllocError> {
-    notes.push(Told {
-        place,
-        kind,
-        word: Vec::from_slice(alloc, word)?,
-        why: Why::Same(first),
-    })?;
-    Ok(())
+}
+
+/// A row that snmpd holds.
+trait Beside: Sized {
+    ghost place_of: { Self → APlace };
+
+    ghost is_second: { List Self → Self → AKind → Type 0 };
+
+    /// Where it is from.
+    fn place(&self) -> Place
+        ensures { result ≡ place_of self.now };
+
+    /// What it is, where one of another line counts in its place.
+    fn second(&self, kept: &[Self]) -> Option<Second>
+        ensures { MatchOption result ((kind : AKind) → is_second kept.now self.now kind → ⊥) (λ second. is_second kept.now self.now second.kind) };
+}
+
+/// What the user of a line is, where a later line makes one of the same name.
+fn second_user(item: &Item, later: &[Item]) -> Option<Second>
+    ensures { MatchOption result ((kind : AKind) → IsSecondUser item.now later.now kind → ⊥) (λ second. IsSecondUser item.now later.now second.kind) }
+{
+    let Some(created) = created_in(&item.made) else {
+        return None;
+    };
+    match user_at(later, &created.name) {
+        Some(first) => Some(Second {
+            kind: Kind::Ignored,
+            first,
+        }),
+        None => None,
+    }
+}
+
+/// The row is for the name and the model of the other: one for any model is for the models 1 to 3.
+fn is_for(row: &GroupRow, other: &GroupRow) -> bool
+    ensures { IsTrue result ↔ IsFor row.now other.now }
+{
+    other.name == row.name
+        && (other.model == row.model || (row.model == 0 && matches!(other.model, 1..=3)))
+}
+
+impl Beside for HeldGroup {
+    ghost place_of = { place_of_group };
+
+    ghost is_second = { IsSecondGroup };
+
+    fn place(&self) -> Place {
+        self.place
+    }
+
+    fn second(&self, kept: &[HeldGroup]) -> Option<Second> {
+        for first in kept {
+            if first.place != self.place && is_for(&self.row, &first.row) {
+                return Some(Second {
+                    kind: Kind::Ignored,
+                    first: first.place,
+                });
+            }
+        }
+        None
+    }
+}
+
+/// What the second of two access rows of one index is.
+fn access_kind(first: Matching, second: Matching) -> Kind
+    ensures { result ≡ spec.access_kind first second }
+{
+    match (first, second) {
+        (Matching::Exact, Matching::Prefix) => Kind::Differs,
+        _ => Kind::Ignored,
+    }
+}
+
+impl Beside for HeldAccess {
+    ghost place_of = { place_of_access };
+
+    ghost is_second = { IsSecondAccess };
+
+    fn place(&self) -> Place {
+        self.place
+    }
+
+    fn second(&self, kept: &[HeldAccess]) -> Option<Second> {
+        let at = find(kept, self)?;
+        let first = &kept[at];
+        if first.place == self.place {
+            return None;
+        }
+        Some(Second {
+            kind: access_kind(first.row.matching, self.row.matching),
+            first: first.place,
+        })
+    }
 }
 
 /// Each arc that the first row compares the second compares too, so that the second has no variable that the first hasn't.
-fn covers(first: &FamilyRow, second: &FamilyRow) -> bool {
+fn covers(first: &FamilyRow, second: &FamilyRow) -> bool
+    ensures { first.now.view ≡ second.now.view → first.now.subtree ≡ second.now.subtree → IsTrue result ↔ Covers first.now second.now }
+{
     for k in 0..second.subtree.as_slice().len() {
         if first.mask.compares(k) && !second.mask.compares(k) {
             return false;
@@ -34,97 +127,107 @@ fn covers(first: &FamilyRow, second: &FamilyRow) -> bool {
     true
 }
 
-/// What the second of two access rows of one index is.
-fn access_kind(first: Matching, second: Matching) -> Kind {
-    if first == Matching::Exact && second == Matching::Prefix {
-        Kind::Differs
-    } else {
+/// What the second of two rows of one view and subtree is.
+fn family_kind(first: &FamilyRow, second: &FamilyRow) -> Kind
+    ensures { first.now.view ≡ second.now.view → first.now.subtree ≡ second.now.subtree → IsFamilyKind first.now second.now result }
+{
+    if covers(first, second) {
         Kind::Ignored
+    } else {
+        Kind::Differs
     }
 }
 
-/// The place of a row for the name, where it is from another line.
-fn other_group(kept: &[HeldGroup], held: &HeldGroup) -> Option<Place> {
-    let place = kept.iter().position(|row| row.place == held.place);
-    if place.is_some() {
-        return None;
+impl Beside for HeldFamily {
+    ghost place_of = { place_of_family };
+
+    ghost is_second = { IsSecondFamily };
+
+    fn place(&self) -> Place {
+        self.place
     }
-    for row in kept {
-        if row.row.name == held.row.name
-            && (row.row.model == held.row.model || held.row.model == 0)
-        {
-            return Some(row.place);
+
+    fn second(&self, kept: &[HeldFamily]) -> Option<Second> {
+        if self.place == Place::BuiltIn {
+            return None;
         }
+        let at = find(kept, self)?;
+        let first = &kept[at];
+        if first.place == self.place {
+            return None;
+        }
+        Some(Second {
+            kind: family_kind(&first.row, &self.row),
+            first: first.place,
+        })
     }
-    None
 }
 
-/// Notes on the group rows that don't count.
-fn put_groups(
+/// Appends the note on a row, where one of another line counts in its place.
+fn put_second(
     alloc: Global,
     notes: &mut Vec<Told>,
-    held: &[HeldGroup],
-    kept: &[HeldGroup],
-) -> Result<(), AllocError> {
-    for row in held {
-        if let Some(first) = other_group(kept, row) {
-            put_second(alloc, notes, row.place, Kind::Ignored, b"group", first)?;
-        }
-    }
+    place: Place,
+    word: &[u8],
+    second: Option<Second>,
+) -> Result<(), AllocError>
+    ensures { OnOk result (map told_of notes.new.items ≡ map told_of notes.old.items ++ tells_kind place (kind_in second)) }
+{
+    let Some(second) = second else {
+        return Ok(());
+    };
+    notes.push(Told {
+        place,
+        kind: second.kind,
+        word: Vec::from_slice(alloc, word)?,
+        why: Why::Same(second.first),
+    })?;
     Ok(())
 }
 
-/// Notes on the access rows that don't count.
-fn put_access(
-    alloc: Global,
-    notes: &mut Vec<Told>,
-    held: &[HeldAccess],
-    kept: &[HeldAccess],
-) -> Result<(), AllocError> {
-    for row in held {
-        let Some(place) = find(kept, row) else {
-            continue;
-        };
-        let first = &kept[place];
-        if first.place != row.place {
-            let kind = access_kind(first.row.matching, row.row.matching);
-            put_second(alloc, notes, row.place, kind, b"access", first.place)?;
-        }
+/// The notes on users in whose place later lines make others.
+fn user_notes(alloc: Global, items: &[Item]) -> Result<Vec<Told>, AllocError>
+    ensures { IfOk result (λ notes. AreUsersTold items.now (map told_of notes.items)) }
+{
+    let mut notes = Vec::new(alloc);
+    for (at, item) in items.iter().enumerate() {
+        let second = second_user(item, &items[at + 1..]);
+        put_second(alloc, &mut notes, item.place, &item.word, second)?;
     }
-    Ok(())
+    Ok(notes)
 }
 
-/// Notes on the family rows that don't count.
-fn put_families(
+/// The notes on rows that don't count, each with the directive's word.
+fn row_notes<R: Beside>(
     alloc: Global,
-    notes: &mut Vec<Told>,
-    held: &[HeldFamily],
-    kept: &[HeldFamily],
-) -> Result<(), AllocError> {
+    word: &[u8],
+    held: &[R],
+    kept: &[R],
+) -> Result<Vec<Told>, AllocError>
+    ensures { IfOk result (λ notes. AreTold (R.is_second kept.now) R.place_of held.now (map told_of notes.items)) }
+{
+    let mut notes = Vec::new(alloc);
     for row in held {
-        let Some(place) = find(kept, row) else {
-            continue;
-        };
-        let first = &kept[place];
-        if first.place != row.place {
-            let kind = if covers(&first.row, &row.row) {
-                Kind::Ignored
-            } else {
-                Kind::Differs
-            };
-            put_second(alloc, notes, row.place, kind, b"view", first.place)?;
-        }
+        put_second(alloc, &mut notes, row.place(), word, row.second(kept))?;
     }
-    Ok(())
+    Ok(notes)
 }
 
-/// The notes on the rows that snmpd holds and that don't count: of each index one is printed.
+/// The notes on the users of lines, and on the rows that snmpd holds, which don't count, since of each name or index one does: one on each of them, and
+/// no other.
 ///
 /// The error is want of memory.
-pub fn second_notes(alloc: Global, lists: &Lists, kept: &Kept) -> Result<Vec<Told>, AllocError> {
-    let mut notes = Vec::new(alloc);
-    put_groups(alloc, &mut notes, &lists.groups, &kept.groups)?;
-    put_access(alloc, &mut notes, &lists.access, &kept.access)?;
-    put_families(alloc, &mut notes, &lists.families, &kept.families)?;
+pub fn second_notes(
+    alloc: Global,
+    lines: &[Item],
+    lists: &Lists,
+    kept: &Kept,
+) -> Result<Vec<Told>, AllocError>
+    ensures { IfOk result (λ notes. TellsSeconds lines.now (tables_of lists.now) kept.now (map told_of notes.items)) }
+{
+    let mut notes = user_notes(alloc, lines)?;
+    notes.append(&mut row_notes(alloc, b"group", &lists.groups, &kept.groups)?)?;
+    notes.append(&mut row_notes(alloc, b"access", &lists.access, &kept.access)?)?;
+    notes.append(&mut row_notes(alloc, b"view", &lists.families, &kept.families)?)?;
     Ok(notes)
 }

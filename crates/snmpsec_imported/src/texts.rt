@@ -107,6 +107,7 @@ fn put_why(
             out.extend_from_slice(words.as_bytes())
         }
         Why::Fault(fault) => { out.extend_from_slice(format!(in alloc; ": {fault}")?.as_bytes()) }
+        Why::NoUser(fault) => { out.extend_from_slice(format!(in alloc; ": {fault}")?.as_bytes()) }
         Why::Same(place) => put_same(alloc, out, files, *place),
         Why::Changed(place) => put_changed(alloc, out, files, *place),
         Why::Chosen(difference) => put_chosen(alloc, out, files, difference),

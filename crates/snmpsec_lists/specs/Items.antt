@@ -8,7 +8,12 @@ use Rattle.snmpd_words.specs.declared.lines.Section.{Section}
 use Rattle.snmpd_words.specs.declared.lines.Line.{Line}
 use Rattle.snmpd_words.specs.declared.lines.Line.TheVariants.{Directive}
 use Rattle.snmpsec_import.specs.declared.entries.Entry.{Entry}
-use Rattle.snmpsec_import.specs.declared.entries.Entry.TheVariants.{Group, Access, Family, Set}
+use Rattle.snmpsec_import.specs.declared.entries.Entry.TheVariants.{Group, Access, Family, Set, User}
+use Rattle.snmpsec_import.specs.declared.users.Secret.{Secret}
+use Rattle.snmpsec_import.specs.declared.users.Secret.TheVariants.{Passphrase, Key}
+use Rattle.snmpsec_import.specs.declared.users.Authentication.{Authentication}
+use Rattle.snmpsec_import.specs.declared.users.Privacy.{Privacy}
+use Rattle.snmpsec_import.specs.declared.users.Created.{Created}
 use Rattle.snmpsec_lists.specs.declared.rows.Place.TheVariants as places
 use Rattle.snmpsec_lists.specs.declared.items.Include.{Include}
 use Rattle.snmpsec_lists.specs.declared.items.Include.TheVariants.{Unclear, Search, File, Folder}
@@ -49,12 +54,29 @@ abbrev pub text_of : Line → Option (List ℕ)
 text_of (Directive section word text) = option_map (λ rest. rest.now) text
 text_of _ = None
 
+abbrev pub IsTextSecret : Secret → Type 0
+IsTextSecret (Passphrase passphrase) = IsUtf8 passphrase.items
+IsTextSecret Key = ⊤
+
+abbrev pub IsTextAuthentication : Option Authentication → Type 0
+IsTextAuthentication None = ⊤
+IsTextAuthentication (Some authentication) = IsTextSecret authentication.secret
+
+abbrev pub IsTextPrivacy : Option Privacy → Type 0
+IsTextPrivacy None = ⊤
+IsTextPrivacy (Some privacy) = IsTextSecret privacy.secret
+
+-- the name and the passphrases of the user are UTF-8
+abbrev pub IsTextUser : Created → Type 0
+IsTextUser created = IsUtf8 created.name.items × IsTextAuthentication created.protection.authentication × IsTextPrivacy created.protection.privacy
+
 -- The names of the entry's row are UTF-8, which a configuration is.
 abbrev pub IsText : Entry → Type 0
 IsText (Group row) = IsUtf8 row.group × IsUtf8 row.name
 IsText (Access row) = IsUtf8 row.group × IsUtf8 row.prefix × IsUtf8 row.read × IsUtf8 row.write × IsUtf8 row.notify
 IsText (Family row) = IsUtf8 row.view
 IsText (Set setting) = IsUtf8 setting.group × IsUtf8 setting.context × IsUtf8 setting.view
+IsText (User created) = IsTextUser created
 IsText _ = ⊤
 
 abbrev pub IsMade : Section → List ℕ → Line → Made → Type 0

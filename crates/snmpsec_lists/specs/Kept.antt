@@ -3,6 +3,7 @@ use Rattle.std.specs.Prelude.{◌≡◌, ◌≢◌, ◌⊎◌, ℕ, ◌<◌, ◌
 use Rattle.std.specs.List.{flat_map}
 use Rattle.std.specs.declared.cmp.Ordering.{Ordering}
 use Rattle.std.specs.declared.cmp.Ordering.TheVariants.{Equal}
+use Rattle.snmp_ber.specs.Level.{level_number}
 use Rattle.snmpsec_import.specs.Choice.{IsTaken}
 use Rattle.snmpsec_lists.specs.declared.rows.Place.TheVariants.{BuiltIn}
 use Rattle.snmpsec_lists.specs.declared.rows.HeldGroup.{HeldGroup}
@@ -56,6 +57,12 @@ Settles kept held after =
 abbrev pub SettlesAfter : List HeldAccess → List HeldAccess → List HeldAccess → Type 0
 SettlesAfter kept [] after = kept ≡ after
 SettlesAfter kept (held ∷ rows) after = (next : List HeldAccess) × Settles kept held next × SettlesAfter next rows after
+
+-- of each index there is one row
+abbrev pub HasOneEach : List HeldAccess → Type 0
+HasOneEach kept =
+    (x y : HeldAccess) → Contains kept x → Contains kept y → x.row.group ≡ y.row.group → x.row.prefix ≡ y.row.prefix → x.row.model ≡ y.row.model
+    → level_number x.row.level ≡ level_number y.row.level → x.row ≡ y.row
 
 -- ---- views
 

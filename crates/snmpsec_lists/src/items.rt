@@ -9,11 +9,14 @@ ghost use Rattle.snmpd_words.specs.declared.lines.Line.{Line as ALine};
 ghost use Rattle.snmpd_words.specs.Lines.{IsLine};
 ghost use Rattle.snmpsec_import.specs.Entries.{IsEntry};
 ghost use Rattle.snmpsec_lists.specs.Items as spec;
-ghost use Rattle.snmpsec_lists.specs.Items.{BeginsSmall, IsIncludeWord, NamesFiles, IsInclude, IsText, IsMade, IsItem, AreItems, word_of};
+ghost use Rattle.snmpsec_lists.specs.Items.{BeginsSmall, IsIncludeWord, NamesFiles, IsInclude, IsTextSecret, IsTextAuthentication, IsTextPrivacy, IsTextUser, IsText, IsMade, IsItem, AreItems, word_of};
 
 use crate::rows::Place;
 use snmpd_words::{Line, Section, read_line};
-use snmpsec_import::{Entry, Setting, first_line, read_entry, section_behind};
+use snmpsec_import::{
+    Authentication, Created, Entry, Privacy, Secret, Setting, first_line, read_entry,
+    section_behind,
+};
 use std::alloc::{AllocError, Global};
 use vacm_core::{AccessRow, Name};
 
@@ -136,6 +139,45 @@ fn is_text_setting(setting: &Setting) -> bool
     is_text(&setting.group) && is_text(&setting.context) && is_text(&setting.view)
 }
 
+/// The passphrase is UTF-8, where it is one.
+fn is_text_secret(secret: &Secret) -> bool
+    ensures { IsTrue result ↔ IsTextSecret secret.now }
+{
+    match secret {
+        Secret::Passphrase(passphrase) => str::from_utf8(passphrase).is_ok(),
+        Secret::Key => true,
+    }
+}
+
+/// The passphrase for authentication is UTF-8.
+fn is_text_authentication(authentication: &Option<Authentication>) -> bool
+    ensures { IsTrue result ↔ IsTextAuthentication authentication.now }
+{
+    match authentication {
+        Some(authentication) => is_text_secret(&authentication.secret),
+        None => true,
+    }
+}
+
+/// The passphrase for privacy is UTF-8.
+fn is_text_privacy(privacy: &Option<Privacy>) -> bool
+    ensures { IsTrue result ↔ IsTextPrivacy privacy.now }
+{
+    match privacy {
+        Some(privacy) => is_text_secret(&privacy.secret),
+        None => true,
+    }
+}
+
+/// The name and the passphrases of the user are UTF-8.
+fn is_text_user(created: &Created) -> bool
+    ensures { IsTrue result ↔ IsTextUser created.now }
+{
+    str::from_utf8(&created.name).is_ok()
+        && is_text_authentication(&created.protection.authentication)
+        && is_text_privacy(&created.protection.privacy)
+}
+
 /// The names of the entry's row are UTF-8.
 pub(crate) fn is_text_entry(entry: &Entry) -> bool
     ensures { IsTrue result ↔ IsText entry.now }
@@ -145,6 +187,7 @@ pub(crate) fn is_text_entry(entry: &Entry) -> bool
         Entry::Access(row) => is_text_access(row),
         Entry::Family(row) => is_text(&row.view),
         Entry::Set(setting) => is_text_setting(setting),
+        Entry::User(created) => is_text_user(created),
         Entry::Nothing | Entry::Begins(_) | Entry::Simple(_) | Entry::Told(_) => true,
     }
 }

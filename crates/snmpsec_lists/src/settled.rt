@@ -1,7 +1,7 @@
 //! Of access rows of one index the one that snmpd's choice comes to.
 
 ghost use Rattle.std.specs.Prelude.{IfOk, OnOk};
-ghost use Rattle.snmpsec_lists.specs.Kept.{Settles, AreAccessKept};
+ghost use Rattle.snmpsec_lists.specs.Kept.{Settles, AreAccessKept, HasOneEach};
 
 use crate::kept::find;
 use crate::rows::{Held, HeldAccess};
@@ -26,7 +26,8 @@ fn settle(kept: &mut Vec<HeldAccess>, held: &HeldAccess) -> Result<(), AllocErro
 ///
 /// The error is want of memory.
 pub fn access_kept(alloc: Global, held: &[HeldAccess]) -> Result<Vec<HeldAccess>, AllocError>
-    ensures { IfOk result (λ kept. AreAccessKept held.now kept.items) }
+    ensures kept { IfOk result (λ kept. AreAccessKept held.now kept.items) }
+    ensures one_each { IfOk result (λ kept. HasOneEach kept.items) }
 {
     let mut kept = Vec::new(alloc);
     for row in held {

@@ -1,1 +1,2 @@
 pub mod NamedLines
+pub mod DottedParts

@@ -1,7 +1,13 @@
-//! A line of saved clocks: the heading, or `ENGINE BOOTS TIME` and, behind the heading `snmp-clocks 2`, the moment `SEEN`.
+//! Whether a text is saved clocks, and what is wrong with its line where it isn't: the heading, or `ENGINE BOOTS TIME` and, behind the
+//! heading `snmp-clocks 2`, the moment `SEEN`.
 
-use crate::quoted::Quoted;
+ghost use Rattle.std.specs.Prelude.{IfOk};
+ghost use Rattle.snmpsec_notes.specs.Clocks.{TellsClocks};
+
+use crate::quoted::{Quoted, text_of};
+use engine_clock::{ClockFault, Clocks};
 use snmp_ber::read_decimal;
+use std::alloc::{AllocError, Global};
 use std::fmt;
 
 /// The heading where a moment stands on each line.
@@ -13,9 +19,19 @@ const WITHOUT_SEEN: &str = "snmp-clocks 1";
 /// The greatest number of boots and of seconds (RFC 3414, section 2.2).
 const GREATEST: u64 = 2_147_483_647;
 
+/// What a text is to those who read saved clocks.
+#[derive(Debug, PartialEq, Eq, Drop)]
+pub enum CheckedClocks {
+    /// Saved clocks.
+    Whole,
+    /// The line of this number, from 1, is the first that is out of its form, or whose engine isn't above that of the line before; and
+    /// what is wrong with it.
+    Faulty { number: usize, why: String },
+}
+
 /// Why a line of saved clocks is out of its form.
 #[derive(Clone, Copy, Debug, PartialEq, Eq, Drop)]
-pub enum ClocksFault<'a> {
+enum ClocksFault<'a> {
     /// The first line is no heading.
     Heading,
     CarriageReturn,
@@ -30,8 +46,30 @@ pub enum ClocksFault<'a> {
     NoLineFeed,
 }
 
+/// Whether octets are saved clocks, and which line is the first that isn't as it has to be, and why. The error is want of memory.
+pub fn check_clocks(alloc: Global, octets: &[u8]) -> Result<CheckedClocks, AllocError>
+    ensures { IfOk result (TellsClocks octets.now) }
+{
+    let number = match Clocks::read_saved(alloc, octets, 0) {
+        Ok(_) => return Ok(CheckedClocks::Whole),
+        Err(ClockFault::Line(number)) => number,
+        Err(ClockFault::OutOfMemory) => return Err(AllocError),
+    };
+    let text = text_of(alloc, octets)?;
+    let why = why_line(alloc, &text, number)?;
+    Ok(CheckedClocks::Faulty { number, why })
+}
+
+/// What is wrong with the line of this number, in words.
+fn why_line(alloc: Global, text: &str, number: usize) -> Result<String, AllocError> {
+    match clocks_fault(text, number) {
+        Some(fault) => format!(in alloc; "{fault}"),
+        None => String::from_str(alloc, "it is no line of saved clocks"),
+    }
+}
+
 /// What is wrong with the line of this number, from 1, of a text of saved clocks. None where it is in its form, or there is no such line.
-pub fn clocks_fault(text: &str, number: usize) -> Option<ClocksFault<'_>> {
+fn clocks_fault(text: &str, number: usize) -> Option<ClocksFault<'_>> {
     let heading = text.split('\n').next()?;
     let line = text.split('\n').nth(number.checked_sub(1)?)?;
     let has_end = text.split('\n').nth(number).is_some();

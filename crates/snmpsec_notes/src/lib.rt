@@ -20,7 +20,7 @@ mod quoted;
 mod variables;
 
 pub use choices::nearest;
-pub use clocks::{ClocksFault, clocks_fault};
+pub use clocks::{CheckedClocks, check_clocks};
 pub use digits::{DigitsFault, digits_fault};
 pub use messages::{CutMessage, cut_message};
 pub use names::with_names;

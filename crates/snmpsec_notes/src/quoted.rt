@@ -1,5 +1,8 @@
 //! A value as it is told: between quotes, and cut where it is long.
 
+ghost use Rattle.std.specs.Prelude.{◌≡◌, IfOk, string_bytes};
+ghost use Rattle.snmpsec_notes.specs.Characters.{characters_text};
+
 use std::alloc::{AllocError, Global};
 use std::fmt;
 
@@ -34,7 +37,10 @@ pub(crate) fn write_escaped<W: fmt::Write>(
 }
 
 /// Octets as text, each of them the character of its number (ISO 8859-1), so that there is a text for any.
-pub fn text_of(alloc: Global, octets: &[u8]) -> Result<String, AllocError> {
+/// The error is want of memory.
+pub fn text_of(alloc: Global, octets: &[u8]) -> Result<String, AllocError>
+    ensures { IfOk result (λ text. string_bytes text ≡ characters_text octets.now) }
+{
     let mut text = String::new(alloc);
     for octet in octets {
         text.push(char::from(*octet))?;

@@ -1,6 +1,9 @@
 //! Object identifiers in decimals with dots between.
 
 ghost use Rattle.std.specs.Prelude.{◌≡◌, MatchOption};
+ghost use Rattle.std.specs.Char.{is_ascii_digit};
+ghost use Rattle.std.specs.List.{list_all};
+ghost use Rattle.snmpsec_notes.specs.Variables.{IsDotted, IsNumber, TellsNumber, TellsVariable};
 
 use crate::quoted::Quoted;
 use snmp_ber::read_decimal;
@@ -25,8 +28,11 @@ pub enum VariableFault<'a> {
     TooMany { count: usize },
 }
 
-/// What is wrong with a word that has to be 1 to 128 numbers of 32 bits with dots between. None where it is.
-pub fn variable_fault(word: &str) -> Option<VariableFault<'_>> {
+/// What is wrong with a word that has to be 1 to 128 numbers of 32 bits with dots between, in decimal without sign or leading zeros. None
+/// where it is.
+pub fn variable_fault(word: &str) -> Option<VariableFault<'_>>
+    ensures exact { MatchOption result (IsDotted word.now) (TellsVariable word.now) }
+{
     if word.is_empty() {
         return Some(VariableFault::Empty);
     }
@@ -46,18 +52,27 @@ pub fn variable_fault(word: &str) -> Option<VariableFault<'_>> {
     None
 }
 
-/// What is wrong with the number at this place.
-fn number_fault(at: usize, word: &str) -> Option<VariableFault<'_>> {
+/// What is wrong with the number at this place. None where it is one.
+fn number_fault(at: usize, word: &str) -> Option<VariableFault<'_>>
+    ensures exact { MatchOption result (IsNumber word.now) (TellsNumber at word.now) }
+{
+    if read_decimal(word.as_bytes(), u64::from(u32::MAX)).is_some() {
+        return None;
+    }
     if word.is_empty() {
         return Some(VariableFault::Missing { at });
     }
-    if !word.as_bytes().iter().all(u8::is_ascii_digit) {
-        return Some(VariableFault::NoNumber { at, word });
+    if are_digits(word.as_bytes()) {
+        return Some(VariableFault::OutOfRange { at, word });
     }
-    match read_decimal(word.as_bytes(), u64::from(u32::MAX)) {
-        Some(_) => None,
-        None => Some(VariableFault::OutOfRange { at, word }),
-    }
+    Some(VariableFault::NoNumber { at, word })
+}
+
+/// All are decimal digits.
+fn are_digits(octets: &[u8]) -> bool
+    ensures { result ≡ list_all is_ascii_digit octets.now }
+{
+    octets.iter().all(|octet| octet.is_ascii_digit())
 }
 
 impl fmt::Display for VariableFault<'_> {

@@ -1,11 +1,12 @@
 -- A datagram that is opened has one answer.
-use Rattle.std.proofs.Common.{◌≡◌, ℕ, List, refl, sym, ap, subst, ◌∙◌}
+use Rattle.std.proofs.Common.{◌≡◌, ℕ, List, sym, ap, subst, ◌∙◌}
 use Rattle.std.specs.Prelude.{Result, Ok, Err}
 use Rattle.snmp_message.specs.Scoped.{Contexts, ScopedFront}
 use Rattle.snmp_msg.specs.Pdu.{PduParts, PduText}
 use Rattle.usm_users.specs.User.{User}
 use Rattle.usm_core.specs.Verified.{Side, Verified, Verifies, manager}
-use Rattle.snmp_outcome.proofs.Determined.{needs_one, then_one, message_one}
+use Rattle.usm_core.proofs.Determined.{needs_one, then_one}
+use Rattle.snmp_outcome.proofs.Determined.{message_one}
 use Rattle.snmpsec_open.specs.Opening.{TellsText, Tells, Opens, opened_lines}
 
 module _ (front : (z : List ℕ) (s t : Contexts) → ScopedFront z s → ScopedFront z t → s ≡ t) (pdu : (z : List ℕ) (p q : PduParts) → PduText z p → PduText z q → p ≡ q) where

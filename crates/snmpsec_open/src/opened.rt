@@ -8,7 +8,7 @@ ghost use Rattle.snmpsec_open.specs.Opening.{TellsText, Opens, lines_answer};
 
 use crate::lines::{message_lines, scoped_lines};
 use engine_clock::EngineId;
-use snmp_outcome::{TakeFault, Taken, open_text, read_text};
+use snmp_outcome::{TakeFault, Taken, read_text, scoped_octets};
 use snmpsec_config::level_word;
 use std::alloc::{AllocError, Global};
 use usm_core::{Checked, Role, Users};
@@ -22,23 +22,17 @@ pub fn opened_lines(alloc: Global, users: &mut Users, datagram: &[u8]) -> Result
     ensures opens { IfSome (lines_answer result) (Opens users.old.users datagram.now) }
     ensures users { users.new.users ≡ users.old.users }
 {
-    let checked = match users.open_auth(Role::Manager, datagram) {
-        Ok(checked) => checked,
-        Err(fault) => return Err(fault.into()),
-    };
+    let checked = users.open_auth(Role::Manager, datagram)?;
     let Some(engine) = EngineId::of(checked.security.engine) else {
         unreachable!();
     };
-    let Ok(opening) = open_text(users, datagram, &checked) else {
+    let Ok(opening) = scoped_octets(users, datagram, &checked) else {
         return Err(TakeFault::OutOfMemory);
     };
     let Some(text) = opening else {
         return Err(TakeFault::DecryptionError);
     };
-    let taken = match read_text(&checked, engine, text) {
-        Ok(taken) => taken,
-        Err(fault) => return Err(fault),
-    };
+    let taken = read_text(&checked, engine, text)?;
     match taken_lines(alloc, &checked, &taken) {
         Ok(lines) => Ok(lines),
         Err(_) => Err(TakeFault::OutOfMemory),

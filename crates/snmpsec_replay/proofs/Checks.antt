@@ -1,13 +1,14 @@
 -- A log that is looked at, line by line.
-use Rattle.std.proofs.Common.{◌≡◌, Bool, ℕ, ◌+◌, ◌<◌, ◌≤◌, List, [], ◌∷◌, ◌++◌, length, Option, Some, None, is_some, false, Result, Ok, Err, IfOk, refl, sym, ap, ◌∙◌, arith, append-nil, length-append, subst}
+use Rattle.std.proofs.Common.{◌≡◌, ℕ, ◌+◌, ◌<◌, ◌≤◌, List, [], ◌∷◌, ◌++◌, length, Option, Some, None, is_some, false, Result, Ok, Err, IfOk, refl, sym, ap, ◌∙◌, arith, append-nil, length-append, subst}
 use Rattle.std.specs.Io.KnownBytes.{Consumes}
 use Rattle.std.proofs.KnownBytes.{Consumes-nil, Consumes-trans}
 use Rattle.snmp_ber.specs.Splits.{Lacks}
 use Rattle.snmpsec_replay.specs.Log.{LogEntry, IsLine, IsLineAt}
 use Rattle.snmpsec_replay.specs.Lines.{IsReadAs}
 use Rattle.snmpsec_replay.specs.Replay.{from_line_1}
-use Rattle.snmpsec_replay.specs.Checked.{ReadsLog, TellsEntry, TellsLine}
+use Rattle.snmpsec_replay.specs.Checked.{ReadsLog, StopsLine, StopsLog, TellsEntry, TellsLine}
 use Rattle.snmpsec_replay.specs.declared.fault.ReplayFault.{ReplayFault}
+use Rattle.snmpsec_replay.specs.declared.fault.ReplayFault.TheVariants as faults
 use Rattle.snmpsec_replay.specs.declared.checked.CheckedLine.{CheckedLine}
 use Rattle.snmpsec_replay.specs.declared.checked.CheckedLine.TheVariants as lines
 use Rattle.snmpsec_replay.proofs.Replays.{IsNext, lines_more, bad_line}
@@ -55,3 +56,11 @@ ends unread left k r left' P part c says = record {
   consumed = Consumes-trans _ _ _ _ _ (rw (r.is_part.0, append-nil r.read) at r.consumed) c;
   is_part = says r.entries r.is_part.1;
 }
+
+-- a read that fails behind lines
+pub stops : (unread left : Option (List ℕ)) (k : ℕ) → ReadsLog unread left (IsNext k) → (left' : Option (List ℕ)) (fault : ReplayFault) → StopsLine left left' fault
+    → StopsLog unread left' fault
+stops unread left k r left' faults.CannotRead h = ends unread left k r left' (λ es part. Lacks 10 part) h.0 h.2 (λ es n. h.1)
+stops unread left k r left' faults.OutOfMemory h = tt
+stops unread left k r left' (faults.LogLine n) h = absurd h
+stops unread left k r left' faults.CannotWrite h = absurd h

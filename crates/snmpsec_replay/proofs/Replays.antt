@@ -1,7 +1,8 @@
 -- A replay, line by line.
-use Rattle.std.proofs.Common.{◌≡◌, Bool, ℕ, ◌+◌, ◌<◌, ◌⊎◌, List, [], ◌∷◌, ◌++◌, length, Option, Some, None, IfSome, is_some, true, false, MatchOption, refl, sym, ap, ◌∙◌, arith, inl, inr, append_assoc, append-nil, length-append, subst}
+use Rattle.std.proofs.Common.{◌≡◌, Bool, ℕ, ◌+◌, ◌<◌, ◌⊎◌, List, [], ◌∷◌, ◌++◌, length, Option, Some, None, IfSome, is_some, true, MatchOption, refl, sym, ap, ◌∙◌, arith, inl, inr, append_assoc, append-nil, length-append, subst}
 use Rattle.std.specs.Io.KnownBytes.{Appends, Consumes, IsAtEnd, Keeps}
 use Rattle.std.proofs.KnownBytes.{Appends-nil, Appends-trans, Appends-kept, Consumes-nil, Consumes-trans, Consumes-whole}
+use Rattle.std.proofs.lemmas.Bool.{cases_eq}
 use Rattle.snmp_ber.specs.Splits.{Lacks}
 use Rattle.engine_clock.specs.Saved.{AreMarks, listing}
 use Rattle.snmp_manager.specs.declared.outcome.Outcome.{Outcome}
@@ -9,7 +10,7 @@ use Rattle.snmp_manager.specs.Views.{Held}
 use Rattle.snmp_manager.specs.Runs.{TakesOne}
 use Rattle.snmpsec_replay.specs.Log.{LogEntry, IsLine, IsLineAt, AreLines, HasNoLine}
 use Rattle.snmpsec_streams.specs.Transfer.{WritesFront}
-use Rattle.snmpsec_replay.specs.Replay.{printed_line, Answers, ReplayText, Streams, Stands, Waits, IsLinePart, IsEnd, IsBad, MayWant, WriteFails, StopsBy, Ends, SavesUnless, WritesSome}
+use Rattle.snmpsec_replay.specs.Replay.{printed_line, Answers, ReplayText, streams, Stands, Waits, IsLinePart, IsEnd, IsBad, MayWant, WriteFails, StopsBy, Ends, EndsBehind, SavesUnless, WritesSome}
 use Rattle.snmpsec_replay.specs.declared.fault.ReplayFault.{ReplayFault}
 use Rattle.snmpsec_replay.specs.declared.fault.ReplayFault.TheVariants as fault
 use Rattle.snmpsec_replay.specs.declared.printing.Printing.{Printing}
@@ -58,9 +59,6 @@ answers_more lines old k (x ∷ es) text mid e outcome new (o, m, rest, first, p
 
 abbrev pub IsNext : ℕ → List LogEntry → List ℕ → Type 0
 IsNext k es part = (part ≡ []) × (k ≡ length es)
-
-abbrev pub streams : Option (List ℕ) → Option (List ℕ) → Option (List ℕ) → Option (List ℕ) → Streams
-streams unread left held written = record { unread = unread; left = left; held = held; written = written }
 
 pub starts : (p : Printing) (begin : Held) (unread held : Option (List ℕ)) (waiting : List ℕ) → waiting ≡ [] → Waits p begin (streams unread unread held held) waiting (IsNext 0) begin
 starts p begin unread held waiting none = record {
@@ -255,10 +253,6 @@ ends_write_fails p begin now unread left held written waiting ending.OutOfMemory
 
 -- ---- one octet
 
-pub octet_at_end : (P : Type 0) (Q : ℕ → Type 0) (o : Option ℕ) → is_some o ≡ false → MatchOption o P Q → P
-octet_at_end P Q None h m = m
-octet_at_end P Q (Some x) h m = absurd cc
-
 pub octet_given : (P : Type 0) (Q : ℕ → Type 0) (o : Option ℕ) → is_some o ≡ true → MatchOption o P Q → (x : ℕ) × Q x
 octet_given P Q None h m = absurd cc
 octet_given P Q (Some x) h m = (x, m)
@@ -268,3 +262,15 @@ pub kept_none : (a b : Option (List ℕ)) → Keeps a b → Consumes a b []
 kept_none None b k = tt
 kept_none (Some x) None k = absurd k
 kept_none (Some x) (Some y) k = sym k
+
+-- ---- behind the last line that is taken
+
+pub ends_behind : {p : Printing} {begin now : Held} {unread left held written : Option (List ℕ)} {k : ℕ} {waiting : List ℕ}
+    → Waits p begin (streams unread left held written) waiting (IsNext k) now
+    → k ≡ 1000000 → (left' : Option (List ℕ)) (e : Ending) → EndsBehind (p.first + 1000000) left left' e → Ends p begin now (streams unread left' held written) waiting e
+ends_behind w past left' ending.Whole h = reads_part w left' (IsEnd left') [] _ h.0 refl (λ es n. (refl, h.1))
+ends_behind {p = p} {now = now} {k = k} w past left' (ending.LogLine m) h =
+    (now, rw h.1 (reads_part w left' (IsBad p left' (p.first + 1000000)) (h.0 ∷ []) _ h.2 refl (bad_number p left' k h.0 (cases_eq h.0 10) past)))
+ends_behind {now = now} {left = left} w past left' ending.CannotRead h =
+    (now, reads_part w left' (λ es part. Lacks 10 part) [] _ (kept_none left left' h) refl (λ es n. tt))
+ends_behind w past left' ending.OutOfMemory h = absurd h

@@ -2,12 +2,15 @@
 use Rattle.std.specs.Prelude.{◌≡◌, ⊤, ℕ, ◌+◌, ◌≤◌, List, [], ◌∷◌, ◌++◌, length, Option}
 use Rattle.std.specs.Io.KnownBytes.{Consumes, IsAtEnd}
 use Rattle.snmp_ber.specs.Splits.{Lacks}
+use Rattle.snmpsec_replay.specs.Lines.{ReadsPart}
 use Rattle.snmpsec_replay.specs.Log.{LogEntry, IsLine, AreLines}
 use Rattle.snmpsec_replay.specs.Replay.{IsEnd, IsBad, from_line_1}
 use Rattle.snmpsec_replay.specs.declared.checked.CheckedLog.{CheckedLog}
 use Rattle.snmpsec_replay.specs.declared.checked.CheckedLog.TheVariants as logs
 use Rattle.snmpsec_replay.specs.declared.checked.CheckedLine.{CheckedLine}
 use Rattle.snmpsec_replay.specs.declared.checked.CheckedLine.TheVariants as lines
+use Rattle.snmpsec_replay.specs.declared.fault.ReplayFault.{ReplayFault}
+use Rattle.snmpsec_replay.specs.declared.fault.ReplayFault.TheVariants as faults
 
 -- lines of a log were read, and a part after them
 pub record ReadsLog (unread left : Option (List ℕ)) (IsPart : List LogEntry → List ℕ → Type 0) : Type 0 where
@@ -23,7 +26,22 @@ abbrev pub TellsLog : Option (List ℕ) → Option (List ℕ) → CheckedLog →
 TellsLog unread left (logs.Whole n) = ReadsLog unread left (λ es part. IsEnd left es part × (n ≡ length es))
 TellsLog unread left (logs.Faulty n why) = ReadsLog unread left (IsBad from_line_1 left n)
 
+-- It isn't told where a read fails: behind lines of a log, and behind a part of what is next, so that nothing that is no line was passed over; or where a
+-- growth of memory was refused.
+abbrev pub StopsLog : Option (List ℕ) → Option (List ℕ) → ReplayFault → Type 0
+StopsLog unread left faults.CannotRead = ReadsLog unread left (λ es part. Lacks 10 part)
+StopsLog unread left faults.OutOfMemory = ⊤
+StopsLog unread left (faults.LogLine n) = ⊥
+StopsLog unread left faults.CannotWrite = ⊥
+
 -- ---- one line
+
+-- the same of one
+abbrev pub StopsLine : Option (List ℕ) → Option (List ℕ) → ReplayFault → Type 0
+StopsLine unread left faults.CannotRead = ReadsPart unread left
+StopsLine unread left faults.OutOfMemory = ⊤
+StopsLine unread left (faults.LogLine n) = ⊥
+StopsLine unread left faults.CannotWrite = ⊥
 
 abbrev pub IsFaulty : CheckedLine → Type 0
 IsFaulty lines.Sound = ⊥

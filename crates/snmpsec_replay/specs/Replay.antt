@@ -71,6 +71,9 @@ pub record Streams : Type 0 where
   pub held : Option (List ℕ)
   pub written : Option (List ℕ)
 
+abbrev pub streams : Option (List ℕ) → Option (List ℕ) → Option (List ℕ) → Option (List ℕ) → Streams
+streams unread left held written = record { unread = unread; left = left; held = held; written = written }
+
 -- `read` is whole lines, a part was read after it, and `text` answers the lines
 pub record Reads (p : Printing) (begin : Held) (s : Streams) (IsPart : List LogEntry → List ℕ → Type 0) (text : List ℕ) (after : Held) : Type 0 where
   pub read : List ℕ
@@ -134,6 +137,13 @@ Ends p begin now s waiting ending.Whole = Waits p begin s waiting (IsEnd s.left)
 Ends p begin now s waiting (ending.LogLine n) = (after : Held) × Waits p begin s waiting (IsBad p s.left n) after
 Ends p begin now s waiting ending.CannotRead = (after : Held) × Waits p begin s waiting (λ es part. Lacks 10 part) after
 Ends p begin now s waiting ending.OutOfMemory = (after : Held) × Waits p begin s waiting (MayWant s.left) after
+
+-- How a log ends behind the last line that is taken: nothing stands there, or one octet more, which is a part of line n.
+abbrev pub EndsBehind : ℕ → Option (List ℕ) → Option (List ℕ) → Ending → Type 0
+EndsBehind n unread left ending.Whole = Consumes unread left [] × IsAtEnd left
+EndsBehind n unread left (ending.LogLine m) = (x : ℕ) × (m ≡ n) × Consumes unread left (x ∷ [])
+EndsBehind n unread left ending.CannotRead = Keeps unread left
+EndsBehind n unread left ending.OutOfMemory = ⊥
 
 -- what one line does to the manager and to what is not yet written
 abbrev pub AnswersLine : Bool → Held → ℕ → List ℕ → List ℕ → Held → List ℕ → Step → Type 0

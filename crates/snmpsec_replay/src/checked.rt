@@ -1,7 +1,7 @@
 //! Whether a text is a log, and what is wrong where it isn't.
 
-ghost use Rattle.std.specs.Prelude.{◌≡◌, ◌≤◌, ◌⊎◌, IfOk, IfErr, vec_capacity};
-ghost use Rattle.snmpsec_replay.specs.Checked.{TellsLog, TellsLine, TellsEntry, IsFaulty};
+ghost use Rattle.std.specs.Prelude.{◌≡◌, ◌≤◌, IfOk, IfErr, vec_capacity};
+ghost use Rattle.snmpsec_replay.specs.Checked.{TellsLog, TellsLine, TellsEntry, StopsLog, StopsLine, IsFaulty};
 ghost use Rattle.snmpsec_replay.specs.declared.fault.ReplayFault.TheVariants as faults;
 
 use crate::fault::ReplayFault;
@@ -35,10 +35,10 @@ pub(crate) enum CheckedLine {
 /// Reads a log line by line as `replay_log` does, and takes nothing of it: how many lines it has, or which is the first that is out of
 /// its form or past the limits, and why. One line is held at a time.
 ///
-/// The errors are CannotRead, where a read fails or is interrupted 1,000 times in a row, and OutOfMemory.
+/// The errors are CannotRead, where a read fails or is interrupted 1,000 times in a row, before which nothing stood that is no line, and OutOfMemory.
 pub fn check_log<R: BufRead>(alloc: Global, reader: &mut R) -> Result<CheckedLog, ReplayFault>
     ensures ok { IfOk result (TellsLog (R.remaining reader.old) (R.remaining reader.new)) }
-    ensures err { IfErr result (λ fault. (fault ≡ faults.CannotRead) ⊎ (fault ≡ faults.OutOfMemory)) }
+    ensures err { IfErr result (StopsLog (R.remaining reader.old) (R.remaining reader.new)) }
 {
     let Ok(mut line) = Vec::with_capacity(alloc, LINE_LIMIT) else {
         return Err(ReplayFault::OutOfMemory);
@@ -73,7 +73,7 @@ fn check_line<R: BufRead>(
     requires { 131072 ≤ vec_capacity line.old }
     ensures capacity { 131072 ≤ vec_capacity line.new }
     ensures ok { IfOk result (TellsLine (R.remaining reader.old) (R.remaining reader.new)) }
-    ensures err { IfErr result (λ fault. (fault ≡ faults.CannotRead) ⊎ (fault ≡ faults.OutOfMemory)) }
+    ensures err { IfErr result (StopsLine (R.remaining reader.old) (R.remaining reader.new)) }
 {
     let Ok(next) = read_line(reader, line) else {
         return Err(ReplayFault::CannotRead);
@@ -95,7 +95,7 @@ fn check_line<R: BufRead>(
 /// What a line with its line feed is.
 fn check_entry(alloc: Global, line: &[u8]) -> Result<CheckedLine, ReplayFault>
     ensures ok { IfOk result (TellsEntry line.now) }
-    ensures err { IfErr result (λ fault. (fault ≡ faults.CannotRead) ⊎ (fault ≡ faults.OutOfMemory)) }
+    ensures err { IfErr result (λ fault. fault ≡ faults.OutOfMemory) }
 {
     let Ok(entry) = read_entry(alloc, line) else {
         return Err(ReplayFault::OutOfMemory);

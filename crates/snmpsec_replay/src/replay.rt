@@ -3,7 +3,7 @@ ghost use Rattle.std.specs.Prelude.{◌≡◌, ◌≤◌, ◌++◌, [], IfOk, On
 ghost use Rattle.std.specs.Io.KnownBytes.{Appends};
 ghost use Rattle.engine_clock.specs.Saved.{AreMarks, listing};
 ghost use Rattle.snmpsec_streams.specs.Transfer.{WritesFront};
-ghost use Rattle.snmpsec_replay.specs.Replay.{AnswersLine, Ends, ReplayText, SavesUnless, StopsBy, WriteFails, WritesSome, answer_line, from_line_1, outcome_text, printed_line};
+ghost use Rattle.snmpsec_replay.specs.Replay.{AnswersLine, Ends, EndsBehind, ReplayText, SavesUnless, StopsBy, WriteFails, WritesSome, answer_line, from_line_1, outcome_text, printed_line, streams};
 
 use crate::fault::ReplayFault;
 use crate::log::{LINE_LIMIT, LINES_LIMIT, NextLine, read_entry, read_line};
@@ -134,6 +134,17 @@ fn write_piece<W: Write>(writer: &mut W, waiting: &mut Vec<u8>) -> Result<(), Fa
     Ok(())
 }
 
+/// How a log ends behind the last line that is taken, where the line after that has this number.
+fn end_behind<R: BufRead>(reader: &mut R, number: u64) -> Ending
+    ensures { EndsBehind number (R.remaining reader.old) (R.remaining reader.new) result }
+{
+    match read_octet(reader) {
+        Ok(None) => Ending::Whole,
+        Ok(Some(_)) => Ending::LogLine(number),
+        Err(_) => Ending::CannotRead,
+    }
+}
+
 /// Takes the lines of a log. What answers them is written, or waits to be.
 fn answer_lines<R: BufRead, W: Write>(
     alloc: Global,
@@ -145,18 +156,8 @@ fn answer_lines<R: BufRead, W: Write>(
 ) -> Result<Ending, Failed>
     requires none { waiting.old.items ≡ [] }
     requires first { printing.first ≤ 1000000000000000 }
-    ensures ok { IfOk result (Ends printing manager.old manager.new record {
-      unread = R.remaining reader.old;
-      left = R.remaining reader.new;
-      held = W.contents writer.old;
-      written = W.contents writer.new;
-    } waiting.new.items) }
-    ensures err { OnErr result (WriteFails printing manager.old record {
-      unread = R.remaining reader.old;
-      left = R.remaining reader.new;
-      held = W.contents writer.old;
-      written = W.contents writer.new;
-    }) }
+    ensures ok { IfOk result (Ends printing manager.old manager.new (streams (R.remaining reader.old) (R.remaining reader.new) (W.contents writer.old) (W.contents writer.new)) waiting.new.items) }
+    ensures err { OnErr result (WriteFails printing manager.old (streams (R.remaining reader.old) (R.remaining reader.new) (W.contents writer.old) (W.contents writer.new))) }
 {
     let Ok(mut line) = Vec::with_capacity(alloc, LINE_LIMIT) else {
         return Ok(Ending::OutOfMemory);
@@ -181,13 +182,7 @@ fn answer_lines<R: BufRead, W: Write>(
             return Err(Failed);
         };
     }
-    let Ok(next) = read_octet(reader) else {
-        return Ok(Ending::CannotRead);
-    };
-    if next.is_some() {
-        return Ok(Ending::LogLine(printing.first + LINES_LIMIT));
-    }
-    Ok(Ending::Whole)
+    Ok(end_behind(reader, printing.first + LINES_LIMIT))
 }
 
 /// Writes the saved text.

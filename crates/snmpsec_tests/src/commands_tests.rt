@@ -4,16 +4,22 @@ mod access;
 mod captured;
 mod checked;
 mod commands;
+mod config_commands;
 mod configs;
 mod examples;
 mod explained;
+mod failing;
 mod from;
 mod imported;
+mod log_commands;
+mod log_lines;
 mod merged;
 mod named;
 mod opened;
+mod packets;
 mod pasted;
 mod reasons;
+mod refused;
 mod replays;
 mod sees;
 mod streams;
@@ -198,6 +204,8 @@ fn a_word_and_a_file_exclude_each_other(rt: HostRuntime) -> Result<(), Fail> {
     assert!(rt; alone.as_str().contains("HEX"), "{alone}");
     let beside = refusal_of(&rt, &["snmpsec", "show", "30", "--port", "161"])?;
     assert!(rt; beside.as_str().contains("--port"), "{beside}");
+    let packets = refusal_of(&rt, &["snmpsec", "show", "30", "--ip"])?;
+    assert!(rt; packets.as_str().contains("--ip"), "{packets}");
     assert_eq!(rt;
         refusal_of(&rt, &["snmpsec", "open", "c", "--from", "f"])?.len(),
         0
@@ -206,7 +214,7 @@ fn a_word_and_a_file_exclude_each_other(rt: HostRuntime) -> Result<(), Fail> {
 }
 
 /// A command, and a word of its help.
-const HELP: [(&str, &str); 18] = [
+const HELP: [(&str, &str); 19] = [
     ("show", "pairs of hex digits"),
     ("open", "examples/replay/config.toml"),
     ("open", "pairs of hex digits"),
@@ -224,7 +232,8 @@ const HELP: [(&str, &str); 18] = [
     ("merge-clocks", "examples/station-a.clocks"),
     ("datagrams", "examples/replay/captured.pcap"),
     ("datagrams", "161 and 162 if left out"),
-    ("datagrams", "pcap (or pcapng), or hex"),
+    ("datagrams", "pcap (or pcapng), hex or dump"),
+    ("datagrams", "each from its IP header on"),
 ];
 
 #[test]

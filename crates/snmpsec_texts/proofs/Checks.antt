@@ -79,7 +79,7 @@ if_reasoned (Ok x) out err status config words asked users rows answer steps ask
 if_reasoned (Err x) out err status config words asked users rows answer steps asks says allowed decided o e s = tt
 
 pub if_hinted : {A E : Type 0} (r : Result A E) (out err : A → List ℕ) (status : A → ℕ) (config : List ℕ) (users : List UserRow) (rows : Tables) → SaysSound config users rows
-    → IfOk r (λ x. out x ≡ counts_text users rows) → IfOk r (λ x. err x ≡ lines_of (hints_of users rows)) → IfOk r (λ x. status x ≡ 0)
+    → IfOk r (λ x. out x ≡ counts_text users rows) → IfOk r (λ x. err x ≡ lines_of config users rows (hints_of users rows)) → IfOk r (λ x. status x ≡ 0)
     → IfOk r (λ x. ChecksHinted config (record { out = out x; err = err x; status = status x }))
 if_hinted (Ok x) out err status config users rows says o e s = inl (record { users = users; rows = rows; says = says; out = o; err = e; status = s })
 if_hinted (Err x) out err status config users rows says o e s = tt

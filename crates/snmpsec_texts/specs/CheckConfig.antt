@@ -48,7 +48,7 @@ pub record CountsHinted (config : List ℕ) (printed : Printed) : Type 0 where
   pub rows : Tables
   pub says : SaysSound config users rows
   pub out : printed.out ≡ counts_text users rows
-  pub err : printed.err ≡ lines_of (hints_of users rows)
+  pub err : printed.err ≡ lines_of config users rows (hints_of users rows)
   pub status : printed.status ≡ 0
 
 abbrev pub ChecksHinted : List ℕ → Printed → Type 0

@@ -2,7 +2,7 @@
 use Rattle.std.specs.Prelude.{◌≡◌, ◌≢◌, ◌⊎◌, ℕ, ◌≤◌, List, [], ◌++◌, codes, decimal, slice_index_or, Option}
 use Rattle.snmp_ber.specs.Oid.{AreArcs, dotted}
 use Rattle.snmp_ber.specs.declared.level.Level.{Level}
-use Rattle.vacm_core.specs.Allowed.{Message, Allowed}
+use Rattle.vacm_core.specs.Allowed.{Requester, Allowed}
 use Rattle.vacm_core.specs.Tables.{Tables}
 use Rattle.vacm_core.specs.declared.access.ViewType.{ViewType}
 use Rattle.vacm_core.specs.declared.access.Access.{Access}
@@ -37,7 +37,7 @@ IsContextWord word context = ((word ≡ codes "@") × (context ≡ [])) ⊎ ((wo
 
 -- who asks, for which view and for which variable
 pub record Asked : Type 0 where
-  pub message : Message
+  pub message : Requester
   pub view : ViewType
   pub arcs : List ℕ
 

@@ -3,7 +3,7 @@
 ghost use Rattle.std.specs.Prelude.{◌≡◌, ◌++◌, [], ℕ, List, IfOk, IfErr, codes, map};
 ghost use Rattle.std.specs.Str.{IsUtf8};
 ghost use Rattle.toml.specs.Parse.{parse_document};
-ghost use Rattle.vacm_core.specs.Allowed.{Message, Allowed};
+ghost use Rattle.vacm_core.specs.Allowed.{Requester, Allowed};
 ghost use Rattle.snmpsec_texts.specs.Questions.{argument_name, Asked, Asks, IsContextWord, IsFirstWrong, ChecksAccess, Printed};
 ghost use Rattle.snmpsec_access.specs.Words.{access_word};
 ghost use Rattle.snmpsec_texts.specs.Words.{access_status};
@@ -75,7 +75,7 @@ pub fn check_text(alloc: Global, config: &[u8], words: &[&str; 6]) -> Result<Out
 
 /// Reads the words of a question. The error is the first argument whose word is out of its form.
 pub(crate) fn question_of<'a>(words: &[&'a str; 6]) -> Result<Question<'a>, Argument>
-    ensures asks { IfOk result (λ q. let message : Message = record { model = q.model; name = q.name.now; level = q.level; context = q.context.now } in
+    ensures asks { IfOk result (λ q. let message : Requester = record { model = q.model; name = q.name.now; level = q.level; context = q.context.now } in
         let asked : Asked = record { message = message; view = q.view; arcs = q.variable } in
         Asks (map (λ word. word.now) words.now) asked) }
     ensures wrong { IfErr result (IsFirstWrong (map (λ word. word.now) words.now)) }
@@ -124,7 +124,7 @@ pub(crate) fn bad_word(alloc: Global, argument: Argument) -> Result<Output, Allo
 /// The answer of these tables.
 pub(crate) fn answer_of(access: &Vacm, question: &Question<'_>) -> Access
     ensures { let q = question.entry.now in
-        let message : Message = record { model = q.model; name = q.name.now; level = q.level; context = q.context.now } in
+        let message : Requester = record { model = q.model; name = q.name.now; level = q.level; context = q.context.now } in
         Allowed access.now message q.view q.variable result }
 {
     access.is_access_allowed(

@@ -36,20 +36,21 @@ pub fn check_config_hinted(alloc: Global, config: &[u8]) -> Result<Output, Alloc
         ChecksHinted config.now printed) }
 {
     match AccessConfig::read(alloc, config) {
-        Ok(config) => hinted(alloc, &config.rows),
+        Ok(read) => hinted(alloc, config, &read.rows),
         Err(fault) if fault.is_memory() => Err(AllocError),
         Err(fault) => explained(alloc, &fault),
     }
 }
 
 /// The lines of the numbers of rows, and beside them the hints.
-fn hinted(alloc: Global, rows: &ConfigRows) -> Result<Output, AllocError>
+fn hinted(alloc: Global, text: &[u8], rows: &ConfigRows) -> Result<Output, AllocError>
     ensures out { IfOk result (λ output. output.out.items ≡ counts_text rows.now.users.items (tables_of rows.now.access)) }
-    ensures err { IfOk result (λ output. output.err.items ≡ lines_of (hints_of rows.now.users.items (tables_of rows.now.access))) }
+    ensures err { IfOk result (λ output. output.err.items ≡ lines_of text.now rows.now.users.items (tables_of rows.now.access)
+        (hints_of rows.now.users.items (tables_of rows.now.access))) }
     ensures status { IfOk result (λ output. output.status ≡ 0) }
 {
     let counts = counted(alloc, rows)?;
-    let hints = hint_text(alloc, rows)?;
+    let hints = hint_text(alloc, text, rows)?;
     Ok(Output {
         out: counts.out,
         err: hints,

@@ -5,20 +5,22 @@ use clap::{Arg, ArgAction, ArgMatches, Error};
 use std::alloc::{AllocError, Global};
 
 const DATAGRAMS_STATUS: &str =
-    "A record that can't be a datagram of these ports is counted, and one that may be part of one is told, on standard error. Pasted hex is one datagram.
+    "A record that can't be a datagram of these ports is counted, and one that may be part of one is told, on standard error. Pasted hex is one datagram, and so is each dump where --ip isn't given.
 Example: snmpsec datagrams examples/replay/captured.pcap | snmpsec replay examples/replay/config.toml examples/replay/begin.clocks /dev/stdin
-Status: 0 read, 1 refused (a line 'refused datagrams FILE octet N' behind what came before, or of hex 'refused datagrams FILE line N column M'),
+Status: 0 read, 1 refused (a line 'refused datagrams FILE octet N' behind what came before, or of hex 'refused datagrams FILE line N column M', of a dump 'refused datagrams FILE line N'),
 2 a fault of the command line or a file that can't be read.";
 
 /// The words of datagrams.
 #[derive(Drop)]
 pub struct DatagramsWords<'a> {
-    /// The form of the file, where its first octets aren't to tell.
+    /// The form of the file, where its octets aren't to tell.
     pub form: Option<&'a str>,
     /// The ports of the datagrams that are wanted.
     pub ports: Vec<&'a str>,
-    /// When pasted hex was received.
+    /// When pasted hex or a dump was received.
     pub moment: Option<&'a str>,
+    /// Whether each dump is a packet.
+    pub ip: bool,
     /// The name of the file.
     pub file: &'a str,
 }
@@ -37,7 +39,7 @@ fn form<'a>(alloc: Global) -> Arg<'a> {
     Arg::new(alloc, "FORM")
         .long("form")
         .action(ArgAction::Set)
-        .help("What FILE is: pcap (or pcapng), or hex; found by its first octets if left out")
+        .help("What FILE is: pcap (or pcapng), hex or dump; found by its octets if left out")
 }
 
 /// The ports of the datagrams that are wanted. A number below 0 is a word of the option too.
@@ -57,12 +59,22 @@ fn moment<'a>(alloc: Global) -> Arg<'a> {
         .long("moment")
         .action(ArgAction::Set)
         .allow_negative_numbers(true)
-        .help("When pasted hex was received, in whole seconds; 0 if left out")
+        .help("When pasted hex or a dump was received, in whole seconds; 0 if left out")
+}
+
+/// Whether each dump is a packet.
+fn ip<'a>(alloc: Global) -> Arg<'a> {
+    Arg::new(alloc, "ip")
+        .long("ip")
+        .action(ArgAction::SetTrue)
+        .help(
+            "FILE is dumps of packets, each from its IP header on, as tcpdump -x prints them; their UDP datagrams are taken",
+        )
 }
 
 /// What a file of datagrams is.
 const SOURCE: &str =
-    "A capture in the format of libpcap or pcapng, as tcpdump -w and Wireshark write it, or pasted hex; - is standard input";
+    "A capture in the format of libpcap or pcapng, as tcpdump -w and Wireshark write it, pasted hex, or a dump, as hexdump -C prints it; - is standard input";
 
 /// The parser of datagrams.
 pub(crate) fn datagrams<'a>(alloc: Global) -> Result<clap::Command<'a>, AllocError> {
@@ -74,6 +86,7 @@ pub(crate) fn datagrams<'a>(alloc: Global) -> Result<clap::Command<'a>, AllocErr
         .arg(form(alloc))?
         .arg(port(alloc))?
         .arg(moment(alloc))?
+        .arg(ip(alloc))?
         .arg(word(alloc, "FILE", SOURCE))
 }
 
@@ -91,7 +104,8 @@ pub(crate) fn with_source<'a>(
         .arg(source)?
         .arg(form(alloc).conflicts_with("HEX")?)?
         .arg(port(alloc).conflicts_with("HEX")?)?
-        .arg(moment(alloc).conflicts_with("HEX")?)
+        .arg(moment(alloc).conflicts_with("HEX")?)?
+        .arg(ip(alloc).conflicts_with("HEX")?)
 }
 
 /// The words of a file of datagrams of this name.
@@ -104,6 +118,7 @@ fn source_words<'a>(
         form: words.get_str("FORM"),
         ports: words.get_strs("PORT").unwrap_or(&[]).to_vec(alloc)?,
         moment: words.get_str("MOMENT"),
+        ip: words.get_flag("ip"),
         file,
     })
 }

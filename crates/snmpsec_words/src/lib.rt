@@ -14,44 +14,27 @@ ghost use Rattle.std.specs.Prelude.{◌≡◌, IfOk};
 ghost use Rattle.clap.specs.Values.{kind_of};
 ghost use Rattle.clap.specs.declared.error.kind.ErrorKind.TheVariants.{InvalidValue};
 
+mod access;
 mod asked;
 mod capture;
 mod import;
 mod messages;
 mod own;
+mod replay;
 mod saved;
 mod wide;
 
+pub use access::AccessWords;
+use access::access_words;
 pub use asked::{Asked, parse_asked};
 pub use capture::{DatagramsWords, FromWords};
 use clap::error::ErrorKind;
 use clap::{Arg, ArgAction, ArgMatches, Error};
 pub use import::ImportWords;
 pub use own::{VERSION, manual_text, version_text};
+pub use replay::ReplayWords;
 use std::alloc::{AllocError, Global};
 pub use wide::{SeesWords, WhoWords};
-
-const CHECK_STATUS: &str =
-    "Example: snmpsec check-access examples/access.toml 3 nagios authPriv read @ 1.3.6.1.2.1.1.5.0
-Status: 0 accessAllowed, 1 another answer or a refused configuration, 2 a fault of the command line or a file that can't be read.";
-
-const EXPLAIN_STATUS: &str =
-    "After the answer come, as far as it got: context POSITION, group POSITION NAME, access POSITION, view NAME, family POSITION.
-Positions are those of rows in their table of CONFIG, from 0.
-Example: snmpsec explain-access examples/access.toml 3 nagios authPriv read @ 1.3.6.1.2.1.1.5.0
-Status: 0 accessAllowed, 1 another answer or a refused configuration, 2 a fault of the command line or a file that can't be read.";
-
-const CONFIG_STATUS: &str = "Example: snmpsec check-config examples/access.toml
-Status: 0 read, 1 refused (what is wrong is told on standard error), 2 a fault of the command line or a file that can't be read.";
-
-const MERGE_STATUS: &str =
-    "Example: snmpsec merge-clocks examples/station-a.clocks examples/station-b.clocks
-Status: 0 merged, 1 a file is refused (its first faulty line is told), 2 a fault of the command line or a file that can't be read.";
-
-const REPLAY_STATUS: &str =
-    "A log of more than 1000000 lines is replayed in pieces, each with --clocks-only; merge-clocks joins what they save.
-Example: snmpsec replay examples/replay/config.toml examples/replay/begin.clocks examples/replay/captured.log
-Status: 0 replayed, 1 a refused configuration or clocks file, 2 a fault of the command line or of a line of the log, or a file that can't be read.";
 
 /// A command with its words. None of them has been looked at beyond what the parser asks.
 #[derive(Drop)]
@@ -99,7 +82,7 @@ pub enum Command<'a> {
     CheckLog {
         log: &'a str,
     },
-    /// `datagrams [--form FORM] [--port PORT].. [--moment MOMENT] FILE`
+    /// `datagrams [--form FORM] [--port PORT].. [--moment MOMENT] [--ip] FILE`
     Datagrams(DatagramsWords<'a>),
     /// `import-snmpd [--strict] [--no-include] [--context NAME].. FILE..`
     ImportSnmpd(ImportWords<'a>),
@@ -109,32 +92,6 @@ pub enum Command<'a> {
     },
     /// `version`
     Version,
-}
-
-/// The words of check-access and explain-access.
-#[derive(Clone, Copy)]
-pub struct AccessWords<'a> {
-    /// The name of the configuration's file.
-    pub config: &'a str,
-    /// MODEL, NAME, LEVEL, VIEW, CONTEXT and OID.
-    pub question: [&'a str; 6],
-}
-
-/// The words of replay.
-#[derive(Clone, Copy)]
-pub struct ReplayWords<'a> {
-    /// When the clocks of a file without moments were seen.
-    pub moment: Option<&'a str>,
-    /// Whether the saved text alone is wanted.
-    pub clocks_only: bool,
-    /// The number of the log's first line.
-    pub from_line: Option<&'a str>,
-    /// The name of the configuration's file.
-    pub config: &'a str,
-    /// The name of the clocks file.
-    pub clocks: &'a str,
-    /// The name of the log's file.
-    pub log: &'a str,
 }
 
 /// A word that must be given: its name, and what it is.
@@ -161,33 +118,6 @@ const VARIABLE: Word = (
     "The variable, as 1.3.6.1.2.1.1.5.0: no name, no dot in front",
 );
 
-/// A question of who may see what.
-const QUESTION: [Word; 7] = [
-    CONFIG,
-    MODEL,
-    NAME,
-    ("LEVEL", "noAuthNoPriv, authNoPriv or authPriv"),
-    ("VIEW", "read, write or notify"),
-    (
-        "CONTEXT",
-        "Name of the context; @ is the default one, with the empty name",
-    ),
-    VARIABLE,
-];
-
-/// The files of a replay.
-const REPLAYED: [Word; 3] = [
-    ("CONFIG", "TOML file with the manager's users"),
-    (
-        "CLOCKS",
-        "Saved clocks that the manager begins with, at most 16 MiB",
-    ),
-    (
-        "LOG",
-        "Lines MOMENT HEX: when a datagram came, in whole seconds, and its octets",
-    ),
-];
-
 /// The command with these words behind those that it has, each of which must be given.
 fn with_words<'a>(
     alloc: Global,
@@ -209,84 +139,11 @@ fn word<'a>(alloc: Global, name: &'a str, help: &'a str) -> Arg<'a> {
         .help(help)
 }
 
-/// The moment that marks get which have none of their own. A number below 0 is a word of the option too.
-fn moment<'a>(alloc: Global) -> Arg<'a> {
-    Arg::new(alloc, "MOMENT")
-        .long("moment")
-        .action(ArgAction::Set)
-        .allow_negative_numbers(true)
-        .help(
-            "When the clocks of a file without moments were seen, in whole seconds; 0 if left out",
-        )
-}
-
-/// The saved text alone.
-fn clocks_only<'a>(alloc: Global) -> Arg<'a> {
-    Arg::new(alloc, "clocks-only")
-        .long("clocks-only")
-        .action(ArgAction::SetTrue)
-        .help("Print the saved clocks alone, and no line for a datagram")
-}
-
-/// The number of the log's first line. A number below 0 is a word of the option too.
-fn from_line<'a>(alloc: Global) -> Arg<'a> {
-    Arg::new(alloc, "N")
-        .long("from-line")
-        .action(ArgAction::Set)
-        .allow_negative_numbers(true)
-        .help("Number of the log's first line, 1 to 1000000000000000; 1 if left out")
-}
-
-fn check_access<'a>(alloc: Global) -> Result<clap::Command<'a>, AllocError> {
-    let command = clap::Command::new(alloc, "check-access")
-        .about("Ask whether a user may read, write or be notified of a variable (RFC 3415)")
-        .after_help(CHECK_STATUS);
-    with_words(alloc, command, &QUESTION)
-}
-
-fn explain_access<'a>(alloc: Global) -> Result<clap::Command<'a>, AllocError> {
-    let command = clap::Command::new(alloc, "explain-access")
-        .about("Ask as check-access does, and print which rows of the configuration decided")
-        .after_help(EXPLAIN_STATUS);
-    with_words(alloc, command, &QUESTION)
-}
-
-fn check_config<'a>(alloc: Global) -> Result<clap::Command<'a>, AllocError> {
-    let command = clap::Command::new(alloc, "check-config")
-        .about("Read a configuration: print how many rows each table has, or what is wrong with it")
-        .after_help(CONFIG_STATUS);
-    with_words(alloc, command, &[CONFIG])
-}
-
-/// The options of replay.
-fn replay_options<'a>(alloc: Global) -> Result<clap::Command<'a>, AllocError> {
-    clap::Command::new(alloc, "replay")
-        .about(
-            "Take a log of datagrams as a manager does: print what each comes to, and then the clocks",
-        )
-        .after_help(REPLAY_STATUS)
-        .arg(moment(alloc))?
-        .arg(clocks_only(alloc))?
-        .arg(from_line(alloc))
-}
-
-fn replay<'a>(alloc: Global) -> Result<clap::Command<'a>, AllocError> {
-    with_words(alloc, replay_options(alloc)?, &REPLAYED)
-}
-
 /// One or more files.
 fn files<'a>(alloc: Global, help: &'a str) -> Arg<'a> {
     word(alloc, "FILE", help)
         .num_args(1..)
         .action(ArgAction::Append)
-}
-
-fn merge_clocks<'a>(alloc: Global) -> Result<clap::Command<'a>, AllocError> {
-    clap::Command::new(alloc, "merge-clocks")
-        .about("Print the join of saved clocks: of each engine the greatest boots and time")
-        .after_help(MERGE_STATUS)
-        .arg(moment(alloc))?
-        .arg(files(alloc, CLOCKS_FILES))
 }
 
 /// The parser with this command too, or the want of memory to make it.
@@ -311,11 +168,11 @@ fn with_access<'a>(
     alloc: Global,
     parser: clap::Command<'a>,
 ) -> Result<clap::Command<'a>, AllocError> {
-    let parser = with(parser, check_access(alloc))?;
-    let parser = with(parser, explain_access(alloc))?;
+    let parser = with(parser, access::check_access(alloc))?;
+    let parser = with(parser, access::explain_access(alloc))?;
     let parser = with(parser, wide::who_sees(alloc))?;
     let parser = with(parser, wide::sees(alloc))?;
-    let parser = with(parser, check_config(alloc))?;
+    let parser = with(parser, access::check_config(alloc))?;
     with(parser, import::import_snmpd(alloc))
 }
 
@@ -324,8 +181,8 @@ fn with_logs<'a>(
     alloc: Global,
     parser: clap::Command<'a>,
 ) -> Result<clap::Command<'a>, AllocError> {
-    let parser = with(parser, replay(alloc))?;
-    let parser = with(parser, merge_clocks(alloc))?;
+    let parser = with(parser, replay::replay(alloc))?;
+    let parser = with(parser, replay::merge_clocks(alloc))?;
     let parser = with(parser, saved::check_clocks(alloc))?;
     let parser = with(parser, saved::check_log(alloc))?;
     with(parser, capture::datagrams(alloc))
@@ -357,45 +214,6 @@ fn given<'a>(alloc: Global, words: &ArgMatches<'a>, name: &str) -> Result<&'a st
     }
 }
 
-/// The words of check-access and explain-access.
-fn access_words<'a>(alloc: Global, words: &ArgMatches<'a>) -> Result<AccessWords<'a>, Error> {
-    Ok(AccessWords {
-        config: given(alloc, words, "CONFIG")?,
-        question: [
-            given(alloc, words, "MODEL")?,
-            given(alloc, words, "NAME")?,
-            given(alloc, words, "LEVEL")?,
-            given(alloc, words, "VIEW")?,
-            given(alloc, words, "CONTEXT")?,
-            given(alloc, words, "OID")?,
-        ],
-    })
-}
-
-fn config_words<'a>(alloc: Global, words: &ArgMatches<'a>) -> Result<Command<'a>, Error> {
-    Ok(Command::CheckConfig {
-        config: given(alloc, words, "CONFIG")?,
-    })
-}
-
-fn replay_words<'a>(alloc: Global, words: &ArgMatches<'a>) -> Result<Command<'a>, Error> {
-    Ok(Command::Replay(ReplayWords {
-        moment: words.get_str("MOMENT"),
-        clocks_only: words.get_flag("clocks-only"),
-        from_line: words.get_str("N"),
-        config: given(alloc, words, "CONFIG")?,
-        clocks: given(alloc, words, "CLOCKS")?,
-        log: given(alloc, words, "LOG")?,
-    }))
-}
-
-fn merge_words<'a>(alloc: Global, words: &ArgMatches<'a>) -> Result<Command<'a>, Error> {
-    Ok(Command::MergeClocks {
-        moment: words.get_str("MOMENT"),
-        files: words.get_strs("FILE").unwrap_or(&[]).to_vec(alloc)?,
-    })
-}
-
 /// Reads the words of a command line, the program's name first. A request for help is an error too.
 pub fn parse<'a>(alloc: Global, words: &'a [String]) -> Result<Command<'a>, Error> {
     let matches = parser(alloc)?.try_get_matches_from(words)?;
@@ -411,7 +229,7 @@ fn command_of<'a>(alloc: Global, matches: &ArgMatches<'a>) -> Result<Command<'a>
         Some(("explain-access", words)) => Ok(Command::ExplainAccess(access_words(alloc, words)?)),
         Some(("who-sees", words)) => wide::who_words(alloc, words),
         Some(("sees", words)) => wide::sees_words(alloc, words),
-        Some(("check-config", words)) => config_words(alloc, words),
+        Some(("check-config", words)) => access::config_words(alloc, words),
         Some(("import-snmpd", words)) => import::import_words(alloc, words),
         Some((name, words)) => log_command(alloc, name, words),
         None => Err(no_command(alloc)?),
@@ -425,8 +243,8 @@ fn log_command<'a>(
     words: &ArgMatches<'a>,
 ) -> Result<Command<'a>, Error> {
     match name {
-        "replay" => replay_words(alloc, words),
-        "merge-clocks" => merge_words(alloc, words),
+        "replay" => replay::replay_words(alloc, words),
+        "merge-clocks" => replay::merge_words(alloc, words),
         "check-clocks" => saved::clocks_words(alloc, words),
         "check-log" => saved::log_words(alloc, words),
         "datagrams" => capture::datagrams_words(alloc, words),

@@ -1,6 +1,8 @@
 //! Commands about the program itself: its version, and its help as a text that was asked for.
 
-ghost use Rattle.std.specs.Prelude.{◌≡◌, IfOk, codes, string_bytes};
+ghost use Rattle.std.specs.Prelude.{◌≡◌, ◌≢◌, IfErr, IfOk, codes, string_bytes};
+ghost use Rattle.clap.specs.Values.{kind_of};
+ghost use Rattle.clap.specs.declared.error.kind.ErrorKind.TheVariants.{DisplayHelp};
 
 use crate::parser;
 use clap::error::ErrorKind;
@@ -43,26 +45,31 @@ pub fn version_text(alloc: Global) -> Result<String, AllocError>
     format!(in alloc; "snmpsec {VERSION}\n")
 }
 
-/// What the parser answers to words for which it has no command to run: its help, or what is wrong.
-fn answer_to<'a>(alloc: Global, words: &'a [String]) -> Result<Error, Error> {
-    match parser(alloc)?.try_get_matches_from(words) {
-        Ok(_matches) => {
-            let fault = parser(alloc)?.error(ErrorKind::InvalidSubcommand, "there is no help")?;
-            Ok(fault)
-        }
-        Err(fault) => Ok(fault),
-    }
-}
-
-/// What the parser's help says of a command, or of all where none is named. The fault is the parser's, where there is no such
-/// command, or want of memory.
-pub fn manual_text(alloc: Global, command: Option<&str>) -> Result<String, Error> {
+/// The words that ask for the help of a command, or of all where none is named.
+fn help_words(alloc: Global, command: Option<&str>) -> Result<Vec<String>, AllocError> {
     let mut words = Vec::new(alloc);
     words.push(String::from_str(alloc, "snmpsec")?)?;
     words.push(String::from_str(alloc, "help")?)?;
     if let Some(command) = command {
         words.push(String::from_str(alloc, command)?)?;
     }
+    Ok(words)
+}
+
+/// What the parser answers to words for which it has no command to run: its help, or what is wrong. The error is want of memory.
+fn answer_to<'a>(alloc: Global, words: &'a [String]) -> Result<Error, AllocError> {
+    match parser(alloc)?.try_get_matches_from(words) {
+        Ok(_matches) => parser(alloc)?.error(ErrorKind::InvalidSubcommand, "there is no help"),
+        Err(fault) => Ok(fault),
+    }
+}
+
+/// What the parser's help says of a command, or of all where none is named. The error is the parser's, where there is no such
+/// command, or want of memory; never its help.
+pub fn manual_text(alloc: Global, command: Option<&str>) -> Result<String, Error>
+    ensures err { IfErr result (λ fault. kind_of fault ≢ DisplayHelp) }
+{
+    let words = help_words(alloc, command)?;
     let answer = answer_to(alloc, &words)?;
     if answer.kind() == ErrorKind::DisplayHelp {
         return Ok(answer.to_string(alloc)?);

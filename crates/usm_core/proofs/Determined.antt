@@ -11,7 +11,7 @@ use Rattle.usm_keys.specs.AuthKey.{AuthKey}
 use Rattle.usm_aes.specs.Feedback.{IsSealed, iv_of}
 use Rattle.usm_users.specs.User.{User}
 use Rattle.usm_users.specs.Users.{user_named, supports}
-use Rattle.usm_core.specs.Table.{Needs, Gives, holds, fails, gives, refuses}
+use Rattle.usm_core.specs.Table.{Needs, Then, Gives, holds, fails, gives, refuses}
 use Rattle.usm_core.specs.Authentic.{Authentic, IsMac}
 use Rattle.engine_clock.specs.Pairs.{BootsAndTime}
 use Rattle.usm_core.specs.Verified.{ReadsLayout, Verified, OuterOf, SecurityOf, Side, Judges, Verifies, IsReadAs, IsJudged}
@@ -24,12 +24,23 @@ use Rattle.usm_core.specs.Sealed.{Sending, SendingFits, SealedText, IsSealable, 
 use Rattle.usm_core.proofs.Tables.{has_privacy}
 
 -- one row gives one answer, if what stands below it does
-needs_one : {X : Type 0} (P : Type 0) (n : ℕ) (below : P → Result X ℕ → Type 0) → ((p q : P) (a b : Result X ℕ) → below p a → below q b → a ≡ b)
+pub needs_one : {X : Type 0} (P : Type 0) (n : ℕ) (below : P → Result X ℕ → Type 0) → ((p q : P) (a b : Result X ℕ) → below p a → below q b → a ≡ b)
     → (a b : Result X ℕ) → Needs P n below a → Needs P n below b → a ≡ b
 needs_one P n below one a b (holds p x) (holds q y) = one p q a b x y
 needs_one P n below one a b (holds p x) (fails never) = absurd (never p)
 needs_one P n below one a b (fails never) (holds q y) = absurd (never q)
 needs_one P n below one a b (fails x) (fails y) = refl
+
+-- one table after another gives one answer, if each of them does
+pub then_one : {X Y : Type 0} (first : Result X ℕ → Type 0) (below : X → Result Y ℕ → Type 0) → ((a b : Result X ℕ) → first a → first b → a ≡ b)
+    → ((x : X) (a b : Result Y ℕ) → below x a → below x b → a ≡ b) → (a b : Result Y ℕ) → Then first below a → Then first below b → a ≡ b
+then_one {X} {Y} first below one next a b (gives x p q) (gives y r s) =
+    let e : ◌≡◌ {A = Result X ℕ} (Ok x) (Ok y) = one (Ok x) (Ok y) p r in
+    let f : x ≡ y = cc in
+    next y a b (subst (λ (z : X). below z a) f q) s
+then_one {X} {Y} first below one next a b (gives x p q) (refuses n r) = let e : ◌≡◌ {A = Result X ℕ} (Ok x) (Err n) = one (Ok x) (Err n) p r in absurd cc
+then_one {X} {Y} first below one next a b (refuses n r) (gives x p q) = let e : ◌≡◌ {A = Result X ℕ} (Err n) (Ok x) = one (Err n) (Ok x) r p in absurd cc
+then_one {X} {Y} first below one next a b (refuses n r) (refuses k s) = let e : ◌≡◌ {A = Result X ℕ} (Err n) (Err k) = one (Err n) (Err k) r s in cc
 
 gives_one : (v : Verified) (a b : Result Verified ℕ) → a ≡ Ok v → b ≡ Ok v → a ≡ b
 gives_one v a b x y = x ∙ sym y
@@ -63,13 +74,7 @@ module _ (one : (w : List ℕ) (m n : Parts) → Outer w m → Outer w n → m �
 
   pub answer_one : (side : Side) (users : List User) (w : List ℕ) (a b : Result Verified ℕ) → Verifies side users w a → Verifies side users w b → a ≡ b
   unfolding Verifies
-  answer_one side users w a b (gives v x y) (gives u s t) =
-      let e : ◌≡◌ {A = Result Verified ℕ} (Ok v) (Ok u) = layout_one w (Ok v) (Ok u) x s in
-      let f : v ≡ u = cc in
-      judges_one side users w u a b (subst (λ (z : Verified). Judges side users w z a) f y) t
-  answer_one side users w a b (gives v x y) (refuses n r) = let e : ◌≡◌ {A = Result Verified ℕ} (Ok v) (Err n) = layout_one w (Ok v) (Err n) x r in absurd cc
-  answer_one side users w a b (refuses n r) (gives v x y) = let e : ◌≡◌ {A = Result Verified ℕ} (Err n) (Ok v) = layout_one w (Err n) (Ok v) r x in absurd cc
-  answer_one side users w a b (refuses n r) (refuses k s) = layout_one w (Err n) (Err k) r s
+  answer_one side users w = then_one (ReadsLayout w) (Judges side users w) (layout_one w) (judges_one side users w)
 
 -- ---- what was read
 
@@ -80,7 +85,8 @@ read_of w v (holds version (holds o (holds model (holds flags (holds agrees (hol
     let is : v ≡ (record { parts = o.parts; fields = s.fields }) = cc in
     subst (λ (u : Verified). IsReadAs w u) (sym is) made
 
-not_layout : (w : List ℕ) (n : ℕ) → 6 ≤ n → n ≤ 9 → ReadsLayout w (Err n) → ⊥
+-- no row of the layout has a number from 5 to 16
+not_layout : (w : List ℕ) (n : ℕ) → 5 ≤ n → n ≤ 16 → ReadsLayout w (Err n) → ⊥
 unfolding ReadsLayout
 not_layout w n least most (fails x) = omega arith
 not_layout w n least most (holds _ (fails x)) = omega arith
@@ -93,7 +99,7 @@ not_layout w n least most (holds _ (holds _ (holds _ (holds _ (holds _ (holds s 
 pub refused_read : (side : Side) (users : List User) (w : List ℕ) (n : ℕ) → 6 ≤ n → n ≤ 9 → Verifies side users w (Err n) → (v : Verified) × IsReadAs w v × Judges side users w v (Err n)
 unfolding Verifies
 refused_read side users w n least most (gives v x y) = (v, read_of w v x, y)
-refused_read side users w n least most (refuses k r) = absurd (not_layout w k least most r)
+refused_read side users w n least most (refuses k r) = absurd (not_layout w k (omega (arith, least)) (omega (arith, most)) r)
 
 judges_gave : (side : Side) (users : List User) (w : List ℕ) (v u : Verified) → Judges side users w v (Ok u) → u ≡ v
 unfolding Judges
@@ -121,32 +127,25 @@ judged_checked side users w (Err fault) rows = tt
 
 -- ---- want of memory is no answer of the table
 
-no_row-layout : (w : List ℕ) (n : ℕ) → n ≡ 14 → ReadsLayout w (Err n) → ⊥
-unfolding ReadsLayout
-no_row-layout w n e (fails never) = cc e
-no_row-layout w n e (holds _ (fails never)) = cc e
-no_row-layout w n e (holds _ (holds o (fails never))) = cc e
-no_row-layout w n e (holds _ (holds o (holds _ (fails never)))) = cc e
-no_row-layout w n e (holds _ (holds o (holds _ (holds _ (fails never))))) = cc e
-no_row-layout w n e (holds _ (holds o (holds _ (holds _ (holds _ (fails never)))))) = cc e
-no_row-layout w n e (holds _ (holds o (holds _ (holds _ (holds _ (holds t f)))))) = cc f
-
-no_row-judges : (side : Side) (users : List User) (w : List ℕ) (v : Verified) (n : ℕ) → n ≡ 14 → Judges side users w v (Err n) → ⊥
+not_judges : (side : Side) (users : List User) (w : List ℕ) (v : Verified) (n : ℕ) → 10 ≤ n → n ≤ 16 → Judges side users w v (Err n) → ⊥
 unfolding Judges
-no_row-judges side users w v n e (fails never) = cc e
-no_row-judges side users w v n e (holds _ (fails never)) = cc e
-no_row-judges side users w v n e (holds _ (holds _ (fails never))) = cc e
-no_row-judges side users w v n e (holds _ (holds _ (holds _ (fails never)))) = cc e
-no_row-judges side users w v n e (holds _ (holds _ (holds _ (holds _ f)))) = cc f
+not_judges side users w v n least most (fails x) = omega arith
+not_judges side users w v n least most (holds _ (fails x)) = omega arith
+not_judges side users w v n least most (holds _ (holds _ (fails x))) = omega arith
+not_judges side users w v n least most (holds _ (holds _ (holds _ (fails x)))) = omega arith
+not_judges side users w v n least most (holds _ (holds _ (holds _ (holds _ e)))) = absurd cc
 
-no_row : (side : Side) (users : List User) (w : List ℕ) (n : ℕ) → n ≡ 14 → Verifies side users w (Err n) → ⊥
+-- no row down to the digest has a number from 10 to 16
+pub no_row : (side : Side) (users : List User) (w : List ℕ) (n : ℕ) → 10 ≤ n → n ≤ 16 → Verifies side users w (Err n) → ⊥
 unfolding Verifies
-no_row side users w n e (gives v rows below) = no_row-judges side users w v n e below
-no_row side users w n e (refuses m rows) = no_row-layout w m e rows
+no_row side users w n least most (gives v rows below) = not_judges side users w v n least most below
+no_row side users w n least most (refuses k rows) = not_layout w k (omega (arith, least)) most rows
 
 pub never_memory : (side : Side) (users : List User) (w : List ℕ) (result : Result Checked UsmFault) → Verifies side users w (checked_answer result) → IfErr result (λ e. e ≢ OutOfMemory)
 never_memory side users w (Ok c) rows = tt
-never_memory side users w (Err fault) rows = λ is. no_row side users w (number_of fault) (ap number_of is) rows
+never_memory side users w (Err fault) rows = λ is.
+    let number : number_of fault ≡ 14 = ap number_of is in
+    no_row side users w (number_of fault) (omega (arith, number)) (omega (arith, number)) rows
 
 -- ---- of the users, the one that is named
 

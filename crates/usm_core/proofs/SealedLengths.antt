@@ -1,13 +1,13 @@
 -- How long a sealed text is, by the sizes of its parts.
 use Rattle.std.proofs.Common.{◌≡◌, ℕ, ◌+◌, ◌<◌, ◌≤◌, Bool, true, false, List, [], ◌++◌, length, replicate, refl, sym, ap, ◌∙◌, arith, rules, Option, Some, None}
 use Rattle.std.specs.Prelude.{IsSomeAnd, MatchBool, if◌then◌else◌}
-use Rattle.std.proofs.lemmas.List.{length-append}
 use Rattle.snmp_ber.specs.Element.{IsElement}
 use Rattle.snmp_ber.specs.Spelling.{head_size, element}
 use Rattle.snmp_ber.proofs.Spellings.{element-is}
 use Rattle.snmp_message.specs.declared.header.Header.{Header}
 use Rattle.snmp_message.specs.Security.{Fields, FieldsFit, fields_text, security_text}
 use Rattle.snmp_message.specs.Spelling.{HeaderFits, number, message_text}
+use Rattle.snmp_message.proofs.Lengths.{length_of_six}
 use Rattle.snmp_message.proofs.Writes.{element-length, message_text-size}
 use Rattle.usm_keys.specs.AuthKey.{AuthKey}
 use Rattle.usm_keys.specs.Keys.{kul}
@@ -25,13 +25,10 @@ use Rattle.usm_core.proofs.SealedSizes.{from_some}
 abbrev whole : ℕ → ℕ
 whole n = head_size n + n
 
-six : (a b c d e f : List ℕ) → length (a ++ (b ++ (c ++ (d ++ (e ++ f))))) ≡ length a + (length b + (length c + (length d + (length e + length f))))
-six a b c d e f = rw (length-append a (b ++ (c ++ (d ++ (e ++ f)))), length-append b (c ++ (d ++ (e ++ f))), length-append c (d ++ (e ++ f)), length-append d (e ++ f), length-append e f) refl
-
 fields_size : (s : Fields) → length (fields_text s)
     ≡ length (element 4 s.engine) + (length (number s.boots) + (length (number s.time) + (length (element 4 s.user) + (length (element 4 s.auth) + length (element 4 s.salt)))))
 unfolding fields_text
-fields_size s = six (element 4 s.engine) (number s.boots) (number s.time) (element 4 s.user) (element 4 s.auth) (element 4 s.salt)
+fields_size s = length_of_six (element 4 s.engine) (number s.boots) (number s.time) (element 4 s.user) (element 4 s.auth) (element 4 s.salt)
 
 -- elements with contents of one length are as long
 same_element : (tag : ℕ) (a b : List ℕ) → length a ≡ length b → length (element tag a) ≡ length (element tag b)

@@ -164,10 +164,7 @@ impl Users {
         one_cut();
         has_engine(role);
         let mut made = None;
-        let checked = match verify(&self.table, &self.cache, role, datagram, &mut made) {
-            Ok(checked) => checked,
-            Err(fault) => return Err(fault),
-        };
+        let checked = verify(&self.table, &self.cache, role, datagram, &mut made)?;
         if checked.message.header.auth {
             let (user, engine) = (checked.security.user, checked.security.engine);
             self.cache

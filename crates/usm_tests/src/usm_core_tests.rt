@@ -9,6 +9,8 @@ use usm_keys::Auth;
 
 mod cache;
 mod messages;
+mod refusals;
+mod sealing;
 mod sha256;
 mod users;
 

@@ -7,7 +7,7 @@ use Rattle.vacm_core.specs.declared.access.ViewType.{ViewType}
 use Rattle.vacm_core.specs.declared.rows.AccessRow.{AccessRow}
 use Rattle.vacm_core.specs.declared.rows.FamilyRow.{FamilyRow}
 use Rattle.vacm_core.specs.Tables.{Tables}
-use Rattle.vacm_core.specs.Allowed.{Allowed, Message, HasContext, HasView, IsInGroup, IsBestOf, NoneFits, FitsMessage, FitsVariable, access_order, family_order, view_name}
+use Rattle.vacm_core.specs.Allowed.{Allowed, Requester, HasContext, HasView, IsInGroup, IsBestOf, NoneFits, FitsMessage, FitsVariable, access_order, family_order, view_name}
 use Rattle.vacm_core.specs.Place.{IsRunOf, family_name}
 use Rattle.vacm_core.specs.View.{HasArcs, AnswersView}
 use Rattle.vacm_core.proofs.First.{best_of_table, none_of_table}
@@ -74,7 +74,7 @@ by_row rows view variable row has best answer is = by row.include refl is
     by false e is = subst (λ a. AnswersView rows view variable a) (sym is) (has, inr (row, best, e))
 
 -- what the view answers is the answer
-pub by_view : (t : Tables) (q : Message) (view : ViewType) (variable group : List ℕ) (row : AccessRow)
+pub by_view : (t : Tables) (q : Requester) (view : ViewType) (variable group : List ℕ) (row : AccessRow)
     → HasContext t.contexts q.context → IsInGroup t.groups q.model q.name group → IsBestOf t.access (FitsMessage group q.model q.level q.context) access_order row
     → (answer : Access) → AnswersView t.families (view_name view row) variable answer → Allowed t q view variable answer
 by_view t q view variable group row context in_group best NoSuchContext h = absurd h

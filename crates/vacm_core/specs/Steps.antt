@@ -3,7 +3,7 @@ use Rattle.std.specs.Prelude.{◌≡◌, ◌≢◌, ℕ, List, [], Option, Some,
 use Rattle.std.specs.Borrow.{Bor}
 use Rattle.std.specs.declared.cmp.Ordering.{Ordering}
 use Rattle.vacm_core.specs.Tables.{Tables}
-use Rattle.vacm_core.specs.Allowed.{Message, IsBestOf, NoneFits, HasContext, IsGroupRow, IsInGroup, FitsMessage, FitsVariable, access_order, family_order, view_name}
+use Rattle.vacm_core.specs.Allowed.{Requester, IsBestOf, NoneFits, HasContext, IsGroupRow, IsInGroup, FitsMessage, FitsVariable, access_order, family_order, view_name}
 use Rattle.vacm_core.specs.declared.access.ViewType.{ViewType}
 use Rattle.vacm_core.specs.declared.rows.ContextRow.{ContextRow}
 use Rattle.vacm_core.specs.declared.rows.GroupRow.{GroupRow}
@@ -48,19 +48,19 @@ abbrev pub DecidesView : List FamilyRow → List ℕ → List ℕ → Option (Bo
 DecidesView rows name variable family = name ≢ [] → DecidesFamily rows name variable family
 
 -- the best of the group's access rows that match the message, where one does
-abbrev pub DecidesAccess : Tables → Message → ViewType → List ℕ → List ℕ → Deciding → Type 0
+abbrev pub DecidesAccess : Tables → Requester → ViewType → List ℕ → List ℕ → Deciding → Type 0
 DecidesAccess t q view variable group d =
     MatchOption d.access (NoneFits t.access (FitsMessage group q.model q.level q.context))
     (λ row. IsBestOf t.access (FitsMessage group q.model q.level q.context) access_order row.now × DecidesView t.families (view_name view row.now) variable d.family)
 
 -- the row of the security name's group, where it has one
-abbrev pub DecidesGroup : Tables → Message → ViewType → List ℕ → Deciding → Type 0
+abbrev pub DecidesGroup : Tables → Requester → ViewType → List ℕ → Deciding → Type 0
 DecidesGroup t q view variable d =
     MatchOption d.group (HasNoGroup t.groups q.model q.name)
     (λ row. Contains t.groups row.now × IsGroupRow q.model q.name row.now × DecidesAccess t q view variable row.now.group d)
 
 -- the row of the context, where there is one
-abbrev pub DecidesContext : Tables → Message → ViewType → List ℕ → Deciding → Type 0
+abbrev pub DecidesContext : Tables → Requester → ViewType → List ℕ → Deciding → Type 0
 DecidesContext t q view variable d =
     MatchOption d.context (¬ HasContext t.contexts q.context)
     (λ row. Contains t.contexts row.now × (row.now.name ≡ q.context) × DecidesGroup t q view variable d)
@@ -78,24 +78,24 @@ TellsView rows name variable None = name ≡ []
 TellsView rows name variable (Some step) = (name ≢ []) × (step.name ≡ name) × TellsFamily rows name variable step.family
 
 -- the best of the group's access rows that match the message, where one does
-abbrev pub TellsAccess : Tables → Message → ViewType → List ℕ → List ℕ → Option AccessStep → Type 0
+abbrev pub TellsAccess : Tables → Requester → ViewType → List ℕ → List ℕ → Option AccessStep → Type 0
 TellsAccess t q view variable group None = NoneFits t.access (FitsMessage group q.model q.level q.context)
 TellsAccess t q view variable group (Some step) =
     (row : AccessRow) × IsBestAt t.access (FitsMessage group q.model q.level q.context) access_order step.position row
     × TellsView t.families (view_name view row) variable step.view
 
 -- the group of the security name, where it has one
-abbrev pub TellsGroup : Tables → Message → ViewType → List ℕ → Option GroupStep → Type 0
+abbrev pub TellsGroup : Tables → Requester → ViewType → List ℕ → Option GroupStep → Type 0
 TellsGroup t q view variable None = HasNoGroup t.groups q.model q.name
 TellsGroup t q view variable (Some step) =
     (row : GroupRow) × IsGroupAt t.groups q.model q.name step.position row × (step.name ≡ row.group) × TellsAccess t q view variable row.group step.access
 
 -- the context, where there is one
-abbrev pub TellsContext : Tables → Message → ViewType → List ℕ → Option ContextStep → Type 0
+abbrev pub TellsContext : Tables → Requester → ViewType → List ℕ → Option ContextStep → Type 0
 TellsContext t q view variable None = ¬ HasContext t.contexts q.context
 TellsContext t q view variable (Some step) = IsContextAt t.contexts q.context step.position × TellsGroup t q view variable step.group
 
 -- ---- what the values of the code say
 
-abbrev pub message_of : Asking → Message
-message_of a = record { model = a.model; name = a.name.now; level = a.level; context = a.context.now }
+abbrev pub requester_of : Asking → Requester
+requester_of a = record { model = a.model; name = a.name.now; level = a.level; context = a.context.now }

@@ -1,9 +1,9 @@
 //! What decides on a question over the four tables.
 ghost use Rattle.std.specs.Prelude.{◌≡◌, ◌++◌, MatchOption, Contains};
-ghost use Rattle.vacm_core.specs.Tables.{Tables};
+ghost use Rattle.vacm_core.specs.Tables.{four_tables};
 ghost use Rattle.vacm_core.specs.View.{AreExact};
 ghost use Rattle.vacm_core.specs.Allowed.{Allowed, HasContext, IsGroupRow, IsBestOf, NoneFits, FitsMessage, access_order};
-ghost use Rattle.vacm_core.specs.Steps.{HasNoGroup, DecidesContext, message_of};
+ghost use Rattle.vacm_core.specs.Steps.{HasNoGroup, DecidesContext, requester_of};
 
 use crate::Access;
 use crate::rows::{AccessRow, ContextRow, FamilyRow, GroupRow};
@@ -76,10 +76,8 @@ pub(crate) fn decided<'a>(
     asking: &Asking<'_>,
 ) -> Deciding<'a>
     requires { AreExact exact.now }
-    ensures answer { let tables : Tables = record { contexts = contexts.now; groups = groups.now; access = access.now; families = exact.now ++ others.now } in
-        Allowed tables (message_of asking.now) asking.now.view asking.now.variable.now result.answer }
-    ensures rows { let tables : Tables = record { contexts = contexts.now; groups = groups.now; access = access.now; families = exact.now ++ others.now } in
-        DecidesContext tables (message_of asking.now) asking.now.view asking.now.variable.now result }
+    ensures answer { Allowed (four_tables contexts.now groups.now access.now (exact.now ++ others.now)) (requester_of asking.now) asking.now.view asking.now.variable.now result.answer }
+    ensures rows { DecidesContext (four_tables contexts.now groups.now access.now (exact.now ++ others.now)) (requester_of asking.now) asking.now.view asking.now.variable.now result }
 {
     let mut found = Deciding {
         answer: Access::NoSuchContext,

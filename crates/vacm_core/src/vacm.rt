@@ -9,7 +9,7 @@ ghost use Rattle.vacm_core.specs.declared.access.Access.{Access as Answer};
 ghost use Rattle.vacm_core.specs.Allowed as spec;
 ghost use Rattle.vacm_core.specs.Allowed.{Allowed, HasContext};
 ghost use Rattle.vacm_core.specs.View.{AreExact};
-ghost use Rattle.vacm_core.specs.Steps.{DecidesContext, TellsContext, message_of};
+ghost use Rattle.vacm_core.specs.Steps.{DecidesContext, TellsContext, requester_of};
 
 use crate::ask::{Deciding, context_row, decided};
 use crate::explain::context_step;
@@ -62,8 +62,8 @@ impl Vacm {
         ensures same_rows { IfOk result (λ vacm. HaveSameRows (tables_of rows.now) vacm) }
 
         // So each question has the answer that it has over the rows.
-        ensures decides { IfOk result (λ vacm. (message : spec.Message) (view : Asked) (variable : List ℕ) (answer : Answer)
-            → Allowed vacm message view variable answer → Allowed (tables_of rows.now) message view variable answer) }
+        ensures decides { IfOk result (λ vacm. (requester : spec.Requester) (view : Asked) (variable : List ℕ) (answer : Answer)
+            → Allowed vacm requester view variable answer → Allowed (tables_of rows.now) requester view variable answer) }
         ensures told { IfErr result (IsTold (tables_of rows.now)) }
     {
         match find_fault(alloc, rows) {
@@ -109,8 +109,8 @@ impl Vacm {
         context: &[u8],
         variable: &Oid,
     ) -> Access
-        ensures answer { let message : spec.Message = record { model = model; name = name.now; level = level; context = context.now } in
-            Allowed self.now message view variable.now result }
+        ensures answer { let requester : spec.Requester = record { model = model; name = name.now; level = level; context = context.now } in
+            Allowed self.now requester view variable.now result }
         ensures one_row_each { HasOneRowEach self.now }
     {
         let asking = Asking {
@@ -130,8 +130,8 @@ impl Vacm {
     /// over once at most.
     pub fn explain(&self, rows: &Rows, asking: &Asking<'_>) -> Explained
         requires { HaveSameRows (tables_of rows.now) self.now }
-        ensures answer { Allowed self.now (message_of asking.now) asking.now.view asking.now.variable.now result.answer }
-        ensures steps { TellsContext (tables_of rows.now) (message_of asking.now) asking.now.view asking.now.variable.now result.context }
+        ensures answer { Allowed self.now (requester_of asking.now) asking.now.view asking.now.variable.now result.answer }
+        ensures steps { TellsContext (tables_of rows.now) (requester_of asking.now) asking.now.view asking.now.variable.now result.context }
     {
         let decided = self.decided(asking);
         Explained {
@@ -142,8 +142,8 @@ impl Vacm {
 
     /// The answer to the question, and the rows that decide.
     fn decided(&self, asking: &Asking<'_>) -> Deciding<'_>
-        ensures answer { Allowed self.now (message_of asking.now) asking.now.view asking.now.variable.now result.answer }
-        ensures rows { DecidesContext self.now (message_of asking.now) asking.now.view asking.now.variable.now result }
+        ensures answer { Allowed self.now (requester_of asking.now) asking.now.view asking.now.variable.now result.answer }
+        ensures rows { DecidesContext self.now (requester_of asking.now) asking.now.view asking.now.variable.now result }
         ensures one_row_each { HasOneRowEach self.now }
     {
         decided(

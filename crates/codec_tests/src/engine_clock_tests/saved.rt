@@ -71,125 +71,129 @@ fn fault_of(alloc: Global, text: &[u8]) -> Result<Option<ClockFault>, ClockFault
     }
 }
 
+/// Texts of version 1, or nearly, and the number of the first line that is at fault.
+const VERSION_1: [(&[u8], Option<usize>); 39] = [
+    (b"snmp-clocks 1\n", None),
+    (FIRST, None),
+    (BOTH, None),
+    (
+        b"snmp-clocks 1\n8000000001 0 0\n800000000100 0 0\n8000000002 0 0\n",
+        None,
+    ),
+    (
+        b"snmp-clocks 1\n0000000000 2147483647 2147483647\nffffffffff 10 100\n",
+        None,
+    ),
+    (
+        b"snmp-clocks 1\n000102030405060708090a0b0c0d0e0f101112131415161718191a1b1c1d1e1f 1 1\n",
+        None,
+    ),
+    // The heading.
+    (b"", Some(1)),
+    (b"\n", Some(1)),
+    (b"snmp-clocks 1", Some(1)),
+    (b"snmp-clocks 3\n", Some(1)),
+    (b"snmp-clocks 1\r\n", Some(1)),
+    (b" snmp-clocks 1\n", Some(1)),
+    (b"SNMP-clocks 1\n", Some(1)),
+    (b"8000000001 1 5\n", Some(1)),
+    // The order of the engines.
+    (b"snmp-clocks 1\n8000000002 0 0\n8000000001 1 5\n", Some(3)),
+    (b"snmp-clocks 1\n8000000001 0 0\n8000000001 1 5\n", Some(3)),
+    (
+        b"snmp-clocks 1\n800000000100 0 0\n8000000001 0 0\n",
+        Some(3),
+    ),
+    // The numbers.
+    (b"snmp-clocks 1\n8000000001 01 5\n", Some(2)),
+    (b"snmp-clocks 1\n8000000001 1 05\n", Some(2)),
+    (b"snmp-clocks 1\n8000000001 00 5\n", Some(2)),
+    (b"snmp-clocks 1\n8000000001 +1 5\n", Some(2)),
+    (b"snmp-clocks 1\n8000000001 -1 5\n", Some(2)),
+    (b"snmp-clocks 1\n8000000001  5\n", Some(2)),
+    (b"snmp-clocks 1\n8000000001 2147483648 0\n", Some(2)),
+    (b"snmp-clocks 1\n8000000001 0 2147483648\n", Some(2)),
+    (
+        b"snmp-clocks 1\n8000000001 18446744073709551617 0\n",
+        Some(2),
+    ),
+    // The identifier.
+    (b"snmp-clocks 1\n80000000AB 1 5\n", Some(2)),
+    (b"snmp-clocks 1\n800000 1 1\n", Some(2)),
+    (b"snmp-clocks 1\n800000000 1 1\n", Some(2)),
+    (b"snmp-clocks 1\n800000000g 1 1\n", Some(2)),
+    (
+        b"snmp-clocks 1\n000102030405060708090a0b0c0d0e0f101112131415161718191a1b1c1d1e1f20 1 1\n",
+        Some(2),
+    ),
+    // The form of a line.
+    (b"snmp-clocks 1\n\n", Some(2)),
+    (b"snmp-clocks 1\n8000000001 1\n", Some(2)),
+    (b"snmp-clocks 1\n8000000001 1 5 \n", Some(2)),
+    (b"snmp-clocks 1\n8000000001\t1 5\n", Some(2)),
+    (b"snmp-clocks 1\n8000000001 1 5\r\n", Some(2)),
+    // The last line feed.
+    (b"snmp-clocks 1\n8000000001 1 5", Some(2)),
+    (b"snmp-clocks 1\n8000000001 1 5\n8000000002 0 0", Some(3)),
+    (b"snmp-clocks 1\n8000000001 1 5\n\xff", Some(3)),
+];
+
 #[test]
 fn reads_version_1_and_no_other_texts(rt: HostRuntime) -> Result<(), Fail> {
-    let cases: [(&[u8], Option<usize>); 39] = [
-        (b"snmp-clocks 1\n", None),
-        (FIRST, None),
-        (BOTH, None),
-        (
-            b"snmp-clocks 1\n8000000001 0 0\n800000000100 0 0\n8000000002 0 0\n",
-            None,
-        ),
-        (
-            b"snmp-clocks 1\n0000000000 2147483647 2147483647\nffffffffff 10 100\n",
-            None,
-        ),
-        (
-            b"snmp-clocks 1\n000102030405060708090a0b0c0d0e0f101112131415161718191a1b1c1d1e1f 1 1\n",
-            None,
-        ),
-        // The heading.
-        (b"", Some(1)),
-        (b"\n", Some(1)),
-        (b"snmp-clocks 1", Some(1)),
-        (b"snmp-clocks 3\n", Some(1)),
-        (b"snmp-clocks 1\r\n", Some(1)),
-        (b" snmp-clocks 1\n", Some(1)),
-        (b"SNMP-clocks 1\n", Some(1)),
-        (b"8000000001 1 5\n", Some(1)),
-        // The order of the engines.
-        (b"snmp-clocks 1\n8000000002 0 0\n8000000001 1 5\n", Some(3)),
-        (b"snmp-clocks 1\n8000000001 0 0\n8000000001 1 5\n", Some(3)),
-        (
-            b"snmp-clocks 1\n800000000100 0 0\n8000000001 0 0\n",
-            Some(3),
-        ),
-        // The numbers.
-        (b"snmp-clocks 1\n8000000001 01 5\n", Some(2)),
-        (b"snmp-clocks 1\n8000000001 1 05\n", Some(2)),
-        (b"snmp-clocks 1\n8000000001 00 5\n", Some(2)),
-        (b"snmp-clocks 1\n8000000001 +1 5\n", Some(2)),
-        (b"snmp-clocks 1\n8000000001 -1 5\n", Some(2)),
-        (b"snmp-clocks 1\n8000000001  5\n", Some(2)),
-        (b"snmp-clocks 1\n8000000001 2147483648 0\n", Some(2)),
-        (b"snmp-clocks 1\n8000000001 0 2147483648\n", Some(2)),
-        (
-            b"snmp-clocks 1\n8000000001 18446744073709551617 0\n",
-            Some(2),
-        ),
-        // The identifier.
-        (b"snmp-clocks 1\n80000000AB 1 5\n", Some(2)),
-        (b"snmp-clocks 1\n800000 1 1\n", Some(2)),
-        (b"snmp-clocks 1\n800000000 1 1\n", Some(2)),
-        (b"snmp-clocks 1\n800000000g 1 1\n", Some(2)),
-        (
-            b"snmp-clocks 1\n000102030405060708090a0b0c0d0e0f101112131415161718191a1b1c1d1e1f20 1 1\n",
-            Some(2),
-        ),
-        // The form of a line.
-        (b"snmp-clocks 1\n\n", Some(2)),
-        (b"snmp-clocks 1\n8000000001 1\n", Some(2)),
-        (b"snmp-clocks 1\n8000000001 1 5 \n", Some(2)),
-        (b"snmp-clocks 1\n8000000001\t1 5\n", Some(2)),
-        (b"snmp-clocks 1\n8000000001 1 5\r\n", Some(2)),
-        // The last line feed.
-        (b"snmp-clocks 1\n8000000001 1 5", Some(2)),
-        (b"snmp-clocks 1\n8000000001 1 5\n8000000002 0 0", Some(3)),
-        (b"snmp-clocks 1\n8000000001 1 5\n\xff", Some(3)),
-    ];
-    for (text, line) in cases {
+    for (text, line) in VERSION_1 {
         let fault = fault_of(rt.alloc(), text)?;
         assert_eq!(rt; fault, line.map(ClockFault::Line), "{text:?}");
     }
     Ok(())
 }
 
+/// Texts of version 2, or nearly, and the number of the first line that is at fault.
+const VERSION_2: [(&[u8], Option<usize>); 24] = [
+    (b"snmp-clocks 2\n", None),
+    (EARLY, None),
+    (BOTH_AT_7, None),
+    (b"snmp-clocks 2\n8000000001 1 5 0\n", None),
+    (
+        b"snmp-clocks 2\n8000000001 1 5 18446744073709551615\n",
+        None,
+    ),
+    (
+        b"snmp-clocks 2\n8000000001 1 5 18446744073709551616\n",
+        Some(2),
+    ),
+    (
+        b"snmp-clocks 2\n8000000001 1 5 100000000000000000000\n",
+        Some(2),
+    ),
+    (b"snmp-clocks 2\n8000000001 1 5 07\n", Some(2)),
+    (b"snmp-clocks 2\n8000000001 1 5 00\n", Some(2)),
+    (b"snmp-clocks 2\n8000000001 1 5 +7\n", Some(2)),
+    (b"snmp-clocks 2\n8000000001 1 5 -7\n", Some(2)),
+    (b"snmp-clocks 2\n8000000001 1 5 \n", Some(2)),
+    (b"snmp-clocks 2\n8000000001 1 5 7 \n", Some(2)),
+    (b"snmp-clocks 2\n8000000001 1 5  7\n", Some(2)),
+    (b"snmp-clocks 2\n8000000001 1 5 7\r\n", Some(2)),
+    // The lines of one version under the heading of the other.
+    (b"snmp-clocks 2\n8000000001 1 5\n", Some(2)),
+    (b"snmp-clocks 1\n8000000001 1 5 7\n", Some(2)),
+    (
+        b"snmp-clocks 2\n8000000001 1 5 7\n8000000002 0 0\n",
+        Some(3),
+    ),
+    (b"snmp-clocks 2\n8000000001 2147483648 5 7\n", Some(2)),
+    (b"snmp-clocks 2\n8000000001 1 2147483648 7\n", Some(2)),
+    (
+        b"snmp-clocks 2\n8000000002 1 5 1\n8000000001 1 5 1\n",
+        Some(3),
+    ),
+    (b"snmp-clocks 2\n8000000001 1 5 7", Some(2)),
+    (b"snmp-clocks 2", Some(1)),
+    (b"snmp-clocks 12\n", Some(1)),
+];
+
 #[test]
 fn reads_version_2_and_no_other_texts(rt: HostRuntime) -> Result<(), Fail> {
-    let cases: [(&[u8], Option<usize>); 24] = [
-        (b"snmp-clocks 2\n", None),
-        (EARLY, None),
-        (BOTH_AT_7, None),
-        (b"snmp-clocks 2\n8000000001 1 5 0\n", None),
-        (
-            b"snmp-clocks 2\n8000000001 1 5 18446744073709551615\n",
-            None,
-        ),
-        (
-            b"snmp-clocks 2\n8000000001 1 5 18446744073709551616\n",
-            Some(2),
-        ),
-        (
-            b"snmp-clocks 2\n8000000001 1 5 100000000000000000000\n",
-            Some(2),
-        ),
-        (b"snmp-clocks 2\n8000000001 1 5 07\n", Some(2)),
-        (b"snmp-clocks 2\n8000000001 1 5 00\n", Some(2)),
-        (b"snmp-clocks 2\n8000000001 1 5 +7\n", Some(2)),
-        (b"snmp-clocks 2\n8000000001 1 5 -7\n", Some(2)),
-        (b"snmp-clocks 2\n8000000001 1 5 \n", Some(2)),
-        (b"snmp-clocks 2\n8000000001 1 5 7 \n", Some(2)),
-        (b"snmp-clocks 2\n8000000001 1 5  7\n", Some(2)),
-        (b"snmp-clocks 2\n8000000001 1 5 7\r\n", Some(2)),
-        // The lines of one version under the heading of the other.
-        (b"snmp-clocks 2\n8000000001 1 5\n", Some(2)),
-        (b"snmp-clocks 1\n8000000001 1 5 7\n", Some(2)),
-        (
-            b"snmp-clocks 2\n8000000001 1 5 7\n8000000002 0 0\n",
-            Some(3),
-        ),
-        (b"snmp-clocks 2\n8000000001 2147483648 5 7\n", Some(2)),
-        (b"snmp-clocks 2\n8000000001 1 2147483648 7\n", Some(2)),
-        (
-            b"snmp-clocks 2\n8000000002 1 5 1\n8000000001 1 5 1\n",
-            Some(3),
-        ),
-        (b"snmp-clocks 2\n8000000001 1 5 7", Some(2)),
-        (b"snmp-clocks 2", Some(1)),
-        (b"snmp-clocks 12\n", Some(1)),
-    ];
-    for (text, line) in cases {
+    for (text, line) in VERSION_2 {
         let fault = fault_of(rt.alloc(), text)?;
         assert_eq!(rt; fault, line.map(ClockFault::Line), "{text:?}");
     }

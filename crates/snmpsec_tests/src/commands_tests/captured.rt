@@ -1,7 +1,7 @@
 //! Captures that are written as logs, and what is told beside.
 
 use super::streams::{Choppy, Slow};
-use snmpsec_commands::datagrams::{Unread, datagrams, ports_of};
+use snmpsec_datagrams::datagrams::{Unread, datagrams, ports_of};
 use std::alloc::{AllocError, Global};
 use std::io::{Read, Write};
 use std::test::Fail;

@@ -1,6 +1,7 @@
 //! What check-config prints of configurations.
 
-use super::access::{ALL_KEYS, refused_configurations};
+use super::access::ALL_KEYS;
+use super::refused::refused_configurations;
 use snmpsec_commands::{Output, check_config_hinted, check_config_text};
 use std::alloc::{AllocError, Global};
 use std::test::Fail;
@@ -100,7 +101,7 @@ fn a_refused_growth_gives_no_other_count(rt: HostRuntime) -> Result<(), Fail> {
 }
 
 /// A configuration that is accepted, and the hints on it.
-static HINTED: [(&str, &str); 7] = [
+static HINTED: [(&str, &str); 10] = [
     ("", ""),
     (
         "user = [{ name = 'ann' }, { name = 'a\"b' }]
@@ -148,6 +149,45 @@ family = [{ view = 'v ', subtree = '1', include = true }]",
 snmpsec: group 0: no user has the name \"Ann\"
 snmpsec: access 0: no family row has the write view \"v\"
 snmpsec: family 0: no access row names the view \"v \"\n",
+    ),
+    (
+        "# users
+[[user]]
+name = 'ann'
+
+[[user]] # the second
+name = 'bob'
+[[group]]
+model = 3
+name = 'ann'
+group = 'g'",
+        "snmpsec: user 1, line 5: no group row of model 3 has the name \"bob\"
+snmpsec: group 0, line 7: no access row has the group \"g\"\n",
+    ),
+    (
+        "[[user]]
+name = 'ann'
+  [[user]]
+name = 'bob'
+[[group]]
+model = 1
+name = 'ann'
+group = 'g'",
+        "snmpsec: user 0: no group row of model 3 has the name \"ann\"
+snmpsec: user 1: no group row of model 3 has the name \"bob\"
+snmpsec: group 0, line 5: no access row has the group \"g\"\n",
+    ),
+    (
+        "[[user]]
+name = 'ann'
+[[group]]
+model = 2
+name = '''
+[[group]]
+'''
+group = 'g'",
+        "snmpsec: user 0, line 1: no group row of model 3 has the name \"ann\"
+snmpsec: group 0: no access row has the group \"g\"\n",
     ),
 ];
 

@@ -1,10 +1,10 @@
 //! What show and open print of the datagrams of a file.
 
 use super::streams::{Choppy, Slow};
-use snmpsec_commands::datagrams::Unread;
-use snmpsec_commands::forms::Asked;
 use snmpsec_commands::open_text;
-use snmpsec_commands::shown::{Printout, write_printout};
+use snmpsec_datagrams::datagrams::Unread;
+use snmpsec_datagrams::forms::Asked;
+use snmpsec_datagrams::shown::{Printout, write_printout};
 use std::alloc::{AllocError, Global};
 use std::io::{Read, Write};
 use std::test::Fail;

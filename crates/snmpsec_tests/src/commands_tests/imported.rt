@@ -91,6 +91,83 @@ f:4: differs: access: group \"g\", model 3, authNoPriv, context \"bridge\": snmp
 f:4: differs: access: group \"g\", model 3, authPriv, context \"bridge\": snmpd takes this row, RFC 3415 that of f:3
 ";
 
+const USERS: &[u8] = b"createUser ann S \"maple syrup\" aes
+createUser bob SHA-512 maplesyrup AES
+createUser eve SHA-256 maplesyrup AES-256 secondsyrup
+createUser sam SHA defaultsyrup aes \"second \\\" syrup\"
+createUser ann MD5 maplesyrup
+createUser joe SHA
+createUser tom SHA short
+createUser \"\"
+createUser guest
+";
+
+const USERS_TEXT: &[u8] = b"# f:3
+[[user]]
+name = \"eve\"
+auth = \"sha256\"
+auth-password = \"maplesyrup\"
+
+# f:4
+[[user]]
+name = \"sam\"
+auth = \"md5\"
+auth-password = \"defaultsyrup\"
+priv-password = \"second \\\" syrup\"
+
+# f:5
+[[user]]
+name = \"ann\"
+auth = \"md5\"
+auth-password = \"maplesyrup\"
+
+# f:9
+[[user]]
+name = \"guest\"
+
+# context
+[[context]]
+name = \"\"
+";
+
+const USERS_NOTES: &[u8] =
+    b"f:2: left out: createUser: there is no counterpart to its hash, or a key stands in the place of a passphrase
+f:3: left out: createUser: there is no counterpart to its cipher, or a key stands in the place of a passphrase: the user is without privacy
+f:4: differs: createUser: a passphrase that begins with `default` takes MD5 in the place of the hash that is named
+f:6: undefined: createUser: a passphrase is missing
+f:7: refused by snmpd: createUser: could not generate the authentication key from the supplied pass phrase
+f:8: left out: createUser: a user's name has 1 to 32 octets here
+f:1: ignored: createUser: the row of f:5 has the same index
+";
+
+/// Rows beside which others count: of a community under one model alone, behind a row for any model, and of access rows and views.
+const SECONDS: &[u8] = b"group x v1 comm1
+rocommunity public default .1.3
+group g any ann
+group h usm ann
+group h tsm ann
+access g \"\" usm auth exact a none none
+access g \"\" usm auth prefix b none none
+access g \"\" usm auth exact c none none
+view v included .1.3.6 80
+view v excluded .1.3.6
+view w included .1.3.6
+view w included .1.3.6 80
+view _all_ included .0
+";
+
+const SECONDS_NOTES: &[u8] =
+    b"f:2: left out: rocommunity: messages of SNMPv1 and SNMPv2c are refused here; its rows are for a name of its own
+f:2: ignored: group: the row of f:1 has the same index
+f:4: ignored: group: the row of f:3 has the same index
+f:7: differs: access: the row of f:6 has the same index
+f:8: ignored: access: the row of f:6 has the same index
+f:10: ignored: view: the row of f:9 has the same index
+f:12: differs: view: the row of f:11 has the same index
+f:7: differs: access: group \"g\", model 3, authNoPriv, context \"\"*: snmpd takes this row, RFC 3415 none
+f:7: differs: access: group \"g\", model 3, authPriv, context \"\"*: snmpd takes this row, RFC 3415 none
+";
+
 fn contexts(rt: &HostRuntime) -> Result<Vec<ContextRow>, Fail> {
     let mut contexts = Vec::new(rt.alloc());
     let name = Name::of(b"").ok_or("a name")?;
@@ -131,6 +208,27 @@ fn other_choices_of_snmpd_are_told(rt: HostRuntime) -> Result<(), Fail> {
 }
 
 #[test]
+fn users_of_lines_are_printed(rt: HostRuntime) -> Result<(), Fail> {
+    let done = imported(&rt, USERS)?;
+    assert_eq!(rt; done.text.as_slice(), USERS_TEXT);
+    assert_eq!(rt;
+        notes_text(rt.alloc(), &files(&rt)?, &done.notes)?.as_slice(),
+        USERS_NOTES
+    );
+    Ok(())
+}
+
+#[test]
+fn rows_beside_which_others_count_are_told(rt: HostRuntime) -> Result<(), Fail> {
+    let done = imported(&rt, SECONDS)?;
+    assert_eq!(rt;
+        notes_text(rt.alloc(), &files(&rt)?, &done.notes)?.as_slice(),
+        SECONDS_NOTES
+    );
+    Ok(())
+}
+
+#[test]
 fn no_lines_come_to_no_rows(rt: HostRuntime) -> Result<(), Fail> {
     let done = imported(&rt, b"# nothing\n\n[snmp]\n")?;
     assert_eq!(rt;
@@ -155,7 +253,7 @@ fn notes_are_serious_or_not(rt: HostRuntime) -> Result<(), Fail> {
 fn rows_that_count_are_kept(rt: HostRuntime) -> Result<(), Fail> {
     let items = meant(rt.alloc(), read_items(rt.alloc(), 0, FILE)?)?;
     let lists = lists_of(rt.alloc(), &items)?;
-    let kept = kept_of(rt.alloc(), &lists, contexts(&rt)?)?;
+    let kept = kept_of(rt.alloc(), &items, &lists, contexts(&rt)?)?;
     assert_eq!(rt; lists.groups.len(), 3);
     assert_eq!(rt; kept.groups.len(), 2);
     assert_eq!(rt; kept.access.len(), 2);

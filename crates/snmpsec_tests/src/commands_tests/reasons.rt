@@ -6,7 +6,7 @@ use snmpsec_commands::run::answer_asked;
 use snmpsec_words::parse_asked;
 
 /// A command line without the program's name, and standard error.
-static REASONS: [(&str, &str); 26] = [
+static REASONS: [(&str, &str); 28] = [
     (
         "--why show 30:38",
         "snmpsec: bad word HEX
@@ -95,6 +95,18 @@ snmpsec: VIEW \"reed\": it is none, the nearest is read; one of read, write, not
         "datagrams --port 65536 /dev/null",
         "snmpsec: bad word PORT
 snmpsec: PORT \"65536\": it is none; a whole number from 0 to 65535 is wanted, as 161
+",
+    ),
+    (
+        "datagrams --ip --form hex /dev/null",
+        "snmpsec: bad word FORM
+snmpsec: FORM \"hex\": --ip is for dumps; dump is wanted, or no FORM
+",
+    ),
+    (
+        "datagrams --ip --form jpeg /dev/null",
+        "snmpsec: bad word FORM
+snmpsec: FORM \"jpeg\": it is none; one of pcap, hex, dump is wanted
 ",
     ),
     (

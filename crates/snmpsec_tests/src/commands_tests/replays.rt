@@ -1,36 +1,34 @@
 //! Logs that are replayed, and texts that are refused before one is.
 
-ghost use Rattle.std.specs.Prelude.{◌≤◌};
-
-use super::access::refused_configurations;
-use super::streams::{Choppy, Slow};
-use snmpsec_commands::replay::{replay, replay_as};
-use snmpsec_replay::{Printing, ReplayFault};
+use super::refused::refused_configurations;
+use snmpsec_commands::replay::replay;
+use snmpsec_replay::ReplayFault;
 use std::alloc::{AllocError, Global};
-use std::io::{BufRead, BufReader, Write};
+use std::io::{BufRead, Write};
 use std::test::Fail;
 
 /// Saved clocks of no engine.
-const NOTHING: &str = "snmp-clocks 1\n";
+pub(super) const NOTHING: &str = "snmp-clocks 1\n";
 
 /// A discovery request, and a report that answers one, as lines of a log.
-const LOG: &str =
+pub(super) const LOG: &str =
     "5 3038020103300e020101020300ffe30401040201030410300e0400020100020100040004000400301104000400a00b0201010201000201003000
 6 3062020103300e020101020300ffe3040100020103041d301b040c000000000000000000000002020107020203e8040004000400302e040c0000000000000000000000020400a81c0201010201000201003011300f060a2b060106030f01010400410101
 ";
 
 /// What is written for that log.
-const WRITTEN: &str = "1 5 refused 6 UnknownEngine\n2 6 accepted noAuthNoPriv a8\nsnmp-clocks 2\n";
+pub(super) const WRITTEN: &str =
+    "1 5 refused 6 UnknownEngine\n2 6 accepted noAuthNoPriv a8\nsnmp-clocks 2\n";
 
 /// What a replay answers, and what it has written.
 #[derive(Drop)]
-struct Told {
-    answer: Result<u8, ReplayFault>,
-    written: Vec<u8>,
+pub(super) struct Told {
+    pub(super) answer: Result<u8, ReplayFault>,
+    pub(super) written: Vec<u8>,
 }
 
 /// Replays a log with a configuration and a clocks file `c`, read at the moment 9. Want of memory is handed on.
-fn answer_of<R: BufRead, W: Write>(
+pub(super) fn answer_of<R: BufRead, W: Write>(
     alloc: Global,
     texts: (&str, &str),
     reader: &mut R,
@@ -52,106 +50,11 @@ fn answer_of<R: BufRead, W: Write>(
 }
 
 /// Replays a log that is read at once.
-fn replayed(alloc: Global, texts: (&str, &str), log: &str) -> Result<Told, Fail> {
+pub(super) fn replayed(alloc: Global, texts: (&str, &str), log: &str) -> Result<Told, Fail> {
     let mut reader = log.as_bytes();
     let mut written = Vec::new(alloc);
     let answer = answer_of(alloc, texts, &mut reader, &mut written)?;
     Ok(Told { answer, written })
-}
-
-/// Replays a log by a reader and a writer that give and take few octets, are interrupted so often before each call, and fail at
-/// one call.
-fn replayed_in_pieces(
-    alloc: Global,
-    log: &str,
-    interruptions: (u32, u32),
-    failing: (Option<u32>, Option<u32>),
-) -> Result<Told, Fail> {
-    let slow = Slow::new(log.as_bytes(), interruptions.0, failing.0);
-    let mut reader = BufReader::new(alloc, slow)?;
-    let mut writer = Choppy::new(alloc, interruptions.1, failing.1)?;
-    let answer = answer_of(alloc, ("", NOTHING), &mut reader, &mut writer)?;
-    Ok(Told {
-        answer,
-        written: writer.written,
-    })
-}
-
-/// The clocks, the log, the answer and what is written, with the empty configuration.
-static LOGS: [(&str, &str, Result<u8, ReplayFault>, &str); 22] = [
-    (NOTHING, LOG, Ok(0), WRITTEN),
-    (NOTHING, "", Ok(0), "snmp-clocks 2\n"),
-    (
-        "snmp-clocks 1\n8000000001 1 5\n",
-        "",
-        Ok(0),
-        "snmp-clocks 2\n8000000001 1 5 9\n",
-    ),
-    (
-        "snmp-clocks 2\n8000000001 1 5 7\n",
-        "",
-        Ok(0),
-        "snmp-clocks 2\n8000000001 1 5 7\n",
-    ),
-    // the least and the greatest moment, and digits of either case
-    (
-        NOTHING,
-        "0 30\n18446744073709551615 3aFf\n",
-        Ok(0),
-        "1 0 refused 1 NotMessage\n2 18446744073709551615 refused 1 NotMessage\nsnmp-clocks 2\n",
-    ),
-    // lines that are none, and what is written before
-    (NOTHING, "5 30", Err(ReplayFault::LogLine(1)), ""),
-    (
-        NOTHING,
-        "5 30\n6 30",
-        Err(ReplayFault::LogLine(2)),
-        "1 5 refused 1 NotMessage\n",
-    ),
-    (NOTHING, "\n", Err(ReplayFault::LogLine(1)), ""),
-    (
-        NOTHING,
-        "5 30\n\n6 30\n",
-        Err(ReplayFault::LogLine(2)),
-        "1 5 refused 1 NotMessage\n",
-    ),
-    (NOTHING, "5 3\n", Err(ReplayFault::LogLine(1)), ""),
-    (NOTHING, "5 3g\n", Err(ReplayFault::LogLine(1)), ""),
-    (NOTHING, "5 0x30\n", Err(ReplayFault::LogLine(1)), ""),
-    (NOTHING, "5 30 30\n", Err(ReplayFault::LogLine(1)), ""),
-    (NOTHING, "5 30 \n", Err(ReplayFault::LogLine(1)), ""),
-    (NOTHING, "5 \n", Err(ReplayFault::LogLine(1)), ""),
-    (NOTHING, "5\n", Err(ReplayFault::LogLine(1)), ""),
-    (NOTHING, " 30\n", Err(ReplayFault::LogLine(1)), ""),
-    (NOTHING, "5\t30\n", Err(ReplayFault::LogLine(1)), ""),
-    (NOTHING, "05 30\n", Err(ReplayFault::LogLine(1)), ""),
-    (NOTHING, "+5 30\n", Err(ReplayFault::LogLine(1)), ""),
-    (NOTHING, "5 30\r\n", Err(ReplayFault::LogLine(1)), ""),
-    (
-        NOTHING,
-        "18446744073709551616 30\n",
-        Err(ReplayFault::LogLine(1)),
-        "",
-    ),
-];
-
-fn logs() -> &'static [(
-    &'static str,
-    &'static str,
-    Result<u8, ReplayFault>,
-    &'static str,
-)] {
-    &LOGS
-}
-
-#[test]
-fn a_log_is_replayed_up_to_its_first_line_out_of_form(rt: HostRuntime) -> Result<(), Fail> {
-    for (clocks, log, answer, written) in logs() {
-        let replayed = replayed(rt.alloc(), ("", clocks), log)?;
-        assert_eq!(rt; replayed.answer, *answer, "{log}");
-        assert_eq!(rt; replayed.written.as_slice(), written.as_bytes(), "{log}");
-    }
-    Ok(())
 }
 
 /// The user `ann`.
@@ -248,171 +151,5 @@ fn a_refused_clocks_file_is_told_before_the_log(rt: HostRuntime) -> Result<(), F
         assert_eq!(rt; replayed.answer, Ok(1));
         assert_eq!(rt; replayed.written.as_slice(), line.as_bytes());
     }
-    Ok(())
-}
-
-#[test]
-fn interruptions_change_nothing_up_to_the_thousandth(rt: HostRuntime) -> Result<(), Fail> {
-    for (reads, writes) in [(0, 0), (1, 1), (999, 0), (0, 999)] {
-        let replayed = replayed_in_pieces(rt.alloc(), LOG, (reads, writes), (None, None))?;
-        assert_eq!(rt; replayed.answer, Ok(0));
-        assert_eq!(rt; replayed.written.as_slice(), WRITTEN.as_bytes());
-    }
-    let replayed = replayed_in_pieces(rt.alloc(), LOG, (1000, 0), (None, None))?;
-    assert_eq!(rt; replayed.answer, Err(ReplayFault::CannotRead));
-    let replayed = replayed_in_pieces(rt.alloc(), LOG, (0, 1000), (None, None))?;
-    assert_eq!(rt; replayed.answer, Err(ReplayFault::CannotWrite));
-    Ok(())
-}
-
-/// Ten lines of a log, of five octets each, and their answers.
-const TEN: &str = "0 30\n1 30\n2 30\n3 30\n4 30\n5 30\n6 30\n7 30\n8 30\n9 30\n";
-
-const TEN_ANSWERS: &str = "1 0 refused 1 NotMessage
-2 1 refused 1 NotMessage
-3 2 refused 1 NotMessage
-4 3 refused 1 NotMessage
-5 4 refused 1 NotMessage
-6 5 refused 1 NotMessage
-7 6 refused 1 NotMessage
-8 7 refused 1 NotMessage
-9 8 refused 1 NotMessage
-10 9 refused 1 NotMessage
-snmp-clocks 2
-";
-
-/// The octets of the first so many lines.
-fn lines(text: &str, count: u32) -> &[u8] {
-    let octets = text.as_bytes();
-    let mut left = count;
-    for (at, octet) in octets.iter().enumerate() {
-        if left == 0 {
-            return &octets[..at];
-        }
-        if *octet == b'\n' {
-            left -= 1;
-        }
-    }
-    octets
-}
-
-#[test]
-fn a_read_that_fails_leaves_the_lines_before(rt: HostRuntime) -> Result<(), Fail> {
-    // Fifty octets, and a read that finds the end.
-    for read in 0..51 {
-        let replayed = replayed_in_pieces(rt.alloc(), TEN, (0, 0), (Some(read), None))?;
-        assert_eq!(rt; replayed.answer, Err(ReplayFault::CannotRead));
-        assert_eq!(rt;
-            replayed.written.as_slice(),
-            lines(TEN_ANSWERS, read / 5),
-            "read {read}"
-        );
-    }
-    Ok(())
-}
-
-#[test]
-fn a_write_that_fails_leaves_a_front(rt: HostRuntime) -> Result<(), Fail> {
-    // The answers have 251 octets and the saved text 14: writes of three octets, 84 and 5.
-    for write in 0..89 {
-        let replayed = replayed_in_pieces(rt.alloc(), TEN, (0, 0), (None, Some(write)))?;
-        assert_eq!(rt;
-            replayed.answer,
-            Err(ReplayFault::CannotWrite),
-            "write {write}"
-        );
-        assert!(rt;
-            TEN_ANSWERS.as_bytes().starts_with(&replayed.written),
-            "write {write}"
-        );
-    }
-    let replayed = replayed_in_pieces(rt.alloc(), TEN, (0, 0), (None, Some(89)))?;
-    assert_eq!(rt; replayed.answer, Ok(0));
-    assert_eq!(rt; replayed.written.as_slice(), TEN_ANSWERS.as_bytes());
-    Ok(())
-}
-
-#[test]
-fn a_line_is_refused_whose_device_fails(rt: HostRuntime) -> Result<(), Fail> {
-    let mut reader = LOG.as_bytes();
-    let mut writer = Choppy::new(rt.alloc(), 0, Some(3))?;
-    let answer = answer_of(rt.alloc(), ("x", NOTHING), &mut reader, &mut writer)?;
-    assert_eq!(rt; answer, Err(ReplayFault::CannotWrite));
-    assert_eq!(rt; writer.written.as_slice(), b"refused c".as_slice());
-    assert_eq!(rt; reader, LOG.as_bytes());
-    Ok(())
-}
-
-#[test]
-fn the_longest_line_is_taken(rt: HostRuntime) -> Result<(), Fail> {
-    let rows = [
-        ("5 ", Ok(0), "1 5 refused 1 NotMessage\nsnmp-clocks 2\n"),
-        ("15 ", Err(ReplayFault::LogLine(1)), ""),
-    ];
-    for (moment, answer, written) in rows {
-        let mut log = moment.to_string(rt.alloc())?;
-        for _ in 0..13_107 {
-            log.push_str("0000000000")?;
-        }
-        log.push_str("\n")?;
-        let replayed = replayed(rt.alloc(), ("", NOTHING), &log)?;
-        assert_eq!(rt; replayed.answer, answer);
-        assert_eq!(rt; replayed.written.as_slice(), written.as_bytes());
-    }
-    Ok(())
-}
-
-/// Replays a log by the empty configuration, with what is to be printed.
-fn printed_as(alloc: Global, printing: Printing, log: &str) -> Result<Told, Fail>
-    requires { printing.first ≤ 1000000000000000 }
-{
-    let mut reader = log.as_bytes();
-    let mut written = Vec::new(alloc);
-    let clocks = NOTHING.as_bytes();
-    let config = b"".as_slice();
-    match replay_as(
-        alloc,
-        9,
-        printing,
-        config,
-        "c",
-        clocks,
-        &mut reader,
-        &mut written,
-    ) {
-        Err(ReplayFault::OutOfMemory) => Err(AllocError.into()),
-        answer => Ok(Told { answer, written }),
-    }
-}
-
-#[test]
-fn lines_go_on_from_any_number(rt: HostRuntime) -> Result<(), Fail> {
-    let printing = Printing {
-        first: 1_000_000_000_000_000,
-        lines: true,
-    };
-    let told = printed_as(rt.alloc(), printing, "0 30\n1 30\nx\n")?;
-    assert_eq!(rt;
-        told.answer,
-        Err(ReplayFault::LogLine(1_000_000_000_000_002))
-    );
-    let lines =
-        "1000000000000000 0 refused 1 NotMessage\n1000000000000001 1 refused 1 NotMessage\n";
-    assert_eq!(rt; told.written.as_slice(), lines.as_bytes());
-    Ok(())
-}
-
-#[test]
-fn the_saved_text_is_printed_alone(rt: HostRuntime) -> Result<(), Fail> {
-    let printing = Printing {
-        first: 7,
-        lines: false,
-    };
-    let told = printed_as(rt.alloc(), printing, LOG)?;
-    assert_eq!(rt; told.answer, Ok(0));
-    assert_eq!(rt; told.written.as_slice(), b"snmp-clocks 2\n".as_slice());
-    let told = printed_as(rt.alloc(), printing, "0 30\nx\n")?;
-    assert_eq!(rt; told.answer, Err(ReplayFault::LogLine(8)));
-    assert_eq!(rt; told.written.as_slice(), b"".as_slice());
     Ok(())
 }

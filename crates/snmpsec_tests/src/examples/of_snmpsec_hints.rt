@@ -7,7 +7,7 @@ use std::test::Fail;
 fn a_group_row_without_its_user_is_told(rt: HostRuntime) -> Result<(), Fail> {
     let text = b"[[group]]\nmodel = 3\nname = 'ann'\ngroup = 'g'\n";
     let config = AccessConfig::read(rt.alloc(), text)?;
-    let hints = hint_text(rt.alloc(), &config.rows)?;
-    assert!(rt; hints.starts_with(b"snmpsec: group 0"));
+    let hints = hint_text(rt.alloc(), text, &config.rows)?;
+    assert!(rt; hints.starts_with(b"snmpsec: group 0, line 1: "));
     Ok(())
 }

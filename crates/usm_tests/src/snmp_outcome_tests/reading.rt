@@ -19,7 +19,7 @@ fn read_of<'a>(users: &mut Users, datagram: &'a [u8]) -> Result<Taken<'a>, TakeF
     let Some(engine) = EngineId::of(checked.security.engine) else {
         return Err(TakeFault::UnknownEngine);
     };
-    match open_text(users, datagram, &checked) {
+    match scoped_octets(users, datagram, &checked) {
         Ok(Some(text)) => read_text(&checked, engine, text),
         Ok(None) => Err(TakeFault::DecryptionError),
         Err(_) => Err(TakeFault::OutOfMemory),

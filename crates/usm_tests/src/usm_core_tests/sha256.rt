@@ -4,10 +4,8 @@
 ghost use Rattle.std.specs.Prelude.{List, ℕ, IfOk};
 ghost use Rattle.snmp_ber.specs.Element.{IsElement};
 
-use super::messages::{
-    Answered, Foreign, Sample, assert_all_answered, assert_all_foreign, assert_not_decrypted,
-    assert_samples, assert_second_guarded,
-};
+use super::messages::{Foreign, Sample, assert_all_foreign, assert_samples};
+use super::refusals::{Answered, assert_all_answered, assert_not_decrypted, assert_second_guarded};
 use super::*;
 use engine_clock::Pair;
 use snmp_ber::Oid;

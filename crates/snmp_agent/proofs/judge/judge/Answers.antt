@@ -26,11 +26,11 @@ returns-in_default-opening-clause-rows c =
     let v = verified_of c.in-Ok.checked in
     let fresh = inside _ _ v c.in-Some.ensures.1 (c.is_in_window.ensures.0 c.if-not-is_in_window.false) in
     unopened (taker_at c.args.engine.now) c.args.users.now.users c.args.now c.args.datagram.now c.in-Some.ensures.0 v c.in-Ok.ensures.rows fresh
-    (rw c.in_default-opening.is at c.in-Ok-open_text.ensures.opened)
+    (rw c.in_default-opening.is at c.in-Ok-scoped_octets.ensures.opened)
 
 pub returns-clause-rows : goal.returns-clause-rows
 returns-clause-rows c =
     let v = verified_of c.in-Ok.checked in
     let fresh = inside _ _ v c.in-Some.ensures.1 (c.is_in_window.ensures.0 c.if-not-is_in_window.false) in
     reads (taker_at c.args.engine.now) c.args.users.now.users c.args.now c.args.datagram.now c.in-Some.ensures.0 v c.in-Ok.ensures.rows fresh
-    (text_of c.in-Some-opening.text) _ (rw (c.in-Some-opening.is, c.in-Ok.ensures.users) at c.in-Ok-open_text.ensures.opened) c.read_text.ensures
+    (text_of c.in-Some-opening.text) _ (rw (c.in-Some-opening.is, c.in-Ok.ensures.users) at c.in-Ok-scoped_octets.ensures.opened) c.read_text.ensures

@@ -1,15 +1,13 @@
-use Rattle.std.proofs.Common.{rules, w32, w64, SFits}
+use Rattle.std.proofs.Common.{rules, w32, SFits}
 use Rattle.std.proofs.lemmas.Int.{to_z-of_z}
 use Rattle.snmp_agent.proofs.refusal.send_refusal.Goals as goal
 
 pub returns-clause-rows : goal.returns-clause-rows
 returns-clause-rows c =
     let fits : SFits w32 c.args.pdu.now.id = search rules in
-    let fits_value : SFits w64 c.from.result = search rules in
-    rw (c.in-Some.ensures.value, c.name.ensures, c.as_slice-2.ensures.value, c.as_slice-3.ensures.value, c.as_slice.ensures.value, c.int_content-content.ensures.octets, to_z-of_z w32 c.args.pdu.now.id fits, to_z-of_z w64 c.from.result fits_value, c.from.ensures) at c.send.ensures.rows
+    rw (c.in-Some.ensures.value, c.name.ensures, c.as_slice.ensures.value, to_z-of_z w32 c.args.pdu.now.id fits) at c.send_counter.ensures.rows
 
 pub returns-clause-memory : goal.returns-clause-memory
 returns-clause-memory c is =
     let fits : SFits w32 c.args.pdu.now.id = search rules in
-    let fits_value : SFits w64 c.from.result = search rules in
-    rw (c.in-Some.ensures.value, c.name.ensures, c.as_slice-2.ensures.value, c.as_slice-3.ensures.value, c.as_slice.ensures.value, c.int_content-content.ensures.octets, to_z-of_z w32 c.args.pdu.now.id fits, to_z-of_z w64 c.from.result fits_value, c.from.ensures) at (c.send.ensures.memory is)
+    rw (c.in-Some.ensures.value, c.name.ensures, c.as_slice.ensures.value, to_z-of_z w32 c.args.pdu.now.id fits) at (c.send_counter.ensures.memory is)

@@ -1,4 +1,4 @@
-use Rattle.std.proofs.Common.{rules, ◌≡◌, ap, subst, ℕ, arith, Bool, w32, w64, SFits}
+use Rattle.std.proofs.Common.{rules, ◌≡◌, ap, subst, ℕ, arith, Bool, w32, SFits}
 use Rattle.std.specs.Prelude.{◌≢◌, Result, Err, None}
 use Rattle.std.specs.Global.{Vec}
 use Rattle.std.proofs.lemmas.Int.{to_z-of_z}
@@ -13,21 +13,19 @@ use Rattle.snmp_agent.proofs.report.send_report.Goals as goal
 pub returns-in-Ok-clause-text : goal.returns-in-Ok-clause-text
 returns-in-Ok-clause-text c =
     let fits : SFits w32 c.args.asking.now.request_id = search rules in
-    let fits_value : SFits w64 c.from.result = search rules in
-    let rows = rw (c.report_level.ensures, c.in-Some.ensures.value, c.counter_name.ensures, c.as_slice-2.ensures.value, c.as_slice-3.ensures.value, c.as_slice.ensures.value, c.int_content-content.ensures.octets, to_z-of_z w32 c.args.asking.now.request_id fits, to_z-of_z w64 c.from.result fits_value, c.from.ensures) at c.in-Ok.ensures.rows in
+    let rows = rw (c.report_level.ensures, c.in-Some.ensures.value, c.counter_name.ensures, c.as_slice.ensures.value, to_z-of_z w32 c.args.asking.now.request_id fits) at c.in-Ok.ensures.rows in
     seals_text c.args.users.now.users (reporting_of c.args.engine.now c.args.own c.args.n c.args.asking.now c.args.value) c.in-Ok.text.items rows
 
 pub unreachable-requires-then-not-is_memory : goal.unreachable-requires-then-not-is_memory
 unreachable-requires-then-not-is_memory c =
     let fits : SFits w32 c.args.asking.now.request_id = search rules in
-    let fits_value : SFits w64 c.from.result = search rules in
     let m = reporting_of c.args.engine.now c.args.own c.args.n c.args.asking.now c.args.value in
-    let rows = rw (c.report_level.ensures, c.in-Some.ensures.value, c.counter_name.ensures, c.as_slice-2.ensures.value, c.as_slice-3.ensures.value, c.as_slice.ensures.value, c.int_content-content.ensures.octets, to_z-of_z w32 c.args.asking.now.request_id fits, to_z-of_z w64 c.from.result fits_value, c.from.ensures) at c.in-Err.ensures.rows in
+    let rows = rw (c.report_level.ensures, c.in-Some.ensures.value, c.counter_name.ensures, c.as_slice.ensures.value, to_z-of_z w32 c.args.asking.now.request_id fits) at c.in-Err.ensures.rows in
     let sealable = report_sealable c.args.users.now.users c.args.engine.now c.args.own c.args.n c.args.asking.now c.args.value c.requires.known in
     let memory : answer_number c.in-Err.fault ≢ None = subst (λ (b : Bool). MemoryIs c.in-Err.fault b) c.if-not-is_memory.true c.is_memory.ensures in
     let large : c.in-Err.fault ≡ TooLarge = refusal_is c.args.users.now.users m c.in-Err.fault sealable rows memory in
     let is : ◌≡◌ {A = Result (Vec ℕ) TakeFault} (Err c.in-Err.fault) (Err TooLarge) = ap (λ (f : TakeFault). Err f) large in
-    let long = rw (c.in-Some.ensures.value, c.counter_name.ensures, c.as_slice-2.ensures.value, c.as_slice-3.ensures.value, c.as_slice.ensures.value, c.int_content-content.ensures.octets, to_z-of_z w32 c.args.asking.now.request_id fits, to_z-of_z w64 c.from.result fits_value, c.from.ensures) at (c.in-Err.ensures.short is) in
-    let engine = c.as_slice-2.ensures.bounds.at_most in
+    let long = rw (c.in-Some.ensures.value, c.counter_name.ensures, c.as_slice.ensures.value, to_z-of_z w32 c.args.asking.now.request_id fits) at (c.in-Err.ensures.short is) in
+    let engine = c.as_slice.ensures.bounds.at_most in
     let most = scoped_most c.args.engine.now c.args.asking.now.request_id c.args.n c.args.value engine in
     omega (arith, long, most, engine, c.requires.user)

@@ -1,4 +1,4 @@
-use Rattle.std.proofs.Common.{◌≡◌, ◌++◌, [], take, drop, length, arith, subst, refl, ap, sym, ◌∙◌, take_all, take_at, append-nil, length-take-le, inl, inr}
+use Rattle.std.proofs.Common.{◌≡◌, ◌++◌, [], take, drop, arith, subst, refl, sym, ◌∙◌, take_all, take_at, append-nil, length-take-le, inr}
 use Rattle.std.specs.Io.KnownBytes.{Consumes}
 use Rattle.snmpsec_capture.specs.Formats.{HasNoBlockHead, HasNoItem}
 use Rattle.snmpsec_capture.specs.Pcapng.{section_of}

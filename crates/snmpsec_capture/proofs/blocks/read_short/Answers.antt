@@ -1,6 +1,5 @@
-use Rattle.std.proofs.Common.{rules, ◌≡◌, ◌++◌, ◌+◌, ◌-◌, ◌<◌, ◌≤◌, [], take, drop, length, arith, subst, refl, ap, sym, ◌∙◌, take_all, append-nil, append_assoc, length-append, length-take-le, length-drop, inl, inr}
+use Rattle.std.proofs.Common.{◌-◌, take, drop, arith, subst, ◌∙◌, take_all, length-append, length-take-le, length-drop}
 use Rattle.std.specs.Io.KnownBytes.{Consumes}
-use Rattle.std.proofs.KnownBytes.{Consumes-trans}
 use Rattle.snmpsec_capture.proofs.Fronts.{read_short}
 use Rattle.snmpsec_capture.proofs.blocks.read_short.Goals as goal
 

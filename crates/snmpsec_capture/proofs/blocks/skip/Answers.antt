@@ -1,5 +1,4 @@
-use Rattle.std.proofs.Common.{rules, ◌≡◌, ◌++◌, ◌+◌, ◌-◌, ◌<◌, ◌≤◌, [], take, drop, length, arith, subst, refl, ap, sym, ◌∙◌, take_all, append-nil, append_assoc, length-append, length-take-le, length-drop, inl, inr}
-use Rattle.std.specs.Io.KnownBytes.{Consumes}
+use Rattle.std.proofs.Common.{◌++◌, take, drop, arith, ◌∙◌, length-append, length-take-le, length-drop}
 use Rattle.std.proofs.KnownBytes.{Consumes-trans}
 use Rattle.std.proofs.Math.Nat.{min-le_left, min-le_right}
 use Rattle.snmpsec_capture.proofs.Fronts.{most_taken}

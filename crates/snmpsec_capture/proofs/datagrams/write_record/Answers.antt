@@ -1,4 +1,4 @@
-use Rattle.std.proofs.Common.{◌∙◌, [], false, inl, inr, refl, subst}
+use Rattle.std.proofs.Common.{◌∙◌, [], false, inr, refl, subst}
 use Rattle.std.proofs.KnownBytes.{Appends-nil}
 use Rattle.snmpsec_streams.specs.Transfer.{WritesFront}
 use Rattle.snmpsec_capture.proofs.datagrams.write_record.Goals as goal

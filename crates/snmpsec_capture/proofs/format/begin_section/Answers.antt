@@ -1,4 +1,4 @@
-use Rattle.std.proofs.Common.{◌≡◌, ◌++◌, [], take, drop, length, arith, subst, refl, ap, sym, ◌∙◌, take_all, take_at, append-nil, length-take-le, inl, inr, Some}
+use Rattle.std.proofs.Common.{◌≡◌, take, arith, subst, refl, ap, sym, ◌∙◌, take_at, inr, Some}
 use Rattle.std.specs.Io.KnownBytes.{Consumes}
 use Rattle.snmpsec_capture.specs.Formats.{IsBlockHead, IsNextBlock, ReadsNone, StopsItem}
 use Rattle.snmpsec_capture.specs.declared.field.Order.TheVariants.{Big}

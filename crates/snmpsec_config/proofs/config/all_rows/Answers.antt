@@ -1,7 +1,7 @@
 use Rattle.std.proofs.lemmas.Result.{err_from_is_err_and}
 use Rattle.toml.specs.View.{table_view}
 use Rattle.snmpsec_config.specs.Rows.{IsUserRow, IsContextRow, IsGroupRow, IsAccessRow, IsFamilyRow}
-use Rattle.snmpsec_config.specs.declared.fault.ConfigTable.TheVariants.{User, Context, Group, Access, Family}
+use Rattle.snmpsec_config.specs.declared.table.ConfigTable.TheVariants.{User, Context, Group, Access, Family}
 use Rattle.snmpsec_config.proofs.Loading.{before_user, before_context, before_group, before_access, before_family, refuses}
 use Rattle.snmpsec_config.proofs.config.all_rows.Goals as goal
 

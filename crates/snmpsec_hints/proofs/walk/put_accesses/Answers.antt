@@ -1,5 +1,5 @@
 use Rattle.snmpsec_hints.specs.Hints.{all_told, access_hints}
-use Rattle.snmpsec_hints.specs.Known.{users_of, rows_of}
+use Rattle.snmpsec_hints.specs.Known.{rows_of}
 use Rattle.snmpsec_hints.proofs.Walks.{one_more, all_told_of}
 use Rattle.snmpsec_hints.proofs.walk.put_accesses.Goals as goal
 

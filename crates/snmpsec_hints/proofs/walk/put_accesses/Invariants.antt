@@ -1,7 +1,7 @@
 use Rattle.std.proofs.Common.{◌≡◌, ◌++◌, take}
 use Rattle.std.specs.List.{flat_map, enumerate_from}
 use Rattle.snmpsec_hints.specs.Hints.{all_told, access_hints}
-use Rattle.snmpsec_hints.specs.Known.{users_of, rows_of}
+use Rattle.snmpsec_hints.specs.Known.{rows_of}
 use Rattle.snmpsec_hints.proofs.walk.put_accesses.Given as goal
 
 abbrev pub invariant-loop-position : goal.invariant-loop-position

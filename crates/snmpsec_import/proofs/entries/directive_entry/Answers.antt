@@ -4,8 +4,8 @@ use Rattle.std.specs.declared.alloc.AllocError.{AllocError}
 use Rattle.snmpd_words.specs.declared.lines.Section.{Section}
 use Rattle.snmpd_words.specs.declared.directives.Directive.{Directive}
 use Rattle.snmpsec_import.specs.declared.entries.Entry.{Entry}
-use Rattle.snmpsec_import.specs.declared.entries.Entry.TheVariants.{Nothing, Begins, Group, Access, Family, Simple, Set, Told}
-use Rattle.snmpsec_import.specs.declared.entries.Note.TheVariants.{Unclosed, NoSection, Bare, Other, LeftOut, Fault}
+use Rattle.snmpsec_import.specs.declared.entries.Entry.TheVariants.{Nothing, Begins, Group, Access, Family, Simple, Set, User, Told}
+use Rattle.snmpsec_import.specs.declared.entries.Note.TheVariants.{Unclosed, NoSection, Bare, Other, LeftOut, Fault, NoUser}
 use Rattle.snmpd_words.specs.Lines.{HasDirective}
 use Rattle.snmpsec_import.specs.Entries.{HasText, IsUnread, TellsNoRow, IsMade, IsEntry}
 use Rattle.snmpsec_import.proofs.entries.directive_entry.Goals as goal
@@ -18,6 +18,7 @@ made_is force line directive text (Group row) has made = (text, subst (λ d. Has
 made_is force line directive text (Access row) has made = (text, subst (λ d. HasText force line d text) made.0 has, made.1)
 made_is force line directive text (Family row) has made = (text, subst (λ d. HasText force line d text) made.0 has, made.1)
 made_is force line directive text (Set setting) has made = (directive, text, has, made)
+made_is force line directive text (User created) has made = (text, subst (λ d. HasText force line d text) made.0 has, made.1)
 made_is force line directive text (Simple simple) has made = (directive, text, has, made)
 made_is force line directive text (Told Unclosed) has made = absurd made
 made_is force line directive text (Told NoSection) has made = absurd made
@@ -27,6 +28,7 @@ made_is force line directive text (Told (LeftOut named)) has made =
     (text, subst (λ d. HasText force line d text) (sym made.0) has, subst IsUnread (sym made.0) made.1)
 made_is force line directive text (Told (Fault named fault)) has made =
     (text, subst (λ d. HasText force line d text) (sym made.0) has, subst (λ d. TellsNoRow d text fault) (sym made.0) made.1, made.2)
+made_is force line directive text (Told (NoUser fault)) has made = (text, subst (λ d. HasText force line d text) made.0 has, made.1, made.2)
 
 result_is : (force : Section) (line : List ℕ) (directive : Directive) (text : List ℕ) (r : Result Entry AllocError) → HasText force line directive text
     → IfOk r (IsMade directive text) → IfOk r (IsEntry force line)

@@ -17,7 +17,7 @@ tells_behind text types behind (Ok setting) has tells = tt
 tells_behind text types behind (Err fault) has tells = inr (types, behind, has, tells)
 
 pub returns-clause-says : goal.returns-clause-says
-returns-clause-says c = says_behind c.args.text.now c.in-Ok.taken.0 c.in-Ok.taken.1.now c.group_views.result c.in-Ok.ensures.types c.group_views.ensures.says
+returns-clause-says c = says_behind c.args.text.now c.in_ok-types.types c.in_ok-types.rest.now c.group_views.result c.in_ok-types.ensures.types c.group_views.ensures.says
 
 pub returns-clause-fault : goal.returns-clause-fault
-returns-clause-fault c = tells_behind c.args.text.now c.in-Ok.taken.0 c.in-Ok.taken.1.now c.group_views.result c.in-Ok.ensures.types c.group_views.ensures.fault
+returns-clause-fault c = tells_behind c.args.text.now c.in_ok-types.types c.in_ok-types.rest.now c.group_views.result c.in_ok-types.ensures.types c.group_views.ensures.fault

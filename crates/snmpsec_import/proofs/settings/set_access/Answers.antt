@@ -1,18 +1,18 @@
-use Rattle.std.proofs.Common.{ℕ, List, refl, subst}
+use Rattle.std.proofs.Common.{refl, subst}
 use Rattle.snmpsec_import.specs.Settings.{HasTypeAndView}
 use Rattle.snmpsec_import.proofs.settings.set_access.Goals as goal
 
 pub returns-in_default-view_name-clause-fault : goal.returns-in_default-view_name-clause-fault
 returns-in_default-view_name-clause-fault c =
-    let has : HasTypeAndView c.args.text.now c.in-Ok.found.0 c.in-Some.kind.now c.in-Some.view.now =
-    record { behind = c.in-Ok.found.1.now; rest = c.in-Some.field-0-2.now; says = c.in-Ok.ensures.says; tokens = c.in-Some.ensures.found } in
-    (c.in-Ok.found.0, c.in-Some.kind.now, c.in-Some.view.now, has, c.in_default-view_name.ensures.none)
+    let has : HasTypeAndView c.args.text.now c.in_ok-conditions.conditions c.in-Some.kind.now c.in-Some.view.now =
+    record { behind = c.in_ok-conditions.rest.now; rest = c.in-Some.field-0-2.now; says = c.in_ok-conditions.ensures.says; tokens = c.in-Some.ensures.found } in
+    (c.in_ok-conditions.conditions, c.in-Some.kind.now, c.in-Some.view.now, has, c.in_default-view_name.ensures.none)
 
 pub returns-in_default-of-clause-fault : goal.returns-in_default-of-clause-fault
 returns-in_default-of-clause-fault c =
-    let has : HasTypeAndView c.args.text.now c.in-Ok.found.0 c.in-Some.kind.now c.in-Some.view.now =
-    record { behind = c.in-Ok.found.1.now; rest = c.in-Some.field-0-2.now; says = c.in-Ok.ensures.says; tokens = c.in-Some.ensures.found } in (
-      c.in-Ok.found.0,
+    let has : HasTypeAndView c.args.text.now c.in_ok-conditions.conditions c.in-Some.kind.now c.in-Some.view.now =
+    record { behind = c.in_ok-conditions.rest.now; rest = c.in-Some.field-0-2.now; says = c.in_ok-conditions.ensures.says; tokens = c.in-Some.ensures.found } in (
+      c.in_ok-conditions.conditions,
       c.in-Some.kind.now,
       c.in-Some.view.now,
       has,
@@ -21,9 +21,9 @@ returns-in_default-of-clause-fault c =
 
 pub returns-in_default-index_of-clause-fault : goal.returns-in_default-index_of-clause-fault
 returns-in_default-index_of-clause-fault c =
-    let has : HasTypeAndView c.args.text.now c.in-Ok.found.0 c.in-Some.kind.now c.in-Some.view.now =
-    record { behind = c.in-Ok.found.1.now; rest = c.in-Some.field-0-2.now; says = c.in-Ok.ensures.says; tokens = c.in-Some.ensures.found } in (
-      c.in-Ok.found.0,
+    let has : HasTypeAndView c.args.text.now c.in_ok-conditions.conditions c.in-Some.kind.now c.in-Some.view.now =
+    record { behind = c.in_ok-conditions.rest.now; rest = c.in-Some.field-0-2.now; says = c.in_ok-conditions.ensures.says; tokens = c.in-Some.ensures.found } in (
+      c.in_ok-conditions.conditions,
       c.in-Some.kind.now,
       c.in-Some.view.now,
       has,
@@ -36,13 +36,13 @@ returns-in_default-index_of-clause-fault c =
 
 pub returns-clause-says : goal.returns-clause-says
 returns-clause-says c =
-    let has : HasTypeAndView c.args.text.now c.in-Ok.found.0 c.in-Some.kind.now c.in-Some.view.now =
-    record { behind = c.in-Ok.found.1.now; rest = c.in-Some.field-0-2.now; says = c.in-Ok.ensures.says; tokens = c.in-Some.ensures.found } in
+    let has : HasTypeAndView c.args.text.now c.in_ok-conditions.conditions c.in-Some.kind.now c.in-Some.view.now =
+    record { behind = c.in_ok-conditions.rest.now; rest = c.in-Some.field-0-2.now; says = c.in_ok-conditions.ensures.says; tokens = c.in-Some.ensures.found } in
     record {
-      conditions = c.in-Ok.found.0;
+      conditions = c.in_ok-conditions.conditions;
       word = c.in-Some-of.word;
       view = c.in-Some.view.now;
-      has = subst (λ type. HasTypeAndView c.args.text.now c.in-Ok.found.0 type c.in-Some.view.now) c.in-Some-of.ensures.found has;
+      has = subst (λ type. HasTypeAndView c.args.text.now c.in_ok-conditions.conditions type c.in-Some.view.now) c.in-Some-of.ensures.found has;
       is_setting = record {
         group = c.in-Some-index_of.ensures.found.0;
         context = c.in-Some-index_of.ensures.found.1;

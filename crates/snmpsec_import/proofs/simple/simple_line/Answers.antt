@@ -1,4 +1,5 @@
 use Rattle.std.proofs.Common.{ℕ, List, Option}
+use Rattle.std.proofs.lemmas.Result.{err_from_is_err_and}
 use Rattle.std.specs.Option.{option_map}
 use Rattle.snmpsec_import.specs.Simple.{HasTypes, HasNamed, TellsNoView, TellsNoSimple}
 use Rattle.snmpd_words.specs.declared.types.Types.{Types}
@@ -25,7 +26,9 @@ tells_reach kind given text NotInNumbers types named behind_types behind_name ha
 tells_reach kind given text OutOfReach types named behind_types behind_name has_types has_named tells = absurd tells
 tells_reach kind given text OutOfMemory types named behind_types behind_name has_types has_named tells = tells
 
-pub returns-in-Err-clause-fault : goal.returns-in-Err-clause-fault
-returns-in-Err-clause-fault c =
-    tells_reach c.args.kind c.args.given c.args.text.now c.in-Err.fault c.in_ok-types.types c.in_ok-named.named c.in_ok-types.rest.now
-    (option_map (λ rest. rest.now) c.in_ok-named.rest) c.in_ok-types.ensures.types c.in_ok-named.ensures.named c.in-Err.ensures.fault
+pub returns-in_err-reach-clause-fault : goal.returns-in_err-reach-clause-fault
+returns-in_err-reach-clause-fault c =
+    let p = err_from_is_err_and c.from_residual-in_err-reach.result c.from_residual-in_err-reach.ensures.1 in
+    rw (p.1, p.2)
+    (tells_reach c.args.kind c.args.given c.args.text.now c.in_err-reach.field-0.0 c.in_ok-types.types c.in_ok-named.named c.in_ok-types.rest.now
+    (option_map (λ rest. rest.now) c.in_ok-named.rest) c.in_ok-types.ensures.types c.in_ok-named.ensures.named c.in_err-reach.ensures.fault)

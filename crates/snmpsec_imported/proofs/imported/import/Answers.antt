@@ -1,12 +1,8 @@
 use Rattle.std.proofs.Common.{map, subst}
 use Rattle.snmpsec_lists.specs.Lists.{tables_of, at_start, HoldsAfter}
 use Rattle.snmpsec_imported.specs.Notes.{told_of}
-use Rattle.snmpsec_imported.specs.Rows.{TellsAll}
-use Rattle.snmpsec_imported.proofs.OneEach.{one_each}
+use Rattle.snmpsec_imported.specs.Rows.{AreKept, TellsAll}
 use Rattle.snmpsec_imported.proofs.imported.import.Goals as goal
-
-pub all_notes-requires : goal.all_notes-requires
-all_notes-requires c = one_each c.in_ok-kept.kept c.in_ok-text.text.items c.in_ok-text.ensures
 
 pub returns : goal.returns
 returns c = record {
@@ -15,9 +11,9 @@ returns c = record {
   kept = c.in_ok-kept.kept;
   are_meant = c.in_ok-lines.ensures;
   holds = subst (λ items. HoldsAfter at_start items (tables_of c.in_ok-lists.lists)) c.deref.ensures.value c.in_ok-lists.ensures;
-  are_kept = c.in_ok-kept.ensures.kept;
+  are_kept = subst (λ items. AreKept items (tables_of c.in_ok-lists.lists) c.in_ok-kept.kept) c.deref-2.ensures.value c.in_ok-kept.ensures.kept;
   are_contexts = c.in_ok-kept.ensures.contexts;
   prints = c.in_ok-text.ensures;
   tells_all =
-      subst (λ items. TellsAll items (tables_of c.in_ok-lists.lists) c.in_ok-kept.kept (map told_of c.in_ok-notes.notes.items)) c.deref-2.ensures.value c.in_ok-notes.ensures;
+      subst (λ items. TellsAll items (tables_of c.in_ok-lists.lists) c.in_ok-kept.kept (map told_of c.in_ok-notes.notes.items)) c.deref-3.ensures.value c.in_ok-notes.ensures;
 }

@@ -7,6 +7,7 @@ use Rattle.snmpsec_imported.proofs.told.all_notes.Goals as goal
 pub returns : goal.returns
 returns c = record {
   second = map told_of c.in_ok-second_notes.field-0.items;
+  seconds = c.in_ok-second_notes.ensures;
   differences = c.in_ok-found.found.items;
   differ = c.in_ok-found.ensures;
   tells =

@@ -1,4 +1,4 @@
-use Rattle.std.proofs.Common.{◌≡◌, List, ◌++◌, ◌+◌, length}
+use Rattle.std.proofs.Common.{List, ◌++◌, ◌+◌, length}
 use Rattle.std.specs.Vec.{vec_len}
 use Rattle.snmpd_words.specs.declared.lines.Section.TheVariants as sections
 use Rattle.snmpsec_lists.specs.declared.items.Item.{Item}

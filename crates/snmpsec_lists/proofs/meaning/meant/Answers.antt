@@ -1,8 +1,4 @@
-use Rattle.std.proofs.Common.{List, ◌≡◌, subst, refl, ap, sym, ◌∙◌, map}
-use Rattle.std.proofs.lemmas.Iterator.Consumers.{YieldsList-end}
-use Rattle.std.proofs.lemmas.Iterator.Adapters.{YieldsList-from_vec}
-use Rattle.snmpsec_lists.specs.declared.items.Item.{Item}
-use Rattle.snmpsec_lists.specs.Meant.{meaning_of, at_first, MeansAfter}
+use Rattle.snmpsec_lists.specs.Meant.{meaning_of, at_first}
 use Rattle.snmpsec_lists.proofs.Runs.{means_more}
 use Rattle.snmpsec_lists.proofs.meaning.meant.Goals as goal
 

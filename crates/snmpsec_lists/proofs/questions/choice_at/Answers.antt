@@ -1,4 +1,4 @@
-use Rattle.std.proofs.Common.{◌≡◌, ℕ, ◌+◌, ◌<◌, Some, sym, subst, ◌∙◌, arith}
+use Rattle.std.proofs.Common.{◌+◌, sym, subst, ◌∙◌, arith}
 use Rattle.snmpsec_lists.specs.Questions.{BestOf, FitsQuestion}
 use Rattle.snmpsec_lists.proofs.Choosing.{next_is, not_next, best_taken, best_left, below_taken, below_left}
 use Rattle.snmpsec_lists.proofs.questions.choice_at.Goals.{then-fits+then-is_better, else-fits, else-fits-via-then-fits+else-is_better, else-fits-via-else-fits}

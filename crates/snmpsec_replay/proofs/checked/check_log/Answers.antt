@@ -1,8 +1,9 @@
-use Rattle.std.proofs.Common.{sym, ◌∙◌, arith, refl, ◌∷◌, []}
+use Rattle.std.proofs.Common.{sym, ◌∙◌, arith, ◌∷◌, []}
 use Rattle.std.proofs.lemmas.Bool.{cases_eq}
+use Rattle.std.proofs.lemmas.Result.{err_from_is_err_and}
 use Rattle.snmpsec_replay.specs.Replay.{from_line_1}
-use Rattle.snmpsec_replay.proofs.Replays.{bad_number, octet_at_end, octet_given}
-use Rattle.snmpsec_replay.proofs.Checks.{goes_on, ends}
+use Rattle.snmpsec_replay.proofs.Replays.{bad_number, octet_given}
+use Rattle.snmpsec_replay.proofs.Checks.{goes_on, ends, stops}
 use Rattle.snmpsec_replay.proofs.checked.check_log.Goals as goal
 
 pub loop-taken-preserved : goal.loop-taken-preserved
@@ -17,3 +18,8 @@ pub returns-then-is_some-clause-ok : goal.returns-then-is_some-clause-ok
 returns-then-is_some-clause-ok g c =
     let got = octet_given _ _ c.in-Ok-read_octet.next (sym c.is_some.ensures ∙ c.if-is_some.true) c.in-Ok-read_octet.ensures.ok in
     ends _ _ c.loop-taken.taken c.loop-taken.invariant.stands _ _ (got.0 ∷ []) got.1 (λ es n. bad_number from_line_1 _ _ got.0 (cases_eq got.0 10) (omega (arith)) es n)
+
+pub returns-in_err-check_line-clause-err : goal.returns-in_err-check_line-clause-err
+returns-in_err-check_line-clause-err g c =
+    let p = err_from_is_err_and c.from_residual.result c.from_residual.ensures.1 in
+    rw (p.1, p.2) (stops _ _ c.loop-taken.taken c.loop-taken.invariant.stands _ c.in_err-check_line.field-0.0 c.in_err-check_line.ensures.err)

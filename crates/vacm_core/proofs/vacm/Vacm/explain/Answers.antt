@@ -1,5 +1,5 @@
 use Rattle.vacm_core.specs.Tables.{tables_of}
-use Rattle.vacm_core.specs.Steps.{message_of}
+use Rattle.vacm_core.specs.Steps.{requester_of}
 use Rattle.vacm_core.proofs.Invariance.{back_rows, Decides-same}
 use Rattle.vacm_core.proofs.Parts.{one_row_each_of_same}
 use Rattle.vacm_core.proofs.vacm.Vacm.explain.Goals as goal
@@ -9,4 +9,4 @@ context_step-requires-clause-one_each c = one_row_each_of_same c.args.self.now (
 
 pub context_step-requires-clause-decides : goal.context_step-requires-clause-decides
 context_step-requires-clause-decides c =
-    Decides-same (back_rows c.requires) (message_of c.args.asking.now) c.args.asking.now.view c.args.asking.now.variable.now c.decided-decided.result c.decided-decided.ensures.rows
+    Decides-same (back_rows c.requires) (requester_of c.args.asking.now) c.args.asking.now.view c.args.asking.now.variable.now c.decided-decided.result c.decided-decided.ensures.rows

@@ -1,0 +1,5 @@
+pub mod Rows
+pub mod Blocks
+pub mod LineLists
+pub mod OneKind
+pub mod OneList
