@@ -2,8 +2,10 @@
 """Compares the log that `snmpsec datagrams` prints of captures with what tshark shows of them: captures.py PROGRAM
 
 Captures are made of packets of each kind that the slow model writes, of examples/replay/captured.pcap, of that one by editcap in other
-formats and cut, of all these in pcapng, and by tcpdump of the same exchange over the loopback link, where it may listen there. Of tcpdump's dumps
-of captures with whole records `snmpsec datagrams --ip` prints the same octets, and tells the same. What differs is printed, and the status is then 1. Of a datagram that is cut short and of a first piece tshark shows what there is, so the records that the program tells are left out.
+formats and cut, of all these in pcapng, and by tcpdump of the same exchange over the loopback link, where it may listen there. Of tcpdump's
+dumps of captures with whole records `snmpsec datagrams --ip` prints the same octets, and tells the same. What differs is printed, and the
+status is then 1. Of a datagram that is cut short and of a first piece tshark shows what there is, so the records that the program tells are
+left out.
 """
 import pathlib
 import re
@@ -121,7 +123,8 @@ def main():
                 subprocess.run(["editcap", "-F", "pcapng", path, tried[-1][0]], check=True, stderr=subprocess.DEVNULL)
         wrong = []
         if shutil.which("tcpdump"):
-            whole = [path for path, ports in tried if not path.endswith(("cut.pcap", ".pcapng"))]
+            # (in a cooked header tcpdump takes a tag of 802.1ad for no header, and begins its dump there)
+            whole = [path for path, ports in tried if not path.endswith(("cut.pcap", ".pcapng", "link276.pcap"))]
             wrong = [it for it in (dumps_differ(program, path) for path in whole) if it]
         port = heard(f"{room}/heard.pcap") if shutil.which("tcpdump") else None
         if port:
