@@ -3,7 +3,7 @@
 ghost use Rattle.std.specs.Prelude.{◌≡◌, ◌≤◌, List, [], length, IfOk, IfSome};
 ghost use Rattle.std.specs.Option.{option_copied};
 ghost use Rattle.usm_users.specs.User.{User};
-ghost use Rattle.usm_core.specs.Cache.{AreCached, IsCachedAt, key_id};
+ghost use Rattle.usm_cache.specs.Cache.{AreCached, IsCachedAt, key_id};
 
 use crate::cached_key::CachedKey;
 use engine_clock::EngineId;
@@ -49,7 +49,7 @@ impl KeyId {
 
 /// At most 64 localised keys, in the order of their last use, the last used first.
 #[derive(Drop)]
-pub(crate) struct KeyCache {
+pub struct KeyCache {
     keys: LruCache<KeyId, CachedKey>,
     /// How many made keys were passed over since one was entered.
     passed_over: u8,
@@ -58,7 +58,7 @@ pub(crate) struct KeyCache {
 impl Model for KeyCache {
     ghost use Rattle.std.specs.Prelude.{◌≡◌, List};
     ghost use Rattle.usm_keys.specs.AuthKey.{AuthKey};
-    ghost use Rattle.usm_core.specs.declared.cache.KeyId.{KeyId};
+    ghost use Rattle.usm_cache.specs.declared.cache.KeyId.{KeyId};
 
     ghost Value = { List (KeyId × AuthKey) };
 
@@ -80,7 +80,7 @@ fn has_turn(passed_over: &mut u8, count: usize) -> bool {
 
 impl KeyCache {
     /// No key.
-    pub(crate) fn new(alloc: Global) -> Result<KeyCache, AllocError>
+    pub fn new(alloc: Global) -> Result<KeyCache, AllocError>
         ensures { IfOk result (λ cache. cache ≡ []) }
     {
         let Some(most) = NonZeroUsize::new(MOST_KEYS) else {
@@ -93,7 +93,7 @@ impl KeyCache {
     }
 
     /// The number of keys.
-    pub(crate) fn len(&self) -> usize
+    pub fn len(&self) -> usize
         ensures count { result ≡ length self.now }
         ensures most { result ≤ 64 }
     {
@@ -101,7 +101,7 @@ impl KeyCache {
     }
 
     /// The key that is kept under this. The order stays as it is, and no memory is taken.
-    pub(crate) fn find(&self, name: &[u8], engine: &[u8], purpose: Purpose) -> Option<&CachedKey>
+    pub fn find(&self, name: &[u8], engine: &[u8], purpose: Purpose) -> Option<&CachedKey>
         ensures { (users : List User) → AreCached users self.now → IfSome (option_copied result) (IsCachedAt users (key_id name.now engine.now purpose)) }
     {
         self.keys.peek(&KeyId::of(name, engine, purpose)?)
@@ -109,7 +109,7 @@ impl KeyCache {
 
     /// Notes that a key was used: one that was made is entered, where it has its turn, and a kept one moved to the front, but for
     /// one of the last two. Where there is no memory, and for engine IDs of other lengths than 5 to 32 octets, all stays as it was.
-    pub(crate) fn note_use(
+    pub fn note_use(
         &mut self,
         name: &[u8],
         engine: &[u8],

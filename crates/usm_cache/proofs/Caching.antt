@@ -12,11 +12,11 @@ use Rattle.usm_keys.specs.AuthKey.{AuthKey}
 use Rattle.usm_keys.proofs.Sizes.{length-hash_of, key_octets_least}
 use Rattle.usm_users.specs.Users.{user_named}
 use Rattle.usm_users.specs.User.{User}
-use Rattle.usm_core.specs.declared.cache.KeyId.{KeyId}
-use Rattle.usm_core.specs.declared.cache.Purpose.{Purpose}
-use Rattle.usm_core.specs.declared.cache.Purpose.TheVariants.{Authentication, Privacy}
-use Rattle.usm_core.specs.contracts.cache.KeyIdPartialEq.TheImpl.{eq-value}
-use Rattle.usm_core.specs.Cache.{AreCached, IsCachedAt, key_for, localised_to, key_id}
+use Rattle.usm_cache.specs.declared.cache.KeyId.{KeyId}
+use Rattle.usm_cache.specs.declared.cache.Purpose.{Purpose}
+use Rattle.usm_cache.specs.declared.cache.Purpose.TheVariants.{Authentication, Privacy}
+use Rattle.usm_cache.specs.contracts.cache.KeyIdPartialEq.TheImpl.{eq-value}
+use Rattle.usm_cache.specs.Cache.{AreCached, IsCachedAt, key_for, localised_to, key_id}
 
 and_both : (a b : Bool) → (a && b) ≡ true → (a ≡ true) × (b ≡ true)
 and_both true b h = (refl, h)

@@ -1,9 +1,9 @@
 use Rattle.std.proofs.Common.{sym, subst, IfSome}
 use Rattle.std.specs.Option.{option_copied}
-use Rattle.usm_core.specs.declared.cache.KeyId.{KeyId}
-use Rattle.usm_core.specs.Cache.{AreCached, IsCachedAt}
-use Rattle.usm_core.proofs.Caching.{found_cached}
-use Rattle.usm_core.proofs.cache.KeyCache.find.Goals as goal
+use Rattle.usm_cache.specs.declared.cache.KeyId.{KeyId}
+use Rattle.usm_cache.specs.Cache.{AreCached, IsCachedAt}
+use Rattle.usm_cache.proofs.Caching.{found_cached}
+use Rattle.usm_cache.proofs.cache.KeyCache.find.Goals as goal
 
 pub returns : goal.returns
 returns c users are =

@@ -5,16 +5,10 @@ use Rattle.usm_keys.specs.Keys.{kul}
 use Rattle.usm_keys.specs.Protocols.{hash_of}
 use Rattle.usm_aes.specs.Aes.{schedule}
 use Rattle.usm_users.specs.User.{User}
-use Rattle.usm_core.specs.declared.cache.KeyId.{KeyId}
-use Rattle.usm_core.specs.declared.cache.Purpose.{Purpose}
-use Rattle.usm_core.specs.declared.cache.Purpose.TheVariants.{Authentication, Privacy}
+use Rattle.usm_cache.specs.declared.cache.KeyId.{KeyId}
+use Rattle.usm_cache.specs.declared.cache.Purpose.{Purpose}
+use Rattle.usm_cache.specs.declared.cache.Purpose.TheVariants.{Authentication, Privacy}
 use Rattle.usm_users.specs.Users.{user_named}
-
--- What a contract sees of `Users`.
-pub record Known : Type 0 where
-  pub users : List User
-  -- the localised keys that are kept, the last used first
-  pub cache : List (KeyId × AuthKey)
 
 abbrev pub key_id : List ℕ → List ℕ → Purpose → KeyId
 key_id name engine purpose = record { user = name; engine = engine; purpose = purpose }

@@ -1,9 +1,9 @@
 use Rattle.std.proofs.Common.{sym, subst, IfSome, Option}
 use Rattle.usm_keys.specs.AuthKey.{AuthKey}
-use Rattle.usm_core.specs.declared.cache.KeyId.{KeyId}
-use Rattle.usm_core.specs.Cache.{AreCached, IsCachedAt, key_id}
-use Rattle.usm_core.proofs.Caching.{put_cached, promoted_cached}
-use Rattle.usm_core.proofs.cache.KeyCache.note_use.Goals as goal
+use Rattle.usm_cache.specs.declared.cache.KeyId.{KeyId}
+use Rattle.usm_cache.specs.Cache.{AreCached, IsCachedAt, key_id}
+use Rattle.usm_cache.proofs.Caching.{put_cached, promoted_cached}
+use Rattle.usm_cache.proofs.cache.KeyCache.note_use.Goals as goal
 
 pub returns-then-has_turn : goal.returns-then-has_turn
 returns-then-has_turn c users are is =

@@ -39,7 +39,7 @@ fn schedule_of(local: &Key) -> Schedule
 
 impl CachedKey {
     /// A localised key for authentication.
-    pub(crate) fn for_authentication(local: Key) -> CachedKey
+    pub fn for_authentication(local: Key) -> CachedKey
         ensures { result ≡ local }
     {
         CachedKey {
@@ -49,7 +49,7 @@ impl CachedKey {
     }
 
     /// A localised key for privacy.
-    pub(crate) fn for_privacy(local: Key) -> CachedKey
+    pub fn for_privacy(local: Key) -> CachedKey
         requires { 16 ≤ length local.octets }
         ensures { result ≡ local }
     {
@@ -61,14 +61,14 @@ impl CachedKey {
     }
 
     /// The key.
-    pub(crate) fn key(&self) -> &KeptKey
+    pub fn key(&self) -> &KeptKey
         ensures { result.now ≡ self.now }
     {
         &self.key
     }
 
     /// Its first 16 octets, expanded.
-    pub(crate) fn schedule(&self) -> Schedule
+    pub fn schedule(&self) -> Schedule
         requires { 16 ≤ length self.now.octets }
         ensures { result ≡ schedule (take 16 self.now.octets) }
     {
