@@ -3,6 +3,7 @@ mod of_engine_clock;
 mod of_snmp_ber;
 mod of_snmp_message;
 mod of_snmp_msg;
+mod of_snmpd_users;
 mod of_snmpd_words;
 mod of_snmpsec_capture;
 mod of_snmpsec_choices;

@@ -11,7 +11,11 @@
 //! let mut cache = KeyCache::new(rt.alloc())?;
 //! let made = Some(CachedKey::for_authentication(key));
 //! cache.note_use(b"ann", ENGINE, Purpose::Authentication, made);
-//! assert!(rt; cache.find(b"ann", ENGINE, Purpose::Authentication).is_some());
+//! assert!(rt;
+//!     cache
+//!         .find(b"ann", ENGINE, Purpose::Authentication)
+//!         .is_some()
+//! );
 //! assert!(rt; cache.find(b"ann", ENGINE, Purpose::Privacy).is_none());
 //! ```
 #![tactic(auto)]

@@ -1,5 +1,5 @@
 //! Lines `createUser`. The expected users and faults are those of net-snmp 5.9.3.
-use snmpsec_import::{Cipher, Created, Hash, Secret, UserFault, cipher_of, hash_of, user_line};
+use snmpd_users::{Cipher, Created, Hash, Secret, UserFault, cipher_of, hash_of, user_line};
 use std::test::Fail;
 
 /// A word, and the hash that it names: the first of which it is a front of a name.

@@ -1,10 +1,10 @@
 -- The protocols that lines `createUser` name (net-snmp 5.9.3).
 use Rattle.std.specs.Prelude.{⊤, ◌≤◌, ◌⊎◌, ℕ, List, [], ◌∷◌, length, take, codes, Option, Some, None}
 use Rattle.snmpd_words.specs.Values.{AreAlike}
-use Rattle.snmpsec_import.specs.declared.protocols.Hash.{Hash}
-use Rattle.snmpsec_import.specs.declared.protocols.Hash.TheVariants.{NoAuth, Sha1, Md5, Sha224, Sha256, Sha384, Sha512}
-use Rattle.snmpsec_import.specs.declared.protocols.Cipher.{Cipher}
-use Rattle.snmpsec_import.specs.declared.protocols.Cipher.TheVariants.{NoPriv, Des, Aes128, Aes192, Aes256}
+use Rattle.snmpd_users.specs.declared.protocols.Hash.{Hash}
+use Rattle.snmpd_users.specs.declared.protocols.Hash.TheVariants.{NoAuth, Sha1, Md5, Sha224, Sha256, Sha384, Sha512}
+use Rattle.snmpd_users.specs.declared.protocols.Cipher.{Cipher}
+use Rattle.snmpd_users.specs.declared.protocols.Cipher.TheVariants.{NoPriv, Des, Aes128, Aes192, Aes256}
 
 -- ---- names, of which a front is enough
 

@@ -1,7 +1,7 @@
 use Rattle.std.proofs.Common.{subst}
 use Rattle.std.specs.Option.{option_map}
-use Rattle.snmpsec_import.specs.Users.{HasUserName}
-use Rattle.snmpsec_import.proofs.users.user_line.Goals as goal
+use Rattle.snmpd_users.specs.Users.{HasUserName}
+use Rattle.snmpd_users.proofs.users.user_line.Goals as goal
 
 pub returns-then-user-clause-fault : goal.returns-then-user-clause-fault
 returns-then-user-clause-fault c = (

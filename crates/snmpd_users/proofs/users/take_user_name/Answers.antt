@@ -3,9 +3,9 @@ use Rattle.std.specs.Prelude.{codes}
 use Rattle.std.specs.Option.{option_map}
 use Rattle.std.specs.declared.alloc.AllocError.{AllocError}
 use Rattle.snmpd_words.specs.Words.{TakesWord}
-use Rattle.snmpsec_import.specs.declared.users.UserName.{UserName}
-use Rattle.snmpsec_import.specs.Users.{HasName, HasUserName}
-use Rattle.snmpsec_import.proofs.users.take_user_name.Goals as goal
+use Rattle.snmpd_users.specs.declared.users.UserName.{UserName}
+use Rattle.snmpd_users.specs.Users.{HasName, HasUserName}
+use Rattle.snmpd_users.proofs.users.take_user_name.Goals as goal
 
 without_option : (text first : List ℕ) (behind : Option (List ℕ)) (r : Result UserName AllocError) → TakesWord 1023 text first behind → first ≢ codes "-M"
     → IfOk r (λ u. HasName first behind u.is_of_engine u.name.items (option_map (λ rest. rest.now) u.rest))

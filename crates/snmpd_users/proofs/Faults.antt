@@ -2,11 +2,11 @@
 use Rattle.std.proofs.Common.{ℕ, List, Option, None, Some}
 use Rattle.std.specs.Prelude.{⊤}
 use Rattle.snmpd_words.specs.Words.{TakesWord}
-use Rattle.snmpsec_import.specs.declared.protocols.Cipher.{Cipher}
-use Rattle.snmpsec_import.specs.declared.users.UserFault.{UserFault}
-use Rattle.snmpsec_import.specs.declared.users.UserFault.TheVariants.{MissingPassphrase, UnknownHash, NoAuthKey, UnknownCipher, NoPrivKey, ShortKey, OneEngine, OutOfMemory}
-use Rattle.snmpsec_import.specs.declared.users.Authentication.{Authentication}
-use Rattle.snmpsec_import.specs.Users.{TakesCipher, TellsNoOwnSecret, TellsNoPrivacy, HasAuthentication, TellsNoProtectionIn}
+use Rattle.snmpd_users.specs.declared.protocols.Cipher.{Cipher}
+use Rattle.snmpd_users.specs.declared.users.UserFault.{UserFault}
+use Rattle.snmpd_users.specs.declared.users.UserFault.TheVariants.{MissingPassphrase, UnknownHash, NoAuthKey, UnknownCipher, NoPrivKey, ShortKey, OneEngine, OutOfMemory}
+use Rattle.snmpd_users.specs.declared.users.Authentication.{Authentication}
+use Rattle.snmpd_users.specs.Users.{TakesCipher, TellsNoOwnSecret, TellsNoPrivacy, HasAuthentication, TellsNoProtectionIn}
 
 abbrev IsOfSecret : UserFault → Type 0
 IsOfSecret ShortKey = ⊤

@@ -1,9 +1,9 @@
 use Rattle.std.proofs.Common.{Some, subst}
 use Rattle.std.proofs.lemmas.Result.{err_from_is_err_and}
 use Rattle.std.specs.Option.{option_map}
-use Rattle.snmpsec_import.specs.Users.{TakesCipher}
-use Rattle.snmpsec_import.proofs.Faults.{tells_privacy}
-use Rattle.snmpsec_import.proofs.users.take_privacy.Goals as goal
+use Rattle.snmpd_users.specs.Users.{TakesCipher}
+use Rattle.snmpd_users.proofs.Faults.{tells_privacy}
+use Rattle.snmpd_users.proofs.users.take_privacy.Goals as goal
 
 pub returns-in_err-secret-clause-fault : goal.returns-in_err-secret-clause-fault
 returns-in_err-secret-clause-fault c =

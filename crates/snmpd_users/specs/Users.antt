@@ -1,21 +1,19 @@
 -- What a line `createUser [-M] [-e ENGINEID] NAME [HASH PASSPHRASE [CIPHER [PASSPHRASE]]]` says (net-snmp 5.9.3).
 use Rattle.std.specs.Prelude.{◌≡◌, ◌≢◌, ◌⊎◌, ⊤, ℕ, ◌<◌, ◌≤◌, Bool, true, false, List, ◌++◌, length, codes, Option, Some, None}
-use Rattle.snmpd_words.specs.Words.{TakesWord}
-use Rattle.snmpsec_import.specs.Groups.{EndsBehindWord}
-use Rattle.snmpsec_import.specs.Simple.{TakesOr}
-use Rattle.snmpsec_import.specs.Protocols.{IsHash, IsCipher, hash_octets, cipher_octets}
-use Rattle.snmpsec_import.specs.declared.protocols.Hash.{Hash}
-use Rattle.snmpsec_import.specs.declared.protocols.Hash.TheVariants.{NoAuth, Md5}
-use Rattle.snmpsec_import.specs.declared.protocols.Cipher.{Cipher}
-use Rattle.snmpsec_import.specs.declared.protocols.Cipher.TheVariants.{Des}
-use Rattle.snmpsec_import.specs.declared.users.UserFault.{UserFault}
-use Rattle.snmpsec_import.specs.declared.users.UserFault.TheVariants.{MissingPassphrase, UnknownHash, NoAuthKey, UnknownCipher, NoPrivKey, ShortKey, OneEngine, OutOfMemory}
-use Rattle.snmpsec_import.specs.declared.users.Secret.{Secret}
-use Rattle.snmpsec_import.specs.declared.users.Secret.TheVariants.{Passphrase, Key}
-use Rattle.snmpsec_import.specs.declared.users.Authentication.{Authentication}
-use Rattle.snmpsec_import.specs.declared.users.Privacy.{Privacy}
-use Rattle.snmpsec_import.specs.declared.users.Protection.{Protection}
-use Rattle.snmpsec_import.specs.declared.users.Created.{Created}
+use Rattle.snmpd_words.specs.Words.{TakesWord, TakesOr, EndsBehindWord}
+use Rattle.snmpd_users.specs.Protocols.{IsHash, IsCipher, hash_octets, cipher_octets}
+use Rattle.snmpd_users.specs.declared.protocols.Hash.{Hash}
+use Rattle.snmpd_users.specs.declared.protocols.Hash.TheVariants.{NoAuth, Md5}
+use Rattle.snmpd_users.specs.declared.protocols.Cipher.{Cipher}
+use Rattle.snmpd_users.specs.declared.protocols.Cipher.TheVariants.{Des}
+use Rattle.snmpd_users.specs.declared.users.UserFault.{UserFault}
+use Rattle.snmpd_users.specs.declared.users.UserFault.TheVariants.{MissingPassphrase, UnknownHash, NoAuthKey, UnknownCipher, NoPrivKey, ShortKey, OneEngine, OutOfMemory}
+use Rattle.snmpd_users.specs.declared.users.Secret.{Secret}
+use Rattle.snmpd_users.specs.declared.users.Secret.TheVariants.{Passphrase, Key}
+use Rattle.snmpd_users.specs.declared.users.Authentication.{Authentication}
+use Rattle.snmpd_users.specs.declared.users.Privacy.{Privacy}
+use Rattle.snmpd_users.specs.declared.users.Protection.{Protection}
+use Rattle.snmpd_users.specs.declared.users.Created.{Created}
 
 -- ---- the name
 

@@ -1,9 +1,9 @@
 use Rattle.std.proofs.Common.{sym, subst}
 use Rattle.std.proofs.lemmas.Result.{err_from_is_err_and}
 use Rattle.std.specs.Option.{option_map}
-use Rattle.snmpsec_import.specs.Users.{HasAuthentication, TellsNoProtection}
-use Rattle.snmpsec_import.proofs.Faults.{tells_behind}
-use Rattle.snmpsec_import.proofs.users.take_protection.Goals as goal
+use Rattle.snmpd_users.specs.Users.{HasAuthentication, TellsNoProtection}
+use Rattle.snmpd_users.proofs.Faults.{tells_behind}
+use Rattle.snmpd_users.proofs.users.take_protection.Goals as goal
 
 pub returns-in_err-privacy-in-Some-Passphrase-clause-fault : goal.returns-in_err-privacy-in-Some-Passphrase-clause-fault
 returns-in_err-privacy-in-Some-Passphrase-clause-fault c =

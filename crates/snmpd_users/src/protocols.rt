@@ -1,8 +1,8 @@
 //! The protocols that lines `createUser` name.
 
 ghost use Rattle.std.specs.Prelude.{◌≡◌, ◌↔◌, IsTrue};
-ghost use Rattle.snmpsec_import.specs.Protocols as spec;
-ghost use Rattle.snmpsec_import.specs.Protocols.{IsFront, NamesHash, NamesCipher, IsHash, IsCipher};
+ghost use Rattle.snmpd_users.specs.Protocols as spec;
+ghost use Rattle.snmpd_users.specs.Protocols.{IsFront, NamesHash, NamesCipher, IsHash, IsCipher};
 
 /// A protocol for authentication.
 #[derive(Clone, Copy, Debug, PartialEq, Eq)]
