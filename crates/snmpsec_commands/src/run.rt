@@ -5,15 +5,14 @@ ghost use Rattle.snmpsec_notes.specs.Names.{AddsNames};
 
 use crate::captured::{log_file, open_file, show_file};
 use crate::checks::{check_clocks_files, check_log_file};
-use crate::files::{open_log, read_file};
 use crate::import::import_snmpd;
 use crate::replay::{first_line_of, replay_as};
 use crate::why::{says_why, why};
 use clap::error::ErrorKind;
-use snmpsec_datagrams::FileFault;
+use snmpsec_files::{open_log, read_file};
 use snmpsec_notes::with_names;
 use snmpsec_replay::{Printing, ReplayFault};
-use snmpsec_streams::write_whole;
+use snmpsec_streams::{FileFault, write_whole};
 use snmpsec_texts::{
     Output, check_config_hinted, check_config_text, check_text, explain_text, merge_text,
     moment_of, open_text, sees_text, show_text, who_text,

@@ -2,6 +2,7 @@
 mod of_snmpsec_access;
 mod of_snmpsec_commands;
 mod of_snmpsec_datagrams;
+mod of_snmpsec_files;
 mod of_snmpsec_hints;
 mod of_snmpsec_imported;
 mod of_snmpsec_notes;

@@ -1,6 +1,6 @@
 use Rattle.std.proofs.Common.{◌≤◌, ◌-◌, List, ℕ, Option, vec_len}
 use Rattle.std.specs.Io.KnownBytes.{Consumes}
-use Rattle.snmpsec_datagrams.proofs.whole.read_whole_behind.Given as goal
+use Rattle.snmpsec_streams.proofs.whole.read_whole_behind.Given as goal
 
 abbrev pub invariant-chunks : goal.invariant-chunks
 invariant-chunks g l = record {

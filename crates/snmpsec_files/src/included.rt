@@ -1,8 +1,8 @@
 //! Files of snmpd.conf, and those that they name.
 
 use crate::files::read_file;
-use snmpsec_datagrams::{FILE_LIMIT, FileFault, read_whole};
 use snmpsec_lists::{Followed, Include, Item, Made, Place, read_items};
+use snmpsec_streams::{FILE_LIMIT, FileFault, read_whole};
 use std::alloc::{AllocError, Global};
 use std::rt::Files;
 
@@ -14,9 +14,9 @@ const FILES_MAX: usize = 4096;
 
 /// Files, by number, and what their lines make.
 #[derive(Drop)]
-pub(crate) struct Sources {
-    pub(crate) names: Vec<String>,
-    pub(crate) items: Vec<Item>,
+pub struct Sources {
+    pub names: Vec<String>,
+    pub items: Vec<Item>,
 }
 
 /// A line that asks for other files.
@@ -28,7 +28,7 @@ struct IncludeLine {
 
 impl Sources {
     /// No files.
-    pub(crate) fn new(alloc: Global) -> Sources {
+    pub fn new(alloc: Global) -> Sources {
         Sources {
             names: Vec::new(alloc),
             items: Vec::new(alloc),
@@ -36,11 +36,7 @@ impl Sources {
     }
 
     /// Reads a file behind those that are there.
-    pub(crate) fn read<R: Files + AllocGlobal>(
-        &mut self,
-        rt: &R,
-        name: &str,
-    ) -> Result<(), FileFault> {
+    pub fn read<R: Files + AllocGlobal>(&mut self, rt: &R, name: &str) -> Result<(), FileFault> {
         let text = read_file(rt, name)?;
         if self.put(rt.alloc(), name, &text).is_err() {
             return Err(FileFault::OutOfMemory);
@@ -248,7 +244,7 @@ fn leave(alloc: Global, sources: Sources, followed: Followed) -> Result<Sources,
 }
 
 /// Reads the files that lines name, in the places of those lines, and those that their lines name, up to the depth at which snmpd stops.
-pub(crate) fn follow<R: Files + AllocGlobal>(
+pub fn follow<R: Files + AllocGlobal>(
     rt: &R,
     sources: Sources,
     no_include: bool,

@@ -3,7 +3,7 @@
 ghost use Rattle.std.specs.Prelude.{◌≤◌, List, ℕ, Option, length, IfOk};
 ghost use Rattle.std.specs.Io.KnownBytes.{Consumes, IsAtEnd};
 
-use snmpsec_streams::read_some;
+use crate::transfer::read_some;
 use std::alloc::Global;
 use std::io;
 use std::io::Read;
@@ -39,7 +39,7 @@ pub fn read_whole<R: Read>(
 }
 
 /// Reads all that is left behind a front, where both aren't over the limit, and gives the front and what it read.
-pub(crate) fn read_whole_behind<R: Read>(
+pub fn read_whole_behind<R: Read>(
     alloc: Global,
     front: &[u8],
     reader: &mut R,
