@@ -1,7 +1,7 @@
 //! Questions, and the rows of the configuration that decided on them.
 
 use super::access::words_of;
-use snmpsec_commands::{Output, explain_text};
+use snmpsec_texts::{Output, explain_text};
 use std::alloc::{AllocError, Global};
 use std::test::Fail;
 

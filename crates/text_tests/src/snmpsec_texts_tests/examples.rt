@@ -1,8 +1,6 @@
 //! The examples of the repository: the texts are those of its `examples/`, which `tools/check-examples` compares.
 
-use snmpsec_commands::{
-    check_config_text, check_text, explain_text, merge_text, sees_text, who_text,
-};
+use snmpsec_texts::{check_config_text, check_text, explain_text, merge_text, sees_text, who_text};
 use std::alloc::Global;
 use std::test::Fail;
 

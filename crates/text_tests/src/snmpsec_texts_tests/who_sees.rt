@@ -1,7 +1,7 @@
 //! Who sees a variable.
 
 use super::explained::CHOICES;
-use snmpsec_commands::{Output, who_text};
+use snmpsec_texts::{Output, who_text};
 use std::alloc::{AllocError, Global};
 use std::test::Fail;
 

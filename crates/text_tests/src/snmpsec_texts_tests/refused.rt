@@ -1,7 +1,7 @@
 //! Configurations that are refused.
 
 use super::access::{ASKED, expect_printed};
-use snmpsec_commands::check_text;
+use snmpsec_texts::check_text;
 use std::test::Fail;
 
 /// Configurations that are refused, and the lines for them.

@@ -1,7 +1,7 @@
 //! Messages that are opened by the users of a configuration.
 
-use snmpsec_commands::{open_text, opened};
 use snmpsec_config::{Config, ConfigFault};
+use snmpsec_texts::{open_text, opened};
 use std::alloc::Global;
 use std::process::Abort;
 use std::test::Fail;

@@ -1,6 +1,6 @@
 //! What a name sees.
 
-use snmpsec_commands::{Output, sees_text};
+use snmpsec_texts::{Output, sees_text};
 use std::alloc::{AllocError, Global};
 use std::test::Fail;
 

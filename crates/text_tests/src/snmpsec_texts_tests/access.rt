@@ -1,8 +1,8 @@
 //! Questions to configurations.
 
 use snmp_ber::Level;
-use snmpsec_commands::{Output, check_text};
 use snmpsec_config::Config;
+use snmpsec_texts::{Output, check_text};
 use std::alloc::{AllocError, Global};
 use std::process::Abort;
 use std::test::Fail;

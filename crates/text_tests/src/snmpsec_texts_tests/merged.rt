@@ -1,6 +1,6 @@
 //! Saved clocks that are joined.
 
-use snmpsec_commands::merge_text;
+use snmpsec_texts::merge_text;
 use std::alloc::{AllocError, Global};
 use std::test::Fail;
 

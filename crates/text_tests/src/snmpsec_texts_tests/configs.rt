@@ -2,7 +2,7 @@
 
 use super::access::ALL_KEYS;
 use super::refused::refused_configurations;
-use snmpsec_commands::{Output, check_config_hinted, check_config_text};
+use snmpsec_texts::{Output, check_config_hinted, check_config_text};
 use std::alloc::{AllocError, Global};
 use std::test::Fail;
 
