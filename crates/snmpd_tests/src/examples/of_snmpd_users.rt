@@ -8,6 +8,6 @@ fn a_createuser_line_names_its_user(rt: HostRuntime) -> Result<(), Fail> {
     assert_eq!(rt; created.name.as_slice(), b"ann".as_slice());
     assert_eq!(rt; hash_of(b"SHA"), Some(Hash::Sha1));
     let short = user_line(rt.alloc(), b"ann SHA maple").err();
-    assert_eq!(rt; short, Some(UserFault::ShortKey));
+    assert_eq!(rt; short, Some(UserFault::NoAuthKey));
     Ok(())
 }
