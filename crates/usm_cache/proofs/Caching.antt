@@ -1,5 +1,5 @@
 -- Keys that are kept, and those of them that are found.
-use Rattle.std.proofs.Common.{◌≡◌, ◌≤◌, [], ◌++◌, length, IsSomeAnd, arith, ℕ, Bool, true, false, List, Option, Some, None, IfSome, inl, inr, nat_eq, refl, sym, ap, subst, ◌∙◌}
+use Rattle.std.proofs.Common.{◌≡◌, ◌≤◌, ◌⊎◌, [], ◌++◌, length, IsSomeAnd, arith, ℕ, Bool, true, false, List, Option, Some, None, IfSome, inl, inr, nat_eq, refl, sym, ap, subst, ◌∙◌}
 use Rattle.std.specs.Prelude.{◌&&◌, Contains}
 use Rattle.std.specs.Cmp.Lexicographic.{pointwise}
 use Rattle.std.proofs.lemmas.Slice.Eq.{bytes_eq-Decides}
@@ -98,3 +98,33 @@ is_cached users name engine purpose user key local named has is =
 pub localised-least : (engine : List ℕ) (key local : AuthKey) → local ≡ localised_to engine key → 16 ≤ length local.octets
 localised-least engine key local is =
     omega (arith, ap (λ (k : AuthKey). length k.octets) is, length-hash_of key.auth (key.octets ++ engine ++ key.octets), key_octets_least key.auth)
+
+-- a key that is found stands under its identity
+pub found_kept : (entries : List (KeyId × AuthKey)) (p : KeyId) (o : Option AuthKey) → o ≡ lookup (eq-value.it p) entries → IfSome o (λ local. Contains entries (p, local))
+found_kept entries p None e = tt
+found_kept entries p (Some local) e =
+    let found = Contains-lookup (eq-value.it p) entries local (sym e) in
+    subst (λ (q : KeyId). Contains entries (q, local)) (sym (one_id p found.0 found.2)) found.1
+
+one_entry : (p : KeyId) (local : AuthKey) (e : KeyId × AuthKey) → e.0 ≡ p → e.1 ≡ local → e ≡ (p, local)
+one_entry p local e is has = ap (λ (q : KeyId). (q, e.1)) is ∙ ap (λ (k : AuthKey). (p, k)) has
+
+put_here : (old : LruCache KeyId AuthKey) (p : KeyId) (local : AuthKey) (e : KeyId × AuthKey) → Contains (put_entries eq-value.it old p local) e
+    → Contains old.entries e ⊎ (e ≡ (p, local))
+put_here old p local e within = elim (Contains-put_entries eq-value.it old p local e within) [
+  | inl before ↦ inl before
+  | inr put ↦ elim put.1 [
+    | inl new ↦ inr (one_entry p local e new put.0)
+    | inr was ↦ inr (one_entry p local e (sym (one_id p e.0 was.2)) put.0)
+  ]
+]
+
+-- behind an entry there is it, and what was there before
+pub put_kept : {E : Type 0} (old new : LruCache KeyId AuthKey) (p : KeyId) (local : AuthKey) (r : Result (Option AuthKey) E)
+    → OnOk r (new ≡ lru_cache (put_entries eq-value.it old p local) old.cap) → OnErr r (new ≡ old) → (e : KeyId × AuthKey) → Contains new.entries e → Contains old.entries e ⊎ (e ≡ (p, local))
+put_kept old new p local (Ok v) ok err e within = put_here old p local e (subst (λ (c : LruCache KeyId AuthKey). Contains c.entries e) ok within)
+put_kept old new p local (Err f) ok err e within = inl (subst (λ (c : LruCache KeyId AuthKey). Contains c.entries e) err within)
+
+-- moving one to the front brings none
+pub promoted_kept : (old new : LruCache KeyId AuthKey) (p : KeyId) → new ≡ lru_cache (promoted (eq-value.it p) old.entries) old.cap → (e : KeyId × AuthKey) → Contains new.entries e → Contains old.entries e
+promoted_kept old new p is e within = Contains-promoted (eq-value.it p) old.entries e (subst (λ (c : LruCache KeyId AuthKey). Contains c.entries e) is within)

@@ -1,8 +1,10 @@
 //! Localised keys that are kept for the next message (RFC 3414, section 2.6).
 
-ghost use Rattle.std.specs.Prelude.{◌≡◌, ◌≤◌, List, [], length, IfOk, IfSome};
+ghost use Rattle.std.specs.Prelude.{◌≡◌, ◌≤◌, ◌⊎◌, List, [], length, Contains, IfOk, IfSome, IsSomeAnd};
 ghost use Rattle.std.specs.Option.{option_copied};
+ghost use Rattle.usm_keys.specs.AuthKey.{AuthKey};
 ghost use Rattle.usm_users.specs.User.{User};
+ghost use Rattle.usm_cache.specs.declared.cache.KeyId.{KeyId as IdOf};
 ghost use Rattle.usm_cache.specs.Cache.{AreCached, IsCachedAt, key_id};
 
 use crate::cached_key::CachedKey;
@@ -102,7 +104,8 @@ impl KeyCache {
 
     /// The key that is kept under this. The order stays as it is, and no memory is taken.
     pub fn find(&self, name: &[u8], engine: &[u8], purpose: Purpose) -> Option<&CachedKey>
-        ensures { (users : List User) → AreCached users self.now → IfSome (option_copied result) (IsCachedAt users (key_id name.now engine.now purpose)) }
+        ensures found { IfSome (option_copied result) (λ local. Contains self.now (key_id name.now engine.now purpose, local)) }
+        ensures cached { (users : List User) → AreCached users self.now → IfSome (option_copied result) (IsCachedAt users (key_id name.now engine.now purpose)) }
     {
         self.keys.peek(&KeyId::of(name, engine, purpose)?)
     }
@@ -116,7 +119,8 @@ impl KeyCache {
         purpose: Purpose,
         made: Option<CachedKey>,
     )
-        ensures { (users : List User) → AreCached users self.old → IfSome made (IsCachedAt users (key_id name.now engine.now purpose)) → AreCached users self.new }
+        ensures kept { (e : IdOf × AuthKey) → Contains self.new e → Contains self.old e ⊎ IsSomeAnd made (λ local. e ≡ (key_id name.now engine.now purpose, local)) }
+        ensures cached { (users : List User) → AreCached users self.old → IfSome made (IsCachedAt users (key_id name.now engine.now purpose)) → AreCached users self.new }
     {
         let Some(id) = KeyId::of(name, engine, purpose) else {
             return;
