@@ -111,3 +111,12 @@ IsGap octet = IsCut AtGap octet
 
 abbrev pub TakesToken : List ℕ → List ℕ → List ℕ → Type 0
 TakesToken text token rest = TakesPart AtGap text token rest
+
+-- the next word, of which so many octets are held, or where there is none this one
+abbrev pub TakesOr : ℕ → List ℕ → Option (List ℕ) → List ℕ → Option (List ℕ) → Type 0
+TakesOr most other None word later = (word ≡ other) × (later ≡ None)
+TakesOr most other (Some text) word later = TakesWord most text word later
+
+-- the line ends behind its first word, of which so many octets are held
+abbrev pub EndsBehindWord : ℕ → List ℕ → Type 0
+EndsBehindWord most text = (word : List ℕ) × TakesWord most text word None

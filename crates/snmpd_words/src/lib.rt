@@ -26,4 +26,4 @@ pub use masks::{MASK_ROOM, mask_octets};
 pub use subtrees::{Subtree, subtree_of};
 pub use types::{Types, ViewWord, types_of};
 pub use values::{level_of, matching_of, model_of};
-pub use words::{Word, go_on, is_blank, take_token, take_word};
+pub use words::{Word, go_on, is_blank, is_word, take_or, take_token, take_word};

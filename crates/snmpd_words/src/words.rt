@@ -4,7 +4,7 @@ ghost use Rattle.std.specs.Prelude.{◌≡◌, ◌↔◌, ℕ, ◌<◌, ◌≤�
 ghost use Rattle.std.specs.Option.{option_map};
 ghost use Rattle.std.specs.List.{AllByRecursion};
 ghost use Rattle.snmpd_words.specs.Words as spec;
-ghost use Rattle.snmpd_words.specs.Words.{IsBlank, IsBehindBlanks, GoesOn, IsEnd, Writes, IsQuote, IsWord, TakesWord, IsCut, IsNoCut, TakesPart, IsGap, TakesToken};
+ghost use Rattle.snmpd_words.specs.Words.{IsBlank, IsBehindBlanks, GoesOn, IsEnd, Writes, IsQuote, IsWord, TakesWord, IsCut, IsNoCut, TakesPart, IsGap, TakesToken, TakesOr};
 
 use std::alloc::{AllocError, Global};
 
@@ -199,4 +199,29 @@ pub fn take_token(text: &[u8]) -> Option<(&[u8], &[u8])>
     ensures none { IfNone result (AllByRecursion IsGap text.now) }
 {
     take_part(text, Separator::AtGap)
+}
+
+/// The word is this one.
+pub fn is_word(word: &[u8], other: &[u8]) -> bool
+    ensures { IsTrue result ↔ (word.now ≡ other.now) }
+{
+    word == other
+}
+
+/// The next word, of which so many octets are held, or else this one.
+pub fn take_or<'a>(
+    alloc: Global,
+    most: usize,
+    text: Option<&'a [u8]>,
+    other: &[u8],
+) -> Result<Word<'a>, AllocError>
+    ensures { IfOk result (λ word. TakesOr most other.now (option_map (λ rest. rest.now) text.entry) word.octets.items (option_map (λ rest. rest.now) word.rest)) }
+{
+    match text {
+        Some(text) => take_word(alloc, text, most),
+        None => Ok(Word {
+            octets: Vec::from_slice(alloc, other)?,
+            rest: None,
+        }),
+    }
 }

@@ -1,11 +1,11 @@
 //! Commands over the datagrams of a file: `datagrams`, `show --from` and `open --from`.
 
-use crate::files::{open_log, read_file};
 use crate::run::unread;
-use snmpsec_datagrams::FileFault;
 use snmpsec_datagrams::datagrams::{Unread, ports_of};
 use snmpsec_datagrams::forms::{Asked, Form, form_of, may_be_dumps};
 use snmpsec_datagrams::shown::{Printout, write_printout};
+use snmpsec_files::{open_log, read_file};
+use snmpsec_streams::FileFault;
 use snmpsec_texts::{Output, moment_of};
 use snmpsec_words::{DatagramsWords, FromWords};
 use std::alloc::{AllocError, Global};

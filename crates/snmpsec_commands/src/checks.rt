@@ -1,12 +1,12 @@
 //! `snmpsec check-clocks` and `snmpsec check-log`: whether a file is what it is to be, and what is wrong where it isn't.
 
-use crate::files::{open_log, read_file};
 use crate::run::unread;
 use crate::why_files::look_at_saved;
 use crate::why_words::Complaint;
 use engine_clock::{ClockFault, Clocks};
-use snmpsec_datagrams::FileFault;
+use snmpsec_files::{open_log, read_file};
 use snmpsec_replay::{CheckedLog, ReplayFault, check_log};
+use snmpsec_streams::FileFault;
 use snmpsec_texts::{Output, refused_clocks};
 use std::alloc::{AllocError, Global};
 use std::rt::Files;

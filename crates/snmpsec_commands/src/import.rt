@@ -1,7 +1,7 @@
 //! `snmpsec import-snmpd`: the configuration that files of snmpd.conf come to.
 
-use crate::included::{Sources, follow};
 use crate::run::unread;
+use snmpsec_files::{Sources, follow};
 use snmpsec_imported::{Imported, TextFault, import, is_serious, notes_text};
 use snmpsec_texts::Output;
 use snmpsec_words::ImportWords;

@@ -15,9 +15,7 @@
 
 mod captured;
 mod checks;
-mod files;
 mod import;
-mod included;
 pub mod replay;
 pub mod run;
 mod why;

@@ -5,22 +5,21 @@ ghost use Rattle.snmpsec_notes.specs.Names.{AddsNames};
 
 use crate::captured::{log_file, open_file, show_file};
 use crate::checks::{check_clocks_files, check_log_file};
-use crate::files::{open_log, read_file};
 use crate::import::import_snmpd;
 use crate::replay::{first_line_of, replay_as};
 use crate::why::{says_why, why};
 use clap::error::ErrorKind;
-use snmpsec_datagrams::FileFault;
+use snmpsec_files::{open_log, read_file};
 use snmpsec_notes::with_names;
 use snmpsec_replay::{Printing, ReplayFault};
-use snmpsec_streams::write_whole;
+use snmpsec_streams::{FileFault, write_whole};
 use snmpsec_texts::{
     Output, check_config_hinted, check_config_text, check_text, explain_text, merge_text,
     moment_of, open_text, sees_text, show_text, who_text,
 };
 use snmpsec_words::{
-    Asked, Command, ReplayWords, SeesWords, WhoWords, manual_text, not_text, parse_asked,
-    version_text,
+    AccessWords, Asked, Command, ReplayWords, SeesWords, WhoWords, manual_text, not_text,
+    parse_asked, version_text,
 };
 use std::alloc::{AllocError, Global};
 use std::io::{Input, IsTerminal, Write};
@@ -166,8 +165,8 @@ pub fn command<R: Files + Input + AllocGlobal, O: Write, E: Write>(
         Command::ShowFrom(from) => show_file(rt, from, out, err),
         Command::Open { config, digits } => open_message(rt, config, digits),
         Command::OpenFrom { config, from } => open_file(rt, config, from, out, err),
-        Command::CheckAccess(words) => check_access(rt, words.config, &words.question),
-        Command::ExplainAccess(words) => explain_access(rt, words.config, &words.question),
+        Command::CheckAccess(words) => answer_on_access(rt, words, false),
+        Command::ExplainAccess(words) => answer_on_access(rt, words, true),
         Command::WhoSees(words) => who_sees(rt, words),
         Command::Sees(words) => seen(rt, words),
         Command::CheckConfig { config } => check_config(rt, config),
@@ -196,29 +195,17 @@ fn version(alloc: Global) -> Result<Output, AllocError> {
     Ok(Output::out(alloc, text.into_bytes(), 0))
 }
 
-/// Reads the configuration whole, before it looks at another word, and then asks it.
-fn check_access<R: Files + AllocGlobal>(
+/// Reads the configuration whole, before it looks at another word, and then asks it, for what decides too where that is wanted.
+fn answer_on_access<R: Files + AllocGlobal>(
     rt: &R,
-    name: &str,
-    question: &[&str; 6],
+    words: &AccessWords<'_>,
+    is_explained: bool,
 ) -> Result<Output, AllocError> {
     let alloc = rt.alloc();
-    match read_file(rt, name) {
-        Ok(config) => check_text(alloc, &config, question),
-        Err(fault) => unread(alloc, fault, name),
-    }
-}
-
-/// The same, for what decided.
-fn explain_access<R: Files + AllocGlobal>(
-    rt: &R,
-    name: &str,
-    question: &[&str; 6],
-) -> Result<Output, AllocError> {
-    let alloc = rt.alloc();
-    match read_file(rt, name) {
-        Ok(config) => explain_text(alloc, &config, question),
-        Err(fault) => unread(alloc, fault, name),
+    match read_file(rt, words.config) {
+        Ok(config) if is_explained => explain_text(alloc, &config, &words.question),
+        Ok(config) => check_text(alloc, &config, &words.question),
+        Err(fault) => unread(alloc, fault, words.config),
     }
 }
 

@@ -23,6 +23,3 @@ pub mod forms;
 mod packets;
 pub mod shown;
 mod texts;
-mod whole;
-
-pub use whole::{FILE_LIMIT, FileFault, read_whole};

@@ -9,10 +9,9 @@ ghost use Rattle.snmpsec_datagrams.specs.Texts.{IsDumpText, IsHexOf, IsPlainText
 
 use crate::datagrams::Unread;
 use crate::dumped::dumps_told;
-use crate::whole::{FILE_LIMIT, FileFault, read_whole_behind};
 use snmpsec_capture::Printer;
 use snmpsec_hex::{HexFault, dump_line, read_hex};
-use snmpsec_streams::write_whole;
+use snmpsec_streams::{FILE_LIMIT, FileFault, read_whole_behind, write_whole};
 use std::alloc::{AllocError, Global};
 use std::io::{Read, Write};
 

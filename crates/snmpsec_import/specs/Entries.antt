@@ -8,8 +8,8 @@ use Rattle.snmpsec_import.specs.Groups.{SaysGroup, TellsNoGroup}
 use Rattle.snmpsec_import.specs.Accesses.{SaysAccess, TellsNoAccess}
 use Rattle.snmpsec_import.specs.Settings.{SaysSetAccess, TellsNoSetAccess}
 use Rattle.snmpsec_import.specs.GroupViews.{SaysAuthAccess, TellsNoAuthAccess}
-use Rattle.snmpsec_import.specs.Users.{SaysUser, TellsNoUser}
-use Rattle.snmpsec_import.specs.declared.users.UserFault.TheVariants as user_faults
+use Rattle.snmpd_users.specs.Users.{SaysUser, TellsNoUser}
+use Rattle.snmpd_users.specs.declared.users.UserFault.TheVariants as user_faults
 use Rattle.snmpsec_import.specs.declared.settings.Setting.{Setting}
 use Rattle.snmpsec_import.specs.Simple.{simple_of, SaysSimpleLine, TellsNoSimpleLine}
 use Rattle.snmpsec_import.specs.Views.{SaysFamily, TellsNoFamily}

@@ -1,15 +1,11 @@
 -- What a line `group GROUP MODEL NAME` makes: a row of vacmSecurityToGroupTable (net-snmp 5.9.3).
 use Rattle.std.specs.Prelude.{◌≡◌, ◌≢◌, ◌⊎◌, ⊤, ℕ, List, [], Option, Some, None}
 use Rattle.vacm_core.specs.declared.rows.GroupRow.{GroupRow}
-use Rattle.snmpd_words.specs.Words.{TakesWord}
+use Rattle.snmpd_words.specs.Words.{TakesWord, EndsBehindWord}
 use Rattle.snmpd_words.specs.Values.{IsModel}
 use Rattle.snmpd_words.specs.declared.fault.Refusal.TheVariants as refusals
 use Rattle.snmpd_words.specs.declared.fault.LineFault.{LineFault}
 use Rattle.snmpd_words.specs.declared.fault.LineFault.TheVariants.{Refused, Undefined, OutOfMemory}
-
--- the line ends behind its first word, of which so many octets are held
-abbrev pub EndsBehindWord : ℕ → List ℕ → Type 0
-EndsBehindWord most text = (word : List ℕ) × TakesWord most text word None
 
 -- the three words of the line, of which 32 octets each are held
 pub record AreGroupWords (text group model name : List ℕ) : Type 0 where

@@ -5,7 +5,5 @@ pub mod Choice
 pub mod Simple
 pub mod Settings
 pub mod GroupViews
-pub mod Protocols
-pub mod Users
 pub mod Entries
 pub mod Files

@@ -3,9 +3,8 @@
 use Rattle.std.specs.Prelude.{◌≡◌, ◌≢◌, ◌⊎◌, ⊤, ℕ, true, false, List, [], ◌∷◌, ◌++◌, codes, Option, Some, None}
 use Rattle.vacm_core.specs.declared.rows.Matching.{Matching}
 use Rattle.vacm_core.specs.declared.rows.Matching.TheVariants.{Exact, Prefix}
-use Rattle.snmpd_words.specs.Words.{GoesOn, TakesWord}
+use Rattle.snmpd_words.specs.Words.{GoesOn, TakesWord, TakesOr, EndsBehindWord}
 use Rattle.snmpd_words.specs.Values.{AreAlike}
-use Rattle.snmpsec_import.specs.Groups.{EndsBehindWord}
 use Rattle.snmpd_words.specs.Types.{IsTypes}
 use Rattle.snmpd_words.specs.declared.types.Types.{Types}
 use Rattle.snmpd_words.specs.declared.directives.Directive.{Directive}
@@ -72,11 +71,6 @@ HasModel option other text model name later =
 abbrev pub EndsInOption : List ℕ → List ℕ → Type 0
 EndsInOption option text =
     TakesWord 255 text option None ⊎ ((behind : List ℕ) × TakesWord 255 text option (Some behind) × EndsBehindWord 2559 behind)
-
--- the next word, of which so many octets are held, or where there is none this one
-abbrev pub TakesOr : ℕ → List ℕ → Option (List ℕ) → List ℕ → Option (List ℕ) → Type 0
-TakesOr most other None word later = (word ≡ other) × (later ≡ None)
-TakesOr most other (Some text) word later = TakesWord most text word later
 
 -- the word for the model of a version: `1` and `2c` name versions too
 abbrev pub IsVersionWord : List ℕ → List ℕ → Type 0

@@ -2,12 +2,14 @@
 
 ghost use Rattle.std.specs.Prelude.{◌≡◌, ◌≢◌, ◌++◌, ◌⊎◌, Some, None, IsTrue, ◌↔◌, codes, IfOk, IfErr, IfSome, IfNone, List, ℕ};
 ghost use Rattle.std.specs.Option.{option_map};
-ghost use Rattle.snmpd_words.specs.Words.{GoesOn, TakesWord};
+ghost use Rattle.snmpd_words.specs.Words.{GoesOn, TakesWord, TakesOr};
 ghost use Rattle.snmpsec_import.specs.Simple as spec;
-ghost use Rattle.snmpsec_import.specs.Simple.{HasTypes, HasModelBehind, TellsNoModelBehind, HasModel, IsContextOf, TellsNoViewName, TakesOr, IsVersionWord, AreVersions, HasUser, HasCommunity, HasNamed, HasView, HasContext, HasReach, SaysSimple, TellsNoTypes, TellsNoModel, TellsNoView, TellsNoSimple, option_of};
+ghost use Rattle.snmpsec_import.specs.Simple.{HasTypes, HasModelBehind, TellsNoModelBehind, HasModel, IsContextOf, TellsNoViewName, IsVersionWord, AreVersions, HasUser, HasCommunity, HasNamed, HasView, HasContext, HasReach, SaysSimple, TellsNoTypes, TellsNoModel, TellsNoView, TellsNoSimple, option_of};
 ghost use Rattle.snmpsec_import.specs.declared.simple.SimpleKind.TheVariants as kinds;
 
-use snmpd_words::{Directive, LineFault, Refusal, Types, Word, go_on, take_word, types_of};
+use snmpd_words::{
+    Directive, LineFault, Refusal, Types, Word, go_on, is_word, take_or, take_word, types_of,
+};
 use std::alloc::{AllocError, Global};
 use vacm_core::Matching;
 
@@ -157,13 +159,6 @@ fn take_model_behind(alloc: Global, text: &[u8]) -> Result<Modeled<'_>, LineFaul
     })
 }
 
-/// The word is this one.
-pub(crate) fn is_word(word: &[u8], other: &[u8]) -> bool
-    ensures { IsTrue result ↔ (word.now ≡ other.now) }
-{
-    word == other
-}
-
 /// The name, and the model that stands behind an option before it, or else this one.
 fn take_model<'a>(
     alloc: Global,
@@ -186,24 +181,6 @@ fn take_model<'a>(
         return Err(LineFault::Refused(Refusal::MissingWord));
     };
     take_model_behind(alloc, rest)
-}
-
-/// The next word, of which so many octets are held, or else this one.
-pub(crate) fn take_or<'a>(
-    alloc: Global,
-    most: usize,
-    text: Option<&'a [u8]>,
-    other: &[u8],
-) -> Result<Word<'a>, AllocError>
-    ensures { IfOk result (λ word. TakesOr most other.now (option_map (λ rest. rest.now) text.entry) word.octets.items (option_map (λ rest. rest.now) word.rest)) }
-{
-    match text {
-        Some(text) => take_word(alloc, text, most),
-        None => Ok(Word {
-            octets: Vec::from_slice(alloc, other)?,
-            rest: None,
-        }),
-    }
 }
 
 /// The word for the model of a version.

@@ -5,7 +5,7 @@ use Rattle.std.proofs.lemmas.List.{drop_all, take_all, length-drop, map-append}
 use Rattle.std.specs.declared.alloc.AllocError.{AllocError}
 use Rattle.usm_users.specs.declared.load.UserRow.{UserRow}
 use Rattle.snmpsec_imported.specs.declared.users.HeldUser.{HeldUser}
-use Rattle.snmpsec_import.specs.declared.users.Created.{Created}
+use Rattle.snmpd_users.specs.declared.users.Created.{Created}
 use Rattle.snmpsec_lists.specs.declared.rows.Place.{Place}
 use Rattle.snmpsec_lists.specs.declared.items.Item.{Item}
 use Rattle.snmpsec_lists.proofs.Runs.{in_front}

@@ -10,9 +10,9 @@ use Rattle.snmpd_words.specs.declared.types.Types.{Types}
 use Rattle.snmpsec_import.specs.declared.simple.Who.{Who}
 use Rattle.snmpsec_import.specs.declared.simple.Who.TheVariants as whom
 use Rattle.snmpsec_import.specs.declared.simple.Simple.{Simple}
-use Rattle.snmpsec_import.specs.declared.users.UserFault.{UserFault}
-use Rattle.snmpsec_import.specs.declared.users.UserFault.TheVariants as user_faults
-use Rattle.snmpsec_import.specs.declared.users.Created.{Created}
+use Rattle.snmpd_users.specs.declared.users.UserFault.{UserFault}
+use Rattle.snmpd_users.specs.declared.users.UserFault.TheVariants as user_faults
+use Rattle.snmpd_users.specs.declared.users.Created.{Created}
 use Rattle.usm_users.specs.Rows.{is_bad_name}
 use Rattle.snmpsec_lists.specs.declared.rows.Place.{Place}
 use Rattle.snmpsec_lists.specs.declared.items.Include.{Include}

@@ -21,7 +21,7 @@ use Rattle.snmpsec_imported.specs.declared.rows.Kept.{Kept}
 use Rattle.snmpsec_imported.specs.declared.second.Second.{Second}
 use Rattle.snmpsec_imported.specs.Notes.{tells_kind}
 use Rattle.snmpsec_imported.specs.Users.{created_in, MakeUser}
-use Rattle.snmpsec_import.specs.declared.users.Created.{Created}
+use Rattle.snmpd_users.specs.declared.users.Created.{Created}
 use Rattle.snmpsec_lists.specs.declared.items.Item.{Item}
 
 -- the row that counts of this one's index stands at this place, is from another line, and this is so of it

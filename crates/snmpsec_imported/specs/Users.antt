@@ -6,15 +6,15 @@ use Rattle.usm_keys.specs.declared.auth.Auth.{Auth}
 use Rattle.usm_keys.specs.declared.auth.Auth.TheVariants as auths
 use Rattle.usm_users.specs.declared.load.UserRow.{UserRow}
 use Rattle.usm_users.specs.Rows.{is_bad_name}
-use Rattle.snmpsec_import.specs.declared.protocols.Hash.{Hash}
-use Rattle.snmpsec_import.specs.declared.protocols.Hash.TheVariants as hashes
-use Rattle.snmpsec_import.specs.declared.protocols.Cipher.{Cipher}
-use Rattle.snmpsec_import.specs.declared.protocols.Cipher.TheVariants as ciphers
-use Rattle.snmpsec_import.specs.declared.users.Secret.{Secret}
-use Rattle.snmpsec_import.specs.declared.users.Secret.TheVariants.{Passphrase, Key}
-use Rattle.snmpsec_import.specs.declared.users.Authentication.{Authentication}
-use Rattle.snmpsec_import.specs.declared.users.Privacy.{Privacy}
-use Rattle.snmpsec_import.specs.declared.users.Created.{Created}
+use Rattle.snmpd_users.specs.declared.protocols.Hash.{Hash}
+use Rattle.snmpd_users.specs.declared.protocols.Hash.TheVariants as hashes
+use Rattle.snmpd_users.specs.declared.protocols.Cipher.{Cipher}
+use Rattle.snmpd_users.specs.declared.protocols.Cipher.TheVariants as ciphers
+use Rattle.snmpd_users.specs.declared.users.Secret.{Secret}
+use Rattle.snmpd_users.specs.declared.users.Secret.TheVariants.{Passphrase, Key}
+use Rattle.snmpd_users.specs.declared.users.Authentication.{Authentication}
+use Rattle.snmpd_users.specs.declared.users.Privacy.{Privacy}
+use Rattle.snmpd_users.specs.declared.users.Created.{Created}
 use Rattle.snmpsec_import.specs.declared.entries.Entry.{Entry}
 use Rattle.snmpsec_import.specs.declared.entries.Entry.TheVariants as entries
 use Rattle.snmpsec_lists.specs.declared.rows.Place.{Place}

@@ -6,9 +6,10 @@ ghost use Rattle.snmpsec_imported.specs.Notes as spec;
 ghost use Rattle.snmpsec_imported.specs.Notes.{told_of, tells};
 
 use crate::users::{is_bad_name, is_defaulted, lacks_auth, lacks_privacy};
+use snmpd_users::{Created, UserFault};
 use snmpd_words::{Directive, LineFault, Types};
 use snmpsec_choices::Difference;
-use snmpsec_import::{Created, Entry, Note, Simple, UserFault, Who};
+use snmpsec_import::{Entry, Note, Simple, Who};
 use snmpsec_lists::{Followed, Include, Item, Made, Place};
 use std::alloc::{AllocError, Global};
 use std::fmt;

@@ -7,7 +7,8 @@ ghost use Rattle.snmpsec_lists.specs.declared.rows.Place.{Place as APlace};
 ghost use Rattle.snmpsec_imported.specs.Users as spec;
 ghost use Rattle.snmpsec_imported.specs.Users.{Said, said_of, said_auth, said_privacy, said_with_place, passphrase_in, auth_for, passphrase_for, privacy_for, HasAuth, IsSaid, MakesUser, MakeUser, IsUser, TakesUser, AreUsers, lacks_auth, lacks_cipher, lacks_privacy, is_defaulted};
 
-use snmpsec_import::{Authentication, Cipher, Created, Entry, Hash, Privacy, Secret};
+use snmpd_users::{Authentication, Cipher, Created, Hash, Privacy, Secret};
+use snmpsec_import::Entry;
 use snmpsec_lists::{Item, Made, Place};
 use std::alloc::{AllocError, Global};
 use usm_keys::Auth;

@@ -9,11 +9,11 @@ use Rattle.snmpd_words.specs.declared.lines.Line.{Line}
 use Rattle.snmpd_words.specs.declared.lines.Line.TheVariants.{Directive}
 use Rattle.snmpsec_import.specs.declared.entries.Entry.{Entry}
 use Rattle.snmpsec_import.specs.declared.entries.Entry.TheVariants.{Group, Access, Family, Set, User}
-use Rattle.snmpsec_import.specs.declared.users.Secret.{Secret}
-use Rattle.snmpsec_import.specs.declared.users.Secret.TheVariants.{Passphrase, Key}
-use Rattle.snmpsec_import.specs.declared.users.Authentication.{Authentication}
-use Rattle.snmpsec_import.specs.declared.users.Privacy.{Privacy}
-use Rattle.snmpsec_import.specs.declared.users.Created.{Created}
+use Rattle.snmpd_users.specs.declared.users.Secret.{Secret}
+use Rattle.snmpd_users.specs.declared.users.Secret.TheVariants.{Passphrase, Key}
+use Rattle.snmpd_users.specs.declared.users.Authentication.{Authentication}
+use Rattle.snmpd_users.specs.declared.users.Privacy.{Privacy}
+use Rattle.snmpd_users.specs.declared.users.Created.{Created}
 use Rattle.snmpsec_lists.specs.declared.rows.Place.TheVariants as places
 use Rattle.snmpsec_lists.specs.declared.items.Include.{Include}
 use Rattle.snmpsec_lists.specs.declared.items.Include.TheVariants.{Unclear, Search, File, Folder}

@@ -12,11 +12,9 @@ ghost use Rattle.snmpsec_lists.specs.Items as spec;
 ghost use Rattle.snmpsec_lists.specs.Items.{BeginsSmall, IsIncludeWord, NamesFiles, IsInclude, IsTextSecret, IsTextAuthentication, IsTextPrivacy, IsTextUser, IsText, IsMade, IsItem, AreItems, word_of};
 
 use crate::rows::Place;
+use snmpd_users::{Authentication, Created, Privacy, Secret};
 use snmpd_words::{Line, Section, read_line};
-use snmpsec_import::{
-    Authentication, Created, Entry, Privacy, Secret, Setting, first_line, read_entry,
-    section_behind,
-};
+use snmpsec_import::{Entry, Setting, first_line, read_entry, section_behind};
 use std::alloc::{AllocError, Global};
 use vacm_core::{AccessRow, Name};
 

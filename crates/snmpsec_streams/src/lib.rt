@@ -13,5 +13,7 @@
 #![tactic(auto)]
 
 mod transfer;
+mod whole;
 
 pub use transfer::{Failed, TRIES, read_full, read_octet, read_some, write_whole};
+pub use whole::{FILE_LIMIT, FileFault, read_whole, read_whole_behind};

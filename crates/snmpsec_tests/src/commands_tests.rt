@@ -1,32 +1,23 @@
 //! What is printed, and its status; what is read and written.
 
-mod access;
 mod captured;
 mod checked;
 mod commands;
 mod config_commands;
-mod configs;
-mod examples;
-mod explained;
 mod failing;
 mod from;
 mod imported;
 mod log_commands;
 mod log_lines;
-mod merged;
 mod named;
-mod opened;
 mod packets;
 mod pasted;
 mod reasons;
-mod refused;
 mod replays;
-mod sees;
 mod streams;
-mod who_sees;
 
 use clap::error::ErrorKind;
-use snmpsec_commands::show_text;
+use snmpsec_texts::show_text;
 use snmpsec_words::{manual_text, parse};
 use std::alloc::AllocError;
 use std::test::Fail;

@@ -1,9 +1,7 @@
 //! An example of each library: `tools/crate-examples` puts it at the head of the library's root file.
-mod of_snmpsec_access;
 mod of_snmpsec_commands;
 mod of_snmpsec_datagrams;
-mod of_snmpsec_hints;
+mod of_snmpsec_files;
 mod of_snmpsec_imported;
 mod of_snmpsec_notes;
-mod of_snmpsec_texts;
 mod of_snmpsec_words;

@@ -9,5 +9,4 @@ pub mod Same
 pub mod Sealeds
 pub mod SealedSizes
 pub mod SealedLengths
-pub mod Caching
 pub mod Ends

@@ -7,4 +7,4 @@ pub mod Sealed
 pub mod Sizes
 pub mod Writing
 pub mod Says
-pub mod Cache
+pub mod Known

@@ -10,8 +10,6 @@
 //! ```
 #![tactic(auto)]
 
-mod cache;
-mod cached_key;
 mod checked;
 mod digest;
 mod fault;

@@ -10,12 +10,10 @@ ghost use Rattle.usm_aes.specs.Aes.{enciphered, schedule};
 ghost use Rattle.usm_aes.specs.Feedback.{IsSealed, iv_of, opened};
 ghost use Rattle.usm_users.specs.User.{User as UserOf};
 ghost use Rattle.usm_users.specs.Users.{HasUserAt, user_named};
-ghost use Rattle.usm_core.specs.Cache.{AreCached};
+ghost use Rattle.usm_cache.specs.Cache.{AreCached};
 ghost use Rattle.usm_core.specs.Sealed.{UserKey, IsPlaintext};
 ghost use Rattle.usm_core.specs.declared.fault.UsmFault.TheVariants.{DecryptionError, OutOfMemory};
 
-use crate::cache::{KeyCache, Purpose};
-use crate::cached_key::CachedKey;
 use crate::checked::Checked;
 use crate::fault::UsmFault;
 use crate::scoped_pdu::ScopedPdu;
@@ -23,6 +21,7 @@ use crate::spell::Outgoing;
 use snmp_message::Security;
 use std::alloc::{AllocError, Global};
 use usm_aes::{Schedule, cfb_open, cfb_seal, iv};
+use usm_cache::{CachedKey, KeyCache, Purpose};
 use usm_keys::{Key, localise};
 use usm_users::UserTable;
 

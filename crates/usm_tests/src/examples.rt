@@ -2,6 +2,7 @@
 mod of_snmp_outcome;
 mod of_snmpsec_config;
 mod of_usm_aes;
+mod of_usm_cache;
 mod of_usm_core;
 mod of_usm_keys;
 mod of_usm_users;

@@ -1,7 +1,8 @@
 //! Configurations that lines of snmpd.conf come to. The expected rows are net-snmp 5.9.3's.
 
+use snmpsec_files::{Sources, follow};
 use snmpsec_imported::{Imported, Kind, import, is_serious, kept_of, notes_text};
-use snmpsec_lists::{lists_of, meant, read_items};
+use snmpsec_lists::{Followed, Made, lists_of, meant, read_items};
 use std::test::Fail;
 use vacm_core::{ContextRow, Name};
 
@@ -184,6 +185,30 @@ fn files(rt: &HostRuntime) -> Result<Vec<String>, Fail> {
 fn imported(rt: &HostRuntime, text: &[u8]) -> Result<Imported, Fail> {
     let items = read_items(rt.alloc(), 0, text)?;
     Ok(import(rt.alloc(), &files(rt)?, items, contexts(rt)?)?)
+}
+
+/// What the one line of a file comes to that names a file which isn't there.
+fn left(rt: &HostRuntime, no_include: bool) -> Result<bool, Fail> {
+    let sources = Sources {
+        names: files(rt)?,
+        items: read_items(rt.alloc(), 0, b"includeFile no/such.conf\n")?,
+    };
+    let followed = follow(rt, sources, no_include)?;
+    Ok(match followed.items.as_slice() {
+        [item] => match item.made {
+            Made::Followed(Followed::Unread) => !no_include,
+            Made::Followed(Followed::LeftOut) => no_include,
+            _ => false,
+        },
+        _ => false,
+    })
+}
+
+#[test]
+fn a_line_that_names_a_file_is_told(rt: HostRuntime) -> Result<(), Fail> {
+    assert!(rt; left(&rt, false)?, "unread");
+    assert!(rt; left(&rt, true)?, "left out");
+    Ok(())
 }
 
 #[test]

@@ -1,6 +1,5 @@
 //! Logs that are replayed, and texts that are refused before one is.
 
-use super::refused::refused_configurations;
 use snmpsec_commands::replay::replay;
 use snmpsec_replay::ReplayFault;
 use std::alloc::{AllocError, Global};
@@ -133,9 +132,20 @@ const REFUSED_CLOCKS: [(&str, u32); 9] = [
     ("snmp-clocks 1\n8000000002 0 0\n8000000001 1 5\n", 3),
 ];
 
+/// A configuration of each kind of refusal, and the line for it.
+const REFUSED: [(&str, &str); 4] = [
+    ("user = ", "refused config toml\n"),
+    ("user = [1]", "refused config top\n"),
+    ("user = [{ }]", "refused config user 0 BadKey\n"),
+    (
+        "group = [{ name = 'ann', group = 'g' }]",
+        "refused config group 0 BadKey\n",
+    ),
+];
+
 #[test]
 fn a_refused_configuration_is_told_before_the_clocks_file(rt: HostRuntime) -> Result<(), Fail> {
-    for (config, line) in refused_configurations() {
+    for (config, line) in REFUSED {
         let replayed = replayed(rt.alloc(), (config, ""), "5\n")?;
         assert_eq!(rt; replayed.answer, Ok(1));
         assert_eq!(rt; replayed.written.as_slice(), line.as_bytes());

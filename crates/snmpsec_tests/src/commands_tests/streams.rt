@@ -1,6 +1,6 @@
 //! Readers and writers that are interrupted, or fail.
 
-use snmpsec_datagrams::{FileFault, read_whole};
+use snmpsec_streams::{FileFault, read_whole};
 use std::alloc::{AllocError, Global};
 use std::io;
 use std::io::{ErrorKind, Read, Write};

@@ -1,6 +1,6 @@
 use Rattle.std.proofs.Common.{◌≡◌, ◌↔◌, IsTrue, Bool, ℕ, List, Some, sym, ◌∙◌, ap}
 use Rattle.std.specs.Option.{option_map}
-use Rattle.snmpsec_import.specs.declared.users.Created.{Created}
+use Rattle.snmpd_users.specs.declared.users.Created.{Created}
 use Rattle.snmpsec_lists.specs.declared.items.Item.{Item}
 use Rattle.snmpsec_imported.specs.Users.{created_in, MakesUser}
 use Rattle.snmpsec_imported.proofs.users.makes_user.Goals as goal

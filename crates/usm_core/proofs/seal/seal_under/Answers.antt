@@ -1,10 +1,10 @@
 use Rattle.std.proofs.Common.{◌≡◌, ◌∙◌, ℕ, List, Option, Some, Bor, ap, sym, subst}
 use Rattle.std.specs.Option.{option_copied, option_map}
 use Rattle.usm_keys.specs.AuthKey.{AuthKey}
-use Rattle.usm_core.specs.declared.cache.Purpose.TheVariants.{Authentication}
-use Rattle.usm_core.specs.Cache.{AreCached, schedule_at}
+use Rattle.usm_cache.specs.declared.cache.Purpose.TheVariants.{Authentication}
+use Rattle.usm_cache.specs.Cache.{AreCached, schedule_at}
 use Rattle.usm_core.specs.Writing.{sending_of}
-use Rattle.usm_core.proofs.Caching.{is_cached}
+use Rattle.usm_cache.proofs.Caching.{is_cached}
 use Rattle.usm_core.proofs.seal.seal_under.Goals.{in-Some, in-None}
 use Rattle.usm_core.proofs.seal.seal_under.Goals as goal
 
@@ -25,7 +25,7 @@ returns-in-Some-find-clause-cache g c =
       | in-Some w ↦ subst (AreCached users) (sym w.cache-is) w.schedule_under.ensures.cache
       | in-None w ↦ subst (AreCached users) (sym w.cache-is) c.requires.cache
     ] in
-    c.note_use.ensures users before tt
+    c.note_use.ensures.cached users before tt
 
 pub returns-clause-written : goal.returns-clause-written
 returns-clause-written g c =
@@ -46,4 +46,4 @@ returns-clause-cache g c =
       | in-Some w ↦ subst (AreCached users) (sym w.cache-is) w.schedule_under.ensures.cache
       | in-None w ↦ subst (AreCached users) (sym w.cache-is) c.requires.cache
     ] in
-    c.note_use-2.ensures users before (is_cached users m.user m.engine Authentication u.0 c.args.key.now _ u.1 u.2 (c.for_authentication-local.ensures ∙ c.localise.ensures.key))
+    c.note_use-2.ensures.cached users before (is_cached users m.user m.engine Authentication u.0 c.args.key.now _ u.1 u.2 (c.for_authentication-local.ensures ∙ c.localise.ensures.key))

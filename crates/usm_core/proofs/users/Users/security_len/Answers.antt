@@ -3,7 +3,7 @@ use Rattle.std.proofs.lemmas.List.{take-replicate, length-replicate}
 use Rattle.snmp_ber.specs.Spelling.{element}
 use Rattle.engine_clock.specs.Pairs.{BootsAndTime}
 use Rattle.usm_core.specs.Sealed.{sending}
-use Rattle.usm_core.specs.Cache.{Known}
+use Rattle.usm_core.specs.Known.{Known}
 use Rattle.usm_core.proofs.SealedLengths.{IsCodeSize, measured_text, salt_size, security_short}
 use Rattle.usm_core.proofs.users.Users.security_len.Goals as goal
 

@@ -1,0 +1,10 @@
+//! `snmpsec_files`: a file that isn't there can't be read.
+use snmpsec_files::read_file;
+use snmpsec_streams::FileFault;
+use std::test::Fail;
+
+#[test]
+fn a_file_that_is_not_there_cannot_be_read(rt: HostRuntime) {
+    let read = read_file(&rt, "no/such/file");
+    assert_eq!(rt; read.err(), Some(FileFault::CannotRead));
+}
