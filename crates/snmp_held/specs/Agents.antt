@@ -211,10 +211,13 @@ StopsNotice agent now n level list salt fault =
     RefusesSenderAt agent now n.user level fault
     ⊎ (CanSendAt agent now n.user level × IfSome (send_refusal fault) (NotifiesAt agent now n level list salt))
 
+-- a number or the name is out of its range
+abbrev pub IsNoticeOutOfRange : Notice → Type 0
+IsNoticeOutOfRange n = (level_of n.level ≡ None) ⊎ ((2147483647 < n.id) ⊎ ((2147483647 < n.request_id) ⊎ (32 < length n.user)))
+
 abbrev pub RefusesNotice : AgentHeld → ℕ → Notice → List ℕ → List ℕ → CallFault → Type 0
 RefusesNotice held now n list salt (Refused fault) = (at : Level) × (level_of n.level ≡ Some at) × StopsNotice held.agent now n at list salt fault
-RefusesNotice held now n list salt BadArgument =
-    (level_of n.level ≡ None) ⊎ ((2147483647 < n.id) ⊎ ((2147483647 < n.request_id) ⊎ (32 < length n.user)))
+RefusesNotice held now n list salt BadArgument = IsNoticeOutOfRange n
 RefusesNotice held now n list salt BadBindings =
     (at : Level) × (level_of n.level ≡ Some at) × CanSendAt held.agent now n.user at × ((vs : List Variable) → AreBindings vs list → ⊥)
 RefusesNotice held now n list salt _ = ⊥

@@ -1,6 +1,6 @@
 //! An agent with what it accepted last and what it wrote last.
 
-ghost use Rattle.std.specs.Prelude.{◌≡◌, ◌≢◌, ◌≤◌, ◌↔◌, All, IsTrue, MatchOption, None, Some, Err, length};
+ghost use Rattle.std.specs.Prelude.{◌≡◌, ◌≢◌, ◌↔◌, All, IsTrue, MatchOption, None, Some, Err};
 ghost use Rattle.std.specs.Int.{to_be_bytes, w64};
 ghost use Rattle.snmp_message.specs.Scoped.{Contexts, ScopedFront};
 ghost use Rattle.snmp_msg.specs.Pdu.{PduParts, PduText};
@@ -16,11 +16,12 @@ ghost use Rattle.snmp_held.specs.Between.{AnswersResponse, AnswersNotice, notice
 use crate::bindings::bindings_of;
 use crate::dispatch::can_answer;
 use crate::fault::CallFault;
+use crate::in_range::{NoticeInRange, Reply};
 use crate::numbers::{GREATEST, level_of, view_of};
 use crate::parts::{Part, copied_message, copied_part, numbers_of};
 use engine_clock::EngineId;
 use snmp_agent::Agent;
-use snmp_ber::{Level, Oid};
+use snmp_ber::Oid;
 use snmp_outcome::{Kept, TakeFault};
 use snmp_sending::Front;
 use snmpsec_config::{Config, ConfigFault};
@@ -88,47 +89,40 @@ fn allowed(agent: &Agent, kept: &Kept, view: ViewType, variable: &Oid) -> Access
     agent.allows(&taken, view, variable)
 }
 
-/// The Response to what was kept, with the bindings that these octets are.
+/// The Response to what was kept, which says this.
 fn response(
     alloc: Global,
     agent: &mut Agent,
     now: u64,
     kept: &Kept,
-    status: u32,
-    index: u32,
-    list: &[u8],
-    salt: [u8; 8],
+    reply: &Reply<'_>,
 ) -> Result<Vec<u8>, CallFault>
-    requires status { status ≤ 2147483647 }
-    requires index { index ≤ 2147483647 }
-    ensures answer { AnswersResponse agent.old now kept.now status index list.now salt result }
+    ensures answer { AnswersResponse agent.old now kept.now reply.now.status reply.now.index reply.now.list.now reply.now.salt result }
     ensures same { agent.new ≡ agent.old }
 {
     can_answer(agent, now, kept)?;
     let taken = kept.taken();
-    let bindings = bindings_of(alloc, list)?;
-    match agent.respond_of(now, &taken, status as i32, index as i32, &bindings, salt) {
+    let bindings = bindings_of(alloc, reply.list)?;
+    let (status, index) = (reply.status as i32, reply.index as i32);
+    match agent.respond_of(now, &taken, status, index, &bindings, reply.salt) {
         Ok(text) => Ok(text),
         Err(fault) => Err(CallFault::Refused(fault)),
     }
 }
 
-/// The notification with the bindings that these octets are.
+/// The notification that says this, with the bindings that these octets are.
 fn notice(
     alloc: Global,
     agent: &mut Agent,
     now: u64,
-    to: &NoticeTo<'_>,
-    level: Level,
+    notice: &NoticeInRange<'_>,
     list: &[u8],
     salt: [u8; 8],
 ) -> Result<Vec<u8>, CallFault>
-    requires id { to.now.id ≤ 2147483647 }
-    requires request { to.now.request_id ≤ 2147483647 }
-    requires user { length to.now.user.now ≤ 32 }
-    ensures answer { AnswersNotice agent.old now (notice_of to.now) level list.now salt result }
+    ensures answer { AnswersNotice agent.old now (notice_of notice.now.to) notice.now.level list.now salt result }
     ensures same { agent.new ≡ agent.old }
 {
+    let NoticeInRange { to, level } = *notice;
     if let Err(fault) = agent.supports(now, to.user, level) {
         return Err(CallFault::Refused(fault));
     }
@@ -297,23 +291,13 @@ impl AgentHandle {
     ) -> Result<(), CallFault>
         ensures { RespondsHeld self.old now status index list.now (to_be_bytes w64 salt) result self.new }
     {
-        if status > GREATEST || index > GREATEST {
+        let Some(reply) = Reply::of(status, index, list, salt) else {
             return Err(CallFault::BadArgument);
-        }
+        };
         let Some(kept) = &self.last else {
             return Err(CallFault::NothingTaken);
         };
-        let salt = salt.to_be_bytes();
-        match response(
-            self.alloc,
-            &mut self.agent,
-            now,
-            kept,
-            status,
-            index,
-            list,
-            salt,
-        ) {
+        match response(self.alloc, &mut self.agent, now, kept, &reply) {
             Ok(text) => {
                 self.message = Some(text);
                 Ok(())
@@ -336,14 +320,11 @@ impl AgentHandle {
     ) -> Result<(), CallFault>
         ensures { NotifiesHeld self.old now (notice_of to.now) list.now (to_be_bytes w64 salt) result self.new }
     {
-        let Some(level) = level_of(to.level) else {
+        let Some(in_range) = NoticeInRange::of(to) else {
             return Err(CallFault::BadArgument);
         };
-        if to.id > GREATEST || to.request_id > GREATEST || to.user.len() > 32 {
-            return Err(CallFault::BadArgument);
-        }
         let salt = salt.to_be_bytes();
-        match notice(self.alloc, &mut self.agent, now, to, level, list, salt) {
+        match notice(self.alloc, &mut self.agent, now, &in_range, list, salt) {
             Ok(text) => {
                 self.message = Some(text);
                 Ok(())

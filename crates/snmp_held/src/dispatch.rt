@@ -1,7 +1,7 @@
 //! What an agent does with what it accepted, besides answering it: how long the answer may be, whether anything answers it at all,
 //! the report where nothing does, and the counters (RFC 3412, sections 4.2.2 and 7.1; RFC 3413, section 3.2; RFC 3416, section 4.2).
 
-ghost use Rattle.std.specs.Prelude.{◌≡◌, ◌≤◌, IfErr, IfOk, OnErr, Some, true};
+ghost use Rattle.std.specs.Prelude.{◌≡◌, IfErr, IfOk, OnErr, Some, true};
 ghost use Rattle.std.specs.Int.{to_be_bytes, w64};
 ghost use Rattle.snmp_agent.specs.Counts.{count_at, one_more};
 ghost use Rattle.snmp_agent.specs.Dispatch.{HandledBy, Refuses};
@@ -14,7 +14,7 @@ ghost use Rattle.snmp_held.specs.Dispatch.{TellsMaxSize, RespondsHeldWithin, Res
 use crate::agent::AgentHandle;
 use crate::bindings::bindings_of;
 use crate::fault::CallFault;
-use crate::numbers::GREATEST;
+use crate::in_range::Reply;
 use crate::parts::max_size_of;
 use snmp_agent::{Agent, Unhandled};
 use snmp_outcome::Kept;
@@ -37,33 +37,29 @@ pub(crate) fn can_answer(agent: &Agent, now: u64, kept: &Kept) -> Result<(), Cal
     }
 }
 
-/// The Response to what was kept, with the bindings that these octets are, of at most `limit` octets.
+/// The Response to what was kept, which says this, of at most `limit` octets.
 fn response_within(
     alloc: Global,
     agent: &mut Agent,
     now: u64,
     kept: &Kept,
-    status: u32,
-    index: u32,
-    list: &[u8],
-    salt: [u8; 8],
+    reply: &Reply<'_>,
     limit: u32,
 ) -> Result<Vec<u8>, CallFault>
-    requires status { status ≤ 2147483647 }
-    requires index { index ≤ 2147483647 }
-    ensures answer { AnswersWithin agent.old now kept.now status index list.now salt limit result }
+    ensures answer { AnswersWithin agent.old now kept.now reply.now.status reply.now.index reply.now.list.now reply.now.salt limit result }
     ensures same { agent.new ≡ agent.old }
 {
     can_answer(agent, now, kept)?;
     let taken = kept.taken();
-    let bindings = bindings_of(alloc, list)?;
+    let bindings = bindings_of(alloc, reply.list)?;
+    let (status, index) = (reply.status as i32, reply.index as i32);
     match agent.respond_within_of(
         now,
         &taken,
-        status as i32,
-        index as i32,
+        status,
+        index,
         &bindings,
-        salt,
+        reply.salt,
         limit as usize,
     ) {
         Ok(text) => Ok(text),
@@ -71,36 +67,24 @@ fn response_within(
     }
 }
 
-/// The Response to what was kept, with the longest front of the bindings that these octets are that has room within `limit` octets.
+/// The Response to what was kept, which says this, with the longest front of its bindings that has room within `limit` octets.
 fn response_front(
     alloc: Global,
     agent: &mut Agent,
     now: u64,
     kept: &Kept,
-    status: u32,
-    index: u32,
-    list: &[u8],
-    salt: [u8; 8],
+    reply: &Reply<'_>,
     limit: u32,
 ) -> Result<Fronted, CallFault>
-    requires status { status ≤ 2147483647 }
-    requires index { index ≤ 2147483647 }
-    ensures answer { AnswersFront agent.old now kept.now status index list.now salt limit result }
+    ensures answer { AnswersFront agent.old now kept.now reply.now.status reply.now.index reply.now.list.now reply.now.salt limit result }
     ensures same { agent.new ≡ agent.old }
 {
     can_answer(agent, now, kept)?;
     let taken = kept.taken();
-    let bindings = bindings_of(alloc, list)?;
+    let bindings = bindings_of(alloc, reply.list)?;
+    let (status, index) = (reply.status as i32, reply.index as i32);
     let limit = limit as usize;
-    match agent.respond_front(
-        now,
-        &taken,
-        status as i32,
-        index as i32,
-        &bindings,
-        salt,
-        limit,
-    ) {
+    match agent.respond_front(now, &taken, status, index, &bindings, reply.salt, limit) {
         Ok(fronted) => Ok(fronted),
         Err(fault) => Err(CallFault::Refused(fault)),
     }
@@ -155,24 +139,13 @@ impl AgentHandle {
     ) -> Result<(), CallFault>
         ensures { RespondsHeldWithin self.old now status index list.now (to_be_bytes w64 salt) limit result self.new }
     {
-        if status > GREATEST || index > GREATEST {
+        let Some(reply) = Reply::of(status, index, list, salt) else {
             return Err(CallFault::BadArgument);
-        }
+        };
         let Some(kept) = &self.last else {
             return Err(CallFault::NothingTaken);
         };
-        let salt = salt.to_be_bytes();
-        match response_within(
-            self.alloc,
-            &mut self.agent,
-            now,
-            kept,
-            status,
-            index,
-            list,
-            salt,
-            limit,
-        ) {
+        match response_within(self.alloc, &mut self.agent, now, kept, &reply, limit) {
             Ok(text) => {
                 self.message = Some(text);
                 Ok(())
@@ -197,24 +170,13 @@ impl AgentHandle {
     ) -> Result<usize, CallFault>
         ensures { RespondsHeldFront self.old now status index list.now (to_be_bytes w64 salt) limit result self.new }
     {
-        if status > GREATEST || index > GREATEST {
+        let Some(reply) = Reply::of(status, index, list, salt) else {
             return Err(CallFault::BadArgument);
-        }
+        };
         let Some(kept) = &self.last else {
             return Err(CallFault::NothingTaken);
         };
-        let salt = salt.to_be_bytes();
-        match response_front(
-            self.alloc,
-            &mut self.agent,
-            now,
-            kept,
-            status,
-            index,
-            list,
-            salt,
-            limit,
-        ) {
+        match response_front(self.alloc, &mut self.agent, now, kept, &reply, limit) {
             Ok(fronted) => {
                 self.message = Some(fronted.text);
                 Ok(fronted.count)

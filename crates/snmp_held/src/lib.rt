@@ -19,6 +19,7 @@ mod bindings;
 mod configuration;
 mod dispatch;
 mod fault;
+mod in_range;
 mod manager;
 mod numbers;
 mod parts;

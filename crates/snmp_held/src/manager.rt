@@ -1,9 +1,9 @@
 //! A manager with what it accepted last, what it wrote last and the request that it waits for.
 
-ghost use Rattle.std.specs.Prelude.{◌≡◌, ◌≢◌, ◌≤◌, ◌↔◌, IsTrue, MatchOption, None, Some, Err, length};
+ghost use Rattle.std.specs.Prelude.{◌≡◌, ◌≢◌, MatchOption, None, Some, Err};
 ghost use Rattle.std.specs.Int.{to_be_bytes, w64};
 ghost use Rattle.snmp_message.specs.Scoped.{Contexts, ScopedFront};
-ghost use Rattle.snmp_msg.specs.Pdu.{PduParts, PduText, IsPduTag};
+ghost use Rattle.snmp_msg.specs.Pdu.{PduParts, PduText};
 ghost use Rattle.snmp_outcome.specs.Outcome.{Given};
 ghost use Rattle.snmp_manager.specs.Replies.{IsAnswer};
 ghost use Rattle.snmp_manager.specs.Takes.{TakesNoMemory};
@@ -13,10 +13,10 @@ ghost use Rattle.snmp_held.specs.Asked.{AnswersRequest, asking_of};
 
 use crate::bindings::bindings_of;
 use crate::fault::CallFault;
-use crate::numbers::{GREATEST, level_of};
+use crate::in_range::AskedInRange;
+use crate::numbers::GREATEST;
 use crate::parts::{Part, copied_message, copied_part, numbers_of};
 use engine_clock::{ClockFault, Clocks, EngineId, Pair};
-use snmp_ber::Level;
 use snmp_manager::{Answer, Manager, Pending, answer_of};
 use snmp_outcome::{Kept, TakeFault};
 use snmp_sending::Front;
@@ -79,37 +79,20 @@ fn answer(kept: &Kept, pending: &Pending) -> Answer
     answer_of(pending, &taken)
 }
 
-/// Whether the tag is of a PDU.
-fn is_pdu_tag(tag: u32) -> bool
-    ensures { IsTrue result ↔ IsPduTag tag }
-{
-    match u8::try_from(tag) {
-        Ok(tag) => snmp_msg::is_pdu_tag(tag),
-        Err(_) => false,
-    }
-}
-
-/// The request at this level, with the bindings that these octets are.
+/// The request that asks this, with the bindings that these octets are.
 fn request(
     alloc: Global,
     manager: &mut Manager,
     now: u64,
-    of: &AskedOf<'_>,
-    engine: &EngineId,
-    level: Level,
+    asked: &AskedInRange<'_>,
     list: &[u8],
     salt: [u8; 8],
 ) -> Result<(Vec<u8>, Pending), CallFault>
-    requires engine { engine.now ≡ of.now.engine.now }
-    requires id { of.now.id ≤ 2147483647 }
-    requires user { length of.now.user.now ≤ 32 }
-    requires tag { IsPduTag of.now.tag }
-    requires request { of.now.request_id ≤ 2147483647 }
-    requires second { of.now.second ≤ 2147483647 }
-    requires third { of.now.third ≤ 2147483647 }
-    ensures answer { AnswersRequest manager.old now (asking_of of.now) level list.now salt result }
+    ensures answer { AnswersRequest manager.old now (asking_of asked.now.of) asked.now.level list.now salt result }
     ensures same { manager.new ≡ manager.old }
 {
+    let AskedInRange { of, engine, level } = asked;
+    let level = *level;
     if let Err(fault) = manager.supports(of.user, level) {
         return Err(CallFault::Refused(fault));
     }
@@ -221,26 +204,11 @@ impl ManagerHandle {
     ) -> Result<(), CallFault>
         ensures { RequestsHeld self.old now (asking_of of.now) list.now (to_be_bytes w64 salt) result self.new }
     {
-        let (Some(level), Some(engine)) = (level_of(of.level), EngineId::of(of.engine)) else {
+        let Some(asked) = AskedInRange::of(of) else {
             return Err(CallFault::BadArgument);
         };
-        if !is_pdu_tag(of.tag) || of.user.len() > 32 || of.id > GREATEST {
-            return Err(CallFault::BadArgument);
-        }
-        if of.request_id > GREATEST || of.second > GREATEST || of.third > GREATEST {
-            return Err(CallFault::BadArgument);
-        }
         let salt = salt.to_be_bytes();
-        match request(
-            self.alloc,
-            &mut self.manager,
-            now,
-            of,
-            &engine,
-            level,
-            list,
-            salt,
-        ) {
+        match request(self.alloc, &mut self.manager, now, &asked, list, salt) {
             Ok((text, pending)) => {
                 self.message = Some(text);
                 self.pending = Some(pending);

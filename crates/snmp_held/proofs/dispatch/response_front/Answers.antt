@@ -16,11 +16,11 @@ use Rattle.snmp_held.proofs.dispatch.response_front.Goals as goal
 pub returns-in-Ok-clause-answer : goal.returns-in-Ok-clause-answer
 returns-in-Ok-clause-answer c =
     let confirmed : is_confirmed c.args.kept.now.tag ≡ true = search rules in
-    let status : to_z w32 c.args.status ≡ pos c.args.status = search rules in
-    let index : to_z w32 c.args.index ≡ pos c.args.index = search rules in
+    let status : to_z w32 c.args.reply.now.status ≡ pos c.args.reply.now.status = search rules in
+    let index : to_z w32 c.args.reply.now.index ≡ pos c.args.reply.now.index = search rules in
     let vs : List Variable = map bound_variable c.in_ok-bindings.bindings.items in
     let lent : map bound_variable c.deref.result.now ≡ vs = ap (λ (bs : List VariableBinding). map bound_variable bs) c.deref.ensures.value in
-    let R : Given → List Variable → Type 0 = λ g xs. (k : Contexts) (p : PduParts) → ScopedFront g.text k → PduText k.pdu p → SendsFront c.args.agent.now c.args.now c.args.limit (λ own ys. responding c.args.agent.now.engine own g k p (pos c.args.status) (pos c.args.index) ys c.args.salt) xs (Ok (record { text = c.in-Ok.fronted.text.items; count = c.in-Ok.fronted.count })) in
+    let R : Given → List Variable → Type 0 = λ g xs. (k : Contexts) (p : PduParts) → ScopedFront g.text k → PduText k.pdu p → SendsFront c.args.agent.now c.args.now c.args.limit (λ own ys. responding c.args.agent.now.engine own g k p (pos c.args.reply.now.status) (pos c.args.reply.now.index) ys c.args.reply.now.salt) xs (Ok (record { text = c.in-Ok.fronted.text.items; count = c.in-Ok.fronted.count })) in
     let rows : R (given_of c.taken-taken.result) (map bound_variable c.deref.result.now) = rw (status, index) at c.in-Ok.ensures.answer in
     (confirmed, (vs, c.in_ok-bindings.ensures.all, subst (λ (g : Given). R g vs) c.taken-taken.ensures (subst (R (given_of c.taken-taken.result)) lent rows)))
 
@@ -28,19 +28,19 @@ returns-in-Ok-clause-answer c =
 pub returns-clause-answer : goal.returns-clause-answer
 returns-clause-answer c =
     let confirmed : is_confirmed c.args.kept.now.tag ≡ true = search rules in
-    let status : to_z w32 c.args.status ≡ pos c.args.status = search rules in
-    let index : to_z w32 c.args.index ≡ pos c.args.index = search rules in
+    let status : to_z w32 c.args.reply.now.status ≡ pos c.args.reply.now.status = search rules in
+    let index : to_z w32 c.args.reply.now.index ≡ pos c.args.reply.now.index = search rules in
     let vs : List Variable = map bound_variable c.in_ok-bindings.bindings.items in
     let lent : map bound_variable c.deref.result.now ≡ vs = ap (λ (bs : List VariableBinding). map bound_variable bs) c.deref.ensures.value in
     let refusal : Option (Result FrontText ℕ) = front_answer (Err c.in-Err.fault) in
-    let R : Given → List Variable → Type 0 = λ g xs. (k : Contexts) (p : PduParts) → ScopedFront g.text k → PduText k.pdu p → IfSome refusal (SendsFront c.args.agent.now c.args.now c.args.limit (λ own ys. responding c.args.agent.now.engine own g k p (pos c.args.status) (pos c.args.index) ys c.args.salt) xs) in
+    let R : Given → List Variable → Type 0 = λ g xs. (k : Contexts) (p : PduParts) → ScopedFront g.text k → PduText k.pdu p → IfSome refusal (SendsFront c.args.agent.now c.args.now c.args.limit (λ own ys. responding c.args.agent.now.engine own g k p (pos c.args.reply.now.status) (pos c.args.reply.now.index) ys c.args.reply.now.salt) xs) in
     let rows : R (given_of c.taken-taken.result) (map bound_variable c.deref.result.now) = rw (status, index) at c.in-Err.ensures.answer in
     let can : CanSendAt c.args.agent.now c.args.now c.args.kept.now.user c.args.kept.now.level = search rules in
     let of_kept : R c.args.kept.now vs = subst (λ (g : Given). R g vs) c.taken-taken.ensures (subst (R (given_of c.taken-taken.result)) lent rows) in (
       confirmed,
       inr (
         can,
-        if_told refusal (RespondsFront c.args.agent.now c.args.now c.args.kept.now c.args.status c.args.index c.args.list.now c.args.salt c.args.limit)
-            (λ a is. (vs, c.in_ok-bindings.ensures.all, λ k p f q. subst (λ (o : Option (Result FrontText ℕ)). IfSome o (SendsFront c.args.agent.now c.args.now c.args.limit (λ own ys. responding c.args.agent.now.engine own c.args.kept.now k p (pos c.args.status) (pos c.args.index) ys c.args.salt) vs)) is (of_kept k p f q))),
+        if_told refusal (RespondsFront c.args.agent.now c.args.now c.args.kept.now c.args.reply.now.status c.args.reply.now.index c.args.reply.now.list.now c.args.reply.now.salt c.args.limit)
+            (λ a is. (vs, c.in_ok-bindings.ensures.all, λ k p f q. subst (λ (o : Option (Result FrontText ℕ)). IfSome o (SendsFront c.args.agent.now c.args.now c.args.limit (λ own ys. responding c.args.agent.now.engine own c.args.kept.now k p (pos c.args.reply.now.status) (pos c.args.reply.now.index) ys c.args.reply.now.salt) vs)) is (of_kept k p f q))),
       ),
     )
