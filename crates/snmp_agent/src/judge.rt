@@ -1,7 +1,6 @@
 //! What an agent answers to a datagram.
 
 ghost use Rattle.std.specs.Prelude.{◌≡◌, ◌↔◌, true, IsTrue, IfSome, IsErrOf};
-ghost use Rattle.engine_clock.specs.Pairs.{IsPair};
 ghost use Rattle.engine_clock.specs.Windows.{InAgentWindow};
 ghost use Rattle.usm_core.specs.Answers.{verified_of};
 ghost use Rattle.snmp_outcome.specs.Outcome.{Outcome, pair_in};
@@ -15,7 +14,6 @@ use usm_core::{Checked, Role, Users};
 
 /// Without auth, or inside the agent's window (RFC 3414, section 3.2, step 7).
 fn is_in_window(own: Pair, checked: &Checked<'_>) -> bool
-    requires { IsPair (pair_in (verified_of checked.now)) }
     ensures { IsTrue result ↔ (checked.now.message.header.auth ≡ true → InAgentWindow own (pair_in (verified_of checked.now))) }
 {
     let pair = Pair {

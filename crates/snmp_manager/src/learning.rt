@@ -1,10 +1,8 @@
 //! What a manager learns of a message that passed its digest (RFC 3414, section 3.2, step 7).
 
 ghost use Rattle.std.specs.Prelude.{◌≡◌, ◌↔◌, true, IsOk, IsSome, IsTrue, OnErr, OnOk};
-ghost use Rattle.engine_clock.specs.Pairs.{IsPair};
 ghost use Rattle.engine_clock.specs.Marks.{Marks, mark_at};
 ghost use Rattle.usm_core.specs.Answers.{verified_of};
-ghost use Rattle.usm_core.specs.Authentic.{HasEngineLength};
 ghost use Rattle.snmp_outcome.specs.Outcome.{IsFresh, pair_in, as_manager};
 ghost use Rattle.snmp_manager.specs.Learning.{LearnsChecked};
 
@@ -14,7 +12,6 @@ use usm_core::Checked;
 
 /// The engine of a message. This takes no memory.
 pub(crate) fn engine_of(checked: &Checked<'_>) -> EngineId
-    requires { HasEngineLength checked.now.security.engine.now }
     ensures { result ≡ checked.now.security.engine.now }
 {
     let Some(engine) = EngineId::of(checked.security.engine) else {
@@ -25,7 +22,6 @@ pub(crate) fn engine_of(checked: &Checked<'_>) -> EngineId
 
 /// The pair that a message says.
 fn pair_of(checked: &Checked<'_>) -> Pair
-    requires { IsPair (pair_in (verified_of checked.now)) }
     ensures { result ≡ pair_in (verified_of checked.now) }
 {
     let Some(pair) = Pair::of(checked.security.boots, checked.security.time) else {
@@ -37,8 +33,6 @@ fn pair_of(checked: &Checked<'_>) -> Pair
 /// Learns the pair of an authenticated message. A message without authentication teaches nothing. Where its engine is held
 /// already, this takes no memory and succeeds.
 pub(crate) fn learn(clocks: &mut Clocks, checked: &Checked<'_>, now: u64) -> Result<(), AllocError>
-    requires engine { HasEngineLength checked.now.security.engine.now }
-    requires pair { IsPair (pair_in (verified_of checked.now)) }
     ensures no_memory { (checked.now.message.header.auth ≡ true → IsSome (mark_at clocks.old checked.now.security.engine.now)) → IsOk result }
     ensures learned { OnOk result (LearnsChecked (verified_of checked.now) now clocks.old clocks.new) }
     ensures err { OnErr result (clocks.new ≡ clocks.old) }
@@ -53,8 +47,6 @@ pub(crate) fn learn(clocks: &mut Clocks, checked: &Checked<'_>, now: u64) -> Res
 /// Whether a message is in the time window once its pair is learned, which isn't done yet (RFC 3414, section 3.2, step 7). One without
 /// authentication has no window.
 pub(crate) fn is_fresh_once_learned(clocks: &Clocks, checked: &Checked<'_>, now: u64) -> bool
-    requires engine { HasEngineLength checked.now.security.engine.now }
-    requires pair { IsPair (pair_in (verified_of checked.now)) }
     ensures { (learned : Marks) → LearnsChecked (verified_of checked.now) now clocks.now learned
         → (IsTrue result ↔ (checked.now.message.header.auth ≡ true → IsFresh (as_manager learned) now (verified_of checked.now))) }
 {

@@ -1,13 +1,11 @@
 //! What a message that passed its digest is answered, before its pair is learned.
 
-ghost use Rattle.std.specs.Prelude.{◌≡◌, ◌≤◌, false, length, IfOk, IsOk, IsSomeAnd, Ok};
+ghost use Rattle.std.specs.Prelude.{◌≡◌, false, IfOk, IsOk, IsSomeAnd, Ok};
 ghost use Rattle.snmp_ber.specs.declared.level.Level.TheVariants.{AuthPriv};
 ghost use Rattle.snmp_message.specs.Message.{tag_of};
-ghost use Rattle.snmp_message.specs.Level.{level_of};
 ghost use Rattle.engine_clock.specs.Marks.{Marks};
 ghost use Rattle.usm_users.specs.Users.{HasUserAt};
 ghost use Rattle.usm_core.specs.Answers.{verified_of};
-ghost use Rattle.usm_core.specs.Authentic.{HasEngineLength};
 ghost use Rattle.usm_core.specs.Verified.{IsReadAs};
 ghost use Rattle.snmp_outcome.specs.Answers.{answer_of};
 ghost use Rattle.snmp_outcome.specs.Outcome.{Given, Weighs, as_manager};
@@ -31,10 +29,7 @@ pub(crate) fn weigh<'a>(
     checked: &Checked<'a>,
 ) -> Result<Result<Taken<'a>, TakeFault>, AllocError>
     requires read { IsReadAs datagram.now (verified_of checked.now) }
-    requires level { checked.now.level ≡ level_of checked.now.message.header }
     requires private { checked.now.level ≡ AuthPriv → HasUserAt users.old.users checked.now.security.user.now AuthPriv × (tag_of checked.now.message.body ≡ 4) }
-    requires engine { HasEngineLength checked.now.security.engine.now }
-    requires user { length checked.now.security.user.now ≤ 32 }
     ensures users { users.new.users ≡ users.old.users }
     ensures no_memory { checked.now.message.header.privacy ≡ false → IsOk result }
     ensures weighs { IfOk result (λ answer. (learned : Marks) → LearnsChecked (verified_of checked.now) now clocks.now learned
@@ -60,10 +55,7 @@ pub(crate) fn weigh_kept(
     checked: &Checked<'_>,
 ) -> Result<Result<Kept, TakeFault>, AllocError>
     requires read { IsReadAs datagram.now (verified_of checked.now) }
-    requires level { checked.now.level ≡ level_of checked.now.message.header }
     requires private { checked.now.level ≡ AuthPriv → HasUserAt users.old.users checked.now.security.user.now AuthPriv × (tag_of checked.now.message.body ≡ 4) }
-    requires engine { HasEngineLength checked.now.security.engine.now }
-    requires user { length checked.now.security.user.now ≤ 32 }
     ensures users { users.new.users ≡ users.old.users }
     ensures no_memory { checked.now.message.header.privacy ≡ false → (learned : Marks) → LearnsChecked (verified_of checked.now) now clocks.now learned
         → ((g : Given) → Weighs (as_manager learned) users.old.users now datagram.now (verified_of checked.now) (Ok g) → ⊥) → IsOk result }

@@ -4,7 +4,6 @@ ghost use Rattle.std.specs.Prelude.{◌≡◌, ◌≤◌, false, length, IsOk, I
 ghost use Rattle.std.specs.Option.{option_map};
 ghost use Rattle.snmp_ber.specs.declared.level.Level.TheVariants.{AuthPriv};
 ghost use Rattle.snmp_message.specs.Message.{tag_of};
-ghost use Rattle.snmp_message.specs.Level.{level_of};
 ghost use Rattle.usm_users.specs.Users.{HasUserAt};
 ghost use Rattle.usm_core.specs.Verified.{IsReadAs};
 ghost use Rattle.usm_core.specs.Answers.{verified_of};
@@ -32,7 +31,6 @@ pub fn scoped_octets<'a>(
     checked: &Checked<'a>,
 ) -> Result<Option<Octets<'a>>, AllocError>
     requires read { IsReadAs datagram.now (verified_of checked.now) }
-    requires level { checked.now.level ≡ level_of checked.now.message.header }
     requires private { checked.now.level ≡ AuthPriv → HasUserAt users.old.users checked.now.security.user.now AuthPriv × (tag_of checked.now.message.body ≡ 4) }
     ensures users { users.new.users ≡ users.old.users }
     ensures no_memory { checked.now.message.header.privacy ≡ false → IsOk result }
@@ -64,11 +62,6 @@ pub fn read_text<'a>(
     text: Octets<'a>,
 ) -> Result<Taken<'a>, TakeFault>
     requires engine { engine ≡ checked.now.security.engine.now }
-    requires level { checked.now.level ≡ level_of checked.now.message.header }
-    requires user { length checked.now.security.user.now ≤ 32 }
-    requires id { checked.now.message.header.id ≤ 2147483647 }
-    requires least { 484 ≤ checked.now.message.header.max_size }
-    requires most { checked.now.message.header.max_size ≤ 2147483647 }
     ensures { IsSomeAnd (answer_of result) (ReadsText (verified_of checked.now) (text_of text.entry)) }
 {
     let base = match text {

@@ -1,7 +1,6 @@
 //! A message, opened by the keys of users.
 
 ghost use Rattle.std.specs.Prelude.{◌≡◌, IfOk, IfSome, string_bytes};
-ghost use Rattle.snmp_message.specs.Level.{level_of};
 ghost use Rattle.usm_core.specs.Answers.{verified_of};
 ghost use Rattle.snmp_outcome.specs.Texts.{text_of};
 ghost use Rattle.snmpsec_open.specs.Opening.{TellsText, Opens, lines_answer};
@@ -45,7 +44,6 @@ fn taken_lines(
     checked: &Checked<'_>,
     taken: &Taken<'_>,
 ) -> Result<String, AllocError>
-    requires { checked.now.level ≡ level_of checked.now.message.header }
     ensures { IfOk result (λ text. TellsText (verified_of checked.now) (text_of taken.now.text) (string_bytes text)) }
 {
     let message = message_lines(alloc, &checked.message.header, &checked.security)?;

@@ -3,7 +3,6 @@
 ghost use Rattle.std.specs.Prelude.{◌≡◌, ◌≤◌, ◌⊎◌, ◌↔◌, ℕ, List, [], length, IsTrue, IfOk, IfSome, None};
 ghost use Rattle.std.specs.Bool.{OnTrue};
 ghost use Rattle.snmp_ber.specs.declared.level.Level.TheVariants.{NoAuthNoPriv};
-ghost use Rattle.snmp_message.specs.Level.{level_of};
 ghost use Rattle.usm_core.specs.Authentic.{HasEngineLength};
 ghost use Rattle.usm_core.specs.Verified.{Verifies, AllowsEngine, manager};
 ghost use Rattle.usm_core.specs.Answers.{side_of, checked_answer};
@@ -51,7 +50,6 @@ pub(crate) fn verify<'a>(
     requires cache { AreCached users.now cache.now }
     requires none { made.old ≡ None }
     ensures rows { Verifies (side_of role.entry) users.now datagram.now (checked_answer result) }
-    ensures level { IfOk result (λ c. c.level ≡ level_of c.message.header) }
     ensures made { IfOk result (λ c. IfSome made.new (IsCachedAt users.now (key_id c.security.user.now c.security.engine.now Authentication))) }
 {
     let layout = read_layout(datagram)?;
@@ -74,5 +72,9 @@ pub(crate) fn verify<'a>(
             }
         }
     }
-    Ok(layout)
+    Ok(Checked {
+        message,
+        security,
+        level,
+    })
 }

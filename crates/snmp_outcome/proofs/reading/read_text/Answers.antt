@@ -14,8 +14,8 @@ returns-in_err-found c =
     rw (p.1, p.2) (text_refused (verified_of c.args.checked.now) (text_of c.args.text) (answer_number c.in_err-found.field-0.0) (subst (λ text. RefusesText text c.in_err-found.field-0.0) c.as_slice.ensures c.in_err-found.ensures.fault))
 
 pub invariant_of-result : goal.invariant_of-result
-invariant_of-result c = record { user_fits = c.requires.user; id_fits = c.requires.id; size_fits = (c.requires.least, c.requires.most); is_read = merely (subst (λ text. HasTag text c.in_ok-found.found.0) c.as_slice.ensures c.in_ok-found.ensures.tag); contexts_stand = subst (λ text. ContextsThere text c.in_ok-found.found.1) c.as_slice.ensures c.in_ok-found.ensures.contexts; stands = subst (λ text. StandsThere text c.in_ok-found.found.0 c.in_ok-found.found.2) c.as_slice.ensures c.in_ok-found.ensures.stands; within = subst (λ (text : List ℕ). (c.in_ok-found.found.2.list_at ≤ c.in_ok-found.found.2.end) × (c.in_ok-found.found.2.end ≤ length text)) c.as_slice.ensures c.in_ok-found.ensures.within }
+invariant_of-result c = record { user_fits = c.args.checked.now.user_fits; id_fits = c.args.checked.now.id_fits; size_fits = c.args.checked.now.size_fits; is_read = merely (subst (λ text. HasTag text c.in_ok-found.found.0) c.as_slice.ensures c.in_ok-found.ensures.tag); contexts_stand = subst (λ text. ContextsThere text c.in_ok-found.found.1) c.as_slice.ensures c.in_ok-found.ensures.contexts; stands = subst (λ text. StandsThere text c.in_ok-found.found.0 c.in_ok-found.found.2) c.as_slice.ensures c.in_ok-found.ensures.stands; within = subst (λ (text : List ℕ). (c.in_ok-found.found.2.list_at ≤ c.in_ok-found.found.2.end) × (c.in_ok-found.found.2.end ≤ length text)) c.as_slice.ensures c.in_ok-found.ensures.within }
 
 pub returns : goal.returns
 returns c =
-    text_read (verified_of c.args.checked.now) (text_of c.args.text) _ (subst (λ text. HasTag text c.in_ok-found.found.0) c.as_slice.ensures c.in_ok-found.ensures.tag) c.requires.engine refl c.requires.level refl refl refl
+    text_read (verified_of c.args.checked.now) (text_of c.args.text) _ (subst (λ text. HasTag text c.in_ok-found.found.0) c.as_slice.ensures c.in_ok-found.ensures.tag) c.requires.engine refl c.args.checked.now.level_is refl refl refl
