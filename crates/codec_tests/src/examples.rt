@@ -10,5 +10,6 @@ mod of_snmpsec_dump;
 mod of_snmpsec_hex;
 mod of_snmpsec_import;
 mod of_snmpsec_lists;
+mod of_snmpsec_packet;
 mod of_snmpsec_streams;
 mod of_vacm_core;
