@@ -2,4 +2,5 @@
 mod of_snmpsec_capture;
 mod of_snmpsec_dump;
 mod of_snmpsec_hex;
+mod of_snmpsec_packet;
 mod of_snmpsec_streams;

@@ -5,12 +5,12 @@ use Rattle.std.proofs.lemmas.Bool.{cases_lt}
 use Rattle.std.proofs.lemmas.Bool.Decides.{eqb_tells}
 use Rattle.std.proofs.Math.Nat.{min-eq_left, min-eq_right, min-le_left}
 use Rattle.std.proofs.Math.Dec.{eqb}
-use Rattle.snmpsec_capture.specs.Field.{field32}
+use Rattle.snmpsec_packet.specs.Field.{field32}
 use Rattle.snmpsec_capture.specs.Items.{Record}
 use Rattle.snmpsec_capture.specs.Pcapng.{InSection, IsBlock, IsBlockIn, IsFours, LOOKED_AT, Means, block_order, least_size}
 use Rattle.snmpsec_capture.specs.Formats.{HasNoBlockHead, HasNoItem, IsBlockHead, IsItem, IsRead, State}
-use Rattle.snmpsec_capture.specs.declared.field.Order.{Order}
-use Rattle.snmpsec_capture.specs.declared.field.Order.TheVariants.{Big, Little}
+use Rattle.snmpsec_packet.specs.declared.field.Order.{Order}
+use Rattle.snmpsec_packet.specs.declared.field.Order.TheVariants.{Big, Little}
 use Rattle.snmpsec_capture.specs.declared.pcapng.BlockHead.{BlockHead}
 use Rattle.snmpsec_capture.proofs.Records.{field32_front, same_field}
 

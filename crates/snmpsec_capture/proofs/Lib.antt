@@ -3,9 +3,7 @@ pub mod Fronts
 pub mod Readings
 pub mod Options
 pub mod Meanings
-pub mod Walks
 pub mod Counts
 pub mod Logs
-pub mod Parts
 pub mod Units
 pub mod RawRecords

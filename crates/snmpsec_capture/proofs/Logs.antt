@@ -5,7 +5,7 @@ use Rattle.std.proofs.KnownBytes.{Appends-nil, Appends-trans, Appends-kept, Cons
 use Rattle.snmpsec_streams.specs.Transfer.{WritesFront}
 use Rattle.snmpsec_capture.specs.Items.{Record}
 use Rattle.snmpsec_capture.specs.Formats.{AreItems, HasBegun, IsItem, State, StopsItem, records_of}
-use Rattle.snmpsec_capture.specs.Passed.{Counts, none_passed}
+use Rattle.snmpsec_packet.specs.Passed.{Counts, none_passed}
 use Rattle.snmpsec_capture.specs.Datagrams.{Printing, PrintsAs, PrintsRecord, IsSortedRecord, note_of, count_of, Sorts, IsLogOf, streams, Stands, StopsWriting, WriteFails, StopsItems, WritesItem, WritesRecord, WritesRecordFront, StopsRecord, StopsWrite, IsEnd, IsLess, IsWholeItem}
 use Rattle.snmpsec_capture.specs.declared.datagrams.Sorted.{Sorted}
 use Rattle.snmpsec_capture.specs.declared.datagrams.Sorted.TheVariants.{Logged, Told, Counted}

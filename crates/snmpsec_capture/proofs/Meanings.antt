@@ -2,7 +2,7 @@
 use Rattle.std.proofs.Common.{◌≡◌, ℕ, List, Option, subst}
 use Rattle.snmpsec_capture.specs.Items.{Record}
 use Rattle.snmpsec_capture.specs.Pcapng.{InSection, IsInterface, IsPacket, Means, MeansAs, block_kind}
-use Rattle.snmpsec_capture.specs.declared.field.Order.{Order}
+use Rattle.snmpsec_packet.specs.declared.field.Order.{Order}
 use Rattle.snmpsec_capture.specs.declared.interface.Interface.{Interface}
 use Rattle.snmpsec_capture.specs.declared.pcapng.Kind.TheVariants as kind
 

@@ -1,7 +1,7 @@
 -- One option more.
 use Rattle.std.proofs.Common.{◌≡◌, ℕ, suc, true, List, subst}
 use Rattle.snmpsec_capture.specs.Pcapng.{Say, SayAll, behind_option, has_option, with_option}
-use Rattle.snmpsec_capture.specs.declared.field.Order.{Order}
+use Rattle.snmpsec_packet.specs.declared.field.Order.{Order}
 use Rattle.snmpsec_capture.specs.declared.interface.Interface.{Interface}
 
 pub next_option : (order : Order) (octets rest next : List ℕ) (plain i k : Interface)

@@ -3,8 +3,8 @@ use Rattle.std.proofs.Common.{◌≡◌, ℕ, ◌+◌, ◌<◌, ◌≤◌, List,
 use Rattle.std.proofs.lemmas.Bool.{le-leb}
 use Rattle.std.proofs.lemmas.List.{take_more, map-append, length-map, length-take-le}
 use Rattle.snmpsec_capture.specs.Items.{Record}
-use Rattle.snmpsec_capture.specs.Passed.{Counts, none_passed}
-use Rattle.snmpsec_capture.specs.Packet.{IsFound}
+use Rattle.snmpsec_packet.specs.Passed.{Counts, none_passed}
+use Rattle.snmpsec_packet.specs.Packet.{IsFound}
 use Rattle.snmpsec_capture.specs.Packets.{packet_record}
 use Rattle.snmpsec_capture.specs.Datagrams.{Printing, Sorts, WritesRecord, note_of}
 use Rattle.snmpsec_capture.proofs.Logs.{sorts_more}

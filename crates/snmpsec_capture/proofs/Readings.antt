@@ -5,7 +5,7 @@ use Rattle.std.specs.Io.KnownBytes.{Consumes}
 use Rattle.std.proofs.KnownBytes.{Consumes-trans}
 use Rattle.std.proofs.lemmas.Bool.{and_parts, cases_lt, le-leb, leb-true}
 use Rattle.std.proofs.Math.Nat.{min-le_right}
-use Rattle.snmpsec_capture.specs.Field.{field32}
+use Rattle.snmpsec_packet.specs.Field.{field32}
 use Rattle.snmpsec_capture.specs.Items.{Record, record_of}
 use Rattle.snmpsec_capture.specs.Pcapng.{InSection, LOOKED_AT, Means, begins_section, least_size, nowhere}
 use Rattle.snmpsec_capture.specs.Formats.{BeginsSection, HasBegun, HasNoItem, ReadsBeginning, StopsItem, IsBlockHead, IsNextBlock, ReadsFront, ReadsNoRest, ReadsNone, ReadsRest, ReadsWhole, TakesInterface, with_interface}
@@ -14,7 +14,7 @@ use Rattle.snmpsec_capture.specs.declared.fault.CaptureFault.TheVariants as faul
 use Rattle.snmpsec_capture.specs.declared.item.Head.{Head}
 use Rattle.snmpsec_capture.specs.declared.item.Item.{Item}
 use Rattle.snmpsec_capture.specs.declared.pcapng.BlockHead.{BlockHead}
-use Rattle.snmpsec_capture.specs.declared.field.Order.TheVariants.{Big}
+use Rattle.snmpsec_packet.specs.declared.field.Order.TheVariants.{Big}
 use Rattle.snmpsec_capture.proofs.Records.{field32_front, same_field}
 use Rattle.snmpsec_capture.proofs.Fronts.{block_12, head_on, is_block, least_looked, most_taken, none_cut, none_meant, none_read, read_most, same_packet, take_min}
 

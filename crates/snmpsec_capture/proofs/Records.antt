@@ -2,13 +2,13 @@
 use Rattle.std.proofs.Common.{◌≡◌, ◌⊎◌, inl, inr, append-nil, ℕ, ◌+◌, ◌<◌, ◌≤◌, List, [], ◌++◌, length, take, drop, Some, refl, sym, ap, ◌∙◌, arith, length-append, take_at, drop_at}
 use Rattle.std.proofs.lemmas.List.{get_or_append_left}
 use Rattle.std.proofs.lemmas.Bool.{le-leb}
-use Rattle.snmpsec_capture.specs.Field.{field32}
+use Rattle.snmpsec_packet.specs.Field.{field32}
 use Rattle.snmpsec_capture.specs.Items.{record_of}
 use Rattle.snmpsec_capture.specs.Pcap.{IsRecord, HasNoRecord, IsHead}
 use Rattle.snmpsec_capture.specs.Formats.{HasNoItem, begins_capture}
 use Rattle.snmpsec_capture.specs.declared.pcap.Header.{Header}
-use Rattle.snmpsec_capture.specs.declared.field.Order.{Order}
-use Rattle.snmpsec_capture.specs.declared.field.Order.TheVariants.{Big, Little}
+use Rattle.snmpsec_packet.specs.declared.field.Order.{Order}
+use Rattle.snmpsec_packet.specs.declared.field.Order.TheVariants.{Big, Little}
 use Rattle.snmpsec_capture.specs.declared.item.Head.{Head}
 
 -- a number stands in the front

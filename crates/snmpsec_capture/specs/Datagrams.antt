@@ -5,17 +5,17 @@ use Rattle.std.specs.List.{list_any}
 use Rattle.std.specs.Io.KnownBytes.{Appends, Consumes, IsAtEnd, Keeps}
 use Rattle.hex.specs.Hex.{encode_lower}
 use Rattle.snmpsec_streams.specs.Transfer.{WritesFront}
-use Rattle.snmpsec_capture.specs.Packet.{IsFound}
-use Rattle.snmpsec_capture.specs.Passed.{Counts, none_passed, one_more, one_printed}
+use Rattle.snmpsec_packet.specs.Packet.{IsFound}
+use Rattle.snmpsec_packet.specs.Passed.{Counts, none_passed, one_more, one_printed}
 use Rattle.snmpsec_capture.specs.Items.{Record}
 use Rattle.snmpsec_capture.specs.Formats.{AreItems, HasBegun, HasNoItem, IsBeginning, IsItem, ReadsBeginning, State, records_of}
-use Rattle.snmpsec_capture.specs.declared.packet.Found.{Found}
-use Rattle.snmpsec_capture.specs.declared.packet.Found.TheVariants as found
+use Rattle.snmpsec_packet.specs.declared.packet.Found.{Found}
+use Rattle.snmpsec_packet.specs.declared.packet.Found.TheVariants as found
 use Rattle.snmpsec_capture.specs.declared.datagrams.Sorted.{Sorted}
 use Rattle.snmpsec_capture.specs.declared.datagrams.Sorted.TheVariants.{Logged, Told, Counted}
 use Rattle.snmpsec_capture.specs.declared.datagrams.Telling.{Telling}
 use Rattle.snmpsec_capture.specs.declared.datagrams.Telling.TheVariants as telling
-use Rattle.snmpsec_capture.specs.declared.passed.Reason.TheVariants as reason
+use Rattle.snmpsec_packet.specs.declared.passed.Reason.TheVariants as reason
 use Rattle.snmpsec_capture.specs.declared.datagrams.Captured.{Captured}
 use Rattle.snmpsec_capture.specs.declared.fault.CaptureFault.{CaptureFault}
 use Rattle.snmpsec_capture.specs.declared.fault.CaptureFault.TheVariants as fault

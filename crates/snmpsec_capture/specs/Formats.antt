@@ -2,11 +2,11 @@
 use Rattle.std.specs.Prelude.{◌≡◌, ◌≢◌, ◌⊎◌, ℕ, ◌+◌, ◌-◌, ◌<◌, ◌≤◌, ◌||◌, ⊤, Bool, true, false, List, [], ◌∷◌, ◌++◌, length, take, filter_map, Option, Some, None, IfSome, option_map}
 use Rattle.std.specs.Io.KnownBytes.{Consumes, IsAtEnd}
 use Rattle.std.proofs.Common.{inl, inr}
-use Rattle.snmpsec_capture.specs.Field.{field16_by, field32}
+use Rattle.snmpsec_packet.specs.Field.{field16_by, field32}
 use Rattle.snmpsec_capture.specs.Items.{Record, record_of}
 use Rattle.snmpsec_capture.specs.Pcap.{IsHeader, IsHeaderFault, IsRecord, begins_pcap}
 use Rattle.snmpsec_capture.specs.Pcapng.{InSection, IsBlockIn, IsFours, IsPacket, LOOKED_AT, Means, begins_section, block_order, least_size, nowhere, section_of}
-use Rattle.snmpsec_capture.specs.declared.field.Order.{Order}
+use Rattle.snmpsec_packet.specs.declared.field.Order.{Order}
 use Rattle.snmpsec_capture.specs.declared.pcap.Header.{Header}
 use Rattle.snmpsec_capture.specs.declared.pcapng.BlockHead.{BlockHead}
 use Rattle.snmpsec_capture.specs.declared.pcapng.Meaning.{Meaning}

@@ -1,7 +1,7 @@
 -- Packets without a capture around them, each a record.
 use Rattle.std.specs.Prelude.{ℕ, List, length, map, Some}
 use Rattle.snmpsec_capture.specs.Items.{Record}
-use Rattle.snmpsec_capture.specs.Passed.{Counts, none_passed}
+use Rattle.snmpsec_packet.specs.Passed.{Counts, none_passed}
 use Rattle.snmpsec_capture.specs.Datagrams.{Printing, Sorts}
 
 -- a packet that begins with its IP header, whole, and was received at this moment

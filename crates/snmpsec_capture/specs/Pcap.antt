@@ -1,10 +1,10 @@
 -- A capture in the format of libpcap: a header, and records of a header and a packet each. All numbers are in one order.
 use Rattle.std.specs.Prelude.{◌≡◌, ◌≢◌, ◌⊎◌, ℕ, ◌+◌, ◌<◌, ◌≤◌, ◌==◌, ◌&&◌, ◌||◌, nat_le, Bool, true, false, List, ◌++◌, length, drop, Option, Some}
 use Rattle.std.specs.Io.KnownBytes.{Consumes}
-use Rattle.snmpsec_capture.specs.Field.{field16_by, field32}
+use Rattle.snmpsec_packet.specs.Field.{field16_by, field32}
 use Rattle.snmpsec_capture.specs.Items.{Record}
-use Rattle.snmpsec_capture.specs.declared.field.Order.{Order}
-use Rattle.snmpsec_capture.specs.declared.field.Order.TheVariants.{Big, Little}
+use Rattle.snmpsec_packet.specs.declared.field.Order.{Order}
+use Rattle.snmpsec_packet.specs.declared.field.Order.TheVariants.{Big, Little}
 use Rattle.snmpsec_capture.specs.declared.pcap.Header.{Header}
 use Rattle.snmpsec_capture.specs.declared.item.Head.{Head}
 

@@ -1,10 +1,10 @@
 -- A capture in pcapng (draft-ietf-opsawg-pcapng): blocks, of which the header of a section says the order of the numbers up to the next one,
 -- a description of an interface how the packets are captured that name it, and a packet block one of them.
 use Rattle.std.specs.Prelude.{◌≡◌, ℕ, zero, suc, ◌+◌, ◌-◌, ◌*◌, ◌/◌, ◌%◌, ◌^◌, ◌<◌, ◌≤◌, ◌==◌, ◌&&◌, ◌||◌, not, nat_le, Bool, true, false, if◌then◌else◌, List, [], ◌∷◌, ◌++◌, length, take, drop, slice_index, slice_get, Option, Some, None, SomeIff}
-use Rattle.snmpsec_capture.specs.Field.{field16_by, field32, field64}
+use Rattle.snmpsec_packet.specs.Field.{field16_by, field32, field64}
 use Rattle.snmpsec_capture.specs.Items.{Record}
-use Rattle.snmpsec_capture.specs.declared.field.Order.{Order}
-use Rattle.snmpsec_capture.specs.declared.field.Order.TheVariants.{Big, Little}
+use Rattle.snmpsec_packet.specs.declared.field.Order.{Order}
+use Rattle.snmpsec_packet.specs.declared.field.Order.TheVariants.{Big, Little}
 use Rattle.snmpsec_capture.specs.declared.pcapng.Kind.{Kind}
 use Rattle.snmpsec_capture.specs.declared.pcapng.Kind.TheVariants as kind
 use Rattle.snmpsec_capture.specs.declared.pcapng.Section.{Section}

@@ -6,9 +6,9 @@ ghost use Rattle.snmpsec_capture.specs.Pcapng.{IsFours, section_of};
 ghost use Rattle.snmpsec_capture.specs.Formats.{IsBlockHead, IsNext, IsNextBlock, ReadsNoRest, ReadsRest, SkipsAll, SkipsPart, StopsItem, of_section};
 
 use crate::fault::CaptureFault;
-use crate::field::read_32;
 use crate::item::{Item, Next};
 use crate::pcapng::{BlockHead, Meaning, ROOM, Section, read_block_head};
+use snmpsec_packet::read_32;
 use snmpsec_streams::{Failed, read_full};
 use std::io::Read;
 

@@ -4,17 +4,16 @@ ghost use Rattle.std.specs.Prelude.{◌≡◌, ◌+◌, ◌<◌, ◌≤◌, List
 ghost use Rattle.std.specs.Io.KnownBytes.{Appends, Consumes, IsAtEnd};
 ghost use Rattle.snmpsec_capture.specs.Formats.{state_of};
 ghost use Rattle.snmpsec_capture.specs.Items.{record_of};
-ghost use Rattle.snmpsec_capture.specs.Passed.{IsBelow, counts_of, none_passed};
+ghost use Rattle.snmpsec_packet.specs.Passed.{IsBelow, counts_of, none_passed};
 ghost use Rattle.snmpsec_capture.specs.Datagrams.{IsEnd, IsLogOf, IsSorted, IsSortedRecord, PrintsAs, PrintsLine, Stands, StopsDatagram, StopsBy, StopsItems, StopsRecord, StopsWrite, WritesDatagram, WritesItem, WritesRecord, log_line, note_line, record_from, told_word, streams};
 
 use crate::fault::CaptureFault;
 use crate::format::{Begun, begin, read_item};
 use crate::item::{Head, Item, Next};
-use crate::packet::{Found, find_datagram};
-use crate::passed::{Reason, Tally};
 use crate::pcap::HEADER;
 use crate::pcapng::ROOM;
 use crate::printer::{Lines, Printer};
+use snmpsec_packet::{Found, Reason, Tally, find_datagram};
 use snmpsec_streams::{read_full, write_whole};
 use std::alloc::{AllocError, Global};
 use std::io::{Read, Write};

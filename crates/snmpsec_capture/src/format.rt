@@ -7,10 +7,10 @@ ghost use Rattle.snmpsec_capture.specs.Pcapng.{begins_section};
 
 use crate::blocks::{finish_block, read_block};
 use crate::fault::CaptureFault;
-use crate::field::Order;
 use crate::item::Next;
 use crate::pcap::{HEADER, Header, begins_pcap, read_header, read_record};
 use crate::pcapng::{Section, begins_section, read_block_head};
+use snmpsec_packet::Order;
 use std::alloc::Global;
 use std::io::Read;
 

@@ -3,7 +3,7 @@
 ghost use Rattle.std.specs.Prelude.{◌≡◌, ◌<◌, ◌≤◌, ◌^◌, ◌/◌, SomeIff, length, true};
 ghost use Rattle.snmpsec_capture.specs.Pcapng.{IsMoved, SayAll, behind_option, has_option, plain_interface, units, with_option};
 
-use crate::field::{Order, read_16_by, read_64};
+use snmpsec_packet::{Order, read_16_by, read_64};
 
 /// What the description of an interface says of its packets.
 #[derive(Clone, Copy, Debug, PartialEq, Eq)]

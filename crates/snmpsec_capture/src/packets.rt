@@ -3,12 +3,12 @@
 ghost use Rattle.std.specs.Prelude.{◌≡◌, IfOk, OnOk, Some, map};
 ghost use Rattle.snmpsec_capture.specs.Datagrams.{PrintsAs, WritesRecord};
 ghost use Rattle.snmpsec_capture.specs.Packets.{ComeTo, packet_record};
-ghost use Rattle.snmpsec_capture.specs.Passed.{IsBelow, counts_of};
+ghost use Rattle.snmpsec_packet.specs.Passed.{IsBelow, counts_of};
 
 use crate::datagrams::{Captured, write_record};
 use crate::item::Head;
-use crate::passed::Tally;
 use crate::printer::Printer;
+use snmpsec_packet::Tally;
 use std::alloc::{AllocError, Global};
 
 /// The link on which packets begin with their IP header, a number of LINKTYPE.

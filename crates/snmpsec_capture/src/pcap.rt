@@ -1,12 +1,12 @@
 //! The header and the records of a capture in the format of libpcap.
 
 ghost use Rattle.std.specs.Prelude.{◌≡◌, true, false, ◌<◌, ◌≤◌, length, IfOk, IfErr, IfSome, IfNone, OnErr};
-ghost use Rattle.snmpsec_capture.specs.Field.{field32};
+ghost use Rattle.snmpsec_packet.specs.Field.{field32};
 ghost use Rattle.snmpsec_capture.specs.Formats.{IsNext, of_header};
 ghost use Rattle.snmpsec_capture.specs.Pcap.{IsHead, IsHeader, IsHeaderFault, ReadsPart, begins_pcap, is_magic, major};
 
-use crate::field::{Order, read_16_by, read_32};
 use crate::item::{Head, Item, Next};
+use snmpsec_packet::{Order, read_16_by, read_32};
 use snmpsec_streams::{Failed, read_full};
 use std::io::Read;
 

@@ -5,10 +5,10 @@ ghost use Rattle.snmpsec_capture.specs.Formats.{HasNoBlockHead, IsBlockHead, IsM
 ghost use Rattle.snmpsec_capture.specs.declared.interface.Interface.{Interface as InterfaceIs};
 ghost use Rattle.snmpsec_capture.specs.Pcapng.{IsInterface, begins_section, block_kind, block_order, kind_of, least_size, section_of};
 
-use crate::field::{Order, read_16_by, read_32};
 use crate::interface::{Interface, read_options};
 use crate::item::Head;
 use crate::pcap::LARGEST;
+use snmpsec_packet::{Order, read_16_by, read_32};
 use std::alloc::AllocError;
 
 /// How much of a block is looked at: the header of a packet, and the most octets of a packet.

@@ -4,7 +4,7 @@ use Rattle.std.proofs.lemmas.List.{get_or-map, length-map}
 use Rattle.std.specs.Io.KnownBytes.{Appends, Consumes, IsAtEnd}
 use Rattle.std.proofs.KnownBytes.{Appends-nil, Keeps-refl}
 use Rattle.snmpsec_capture.specs.Datagrams.{Printing, StopsBy, Streams}
-use Rattle.snmpsec_capture.specs.Passed.{Counts}
+use Rattle.snmpsec_packet.specs.Passed.{Counts}
 use Rattle.snmpsec_capture.specs.declared.fault.CaptureFault.TheVariants as capture
 use Rattle.snmpsec_datagrams.specs.declared.datagrams.Unread.{Unread}
 use Rattle.snmpsec_datagrams.specs.declared.datagrams.Unread.TheVariants as unread

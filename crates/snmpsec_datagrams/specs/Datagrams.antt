@@ -3,7 +3,7 @@ use Rattle.std.specs.Prelude.{◌≡◌, ◌⊎◌, ℕ, ◌<◌, ◌^◌, Bool,
 use Rattle.std.specs.List.{All, Contains}
 use Rattle.std.specs.Io.KnownBytes.{Appends, Keeps}
 use Rattle.snmpsec_streams.specs.Transfer.{WritesFront}
-use Rattle.snmpsec_capture.specs.Passed.{Counts, IsPassedWords}
+use Rattle.snmpsec_packet.specs.Passed.{Counts, IsPassedWords}
 use Rattle.snmpsec_capture.specs.Datagrams.{IsLogOf, Printing, Streams, StopsBy}
 use Rattle.snmpsec_capture.specs.declared.fault.CaptureFault.TheVariants as capture
 use Rattle.snmpsec_datagrams.specs.declared.datagrams.Unread.{Unread}

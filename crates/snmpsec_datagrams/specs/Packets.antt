@@ -2,7 +2,7 @@
 use Rattle.std.specs.Prelude.{◌≡◌, ℕ, List, ◌++◌}
 use Rattle.snmpsec_capture.specs.Datagrams.{Printing}
 use Rattle.snmpsec_capture.specs.Packets.{ComeTo}
-use Rattle.snmpsec_capture.specs.Passed.{Counts}
+use Rattle.snmpsec_packet.specs.Passed.{Counts}
 use Rattle.snmpsec_datagrams.specs.Datagrams.{IsPassedLine, status_of}
 
 -- What is printed of packets that were received at this moment, what is told beside, and the status: they come to what records of a capture do, and

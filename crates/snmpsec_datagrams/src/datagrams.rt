@@ -4,7 +4,7 @@ ghost use Rattle.std.specs.Prelude.{◌≡◌, ◌<◌, ◌≤◌, ◌^◌, ℕ,
 ghost use Rattle.std.specs.Io.KnownBytes.{Appends, Consumes, IsAtEnd};
 ghost use Rattle.snmpsec_datagrams.specs.Datagrams.{AskPorts, HasNoPort, IsPassedLine, LosesLine, LosesPassed, Tells, TellsNot, TellsPassed, refused_line};
 ghost use Rattle.snmpsec_capture.specs.Datagrams.{PrintsLine, streams};
-ghost use Rattle.snmpsec_capture.specs.Passed.{counts_of};
+ghost use Rattle.snmpsec_packet.specs.Passed.{counts_of};
 
 use snmp_ber::read_decimal;
 use snmpsec_capture::{CaptureFault, HEADER, Lines, Printer, Tally, print_datagrams_behind};

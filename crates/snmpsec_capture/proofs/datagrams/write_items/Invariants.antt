@@ -1,7 +1,7 @@
 use Rattle.std.proofs.Common.{◌≡◌, ◌+◌, ◌-◌, ◌≤◌, length}
 use Rattle.snmpsec_capture.specs.Datagrams.{PrintsAs, Stands, streams}
 use Rattle.snmpsec_capture.specs.Formats.{state_of}
-use Rattle.snmpsec_capture.specs.Passed.{IsBelow, counts_of}
+use Rattle.snmpsec_packet.specs.Passed.{IsBelow, counts_of}
 use Rattle.snmpsec_capture.proofs.Logs.{IsBefore}
 use Rattle.snmpsec_capture.proofs.datagrams.write_items.Given as goal
 

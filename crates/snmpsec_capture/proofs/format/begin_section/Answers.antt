@@ -1,7 +1,7 @@
 use Rattle.std.proofs.Common.{◌≡◌, take, arith, subst, refl, ap, sym, ◌∙◌, take_at, inr, Some}
 use Rattle.std.specs.Io.KnownBytes.{Consumes}
 use Rattle.snmpsec_capture.specs.Formats.{IsBlockHead, IsNextBlock, ReadsNone, StopsItem}
-use Rattle.snmpsec_capture.specs.declared.field.Order.TheVariants.{Big}
+use Rattle.snmpsec_packet.specs.declared.field.Order.TheVariants.{Big}
 use Rattle.snmpsec_capture.specs.Pcapng.{nowhere, section_of}
 use Rattle.snmpsec_capture.proofs.Fronts.{none_headless}
 use Rattle.snmpsec_capture.proofs.Readings.{begin_item, begin_none, begins_known, long_section, none_begun, stops_begin}

@@ -1,7 +1,7 @@
 use Rattle.std.proofs.Common.{◌+◌, List, ℕ, Some, refl, subst, arith}
 use Rattle.snmpsec_capture.specs.Datagrams.{WritesRecord}
 use Rattle.snmpsec_capture.specs.Packets.{packet_record}
-use Rattle.snmpsec_capture.specs.Passed.{counts_of}
+use Rattle.snmpsec_packet.specs.Passed.{counts_of}
 use Rattle.snmpsec_capture.proofs.Counts.{starts_below, below_most, below_next}
 use Rattle.snmpsec_capture.proofs.Logs.{writes_as}
 use Rattle.snmpsec_capture.proofs.RawRecords.{next_packet}

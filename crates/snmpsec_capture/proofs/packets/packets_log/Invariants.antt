@@ -1,7 +1,7 @@
 use Rattle.std.proofs.Common.{◌+◌, map, take}
 use Rattle.snmpsec_capture.specs.Datagrams.{PrintsAs, Sorts}
 use Rattle.snmpsec_capture.specs.Packets.{packet_record}
-use Rattle.snmpsec_capture.specs.Passed.{IsBelow, counts_of, none_passed}
+use Rattle.snmpsec_packet.specs.Passed.{IsBelow, counts_of, none_passed}
 use Rattle.snmpsec_capture.proofs.packets.packets_log.Given as goal
 
 abbrev pub invariant-loop-place : goal.invariant-loop-place

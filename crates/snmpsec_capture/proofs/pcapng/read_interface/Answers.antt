@@ -1,6 +1,6 @@
 use Rattle.std.proofs.Common.{◌-◌, drop, take, ap, subst, ◌∙◌}
 use Rattle.std.proofs.lemmas.Slice.{between_is}
-use Rattle.snmpsec_capture.specs.Field.{field16_by}
+use Rattle.snmpsec_packet.specs.Field.{field16_by}
 use Rattle.snmpsec_capture.specs.Pcapng.{SayAll, plain_interface}
 use Rattle.snmpsec_capture.proofs.pcapng.read_interface.Goals as goal
 

@@ -1,5 +1,5 @@
 use Rattle.std.proofs.Common.{◌≡◌, ◌++◌, ◌∙◌, ap, string_bytes, rules}
-use Rattle.snmpsec_capture.specs.Passed.{counts_of}
+use Rattle.snmpsec_packet.specs.Passed.{counts_of}
 use Rattle.snmpsec_datagrams.specs.Datagrams.{status_of}
 use Rattle.snmpsec_datagrams.proofs.packets.print_packets.Goals as goal
 

@@ -5,9 +5,9 @@ use Rattle.std.proofs.lemmas.Result.{IfOk-weaker}
 use Rattle.std.proofs.lemmas.List.Sorted.{IsPermutation-map}
 use Rattle.std.specs.Cmp.Lexicographic.{slice_cmp}
 use Rattle.std.specs.Ordering.{nat_cmp}
-use Rattle.snmpsec_capture.specs.Passed.{passed_parts, counts_of, link_parts}
-use Rattle.snmpsec_capture.proofs.Parts.{join_mapped, four, sorted_mapped}
-use Rattle.snmpsec_capture.proofs.passed.Tally.words.Goals as goal
+use Rattle.snmpsec_packet.specs.Passed.{passed_parts, counts_of, link_parts}
+use Rattle.snmpsec_packet.proofs.Parts.{join_mapped, four, sorted_mapped}
+use Rattle.snmpsec_packet.proofs.passed.Tally.words.Goals as goal
 
 pub returns : goal.returns
 returns c =

@@ -1,6 +1,6 @@
 use Rattle.std.proofs.Common.{sym, ◌∙◌}
-use Rattle.snmpsec_capture.proofs.Walks.{next_tag}
-use Rattle.snmpsec_capture.proofs.packet.untag.Goals as goal
+use Rattle.snmpsec_packet.proofs.Walks.{next_tag}
+use Rattle.snmpsec_packet.proofs.packet.untag.Goals as goal
 
 pub loop-kind-preserved : goal.loop-kind-preserved
 loop-kind-preserved c =

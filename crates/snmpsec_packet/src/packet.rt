@@ -1,7 +1,7 @@
 //! The datagram of a packet: the frame of its link, IP and UDP.
 
 ghost use Rattle.std.specs.Prelude.{◌≡◌, ◌+◌, ◌≤◌, length, take, drop};
-ghost use Rattle.snmpsec_capture.specs.Packet.{FindsIpv4, FindsIpv6, FindsUdp, IsFound, IsFramed, IsNetwork, IsRaw, IsUntagged, WalksTo, is_extension, is_piece, is_tag, next_place};
+ghost use Rattle.snmpsec_packet.specs.Packet.{FindsIpv4, FindsIpv6, FindsUdp, IsFound, IsFramed, IsNetwork, IsRaw, IsUntagged, WalksTo, is_extension, is_piece, is_tag, next_place};
 
 use crate::field::read_16;
 

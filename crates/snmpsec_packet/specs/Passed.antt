@@ -1,11 +1,11 @@
--- How many datagrams of a capture are printed, and how many records are passed over, by reason, and what is said of these.
+-- How many datagrams are printed, and how many packets are passed over, by reason, and what is said of these.
 use Rattle.std.specs.Prelude.{◌≡◌, ℕ, ◌+◌, ◌<◌, ◌==◌, ◌||◌, Bool, false, if◌then◌else◌, List, [], ◌∷◌, ◌++◌, length, replicate, slice_index, slice_set, codes, decimal, IsPermutation, IsSorted}
 use Rattle.std.specs.Cmp.Lexicographic.{slice_cmp}
 use Rattle.std.specs.Ordering.{nat_cmp}
 use Rattle.std.specs.List.{join_by}
-use Rattle.snmpsec_capture.specs.declared.passed.Reason.{Reason}
-use Rattle.snmpsec_capture.specs.declared.passed.Reason.TheVariants as reason
-use Rattle.snmpsec_capture.specs.declared.passed.Tally.{Tally}
+use Rattle.snmpsec_packet.specs.declared.passed.Reason.{Reason}
+use Rattle.snmpsec_packet.specs.declared.passed.Reason.TheVariants as reason
+use Rattle.snmpsec_packet.specs.declared.passed.Tally.{Tally}
 
 -- How many datagrams there are, and whether what was printed of one tells a refusal; and how many records are passed over, those of links by
 -- the link's type.

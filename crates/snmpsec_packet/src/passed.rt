@@ -1,17 +1,20 @@
-//! How many datagrams of a capture were printed, and how many records passed over, by reason.
+//! How many datagrams were printed, and how many packets passed over, by reason.
 
 ghost use Rattle.std.specs.Prelude.{◌≡◌, ◌++◌, map, IfOk, OnOk, string_bytes};
-ghost use Rattle.snmpsec_capture.specs.Passed.{IsBelow, IsPassedWords, count_part, counts_of, link_parts, link_word, none_passed, one_more, one_printed, zeros};
+ghost use Rattle.snmpsec_packet.specs.Passed.{IsBelow, IsPassedWords, count_part, counts_of, link_parts, link_word, none_passed, one_more, one_printed, zeros};
 
 use std::alloc::{AllocError, Global};
 
 /// Why a record is passed over.
 #[derive(Clone, Copy, Debug, PartialEq, Eq)]
-pub(crate) enum Reason {
+pub enum Reason {
+    /// A datagram from and to other ports than those that are wanted.
     AnotherPort,
-    /// The type of the link.
+    /// A link whose frames aren't known. The type of the link.
     OtherLink(u16),
+    /// Another protocol than IP.
     NotIp,
+    /// Another protocol over IP than UDP.
     NotUdp,
 }
 
@@ -45,7 +48,7 @@ fn zeros(alloc: Global, count: usize) -> Result<Vec<u64>, AllocError>
 
 impl Tally {
     /// None yet.
-    pub(crate) fn none(alloc: Global) -> Result<Tally, AllocError>
+    pub fn none(alloc: Global) -> Result<Tally, AllocError>
         ensures { IfOk result (λ passed. counts_of passed ≡ none_passed) }
     {
         let other_links = zeros(alloc, LINKS)?;
@@ -60,7 +63,7 @@ impl Tally {
     }
 
     /// One datagram more, of which what was printed tells a refusal or doesn't.
-    pub(crate) fn print(&mut self, refused: bool)
+    pub fn print(&mut self, refused: bool)
         requires { IsBelow (counts_of self.old) 18446744073709551615 }
         ensures { counts_of self.new ≡ one_printed (counts_of self.old) refused }
     {
@@ -69,7 +72,7 @@ impl Tally {
     }
 
     /// One record more that is passed over, for this reason.
-    pub(crate) fn count(&mut self, reason: Reason)
+    pub fn count(&mut self, reason: Reason)
         requires { IsBelow (counts_of self.old) 18446744073709551615 }
         ensures { counts_of self.new ≡ one_more (counts_of self.old) reason }
     {

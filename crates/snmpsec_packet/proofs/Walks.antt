@@ -2,9 +2,9 @@
 use Rattle.std.proofs.Common.{◌≡◌, ◌⊎◌, ℕ, suc, ◌+◌, ◌*◌, ◌<◌, ◌≤◌, ◌==◌, Bool, true, false, if◌then◌else◌, List, length, drop, slice_index, sym, ap, ◌∙◌, subst, inl, inr, arith}
 use Rattle.std.proofs.lemmas.Bool.{cases_eq}
 use Rattle.std.proofs.lemmas.List.{get_or-drop, drop-drop, length-drop}
-use Rattle.snmpsec_capture.specs.Field.{field16}
-use Rattle.snmpsec_capture.specs.Packet.{is_tag, type_behind, next_place, place_of, IsSkipped, LeadsTo}
-use Rattle.snmpsec_capture.specs.declared.packet.Place.{Place}
+use Rattle.snmpsec_packet.specs.Field.{field16}
+use Rattle.snmpsec_packet.specs.Packet.{is_tag, type_behind, next_place, place_of, IsSkipped, LeadsTo}
+use Rattle.snmpsec_packet.specs.declared.packet.Place.{Place}
 
 each_step : (P : ℕ → Type 0) (n : ℕ) → ((k : ℕ) → k < n → P k) → P n → (k : ℕ) → k < suc n → (k ≡ n) ⊎ (k ≡ n → ⊥) → P k
 each_step P n all last k l (inl e) = subst P (sym e) last

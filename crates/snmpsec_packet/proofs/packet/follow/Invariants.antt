@@ -1,6 +1,6 @@
 use Rattle.std.proofs.Common.{◌+◌, ◌-◌, ◌≤◌, length}
-use Rattle.snmpsec_capture.specs.Packet.{LeadsTo}
-use Rattle.snmpsec_capture.proofs.packet.follow.Given as goal
+use Rattle.snmpsec_packet.specs.Packet.{LeadsTo}
+use Rattle.snmpsec_packet.proofs.packet.follow.Given as goal
 
 abbrev pub invariant-loop-place : goal.invariant-loop-place
 invariant-loop-place l = record {

@@ -1,7 +1,7 @@
 -- Numbers of several octets in a header, by the place of their first octet.
 use Rattle.std.specs.Prelude.{ℕ, ◌+◌, ◌*◌, List, slice_index}
-use Rattle.snmpsec_capture.specs.declared.field.Order.{Order}
-use Rattle.snmpsec_capture.specs.declared.field.Order.TheVariants.{Big, Little}
+use Rattle.snmpsec_packet.specs.declared.field.Order.{Order}
+use Rattle.snmpsec_packet.specs.declared.field.Order.TheVariants.{Big, Little}
 
 -- two octets, the higher first
 abbrev pub field16 : List ℕ → ℕ → ℕ

@@ -1,13 +1,13 @@
 -- The datagram of a packet: the frame of its link, IP and UDP. A packet is octets as they were captured.
 use Rattle.std.specs.Prelude.{◌≡◌, ◌≢◌, ◌⊎◌, ℕ, zero, suc, ◌+◌, ◌-◌, ◌*◌, ◌/◌, ◌%◌, ◌<◌, ◌≤◌, ◌==◌, ◌&&◌, ◌||◌, not, Bool, true, false, if◌then◌else◌, List, length, take, drop, slice_index}
-use Rattle.snmpsec_capture.specs.Field.{field16}
-use Rattle.snmpsec_capture.specs.declared.packet.Place.{Place}
-use Rattle.snmpsec_capture.specs.declared.packet.Walk.{Walk}
-use Rattle.snmpsec_capture.specs.declared.packet.Walk.TheVariants as walk
-use Rattle.snmpsec_capture.specs.declared.packet.Network.{Network}
-use Rattle.snmpsec_capture.specs.declared.packet.Network.TheVariants as network
-use Rattle.snmpsec_capture.specs.declared.packet.Found.{Found}
-use Rattle.snmpsec_capture.specs.declared.packet.Found.TheVariants as found
+use Rattle.snmpsec_packet.specs.Field.{field16}
+use Rattle.snmpsec_packet.specs.declared.packet.Place.{Place}
+use Rattle.snmpsec_packet.specs.declared.packet.Walk.{Walk}
+use Rattle.snmpsec_packet.specs.declared.packet.Walk.TheVariants as walk
+use Rattle.snmpsec_packet.specs.declared.packet.Network.{Network}
+use Rattle.snmpsec_packet.specs.declared.packet.Network.TheVariants as network
+use Rattle.snmpsec_packet.specs.declared.packet.Found.{Found}
+use Rattle.snmpsec_packet.specs.declared.packet.Found.TheVariants as found
 
 -- ---- UDP (RFC 768)
 

@@ -1,11 +1,11 @@
 //! Numbers of several octets in a header.
 
 ghost use Rattle.std.specs.Prelude.{◌≡◌, ◌+◌, ◌≤◌, length};
-ghost use Rattle.snmpsec_capture.specs.Field.{field16, field16_by, field32, field64};
+ghost use Rattle.snmpsec_packet.specs.Field.{field16, field16_by, field32, field64};
 
 /// Which octet of a number comes first.
 #[derive(Clone, Copy, Debug, PartialEq, Eq)]
-pub(crate) enum Order {
+pub enum Order {
     /// The highest, as in the headers of packets.
     Big,
     /// The lowest.
@@ -21,7 +21,7 @@ pub(crate) fn read_16(octets: &[u8], at: usize) -> u16
 }
 
 /// The number of two octets at a place, in this order.
-pub(crate) fn read_16_by(order: Order, octets: &[u8], at: usize) -> u16
+pub fn read_16_by(order: Order, octets: &[u8], at: usize) -> u16
     requires { at + 2 ≤ length octets.now }
     ensures { result ≡ field16_by order octets.now at }
 {
@@ -32,7 +32,7 @@ pub(crate) fn read_16_by(order: Order, octets: &[u8], at: usize) -> u16
 }
 
 /// The number of four octets at a place, in this order.
-pub(crate) fn read_32(order: Order, octets: &[u8], at: usize) -> u32
+pub fn read_32(order: Order, octets: &[u8], at: usize) -> u32
     requires { at + 4 ≤ length octets.now }
     ensures { result ≡ field32 order octets.now at }
 {
@@ -44,7 +44,7 @@ pub(crate) fn read_32(order: Order, octets: &[u8], at: usize) -> u32
 }
 
 /// The number of eight octets at a place, in this order.
-pub(crate) fn read_64(order: Order, octets: &[u8], at: usize) -> u64
+pub fn read_64(order: Order, octets: &[u8], at: usize) -> u64
     requires { at + 8 ≤ length octets.now }
     ensures { result ≡ field64 order octets.now at }
 {

@@ -1,7 +1,7 @@
 use Rattle.std.proofs.Common.{◌≡◌, take, drop, ap, ◌∙◌, arith}
 use Rattle.std.proofs.lemmas.Slice.{between_is}
-use Rattle.snmpsec_capture.specs.Field.{field16}
-use Rattle.snmpsec_capture.proofs.packet.find_in_udp.Goals as goal
+use Rattle.snmpsec_packet.specs.Field.{field16}
+use Rattle.snmpsec_packet.proofs.packet.find_in_udp.Goals as goal
 
 pub returns : goal.returns
 returns c =

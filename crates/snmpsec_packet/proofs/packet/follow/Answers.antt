@@ -1,7 +1,7 @@
 use Rattle.std.proofs.Common.{rules, ◌+◌, ◌≤◌, length, sym, ◌∙◌, subst}
-use Rattle.snmpsec_capture.specs.declared.packet.Place.{Place}
-use Rattle.snmpsec_capture.proofs.Walks.{next_near, leads_on}
-use Rattle.snmpsec_capture.proofs.packet.follow.Goals as goal
+use Rattle.snmpsec_packet.specs.declared.packet.Place.{Place}
+use Rattle.snmpsec_packet.proofs.Walks.{next_near, leads_on}
+use Rattle.snmpsec_packet.proofs.packet.follow.Goals as goal
 
 pub loop-place-preserved : goal.loop-place-preserved
 loop-place-preserved c =
