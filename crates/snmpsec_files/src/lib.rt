@@ -4,11 +4,8 @@
 //! use snmpsec_files::read_file;
 //! use snmpsec_streams::FileFault;
 //!
-//! #[test]
-//! fn a_file_that_is_not_there_cannot_be_read(rt: HostRuntime) {
-//!     let read = read_file(&rt, "no/such/file");
-//!     assert_eq!(rt; read.err(), Some(FileFault::CannotRead));
-//! }
+//! let read = read_file(&rt, "no/such/file");
+//! assert_eq!(rt; read.err(), Some(FileFault::CannotRead));
 //! ```
 #![tactic(auto)]
 

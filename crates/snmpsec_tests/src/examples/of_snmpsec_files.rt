@@ -4,7 +4,8 @@ use snmpsec_streams::FileFault;
 use std::test::Fail;
 
 #[test]
-fn a_file_that_is_not_there_cannot_be_read(rt: HostRuntime) {
+fn a_file_that_is_not_there_cannot_be_read(rt: HostRuntime) -> Result<(), Fail> {
     let read = read_file(&rt, "no/such/file");
     assert_eq!(rt; read.err(), Some(FileFault::CannotRead));
+    Ok(())
 }
