@@ -28,6 +28,7 @@ mod message;
 mod pieces;
 mod refusal;
 mod scoped;
+mod scoped_pdu;
 mod security;
 
 pub use fault::{MsgFault, WriteFault};
@@ -47,6 +48,7 @@ pub use scoped::{
     Scoped, ScopedPlace, contexts_len, place_scoped_front, put_contexts, read_scoped,
     read_scoped_front, write_scoped,
 };
+pub use scoped_pdu::{ScopedOctets, ScopedPdu};
 pub use security::{
     Cut, Security, is_short, put_security, read_security, security_len, write_security,
 };

@@ -7,10 +7,9 @@ ghost use Rattle.snmp_sending.specs.Scopeds.{IsMeasured};
 
 use crate::front::Front;
 use snmp_ber::{one_element, put_head};
-use snmp_message::{SEQUENCE, element_len, put_contexts};
+use snmp_message::{SEQUENCE, ScopedPdu, element_len, put_contexts};
 use snmp_msg::{LARGEST, Spelled, bindings_len, put_pdu_of};
 use std::alloc::AllocError;
-use usm_core::ScopedPdu;
 
 /// A ScopedPDU of these parts, with what was measured of it.
 #[derive(Drop)]

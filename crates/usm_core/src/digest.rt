@@ -12,9 +12,8 @@ ghost use Rattle.usm_core.specs.Authentic.{IsMac};
 ghost use Rattle.usm_core.specs.Sealed.{SendingFits, spelled_with, digest_of};
 ghost use Rattle.usm_core.specs.Writing.{sending_of};
 
-use crate::scoped_pdu::ScopedPdu;
 use crate::spell::{Outgoing, code_place};
-use snmp_message::{Message, Security, cut, field_filled, one_cut};
+use snmp_message::{Message, ScopedPdu, Security, cut, field_filled, one_cut};
 use usm_cache::{CachedKey, KeyCache, Purpose};
 use usm_keys::{KeptKey, Key, localise};
 use usm_users::User;

@@ -16,7 +16,6 @@ mod fault;
 mod laws;
 mod layout;
 mod privacy;
-mod scoped_pdu;
 mod seal;
 mod size;
 mod spell;
@@ -29,6 +28,5 @@ pub use laws::{
     one_answer, one_authentic, one_sealed, sealed_is_authentic, sealed_is_opened, sealed_is_read,
     sealed_says, sealed_size, some_sealed, users_by_name, verified_was_read,
 };
-pub use scoped_pdu::ScopedPdu;
 pub use users::Users;
 pub use usm_users::{UserFault, UserRow};

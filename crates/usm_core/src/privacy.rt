@@ -16,9 +16,8 @@ ghost use Rattle.usm_core.specs.declared.fault.UsmFault.TheVariants.{DecryptionE
 
 use crate::checked::Checked;
 use crate::fault::UsmFault;
-use crate::scoped_pdu::ScopedPdu;
 use crate::spell::Outgoing;
-use snmp_message::Security;
+use snmp_message::{ScopedPdu, Security};
 use std::alloc::{AllocError, Global};
 use usm_aes::{Schedule, cfb_open, cfb_seal, iv};
 use usm_cache::{CachedKey, KeyCache, Purpose};

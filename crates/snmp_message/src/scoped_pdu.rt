@@ -42,14 +42,14 @@ pub trait ScopedPdu {
 
 /// A ScopedPDU in its octets.
 #[derive(Clone, Copy)]
-pub(crate) struct ScopedOctets<'a> {
+pub struct ScopedOctets<'a> {
     octets: &'a [u8],
     content: &'a [u8],
 }
 
 impl<'a> ScopedOctets<'a> {
     /// The ScopedPDU that these octets are.
-    pub(crate) fn of(octets: &'a [u8]) -> ScopedOctets<'a>
+    pub fn of(octets: &'a [u8]) -> ScopedOctets<'a>
         requires { (content : List ℕ) × IsElement 48 content octets.now }
         ensures octets { result.octets.now ≡ octets.now }
         ensures element { IsElement 48 result.content.now result.octets.now }
