@@ -4,3 +4,4 @@ mod of_snmp_ber;
 mod of_snmp_message;
 mod of_snmp_msg;
 mod of_vacm_core;
+mod of_vacm_table;

@@ -5,8 +5,6 @@ pub mod First
 pub mod Invariance
 pub mod Parts
 pub mod Positions
-pub mod Places
-pub mod Runs
 pub mod Seen
 pub mod Uniqueness
 pub mod Views

@@ -1,8 +1,6 @@
-//! A row of a table: what makes it bad, its index, and where it stands.
-ghost use Rattle.std.specs.Prelude.{◌≡◌, Bool, true, ℕ, List};
+//! The rows of the four tables: what makes them bad, their indexes, and where they stand.
+ghost use Rattle.std.specs.Prelude.{◌≡◌, Bool, true};
 ghost use Rattle.std.specs.Ordering.{is_eq};
-ghost use Rattle.std.specs.Cmp.{IsTotalOrder};
-ghost use Rattle.std.specs.declared.cmp.Ordering.{Ordering as Order};
 ghost use Rattle.snmp_ber.specs.Level.{level_number};
 ghost use Rattle.vacm_core.specs.Faults.{is_bad_context, is_bad_group, is_bad_access, is_bad_family, is_same_context, is_same_group, is_same_access, is_same_family};
 ghost use Rattle.vacm_core.specs.Allowed.{access_order, family_order};
@@ -11,15 +9,15 @@ ghost use Rattle.vacm_core.specs.Laws.{equal_total, access_order-total, family_o
 ghost use Rattle.std.proofs.lemmas.Cmp.{nat_cmp_total, on_total};
 ghost use Rattle.vacm_core.specs.declared.rows.GroupRow.{GroupRow as Group};
 
-use crate::Name;
 use crate::rows::{AccessRow, ContextRow, FamilyRow, GroupRow};
 use snmp_ber::Oid;
 use std::cmp::Ordering;
+use vacm_table::{Name, NamedRow};
 
 /// The greatest number of a security model.
 const MODEL_MAX: u32 = 2147483647;
 
-/// A row of a table: what makes it bad, its index, and where it stands.
+/// A row of one of the four tables: what makes it bad, and its index.
 pub(crate) trait TableRow: Drop {
     /// What no two rows of a table have in common.
     type Index: Ord + Drop;
@@ -29,10 +27,6 @@ pub(crate) trait TableRow: Drop {
     ghost is_same: { Self → Self → Bool };
 
     ghost index_of: { Self → Self.Index };
-
-    ghost name_of: { Self → List ℕ };
-
-    ghost rank: { Self → Self → Order };
 
     fn is_bad(&self) -> bool
         ensures { result ≡ is_bad_row self.now };
@@ -44,23 +38,9 @@ pub(crate) trait TableRow: Drop {
     fn has_index_of(&self, other: &Self) -> bool
         ensures { result ≡ is_same self.now other.now };
 
-    /// The name that the rows of its table stand by.
-    fn name(&self) -> &Name
-        ensures { result.now ≡ name_of self.now };
-
-    /// Which of two rows of one name is the better.
-    fn ranking(&self, other: &Self) -> Ordering
-        ensures { result ≡ rank self.now other.now };
-
-    /// The same row. It takes no memory.
-    fn copy(&self) -> Self
-        ensures { result ≡ self.now };
-
     ghost same_index: { (row other : Self) → is_same row other ≡ is_eq (Self.Index.cmp (index_of other) (index_of row)) };
 
     ghost same_itself: { (row : Self) → is_same row row ≡ true };
-
-    ghost rank_total: { IsTotalOrder rank };
 }
 
 impl TableRow for ContextRow {
@@ -72,15 +52,9 @@ impl TableRow for ContextRow {
 
     ghost index_of = { λ row. row.name };
 
-    ghost name_of = { context_name };
-
-    ghost rank = { context_rank };
-
     ghost same_index = { same_context };
 
     ghost same_itself = { context_itself };
-
-    ghost rank_total = { equal_total };
 
     fn is_bad(&self) -> bool {
         false
@@ -93,6 +67,14 @@ impl TableRow for ContextRow {
     fn has_index_of(&self, other: &ContextRow) -> bool {
         self.name == other.name
     }
+}
+
+impl NamedRow for ContextRow {
+    ghost name_of = { context_name };
+
+    ghost rank = { context_rank };
+
+    ghost rank_total = { equal_total };
 
     fn name(&self) -> &Name {
         &self.name
@@ -118,15 +100,9 @@ impl TableRow for GroupRow {
 
     ghost index_of = { λ row. (row.model, row.name) };
 
-    ghost name_of = { group_name };
-
-    ghost rank = { group_rank };
-
     ghost same_index = { same_group };
 
     ghost same_itself = { group_itself };
-
-    ghost rank_total = { on_total (λ (row : Group). row.model) nat_cmp_total };
 
     fn is_bad(&self) -> bool {
         self.model == 0
@@ -142,6 +118,14 @@ impl TableRow for GroupRow {
     fn has_index_of(&self, other: &GroupRow) -> bool {
         self.model == other.model && self.name == other.name
     }
+}
+
+impl NamedRow for GroupRow {
+    ghost name_of = { group_name };
+
+    ghost rank = { group_rank };
+
+    ghost rank_total = { on_total (λ (row : Group). row.model) nat_cmp_total };
 
     fn name(&self) -> &Name {
         &self.name
@@ -169,15 +153,9 @@ impl TableRow for AccessRow {
 
     ghost index_of = { λ row. (row.group, (row.prefix, (row.model, level_number row.level))) };
 
-    ghost name_of = { access_name };
-
-    ghost rank = { access_order };
-
     ghost same_index = { same_access };
 
     ghost same_itself = { access_itself };
-
-    ghost rank_total = { access_order-total };
 
     fn is_bad(&self) -> bool {
         self.group.as_slice().is_empty() || self.model > MODEL_MAX
@@ -194,6 +172,14 @@ impl TableRow for AccessRow {
             && self.model == other.model
             && self.level.number() == other.level.number()
     }
+}
+
+impl NamedRow for AccessRow {
+    ghost name_of = { access_name };
+
+    ghost rank = { access_order };
+
+    ghost rank_total = { access_order-total };
 
     fn name(&self) -> &Name {
         &self.group
@@ -230,15 +216,9 @@ impl TableRow for FamilyRow {
 
     ghost index_of = { λ row. (row.view, row.subtree) };
 
-    ghost name_of = { family_name };
-
-    ghost rank = { family_order };
-
     ghost same_index = { same_family };
 
     ghost same_itself = { family_itself };
-
-    ghost rank_total = { family_order-total };
 
     fn is_bad(&self) -> bool {
         self.view.as_slice().is_empty()
@@ -251,6 +231,14 @@ impl TableRow for FamilyRow {
     fn has_index_of(&self, other: &FamilyRow) -> bool {
         self.view == other.view && self.subtree.as_slice() == other.subtree.as_slice()
     }
+}
+
+impl NamedRow for FamilyRow {
+    ghost name_of = { family_name };
+
+    ghost rank = { family_order };
+
+    ghost rank_total = { family_order-total };
 
     fn name(&self) -> &Name {
         &self.view
