@@ -1,9 +1,9 @@
 //! One element of a layout: reading it at a place in the text, and the size that it is written in.
 
-ghost use Rattle.std.specs.Prelude.{◌≡◌, pos, ◌+◌, ◌-◌, ◌<◌, ◌≤◌, length, slice_range, option_map, IfOk};
+ghost use Rattle.std.specs.Prelude.{◌≡◌, ◌+◌, ◌-◌, ◌<◌, ◌≤◌, length, slice_range, option_map, IfOk};
 ghost use Rattle.std.specs.Result.{result_ok};
 ghost use Rattle.snmp_ber.specs.Tlv.{front_at};
-ghost use Rattle.snmp_ber.specs.Spelling.{head_size, integer};
+ghost use Rattle.snmp_ber.specs.Spelling.{head_size};
 ghost use Rattle.snmp_message.specs.Reading.{element_in, number_in};
 ghost use Rattle.snmp_message.specs.Spelling.{signed};
 ghost use Rattle.snmp_message.specs.Reading.{signed_in};

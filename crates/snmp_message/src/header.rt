@@ -1,10 +1,9 @@
 //! msgGlobalData (RFC 3412, section 6).
 
-ghost use Rattle.std.specs.Prelude.{◌≡◌, pos, ◌+◌, ◌<◌, ◌≤◌, ◌++◌, length, slice_range, IfOk, OnOk, MatchOption, true, false};
+ghost use Rattle.std.specs.Prelude.{◌≡◌, ◌+◌, ◌<◌, ◌≤◌, ◌++◌, length, slice_range, IfOk, OnOk, MatchOption, true, false};
 ghost use Rattle.std.specs.Result.{result_ok};
-ghost use Rattle.snmp_ber.specs.Spelling.{element, integer};
 ghost use Rattle.snmp_message.specs.Reading.{header_of};
-ghost use Rattle.snmp_message.specs.Spelling.{HeaderFits, header_text, flags_of};
+ghost use Rattle.snmp_message.specs.Spelling.{HeaderFits, header_text};
 ghost use Rattle.snmp_message.specs.Level.{level_of};
 
 use crate::field::{OCTET_STRING, integer_len, read_element, read_number};

@@ -2,10 +2,9 @@
 
 ghost use Rattle.std.specs.Prelude.{◌≡◌, ◌+◌, ◌*◌, ◌<◌, ◌≤◌, ◌++◌, length, slice_range, option_map, IfOk, OnOk, OnErr, IsErrOf, MatchResult};
 ghost use Rattle.std.specs.Result.{result_ok};
-ghost use Rattle.snmp_ber.specs.Element.{IsTag};
-ghost use Rattle.snmp_ber.specs.Spelling.{head_of, head_size, element};
+ghost use Rattle.snmp_ber.specs.Spelling.{head_size};
 ghost use Rattle.snmp_message.specs.Layout.{Parts, Outer};
-ghost use Rattle.snmp_message.specs.Spelling.{HeaderFits, number, header_text, content_size, front_text, message_text, written};
+ghost use Rattle.snmp_message.specs.Spelling.{HeaderFits, number, content_size, front_text, message_text, written};
 ghost use Rattle.snmp_message.specs.Reading.{version_in, after_version};
 ghost use Rattle.snmp_message.specs.Message.{parts, tag_of, content_of};
 ghost use Rattle.snmp_message.specs.Refusals.{RefusesOuter};

@@ -1,6 +1,6 @@
 //! ScopedPDU (RFC 3412, section 6.8).
 
-ghost use Rattle.std.specs.Prelude.{◌≡◌, ℕ, List, ◌+◌, ◌*◌, ◌<◌, ◌≤◌, ◌++◌, length, slice_range, option_map, IfOk, IfSome, IfNone, IfErr, OnOk, OnErr, IsErrOf, MatchOption, MatchResult};
+ghost use Rattle.std.specs.Prelude.{◌≡◌, ℕ, List, ◌+◌, ◌*◌, ◌<◌, ◌≤◌, ◌++◌, length, slice_range, option_map, IfOk, IfSome, OnOk, OnErr, IsErrOf, MatchOption, MatchResult};
 ghost use Rattle.std.specs.Result.{result_ok};
 ghost use Rattle.snmp_ber.specs.Element.{IsElement};
 ghost use Rattle.snmp_ber.specs.Spelling.{element, head_size};

@@ -1,8 +1,7 @@
 //! msgSecurityParameters of the user-based security model (RFC 3414, section 2.4).
 
-ghost use Rattle.std.specs.Prelude.{◌≡◌, ℕ, pos, ◌+◌, ◌*◌, ◌<◌, ◌≤◌, ◌++◌, length, slice_range, take, drop, option_map, IfOk, OnOk, OnErr, IsErrOf, MatchResult, IsTrue, ◌↔◌};
+ghost use Rattle.std.specs.Prelude.{◌≡◌, ℕ, ◌+◌, ◌*◌, ◌<◌, ◌≤◌, ◌++◌, length, slice_range, take, drop, option_map, IfOk, OnOk, OnErr, IsErrOf, MatchResult, IsTrue, ◌↔◌};
 ghost use Rattle.std.specs.Result.{result_ok};
-ghost use Rattle.snmp_ber.specs.Spelling.{element, head_size, integer};
 ghost use Rattle.snmp_message.specs.Layout.{Parts, Outer};
 ghost use Rattle.snmp_message.specs.Message.{parts};
 ghost use Rattle.snmp_message.specs.Security.{Fields, SecText, IsCut, fields_in, security_in, fields_of, FieldsFit, IsShort, fields_text, security_text, placed};

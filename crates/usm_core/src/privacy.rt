@@ -1,6 +1,6 @@
 //! The privacy of a message (RFC 3826, section 3.1).
 
-ghost use Rattle.std.specs.Prelude.{◌≡◌, ◌≢◌, ℕ, List, ◌++◌, Some, length, take, IfOk, IfErr, IsErrOf, ◌≤◌, ◌⊎◌};
+ghost use Rattle.std.specs.Prelude.{◌≡◌, ◌≢◌, ℕ, List, ◌++◌, Some, length, take, IfOk, IfErr, IsErrOf, ◌⊎◌};
 ghost use Rattle.snmp_ber.specs.declared.level.Level.TheVariants.{AuthPriv};
 ghost use Rattle.snmp_message.specs.Message.{tag_of, content_of};
 ghost use Rattle.snmp_message.specs.Security.{fields_of};

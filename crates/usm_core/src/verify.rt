@@ -1,6 +1,6 @@
 //! The refusals of a datagram down to its digest.
 
-ghost use Rattle.std.specs.Prelude.{◌≡◌, ◌≤◌, ◌⊎◌, ◌↔◌, ℕ, List, [], length, IsTrue, IfOk, IfSome, None};
+ghost use Rattle.std.specs.Prelude.{◌≡◌, ◌↔◌, [], length, IsTrue, IfOk, IfSome, None};
 ghost use Rattle.std.specs.Bool.{OnTrue};
 ghost use Rattle.snmp_ber.specs.declared.level.Level.TheVariants.{NoAuthNoPriv};
 ghost use Rattle.usm_core.specs.Authentic.{HasEngineLength};

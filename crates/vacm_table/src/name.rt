@@ -1,5 +1,5 @@
 //! Names of contexts, users, groups and views.
-ghost use Rattle.std.specs.Prelude.{◌≡◌, ◌<◌, ◌≤◌, length, MatchOption, IsTrue, ◌↔◌, [], ◌==◌};
+ghost use Rattle.std.specs.Prelude.{◌≡◌, ◌<◌, ◌≤◌, length, MatchOption};
 
 use arrayvec::ArrayVec;
 use std::marker::Model;

@@ -1,7 +1,7 @@
 //! Rows that stand by name, the rows of a name from the best down.
-ghost use Rattle.std.specs.Prelude.{◌≡◌, ℕ, ◌<◌, ◌≤◌, length, nat_lt, true, false, get_or, MatchBool, List, IfOk, OnOk};
+ghost use Rattle.std.specs.Prelude.{◌≡◌, ◌<◌, ◌≤◌, length, nat_lt, true, false, get_or, MatchBool, IfOk, OnOk};
 ghost use Rattle.std.specs.List.Sorted.{IsPermutation, IsPartitionedBy, IsPartitionPoint};
-ghost use Rattle.vacm_table.specs.Place.{place_order, side_of, AreInPlace, IsRunOf};
+ghost use Rattle.vacm_table.specs.Place.{place_order, side_of, AreInPlace};
 
 use crate::row::NamedRow;
 use std::alloc::{AllocError, Global};
