@@ -1,5 +1,5 @@
 -- Reports (RFC 3412, section 7.1; RFC 3414, section 3.2): on which refusal there is one, and what it says.
-use Rattle.std.specs.Prelude.{◌≡◌, ◌≤◌, ◌⊎◌, ◌==◌, ℕ, ℤ, pos, true, false, if◌then◌else◌, List, [], ◌∷◌, length, replicate, Option, Some, None, Err, option_map}
+use Rattle.std.specs.Prelude.{◌≡◌, ◌⊎◌, ◌==◌, ℕ, ℤ, pos, true, false, if◌then◌else◌, List, [], ◌∷◌, replicate, Option, Some, None, Err, option_map}
 use Rattle.std.specs.Global.{Vec}
 use Rattle.snmp_ber.specs.declared.level.Level.{Level}
 use Rattle.snmp_ber.specs.declared.level.Level.TheVariants.{NoAuthNoPriv, AuthNoPriv}
@@ -106,8 +106,6 @@ pub record IsAsking (w : List ℕ) (a : ReportedMessage) : Type 0 where
   pub id_is : asks.outer.parts.header.id ≡ a.id
   pub user_is : asks.security.fields.user ≡ a.user.now
   pub copied : IsCopiedId w asks.outer.parts a.request_id
-  pub id_fits : a.id ≤ 2147483647
-  pub user_fits : length a.user.now ≤ 32
 
 abbrev pub reporting_of : List ℕ → BootsAndTime → ℕ → ReportedMessage → ℕ → Sending
 reporting_of engine own k a value = reporting engine own a.id a.user.now a.request_id k value

@@ -1,6 +1,6 @@
 //! Reports (RFC 3414, section 3.2).
 
-ghost use Rattle.std.specs.Prelude.{◌≡◌, ◌≤◌, length, Some, IfOk, OnErr, IfSome, true};
+ghost use Rattle.std.specs.Prelude.{◌≡◌, Some, IfOk, OnErr, IfSome, true};
 ghost use Rattle.snmp_ber.specs.declared.level.Level.TheVariants.{AuthNoPriv};
 ghost use Rattle.usm_users.specs.Users.{HasUserAt};
 ghost use Rattle.usm_core.specs.Sealed.{SealedText};
@@ -78,8 +78,6 @@ fn send_report(
     value: u32,
     asking: &ReportedMessage<'_>,
 ) -> Result<Vec<u8>, AllocError>
-    requires id { asking.now.id ≤ 2147483647 }
-    requires user { length asking.now.user.now ≤ 32 }
     requires known { n ≡ 2 → HasUserAt users.old.users asking.now.user.now AuthNoPriv }
     ensures users { users.new.users ≡ users.old.users }
     ensures text { IfOk result (λ text. SealedText users.old.users (reporting_of engine.now own n asking.now value) text.items) }
