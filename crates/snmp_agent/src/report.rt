@@ -9,14 +9,15 @@ ghost use Rattle.snmp_outcome.specs.Outcome.{Outcome, own_pair};
 ghost use Rattle.snmp_outcome.specs.Answers.{refused};
 ghost use Rattle.snmp_agent.specs.Counting.{counter_of};
 ghost use Rattle.snmp_agent.specs.Agent.{taker_at};
-ghost use Rattle.snmp_agent.specs.Report.{Offers, IsReport, report_level, reporting_of, report_of};
+ghost use Rattle.snmp_answers.specs.CounterReports.{report_level};
+ghost use Rattle.snmp_agent.specs.Report.{Offers, IsReport, reporting_of, report_of};
 
 use crate::asked::asking;
 use crate::asking::ReportedMessage;
-use crate::counter_report::send_counter;
 use crate::counting::counter_of;
 use crate::engine::Engine;
 use engine_clock::{EngineId, Pair};
+use snmp_answers::send_counter;
 use snmp_ber::{Level, Oid};
 use snmp_msg::{one_cut, one_message};
 use snmp_outcome::TakeFault;
