@@ -12,6 +12,7 @@ use Rattle.snmp_outcome.specs.Outcome.{Given}
 use Rattle.snmp_sending.specs.Classes.{is_confirmed}
 use Rattle.snmp_sending.specs.declared.counter.Counter.{Counter}
 use Rattle.snmp_sending.specs.declared.counter.Counter.TheVariants as counters
+use Rattle.snmp_answers.specs.CounterReports.{refusing}
 use Rattle.snmp_agent.specs.declared.unhandled.Unhandled.{Unhandled}
 use Rattle.snmp_agent.specs.declared.unhandled.Unhandled.TheVariants.{NoRequest, UnknownPduHandlers, UnavailableContexts, UnknownContexts}
 use Rattle.snmp_agent.specs.Counts.{count_after, one_more}
