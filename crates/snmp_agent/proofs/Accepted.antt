@@ -1,11 +1,8 @@
 -- What an agent sends fits, and is accepted.
-use Rattle.std.proofs.Common.{◌≡◌, ℕ, ◌≤◌, List, length, Result, Ok, Err}
+use Rattle.std.proofs.Common.{ℕ, List, Result, Ok, Err}
 use Rattle.std.specs.Prelude.{IfOk, IfSome}
 use Rattle.std.specs.Global.{Vec}
-use Rattle.engine_clock.specs.Engines.{IsEngine}
-use Rattle.engine_clock.specs.Pairs.{IsPair}
 use Rattle.engine_clock.specs.Marks.{Marks}
-use Rattle.snmp_msg.specs.Pdu.{IsSpelled}
 use Rattle.usm_users.specs.User.{User}
 use Rattle.usm_core.specs.Sealed.{Seals}
 use Rattle.usm_core.specs.Verified.{manager}
@@ -15,21 +12,6 @@ use Rattle.snmp_sending.specs.Accepts.{IsTakenInTime}
 use Rattle.snmp_sending.specs.Sends.{send_answer}
 use Rattle.snmp_sending.specs.Speaks.{Speech, spoken, spoken_contexts, SpeechFits, HasSameUser}
 use Rattle.snmp_agent.specs.Sent.{IsAcceptedByManagers}
-
-pub speech_fits : {T E : Type 0} (r : Result T E) (s : Speech) → s.id ≤ 2147483647 → IsEngine s.engine → IsPair s.pair → length s.user ≤ 32 → length s.salt ≡ 8 → IfOk r (λ _. IsSpelled s.pdu) → IfOk r (λ _. SpeechFits s)
-speech_fits (Err e) s id engine pair user salt spelled = tt
-speech_fits (Ok x) s id engine pair user salt spelled = record {
-  id = id;
-  engine = (engine.at_least, engine.at_most);
-  pair = pair;
-  user = user;
-  salt = salt;
-  tag = spelled.tag_allowed;
-  numbers = spelled.numbers;
-  variables = spelled.variables;
-  bindings = spelled.fit;
-  list = spelled.list_is;
-}
 
 -- what was sealed of the speech is accepted
 abbrev pub AreAccepted : List User → Speech → Type 0

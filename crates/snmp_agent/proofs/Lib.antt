@@ -1,6 +1,5 @@
 pub mod Requests
 pub mod Judging
-pub mod Sizes
 pub mod Counted
 pub mod Reports
 pub mod Clocked

@@ -1,25 +1,20 @@
 -- Which accepted messages an agent answers, and what becomes of the others (RFC 3412, sections 4.2.2, 7.1 and 7.2; RFC 3413, section
 -- 3.2).
-use Rattle.std.specs.Prelude.{◌≡◌, ◌⊎◌, ℕ, pos, true, false, List, [], ◌∷◌, Option, Some, None, option_map, Result, Ok, Err}
+use Rattle.std.specs.Prelude.{◌≡◌, ◌⊎◌, ℕ, true, List, Option, Some, None, option_map, Result, Ok, Err}
 use Rattle.std.specs.Global.{Vec}
-use Rattle.snmp_ber.specs.Spelling.{integer}
 use Rattle.snmp_message.specs.Scoped.{Contexts}
-use Rattle.snmp_msg.specs.Variables.{Variable}
-use Rattle.snmp_msg.specs.Pdu.{PduParts, pdu_with}
-use Rattle.engine_clock.specs.Pairs.{BootsAndTime}
+use Rattle.snmp_msg.specs.Pdu.{PduParts}
 use Rattle.vacm_core.specs.Tables.{Tables}
 use Rattle.vacm_core.specs.Allowed.{HasContext}
-use Rattle.usm_core.specs.Sealed.{Sending}
 use Rattle.snmp_outcome.specs.declared.fault.TakeFault.{TakeFault}
 use Rattle.snmp_outcome.specs.Refusals.{answer_number}
 use Rattle.snmp_outcome.specs.Outcome.{Given}
 use Rattle.snmp_sending.specs.Classes.{is_confirmed}
-use Rattle.snmp_sending.specs.Speaks.{Speech, spoken}
 use Rattle.snmp_sending.specs.declared.counter.Counter.{Counter}
 use Rattle.snmp_sending.specs.declared.counter.Counter.TheVariants as counters
+use Rattle.snmp_answers.specs.CounterReports.{refusing}
 use Rattle.snmp_agent.specs.declared.unhandled.Unhandled.{Unhandled}
 use Rattle.snmp_agent.specs.declared.unhandled.Unhandled.TheVariants.{NoRequest, UnknownPduHandlers, UnavailableContexts, UnknownContexts}
-use Rattle.snmp_sending.specs.Counters.{name_of}
 use Rattle.snmp_agent.specs.Counts.{count_after, one_more}
 use Rattle.snmp_agent.specs.Agent.{AgentState}
 use Rattle.snmp_agent.specs.Sent.{Sends, CanBeSent}
@@ -59,29 +54,6 @@ abbrev pub agent_counted : AgentState → Unhandled → AgentState
 agent_counted a why = record a { counts = one_more a.counts (counter_of why) }
 
 -- ---- the report
-
--- a Counter32 (RFC 2578, section 7.1.6) with its name
-abbrev pub count_variable : Counter → ℕ → Variable
-count_variable counter value = record { name = name_of counter; tag = 65; content = integer (pos value) }
-
--- The report on an accepted message that isn't answered: at the message's own level, to its user, in the default context of the engine,
--- with the counter's value.
-abbrev pub count_report : List ℕ → BootsAndTime → Given → PduParts → Counter → ℕ → List ℕ → Speech
-count_report engine own g p counter value salt = record {
-  level = g.level;
-  id = g.id;
-  reportable = false;
-  engine = engine;
-  pair = own;
-  user = g.user;
-  salt = salt;
-  context_engine = engine;
-  context_name = [];
-  pdu = pdu_with 168 p.id (pos 0) (pos 0) (count_variable counter value ∷ []);
-}
-
-abbrev pub refusing : List ℕ → BootsAndTime → Given → PduParts → Counter → ℕ → List ℕ → Sending
-refusing engine own g p counter value salt = spoken (count_report engine own g p counter value salt)
 
 -- A report is written: the PDU is of the Confirmed Class, and there is this counter.
 pub record IsReported (p : PduParts) (why : Unhandled) (counter : Counter) : Type 0 where

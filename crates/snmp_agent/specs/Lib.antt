@@ -5,4 +5,3 @@ pub mod Report
 pub mod Decides
 pub mod Sent
 pub mod Dispatch
-pub mod Statuses

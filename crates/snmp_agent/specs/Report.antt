@@ -1,21 +1,16 @@
 -- Reports (RFC 3412, section 7.1; RFC 3414, section 3.2): on which refusal there is one, and what it says.
-use Rattle.std.specs.Prelude.{◌≡◌, ◌≤◌, ◌⊎◌, ◌==◌, ℕ, ℤ, pos, true, false, if◌then◌else◌, List, [], ◌∷◌, length, replicate, Option, Some, None, Err, option_map}
+use Rattle.std.specs.Prelude.{◌≡◌, ◌⊎◌, ℕ, ℤ, pos, true, List, Option, Some, None, Err, option_map}
 use Rattle.std.specs.Global.{Vec}
-use Rattle.snmp_ber.specs.declared.level.Level.{Level}
-use Rattle.snmp_ber.specs.declared.level.Level.TheVariants.{NoAuthNoPriv, AuthNoPriv}
-use Rattle.snmp_ber.specs.Spelling.{integer}
 use Rattle.snmp_message.specs.Layout.{Parts}
-use Rattle.snmp_message.specs.Scoped.{Contexts, HasScoped, scoped_text}
-use Rattle.snmp_msg.specs.Variables.{Variable}
-use Rattle.snmp_msg.specs.Pdu.{PduParts, PduText, pdu_with, pdu_text}
+use Rattle.snmp_message.specs.Scoped.{Contexts, HasScoped}
+use Rattle.snmp_msg.specs.Pdu.{PduParts, PduText}
 use Rattle.engine_clock.specs.Pairs.{BootsAndTime}
 use Rattle.usm_users.specs.User.{User}
 use Rattle.usm_core.specs.Verified.{OuterOf, SecurityOf}
 use Rattle.usm_core.specs.Sealed.{Sending, SealedText}
 use Rattle.snmp_outcome.specs.Outcome.{Taker, own_pair, Outcome}
 use Rattle.snmp_sending.specs.Classes.{is_confirmed}
-use Rattle.snmp_sending.specs.Counters.{counter_name}
-use Rattle.snmp_sending.specs.Bodies.{header_at}
+use Rattle.snmp_answers.specs.CounterReports.{reporting}
 use Rattle.snmp_agent.specs.declared.asking.ReportedMessage.{ReportedMessage}
 use Rattle.snmp_agent.specs.Counting.{counter_of, counter_at}
 use Rattle.snmp_agent.specs.Agent.{AgentState}
@@ -52,31 +47,6 @@ OffersOnAnswer taker users now w = (n : ℕ) × Outcome taker users now w (Err n
 abbrev pub IsCopiedId : List ℕ → Parts → ℤ → Type 0
 IsCopiedId w m id = ((plain : PlainPdu w m) × (id ≡ plain.pdu.id)) ⊎ ((PlainPdu w m → ⊥) × (id ≡ pos 0))
 
--- a Counter32 (RFC 2578, section 7.1.6) with its name
-abbrev pub counter_variable : ℕ → ℕ → Variable
-counter_variable n value = record { name = counter_name n; tag = 65; content = integer (pos value) }
-
--- the ScopedPDU of the report of the counter of this name: in the default context of the engine, with the counter alone
-abbrev pub counter_scoped : List ℕ → ℤ → List ℕ → ℕ → List ℕ
-counter_scoped engine request_id name value =
-    scoped_text engine [] (pdu_text (pdu_with 168 request_id (pos 0) (pos 0) (record { name = name; tag = 65; content = integer (pos value) } ∷ [])))
-
--- usmStatsNotInTimeWindows, whose number is 2, is reported with authentication (RFC 3414, section 3.2, step 7), and the others
--- without
-abbrev pub report_level : ℕ → Level
-report_level k = if k == 2 then AuthNoPriv else NoAuthNoPriv
-
--- the report of counter k, with the agent's engine, its boots and time, and the counter's value
-abbrev pub reporting : List ℕ → BootsAndTime → ℕ → List ℕ → ℤ → ℕ → ℕ → Sending
-reporting engine own id user request_id k value = record {
-  header = header_at (report_level k) id false;
-  engine = engine;
-  pair = own;
-  user = user;
-  salt = replicate 8 0;
-  scoped = counter_scoped engine request_id (counter_name k) value;
-}
-
 -- The report on refusal n of the datagram, by the users and the engine of the agent, its boots and time, and its counters after
 -- the refusal was counted; or None where none is offered.
 pub data IsReport (users : List User) (engine : List ℕ) (own : BootsAndTime) (counters : List ℕ) (w : List ℕ) (n : ℕ) : Option (List ℕ) → Type 0 where
@@ -106,8 +76,6 @@ pub record IsAsking (w : List ℕ) (a : ReportedMessage) : Type 0 where
   pub id_is : asks.outer.parts.header.id ≡ a.id
   pub user_is : asks.security.fields.user ≡ a.user.now
   pub copied : IsCopiedId w asks.outer.parts a.request_id
-  pub id_fits : a.id ≤ 2147483647
-  pub user_fits : length a.user.now ≤ 32
 
 abbrev pub reporting_of : List ℕ → BootsAndTime → ℕ → ReportedMessage → ℕ → Sending
 reporting_of engine own k a value = reporting engine own a.id a.user.now a.request_id k value

@@ -1,17 +1,15 @@
 -- What an agent sends besides reports: responses and notifications, each as what is handed in to be sealed, and the answer to
 -- sending it.
-use Rattle.std.specs.Prelude.{◌<◌, ◌≤◌, ◌-◌, ℕ, ℤ, false, List, Result}
+use Rattle.std.specs.Prelude.{◌<◌, ◌≤◌, ◌-◌, ℕ, false, List, Result}
 use Rattle.snmp_ber.specs.declared.level.Level.{Level}
-use Rattle.snmp_message.specs.Scoped.{Contexts}
 use Rattle.snmp_msg.specs.Variables.{Variable}
-use Rattle.snmp_msg.specs.Pdu.{PduParts, pdu_with}
 use Rattle.engine_clock.specs.Pairs.{BootsAndTime, pair_max}
 use Rattle.usm_core.specs.Table.{Needs}
 use Rattle.usm_core.specs.Sealed.{Sending, Seals, IsSealable}
 use Rattle.engine_clock.specs.Marks.{Marks}
 use Rattle.usm_users.specs.User.{User}
 use Rattle.usm_core.specs.Verified.{manager}
-use Rattle.snmp_outcome.specs.Outcome.{Given, as_manager, own_pair}
+use Rattle.snmp_outcome.specs.Outcome.{as_manager, own_pair}
 use Rattle.snmp_sending.specs.declared.front.Front.{Front}
 use Rattle.snmp_sending.specs.Bodies.{pdu_after}
 use Rattle.snmp_sending.specs.Accepts.{IsTakenInTime}
@@ -21,25 +19,6 @@ use Rattle.snmp_sending.specs.Fronts.{FrontText, SealsFront}
 use Rattle.snmp_outcome.specs.declared.fault.TakeFault.{TakeFault}
 use Rattle.snmp_outcome.specs.declared.fault.TakeFault.TheVariants.{ClockExhausted}
 use Rattle.snmp_agent.specs.Agent.{AgentState}
-
--- The Response to what was given, with contexts c and PDU p, from the engine with its boots and time (RFC 3412, section 7.1;
--- RFC 3416, section 4.2): msgID, user, level, contexts and request-id are those of the request.
-abbrev pub response : List ℕ → BootsAndTime → Given → Contexts → PduParts → ℤ → ℤ → List Variable → List ℕ → Speech
-response engine own g c p status index vs salt = record {
-  level = g.level;
-  id = g.id;
-  reportable = false;
-  engine = engine;
-  pair = own;
-  user = g.user;
-  salt = salt;
-  context_engine = c.engine;
-  context_name = c.name;
-  pdu = pdu_with 162 p.id status index vs;
-}
-
-abbrev pub responding : List ℕ → BootsAndTime → Given → Contexts → PduParts → ℤ → ℤ → List Variable → List ℕ → Sending
-responding engine own g c p status index vs salt = spoken (response engine own g c p status index vs salt)
 
 -- a message with this front and these bindings from the engine that isn't answered, as an SNMPv2-Trap is (RFC 3414, section 3.1): the
 -- engine is authoritative

@@ -13,12 +13,12 @@ use crate::counting::counted;
 use crate::decision::Decision;
 use crate::engine::Engine;
 use crate::judge::judge;
-use crate::laws::{notification_is_accepted, response_is_accepted};
+use crate::laws::notification_is_accepted;
 use crate::notification::{Recipient, send_notification};
 use crate::refused::Refused;
 use crate::report::report;
-use crate::response::{Response, send_response};
 use engine_clock::EngineId;
+use snmp_answers::{Response, response_is_accepted, send_response};
 use snmp_ber::{Level, Oid};
 use snmp_msg::{Binding, Spelled, USER_BASED, one_content, one_pdu};
 use snmp_outcome::{TakeFault, Taken};
@@ -62,7 +62,8 @@ impl Agent {
     ghost use Rattle.snmp_sending.specs.Sends.{send_answer};
     ghost use Rattle.snmp_agent.specs.Decides.{question, question_of, IsDecision};
     ghost use Rattle.snmp_outcome.specs.Outcome.{own_pair};
-    ghost use Rattle.snmp_agent.specs.Sent.{response, responding, notification, notifying, Sends, CanBeSent, CanSendAt, RefusesSenderAt, IsAcceptedByManagers};
+    ghost use Rattle.snmp_answers.specs.Responses.{response, responding};
+    ghost use Rattle.snmp_agent.specs.Sent.{notification, notifying, Sends, CanBeSent, CanSendAt, RefusesSenderAt, IsAcceptedByManagers};
 
     /// An agent that started at the moment `started`, with these boots, at most 2147483647. Its counters are 0. This takes no
     /// memory.

@@ -1,11 +1,16 @@
 //! What is kept of a message that asks for reports (RFC 3412, section 7.1, step 3).
 
+ghost use Rattle.std.specs.Prelude.{◌≤◌, length};
+
 /// What a report takes from the message that it answers.
 #[derive(Clone, Copy)]
 pub(crate) struct ReportedMessage<'a> {
-    /// msgID.
+    /// msgID, at most 2147483647.
     pub(crate) id: u32,
+    /// msgUserName, at most 32 octets.
     pub(crate) user: &'a [u8],
     /// The request-id, or 0 where the PDU can't be read.
     pub(crate) request_id: i32,
+    pub(crate) ghost id_fits: { id ≤ 2147483647 },
+    pub(crate) ghost user_fits: { length user.now ≤ 32 },
 }

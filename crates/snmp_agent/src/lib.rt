@@ -3,9 +3,9 @@
 //!
 //! ```
 //! use engine_clock::EngineId;
-//! use snmp_agent::{Agent, Status, status_of};
+//! use snmp_agent::Agent;
 //! use usm_core::Users;
-//! use vacm_core::{Access, Rows, Vacm};
+//! use vacm_core::{Rows, Vacm};
 //!
 //! let users = Users::load(rt.alloc(), &[])?;
 //! let engine = EngineId::of(b"\x80\x00\x1f\x88\x04k").ok_or("an engine ID")?;
@@ -28,7 +28,6 @@ mod asked;
 mod asking;
 mod commands;
 mod counter;
-mod counter_report;
 mod counting;
 mod decision;
 mod dispatch;
@@ -36,21 +35,17 @@ mod engine;
 mod judge;
 mod laws;
 mod notification;
-mod refusal;
 mod refused;
 mod report;
-mod response;
-mod status;
 mod unhandled;
 
 pub use agent::Agent;
 pub use decision::Decision;
-pub use laws::{
-    agents_decide_alike, notification_is_accepted, refusal_is_short, report_is_short,
-    response_is_accepted, too_big_is_short,
-};
+pub use laws::{agents_decide_alike, notification_is_accepted};
 pub use refused::Refused;
-pub use status::{Status, status_of};
+pub use snmp_answers::{
+    Status, refusal_is_short, report_is_short, response_is_accepted, status_of, too_big_is_short,
+};
 pub use unhandled::Unhandled;
 
 #[cfg(test)]

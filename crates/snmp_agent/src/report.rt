@@ -1,6 +1,6 @@
 //! Reports (RFC 3414, section 3.2).
 
-ghost use Rattle.std.specs.Prelude.{◌≡◌, ◌≤◌, length, Some, IfOk, OnErr, IfSome, true};
+ghost use Rattle.std.specs.Prelude.{◌≡◌, Some, IfOk, OnErr, IfSome, true};
 ghost use Rattle.snmp_ber.specs.declared.level.Level.TheVariants.{AuthNoPriv};
 ghost use Rattle.usm_users.specs.Users.{HasUserAt};
 ghost use Rattle.usm_core.specs.Sealed.{SealedText};
@@ -9,14 +9,15 @@ ghost use Rattle.snmp_outcome.specs.Outcome.{Outcome, own_pair};
 ghost use Rattle.snmp_outcome.specs.Answers.{refused};
 ghost use Rattle.snmp_agent.specs.Counting.{counter_of};
 ghost use Rattle.snmp_agent.specs.Agent.{taker_at};
-ghost use Rattle.snmp_agent.specs.Report.{Offers, IsReport, report_level, reporting_of, report_of};
+ghost use Rattle.snmp_answers.specs.CounterReports.{report_level};
+ghost use Rattle.snmp_agent.specs.Report.{Offers, IsReport, reporting_of, report_of};
 
 use crate::asked::asking;
 use crate::asking::ReportedMessage;
-use crate::counter_report::send_counter;
 use crate::counting::counter_of;
 use crate::engine::Engine;
 use engine_clock::{EngineId, Pair};
+use snmp_answers::send_counter;
 use snmp_ber::{Level, Oid};
 use snmp_msg::{one_cut, one_message};
 use snmp_outcome::TakeFault;
@@ -78,8 +79,6 @@ fn send_report(
     value: u32,
     asking: &ReportedMessage<'_>,
 ) -> Result<Vec<u8>, AllocError>
-    requires id { asking.now.id ≤ 2147483647 }
-    requires user { length asking.now.user.now ≤ 32 }
     requires known { n ≡ 2 → HasUserAt users.old.users asking.now.user.now AuthNoPriv }
     ensures users { users.new.users ≡ users.old.users }
     ensures text { IfOk result (λ text. SealedText users.old.users (reporting_of engine.now own n asking.now value) text.items) }

@@ -14,7 +14,8 @@ use Rattle.snmp_agent.specs.Report.{AgentReports, OffersOnAnswer}
 use Rattle.snmp_sending.specs.Speaks.{Speech, spoken}
 use Rattle.snmp_agent.specs.Counting.{counter_at}
 use Rattle.snmp_agent.specs.Decides.{question, question_of}
-use Rattle.snmp_agent.specs.Sent.{responding, Sends, CanSendAt, RefusesSenderAt}
+use Rattle.snmp_answers.specs.Responses.{responding}
+use Rattle.snmp_agent.specs.Sent.{Sends, CanSendAt, RefusesSenderAt}
 use Rattle.engine_clock.specs.Pairs.{BootsAndTime, pair_max}
 use Rattle.usm_core.specs.Authentic.{HasEngineLength}
 use Rattle.usm_users.specs.User.{User}

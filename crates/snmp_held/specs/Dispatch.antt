@@ -15,7 +15,8 @@ use Rattle.snmp_sending.specs.UpTo.{UpTo}
 use Rattle.snmp_sending.specs.Fronts.{FrontText, front_answer}
 use Rattle.snmp_sending.specs.declared.front.Fronted.{Fronted}
 use Rattle.snmp_agent.specs.Agent.{AgentState}
-use Rattle.snmp_agent.specs.Sent.{responding, Sends, SendsFront, CanSendAt, RefusesSenderAt}
+use Rattle.snmp_answers.specs.Responses.{responding}
+use Rattle.snmp_agent.specs.Sent.{Sends, SendsFront, CanSendAt, RefusesSenderAt}
 use Rattle.snmp_agent.specs.Dispatch.{HandledBy, Refuses, RefusalCanBeSent}
 use Rattle.snmp_agent.specs.declared.unhandled.Unhandled.{Unhandled}
 use Rattle.snmp_held.specs.Agents.{AgentHeld, IsAsked, RefusesAnswer, LeavesMessage}

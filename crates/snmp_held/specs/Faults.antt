@@ -5,8 +5,8 @@ use Rattle.snmp_manager.specs.declared.pending.Answer.TheVariants.{Response, Rep
 use Rattle.vacm_core.specs.declared.access.Access.{Access}
 use Rattle.vacm_core.specs.Numbers.{access_number}
 use Rattle.snmp_outcome.specs.Refusals.{number_of}
-use Rattle.snmp_agent.specs.Statuses.{IsStatusOf, status_number}
-use Rattle.snmp_agent.specs.declared.status.Status.{Status}
+use Rattle.snmp_answers.specs.Statuses.{IsStatusOf, status_number}
+use Rattle.snmp_answers.specs.declared.status.Status.{Status}
 use Rattle.snmp_agent.specs.declared.unhandled.Unhandled.{Unhandled}
 use Rattle.snmp_held.specs.Numbers.{access_of, unhandled_number}
 use Rattle.snmp_held.specs.declared.fault.CallFault.{CallFault}

@@ -1,9 +1,9 @@
 //! `snmp_agent`: what is refused is counted.
 use engine_clock::EngineId;
-use snmp_agent::{Agent, Status, status_of};
+use snmp_agent::Agent;
 use std::test::Fail;
 use usm_core::Users;
-use vacm_core::{Access, Rows, Vacm};
+use vacm_core::{Rows, Vacm};
 
 #[test]
 fn what_is_refused_is_counted(rt: HostRuntime) -> Result<(), Fail> {

@@ -32,8 +32,6 @@ returns-in-Some c =
       id_is = refl;
       user_is = refl;
       copied = subst (λ (z : ℤ). IsCopiedId c.args.datagram.now m z) (sym round) c.in-Some.ensures.is;
-      id_fits = c.in-Ok.ensures.exact.says.is_id.at_most;
-      user_fits = c.in-Ok-read_security.ensures.exact.says.user_allowed;
     }
 
 pub returns-in-None : goal.returns-in-None

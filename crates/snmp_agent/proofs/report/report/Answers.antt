@@ -20,12 +20,14 @@ unreachable-requires c =
     let past = c.in_default-pair.ensures in
     omega (arith, runs, past)
 
-pub send_report-requires-clause-known : goal.send_report-requires-clause-known
-send_report-requires-clause-known c two =
-    let taker = taker_at c.args.engine.now in
-    let rows = answer_counted c.args.why c.in-Some.n (Outcome taker c.args.users.now.users c.args.now c.args.datagram.now) c.requires.rows c.in-Some.ensures.value in
-    known c.verified_was_read.ensures.accepted c.one_message.ensures.one c.one_cut.ensures.one c.args.engine.now.id c.args.engine.now.boots c.args.engine.now.started c.args.now (number_of c.args.why)
-    c.args.users.now.users c.args.datagram.now c.in-Some-asking.asking (second_is c.args.why c.in-Some.n c.in-Some.ensures.value two) rows c.in-Some-asking.ensures
+pub send_report-requires : goal.send_report-requires
+send_report-requires c = record {
+  known = λ two.
+      let taker = taker_at c.args.engine.now in
+      let rows = answer_counted c.args.why c.in-Some.n (Outcome taker c.args.users.now.users c.args.now c.args.datagram.now) c.requires.rows c.in-Some.ensures.value in
+      known c.verified_was_read.ensures.accepted c.one_message.ensures.one c.one_cut.ensures.one c.args.engine.now.id c.args.engine.now.boots c.args.engine.now.started c.args.now (number_of c.args.why)
+      c.args.users.now.users c.args.datagram.now c.in-Some-asking.asking (second_is c.args.why c.in-Some.n c.in-Some.ensures.value two) rows c.in-Some-asking.ensures;
+}
 
 pub returns-clause-report : goal.returns-clause-report
 returns-clause-report c =

@@ -6,7 +6,7 @@ use Rattle.snmp_outcome.specs.declared.fault.TakeFault.{TakeFault}
 use Rattle.snmp_outcome.specs.declared.fault.TakeFault.TheVariants.{TooLarge}
 use Rattle.snmp_outcome.specs.Refusals.{answer_number, MemoryIs}
 use Rattle.snmp_agent.specs.Report.{reporting_of}
-use Rattle.snmp_agent.proofs.Sizes.{scoped_most}
+use Rattle.snmp_answers.proofs.Sizes.{scoped_most}
 use Rattle.snmp_agent.proofs.Reports.{seals_text, refusal_is, report_sealable}
 use Rattle.snmp_agent.proofs.report.send_report.Goals as goal
 
@@ -28,4 +28,4 @@ unreachable-requires-then-not-is_memory c =
     let long = rw (c.in-Some.ensures.value, c.counter_name.ensures, c.as_slice.ensures.value, to_z-of_z w32 c.args.asking.now.request_id fits) at (c.in-Err.ensures.short is) in
     let engine = c.as_slice.ensures.bounds.at_most in
     let most = scoped_most c.args.engine.now c.args.asking.now.request_id c.args.n c.args.value engine in
-    omega (arith, long, most, engine, c.requires.user)
+    omega (arith, long, most, engine, c.args.asking.now.user_fits)

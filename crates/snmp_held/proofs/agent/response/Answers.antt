@@ -8,7 +8,8 @@ use Rattle.snmp_outcome.specs.Outcome.{Given}
 use Rattle.snmp_outcome.specs.Answers.{given_of}
 use Rattle.snmp_sending.specs.Classes.{is_confirmed}
 use Rattle.snmp_sending.specs.Sends.{send_refusal}
-use Rattle.snmp_agent.specs.Sent.{responding, Sends, CanSendAt}
+use Rattle.snmp_answers.specs.Responses.{responding}
+use Rattle.snmp_agent.specs.Sent.{Sends, CanSendAt}
 use Rattle.snmp_held.specs.Agents.{Responds}
 use Rattle.snmp_held.proofs.Told.{if_told}
 use Rattle.snmp_held.proofs.agent.response.Goals as goal

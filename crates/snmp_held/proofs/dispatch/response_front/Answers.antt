@@ -8,7 +8,8 @@ use Rattle.snmp_outcome.specs.Outcome.{Given}
 use Rattle.snmp_outcome.specs.Answers.{given_of}
 use Rattle.snmp_sending.specs.Classes.{is_confirmed}
 use Rattle.snmp_sending.specs.Fronts.{FrontText, front_answer}
-use Rattle.snmp_agent.specs.Sent.{responding, SendsFront, CanSendAt}
+use Rattle.snmp_answers.specs.Responses.{responding}
+use Rattle.snmp_agent.specs.Sent.{SendsFront, CanSendAt}
 use Rattle.snmp_held.specs.Dispatch.{RespondsFront}
 use Rattle.snmp_held.proofs.Told.{if_told}
 use Rattle.snmp_held.proofs.dispatch.response_front.Goals as goal

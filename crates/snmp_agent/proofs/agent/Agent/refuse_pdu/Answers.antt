@@ -10,7 +10,8 @@ use Rattle.snmp_sending.specs.Sends.{send_refusal}
 use Rattle.snmp_agent.specs.Agent.{AgentState}
 use Rattle.snmp_sending.specs.declared.counter.Counter.{Counter}
 use Rattle.snmp_agent.specs.Counts.{count_after, one_more}
-use Rattle.snmp_agent.specs.Dispatch.{counter_of, agent_counted, refusing, IsReported, SendsRefusal}
+use Rattle.snmp_answers.specs.CounterReports.{refusing}
+use Rattle.snmp_agent.specs.Dispatch.{counter_of, agent_counted, IsReported, SendsRefusal}
 use Rattle.snmp_agent.proofs.Clocked.{sends}
 use Rattle.snmp_agent.proofs.Values.{counted_value}
 use Rattle.snmp_agent.proofs.UpTos.{some_other}

@@ -8,7 +8,8 @@ use Rattle.snmp_sending.specs.Fronts.{front_answer}
 use Rattle.snmp_agent.specs.Agent.{AgentState}
 use Rattle.snmp_outcome.specs.Outcome.{own_pair}
 use Rattle.snmp_sending.specs.Speaks.{SpeechFits}
-use Rattle.snmp_agent.specs.Sent.{response, responding, SendsFront, CanBeSent, IsAcceptedByManagers}
+use Rattle.snmp_answers.specs.Responses.{response, responding}
+use Rattle.snmp_agent.specs.Sent.{SendsFront, CanBeSent, IsAcceptedByManagers}
 use Rattle.engine_clock.specs.Pairs.{BootsAndTime}
 use Rattle.snmp_agent.proofs.Clocked.{can_be_sent}
 use Rattle.snmp_agent.proofs.Fronts.{sends_front, accepted_front}

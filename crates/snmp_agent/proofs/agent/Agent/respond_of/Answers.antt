@@ -7,7 +7,8 @@ use Rattle.snmp_sending.specs.Sends.{send_answer}
 use Rattle.snmp_agent.specs.Agent.{AgentState}
 use Rattle.snmp_outcome.specs.Outcome.{own_pair}
 use Rattle.snmp_sending.specs.Speaks.{SpeechFits}
-use Rattle.snmp_agent.specs.Sent.{response, responding, Sends, CanBeSent, IsAcceptedByManagers}
+use Rattle.snmp_answers.specs.Responses.{response, responding}
+use Rattle.snmp_agent.specs.Sent.{Sends, CanBeSent, IsAcceptedByManagers}
 use Rattle.engine_clock.specs.Pairs.{BootsAndTime}
 use Rattle.snmp_agent.proofs.Accepted.{AreAccepted, accepted}
 use Rattle.snmp_agent.proofs.Clocked.{sends, can_be_sent}

@@ -1,0 +1,3 @@
+pub mod Responses
+pub mod CounterReports
+pub mod Statuses
