@@ -4,7 +4,7 @@ ghost use Rattle.std.specs.Borrow.{full_share, sem};
 ghost use Rattle.std.specs.Ptr.{lies_at};
 ghost use Rattle.snmp_held.specs.contracts.agent.AgentHandle as agents;
 ghost use Rattle.snmp_held.specs.Agents.{AgentHeld};
-ghost use Rattle.snmp_held.specs.Faults.{IsStatusCode};
+ghost use Rattle.snmp_calls.specs.Faults.{IsStatusCode};
 ghost use Rattle.snmp_c.specs.Calls.{MaxSize, RespondsToWithin, RespondsToFront, UnhandledBy, RefusesKept, CountOf, DropsSilently, IsValueCode};
 
 use crate::dispatch_calls::{

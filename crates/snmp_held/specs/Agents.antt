@@ -27,9 +27,9 @@ use Rattle.snmpsec_config.specs.Refusals.{Loads, RefusesText}
 use Rattle.snmpsec_config.specs.declared.fault.ConfigFault.{ConfigFault}
 use Rattle.snmp_outcome.specs.declared.fault.TakeFault.{TakeFault}
 use Rattle.snmp_outcome.specs.declared.fault.TakeFault.TheVariants.{OutOfMemory}
-use Rattle.snmp_held.specs.Numbers.{level_of, view_of}
-use Rattle.snmp_held.specs.declared.fault.CallFault.{CallFault}
-use Rattle.snmp_held.specs.declared.fault.CallFault.TheVariants.{Refused, BadArgument, NothingTaken, NotAsked, BadBindings, BadConfiguration}
+use Rattle.snmp_calls.specs.Numbers.{level_of, view_of}
+use Rattle.snmp_calls.specs.declared.fault.CallFault.{CallFault}
+use Rattle.snmp_calls.specs.declared.fault.CallFault.TheVariants.{Refused, BadArgument, NothingTaken, NotAsked, BadBindings, BadConfiguration}
 
 pub record AgentHeld : Type 0 where
   pub agent : AgentState

@@ -9,8 +9,8 @@ use Rattle.snmp_manager.specs.Pendings.{Remembers}
 use Rattle.snmp_manager.specs.declared.pending.Pending.{Pending}
 use Rattle.snmp_held.specs.Managers.{Asking, AsksAt, StopsRequest}
 use Rattle.snmp_held.specs.declared.manager.AskedOf.{AskedOf}
-use Rattle.snmp_held.specs.declared.fault.CallFault.{CallFault}
-use Rattle.snmp_held.specs.declared.fault.CallFault.TheVariants.{Refused, BadBindings}
+use Rattle.snmp_calls.specs.declared.fault.CallFault.{CallFault}
+use Rattle.snmp_calls.specs.declared.fault.CallFault.TheVariants.{Refused, BadBindings}
 
 abbrev pub asking_of : AskedOf → Asking
 asking_of of = record {

@@ -10,8 +10,8 @@ use Rattle.snmp_agent.specs.Sent.{CanSendAt, RefusesSenderAt}
 use Rattle.snmp_held.specs.Agents.{Responds, StopsResponse, HasNoBindings, Notice, NotifiesAt, StopsNotice}
 use Rattle.snmp_outcome.specs.declared.fault.TakeFault.{TakeFault}
 use Rattle.snmp_held.specs.declared.agent.NoticeTo.{NoticeTo}
-use Rattle.snmp_held.specs.declared.fault.CallFault.{CallFault}
-use Rattle.snmp_held.specs.declared.fault.CallFault.TheVariants.{Refused, NotAsked, BadBindings}
+use Rattle.snmp_calls.specs.declared.fault.CallFault.{CallFault}
+use Rattle.snmp_calls.specs.declared.fault.CallFault.TheVariants.{Refused, NotAsked, BadBindings}
 
 -- Nothing can be answered to what was given: it isn't asked for an answer, or nothing can be sent for its user at its level.
 abbrev pub CannotAnswer : AgentState → ℕ → Given → CallFault → Type 0

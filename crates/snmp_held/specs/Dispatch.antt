@@ -21,16 +21,10 @@ use Rattle.snmp_agent.specs.Dispatch.{HandledBy, Refuses, RefusalCanBeSent}
 use Rattle.snmp_agent.specs.declared.unhandled.Unhandled.{Unhandled}
 use Rattle.snmp_held.specs.Agents.{AgentHeld, IsAsked, RefusesAnswer, LeavesMessage}
 use Rattle.snmp_held.specs.Between.{Answering}
-use Rattle.snmp_held.specs.declared.fault.CallFault.{CallFault}
-use Rattle.snmp_held.specs.declared.fault.CallFault.TheVariants.{Refused, NothingTaken}
+use Rattle.snmp_calls.specs.declared.fault.CallFault.{CallFault}
+use Rattle.snmp_calls.specs.declared.fault.CallFault.TheVariants.{Refused, NothingTaken}
 
 -- ---- answers within a limit
-
--- the sender's msgMaxSize, of what is kept
-abbrev pub TellsMaxSize : Option Given → Result ℕ CallFault → Type 0
-TellsMaxSize last (Ok size) = (g : Given) × (last ≡ Some g) × (size ≡ g.max_size)
-TellsMaxSize last (Err NothingTaken) = last ≡ None
-TellsMaxSize last (Err _) = ⊥
 
 -- The Response to what was given, with the bindings that these octets are, where it has at most so many octets; or its refusal.
 abbrev pub RespondsWithin : AgentState → ℕ → Given → ℕ → ℕ → List ℕ → List ℕ → ℕ → Result (List ℕ) ℕ → Type 0

@@ -1,11 +1,6 @@
-pub mod Faults
-pub mod Numbers
-pub mod Bindings
 pub mod Agents
 pub mod Dispatch
-pub mod Parts
 pub mod Between
 pub mod Managers
 pub mod Reports
 pub mod Asked
-pub mod Configurations

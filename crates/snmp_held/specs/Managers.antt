@@ -30,9 +30,9 @@ use Rattle.snmp_manager.specs.declared.pending.Answer.{Answer}
 use Rattle.snmpsec_config.specs.Refusals.{Loads, RefusesText}
 use Rattle.snmpsec_config.specs.declared.fault.ConfigFault.{ConfigFault}
 use Rattle.vacm_core.specs.Tables.{Tables}
-use Rattle.snmp_held.specs.Numbers.{level_of}
-use Rattle.snmp_held.specs.declared.fault.CallFault.{CallFault}
-use Rattle.snmp_held.specs.declared.fault.CallFault.TheVariants.{Refused, BadArgument, NothingTaken, BadBindings, BadConfiguration, BadClocks}
+use Rattle.snmp_calls.specs.Numbers.{level_of}
+use Rattle.snmp_calls.specs.declared.fault.CallFault.{CallFault}
+use Rattle.snmp_calls.specs.declared.fault.CallFault.TheVariants.{Refused, BadArgument, NothingTaken, BadBindings, BadConfiguration, BadClocks}
 
 pub record ManagerHeld : Type 0 where
   pub manager : Held

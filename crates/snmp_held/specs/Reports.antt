@@ -8,7 +8,7 @@ use Rattle.snmp_manager.specs.declared.pending.Pending.{Pending}
 use Rattle.snmp_manager.specs.declared.pending.Answer.{Answer}
 use Rattle.snmp_manager.specs.declared.replies.Report.{Report}
 use Rattle.snmp_held.specs.Managers.{ManagerHeld, RefusesAnswer}
-use Rattle.snmp_held.specs.declared.fault.CallFault.{CallFault}
+use Rattle.snmp_calls.specs.declared.fault.CallFault.{CallFault}
 
 -- What the message that is kept is to the request is told, and its Response ends the waiting. An error changes nothing.
 abbrev pub TakesAnswer : ManagerHeld → Result Answer CallFault → ManagerHeld → Type 0

@@ -11,18 +11,17 @@ ghost use Rattle.snmp_agent.specs.Sent.{notifying, Sends};
 ghost use Rattle.snmp_sending.specs.Sends.{send_answer};
 ghost use Rattle.vacm_core.specs.Allowed.{Allowed};
 ghost use Rattle.snmp_held.specs.Agents.{Clears, IsOwnEngine, MakesAgent, TakesHeld, TakesNoMemory, AllowsHeld, MaySee, Counts, RespondsHeld, Notice, NotifiesHeld};
-ghost use Rattle.snmp_held.specs.Parts.{CopiesPart, CopiesMessage, AreNumbersOf};
+ghost use Rattle.snmp_calls.specs.Parts.{CopiesPart, CopiesMessage, AreNumbersOf};
 ghost use Rattle.snmp_held.specs.Between.{AnswersResponse, AnswersNotice, notice_of};
 
-use crate::bindings::bindings_of;
 use crate::dispatch::can_answer;
-use crate::fault::CallFault;
-use crate::in_range::{NoticeInRange, Reply};
-use crate::numbers::{GREATEST, level_of, view_of};
-use crate::parts::{Part, copied_message, copied_part, numbers_of};
+use crate::in_range::{GREATEST, NoticeInRange, Reply};
 use engine_clock::EngineId;
 use snmp_agent::Agent;
 use snmp_ber::Oid;
+use snmp_calls::{
+    CallFault, Part, bindings_of, copied_message, copied_part, level_of, numbers_of, view_of,
+};
 use snmp_outcome::{Kept, TakeFault};
 use snmp_sending::Front;
 use snmpsec_config::{Config, ConfigFault};

@@ -9,14 +9,13 @@ ghost use Rattle.snmp_agent.specs.Sent.{CanSendAt};
 ghost use Rattle.snmp_sending.specs.Classes.{is_confirmed};
 ghost use Rattle.snmp_sending.specs.declared.counter.Counter.TheVariants.{SilentDrops};
 ghost use Rattle.snmp_held.specs.Between.{CannotAnswer};
-ghost use Rattle.snmp_held.specs.Dispatch.{TellsMaxSize, RespondsHeldWithin, RespondsHeldFront, AnswersWithin, AnswersFront, AnswersReport, IsHandled, TellsUnhandled, ReportsHeld};
+ghost use Rattle.snmp_calls.specs.Parts.{TellsMaxSize};
+ghost use Rattle.snmp_held.specs.Dispatch.{RespondsHeldWithin, RespondsHeldFront, AnswersWithin, AnswersFront, AnswersReport, IsHandled, TellsUnhandled, ReportsHeld};
 
 use crate::agent::AgentHandle;
-use crate::bindings::bindings_of;
-use crate::fault::CallFault;
 use crate::in_range::Reply;
-use crate::parts::max_size_of;
 use snmp_agent::{Agent, Unhandled};
+use snmp_calls::{CallFault, bindings_of, max_size_of};
 use snmp_outcome::Kept;
 use snmp_sending::{Counter, Fronted, is_confirmed};
 use std::alloc::Global;

@@ -6,9 +6,12 @@ ghost use Rattle.snmp_msg.specs.Pdu.{IsPduTag};
 
 use crate::agent::NoticeTo;
 use crate::manager::AskedOf;
-use crate::numbers::{GREATEST, level_of};
 use engine_clock::EngineId;
 use snmp_ber::Level;
+use snmp_calls::level_of;
+
+/// The greatest number of 31 bits, as of msgID (RFC 3412, section 6) and of snmpEngineBoots.
+pub(crate) const GREATEST: u32 = 2_147_483_647;
 
 /// What a Response says besides what it copies.
 #[derive(Clone, Copy)]
@@ -53,7 +56,7 @@ pub(crate) struct NoticeInRange<'a> {
 }
 
 impl<'a> NoticeInRange<'a> {
-    ghost use Rattle.snmp_held.specs.Numbers as spec;
+    ghost use Rattle.snmp_calls.specs.Numbers as spec;
     ghost use Rattle.snmp_held.specs.Agents.{IsNoticeOutOfRange};
     ghost use Rattle.snmp_held.specs.Between.{notice_of};
 
@@ -97,7 +100,7 @@ pub(crate) struct AskedInRange<'a> {
 }
 
 impl<'a> AskedInRange<'a> {
-    ghost use Rattle.snmp_held.specs.Numbers as spec;
+    ghost use Rattle.snmp_calls.specs.Numbers as spec;
     ghost use Rattle.snmp_held.specs.Managers.{IsOutOfRange};
     ghost use Rattle.snmp_held.specs.Asked.{asking_of};
 

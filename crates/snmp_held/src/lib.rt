@@ -15,23 +15,14 @@
 #![tactic(auto)]
 
 mod agent;
-mod bindings;
-mod configuration;
 mod dispatch;
-mod fault;
 mod in_range;
 mod manager;
-mod numbers;
-mod parts;
 mod reports;
 
 pub use agent::{AgentHandle, NoticeTo};
-pub use bindings::{read_binding_at, write_binding};
-pub use configuration::tell_config;
-pub use fault::{
-    CallFault, access_code_of, answer_code_of, code_of, status_code_of, unhandled_code_of,
-    value_code_of,
-};
 pub use manager::{AskedOf, ManagerHandle};
-pub use numbers::{counter_of, unhandled_of};
-pub use parts::Part;
+pub use snmp_calls::{
+    CallFault, Part, access_code_of, answer_code_of, code_of, counter_of, read_binding_at,
+    status_code_of, tell_config, unhandled_code_of, unhandled_of, value_code_of, write_binding,
+};

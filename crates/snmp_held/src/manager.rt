@@ -8,15 +8,12 @@ ghost use Rattle.snmp_outcome.specs.Outcome.{Given};
 ghost use Rattle.snmp_manager.specs.Replies.{IsAnswer};
 ghost use Rattle.snmp_manager.specs.Takes.{TakesNoMemory};
 ghost use Rattle.snmp_held.specs.Managers.{MakesManager, ClearsManager, ManagerTakes, TellsAnswer, DiscoversHeld, RequestsHeld, AbsorbsHeld, SavesHeld, TellsPair};
-ghost use Rattle.snmp_held.specs.Parts.{CopiesPart, CopiesMessage, AreNumbersOf};
+ghost use Rattle.snmp_calls.specs.Parts.{CopiesPart, CopiesMessage, AreNumbersOf};
 ghost use Rattle.snmp_held.specs.Asked.{AnswersRequest, asking_of};
 
-use crate::bindings::bindings_of;
-use crate::fault::CallFault;
-use crate::in_range::AskedInRange;
-use crate::numbers::GREATEST;
-use crate::parts::{Part, copied_message, copied_part, numbers_of};
+use crate::in_range::{AskedInRange, GREATEST};
 use engine_clock::{ClockFault, Clocks, EngineId, Pair};
+use snmp_calls::{CallFault, Part, bindings_of, copied_message, copied_part, numbers_of};
 use snmp_manager::{Answer, Manager, Pending, answer_of};
 use snmp_outcome::{Kept, TakeFault};
 use snmp_sending::Front;

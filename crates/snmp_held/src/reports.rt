@@ -3,12 +3,11 @@
 ghost use Rattle.snmp_message.specs.Scoped.{Contexts, ScopedFront};
 ghost use Rattle.snmp_msg.specs.Pdu.{PduParts, PduText};
 ghost use Rattle.snmp_manager.specs.Replies.{IsReport};
-ghost use Rattle.snmp_held.specs.Dispatch.{TellsMaxSize};
+ghost use Rattle.snmp_calls.specs.Parts.{TellsMaxSize};
 ghost use Rattle.snmp_held.specs.Reports.{TakesAnswer, TellsReport};
 
-use crate::fault::CallFault;
 use crate::manager::ManagerHandle;
-use crate::parts::max_size_of;
+use snmp_calls::{CallFault, max_size_of};
 use snmp_manager::{Answer, Pending, Report, report_of};
 use snmp_outcome::Kept;
 

@@ -3,7 +3,7 @@ use Rattle.snmp_message.specs.Scoped.{Contexts, ScopedFront}
 use Rattle.snmp_agent.specs.Decides.{question_of}
 use Rattle.vacm_core.specs.Allowed.{Allowed}
 use Rattle.snmp_held.specs.Agents.{AgentHeld}
-use Rattle.snmp_held.specs.Numbers.{view_of}
+use Rattle.snmp_calls.specs.Numbers.{view_of}
 use Rattle.snmp_held.proofs.agent.AgentHandle.allows.Goals as goal
 
 pub returns-in-Some : goal.returns-in-Some

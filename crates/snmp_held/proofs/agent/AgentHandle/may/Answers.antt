@@ -2,7 +2,7 @@ use Rattle.std.proofs.Common.{◌≡◌, Some, subst, rules}
 use Rattle.snmp_agent.specs.Decides.{question}
 use Rattle.vacm_core.specs.Allowed.{Allowed}
 use Rattle.snmp_held.specs.Agents.{AgentHeld}
-use Rattle.snmp_held.specs.Numbers.{level_of, view_of}
+use Rattle.snmp_calls.specs.Numbers.{level_of, view_of}
 use Rattle.snmp_held.proofs.agent.AgentHandle.may.Goals as goal
 
 pub returns : goal.returns

@@ -5,8 +5,8 @@ use Rattle.snmp_agent.specs.Agent.{AgentState}
 use Rattle.snmp_agent.specs.declared.unhandled.Unhandled.{Unhandled}
 use Rattle.snmp_held.specs.Agents.{AgentHeld}
 use Rattle.snmp_held.specs.Dispatch.{Reports, AnswersReport, StopsReport}
-use Rattle.snmp_held.specs.declared.fault.CallFault.{CallFault}
-use Rattle.snmp_held.specs.declared.fault.CallFault.TheVariants.{Refused, BadArgument, NothingTaken, NotAsked, BadBindings, ShortBuffer, BadConfiguration, BadClocks}
+use Rattle.snmp_calls.specs.declared.fault.CallFault.{CallFault}
+use Rattle.snmp_calls.specs.declared.fault.CallFault.TheVariants.{Refused, BadArgument, NothingTaken, NotAsked, BadBindings, ShortBuffer, BadConfiguration, BadClocks}
 use Rattle.snmp_held.proofs.agent.AgentHandle.refuse.Goals as goal
 
 pub returns-in-Ok : goal.returns-in-Ok

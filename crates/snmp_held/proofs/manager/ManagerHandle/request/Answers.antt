@@ -3,7 +3,7 @@ use Rattle.std.specs.Int.{to_be_bytes, w64}
 use Rattle.snmp_ber.specs.declared.level.Level.{Level}
 use Rattle.snmp_manager.specs.Views.{Held}
 use Rattle.snmp_manager.specs.declared.pending.Pending.{Pending}
-use Rattle.snmp_held.specs.Numbers.{level_of}
+use Rattle.snmp_calls.specs.Numbers.{level_of}
 use Rattle.snmp_held.specs.Managers.{ManagerHeld, AsksAt, Waits}
 use Rattle.snmp_held.specs.Asked.{asking_of, RemembersAsking}
 use Rattle.snmp_held.specs.declared.manager.AskedOf.{AskedOf}

@@ -3,8 +3,8 @@ use Rattle.std.proofs.lemmas.Int.{to_z-of_z}
 use Rattle.snmp_msg.specs.Pdu.{PduParts, pdu_of}
 use Rattle.snmp_outcome.specs.Outcome.{Given}
 use Rattle.snmp_outcome.specs.Answers.{given_of}
-use Rattle.snmp_held.specs.Parts.{AreNumbersOf, numbers_of}
-use Rattle.snmp_held.proofs.parts.numbers_of.Goals as goal
+use Rattle.snmp_calls.specs.Parts.{AreNumbersOf, numbers_of}
+use Rattle.snmp_calls.proofs.parts.numbers_of.Goals as goal
 
 pub returns : goal.returns
 returns c =

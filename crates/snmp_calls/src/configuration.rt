@@ -1,7 +1,7 @@
 //! Why a configuration is refused, for callers in other languages.
 
 ghost use Rattle.std.specs.Prelude.{◌≡◌, IfOk};
-ghost use Rattle.snmp_held.specs.Configurations.{TellsConfig, IsTold, numbers_of as numbers_by, row_numbers, table_number as table_by, key_number as key_by, wrong_number as wrong_by};
+ghost use Rattle.snmp_calls.specs.Configurations.{TellsConfig, IsTold, numbers_of as numbers_by, row_numbers, table_number as table_by, key_number as key_by, wrong_number as wrong_by};
 
 use crate::fault::CallFault;
 use crate::parts::copied;

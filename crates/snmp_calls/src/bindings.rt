@@ -4,7 +4,7 @@ ghost use Rattle.std.specs.Prelude.{◌≡◌, ◌≤◌, All, IfErr, IfOk, List
 ghost use Rattle.snmp_ber.specs.Element.{IsTag};
 ghost use Rattle.snmp_ber.specs.Oid.{IsObjectId};
 ghost use Rattle.snmp_msg.specs.Variables.{Variable, AreBindings, bound_variable, variable_text};
-ghost use Rattle.snmp_held.specs.Bindings.{RefusesBindings, ReadsAt, WritesBinding};
+ghost use Rattle.snmp_calls.specs.Bindings.{RefusesBindings, ReadsAt, WritesBinding};
 
 use crate::fault::CallFault;
 use crate::parts::copied;
@@ -33,7 +33,7 @@ fn outer_count(list: &[u8]) -> usize
 
 /// The bindings whose texts the octets are, one after another, with their names in these octets. The error is BadBindings, exactly where
 /// they aren't bindings, or want of memory, which is asked for once.
-pub(crate) fn bindings_of(alloc: Global, list: &[u8]) -> Result<Vec<VariableBinding<'_>>, CallFault>
+pub fn bindings_of(alloc: Global, list: &[u8]) -> Result<Vec<VariableBinding<'_>>, CallFault>
     ensures all { IfOk result (λ v. AreBindings (map bound_variable v.items) list.now) }
     ensures written { IfOk result (λ v. All (λ b. IsTag b.tag) v.items) }
     ensures fault { IfErr result (RefusesBindings list.now) }

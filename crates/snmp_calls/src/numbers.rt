@@ -1,18 +1,15 @@
 //! The numbers by which calls name levels, views, counters, answers on access and what becomes of messages.
 
 ghost use Rattle.std.specs.Prelude.{◌≡◌};
-ghost use Rattle.snmp_held.specs.Numbers as spec;
+ghost use Rattle.snmp_calls.specs.Numbers as spec;
 
 use snmp_agent::Unhandled;
 use snmp_ber::Level;
 use snmp_sending::Counter;
 use vacm_core::{Access, ViewType};
 
-/// The greatest number of 31 bits, as of msgID (RFC 3412, section 6) and of snmpEngineBoots.
-pub(crate) const GREATEST: u32 = 2_147_483_647;
-
-/// The level of this number: 1 noAuthNoPriv, 2 authNoPriv, 3 authPriv.
-pub(crate) fn level_of(number: u32) -> Option<Level>
+/// The level of this number: 1 noAuthNoPriv, 2 authNoPriv, 3 authPriv; None where no level has it.
+pub fn level_of(number: u32) -> Option<Level>
     ensures { result ≡ spec.level_of number }
 {
     if number == 1 {
@@ -26,8 +23,8 @@ pub(crate) fn level_of(number: u32) -> Option<Level>
     }
 }
 
-/// The view of this number: 0 read, 1 write, 2 notify.
-pub(crate) fn view_of(number: u32) -> Option<ViewType>
+/// The view of this number: 0 read, 1 write, 2 notify; None where no view has it.
+pub fn view_of(number: u32) -> Option<ViewType>
     ensures { result ≡ spec.view_of number }
 {
     if number == 0 {

@@ -7,7 +7,7 @@ use Rattle.snmp_ber.specs.Element.{IsTag, IsElement}
 use Rattle.snmp_ber.proofs.Oids.{identifier_in-again}
 use Rattle.snmp_msg.specs.Variables.{Variable, IsBinding, IsReadBinding, AreBindings, bound_variable}
 use Rattle.snmp_msg.specs.declared.variable.VariableBinding.{VariableBinding}
-use Rattle.snmp_held.proofs.bindings.bindings_of.Goals as goal
+use Rattle.snmp_calls.proofs.bindings.bindings_of.Goals as goal
 
 nothing : (xs : List ℕ) → length xs ≡ 0 → xs ≡ []
 nothing [] none = refl

@@ -8,9 +8,9 @@ use Rattle.snmp_outcome.specs.Refusals.{number_of}
 use Rattle.snmp_answers.specs.Statuses.{IsStatusOf, status_number}
 use Rattle.snmp_answers.specs.declared.status.Status.{Status}
 use Rattle.snmp_agent.specs.declared.unhandled.Unhandled.{Unhandled}
-use Rattle.snmp_held.specs.Numbers.{access_of, unhandled_number}
-use Rattle.snmp_held.specs.declared.fault.CallFault.{CallFault}
-use Rattle.snmp_held.specs.declared.fault.CallFault.TheVariants.{Refused, BadArgument, NothingTaken, NotAsked, BadBindings, ShortBuffer, BadConfiguration, BadClocks}
+use Rattle.snmp_calls.specs.Numbers.{access_of, unhandled_number}
+use Rattle.snmp_calls.specs.declared.fault.CallFault.{CallFault}
+use Rattle.snmp_calls.specs.declared.fault.CallFault.TheVariants.{Refused, BadArgument, NothingTaken, NotAsked, BadBindings, ShortBuffer, BadConfiguration, BadClocks}
 
 -- a refusal has its own number, and a fault of the call a negative one
 abbrev pub fault_code : CallFault → ℤ

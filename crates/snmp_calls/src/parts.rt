@@ -1,8 +1,7 @@
 //! What a caller gets of what a handle keeps, into buffers of its own.
 
 ghost use Rattle.std.specs.Prelude.{◌≡◌, Some, option_map};
-ghost use Rattle.snmp_held.specs.Parts.{Copies, CopiesPart, CopiesMessage, AreNumbersOf, part_of};
-ghost use Rattle.snmp_held.specs.Dispatch.{TellsMaxSize};
+ghost use Rattle.snmp_calls.specs.Parts.{Copies, CopiesPart, CopiesMessage, AreNumbersOf, TellsMaxSize, part_of};
 
 use crate::fault::CallFault;
 use snmp_msg::one_content;
@@ -73,8 +72,9 @@ fn copied_of(kept: &Kept, part: Part, out: &mut [u8], written: &mut usize) -> Re
     }
 }
 
-/// Copies a part of what is kept. The errors are NothingTaken and ShortBuffer.
-pub(crate) fn copied_part(
+/// Copies a part of what is kept to the front of the buffer, and tells how many octets it has. The errors are NothingTaken, and
+/// ShortBuffer, which tells the octets too; either leaves the buffer as it was.
+pub fn copied_part(
     last: &Option<Kept>,
     part: Part,
     out: &mut [u8],
@@ -88,8 +88,8 @@ pub(crate) fn copied_part(
     }
 }
 
-/// Copies the message that is to be sent. The errors are NothingTaken, where there is none, and ShortBuffer.
-pub(crate) fn copied_message(
+/// Copies the message that is to be sent in the same way. The errors are NothingTaken, where there is none, and ShortBuffer.
+pub fn copied_message(
     message: &Option<Vec<u8>>,
     out: &mut [u8],
     written: &mut usize,
@@ -103,7 +103,7 @@ pub(crate) fn copied_message(
 }
 
 /// The level, the PDU's tag, request-id, second and third number, and msgID of what was kept.
-pub(crate) fn numbers_of(kept: &Kept) -> [i32; 6]
+pub fn numbers_of(kept: &Kept) -> [i32; 6]
     ensures { AreNumbersOf kept.now result }
 {
     let taken = kept.taken();
@@ -118,8 +118,8 @@ pub(crate) fn numbers_of(kept: &Kept) -> [i32; 6]
     ]
 }
 
-/// The sender's msgMaxSize, of what is kept. The error is NothingTaken.
-pub(crate) fn max_size_of(last: &Option<Kept>) -> Result<u32, CallFault>
+/// The sender's msgMaxSize, 484 to 2147483647 octets, of what is kept. The error is NothingTaken.
+pub fn max_size_of(last: &Option<Kept>) -> Result<u32, CallFault>
     ensures { TellsMaxSize last.now result }
 {
     match last {

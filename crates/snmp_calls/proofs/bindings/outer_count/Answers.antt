@@ -7,7 +7,7 @@ use Rattle.snmp_ber.specs.Reading.{Front, front_of}
 use Rattle.snmp_ber.specs.Tlv.{front_at}
 use Rattle.snmp_ber.proofs.Elements.{front_of-begun}
 use Rattle.snmp_msg.specs.Variables.{Variable, AreBindings}
-use Rattle.snmp_held.proofs.bindings.outer_count.Goals as goal
+use Rattle.snmp_calls.proofs.bindings.outer_count.Goals as goal
 
 begun : (here text more content : List ℕ) (is : IsElement 48 content text) → here ≡ text ++ more → Begins here 48 is.0 content more
 begun here text more content is parts = record { is_head = is.1; parts = parts ∙ rw is.2 (append_assoc is.0 content more) }

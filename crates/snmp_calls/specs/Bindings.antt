@@ -3,9 +3,9 @@ use Rattle.std.specs.Prelude.{◌≡◌, ◌<◌, ◌⊎◌, ◌++◌, ℕ, List
 use Rattle.snmp_ber.specs.Oid.{AreArcs}
 use Rattle.snmp_msg.specs.Variables.{Variable, IsBinding, AreBindings, CanBeWritten, variable_text}
 use Rattle.snmp_outcome.specs.declared.fault.TakeFault.TheVariants.{OutOfMemory}
-use Rattle.snmp_held.specs.Parts.{Copies}
-use Rattle.snmp_held.specs.declared.fault.CallFault.{CallFault}
-use Rattle.snmp_held.specs.declared.fault.CallFault.TheVariants.{Refused, BadArgument, BadBindings, ShortBuffer}
+use Rattle.snmp_calls.specs.Parts.{Copies}
+use Rattle.snmp_calls.specs.declared.fault.CallFault.{CallFault}
+use Rattle.snmp_calls.specs.declared.fault.CallFault.TheVariants.{Refused, BadArgument, BadBindings, ShortBuffer}
 
 -- they are no bindings, one after another; or there was want of memory
 abbrev pub RefusesBindings : List ℕ → CallFault → Type 0

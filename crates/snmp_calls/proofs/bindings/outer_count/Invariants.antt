@@ -1,6 +1,6 @@
 use Rattle.std.proofs.Common.{◌≡◌, ◌+◌, ◌≤◌, ◌-◌, List, length, slice_range}
 use Rattle.snmp_msg.specs.Variables.{Variable, AreBindings}
-use Rattle.snmp_held.proofs.bindings.outer_count.Given as goal
+use Rattle.snmp_calls.proofs.bindings.outer_count.Given as goal
 
 abbrev pub invariant-loop-place : goal.invariant-loop-place
 invariant-loop-place l = record {

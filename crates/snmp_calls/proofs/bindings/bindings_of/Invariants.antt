@@ -3,7 +3,7 @@ use Rattle.std.specs.Prelude.{All}
 use Rattle.snmp_msg.specs.Variables.{Variable, AreBindings, bound_variable}
 use Rattle.snmp_ber.specs.Element.{IsTag}
 use Rattle.snmp_msg.specs.declared.variable.VariableBinding.{VariableBinding}
-use Rattle.snmp_held.proofs.bindings.bindings_of.Given as goal
+use Rattle.snmp_calls.proofs.bindings.bindings_of.Given as goal
 
 abbrev pub invariant-loop-place : goal.invariant-loop-place
 invariant-loop-place l = record {

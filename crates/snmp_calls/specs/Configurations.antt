@@ -15,8 +15,8 @@ use Rattle.snmpsec_config.specs.declared.fault.ConfigFault.{ConfigFault}
 use Rattle.snmpsec_config.specs.declared.fault.ConfigFault.TheVariants as faults
 use Rattle.snmpsec_config.specs.Refusals.{SaysSound, RefusesText, refusal_line}
 use Rattle.snmpsec_config.specs.Told.{IsWhy}
-use Rattle.snmp_held.specs.declared.fault.CallFault.{CallFault}
-use Rattle.snmp_held.specs.declared.fault.CallFault.TheVariants.{Refused, BadArgument, BadConfiguration, ShortBuffer}
+use Rattle.snmp_calls.specs.declared.fault.CallFault.{CallFault}
+use Rattle.snmp_calls.specs.declared.fault.CallFault.TheVariants.{Refused, BadArgument, BadConfiguration, ShortBuffer}
 
 -- ---- the numbers of a fault
 

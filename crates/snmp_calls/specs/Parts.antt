@@ -4,10 +4,10 @@ use Rattle.snmp_ber.specs.Level.{level_number}
 use Rattle.snmp_message.specs.Scoped.{Contexts, ScopedFront}
 use Rattle.snmp_msg.specs.Pdu.{PduParts, PduText}
 use Rattle.snmp_outcome.specs.Outcome.{Given}
-use Rattle.snmp_held.specs.declared.fault.CallFault.{CallFault}
-use Rattle.snmp_held.specs.declared.fault.CallFault.TheVariants.{NothingTaken, ShortBuffer}
-use Rattle.snmp_held.specs.declared.parts.Part.{Part}
-use Rattle.snmp_held.specs.declared.parts.Part.TheVariants.{Bindings, User, ContextEngine, ContextName, Engine}
+use Rattle.snmp_calls.specs.declared.fault.CallFault.{CallFault}
+use Rattle.snmp_calls.specs.declared.fault.CallFault.TheVariants.{NothingTaken, ShortBuffer}
+use Rattle.snmp_calls.specs.declared.parts.Part.{Part}
+use Rattle.snmp_calls.specs.declared.parts.Part.TheVariants.{Bindings, User, ContextEngine, ContextName, Engine}
 
 -- ---- octets
 
@@ -52,3 +52,9 @@ numbers_of g p = pos (level_number g.level) ∷ pos g.tag ∷ p.id ∷ p.second 
 
 abbrev pub AreNumbersOf : Given → List ℤ → Type 0
 AreNumbersOf g numbers = (c : Contexts) → ScopedFront g.text c → (p : PduParts) × PduText c.pdu p × (numbers ≡ numbers_of g p)
+
+-- the sender's msgMaxSize, of what is kept
+abbrev pub TellsMaxSize : Option Given → Result ℕ CallFault → Type 0
+TellsMaxSize last (Ok size) = (g : Given) × (last ≡ Some g) × (size ≡ g.max_size)
+TellsMaxSize last (Err NothingTaken) = last ≡ None
+TellsMaxSize last (Err _) = ⊥

@@ -3,10 +3,10 @@ use Rattle.snmp_message.specs.Scoped.{Contexts, contexts_of}
 use Rattle.snmp_msg.specs.Pdu.{pdu_of}
 use Rattle.snmp_outcome.specs.Outcome.{Given}
 use Rattle.snmp_outcome.specs.Answers.{given_of}
-use Rattle.snmp_held.specs.Parts.{IsPartOf}
-use Rattle.snmp_held.specs.declared.parts.Part.{Part}
-use Rattle.snmp_held.specs.declared.parts.Part.TheVariants.{Bindings, User, ContextEngine, ContextName}
-use Rattle.snmp_held.proofs.parts.copied_of.Goals as goal
+use Rattle.snmp_calls.specs.Parts.{IsPartOf}
+use Rattle.snmp_calls.specs.declared.parts.Part.{Part}
+use Rattle.snmp_calls.specs.declared.parts.Part.TheVariants.{Bindings, User, ContextEngine, ContextName}
+use Rattle.snmp_calls.proofs.parts.copied_of.Goals as goal
 
 pub returns-in-Bindings : goal.returns-in-Bindings
 returns-in-Bindings c =
