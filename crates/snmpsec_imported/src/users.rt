@@ -128,22 +128,12 @@ fn user_of(alloc: Global, created: &Created) -> Result<Option<UserRow>, AllocErr
     }
 }
 
-/// The user that an entry is.
-fn created_by(entry: &Entry) -> Option<&Created>
-    ensures { option_map (λ created. created.now) result ≡ spec.created_by entry.now }
-{
-    match entry {
-        Entry::User(created) => Some(created),
-        _ => None,
-    }
-}
-
 /// The user that a line makes.
 pub(crate) fn created_in(made: &Made) -> Option<&Created>
     ensures { option_map (λ created. created.now) result ≡ spec.created_in made.now }
 {
     match made {
-        Made::Entry(entry) => created_by(entry),
+        Made::Entry(Entry::User(created)) => Some(created),
         _ => None,
     }
 }
