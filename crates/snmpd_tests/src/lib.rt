@@ -4,6 +4,8 @@
 #[cfg(test)]
 mod examples;
 #[cfg(test)]
+mod snmpd_simple_tests;
+#[cfg(test)]
 mod snmpsec_choices_tests;
 #[cfg(test)]
 mod snmpsec_import_tests;

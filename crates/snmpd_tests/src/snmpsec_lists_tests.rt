@@ -1,12 +1,10 @@
 //! What snmpd holds after lines, and which of it counts. The expected rows are net-snmp 5.9.3's.
 
 use snmp_ber::Level;
-use snmpd_words::Directive;
 use snmpsec_import::{Entry, Note};
 use snmpsec_lists::{
-    HeldAccess, HeldFamily, HeldGroup, Include, Item, Lists, Made, MadeLine, Place, access_kept,
-    copy_access, copy_family, copy_group, families_kept, find, groups_kept, lines_of, lists_of,
-    meant, read_items,
+    HeldAccess, HeldFamily, HeldGroup, Include, Item, Lists, Made, Place, access_kept, copy_access,
+    copy_family, copy_group, families_kept, find, groups_kept, lists_of, meant, read_items,
 };
 use std::test::Fail;
 use vacm_core::Matching;
@@ -165,51 +163,6 @@ rwuser -s tsm carl priv .1.3.6 adm*
 rocommunity public
 authgroup write,notify g auth -V v
 ";
-
-/// The lines that they stand for.
-const LINES: [(Directive, &[u8]); 10] = [
-    (Directive::Group, b"grpa_b usm \"a.b\""),
-    (
-        Directive::Access,
-        b"grpa_b \"\" usm auth prefix _all_ none none",
-    ),
-    (Directive::View, b"viewUSM2 included .1.3.6"),
-    (Directive::Group, b"grpcarl tsm \"carl\""),
-    (
-        Directive::Access,
-        b"grpcarl adm tsm priv prefix viewUSM2 viewUSM2 viewUSM2",
-    ),
-    (Directive::Group, b"grpcomm3 v1 comm3"),
-    (Directive::Group, b"grpcomm3 v2c comm3"),
-    (
-        Directive::Access,
-        b"grpcomm3 \"\" any noauth prefix _all_ none none",
-    ),
-    (Directive::SetAccess, b"g \"\" usm auth prefix write v"),
-    (Directive::SetAccess, b"g \"\" usm auth prefix notify v"),
-];
-
-fn all_lines(rt: &HostRuntime) -> Result<Vec<MadeLine>, Fail> {
-    let mut lines = Vec::new(rt.alloc());
-    let mut number = 0u64;
-    for item in &read_items(rt.alloc(), 0, SIMPLE)? {
-        if let Made::Entry(Entry::Simple(simple)) = &item.made {
-            number = number.saturating_add(1);
-            lines.append(&mut lines_of(rt.alloc(), simple, number)?)?;
-        }
-    }
-    Ok(lines)
-}
-
-#[test]
-fn a_simple_line_stands_for_others(rt: HostRuntime) -> Result<(), Fail> {
-    let lines = all_lines(&rt)?;
-    assert_eq!(rt; lines.len(), LINES.len());
-    for (line, (directive, text)) in lines.iter().zip(LINES.iter()) {
-        assert!(rt; line.directive == *directive && line.text.as_slice() == *text);
-    }
-    Ok(())
-}
 
 #[test]
 fn behind_a_simple_line_stand_those_that_it_stands_for(rt: HostRuntime) -> Result<(), Fail> {

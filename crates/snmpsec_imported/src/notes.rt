@@ -2,6 +2,7 @@
 
 ghost use Rattle.std.specs.Prelude.{◌≡◌, ◌++◌, map, IfOk, OnOk};
 ghost use Rattle.std.specs.List.{flat_map};
+ghost use Rattle.std.specs.Option.{option_map};
 ghost use Rattle.snmpsec_imported.specs.Notes as spec;
 ghost use Rattle.snmpsec_imported.specs.Notes.{told_of, tells};
 
@@ -13,6 +14,13 @@ use snmpsec_import::{Entry, Note, Simple, Who};
 use snmpsec_lists::{Followed, Include, Item, Made, Place};
 use std::alloc::{AllocError, Global};
 use std::fmt;
+
+/// Why a line whose types of views have another word among them is told.
+const NO_TYPE: &str = "a word that is for no type of views";
+
+/// Why a line for a community is told.
+const COMMUNITY: &str =
+    "messages of SNMPv1 and SNMPv2c are refused here; its rows are for a name of its own";
 
 /// What a note says of a line or a row.
 #[derive(Clone, Copy, Debug, PartialEq, Eq)]
@@ -103,181 +111,152 @@ fn user_fault_kind(fault: UserFault) -> Kind
     }
 }
 
-/// The kind of a note on a line.
-fn note_kind(note: Note) -> Kind
-    ensures { result ≡ spec.note_kind note }
+/// Why lines of this directive aren't read.
+fn why_left_out(directive: Directive) -> Why {
+    Why::Words(match directive {
+        Directive::Mapping => "a community's name here is that of a group row of model 1 or 2",
+        Directive::Saved => "a row that snmpd itself has saved",
+        _ => "such lines are not taken over",
+    })
+}
+
+/// The kind of a note, and why it is there.
+#[derive(Drop)]
+struct Reason {
+    kind: Kind,
+    why: Why,
+}
+
+/// A reason in words.
+fn because(kind: Kind, words: &'static str) -> Reason
+    ensures { result.kind ≡ kind }
 {
-    match note {
-        Note::Unclosed | Note::NoSection | Note::Bare => Kind::Refused,
-        Note::Other => Kind::Other,
-        Note::LeftOut(_) => Kind::LeftOut,
-        Note::Fault(_, fault) => fault_kind(fault),
-        Note::NoUser(fault) => user_fault_kind(fault),
+    Reason {
+        kind,
+        why: Why::Words(words),
     }
 }
 
-/// The kind of a note on other files that were asked for.
-fn followed_kind(followed: Followed) -> Kind
-    ensures { result ≡ spec.followed_kind followed }
+/// Of what kind a note on a line is, and why it is there.
+fn of_note(note: Note) -> Reason
+    ensures { result.kind ≡ spec.note_kind note }
+{
+    let (kind, why) = match note {
+        Note::Unclosed => (
+            Kind::Refused,
+            Why::Words("section without a closing bracket"),
+        ),
+        Note::NoSection => (Kind::Refused, Why::Words("no such section")),
+        Note::Bare => (Kind::Refused, Why::Words("nothing behind it")),
+        Note::Other => (Kind::Other, Why::Plain),
+        Note::LeftOut(directive) => (Kind::LeftOut, why_left_out(directive)),
+        Note::Fault(_, fault) => (fault_kind(fault), Why::Fault(fault)),
+        Note::NoUser(fault) => (user_fault_kind(fault), Why::NoUser(fault)),
+    };
+    Reason { kind, why }
+}
+
+/// The same, where other files were asked for.
+fn of_followed(followed: Followed) -> Reason
+    ensures { result.kind ≡ spec.followed_kind followed }
 {
     match followed {
-        Followed::Read => Kind::Other,
-        Followed::Several => Kind::Order,
-        Followed::Unread | Followed::TooDeep => Kind::Refused,
-        Followed::LeftOut => Kind::LeftOut,
+        Followed::Read => because(Kind::Other, "read in its place"),
+        Followed::Several => because(
+            Kind::Order,
+            "several files, read by name; snmpd takes them as the folder gives them",
+        ),
+        Followed::Unread => because(Kind::Refused, "can't be read"),
+        Followed::TooDeep => because(Kind::Refused, "too many files, or too many in one another"),
+        Followed::LeftOut => because(
+            Kind::LeftOut,
+            "not followed: name the files on the command line",
+        ),
     }
 }
 
-/// The kind of a note on other files that weren't followed.
-fn include_kind(include: &Include) -> Kind
-    ensures { result ≡ spec.include_kind include.now }
+/// The same, where other files weren't followed.
+fn of_include(include: &Include) -> Reason
+    ensures { result.kind ≡ spec.include_kind include.now }
 {
     match include {
-        Include::Unclear => Kind::Refused,
-        Include::Search | Include::File(_) | Include::Folder(_) => Kind::LeftOut,
+        Include::Unclear => because(
+            Kind::Refused,
+            "includeFile, includeDir or includeSearch, and a name, are wanted",
+        ),
+        Include::Search | Include::File(_) | Include::Folder(_) => {
+            because(Kind::LeftOut, "name the file on the command line")
+        }
     }
 }
 
-/// The kind of the note on a simple line, where there is one.
-fn simple_kind(simple: &Simple) -> Option<Kind>
-    ensures { result ≡ spec.simple_kind simple.now }
+/// The same of a simple line, where it has a note.
+fn of_simple(simple: &Simple) -> Option<Reason>
+    ensures { option_map (λ reason. reason.kind) result ≡ spec.simple_kind simple.now }
 {
     if simple.types.unknown {
-        return Some(Kind::Refused);
+        return Some(because(Kind::Refused, NO_TYPE));
     }
     match simple.named.who {
-        Who::Community(_) => Some(Kind::LeftOut),
+        Who::Community(_) => Some(because(Kind::LeftOut, COMMUNITY)),
         Who::User | Who::Group => None,
     }
 }
 
-/// The kind of the note on views of these types that are set, where there is one.
-fn set_kind(types: Types) -> Option<Kind>
-    ensures { result ≡ spec.set_kind types }
+/// The same where views of these types are set.
+fn of_set(types: Types) -> Option<Reason>
+    ensures { option_map (λ reason. reason.kind) result ≡ spec.set_kind types }
 {
     if types.unknown {
-        return Some(Kind::Refused);
+        return Some(because(Kind::Refused, NO_TYPE));
     }
     if types.log || types.execute || types.net {
-        return Some(Kind::LeftOut);
+        return Some(because(Kind::LeftOut, "snmptrapd alone asks for views of this type"));
     }
     None
 }
 
-/// The kind of the note on a user, where there is one.
-fn user_kind(created: &Created) -> Option<Kind>
-    ensures { result ≡ spec.user_kind created.now }
+/// The same of a user, where something of it isn't taken over, or not as it is written.
+fn of_user(created: &Created) -> Option<Reason>
+    ensures { option_map (λ reason. reason.kind) result ≡ spec.user_kind created.now }
 {
     let protection = &created.protection;
-    if is_bad_name(&created.name)
-        || lacks_auth(&protection.authentication)
-        || lacks_privacy(&protection.privacy)
-    {
-        Some(Kind::LeftOut)
+    let (kind, words) = if is_bad_name(&created.name) {
+        (Kind::LeftOut, "a user's name has 1 to 32 octets here")
+    } else if lacks_auth(&protection.authentication) {
+        (
+            Kind::LeftOut,
+            "there is no counterpart to its hash, or a key stands in the place of a passphrase",
+        )
+    } else if lacks_privacy(&protection.privacy) {
+        (
+            Kind::LeftOut,
+            "there is no counterpart to its cipher, or a key stands in the place of a passphrase: the user is without privacy",
+        )
     } else if is_defaulted(&protection.authentication) {
-        Some(Kind::Differs)
+        (
+            Kind::Differs,
+            "a passphrase that begins with `default` takes MD5 in the place of the hash that is named",
+        )
     } else {
-        None
-    }
+        return None;
+    };
+    Some(because(kind, words))
 }
 
-/// The kind of the note on a line, where there is one.
-fn kind_of(made: &Made) -> Option<Kind>
-    ensures { result ≡ spec.kind_of made.now }
+/// The same of a line, where it has a note.
+fn of_line(made: &Made) -> Option<Reason>
+    ensures { option_map (λ reason. reason.kind) result ≡ spec.kind_of made.now }
 {
     match made {
-        Made::Entry(Entry::Told(note)) => Some(note_kind(*note)),
-        Made::Entry(Entry::Simple(simple)) => simple_kind(simple),
-        Made::Entry(Entry::Set(setting)) => set_kind(setting.types),
-        Made::Entry(Entry::User(created)) => user_kind(created),
+        Made::Entry(Entry::Told(note)) => Some(of_note(*note)),
+        Made::Entry(Entry::Simple(simple)) => of_simple(simple),
+        Made::Entry(Entry::Set(setting)) => of_set(setting.types),
+        Made::Entry(Entry::User(created)) => of_user(created),
         Made::Entry(_) => None,
-        Made::NotText => Some(Kind::LeftOut),
-        Made::Include(include) => Some(include_kind(include)),
-        Made::Followed(followed) => Some(followed_kind(*followed)),
-    }
-}
-
-/// Why lines of this directive aren't read.
-fn why_left_out(directive: Directive) -> Why {
-    match directive {
-        Directive::Mapping => {
-            Why::Words("a community's name here is that of a group row of model 1 or 2")
-        }
-        Directive::Saved => Why::Words("a row that snmpd itself has saved"),
-        _ => Why::Words("such lines are not taken over"),
-    }
-}
-
-/// Why a line makes no row.
-fn why_note(note: Note) -> Why {
-    match note {
-        Note::Unclosed => Why::Words("section without a closing bracket"),
-        Note::NoSection => Why::Words("no such section"),
-        Note::Bare => Why::Words("nothing behind it"),
-        Note::Other => Why::Plain,
-        Note::LeftOut(directive) => why_left_out(directive),
-        Note::Fault(_, fault) => Why::Fault(fault),
-        Note::NoUser(fault) => Why::NoUser(fault),
-    }
-}
-
-/// Why views that a line sets aren't taken over.
-fn why_set(types: Types) -> Why {
-    if types.unknown {
-        return Why::Words("a word that is for no type of views");
-    }
-    Why::Words("snmptrapd alone asks for views of this type")
-}
-
-/// Why something of a simple line isn't taken over.
-fn why_simple(simple: &Simple) -> Why {
-    if simple.types.unknown {
-        return Why::Words("a word that is for no type of views");
-    }
-    Why::Words(
-        "messages of SNMPv1 and SNMPv2c are refused here; its rows are for a name of its own",
-    )
-}
-
-/// Why a user, or something of one, isn't taken over, or not as it is written.
-fn why_user(created: &Created) -> Why {
-    Why::Words(if is_bad_name(&created.name) {
-        "a user's name has 1 to 32 octets here"
-    } else if lacks_auth(&created.protection.authentication) {
-        "there is no counterpart to its hash, or a key stands in the place of a passphrase"
-    } else if lacks_privacy(&created.protection.privacy) {
-        "there is no counterpart to its cipher, or a key stands in the place of a passphrase: the user is without privacy"
-    } else {
-        "a passphrase that begins with `default` takes MD5 in the place of the hash that is named"
-    })
-}
-
-/// What came of other files.
-fn why_followed(followed: Followed) -> Why {
-    Why::Words(match followed {
-        Followed::Read => "read in its place",
-        Followed::Several =>
-            "several files, read by name; snmpd takes them as the folder gives them",
-        Followed::Unread => "can't be read",
-        Followed::TooDeep => "too many files, or too many in one another",
-        Followed::LeftOut => "not followed: name the files on the command line",
-    })
-}
-
-/// Why there is no row.
-fn why_of(made: &Made) -> Why {
-    match made {
-        Made::Entry(Entry::Told(note)) => why_note(*note),
-        Made::Entry(Entry::Simple(simple)) => why_simple(simple),
-        Made::Entry(Entry::Set(setting)) => why_set(setting.types),
-        Made::Entry(Entry::User(created)) => why_user(created),
-        Made::Entry(_) => Why::Plain,
-        Made::NotText => Why::Words("a name isn't UTF-8"),
-        Made::Include(Include::Unclear) => {
-            Why::Words("includeFile, includeDir or includeSearch, and a name, are wanted")
-        }
-        Made::Include(_) => Why::Words("name the file on the command line"),
-        Made::Followed(followed) => why_followed(*followed),
+        Made::NotText => Some(because(Kind::LeftOut, "a name isn't UTF-8")),
+        Made::Include(include) => Some(of_include(include)),
+        Made::Followed(followed) => Some(of_followed(*followed)),
     }
 }
 
@@ -285,14 +264,14 @@ fn why_of(made: &Made) -> Why {
 fn put_note(alloc: Global, notes: &mut Vec<Told>, item: &Item) -> Result<(), AllocError>
     ensures { OnOk result (map told_of notes.new.items ≡ map told_of notes.old.items ++ tells item.now) }
 {
-    let Some(kind) = kind_of(&item.made) else {
+    let Some(reason) = of_line(&item.made) else {
         return Ok(());
     };
     notes.push(Told {
         place: item.place,
-        kind,
+        kind: reason.kind,
         word: Vec::from_slice(alloc, &item.word)?,
-        why: why_of(&item.made),
+        why: reason.why,
     })?;
     Ok(())
 }

@@ -1,13 +1,9 @@
 //! A configuration's text, which is read back before it is given out.
 
-ghost use Rattle.std.specs.Prelude.{◌≡◌, IsTrue, IfOk, OnOk};
+ghost use Rattle.std.specs.Prelude.{◌≡◌, ◌<◌, ℕ, length, get_or, IsTrue, IfOk, OnOk};
 ghost use Rattle.vacm_core.specs.Tables.{tables_of};
-ghost use Rattle.vacm_core.specs.declared.rows.ContextRow.{ContextRow as AContext};
-ghost use Rattle.snmpsec_lists.specs.declared.rows.HeldGroup.{HeldGroup as AGroup};
-ghost use Rattle.snmpsec_lists.specs.declared.rows.HeldAccess.{HeldAccess as AnAccess};
-ghost use Rattle.snmpsec_lists.specs.declared.rows.HeldFamily.{HeldFamily as AFamily};
-ghost use Rattle.snmpsec_imported.specs.Rows.{AreRowsOf, AreTablesOf, Prints};
-ghost use Rattle.snmpsec_imported.specs.Users.{said_of, said_auth, said_privacy, AreUsersOf};
+ghost use Rattle.snmpsec_imported.specs.Rows.{AreTablesOf, Prints};
+ghost use Rattle.snmpsec_imported.specs.Users.{said_of, said_in};
 
 use crate::blocks::text_of;
 use crate::rows::Kept;
@@ -16,7 +12,6 @@ use snmpsec_config::AccessConfig;
 use snmpsec_lists::{HeldAccess, HeldFamily, HeldGroup};
 use std::alloc::{AllocError, Global};
 use thiserror::Error;
-use usm_keys::Auth;
 use usm_users::UserRow;
 use vacm_core::{AccessRow, ContextRow, FamilyRow, GroupRow, Rows};
 
@@ -36,11 +31,47 @@ impl From<AllocError> for TextFault {
     }
 }
 
-/// The rows are equal.
-fn is_group(a: &GroupRow, b: &GroupRow) -> bool
-    ensures { IsTrue result → a.now ≡ b.now }
-{
-    a.model == b.model && a.name == b.name && a.group == b.group
+/// What is kept, beside what is read back of it.
+trait Written: Sized {
+    type Read;
+
+    ghost is_read: { Self → Self.Read → Type 0 };
+
+    /// It is equal to what was read.
+    fn is(&self, read: &Self::Read) -> bool
+        ensures { IsTrue result → is_read self.now read.now };
+}
+
+impl Written for HeldUser {
+    type Read = UserRow;
+
+    ghost is_read = { λ held read. said_of read ≡ said_in held };
+
+    fn is(&self, read: &UserRow) -> bool {
+        let row = &self.row;
+        read.name == row.name && read.auth == row.auth && read.privacy == row.privacy
+    }
+}
+
+impl Written for ContextRow {
+    type Read = ContextRow;
+
+    ghost is_read = { λ row read. read ≡ row };
+
+    fn is(&self, read: &ContextRow) -> bool {
+        read.name == self.name
+    }
+}
+
+impl Written for HeldGroup {
+    type Read = GroupRow;
+
+    ghost is_read = { λ held read. read ≡ held.row };
+
+    fn is(&self, read: &GroupRow) -> bool {
+        let row = &self.row;
+        read.model == row.model && read.name == row.name && read.group == row.group
+    }
 }
 
 /// The indexes of the rows are equal, and how contexts are compared.
@@ -55,125 +86,44 @@ fn is_condition(a: &AccessRow, b: &AccessRow) -> bool
         && a.matching == b.matching
 }
 
-/// The rows are equal.
-fn is_access(a: &AccessRow, b: &AccessRow) -> bool
-    ensures { IsTrue result → a.now ≡ b.now }
-{
-    is_condition(a, b) && a.read == b.read && a.write == b.write && a.notify == b.notify
-}
+impl Written for HeldAccess {
+    type Read = AccessRow;
 
-/// The rows are equal.
-fn is_family(a: &FamilyRow, b: &FamilyRow) -> bool
-    ensures { IsTrue result → a.now ≡ b.now }
-{
-    a.view == b.view
-        && a.subtree == b.subtree
-        && a.include == b.include
-        && a.mask.as_slice() == b.mask.as_slice()
-}
+    ghost is_read = { λ held read. read ≡ held.row };
 
-/// The hashes and passphrases are equal.
-fn is_auth(a: &Option<(Auth, Vec<u8>)>, b: &Option<(Auth, Vec<u8>)>) -> bool
-    ensures { IsTrue result → said_auth a.now ≡ said_auth b.now }
-{
-    match (a, b) {
-        (Some((auth, passphrase)), Some((other, second))) => {
-            auth == other && passphrase.as_slice() == second.as_slice()
-        }
-        (None, None) => true,
-        _ => false,
+    fn is(&self, read: &AccessRow) -> bool {
+        let row = &self.row;
+        is_condition(read, row)
+            && read.read == row.read
+            && read.write == row.write
+            && read.notify == row.notify
     }
 }
 
-/// The passphrases are equal.
-fn is_privacy(a: &Option<Vec<u8>>, b: &Option<Vec<u8>>) -> bool
-    ensures { IsTrue result → said_privacy a.now ≡ said_privacy b.now }
-{
-    match (a, b) {
-        (Some(passphrase), Some(second)) => passphrase.as_slice() == second.as_slice(),
-        (None, None) => true,
-        _ => false,
+impl Written for HeldFamily {
+    type Read = FamilyRow;
+
+    ghost is_read = { λ held read. read ≡ held.row };
+
+    fn is(&self, read: &FamilyRow) -> bool {
+        let row = &self.row;
+        read.view == row.view
+            && read.subtree == row.subtree
+            && read.include == row.include
+            && read.mask.as_slice() == row.mask.as_slice()
     }
 }
 
-/// The users are equal.
-fn is_user(a: &UserRow, b: &UserRow) -> bool
-    ensures { IsTrue result → said_of a.now ≡ said_of b.now }
-{
-    a.name.as_slice() == b.name.as_slice()
-        && is_auth(&a.auth, &b.auth)
-        && is_privacy(&a.privacy, &b.privacy)
-}
-
-/// The users are equal, one by one.
-fn are_users(users: &[UserRow], kept: &[HeldUser]) -> bool
-    ensures { IsTrue result → AreUsersOf kept.now users.now }
-{
-    if users.len() != kept.len() {
-        return false;
-    }
-    for (place, held) in kept.iter().enumerate() {
-        if !is_user(&users[place], &held.row) {
-            return false;
-        }
-    }
-    true
-}
-
-/// The contexts are equal, one by one.
-fn are_contexts(rows: &[ContextRow], kept: &[ContextRow]) -> bool
-    ensures { IsTrue result → AreRowsOf (λ (row : AContext). row) kept.now rows.now }
-{
-    if rows.len() != kept.len() {
-        return false;
-    }
-    for (place, row) in kept.iter().enumerate() {
-        if rows[place].name != row.name {
-            return false;
-        }
-    }
-    true
-}
-
-/// The group rows are equal, one by one.
-fn are_groups(rows: &[GroupRow], kept: &[HeldGroup]) -> bool
-    ensures { IsTrue result → AreRowsOf (λ (held : AGroup). held.row) kept.now rows.now }
+/// What was read is what is kept, one by one.
+fn are_read<W: Written>(rows: &[W::Read], kept: &[W]) -> bool
+    ensures count { IsTrue result → length rows.now ≡ length kept.now }
+    ensures each { IsTrue result → (k : ℕ) (held : W) (row : W.Read) → k < length kept.now → W.is_read (get_or kept.now k held) (get_or rows.now k row) }
 {
     if rows.len() != kept.len() {
         return false;
     }
     for (place, held) in kept.iter().enumerate() {
-        if !is_group(&rows[place], &held.row) {
-            return false;
-        }
-    }
-    true
-}
-
-/// The access rows are equal, one by one.
-fn are_access(rows: &[AccessRow], kept: &[HeldAccess]) -> bool
-    ensures { IsTrue result → AreRowsOf (λ (held : AnAccess). held.row) kept.now rows.now }
-{
-    if rows.len() != kept.len() {
-        return false;
-    }
-    for (place, held) in kept.iter().enumerate() {
-        if !is_access(&rows[place], &held.row) {
-            return false;
-        }
-    }
-    true
-}
-
-/// The family rows are equal, one by one.
-fn are_families(rows: &[FamilyRow], kept: &[HeldFamily]) -> bool
-    ensures { IsTrue result → AreRowsOf (λ (held : AFamily). held.row) kept.now rows.now }
-{
-    if rows.len() != kept.len() {
-        return false;
-    }
-    for (place, held) in kept.iter().enumerate() {
-        if !is_family(&rows[place], &held.row) {
+        if !held.is(&rows[place]) {
             return false;
         }
     }
@@ -184,10 +134,10 @@ fn are_families(rows: &[FamilyRow], kept: &[HeldFamily]) -> bool
 fn are_kept(rows: &Rows, kept: &Kept) -> bool
     ensures { IsTrue result → AreTablesOf kept.now (tables_of rows.now) }
 {
-    are_contexts(&rows.contexts, &kept.contexts)
-        && are_groups(&rows.groups, &kept.groups)
-        && are_access(&rows.access, &kept.access)
-        && are_families(&rows.families, &kept.families)
+    are_read(&rows.contexts, &kept.contexts)
+        && are_read(&rows.groups, &kept.groups)
+        && are_read(&rows.access, &kept.access)
+        && are_read(&rows.families, &kept.families)
 }
 
 /// Reads the text, and sees that it stands for these rows.
@@ -199,7 +149,7 @@ fn check(alloc: Global, text: &[u8], kept: &Kept) -> Result<(), TextFault>
         Err(fault) if fault.is_memory() => return Err(TextFault::OutOfMemory),
         Err(_) => return Err(TextFault::NotReadBack),
     };
-    if are_users(&rows.users, &kept.users) && are_kept(&rows.access, kept) {
+    if are_read(&rows.users, &kept.users) && are_kept(&rows.access, kept) {
         Ok(())
     } else {
         Err(TextFault::NotReadBack)

@@ -1,9 +1,8 @@
 //! The users that lines come to.
 
-ghost use Rattle.std.specs.Prelude.{◌≡◌, ◌≢◌, ◌↔◌, ◌++◌, ℕ, Bool, false, List, map, IsTrue, IfOk, OnOk, Some, None, MatchOption};
+ghost use Rattle.std.specs.Prelude.{◌≡◌, ◌↔◌, false, map, IsTrue, IfOk, OnOk, Some, None, MatchOption};
 ghost use Rattle.std.specs.Option.{option_map};
 ghost use Rattle.usm_users.specs.Rows.{is_bad_name};
-ghost use Rattle.snmpsec_lists.specs.declared.rows.Place.{Place as APlace};
 ghost use Rattle.snmpsec_imported.specs.Users as spec;
 ghost use Rattle.snmpsec_imported.specs.Users.{Said, said_of, said_auth, said_privacy, said_with_place, passphrase_in, auth_for, passphrase_for, privacy_for, HasAuth, IsSaid, MakesUser, MakeUser, IsUser, TakesUser, AreUsers, lacks_auth, lacks_cipher, lacks_privacy, is_defaulted};
 
@@ -128,22 +127,12 @@ fn user_of(alloc: Global, created: &Created) -> Result<Option<UserRow>, AllocErr
     }
 }
 
-/// The user that an entry is.
-fn created_by(entry: &Entry) -> Option<&Created>
-    ensures { option_map (λ created. created.now) result ≡ spec.created_by entry.now }
-{
-    match entry {
-        Entry::User(created) => Some(created),
-        _ => None,
-    }
-}
-
 /// The user that a line makes.
 pub(crate) fn created_in(made: &Made) -> Option<&Created>
     ensures { option_map (λ created. created.now) result ≡ spec.created_in made.now }
 {
     match made {
-        Made::Entry(entry) => created_by(entry),
+        Made::Entry(Entry::User(created)) => Some(created),
         _ => None,
     }
 }

@@ -1,9 +1,7 @@
 -- Of the access rows that count no two have one index.
-use Rattle.std.proofs.Common.{◌≡◌, ◌≢◌, ℕ, ◌+◌, ◌<◌, ◌≤◌, List, [], ◌∷◌, ◌++◌, length, get_or, set, Contains, sym, ◌∙◌, ap, subst, refl, inl, inr, arith}
+use Rattle.std.proofs.Common.{◌≡◌, ◌≢◌, ℕ, ◌<◌, List, [], ◌∷◌, ◌++◌, length, get_or, set, sym, ◌∙◌, ap, subst, refl, inl, inr, arith}
 use Rattle.std.proofs.lemmas.Bool.{cases_lt}
 use Rattle.std.proofs.lemmas.List.{get_or-set_same, get_or-set_other, get_or_push, get_or_append_left, get_or_default, length-set, length_push}
-use Rattle.vacm_core.specs.declared.rows.AccessRow.{AccessRow}
-use Rattle.snmp_ber.specs.Level.{level_number}
 use Rattle.snmpsec_lists.specs.declared.rows.HeldAccess.{HeldAccess}
 use Rattle.snmpsec_lists.specs.Orders.{order_of_access}
 use Rattle.snmpsec_lists.specs.Kept.{IsNew, IsFirstLike, Settles, HasOneEach}

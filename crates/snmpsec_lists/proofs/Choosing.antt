@@ -1,5 +1,5 @@
 -- The place of the row that snmpd chooses, one row after another.
-use Rattle.std.proofs.Common.{◌≡◌, ℕ, ◌+◌, ◌<◌, suc, List, length, get_or, Option, Some, inl, inr, refl, sym, subst, add-one, arith}
+use Rattle.std.proofs.Common.{◌≡◌, ℕ, ◌+◌, ◌<◌, List, length, get_or, Option, Some, inl, inr, refl, sym, subst, add-one, arith}
 use Rattle.std.proofs.lemmas.List.{get_or_read}
 use Rattle.vacm_core.specs.declared.rows.AccessRow.{AccessRow}
 use Rattle.snmpsec_lists.specs.declared.rows.HeldAccess.{HeldAccess}

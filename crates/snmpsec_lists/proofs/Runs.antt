@@ -5,9 +5,9 @@ use Rattle.std.specs.declared.cmp.Ordering.{Ordering}
 use Rattle.snmpsec_lists.specs.declared.rows.HeldAccess.{HeldAccess}
 use Rattle.snmpsec_lists.specs.declared.rows.HeldFamily.{HeldFamily}
 use Rattle.snmpsec_lists.specs.declared.items.Item.{Item}
-use Rattle.snmpsec_lists.specs.declared.stands.MadeLine.{MadeLine}
-use Rattle.snmpsec_lists.specs.Stands.{line_of, IsOwn, AreOwn}
-use Rattle.snmpsec_lists.specs.Meant.{Meant, Means, MeansAfter}
+use Rattle.snmpd_simple.specs.declared.line.MadeLine.{MadeLine}
+use Rattle.snmpd_simple.specs.Line.{line_of}
+use Rattle.snmpsec_lists.specs.Meant.{IsOwn, AreOwn, Meant, Means, MeansAfter}
 use Rattle.snmpsec_lists.specs.Lists.{Tables, Takes, HoldsAfter}
 use Rattle.snmpsec_lists.specs.Kept.{Keeps, KeepsAfter, Settles, SettlesAfter, IsWanted, AreWanted}
 

@@ -4,5 +4,4 @@ pub mod Questions
 pub mod Sets
 pub mod Lists
 pub mod Kept
-pub mod Stands
 pub mod Meant

@@ -1,5 +1,7 @@
 -- Items, and behind each simple line those of the lines that it stands for.
 use Rattle.std.specs.Prelude.{◌≡◌, ◌+◌, ◌⊎◌, ℕ, List, [], ◌∷◌, ◌++◌, Option, Some, None}
+use Rattle.snmpd_words.specs.declared.directives.Directive.{Directive}
+use Rattle.snmpsec_import.specs.Entries.{IsMade}
 use Rattle.snmpsec_import.specs.declared.simple.Simple.{Simple}
 use Rattle.snmpsec_import.specs.declared.entries.Entry.{Entry}
 use Rattle.snmpsec_import.specs.declared.entries.Entry.TheVariants as entries
@@ -7,7 +9,25 @@ use Rattle.snmpsec_lists.specs.declared.items.Made.{Made}
 use Rattle.snmpsec_lists.specs.declared.items.Made.TheVariants as made
 use Rattle.snmpsec_lists.specs.declared.items.Item.{Item}
 use Rattle.snmpsec_lists.specs.declared.meaning.Meaning.{Meaning}
-use Rattle.snmpsec_lists.specs.Stands.{lines_of, AreOwn}
+use Rattle.snmpd_simple.specs.Stands.{lines_of}
+use Rattle.snmpsec_lists.specs.Items.{IsText}
+
+-- what a line makes that snmpd makes of another
+abbrev pub IsMadeOf : Directive × List ℕ → Made → Type 0
+IsMadeOf line (made.Entry entry) = IsMade line.0 line.1 entry × IsText entry
+IsMadeOf line made.NotText = (entry : Entry) × IsMade line.0 line.1 entry × (IsText entry → ⊥)
+IsMadeOf line _ = ⊥
+
+-- an item of the same place and word as this one, which the line makes
+pub record IsOwn (item : Item) (line : Directive × List ℕ) (own : Item) : Type 0 where
+  pub place : own.place ≡ item.place
+  pub word : own.word.items ≡ item.word.items
+  pub is_made : IsMadeOf line own.made
+
+-- each line makes its item, and there is no other
+abbrev pub AreOwn : Item → List (Directive × List ℕ) → List Item → Type 0
+AreOwn item [] owns = owns ≡ []
+AreOwn item (line ∷ lines) owns = (own : Item) × (others : List Item) × (owns ≡ own ∷ others) × IsOwn item line own × AreOwn item lines others
 
 -- how many simple lines there were, and the items so far
 pub record Meant : Type 0 where

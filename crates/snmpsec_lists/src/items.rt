@@ -1,13 +1,10 @@
 //! What each line of a file makes, with its place and the word that it begins with.
 
-ghost use Rattle.std.specs.Prelude.{◌≡◌, ◌↔◌, ℕ, List, IsTrue, IfOk, MatchOption, codes};
+ghost use Rattle.std.specs.Prelude.{◌≡◌, ◌↔◌, IsTrue, IfOk};
 ghost use Rattle.std.specs.Option.{option_map};
 ghost use Rattle.std.specs.Str.{IsUtf8};
 ghost use Rattle.snmpd_words.specs.declared.lines.Section.TheVariants as sections;
-ghost use Rattle.snmpd_words.specs.declared.lines.Section.{Section as ASection};
 ghost use Rattle.snmpd_words.specs.declared.lines.Line.{Line as ALine};
-ghost use Rattle.snmpd_words.specs.Lines.{IsLine};
-ghost use Rattle.snmpsec_import.specs.Entries.{IsEntry};
 ghost use Rattle.snmpsec_lists.specs.Items as spec;
 ghost use Rattle.snmpsec_lists.specs.Items.{BeginsSmall, IsIncludeWord, NamesFiles, IsInclude, IsTextSecret, IsTextAuthentication, IsTextPrivacy, IsTextUser, IsText, IsMade, IsItem, AreItems, word_of};
 

@@ -20,7 +20,6 @@ mod questions;
 mod rows;
 mod sets;
 mod settled;
-mod stands;
 
 pub use copies::{copy_access, copy_family, copy_group, copy_name};
 pub use items::{Followed, Include, Item, Made, read_items};
@@ -31,4 +30,3 @@ pub use questions::{Contexts, Question, choice_at, fits};
 pub use rows::{Held, HeldAccess, HeldFamily, HeldGroup, Place};
 pub use sets::Change;
 pub use settled::access_kept;
-pub use stands::{MadeLine, lines_of};

@@ -2,12 +2,12 @@
 
 ghost use Rattle.std.specs.Prelude.{◌≡◌, IfOk, OnOk, map};
 ghost use Rattle.std.specs.Option.{option_map};
-ghost use Rattle.snmpsec_lists.specs.Stands.{line_of, IsMadeOf, IsOwn, AreOwn};
+ghost use Rattle.snmpd_simple.specs.Line.{line_of};
 ghost use Rattle.snmpsec_lists.specs.Meant as spec;
-ghost use Rattle.snmpsec_lists.specs.Meant.{meaning_of, Means, AreMeant, StandsFor};
+ghost use Rattle.snmpsec_lists.specs.Meant.{meaning_of, IsMadeOf, IsOwn, AreOwn, Means, AreMeant, StandsFor};
 
 use crate::items::{Item, Made, is_text_entry};
-use crate::stands::{MadeLine, lines_of};
+use snmpd_simple::{MadeLine, lines_of};
 use snmpsec_import::{Entry, Simple, entry_of};
 use std::alloc::{AllocError, Global};
 

@@ -1,6 +1,6 @@
 //! Rows with the lines that they are from, and the order in which snmpd holds them.
 
-ghost use Rattle.std.specs.Prelude.{◌≡◌, ℕ, List};
+ghost use Rattle.std.specs.Prelude.{◌≡◌};
 ghost use Rattle.std.specs.declared.cmp.Ordering.{Ordering as Order};
 ghost use Rattle.snmpsec_lists.specs.Orders as spec;
 ghost use Rattle.snmpsec_lists.specs.Orders.{order_of_groups, order_of_access, order_of_families};

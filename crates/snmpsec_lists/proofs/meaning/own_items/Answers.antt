@@ -1,6 +1,7 @@
 use Rattle.std.proofs.Common.{◌≡◌, List, [], ◌∷◌, ◌++◌, ◌∙◌, ap, sym, subst, arith, append_assoc, append-nil, map}
 use Rattle.snmpsec_lists.specs.declared.items.Item.{Item}
-use Rattle.snmpsec_lists.specs.Stands.{line_of, AreOwn}
+use Rattle.snmpd_simple.specs.Line.{line_of}
+use Rattle.snmpsec_lists.specs.Meant.{AreOwn}
 use Rattle.snmpsec_lists.proofs.Runs.{owns_one, owns_end}
 use Rattle.snmpsec_lists.proofs.meaning.own_items.Goals as goal
 

@@ -1,6 +1,7 @@
 use Rattle.std.proofs.Common.{List, ◌++◌, map, drop}
 use Rattle.snmpsec_lists.specs.declared.items.Item.{Item}
-use Rattle.snmpsec_lists.specs.Stands.{line_of, AreOwn}
+use Rattle.snmpd_simple.specs.Line.{line_of}
+use Rattle.snmpsec_lists.specs.Meant.{AreOwn}
 use Rattle.snmpsec_lists.proofs.meaning.own_items.Given as goal
 
 abbrev pub invariant-loop-line : goal.invariant-loop-line

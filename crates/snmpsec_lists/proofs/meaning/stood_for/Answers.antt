@@ -1,6 +1,7 @@
 use Rattle.std.proofs.Common.{sym, subst, ◌∙◌, ap, map}
 use Rattle.std.specs.Option.{option_map}
-use Rattle.snmpsec_lists.specs.Stands.{line_of, AreOwn}
+use Rattle.snmpd_simple.specs.Line.{line_of}
+use Rattle.snmpsec_lists.specs.Meant.{AreOwn}
 use Rattle.snmpsec_lists.proofs.meaning.stood_for.Goals as goal
 
 pub returns : goal.returns

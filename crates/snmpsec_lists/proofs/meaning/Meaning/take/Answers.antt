@@ -1,8 +1,8 @@
 use Rattle.std.proofs.Common.{◌≡◌, ◌+◌, List, Some, [], ◌∷◌, ◌++◌, ◌∙◌, ap, subst, inl, append_assoc, rules}
 use Rattle.std.specs.Option.{option_map}
 use Rattle.snmpsec_lists.specs.declared.items.Item.{Item}
-use Rattle.snmpsec_lists.specs.Stands.{lines_of, AreOwn}
-use Rattle.snmpsec_lists.specs.Meant.{StandsFor}
+use Rattle.snmpd_simple.specs.Stands.{lines_of}
+use Rattle.snmpsec_lists.specs.Meant.{AreOwn, StandsFor}
 use Rattle.snmpsec_lists.proofs.meaning.Meaning.take.Goals as goal
 
 pub returns-in_ok-append : goal.returns-in_ok-append

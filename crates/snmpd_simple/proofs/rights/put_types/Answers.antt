@@ -3,8 +3,9 @@ use Rattle.std.specs.List.{flat_map}
 use Rattle.std.proofs.lemmas.List.{flat_map_more, take_more}
 use Rattle.snmpd_words.specs.declared.types.ViewWord.{ViewWord}
 use Rattle.snmpd_words.specs.declared.types.ViewWord.TheVariants.{Read, Write, Notify, Log, Execute, Net}
-use Rattle.snmpsec_lists.specs.Stands.{line_of, set_lines}
-use Rattle.snmpsec_lists.proofs.stands.put_types.Goals as goal
+use Rattle.snmpd_simple.specs.Line.{line_of}
+use Rattle.snmpd_simple.specs.Rights.{set_lines}
+use Rattle.snmpd_simple.proofs.rights.put_types.Goals as goal
 
 lines_more : {L : Type 0} (f : ViewWord → List L) (old : List L) (words : List ViewWord) (i : ℕ) (before after : List L) (d : ViewWord) → i < length words
     → before ≡ old ++ flat_map f (take i words) → after ≡ before ++ f (get_or words i d) → after ≡ old ++ flat_map f (take (i + 1) words)
