@@ -1,5 +1,9 @@
 //! Files of snmpd.conf, and those that they name.
 
+ghost use Rattle.std.specs.Prelude.{◌≡◌, All, IfOk, IsErrOf, true, []};
+ghost use Rattle.snmpsec_streams.specs.declared.whole.FileFault.TheVariants as FileFault;
+ghost use Rattle.snmpsec_files.specs.Included.{NamesNone};
+
 use crate::files::read_file;
 use snmpsec_lists::{Followed, Include, Item, Made, Place, read_items};
 use snmpsec_streams::{FILE_LIMIT, FileFault, read_whole};
@@ -28,7 +32,10 @@ struct IncludeLine {
 
 impl Sources {
     /// No files.
-    pub fn new(alloc: Global) -> Sources {
+    pub fn new(alloc: Global) -> Sources
+        ensures names { result.names.items ≡ [] }
+        ensures items { result.items.items ≡ [] }
+    {
         Sources {
             names: Vec::new(alloc),
             items: Vec::new(alloc),
@@ -36,7 +43,11 @@ impl Sources {
     }
 
     /// Reads a file behind those that are there.
-    pub fn read<R: Files + AllocGlobal>(&mut self, rt: &R, name: &str) -> Result<(), FileFault> {
+    ///
+    /// The errors are CannotRead, where it can't be opened or read, or has over `FILE_LIMIT` octets; and OutOfMemory.
+    pub fn read<R: Files + AllocGlobal>(&mut self, rt: &R, name: &str) -> Result<(), FileFault>
+        ensures unread { IsErrOf result FileFault.CannotRead → self.new ≡ self.old }
+    {
         let text = read_file(rt, name)?;
         if self.put(rt.alloc(), name, &text).is_err() {
             return Err(FileFault::OutOfMemory);
@@ -219,7 +230,9 @@ fn follow_once<R: Files + AllocGlobal>(rt: &R, sources: Sources) -> Result<Sourc
 }
 
 /// What a line comes to that names files which aren't read.
-fn left(made: Made, followed: Followed) -> Made {
+fn left(made: Made, followed: Followed) -> Made
+    ensures left { NamesNone result }
+{
     match made {
         Made::Include(Include::File(_)) | Made::Include(Include::Folder(_)) => {
             Made::Followed(followed)
@@ -229,10 +242,13 @@ fn left(made: Made, followed: Followed) -> Made {
 }
 
 /// Tells the lines that name files which aren't read.
-fn leave(alloc: Global, sources: Sources, followed: Followed) -> Result<Sources, AllocError> {
+fn leave(alloc: Global, sources: Sources, followed: Followed) -> Result<Sources, AllocError>
+    ensures left { IfOk result (λ left. All (λ item. NamesNone item.made) left.items.items) }
+    ensures names { IfOk result (λ left. left.names ≡ sources.names) }
+{
     let Sources { names, items } = sources;
     let mut told = Vec::new(alloc);
-    for item in items {
+    'lines: for item in items {
         let Item { place, word, made } = item;
         told.push(Item {
             place,
@@ -244,11 +260,16 @@ fn leave(alloc: Global, sources: Sources, followed: Followed) -> Result<Sources,
 }
 
 /// Reads the files that lines name, in the places of those lines, and those that their lines name, up to the depth at which snmpd stops.
+///
+/// Without includes, or past that depth, no file is read any more, and the lines tell so. The error is want of memory.
 pub fn follow<R: Files + AllocGlobal>(
     rt: &R,
     sources: Sources,
     no_include: bool,
-) -> Result<Sources, AllocError> {
+) -> Result<Sources, AllocError>
+    ensures followed { IfOk result (λ followed. All (λ item. NamesNone item.made) followed.items.items) }
+    ensures left_out { no_include ≡ true → IfOk result (λ followed. followed.names ≡ sources.names) }
+{
     if no_include {
         return leave(rt.alloc(), sources, Followed::LeftOut);
     }
