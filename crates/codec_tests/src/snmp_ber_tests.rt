@@ -1,6 +1,6 @@
 //! Octets from the standard's own rules, and growths that are refused.
 
-ghost use Rattle.std.specs.Prelude.{◌≡◌, ◌<◌, ◌^◌, length};
+ghost use Rattle.std.specs.Prelude.{◌<◌};
 
 mod decimal;
 mod identifier;

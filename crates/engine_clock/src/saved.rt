@@ -1,5 +1,5 @@
 //! The text of saved clocks: how it is written, and how each of its versions is read.
-ghost use Rattle.std.specs.Prelude.{◌≡◌, ◌≢◌, ℕ, ◌<◌, ◌≤◌, ◌++◌, List, length, decimal, slice_index, Some, IfSome, IfNone, IfOk, IfErr, OnOk};
+ghost use Rattle.std.specs.Prelude.{◌≡◌, ◌≢◌, ℕ, ◌<◌, ◌≤◌, ◌++◌, List, decimal, Some, IfSome, IfNone, IfOk, IfErr, OnOk};
 ghost use Rattle.std.specs.List.{flat_map, list_any};
 ghost use Rattle.std.specs.Char.{is_ascii_uppercase};
 ghost use Rattle.std.specs.String.{string_bytes};
@@ -11,7 +11,6 @@ ghost use Rattle.engine_clock.specs.Listings.{Lists};
 ghost use Rattle.engine_clock.specs.Saved.{Entry, AreMarks, line, listing, Saves, heading_in, line_in, FitsIn};
 ghost use Rattle.engine_clock.specs.Reading.{IsTail, IsFaultIn};
 ghost use Rattle.engine_clock.specs.Faults.{IsFaultOf, GivesBack};
-ghost use Rattle.snmp_ber.specs.Splits.{IsSplit, Lacks};
 
 use crate::engine_id::MOST;
 use crate::{Clocks, EngineId, Mark, Pair};

@@ -1,6 +1,6 @@
 //! Worlds of managers, and the files between them.
 
-ghost use Rattle.std.specs.Prelude.{◌≡◌, ◌≤◌, ℕ, List, length, IfOk};
+ghost use Rattle.std.specs.Prelude.{ℕ, List, IfOk};
 ghost use Rattle.snmp_ber.specs.Element.{IsElement};
 ghost use Rattle.snmp_message.specs.Spelling.{HeaderFits};
 

@@ -51,7 +51,7 @@ impl Model for Agent {
 }
 
 impl Agent {
-    ghost use Rattle.std.specs.Prelude.{◌≢◌, ℕ, List, All, map, length, IfOk, IsOk, IfSome, IsErrOf};
+    ghost use Rattle.std.specs.Prelude.{◌≢◌, All, map, length, IfOk, IsOk, IfSome, IsErrOf};
     ghost use Rattle.snmp_message.specs.Scoped.{Contexts, ScopedFront};
     ghost use Rattle.snmp_msg.specs.Pdu.{PduParts, PduText};
     ghost use Rattle.snmp_msg.specs.Variables.{CanBeWritten, variable_of};

@@ -1,6 +1,6 @@
 //! Whether a message asks for reports (RFC 3412, section 7.1, step 3).
 
-ghost use Rattle.std.specs.Prelude.{◌≡◌, true, false, MatchOption};
+ghost use Rattle.std.specs.Prelude.{◌≡◌, false, MatchOption};
 ghost use Rattle.snmp_message.specs.Layout.{Outer};
 ghost use Rattle.snmp_message.specs.Message.{parts};
 ghost use Rattle.snmp_msg.specs.Pdu.{pdu_of};

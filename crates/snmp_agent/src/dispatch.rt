@@ -11,7 +11,6 @@ ghost use Rattle.snmp_outcome.specs.Outcome.{own_pair};
 ghost use Rattle.snmp_sending.specs.Sends.{send_answer};
 ghost use Rattle.snmp_sending.specs.UpTo.{UpTo};
 ghost use Rattle.snmp_sending.specs.Fronts.{front_answer};
-ghost use Rattle.snmp_agent.specs.Agent.{AgentState};
 ghost use Rattle.snmp_agent.specs.Counts.{count_at, one_more};
 ghost use Rattle.snmp_answers.specs.Responses.{response, responding};
 ghost use Rattle.snmp_agent.specs.Sent.{Sends, SendsFront, CanBeSent, IsAcceptedByManagers};

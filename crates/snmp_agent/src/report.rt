@@ -1,6 +1,6 @@
 //! Reports (RFC 3414, section 3.2).
 
-ghost use Rattle.std.specs.Prelude.{◌≡◌, Some, IfOk, OnErr, IfSome, true};
+ghost use Rattle.std.specs.Prelude.{◌≡◌, Some, IfOk, OnErr, IfSome};
 ghost use Rattle.snmp_ber.specs.declared.level.Level.TheVariants.{AuthNoPriv};
 ghost use Rattle.usm_users.specs.Users.{HasUserAt};
 ghost use Rattle.usm_core.specs.Sealed.{SealedText};

@@ -1,8 +1,8 @@
 -- Numbers without sign, and their contents in two's complement.
-use Rattle.std.proofs.Common.{Bool, true, false, Some, take, drop, IsTrue, nat_eq, ◌≡◌, ℕ, zero, suc, ◌+◌, ◌*◌, ◌-◌, ◌^◌, ◌<◌, ◌≤◌, ◌⊎◌, List, [], ◌∷◌, length, get_or, fold, refl, sym, ap, subst, ◌∙◌, arith, inl, inr, ℤ, pos}
+use Rattle.std.proofs.Common.{true, Some, take, drop, ◌≡◌, ℕ, zero, suc, ◌+◌, ◌*◌, ◌-◌, ◌^◌, ◌<◌, ◌≤◌, ◌⊎◌, List, [], ◌∷◌, length, get_or, fold, refl, sym, ap, subst, ◌∙◌, arith, inl, inr, pos}
 use Rattle.std.proofs.lemmas.Int.{ints}
-use Rattle.std.proofs.lemmas.Bool.{cases_lt, eqb-true, eq-eqb}
-use Rattle.snmp_ber.specs.Number.{number, signed_number, IsFewest, IsInteger, IsUnsigned}
+use Rattle.std.proofs.lemmas.Bool.{cases_lt}
+use Rattle.snmp_ber.specs.Number.{number, signed_number, IsFewest, IsUnsigned}
 use Rattle.snmp_ber.specs.Octets.{AreOctets}
 use Rattle.std.proofs.Math.Nat.{pow-succ'}
 use Rattle.std.proofs.Math.Seq.{take-length}

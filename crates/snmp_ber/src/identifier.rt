@@ -3,7 +3,7 @@
 ghost use Rattle.std.specs.Prelude.{◌≡◌, ℕ, ◌+◌, ◌<◌, ◌≤◌, ◌↔◌, ◌++◌, ◌∷◌, List, Some, length, IfSome, OnOk, OnErr, option_map, option_and_then, is_some, nat_lt, vec_len, vec_capacity, IsTrue};
 ghost use Rattle.std.specs.List.{list_all};
 ghost use Rattle.snmp_ber.specs.Oid.{IsObjectId, IsIdentifier, subidentifiers, subidentifiers_in, at_most, identifier_in, group_count, subidentifier, identifier};
-ghost use Rattle.snmp_ber.specs.Spelling.{element, head_size};
+ghost use Rattle.snmp_ber.specs.Spelling.{element};
 
 use crate::element::{head_len, put_tlv};
 use crate::oid::Oid;

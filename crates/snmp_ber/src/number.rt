@@ -1,6 +1,6 @@
 //! The content of an INTEGER (X.690, section 8.3).
 
-ghost use Rattle.std.specs.Prelude.{◌≡◌, ℕ, ℤ, pos, negsuc, ◌+◌, ◌^◌, ◌<◌, ◌≤◌, ◌≤ℤ◌, ◌<ℤ◌, ◌↔◌, ◌++◌, Some, IsTrue, length, OnOk, OnErr, vec_len, vec_capacity};
+ghost use Rattle.std.specs.Prelude.{◌≡◌, ℕ, ℤ, pos, negsuc, ◌+◌, ◌<◌, ◌≤◌, ◌≤ℤ◌, ◌↔◌, ◌++◌, Some, IsTrue, length, OnOk, OnErr, vec_len, vec_capacity};
 ghost use Rattle.snmp_ber.specs.Number.{signed_number, IsInteger, IsInteger32, IsUnsigned};
 ghost use Rattle.snmp_ber.specs.Reading.{has_fewest, integer32_of};
 ghost use Rattle.snmp_ber.specs.Spelling.{element, octet_count, integer};

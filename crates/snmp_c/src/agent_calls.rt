@@ -1,6 +1,5 @@
 //! What the calls on an agent do, without pointers.
 
-ghost use Rattle.std.specs.Prelude.{◌≡◌};
 ghost use Rattle.snmp_c.specs.Calls.{ClearsAgent, Takes, Allows, May, Counter, RespondsTo, Notifies, TellsPart, TellsMessage, TellsNumbers};
 
 use snmp_held::{AgentHandle, CallFault, NoticeTo, Part, access_code_of, code_of, value_code_of};

@@ -1,6 +1,5 @@
 //! What the calls on a manager do, without pointers.
 
-ghost use Rattle.std.specs.Prelude.{◌≡◌};
 ghost use Rattle.snmp_c.specs.ManagerCalls.{Clears, ManagerTook, Answered, Requested, Discovered, Absorbed, Saved, ToldPair, ManagerPart, ManagerMessage, ManagerNumbers};
 
 use snmp_held::{AskedOf, CallFault, ManagerHandle, Part, answer_code_of, code_of};

@@ -1,5 +1,5 @@
 -- Messages that were written: how long a ScopedPDU is, and that nothing refused the message.
-use Rattle.std.proofs.Common.{◌≡◌, ℕ, ◌+◌, ◌-◌, ◌≤◌, List, length, arith}
+use Rattle.std.proofs.Common.{◌≡◌, ℕ, ◌+◌, ◌≤◌, List, length, arith}
 use Rattle.std.specs.Prelude.{Ok}
 use Rattle.snmp_ber.specs.Spelling.{element}
 use Rattle.snmp_message.specs.Scoped.{contexts_text, scoped_text}

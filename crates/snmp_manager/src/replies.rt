@@ -1,6 +1,6 @@
 //! What an accepted message is to a request.
 
-ghost use Rattle.std.specs.Prelude.{◌≡◌, ◌∷◌, [], List, MatchBool, MatchOption};
+ghost use Rattle.std.specs.Prelude.{◌≡◌, List, MatchBool};
 ghost use Rattle.snmp_message.specs.Scoped.{Contexts, ScopedFront, contexts_of};
 ghost use Rattle.snmp_msg.specs.Pdu.{PduParts, PduText, pdu_of};
 ghost use Rattle.snmp_msg.specs.Variables.{Variable, AreBindings, variable_of};

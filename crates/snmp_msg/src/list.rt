@@ -1,6 +1,6 @@
 //! Lists of bindings, measured and written in the shortest spelling (RFC 3416, section 3).
 
-ghost use Rattle.std.specs.Prelude.{◌≡◌, ℕ, List, [], ◌*◌, ◌<◌, ◌≤◌, ◌++◌, All, length, map, IfSome, IfNone, OnOk};
+ghost use Rattle.std.specs.Prelude.{◌≡◌, [], ◌*◌, ◌<◌, ◌≤◌, ◌++◌, All, length, map, IfSome, IfNone, OnOk};
 ghost use Rattle.snmp_ber.specs.Element.{IsTag};
 ghost use Rattle.snmp_ber.specs.Oid.{identifier};
 ghost use Rattle.snmp_ber.specs.Spelling.{element};

@@ -1,9 +1,9 @@
 //! PDUs (RFC 3416, section 3).
 
-ghost use Rattle.std.specs.Prelude.{◌≡◌, ℕ, List, [], ◌+◌, ◌*◌, ◌<◌, ◌≤◌, ◌++◌, length, slice_range, option_map, IfOk, OnOk, OnErr, IsErrOf, MatchResult, IsTrue, ◌↔◌, All, map};
+ghost use Rattle.std.specs.Prelude.{◌≡◌, ℕ, List, [], ◌+◌, ◌*◌, ◌<◌, ◌≤◌, ◌++◌, length, slice_range, option_map, IfOk, OnOk, OnErr, IsErrOf, MatchResult, All, map};
 ghost use Rattle.std.specs.Result.{result_ok};
 ghost use Rattle.snmp_ber.specs.Spelling.{head_size};
-ghost use Rattle.snmp_msg.specs.Pdu.{IsPduTag, AreInRange, PduParts, PduText, PduFits, pdu_in, pdu_content_in, pdu_of, pdu_with, with_variables, pdu_content_size, pdu_front_text, pdu_text};
+ghost use Rattle.snmp_msg.specs.Pdu.{IsPduTag, PduParts, PduText, PduFits, pdu_in, pdu_content_in, pdu_of, pdu_with, with_variables, pdu_content_size, pdu_front_text, pdu_text};
 ghost use Rattle.snmp_msg.specs.Variables.{Variable, AreBindings, CanBeWritten, variable_of, variables_of, bindings_left, variables_left, variables_text};
 ghost use Rattle.snmp_message.specs.Scoped.{IsOneElement};
 ghost use Rattle.snmp_msg.specs.Refusals.{RefusesPdu};

@@ -1,7 +1,7 @@
 //! A message with all its layers, and its canonical spelling.
 
-ghost use Rattle.std.specs.Prelude.{◌≡◌, [], ◌+◌, ◌*◌, ◌<◌, ◌≤◌, ◌++◌, length, IfOk, IfSome, IfNone, OnOk, OnErr, IsErrOf, MatchResult};
-ghost use Rattle.snmp_ber.specs.Spelling.{head_size, element};
+ghost use Rattle.std.specs.Prelude.{◌≡◌, [], ◌+◌, ◌*◌, ◌<◌, ◌≤◌, ◌++◌, length, IfOk, IfSome, IfNone, OnOk, IsErrOf, MatchResult};
+ghost use Rattle.snmp_ber.specs.Spelling.{element};
 ghost use Rattle.snmp_message.specs.Layout.{Outer};
 ghost use Rattle.snmp_message.specs.Message.{parts};
 ghost use Rattle.snmp_message.specs.Security.{IsShort, fields_of};

@@ -1,6 +1,6 @@
 //! Why a datagram is refused.
 
-ghost use Rattle.std.specs.Prelude.{◌≡◌, MatchBool, Some};
+ghost use Rattle.std.specs.Prelude.{◌≡◌, Some};
 ghost use Rattle.snmp_message.specs.Numbers.{words_at};
 ghost use Rattle.snmp_outcome.specs.Refusals.{refusal_of, number_of, name_of, place_of, IsSameRefusal, MemoryIs};
 

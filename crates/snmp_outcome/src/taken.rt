@@ -37,7 +37,7 @@ pub struct Taken<'a> {
 }
 
 impl<'a> Taken<'a> {
-    ghost use Rattle.std.specs.Prelude.{◌≡◌, List, ℕ};
+    ghost use Rattle.std.specs.Prelude.{◌≡◌};
     ghost use Rattle.snmp_message.specs.Scoped.{ScopedFront, Contexts, contexts_of};
     ghost use Rattle.snmp_msg.specs.Pdu.{PduText, pdu_of};
 

@@ -1,5 +1,5 @@
 -- The types of views, word by word.
-use Rattle.std.proofs.Common.{◌≡◌, ℕ, ◌<◌, Bool, false, IsTrue, List, [], ◌∷◌, ◌++◌, inl, inr, sym, subst, arith, append-nil, append_assoc}
+use Rattle.std.proofs.Common.{ℕ, Bool, false, IsTrue, List, [], ◌∷◌, ◌++◌, inl, inr, sym, subst, arith, append-nil, append_assoc}
 use Rattle.std.specs.Prelude.{◌↔◌, ◌⊎◌, Contains}
 use Rattle.std.specs.List.{AllByRecursion}
 use Rattle.std.proofs.lemmas.List.Elements.{Contains-append_left, Contains-push, Contains-push_cases}

@@ -1,6 +1,6 @@
 //! The types of views that a word names.
 
-ghost use Rattle.std.specs.Prelude.{◌≡◌, IfSome, IfNone, IsTrue, ◌↔◌};
+ghost use Rattle.std.specs.Prelude.{◌≡◌, IfSome, IfNone};
 ghost use Rattle.snmpd_words.specs.Types as spec;
 ghost use Rattle.snmpd_words.specs.Types.{IsNoType, IsTypes, Sets, AddsType};
 

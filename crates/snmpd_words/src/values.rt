@@ -3,7 +3,6 @@
 ghost use Rattle.std.specs.Prelude.{◌≡◌, ℕ, IfSome, Some};
 ghost use Rattle.snmp_ber.specs.declared.level.Level.{Level as ALevel};
 ghost use Rattle.vacm_core.specs.declared.rows.Matching.{Matching as AMatching};
-ghost use Rattle.vacm_core.specs.declared.access.ViewType.{ViewType as AView};
 ghost use Rattle.snmpd_words.specs.Values.{IsModel, IsLevel, IsMatching};
 
 use snmp_ber::Level;

@@ -1,6 +1,6 @@
 //! Packets without a capture around them, each a record of raw IP.
 
-ghost use Rattle.std.specs.Prelude.{◌≡◌, IfOk, OnOk, Some, map};
+ghost use Rattle.std.specs.Prelude.{IfOk, OnOk, Some, map};
 ghost use Rattle.snmpsec_capture.specs.Datagrams.{PrintsAs, WritesRecord};
 ghost use Rattle.snmpsec_capture.specs.Packets.{ComeTo, packet_record};
 ghost use Rattle.snmpsec_packet.specs.Passed.{IsBelow, counts_of};

@@ -1,6 +1,6 @@
 //! What stands for a datagram in what is written.
 
-ghost use Rattle.std.specs.Prelude.{◌≡◌, Bool, ℕ, List, IfOk};
+ghost use Rattle.std.specs.Prelude.{Bool, ℕ, List, IfOk};
 ghost use Rattle.snmpsec_capture.specs.Datagrams.{PrintsAs, PrintsLine};
 
 use crate::datagrams::log_line;

@@ -1,5 +1,5 @@
 -- Where snmpd chooses no row, none of those that count fits.
-use Rattle.std.proofs.Common.{◌≡◌, ◌≢◌, ℕ, ◌<◌, ◌≤◌, zero, suc, List, [], ◌∷◌, ◌++◌, length, get_or, set, Contains, Option, None, Some, inl, inr, refl, sym, ◌∙◌, ap, subst, arith}
+use Rattle.std.proofs.Common.{◌≡◌, ◌≢◌, ℕ, ◌<◌, ◌≤◌, zero, suc, List, [], ◌∷◌, length, get_or, set, Contains, None, inl, inr, sym, ◌∙◌, ap, subst, arith}
 use Rattle.std.specs.Prelude.{◌⊎◌}
 use Rattle.std.proofs.lemmas.Bool.{cases_lt}
 use Rattle.std.proofs.lemmas.List.{get_or_default, get_or-set_same, get_or-set_other, length-set}
@@ -8,7 +8,7 @@ use Rattle.vacm_core.specs.Allowed.{NoneFits}
 use Rattle.vacm_core.specs.declared.rows.AccessRow.{AccessRow}
 use Rattle.snmpsec_lists.specs.declared.rows.HeldAccess.{HeldAccess}
 use Rattle.snmpsec_lists.specs.declared.questions.Question.{Question}
-use Rattle.snmpsec_lists.specs.Questions.{IsBetterAt, IsNextAt, BestOf, FitsQuestion, ChoosesAt}
+use Rattle.snmpsec_lists.specs.Questions.{IsBetterAt, BestOf, FitsQuestion, ChoosesAt}
 use Rattle.snmpsec_lists.specs.Kept.{Settles, SettlesAfter, AreAccessKept}
 use Rattle.snmpsec_choices.specs.Differences.{FitsHeld}
 

@@ -1,10 +1,9 @@
 -- What is told, one question after another.
-use Rattle.std.proofs.Common.{◌≡◌, ℕ, ◌+◌, ◌<◌, ◌≤◌, ◌⊎◌, List, [], ◌∷◌, ◌++◌, take, length, get_or, Contains, Result, Ok, Err, OnOk, inl, inr, refl, ap, sym, subst, ◌∙◌, add-one, arith}
+use Rattle.std.proofs.Common.{◌≡◌, ℕ, ◌+◌, ◌<◌, ◌≤◌, ◌⊎◌, List, [], ◌∷◌, ◌++◌, take, length, get_or, Contains, Result, Ok, Err, OnOk, inl, inr, refl, ap, sym, subst, ◌∙◌, arith}
 use Rattle.std.proofs.lemmas.List.{take_more, take_all}
 use Rattle.std.proofs.lemmas.List.Elements.{Contains-append_left, Contains-push, Contains-push_cases}
 use Rattle.snmp_ber.specs.declared.level.Level.{Level}
 use Rattle.snmp_ber.specs.declared.level.Level.TheVariants.{NoAuthNoPriv, AuthNoPriv, AuthPriv}
-use Rattle.vacm_core.specs.Allowed.{HasContext}
 use Rattle.vacm_core.specs.declared.rows.ContextRow.{ContextRow}
 use Rattle.snmpsec_lists.specs.declared.rows.HeldAccess.{HeldAccess}
 use Rattle.snmpsec_lists.specs.declared.rows.HeldGroup.{HeldGroup}
@@ -15,7 +14,7 @@ use Rattle.snmpsec_choices.specs.declared.comparison.Chosen.{Chosen}
 use Rattle.snmpsec_choices.specs.declared.comparison.Difference.{Difference}
 use Rattle.snmpsec_choices.specs.declared.questions.Compared.{Compared}
 use Rattle.snmpsec_choices.specs.Differences.{IsDifference, Differs}
-use Rattle.snmpsec_choices.specs.Questions.{sides_of, HasPrefix, IsTried, HasPair, IsAsked, TellsDifferences, Tells, IsLike, IsOfPrefix, IsOfPrefixes, IsOfContexts, IsOfEither, IsOfPairs}
+use Rattle.snmpsec_choices.specs.Questions.{sides_of, HasPrefix, IsTried, HasPair, TellsDifferences, Tells, IsLike, IsOfPrefix, IsOfPrefixes, IsOfEither, IsOfPairs}
 
 module _ (rows : Chosen) where
   -- those of P were told, and then those of Q

@@ -5,7 +5,7 @@ ghost use Rattle.hex.specs.Hex.{decode_of};
 ghost use Rattle.snmp_ber.specs.declared.level.Level.{Level as ALevel};
 ghost use Rattle.vacm_core.specs.declared.rows.Matching.{Matching as AMatching};
 ghost use Rattle.toml.specs.View.{view, table_view};
-ghost use Rattle.snmpsec_config.specs.Keys.{at, key_name};
+ghost use Rattle.snmpsec_config.specs.Keys.{at};
 ghost use Rattle.snmpsec_config.specs.Values.{IsText, IsTextIfAny, IsTextOrEmpty, IsName, IsNameOrEmpty, IsModel, IsLevel, IsMatching, IsOid, IsMask, IsFlag, AreAuth, IsAuthFault, value_fault};
 ghost use Rattle.snmpsec_config.specs.declared.table.ConfigKey.TheVariants as keys;
 ghost use Rattle.snmpsec_config.specs.Words.{auth_word};

@@ -1,6 +1,6 @@
 //! The words of a configuration, and of what the program prints of levels.
 
-ghost use Rattle.std.specs.Prelude.{◌≡◌, ◌≢◌, IfSome, IfNone, Some};
+ghost use Rattle.std.specs.Prelude.{◌≡◌, IfSome, Some};
 ghost use Rattle.snmp_ber.specs.declared.level.Level.{Level as ALevel};
 ghost use Rattle.usm_keys.specs.declared.auth.Auth.{Auth as AnAuth};
 ghost use Rattle.vacm_core.specs.declared.rows.Matching.{Matching as AMatching};

@@ -1,7 +1,6 @@
 //! Dumps: the octets of each as a datagram, which is printed.
 
-ghost use Rattle.std.specs.Prelude.{◌≡◌, ◌||◌, [], IfOk, map, string_bytes};
-ghost use Rattle.snmpsec_dump.specs.Dumps.{IsUnread};
+ghost use Rattle.std.specs.Prelude.{◌≡◌, ◌||◌, IfOk, map, string_bytes};
 ghost use Rattle.snmpsec_datagrams.specs.Dumped.{IsDumpsOf, PrintsDumps, PrintsOctets, dump_note, fault_line, refused_row};
 
 use crate::packets::print_packets;

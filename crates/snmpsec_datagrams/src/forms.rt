@@ -1,7 +1,6 @@
 //! `snmpsec datagrams` of a file in any of its forms.
 
-ghost use Rattle.std.specs.Prelude.{◌≡◌, ◌<◌, List, ℕ, Option, length, IfErr, IfOk, IfSome, Some};
-ghost use Rattle.std.specs.Io.KnownBytes.{Consumes, IsAtEnd};
+ghost use Rattle.std.specs.Prelude.{◌≡◌, ◌<◌, Option, IfErr, IfOk, IfSome, Some};
 ghost use Rattle.snmpsec_capture.specs.Datagrams.{PrintsLine, streams};
 ghost use Rattle.snmpsec_datagrams.specs.Forms.{IsFormWord, StopsFile, TellsFile, is_capture, may_be_dumps, text_form};
 ghost use Rattle.snmpsec_datagrams.specs.declared.forms.Form.{Form as FormIs};

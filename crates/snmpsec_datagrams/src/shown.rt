@@ -1,6 +1,6 @@
 //! What `snmpsec datagrams`, `show --from` and `open --from` print of each datagram of a file: a line of a log, or what `show` and `open` do.
 
-ghost use Rattle.std.specs.Prelude.{◌≡◌, ◌++◌, ◌==◌, not, IfErr, IfOk, string_bytes};
+ghost use Rattle.std.specs.Prelude.{◌≡◌, IfErr, IfOk, string_bytes};
 ghost use Rattle.snmpsec_capture.specs.Datagrams.{streams};
 ghost use Rattle.snmpsec_datagrams.specs.Shown.{IsNamed, LoadsUsers, OpensFile, PrintsOpened, PrintsShown, StandsBehind, StopsOpening, StopsPrintout, TellsNoUsers, TellsPrintout, head_line};
 ghost use Rattle.snmpsec_datagrams.specs.declared.shown.NoUsers.TheVariants as none;

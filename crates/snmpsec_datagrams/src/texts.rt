@@ -1,7 +1,7 @@
 //! Pasted hex and dumps: their octets as datagrams, which are printed.
 
 ghost use Rattle.std.specs.Prelude.{◌≡◌, ◌⊎◌, ◌<◌, ◌≤◌, ℕ, List, [], Option, length, IfErr, IfOk, MatchBool, string_bytes};
-ghost use Rattle.std.specs.Io.KnownBytes.{Appends, Consumes, IsAtEnd, Keeps};
+ghost use Rattle.std.specs.Io.KnownBytes.{Appends, Consumes, Keeps};
 ghost use Rattle.snmpsec_streams.specs.Transfer.{WritesFront};
 ghost use Rattle.snmpsec_capture.specs.Datagrams.{streams};
 ghost use Rattle.snmpsec_datagrams.specs.declared.datagrams.Unread.TheVariants as unread;

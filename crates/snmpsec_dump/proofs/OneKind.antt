@@ -1,12 +1,11 @@
 -- A text has one list of lines: each line is one text, and what it is to a dump is one thing.
-use Rattle.std.proofs.Common.{◌≡◌, ◌≢◌, ◌⊎◌, ℕ, suc, ◌<◌, Bool, true, false, List, [], ◌∷◌, ◌++◌, length, take, Option, Some, None, refl, sym, ap, ◌∙◌, subst, arith, inl, inr, length-append}
+use Rattle.std.proofs.Common.{◌≡◌, ◌≢◌, ℕ, suc, ◌<◌, true, false, List, [], ◌∷◌, ◌++◌, length, take, Option, Some, None, refl, sym, ap, ◌∙◌, subst, arith, inl, inr, length-append}
 use Rattle.std.proofs.lemmas.Bool.{false≢true, cases_order}
 use Rattle.std.proofs.lemmas.Option.{none-some, same_Some}
-use Rattle.snmp_ber.specs.Splits.{IsSplit, Lacks}
 use Rattle.snmp_ber.proofs.Cuts.{cut_is, no_cut}
 use Rattle.snmpsec_dump.specs.Column.{are_blanks}
 use Rattle.snmpsec_dump.specs.Offset.{Offset, offset_of}
-use Rattle.snmpsec_dump.specs.Row.{HasNoColumn, IsBare, IsNoRow, IsRow, IsShownBehind, Reads, reads}
+use Rattle.snmpsec_dump.specs.Row.{IsBare, IsNoRow, IsRow, Reads, reads}
 use Rattle.snmpsec_dump.specs.Line.{AreLines, IsFirstLine, IsKindAt, IsKindFrom, IsKindOf, IsRowAt, Kind, are_pairs, bad, begin, has_pairs, more, other, without_return, word_size, words}
 use Rattle.snmpsec_dump.proofs.Rows.{all_passed, blank_no_pair, reads_stop}
 

@@ -1,8 +1,8 @@
 -- Lines are blocks in one way, and no line can be told of lines that are blocks.
-use Rattle.std.proofs.Common.{◌≡◌, ◌≢◌, ◌⊎◌, ℕ, zero, suc, ◌+◌, ◌<◌, List, [], ◌∷◌, ◌++◌, length, refl, sym, ap, ◌∙◌, subst, arith, inl, inr, append_assoc, append-nil}
+use Rattle.std.proofs.Common.{◌≡◌, ◌⊎◌, ℕ, zero, suc, ◌+◌, List, [], ◌∷◌, ◌++◌, length, refl, sym, ap, ◌∙◌, subst, arith, inl, inr, append_assoc, append-nil}
 use Rattle.std.specs.Prelude.{⊤}
 use Rattle.snmpsec_dump.specs.Line.{AreLines, Kind, bad, begin, more, other, words}
-use Rattle.snmpsec_dump.specs.Dumps.{AreBlocks, GoOn, HasDumps, IsBlock, IsDump, IsDumpIn, IsNext, IsNotBegun, IsOtherCount, IsPassedOver, IsUnread, IsUnreadable, MayEndBefore, StopsAt}
+use Rattle.snmpsec_dump.specs.Dumps.{AreBlocks, GoOn, HasDumps, IsBlock, IsDump, IsDumpIn, IsNotBegun, IsOtherCount, IsPassedOver, IsUnread, IsUnreadable, MayEndBefore, StopsAt}
 use Rattle.snmpsec_dump.specs.declared.base.Base.{Base}
 use Rattle.snmpsec_dump.specs.declared.dumps.DumpFault.{DumpFault}
 use Rattle.snmpsec_dump.specs.declared.dumps.DumpFault.TheVariants as faults

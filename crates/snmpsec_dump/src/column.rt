@@ -1,6 +1,6 @@
 //! The column that shows the octets of a line as text.
 
-ghost use Rattle.std.specs.Prelude.{◌≡◌, ◌+◌, ◌-◌, ◌≤◌, ◌==◌, if◌then◌else◌, length};
+ghost use Rattle.std.specs.Prelude.{◌≡◌, ◌+◌, ◌-◌, ◌==◌, if◌then◌else◌};
 ghost use Rattle.snmpsec_dump.specs.Column.{is_graphic, shows, are_shown, are_blanks, has_column, has_marked, has_any_column, seen_size};
 
 use snmpsec_hex::is_blank;

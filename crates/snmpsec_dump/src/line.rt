@@ -1,6 +1,6 @@
 //! The lines of a text with dumps.
 
-ghost use Rattle.std.specs.Prelude.{◌≡◌, ◌≢◌, ◌+◌, ◌<◌, ◌≤◌, [], true, length, map, IfOk};
+ghost use Rattle.std.specs.Prelude.{◌≡◌, ◌≢◌, ◌<◌, ◌≤◌, [], true, length, map, IfOk};
 ghost use Rattle.snmpsec_dump.specs.Line as spec;
 ghost use Rattle.snmpsec_dump.specs.Line.{AreLines, IsFirstLine, IsKindAt, IsKindOf, are_digits, are_pairs, first_word, has_pairs, kind, word_size};
 ghost use Rattle.snmpsec_dump.specs.Offset.{told};

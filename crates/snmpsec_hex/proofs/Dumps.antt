@@ -1,12 +1,12 @@
 -- Texts that begin as a dump does, as they are read.
-use Rattle.std.proofs.Common.{rules, ◌≡◌, ◌⊎◌, inl, inr, ℕ, zero, suc, ◌+◌, ◌<◌, ◌≤◌, ◌==◌, ◌&&◌, ◌||◌, nat_le, Bool, true, false, if◌then◌else◌, List, [], ◌∷◌, ◌++◌, length, take, drop, slice_index, refl, sym, ap, subst, ◌∙◌, ◌-◌, arith, take_all}
-use Rattle.std.specs.List.{AllByRecursion, prefix_len}
+use Rattle.std.proofs.Common.{rules, ◌≡◌, ◌⊎◌, inl, inr, ℕ, suc, ◌+◌, ◌<◌, ◌≤◌, ◌==◌, ◌&&◌, ◌||◌, Bool, true, false, if◌then◌else◌, List, [], ◌∷◌, ◌++◌, length, take, drop, slice_index, refl, sym, ap, subst, ◌∙◌, ◌-◌, arith, take_all}
+use Rattle.std.specs.List.{prefix_len}
 use Rattle.std.proofs.Math.Seq.{drop-append_seam}
 use Rattle.std.proofs.lemmas.Bool.{cases_lt, false≢true, leb-true, le-leb, eqb-true}
 use Rattle.std.proofs.Math.ListN.{drop_of_length-le}
 use Rattle.std.proofs.lemmas.List.{length-drop, take-append-drop}
 use Rattle.std.proofs.lemmas.List.Folds.{length-prefix_len}
-use Rattle.snmpsec_hex.specs.Dump.{AreOf, BeginsDump, HasNoDump, IsDumpFrom, is_blank, is_digit, is_zero, blanks, zeros, prefix_size, colon_size, begins_pair, begins_octets, begins_behind, begins_offset, begins_prefix, begins_dump}
+use Rattle.snmpsec_hex.specs.Dump.{AreOf, BeginsDump, HasNoDump, IsDumpFrom, is_blank, is_digit, is_zero, blanks, zeros, begins_pair, begins_octets, begins_behind, begins_offset, begins_prefix, begins_dump}
 
 pub behind_is_drop : (n : ℕ) (text : List ℕ) → take (length text - n) (drop n text) ≡ drop n text
 behind_is_drop n text = let long = length-drop n text in take_all (length text - n) (drop n text) (omega (arith, long))

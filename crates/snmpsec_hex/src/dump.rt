@@ -1,7 +1,7 @@
 //! Dumps: texts with an offset before the octets of each line. They are known by their first line, and not read.
 
-ghost use Rattle.std.specs.Prelude.{◌≡◌, ◌⊎◌, ℕ, ◌+◌, ◌-◌, ◌<◌, ◌≤◌, ◌==◌, true, false, length, slice_index, MatchBool, MatchOption};
-ghost use Rattle.snmpsec_hex.specs.Dump.{BeginsLine, HasDumpOn, HasNoDump, IsFirstDump, begins_behind, begins_dump, begins_octets, begins_offset, begins_pair, begins_prefix, blanks, colon_size, is_blank, is_digit, is_zero, prefix_size, zeros};
+ghost use Rattle.std.specs.Prelude.{◌≡◌, ◌-◌, ◌<◌, ◌≤◌, ◌==◌, false, length, MatchBool, MatchOption};
+ghost use Rattle.snmpsec_hex.specs.Dump.{BeginsLine, HasDumpOn, HasNoDump, IsFirstDump, begins_dump, begins_octets, begins_offset, begins_pair, begins_prefix, blanks, colon_size, is_blank, prefix_size, zeros};
 
 use crate::part::{digit_value, octet_at};
 use crate::place::place_behind;

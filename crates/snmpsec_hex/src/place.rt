@@ -1,6 +1,5 @@
 //! Places in a text, by line and column.
 
-ghost use Rattle.std.specs.Prelude.{◌≡◌};
 ghost use Rattle.snmpsec_hex.specs.Text.{IsBehind};
 
 /// A place in a text.

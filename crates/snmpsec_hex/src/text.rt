@@ -1,6 +1,6 @@
 //! Texts of hex.
 
-ghost use Rattle.std.specs.Prelude.{◌≡◌, IfErr, IfOk};
+ghost use Rattle.std.specs.Prelude.{IfErr, IfOk};
 ghost use Rattle.snmpsec_hex.specs.Text.{IsFaultBehind, IsHexText, IsNoText};
 
 use crate::part::{Part, first_part};

@@ -1,5 +1,5 @@
 -- What a line `group GROUP MODEL NAME` makes: a row of vacmSecurityToGroupTable (net-snmp 5.9.3).
-use Rattle.std.specs.Prelude.{◌≡◌, ◌≢◌, ◌⊎◌, ⊤, ℕ, List, [], Option, Some, None}
+use Rattle.std.specs.Prelude.{◌≡◌, ◌≢◌, ◌⊎◌, ⊤, ℕ, List, [], Option, Some}
 use Rattle.vacm_core.specs.declared.rows.GroupRow.{GroupRow}
 use Rattle.snmpd_words.specs.Words.{TakesWord, EndsBehindWord}
 use Rattle.snmpd_words.specs.Values.{IsModel}

@@ -1,6 +1,6 @@
 //! Lines `access`.
 
-ghost use Rattle.std.specs.Prelude.{◌≡◌, ◌<◌, length, [], ◌∷◌, IfOk, IfErr, IfSome, IfNone};
+ghost use Rattle.std.specs.Prelude.{◌<◌, length, [], ◌∷◌, IfOk, IfErr, IfSome, IfNone};
 ghost use Rattle.snmpsec_import.specs.Accesses.{AreTokens, HasFewer, IsContext, SaysConditions, TellsNoConditions, HasViewTokens, IsViewName, IsAccess, TellsTooLong, SaysAccess, TellsNoAccess};
 
 use snmp_ber::Level;

@@ -3,7 +3,7 @@
 ghost use Rattle.std.specs.Prelude.{◌≡◌, ◌∷◌, [], ◌↔◌, IsTrue, IfOk, IfErr, IfSome, IfNone};
 ghost use Rattle.snmpsec_import.specs.Accesses.{AreTokens, HasFewer};
 ghost use Rattle.snmpsec_import.specs.GroupViews as spec;
-ghost use Rattle.snmpsec_import.specs.GroupViews.{IsOption, HasModelAndView, TellsNoModelAndView, HasGroupAndView, TellsNoGroupAndView, HasLevel, TellsNoLevel, HasContexts, HasIndex, HasLongNames, SaysGroupViews, TellsNoGroupViews, SaysAuthAccess, TellsNoAuthAccess};
+ghost use Rattle.snmpsec_import.specs.GroupViews.{IsOption, HasModelAndView, TellsNoModelAndView, HasGroupAndView, TellsNoGroupAndView, HasLevel, TellsNoLevel, HasContexts, HasLongNames, SaysGroupViews, TellsNoGroupViews, SaysAuthAccess, TellsNoAuthAccess};
 
 use crate::accesses::view_name;
 use crate::settings::Setting;

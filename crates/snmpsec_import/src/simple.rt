@@ -1,10 +1,10 @@
 //! Lines `rouser` and `rwuser`, and their like for groups, for communities and for given types of views.
 
-ghost use Rattle.std.specs.Prelude.{◌≡◌, ◌≢◌, ◌++◌, ◌⊎◌, Some, None, IsTrue, ◌↔◌, codes, IfOk, IfErr, IfSome, IfNone, List, ℕ};
+ghost use Rattle.std.specs.Prelude.{◌≡◌, Some, None, codes, IfOk, IfErr, List, ℕ};
 ghost use Rattle.std.specs.Option.{option_map};
-ghost use Rattle.snmpd_words.specs.Words.{GoesOn, TakesWord, TakesOr};
+ghost use Rattle.snmpd_words.specs.Words.{GoesOn, TakesWord};
 ghost use Rattle.snmpsec_import.specs.Simple as spec;
-ghost use Rattle.snmpsec_import.specs.Simple.{HasTypes, HasModelBehind, TellsNoModelBehind, HasModel, IsContextOf, TellsNoViewName, IsVersionWord, AreVersions, HasUser, HasCommunity, HasNamed, HasView, HasContext, HasReach, SaysSimple, TellsNoTypes, TellsNoModel, TellsNoView, TellsNoSimple, option_of};
+ghost use Rattle.snmpsec_import.specs.Simple.{HasTypes, HasModelBehind, TellsNoModelBehind, HasModel, IsContextOf, TellsNoViewName, IsVersionWord, AreVersions, HasUser, HasNamed, HasView, HasContext, HasReach, SaysSimple, TellsNoTypes, TellsNoModel, TellsNoView, TellsNoSimple, option_of};
 ghost use Rattle.snmpsec_import.specs.declared.simple.SimpleKind.TheVariants as kinds;
 
 use snmpd_words::{

@@ -2,7 +2,7 @@
 use Rattle.std.proofs.Common.{◌≡◌, ℕ, List, [], ◌∷◌, ◌++◌, refl, sym, ap, ◌∙◌, append_assoc, append-nil, subst}
 use Rattle.std.specs.List.{AllByRecursion, flat_map}
 use Rattle.std.proofs.lemmas.List.Concat.{flat_map-append}
-use Rattle.snmp_ber.specs.Splits.{Lacks, IsSplit}
+use Rattle.snmp_ber.specs.Splits.{IsSplit}
 use Rattle.snmpsec_notes.specs.Names.{NamedLine, IsNamedLine, IsNote, AddsNames, lines_text, named_text}
 
 -- the text is lines and what is left, and the lines are written with their notes

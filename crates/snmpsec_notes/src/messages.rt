@@ -1,6 +1,6 @@
 //! A datagram that ends before its message does.
 
-ghost use Rattle.std.specs.Prelude.{◌<◌, length, IfSome};
+ghost use Rattle.std.specs.Prelude.{◌<◌, IfSome};
 
 use std::fmt;
 

@@ -1,7 +1,7 @@
 //! Whether a text is a log, and what is wrong where it isn't.
 
 ghost use Rattle.std.specs.Prelude.{◌≡◌, ◌≤◌, IfOk, IfErr, vec_capacity};
-ghost use Rattle.snmpsec_replay.specs.Checked.{TellsLog, TellsLine, TellsEntry, StopsLog, StopsLine, IsFaulty};
+ghost use Rattle.snmpsec_replay.specs.Checked.{TellsLog, TellsLine, TellsEntry, StopsLog, StopsLine};
 ghost use Rattle.snmpsec_replay.specs.declared.fault.ReplayFault.TheVariants as faults;
 
 use crate::fault::ReplayFault;

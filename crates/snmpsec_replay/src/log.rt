@@ -1,8 +1,7 @@
 //! The lines of a log.
-ghost use Rattle.std.specs.Prelude.{◌≡◌, ◌≢◌, ◌<◌, ◌≤◌, [], Ok, ℕ, length, slice_index, IfOk, OnErr, IfSome, IfNone, vec_capacity, vec_len};
+ghost use Rattle.std.specs.Prelude.{◌≡◌, ◌<◌, ◌≤◌, [], Ok, length, IfOk, OnErr, vec_capacity, vec_len};
 ghost use Rattle.std.specs.Io.KnownBytes.{Consumes, IsAtEnd, Keeps};
 ghost use Rattle.std.specs.Option.{option_map};
-ghost use Rattle.snmp_ber.specs.Splits.{IsSplit, Lacks};
 ghost use Rattle.snmpsec_replay.specs.Lines.{AreReadAs, IsCut, IsReadAs, Looks, LooksAhead, ReadsLine, ReadsPart};
 
 use hex::FromHexError;

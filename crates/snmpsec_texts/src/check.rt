@@ -1,6 +1,6 @@
 //! `snmpsec check-access`: whether a configuration lets a message see a variable.
 
-ghost use Rattle.std.specs.Prelude.{◌≡◌, ◌++◌, [], ℕ, List, IfOk, IfErr, codes, map};
+ghost use Rattle.std.specs.Prelude.{◌≡◌, ◌++◌, [], IfOk, IfErr, codes, map};
 ghost use Rattle.std.specs.Str.{IsUtf8};
 ghost use Rattle.toml.specs.Parse.{parse_document};
 ghost use Rattle.vacm_core.specs.Allowed.{Requester, Allowed};

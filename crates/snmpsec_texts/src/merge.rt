@@ -1,6 +1,6 @@
 //! `snmpsec merge-clocks`: the join of saved clocks.
 
-ghost use Rattle.std.specs.Prelude.{◌≡◌, map, IfOk, string_bytes};
+ghost use Rattle.std.specs.Prelude.{map, IfOk, string_bytes};
 ghost use Rattle.snmpsec_texts.specs.Merge.{TellsFault, MergeAnswers};
 ghost use Rattle.snmpsec_texts.specs.Questions.{Printed};
 

@@ -1,6 +1,6 @@
 //! What decides on an access, a line each.
 
-ghost use Rattle.std.specs.Prelude.{◌≡◌, ◌++◌, OnOk, IfOk};
+ghost use Rattle.std.specs.Prelude.{◌≡◌, ◌++◌, OnOk};
 ghost use Rattle.snmpsec_texts.specs.Steps as spec;
 ghost use Rattle.snmpsec_texts.specs.Steps.{family_line, view_lines, access_lines, group_lines};
 

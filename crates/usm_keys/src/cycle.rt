@@ -1,5 +1,5 @@
 //! The hash of a text repeated again and again.
-ghost use Rattle.std.specs.Prelude.{◌≡◌, ℕ, ◌*◌, ◌/◌, ◌<◌, ◌≤◌, List, [], ◌++◌, length};
+ghost use Rattle.std.specs.Prelude.{◌≡◌, ◌*◌, ◌/◌, ◌<◌, length};
 ghost use Rattle.usm_keys.specs.Keys.{cycle};
 
 use crate::hash::AuthHash;

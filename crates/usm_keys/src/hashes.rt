@@ -1,5 +1,4 @@
 //! The hashes of the three authentication protocols, over the crates that compute them.
-ghost use Rattle.std.specs.Prelude.{◌≡◌, ◌≤◌};
 ghost use Rattle.md5.specs.Md5.{Holds as HoldsMd5, md5};
 ghost use Rattle.sha1.specs.Sha1.{Holds as HoldsSha1, sha1};
 ghost use Rattle.sha2.specs.Hashers.{Holds256};

@@ -1,6 +1,6 @@
 //! Users in their order, and where each name stands.
 
-ghost use Rattle.std.specs.Prelude.{◌≡◌, [], IfOk};
+ghost use Rattle.std.specs.Prelude.{◌≡◌, IfOk};
 ghost use Rattle.std.specs.Option.{option_copied};
 ghost use Rattle.usm_users.specs.Users.{user_named as user_of_name};
 ghost use Rattle.usm_users.specs.Index.{IsIndex};

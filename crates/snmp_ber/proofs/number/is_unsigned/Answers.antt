@@ -1,4 +1,4 @@
-use Rattle.std.proofs.Common.{rules, ◌-◌, ◌≡◌, ℕ, arith, refl, inl, inr, length, get_or}
+use Rattle.std.proofs.Common.{rules, ◌-◌, ◌≡◌, arith, refl, inl, inr, length, get_or}
 use Rattle.std.proofs.lemmas.Bool.{eqb-true, eq-eqb}
 use Rattle.snmp_ber.specs.Octets.{AreOctets}
 use Rattle.snmp_ber.proofs.Unsigned.{some_unsigned, not_low, fits_unsigned}

@@ -1,4 +1,4 @@
-use Rattle.std.proofs.Common.{◌≡◌, ◌∙◌, ℕ, arith, length, rules}
+use Rattle.std.proofs.Common.{◌∙◌, ℕ, arith, rules}
 use Rattle.snmp_ber.specs.Number.{IsUnsigned}
 use Rattle.snmp_ber.specs.Octets.{AreOctets}
 use Rattle.snmp_ber.proofs.Unsigned.{reads, behind_zero}

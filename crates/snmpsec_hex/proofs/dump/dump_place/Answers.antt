@@ -1,6 +1,6 @@
-use Rattle.std.proofs.Common.{◌≡◌, ◌⊎◌, inl, inr, ℕ, ◌+◌, ◌<◌, ◌≤◌, true, false, length, drop, sym, ap, subst, ◌∙◌, arith}
-use Rattle.std.proofs.lemmas.Bool.{cases_eq, cases_lt, false≢true}
-use Rattle.snmpsec_hex.specs.Dump.{BeginsDump, IsDumpFrom, begins_dump}
+use Rattle.std.proofs.Common.{◌≡◌, ◌+◌, true, false, drop, sym, ap, ◌∙◌, arith}
+use Rattle.std.proofs.lemmas.Bool.{false≢true}
+use Rattle.snmpsec_hex.specs.Dump.{IsDumpFrom, begins_dump}
 use Rattle.snmpsec_hex.proofs.Dumps.{behind_is_drop, dump_is, dump_again, nothing_begins, one_more}
 use Rattle.snmpsec_hex.proofs.dump.dump_place.Goals.{else-begins_line-via-then-begins_line+else-begins_dump, else-begins_line-via-else-begins_line}
 use Rattle.snmpsec_hex.proofs.dump.dump_place.Goals as goal

@@ -1,4 +1,4 @@
-use Rattle.std.proofs.Common.{◌≡◌, ◌++◌, length}
+use Rattle.std.proofs.Common.{length}
 use Rattle.snmpsec_notes.proofs.NamedLines.{Added}
 use Rattle.snmpsec_notes.proofs.names.with_names.Given as goal
 
