@@ -1,6 +1,6 @@
 //! Why a call of a handle isn't done.
 
-ghost use Rattle.std.specs.Prelude.{◌≡◌, pos};
+ghost use Rattle.std.specs.Prelude.{◌≡◌};
 ghost use Rattle.snmp_calls.specs.Faults.{code, access_code, value_code, answer_code, fault_code, unhandled_code, IsStatusCode};
 
 use crate::numbers::{access_of, unhandled_number};

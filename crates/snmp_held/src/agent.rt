@@ -3,13 +3,10 @@
 ghost use Rattle.std.specs.Prelude.{◌≡◌, ◌≢◌, ◌↔◌, All, IsTrue, MatchOption, None, Some, Err};
 ghost use Rattle.std.specs.Int.{to_be_bytes, w64};
 ghost use Rattle.snmp_message.specs.Scoped.{Contexts, ScopedFront};
-ghost use Rattle.snmp_msg.specs.Pdu.{PduParts, PduText};
 ghost use Rattle.snmp_outcome.specs.Outcome.{Given};
 ghost use Rattle.snmp_agent.specs.Decides.{question_of};
-ghost use Rattle.snmp_agent.specs.Sent.{responding, notifying, Sends};
-ghost use Rattle.snmp_sending.specs.Sends.{send_answer};
 ghost use Rattle.vacm_core.specs.Allowed.{Allowed};
-ghost use Rattle.snmp_held.specs.Agents.{Clears, IsOwnEngine, MakesAgent, TakesHeld, TakesNoMemory, AllowsHeld, MaySee, Counts, RespondsHeld, Notice, NotifiesHeld};
+ghost use Rattle.snmp_held.specs.Agents.{Clears, IsOwnEngine, MakesAgent, TakesHeld, TakesNoMemory, AllowsHeld, MaySee, Counts, RespondsHeld, NotifiesHeld};
 ghost use Rattle.snmp_calls.specs.Parts.{CopiesPart, CopiesMessage, AreNumbersOf};
 ghost use Rattle.snmp_held.specs.Between.{AnswersResponse, AnswersNotice, notice_of};
 

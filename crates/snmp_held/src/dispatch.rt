@@ -4,7 +4,6 @@
 ghost use Rattle.std.specs.Prelude.{◌≡◌, IfErr, IfOk, OnErr, Some, true};
 ghost use Rattle.std.specs.Int.{to_be_bytes, w64};
 ghost use Rattle.snmp_agent.specs.Counts.{count_at, one_more};
-ghost use Rattle.snmp_agent.specs.Dispatch.{HandledBy, Refuses};
 ghost use Rattle.snmp_agent.specs.Sent.{CanSendAt};
 ghost use Rattle.snmp_sending.specs.Classes.{is_confirmed};
 ghost use Rattle.snmp_sending.specs.declared.counter.Counter.TheVariants.{SilentDrops};
