@@ -1,7 +1,7 @@
 -- What a take answers and leaves, for the functions that do it.
 use Rattle.std.proofs.Common.{◌≡◌, ℕ, ◌≤◌, List, Option, Some, None, Bool, true, false, cond, length, refl, sym, ◌∙◌, ap, subst, inl, inr}
 use Rattle.std.specs.Prelude.{◌↔◌, ◌≢◌, Result, Ok, Err, MatchBool, IsTrue, IsSome, IsSomeAnd}
-use Rattle.engine_clock.specs.Pairs.{BootsAndTime, IsPair}
+use Rattle.engine_clock.specs.Pairs.{BootsAndTime}
 use Rattle.std.specs.Ordering.{is_eq}
 use Rattle.std.proofs.lemmas.Cmp.{tied_itself}
 use Rattle.engine_clock.specs.Marks.{Marks, SeenPair, mark_at, mark_join, joined_to, seen_at, learned}
@@ -15,7 +15,7 @@ use Rattle.usm_core.specs.declared.fault.UsmFault.TheVariants as usm
 use Rattle.usm_core.specs.Table.{holds, fails, gives, refuses}
 use Rattle.usm_core.specs.Refusals.{number_of}
 use Rattle.usm_core.specs.Authentic.{Authentic}
-use Rattle.usm_core.specs.Verified.{Verified, Verifies, AllowsEngine, IsReadAs, manager}
+use Rattle.usm_core.specs.Verified.{Verified, Verifies, AllowsEngine, manager}
 use Rattle.usm_core.specs.Answers.{IsAuthenticatedAs}
 use Rattle.snmp_outcome.specs.declared.fault.TakeFault.{TakeFault}
 use Rattle.snmp_outcome.specs.Refusals.{answer_number, IsSameRefusal}
@@ -105,10 +105,6 @@ not_both b P h e p = let wrong : true ≡ false = sym (h.1 p) ∙ e in cc wrong
 pub is_so : (b : Bool) (P : Type 0) → IsTrue b ↔ P → b ≡ true → P
 is_so b P h e = h.0 e
 
--- the numbers of a message are those of a pair
-pub IsPair-read : (w : List ℕ) (v : Verified) → IsReadAs w v → IsPair (pair_in v)
-IsPair-read w v read = record { boots = read.security.says.is_boots.at_most; time = read.security.says.is_time.at_most }
-
 -- ---- the window once the pair is learned
 
 -- what is held of an engine once its pair has come in
@@ -168,7 +164,3 @@ told old new now w fault (Some n) is some takes = (Err n, is, takes)
 pub stays : (old new : Held) (now : ℕ) (w : List ℕ) (o : Option ℕ) → o ≡ None → Takes old now w (refused o) new → new ≡ old
 stays old new now w None e takes = takes
 stays old new now w (Some n) e takes = cc e
-
-pub no_answer : (o : Option ℕ) → o ≡ None → IsSome (refused o) → ⊥
-no_answer None e h = cc h
-no_answer (Some n) e h = cc e

@@ -1,5 +1,5 @@
 -- What is told of questions, one after another.
-use Rattle.std.proofs.Common.{◌≡◌, ◌≢◌, ℕ, zero, suc, ◌+◌, ◌<◌, get_or, take, Bool, true, false, ◌||◌, List, [], ◌∷◌, ◌++◌, length, map, sym, ap, ◌∙◌, subst, refl, inl, inr, arith, append_assoc, append-nil}
+use Rattle.std.proofs.Common.{◌≡◌, ℕ, zero, suc, ◌+◌, ◌<◌, get_or, take, Bool, true, false, ◌||◌, List, [], ◌∷◌, ◌++◌, length, map, sym, ap, ◌∙◌, subst, refl, inl, inr, arith, append_assoc, append-nil}
 use Rattle.std.specs.Prelude.{Contains}
 use Rattle.std.specs.List.{flat_map, list_any}
 use Rattle.std.proofs.lemmas.Grind.{flat_map-append}
@@ -8,11 +8,10 @@ use Rattle.std.proofs.lemmas.List.Folds.{list_any-append}
 use Rattle.std.proofs.lemmas.List.Elements.{Contains-append_cases}
 use Rattle.std.specs.Borrow.{Bor}
 use Rattle.vacm_core.specs.declared.rows.FamilyRow.{FamilyRow}
-use Rattle.vacm_core.specs.declared.access.Access.TheVariants.{NotInView}
 use Rattle.vacm_core.specs.Tables.{Tables}
 use Rattle.snmpsec_access.specs.declared.seeing.Seen.{Seen}
 use Rattle.snmpsec_access.specs.Askers.{Asker}
-use Rattle.snmpsec_access.specs.Seen.{Line, viewers, TellsSeen, Decision, by_lines, Decided, IsDecision, IsDecided, answer_line, seen_line, line_of, decision_text, decided_text, includes, any_includes}
+use Rattle.snmpsec_access.specs.Seen.{Line, viewers, TellsSeen, Decision, Decided, IsDecision, IsDecided, seen_line, line_of, decision_text, decided_text, includes, any_includes}
 use Rattle.snmpsec_access.specs.Rising.{SeesOn, rows_at}
 use Rattle.snmpsec_access.proofs.Picks.{items_more}
 
@@ -27,15 +26,6 @@ or_joined false b c = refl
 only : {X : Type 0} (x y : X) → Contains (x ∷ []) y → x ≡ y
 only x y (zero, within, at) = at
 only x y (suc k, within, at) = absurd (omega (arith, within))
-
--- rows without one, and with one
-pub text_of_none : (a : Asker) (items : List (Bor FamilyRow)) → length items ≡ 0 → answer_line a NotInView ≡ decision_text a (by_lines (map line_of (rows_at items)))
-text_of_none a [] none = refl
-text_of_none a (item ∷ items) none = absurd (omega (arith, none))
-
-pub text_of_some : (a : Asker) (items : List (Bor FamilyRow)) → length items ≢ 0 → flat_map (seen_line a) (map line_of (rows_at items)) ≡ decision_text a (by_lines (map line_of (rows_at items)))
-text_of_some a [] some = absurd (some refl)
-text_of_some a (item ∷ items) some = refl
 
 -- one more line of rows
 pub lines_more : (a : Asker) (items : List (Bor FamilyRow)) (i : ℕ) (item : Bor FamilyRow) (begin so_far after : List ℕ) → i < length items → item ≡ get_or items i item

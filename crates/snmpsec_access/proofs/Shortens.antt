@@ -47,15 +47,6 @@ same_from (row ∷ rows) before v w same =
     let rest = same_from rows (if row_fits row v then row.include else before) v w (λ other c. same other (suc c.0, omega (arith, c.1), c.2)) in
     rest ∙ ap (λ (b : Bool). fold (λ (b : Bool) (line : Line). if fits line.pattern w then line.include else b) (if b then row.include else before) (map line_of rows)) first
 
-pub none_yet : AreLeft [] []
-none_yet = record {
-  same = λ variable. refl;
-  among = λ row c. c;
-  rising = λ k d low within. absurd (omega (arith, within));
-  own = λ row c. absurd (omega (arith, c.1));
-  needed = λ k d within. absurd (omega (arith, within));
-}
-
 module _ (seen kept : List FamilyRow) (row : FamilyRow) (left : AreLeft seen kept) (exact : IsExact row) (all_exact : AreExact seen)
     (above : (other : FamilyRow) → Contains seen other → family_order row other ≢ Less) where
   no_longer : (other : FamilyRow) → Contains seen other → length other.subtree ≤ length row.subtree

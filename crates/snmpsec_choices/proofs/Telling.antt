@@ -62,11 +62,6 @@ module _ (rows : Chosen) where
     all = λ q of_p differs. (d, Contains-push a d, sym (one q of_p));
   }
 
--- a question is what its parts are
-pub question_is : (group : List ℕ) (model : ℕ) (level : Level) (contexts : Contexts) (q : Question) → IsLike group model contexts q → q.level ≡ level
-    → q ≡ record { group = group; model = model; level = level; contexts = contexts }
-question_is group model level contexts q like at = rw (← like.same_group, ← like.same_model, ← at, ← like.same_contexts) refl
-
 pub level_cases : (P : Level → Type 0) → P NoAuthNoPriv → P AuthNoPriv → P AuthPriv → (level : Level) → P level
 level_cases P a b c NoAuthNoPriv = a
 level_cases P a b c AuthNoPriv = b

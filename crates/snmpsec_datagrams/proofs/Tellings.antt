@@ -10,7 +10,7 @@ use Rattle.snmpsec_datagrams.specs.declared.datagrams.Unread.{Unread}
 use Rattle.snmpsec_datagrams.specs.declared.datagrams.Unread.TheVariants as unread
 use Rattle.snmpsec_datagrams.specs.declared.texts.TextForm.{TextForm}
 use Rattle.snmpsec_datagrams.specs.Texts.{IsTextOf, StopsText, TellsText, WritesBoth, WritesPart}
-use Rattle.snmpsec_datagrams.specs.Datagrams.{IsWhole, Leaves, LosesLine, LosesPassed, Tells, TellsNot, line_of, refused_line, status_of, AskPorts, AreDecimals, HasNoPort}
+use Rattle.snmpsec_datagrams.specs.Datagrams.{IsWhole, Leaves, LosesLine, LosesPassed, Tells, TellsNot, line_of, refused_line, status_of, HasNoPort}
 
 -- ---- the last line
 
@@ -110,10 +110,6 @@ text_lost P form moment name s text line note told f read short is same wrote =
     (told, record { text = text; line = line; note = note; consumed = read.0; end = read.1; short = short; is_line = is; ends = wrote })
 
 -- ---- the ports
-
-pub asks_by_words : (words : List (List ℕ)) (ports : List ℕ) → (length words ≡ 0 → ⊥) → AreDecimals words ports → AskPorts words ports
-asks_by_words [] ports some are = absurd (some refl)
-asks_by_words (word ∷ words) ports some are = are
 
 -- one of the words is no port
 pub no_port : {X : Type 0} (f : X → List ℕ) (xs : List X) (i : ℕ) (d : X) → i < length xs

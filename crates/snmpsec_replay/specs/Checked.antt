@@ -43,11 +43,6 @@ StopsLine unread left faults.OutOfMemory = ⊤
 StopsLine unread left (faults.LogLine n) = ⊥
 StopsLine unread left faults.CannotWrite = ⊥
 
-abbrev pub IsFaulty : CheckedLine → Type 0
-IsFaulty lines.Sound = ⊥
-IsFaulty lines.End = ⊥
-IsFaulty (lines.Faulty why) = ⊤
-
 -- A line with its line feed says something, or is faulty.
 abbrev pub TellsEntry : List ℕ → CheckedLine → Type 0
 TellsEntry line lines.Sound = (e : LogEntry) × IsLine line e
