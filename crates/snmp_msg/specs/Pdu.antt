@@ -4,7 +4,7 @@ use Rattle.snmp_ber.specs.Number.{IsInteger32}
 use Rattle.snmp_ber.specs.Element.{IsElement}
 use Rattle.snmp_ber.specs.Reading.{Front, front_of}
 use Rattle.snmp_ber.specs.Spelling.{head_of, head_size, element}
-use Rattle.snmp_message.specs.Steps.{when_ended}
+use Rattle.snmp_message.specs.Steps.{◌>>=◌, when_ended}
 use Rattle.snmp_message.specs.Reading.{element_in, signed_in}
 use Rattle.snmp_message.specs.Spelling.{signed}
 use Rattle.snmp_msg.specs.Variables.{Variable, AreBindings, AllFit, variables_of, after_variables, variables_text}

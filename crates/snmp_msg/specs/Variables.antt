@@ -5,6 +5,7 @@ use Rattle.snmp_ber.specs.Element.{IsTag, IsElement}
 use Rattle.snmp_ber.specs.Oid.{AreArcs, IsObjectId, IsIdentifier, identifier_in, identifier}
 use Rattle.snmp_ber.specs.Reading.{Front, front_of}
 use Rattle.snmp_ber.specs.Spelling.{element}
+use Rattle.snmp_message.specs.Steps.{◌>>=◌}
 use Rattle.snmp_message.specs.Reading.{element_in}
 use Rattle.snmp_msg.specs.declared.binding.Binding.{Binding}
 use Rattle.snmp_msg.specs.declared.binding.Bindings.{Bindings}
