@@ -1,5 +1,5 @@
 -- Lines of snmpd.conf that name files, and what is left of them when the files have been looked for (snmpd.conf(5)).
-use Rattle.std.specs.Prelude.{⊤, ⊥}
+use Rattle.std.specs.Prelude.{⊤}
 use Rattle.snmpsec_lists.specs.declared.items.Made.{Made}
 use Rattle.snmpsec_lists.specs.declared.items.Made.TheVariants as made
 use Rattle.snmpsec_lists.specs.declared.items.Include.TheVariants as includes
