@@ -1,11 +1,16 @@
 """The kit's command rt as a module, for the tools that prove many crates, or many wrong bodies, side by side."""
+import collections
+import hashlib
 import importlib.machinery
 import importlib.util
 import os
 import shutil
+import subprocess
 import sys
 
 sys.dont_write_bytecode = True
+
+MARK = "unproved_build"  # the symbol that each executable has which tools/unproved makes
 
 
 def load_rt():
@@ -37,6 +42,49 @@ def crates_named(rt, names):
     if lost:
         sys.exit(f"crates.txt names no crate {lost[0]}")
     return [it for it in crates if not names or it.name in names]
+
+
+def sums_of(rt, crate):
+    """The sums of all that an executable of the crate is made of, in the form of sha256sum, by paths from the top: the kit, and the crate's sources
+    and those below it. Proofs and wrong bodies change nothing in what is made."""
+    files = [f"{rt.rtlib.KIT}/KIT-ID"]
+    for it in [crate, *crate.below()]:
+        parts = (f"{it.folder}/{part}/" for part in ("src", "specs"))
+        files += sorted(file for part in parts for file in rt.rtlib.files_of(it.folder) if file.startswith(part))
+    return "".join(f"{sum_of(file)}  {os.path.relpath(file) if file.startswith(os.getcwd()) else file}\n" for file in files)
+
+
+def sum_of(file):
+    with open(file, "rb") as it:
+        return hashlib.sha256(it.read()).hexdigest()
+
+
+def are_these(program):
+    """Whether the executable is there, and its sums are those of the sources as they are now."""
+    if not os.path.isfile(program) or not os.path.exists(f"{program}.sums"):
+        return False
+    with open(f"{program}.sums", encoding="utf-8") as it:
+        lines = [line.rstrip("\n").split("  ", 1) for line in it]
+    return all(os.path.isfile(file) and sum_of(file) == sum for sum, file in lines)
+
+
+class Timed(subprocess.Popen):
+    """A process whose seconds of the processor are added to those of the folder that it runs in, once it has ended."""
+
+    spent = collections.Counter()
+
+    def __init__(self, *words, **named):
+        self.folder = named.get("cwd")
+        super().__init__(*words, **named)
+
+    def _try_wait(self, wait_flags):
+        try:
+            pid, status, used = os.wait4(self.pid, wait_flags)
+        except ChildProcessError:
+            return self.pid, 0
+        if pid:
+            Timed.spent[self.folder] += used.ru_utime + used.ru_stime
+        return pid, status
 
 
 def built_from(rt, crate):
