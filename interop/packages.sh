@@ -13,6 +13,7 @@ mkdir -p "$1"
 out=$(cd "$1" && pwd)
 [ -n "$NO_LIBRARY" ] || (cd "$repository" && tools/build snmp_c snmpsec)
 export SNMPSEC_ARCHIVE=$repository/crates/snmp_c/out/libsnmp_c.a SNMPSEC_PROGRAM=${SNMPSEC_PROGRAM:-$repository/crates/snmpsec/out/snmpsec}
+(cd "$repository" && tools/check-proved "$SNMPSEC_ARCHIVE" "$SNMPSEC_PROGRAM")
 # (Debian's Python has the tools, whichever is first on the path)
 export PATH=/usr/sbin:/usr/bin:/sbin:/bin
 

@@ -75,6 +75,8 @@ test_install() {
     [ -x "$program" ] && words=(-DSNMPSEC_PROGRAM="$program")
     cmake -S "$here" -B "$build" -DSNMPSEC_ARCHIVE="$archive" "${words[@]}" -DCMAKE_BUILD_TYPE=Release > "$work/cmake.log" 2>&1 && cmake --build "$build" >> "$work/cmake.log" 2>&1
     check "CMake builds" 0 $?
+    echo unproved_build > "$work/unproved"
+    has "CMake refuses an unproved program" "is an unproved build" "$(cmake -S "$here" -B "$work/refused" -DSNMPSEC_ARCHIVE="$archive" -DSNMPSEC_PROGRAM="$work/unproved" 2>&1 | paste -sd' ')"
     cmake --install "$build" --prefix "$prefix" > "$work/install.log" 2>&1
     check "CMake installs" 0 $?
     look_at_library "$(find "$prefix" -name libsnmpsec.so.0)"
