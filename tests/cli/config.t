@@ -80,7 +80,7 @@ A level isn't one of the three.
 
 An unknown key is reported with the nearest known one.
 
-  $ echo 'user = [{ name = '"'"'ann'"'"', authpassword = '"'"'maplesyrup'"'"' }]' > config
+  $ echo "user = [{ name = 'ann', authpassword = 'maplesyrup' }]" > config
   $ snmpsec check-config config
   refused config user 0 BadKey
   ! snmpsec: user 0: authpassword: not a key of this table, the nearest is auth-password
@@ -92,7 +92,7 @@ An unknown key is reported with the nearest known one.
 
 A key is missing.
 
-  $ echo 'group = [{ name = '"'"'ann'"'"', group = '"'"'g'"'"' }]' > config
+  $ echo "group = [{ name = 'ann', group = 'g' }]" > config
   $ snmpsec check-config config
   refused config group 0 BadKey
   ! snmpsec: group 0: model: missing, a whole number from 0 to 2147483647
@@ -116,7 +116,7 @@ A table is unknown.
 
 Two rows have the same name.
 
-  $ echo 'context = [{ name = '"'"''"'"' }, { name = '"'"''"'"' }]' > config
+  $ echo "context = [{ name = '' }, { name = '' }]" > config
   $ snmpsec check-config config
   refused config context 1 Duplicate
   ! snmpsec: context 1: an earlier row has this name

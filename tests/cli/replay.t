@@ -233,7 +233,7 @@ The configuration is checked before the clocks.
   $ snmpsec replay config none log
   refused config user 0 BadKey
   [1]
-  $ echo 'group = [{ name = '"'"'ann'"'"', group = '"'"'g'"'"' }]' > config
+  $ echo "group = [{ name = 'ann', group = 'g' }]" > config
   $ snmpsec replay config none log
   refused config group 0 BadKey
   [1]

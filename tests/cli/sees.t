@@ -184,7 +184,7 @@ Without contexts there are no lines.
 
 A context with a blank in its name is quoted.
 
-  $ echo 'context = [{ name = '"'"'a b'"'"' }]' > blank
+  $ echo "context = [{ name = 'a b' }]" > blank
   $ snmpsec sees blank 3 eve
   noAuthNoPriv read "a b" noGroupName
   noAuthNoPriv write "a b" noGroupName

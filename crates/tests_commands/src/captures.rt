@@ -74,6 +74,17 @@ fn a_capture_is_read_octet_by_octet(rt: HostRuntime) -> Result<(), Fail> {
     Ok(())
 }
 
+#[test]
+fn without_ports_no_datagram_is_logged(rt: HostRuntime) -> Result<(), Fail> {
+    let told = b"snmpsec: record 2: fragment\nsnmpsec: passed over: another port 3\n";
+    let (mut reader, mut log) = (CAPTURE, Choppy::new(b"", Calls::GOOD));
+    let mut notes = Choppy::new(told, Calls::GOOD);
+    let answer = datagrams(rt.alloc(), &[], "c", &mut reader, &mut log, &mut notes);
+    assert_eq!(rt; without_memory_faults(answer)?, Ok(0));
+    assert!(rt; log.has_all() && notes.has_all());
+    Ok(())
+}
+
 /// What is written and told of the records that come before this read of an octet.
 fn before(read: u32) -> (&'static [u8], &'static [u8]) {
     let log = match read {
