@@ -1,7 +1,15 @@
 The command line: what is wrong with it, and help.
 
-A command needs its arguments.
+A command is needed, with its arguments.
 
+  $ snmpsec
+  ! error: 'snmpsec' requires a subcommand but one was not provided
+  !   [subcommands: show, open, check-access, explain-access, who-sees, sees, check-config, import-snmpd, replay, merge-clocks, check-clocks, check-log, datagrams, manual, version, help]
+  !
+  ! Usage: snmpsec [OPTIONS] <COMMAND>
+  !
+  ! For more information, try '--help'.
+  [2]
   $ snmpsec show
   ! error: the following required arguments were not provided:
   !   <HEX>
@@ -121,7 +129,7 @@ The help of a command explains its arguments and its status.
   $ has merge-clocks examples/station-a.clocks
   $ has datagrams examples/replay/captured.pcap '161 and 162 if left out' 'pcap (or pcapng), hex or dump' 'each from its IP header on'
 
-`manual` prints the same on standard output, with status 0.
+`manual` prints the same on standard output, with status 0 (help.t).
 
   $ for command in show open check-access explain-access who-sees sees check-config import-snmpd replay merge-clocks \
   >   check-clocks check-log datagrams version manual
@@ -141,23 +149,6 @@ The help of a command explains its arguments and its status.
   !
   ! For more information, try '--help'.
   [2]
-
-This is the whole help of one command.
-
-  $ snmpsec manual check-clocks
-  Print how many engines each file of saved clocks has, or what is wrong with it
-  
-  Usage: snmpsec check-clocks [OPTIONS] <FILE>...
-  
-  Arguments:
-    <FILE>...  Saved clocks, each at most 16 MiB
-  
-  Options:
-        --why   Say behind a refusal, on standard error, what is wrong and what is wanted
-    -h, --help  Print help
-  
-  Example: snmpsec check-clocks examples/station-a.clocks
-  Status: 0 sound, 1 a file is refused (what is wrong is told on standard error), 2 a fault of the command line or a file that can't be read.
 
 Arguments must be UTF-8.
 
