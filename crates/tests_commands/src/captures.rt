@@ -5,7 +5,6 @@ use snmpsec_datagrams::datagrams::{Unread, datagrams};
 use snmpsec_datagrams::forms::{Asked, Form, datagrams_of};
 use snmpsec_datagrams::shown::{Printout, write_printout};
 use std::alloc::{AllocError, Global};
-use std::io::Read;
 use std::test::Fail;
 
 /// Four records of 63 octets after a header of 24: a request, a fragment, a datagram of DNS and an answer.
@@ -44,15 +43,18 @@ fn without_memory_faults(answer: Result<u8, Unread>) -> Result<Result<u8, Unread
     Ok(answer)
 }
 
-/// Reads the capture `c`, for ports 161 and 162.
-fn read_capture<R: Read>(
+/// Reads the capture `c`, from or to these ports, an octet a read.
+fn read_capture(
     alloc: Global,
-    reader: &mut R,
+    ports: &[u16],
+    reader: &mut Slow<'_>,
     log: &mut Choppy<'_>,
     notes: &mut Choppy<'_>,
 ) -> Result<Result<u8, Unread>, AllocError> {
-    without_memory_faults(datagrams(alloc, &[161, 162], "c", reader, log, notes))
+    without_memory_faults(datagrams(alloc, ports, "c", reader, log, notes))
 }
+
+const SNMP: [u16; 2] = [161, 162];
 
 #[test]
 fn a_capture_is_read_octet_by_octet(rt: HostRuntime) -> Result<(), Fail> {
@@ -67,9 +69,9 @@ fn a_capture_is_read_octet_by_octet(rt: HostRuntime) -> Result<(), Fail> {
         let mut reader = Slow::new(CAPTURE, Calls::interrupted(reads));
         let mut log = Choppy::new(LOG, Calls::interrupted(writes));
         let mut notes = Choppy::new(NOTES, Calls::GOOD);
-        let answer = read_capture(rt.alloc(), &mut reader, &mut log, &mut notes)?;
-        assert_eq!(rt; answer, wanted);
-        assert_eq!(rt; log.has_all() && notes.has_all(), wanted.is_ok());
+        let answer = read_capture(rt.alloc(), &SNMP, &mut reader, &mut log, &mut notes)?;
+        let is_all = log.has_all() && notes.has_all();
+        assert!(rt; answer == wanted && is_all == wanted.is_ok());
     }
     Ok(())
 }
@@ -77,11 +79,11 @@ fn a_capture_is_read_octet_by_octet(rt: HostRuntime) -> Result<(), Fail> {
 #[test]
 fn without_ports_no_datagram_is_logged(rt: HostRuntime) -> Result<(), Fail> {
     let told = b"snmpsec: record 2: fragment\nsnmpsec: passed over: another port 3\n";
-    let (mut reader, mut log) = (CAPTURE, Choppy::new(b"", Calls::GOOD));
+    let mut reader = Slow::new(CAPTURE, Calls::GOOD);
+    let mut log = Choppy::new(b"", Calls::GOOD);
     let mut notes = Choppy::new(told, Calls::GOOD);
-    let answer = datagrams(rt.alloc(), &[], "c", &mut reader, &mut log, &mut notes);
-    assert_eq!(rt; without_memory_faults(answer)?, Ok(0));
-    assert!(rt; log.has_all() && notes.has_all());
+    let answer = read_capture(rt.alloc(), &[], &mut reader, &mut log, &mut notes)?;
+    assert!(rt; answer == Ok(0) && log.has_all() && notes.has_all());
     Ok(())
 }
 
@@ -102,9 +104,9 @@ fn a_read_that_fails_leaves_the_records_before(rt: HostRuntime) -> Result<(), Fa
         let mut reader = Slow::new(CAPTURE, Calls::failing(read));
         let mut log = Choppy::new(written, Calls::GOOD);
         let mut notes = Choppy::new(told, Calls::GOOD);
-        let answer = read_capture(rt.alloc(), &mut reader, &mut log, &mut notes)?;
-        assert_eq!(rt; answer, Err(Unread::CannotRead));
-        assert!(rt; log.has_all() && notes.has_all(), "read {read}");
+        let answer = read_capture(rt.alloc(), &SNMP, &mut reader, &mut log, &mut notes)?;
+        let is_all = log.has_all() && notes.has_all();
+        assert!(rt; answer == Err(Unread::CannotRead) && is_all, "read {read}");
     }
     Ok(())
 }
@@ -113,20 +115,17 @@ fn a_read_that_fails_leaves_the_records_before(rt: HostRuntime) -> Result<(), Fa
 fn a_write_that_fails_leaves_the_beginning_of_the_log(rt: HostRuntime) -> Result<(), Fail> {
     // Two lines of 22 octets: eight writes of at most three octets each.
     for write in 0..17 {
-        let mut reader = CAPTURE;
+        let mut reader = Slow::new(CAPTURE, Calls::GOOD);
         let mut log = Choppy::new(LOG, Calls::failing(write));
         let mut notes = Choppy::new(NOTES, Calls::GOOD);
-        let answer = read_capture(rt.alloc(), &mut reader, &mut log, &mut notes)?;
+        let answer = read_capture(rt.alloc(), &SNMP, &mut reader, &mut log, &mut notes)?;
         let wanted = if write < 16 {
             Err(Unread::CannotWrite)
         } else {
             Ok(0)
         };
-        assert_eq!(rt; answer, wanted, "write {write}");
-        assert!(rt;
-            log.has_beginning() && notes.has_beginning(),
-            "write {write}"
-        );
+        let is_beginning = log.has_beginning() && notes.has_beginning();
+        assert!(rt; answer == wanted && is_beginning, "write {write}");
     }
     Ok(())
 }
@@ -139,12 +138,12 @@ fn a_last_line_is_written_or_the_beginning_of_it(rt: HostRuntime) -> Result<(), 
     // The line that counts what was passed over, and the line that refuses the capture without its last octet.
     let (_last, cut) = CAPTURE.split_last().ok_or("an octet")?;
     for (octets, wanted, write) in [(CAPTURE, LOG, 10), (cut, CUT, 8)] {
-        let mut reader = octets;
+        let mut reader = Slow::new(octets, Calls::GOOD);
         let mut log = Choppy::new(wanted, Calls::failing(write));
         let mut notes = Choppy::new(NOTES, Calls::failing(write));
-        let answer = read_capture(rt.alloc(), &mut reader, &mut log, &mut notes)?;
-        assert_eq!(rt; answer, Err(Unread::CannotWrite));
-        assert!(rt; log.has_beginning() && notes.has_beginning());
+        let answer = read_capture(rt.alloc(), &SNMP, &mut reader, &mut log, &mut notes)?;
+        let is_beginning = log.has_beginning() && notes.has_beginning();
+        assert!(rt; answer == Err(Unread::CannotWrite) && is_beginning);
     }
     Ok(())
 }
@@ -192,10 +191,10 @@ const fn asked(form: Option<Form>) -> Asked<'static> {
     }
 }
 
-/// Shows the datagrams of the file `f`.
-fn show<R: Read>(
+/// Shows the datagrams of the file `f`, which is read an octet a read.
+fn show(
     alloc: Global,
-    reader: &mut R,
+    reader: &mut Slow<'_>,
     out: &mut Choppy<'_>,
     notes: &mut Choppy<'_>,
 ) -> Result<Result<u8, Unread>, AllocError> {
@@ -203,15 +202,16 @@ fn show<R: Read>(
     without_memory_faults(write_printout(alloc, shown, asked(None), "f", reader, out, notes))
 }
 
+const PASSED_OVER: &[u8] = b"snmpsec: passed over: another port 1\n";
+
 #[test]
 fn a_write_that_fails_leaves_the_beginning_of_what_is_shown(rt: HostRuntime) -> Result<(), Fail> {
     for write in [0, 1, 20, 90] {
-        let mut reader = MESSAGES;
+        let mut reader = Slow::new(MESSAGES, Calls::GOOD);
         let mut out = Choppy::new(SHOWN, Calls::failing(write));
-        let mut notes = Choppy::new(b"snmpsec: passed over: another port 1\n", Calls::GOOD);
+        let mut notes = Choppy::new(PASSED_OVER, Calls::GOOD);
         let answer = show(rt.alloc(), &mut reader, &mut out, &mut notes)?;
-        assert_eq!(rt; answer, Err(Unread::CannotWrite), "write {write}");
-        assert!(rt; out.has_beginning(), "write {write}");
+        assert!(rt; answer == Err(Unread::CannotWrite) && out.has_beginning());
     }
     Ok(())
 }
@@ -220,9 +220,9 @@ fn a_write_that_fails_leaves_the_beginning_of_what_is_shown(rt: HostRuntime) -> 
 fn what_is_shown_is_read_octet_by_octet(rt: HostRuntime) -> Result<(), Fail> {
     let mut reader = Slow::new(MESSAGES, Calls::interrupted(1));
     let mut out = Choppy::new(SHOWN, Calls::interrupted(1));
-    let mut notes = Choppy::new(b"snmpsec: passed over: another port 1\n", Calls::GOOD);
-    assert_eq!(rt; show(rt.alloc(), &mut reader, &mut out, &mut notes)?, Ok(1));
-    assert!(rt; out.has_all() && notes.has_all());
+    let mut notes = Choppy::new(PASSED_OVER, Calls::GOOD);
+    let answer = show(rt.alloc(), &mut reader, &mut out, &mut notes)?;
+    assert!(rt; answer == Ok(1) && out.has_all() && notes.has_all());
     Ok(())
 }
 
@@ -260,8 +260,7 @@ fn pasted_texts_are_read_octet_by_octet(rt: HostRuntime) -> Result<(), Fail> {
         let mut log = Choppy::new(b"7 3003020103\n", Calls::interrupted(1));
         let mut notes = Choppy::new(told, Calls::GOOD);
         let answer = read_text(rt.alloc(), *form, &mut reader, &mut log, &mut notes)?;
-        assert_eq!(rt; answer, Ok(0));
-        assert!(rt; log.has_all() && notes.has_all());
+        assert!(rt; answer == Ok(0) && log.has_all() && notes.has_all());
     }
     Ok(())
 }
@@ -273,8 +272,8 @@ fn a_text_whose_read_fails_has_no_log(rt: HostRuntime) -> Result<(), Fail> {
         let mut log = Choppy::new(b"", Calls::GOOD);
         let mut notes = Choppy::new(b"", Calls::GOOD);
         let answer = read_text(rt.alloc(), None, &mut reader, &mut log, &mut notes)?;
-        assert_eq!(rt; answer, Err(Unread::CannotRead), "read {read}");
-        assert!(rt; log.has_all() && notes.has_all(), "read {read}");
+        let is_all = log.has_all() && notes.has_all();
+        assert!(rt; answer == Err(Unread::CannotRead) && is_all, "read {read}");
     }
     Ok(())
 }

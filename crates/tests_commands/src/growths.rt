@@ -11,8 +11,7 @@ use std::test::Fail;
 
 /// Looks at what is printed, on standard output and on standard error.
 fn expect<R: Abort>(rt: &R, output: &Output, out: &str, err: &str) {
-    assert_eq!(rt; output.out.as_slice(), out.as_bytes());
-    assert_eq!(rt; output.err.as_slice(), err.as_bytes());
+    assert!(rt; output.out.as_slice() == out.as_bytes() && output.err.as_slice() == err.as_bytes());
 }
 
 /// A message with a sealed scoped PDU.
@@ -384,9 +383,8 @@ fn a_refused_growth_writes_whole_lines(rt: HostRuntime) -> Result<(), Fail> {
     let mut notes = Choppy::new(b"snmpsec: record 2: fragment\n", Calls::GOOD);
     let mut reader = TWO;
     let answer = write_datagrams(rt.alloc(), &[161], &mut reader, &mut log, &mut notes);
+    let is_whole = log.has_all() && (notes.has_all() || notes.has_nothing());
     assert!(rt; answer.is_ok() || answer == Err(CaptureFault::OutOfMemory));
-    assert!(rt; log.has_all() || log.has_nothing());
-    assert!(rt; notes.has_all() || notes.has_nothing());
-    assert!(rt; log.has_all() || notes.has_nothing());
+    assert!(rt; is_whole || (log.has_nothing() && notes.has_nothing()));
     Ok(())
 }

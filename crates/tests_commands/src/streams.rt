@@ -166,13 +166,11 @@ fn a_file_is_read_whole_up_to_a_limit(rt: HostRuntime) -> Result<(), Fail> {
     for interruptions in [0, 1, 999] {
         assert!(rt; is_read(alloc, 6, Calls::interrupted(interruptions))?);
     }
-    assert!(rt; !is_read(alloc, 5, Calls::GOOD)?, "over the limit");
-    assert!(rt;
-        !is_read(alloc, 6, Calls::interrupted(1000))?,
-        "interrupted"
-    );
+    // Over the limit, interrupted too often, and at each read that fails.
+    assert!(rt; !is_read(alloc, 5, Calls::GOOD)?);
+    assert!(rt; !is_read(alloc, 6, Calls::interrupted(1000))?);
     for read in 0..7 {
-        assert!(rt; !is_read(alloc, 6, Calls::failing(read))?, "read {read}");
+        assert!(rt; !is_read(alloc, 6, Calls::failing(read))?);
     }
     Ok(())
 }
