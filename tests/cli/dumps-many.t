@@ -185,6 +185,17 @@ The column of text doesn't match the octets.
   ! snmpsec: line 1: behind the offset pairs of hex digits are wanted, and perhaps a column that shows their octets, as hexdump -C and od -tx1 print them
   [1]
 
+Only blanks may be before the column.
+
+  $ printf '0000  30 31  x|01|\n' | read_dumps
+  refused datagrams f line 1
+  ! snmpsec: line 1: behind the offset pairs of hex digits are wanted, and perhaps a column that shows their octets, as hexdump -C and od -tx1 print them
+  [1]
+  $ printf '0000  30 31  x>01<\n' | read_dumps
+  refused datagrams f line 1
+  ! snmpsec: line 1: behind the offset pairs of hex digits are wanted, and perhaps a column that shows their octets, as hexdump -C and od -tx1 print them
+  [1]
+
 The column needs two blanks before it.
 
   $ printf '00000000: 302e 0.\n' | read_dumps
