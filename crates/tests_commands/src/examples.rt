@@ -1,0 +1,21 @@
+//! An example of each library: `tools/crate-examples` puts it at the head of the library's root file.
+mod of_snmpd_simple;
+mod of_snmpd_users;
+mod of_snmpd_words;
+mod of_snmpsec_access;
+mod of_snmpsec_capture;
+mod of_snmpsec_choices;
+mod of_snmpsec_commands;
+mod of_snmpsec_datagrams;
+mod of_snmpsec_dump;
+mod of_snmpsec_files;
+mod of_snmpsec_hex;
+mod of_snmpsec_hints;
+mod of_snmpsec_import;
+mod of_snmpsec_imported;
+mod of_snmpsec_lists;
+mod of_snmpsec_notes;
+mod of_snmpsec_packet;
+mod of_snmpsec_streams;
+mod of_snmpsec_texts;
+mod of_snmpsec_words;

@@ -1,0 +1,77 @@
+//! What no command of the program reaches: other limits, texts of several lines, and answers that no command prints.
+
+use snmpd_users::{Hash, hash_of};
+use snmpd_words::{Subtree, go_on, subtree_of, take_token, take_word};
+use snmpsec_capture::{Lines, packets_log};
+use snmpsec_hex::dump_line;
+use snmpsec_notes::with_names;
+use snmpsec_texts::merge_text;
+use std::alloc::Global;
+use std::test::Fail;
+
+#[test]
+fn a_line_without_its_end_has_no_name(rt: HostRuntime) -> Result<(), Fail> {
+    let named = with_names(rt.alloc(), b"user 61")?;
+    assert!(rt; named.as_slice() == b"user 61".as_slice());
+    Ok(())
+}
+
+#[test]
+fn no_files_are_merged(rt: HostRuntime) -> Result<(), Fail> {
+    let output = merge_text(rt.alloc(), 7, &[])?;
+    assert!(rt; output.status == 0 && output.out.as_slice() == b"snmp-clocks 2\n".as_slice());
+    Ok(())
+}
+
+/// The words for what was passed over of some packets, of which no line tells.
+fn passed_over(alloc: Global, packets: &[Vec<u8>]) -> Result<String, Fail> {
+    let told = packets_log(alloc, &[161, 162], 7, packets, &mut Lines)?;
+    if !told.log.is_empty() || !told.notes.is_empty() {
+        return Err("lines".into());
+    }
+    Ok(told.passed.words(alloc)?)
+}
+
+#[test]
+fn a_packet_without_an_octet_is_not_ip(rt: HostRuntime) -> Result<(), Fail> {
+    assert!(rt; passed_over(rt.alloc(), &[])?.is_empty());
+    let mut packets = Vec::new(rt.alloc());
+    packets.push(Vec::new(rt.alloc()))?;
+    assert!(rt; passed_over(rt.alloc(), &packets)?.as_str() == "not IP 1");
+    Ok(())
+}
+
+#[test]
+fn the_line_of_a_dump_is_counted(rt: HostRuntime) {
+    let third = b"Frame 1:\r\n\r\n0000  30 03\r\n";
+    assert!(rt; dump_line(b"0000000 30 03 02 01 03\n0000005\n") == Some(1));
+    assert!(rt; dump_line(third) == Some(3));
+    assert!(rt; dump_line(b"0010  30\n0000\t30\n0000 30\n") == Some(2));
+}
+
+#[test]
+fn the_two_longest_hashes_are_told_apart(rt: HostRuntime) {
+    assert!(rt; hash_of(b"SHA3") == Some(Hash::Sha384) && hash_of(b"SHA5") == Some(Hash::Sha512));
+}
+
+#[test]
+fn a_word_may_have_no_octet(rt: HostRuntime) -> Result<(), Fail> {
+    let word = take_word(rt.alloc(), b"abc g", 0)?;
+    assert!(rt; word.octets.is_empty() && word.rest == Some(b"g".as_slice()));
+    let word = take_word(rt.alloc(), b"", 5)?;
+    assert!(rt; word.octets.is_empty() && word.rest.is_none());
+    Ok(())
+}
+
+#[test]
+fn a_line_feed_is_a_gap(rt: HostRuntime) {
+    let parts = (b"g".as_slice(), b"\t x".as_slice());
+    assert!(rt; take_token(b"g\n\t x") == Some(parts) && take_token(b" \t\n").is_none());
+    assert!(rt; go_on(b" \t\x0b\x0c\r\nx ") == Some(b"x ".as_slice()));
+}
+
+#[test]
+fn no_subtree_has_a_blank(rt: HostRuntime) {
+    let blank = subtree_of(b"1 ");
+    assert!(rt; subtree_of(b"") == Subtree::NotInNumbers && blank == Subtree::NotInNumbers);
+}
