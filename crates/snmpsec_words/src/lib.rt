@@ -17,6 +17,8 @@ ghost use Rattle.clap.specs.declared.error.kind.ErrorKind.TheVariants.{InvalidVa
 mod access;
 mod asked;
 mod capture;
+mod forms;
+mod given;
 mod import;
 mod messages;
 mod own;
@@ -29,12 +31,16 @@ use access::access_words;
 pub use asked::{Asked, parse_asked};
 pub use capture::{DatagramsWords, FromWords};
 use clap::error::ErrorKind;
-use clap::{Arg, ArgAction, ArgMatches, Error};
+use clap::{ArgMatches, Error};
+use forms::{parser, words_of};
+use given::{given, missing};
 pub use import::ImportWords;
 pub use own::{VERSION, manual_text, version_text};
 pub use replay::ReplayWords;
+use replay::replay_words;
 use std::alloc::{AllocError, Global};
 pub use wide::{SeesWords, WhoWords};
+use wide::{sees_words, who_words};
 
 /// A command with its words. None of them has been looked at beyond what the parser asks.
 #[derive(Drop)]
@@ -94,178 +100,141 @@ pub enum Command<'a> {
     Version,
 }
 
-/// A word that must be given: its name, and what it is.
-type Word = (&'static str, &'static str);
+/// Why no command can be read from what the parser took. It refuses itself what lacks a word or a command.
+#[derive(Clone, Copy)]
+pub(crate) enum Unread {
+    /// A word that must be given is missing.
+    Missing(&'static str),
+    NoCommand,
+    OutOfMemory,
+}
 
-/// What the files of saved clocks are.
-const CLOCKS_FILES: &str = "Saved clocks, each at most 16 MiB";
-
-/// The file of a configuration.
-const CONFIG: Word = (
-    "CONFIG",
-    "TOML file with users, contexts, groups, access rows and families",
-);
-
-const MODEL: Word = (
-    "MODEL",
-    "Number of the security model: 3 is the user-based one",
-);
-
-const NAME: Word = ("NAME", "Security name: with model 3 the user's name");
-
-const VARIABLE: Word = (
-    "OID",
-    "The variable, as 1.3.6.1.2.1.1.5.0: no name, no dot in front",
-);
-
-/// The command with these words behind those that it has, each of which must be given.
-fn with_words<'a>(
-    alloc: Global,
-    command: clap::Command<'a>,
-    words: &[(&'a str, &'a str)],
-) -> Result<clap::Command<'a>, AllocError> {
-    let mut command = command;
-    for (name, help) in words {
-        command = command.arg(word(alloc, name, help))?;
+impl From<AllocError> for Unread {
+    fn from(_: AllocError) -> Unread {
+        Unread::OutOfMemory
     }
-    Ok(command)
 }
 
-/// A word that must be given, and what it is.
-fn word<'a>(alloc: Global, name: &'a str, help: &'a str) -> Arg<'a> {
-    Arg::new(alloc, name)
-        .required(true)
-        .action(ArgAction::Set)
-        .help(help)
-}
-
-/// One or more files.
-fn files<'a>(alloc: Global, help: &'a str) -> Arg<'a> {
-    word(alloc, "FILE", help)
-        .num_args(1..)
-        .action(ArgAction::Append)
-}
-
-/// The parser with this command too, or the want of memory to make it.
-fn with<'a>(
-    parser: clap::Command<'a>,
-    command: Result<clap::Command<'a>, AllocError>,
-) -> Result<clap::Command<'a>, AllocError> {
-    parser.subcommand(command?)
-}
-
-/// The commands that look into a message.
-fn with_messages<'a>(
-    alloc: Global,
-    parser: clap::Command<'a>,
-) -> Result<clap::Command<'a>, AllocError> {
-    let parser = with(parser, messages::show(alloc))?;
-    with(parser, messages::open(alloc))
-}
-
-/// The commands that ask a configuration, or make one.
-fn with_access<'a>(
-    alloc: Global,
-    parser: clap::Command<'a>,
-) -> Result<clap::Command<'a>, AllocError> {
-    let parser = with(parser, access::check_access(alloc))?;
-    let parser = with(parser, access::explain_access(alloc))?;
-    let parser = with(parser, wide::who_sees(alloc))?;
-    let parser = with(parser, wide::sees(alloc))?;
-    let parser = with(parser, access::check_config(alloc))?;
-    with(parser, import::import_snmpd(alloc))
-}
-
-/// The commands that read logs, clocks and captures.
-fn with_logs<'a>(
-    alloc: Global,
-    parser: clap::Command<'a>,
-) -> Result<clap::Command<'a>, AllocError> {
-    let parser = with(parser, replay::replay(alloc))?;
-    let parser = with(parser, replay::merge_clocks(alloc))?;
-    let parser = with(parser, saved::check_clocks(alloc))?;
-    let parser = with(parser, saved::check_log(alloc))?;
-    with(parser, capture::datagrams(alloc))
-}
-
-/// The commands about the program itself.
-fn with_own<'a>(alloc: Global, parser: clap::Command<'a>) -> Result<clap::Command<'a>, AllocError> {
-    let parser = with(parser, own::manual(alloc))?;
-    parser.subcommand(own::version(alloc))
-}
-
-/// The parser of the command line.
-fn parser<'a>(alloc: Global) -> Result<clap::Command<'a>, AllocError> {
-    let parser = clap::Command::new(alloc, "snmpsec")
-        .about("Looks into SNMPv3 messages, view-based access, logs of datagrams and saved clocks")
-        .subcommand_required(true)
-        .arg(asked::why(alloc))?;
-    let parser = with_messages(alloc, parser)?;
-    let parser = with_access(alloc, parser)?;
-    let parser = with_logs(alloc, parser)?;
-    with_own(alloc, parser)
-}
-
-/// The word of an argument that the parser requires.
-fn given<'a>(alloc: Global, words: &ArgMatches<'a>, name: &str) -> Result<&'a str, Error> {
-    match words.get_str(name) {
-        Some(word) => Ok(word),
-        None => Err(parser(alloc)?.error(ErrorKind::MissingRequiredArgument, name)?),
-    }
+/// What the parser makes of a command line, the program's name first.
+fn matches_of<'a>(alloc: Global, words: &'a [String]) -> Result<ArgMatches<'a>, Error> {
+    parser(alloc)?.try_get_matches_from(words)
 }
 
 /// Reads the words of a command line, the program's name first. A request for help is an error too.
 pub fn parse<'a>(alloc: Global, words: &'a [String]) -> Result<Command<'a>, Error> {
-    let matches = parser(alloc)?.try_get_matches_from(words)?;
+    let matches = matches_of(alloc, words)?;
     command_of(alloc, &matches)
 }
 
-/// The command that was given, with its words.
+/// The command that was given, with its words, or the refusal.
 fn command_of<'a>(alloc: Global, matches: &ArgMatches<'a>) -> Result<Command<'a>, Error> {
-    match matches.subcommand() {
-        Some(("show", words)) => messages::show_words(alloc, words),
-        Some(("open", words)) => messages::open_words(alloc, words),
-        Some(("check-access", words)) => Ok(Command::CheckAccess(access_words(alloc, words)?)),
-        Some(("explain-access", words)) => Ok(Command::ExplainAccess(access_words(alloc, words)?)),
-        Some(("who-sees", words)) => wide::who_words(alloc, words),
-        Some(("sees", words)) => wide::sees_words(alloc, words),
-        Some(("check-config", words)) => access::config_words(alloc, words),
-        Some(("import-snmpd", words)) => import::import_words(alloc, words),
-        Some((name, words)) => log_command(alloc, name, words),
-        None => Err(no_command(alloc)?),
+    match command_given(alloc, matches) {
+        Ok(command) => Ok(command),
+        Err(fault) => Err(refused(alloc, fault)?),
     }
 }
 
-/// The command on logs, clocks or captures with this name, or on the program itself.
-fn log_command<'a>(
+/// The command that was given, with its words.
+fn command_given<'a>(alloc: Global, matches: &ArgMatches<'a>) -> Result<Command<'a>, Unread> {
+    match matches.subcommand() {
+        Some((name, words)) => command_named(alloc, name, words),
+        None => Err(Unread::NoCommand),
+    }
+}
+
+/// The command of this name, with its words.
+fn command_named<'a>(
     alloc: Global,
     name: &str,
     words: &ArgMatches<'a>,
-) -> Result<Command<'a>, Error> {
-    match name {
-        "replay" => replay::replay_words(alloc, words),
-        "merge-clocks" => replay::merge_words(alloc, words),
-        "check-clocks" => saved::clocks_words(alloc, words),
-        "check-log" => saved::log_words(alloc, words),
-        "datagrams" => capture::datagrams_words(alloc, words),
-        "manual" => Ok(Command::Manual {
-            command: words.get_str("COMMAND"),
-        }),
-        "version" => Ok(Command::Version),
-        _ => Err(no_command(alloc)?),
+) -> Result<Command<'a>, Unread> {
+    match missing(words, words_of(name)) {
+        Some(word) => Err(Unread::Missing(word)),
+        None => read_command(alloc, name, words),
     }
 }
 
-/// The refusal of a command line without a command.
-fn no_command(alloc: Global) -> Result<Error, AllocError> {
-    parser(alloc)?.error(ErrorKind::MissingSubcommand, "a command is missing")
+/// The command of this name, whose words are all there.
+fn read_command<'a>(
+    alloc: Global,
+    name: &str,
+    words: &ArgMatches<'a>,
+) -> Result<Command<'a>, Unread> {
+    match plain_command(name, words) {
+        Some(command) => Ok(command),
+        None => listing_command(alloc, name, words),
+    }
+}
+
+/// The command of this name, if it is one whose words are each given once.
+fn plain_command<'a>(name: &str, words: &ArgMatches<'a>) -> Option<Command<'a>> {
+    match name {
+        "replay" => Some(Command::Replay(replay_words(words))),
+        "check-log" => Some(Command::CheckLog {
+            log: given(words, "LOG"),
+        }),
+        "manual" => Some(Command::Manual {
+            command: words.get_str("COMMAND"),
+        }),
+        "version" => Some(Command::Version),
+        _ => access_command(name, words),
+    }
+}
+
+/// The command of this name, if it is one that asks a configuration.
+fn access_command<'a>(name: &str, words: &ArgMatches<'a>) -> Option<Command<'a>> {
+    match name {
+        "check-access" => Some(Command::CheckAccess(access_words(words))),
+        "explain-access" => Some(Command::ExplainAccess(access_words(words))),
+        "who-sees" => Some(Command::WhoSees(who_words(words))),
+        "sees" => Some(Command::Sees(sees_words(words))),
+        "check-config" => Some(Command::CheckConfig {
+            config: given(words, "CONFIG"),
+        }),
+        _ => None,
+    }
+}
+
+/// The command of this name, if it is one of which a word may be given again.
+fn listing_command<'a>(
+    alloc: Global,
+    name: &str,
+    words: &ArgMatches<'a>,
+) -> Result<Command<'a>, Unread> {
+    match name {
+        "show" => messages::show_words(alloc, words),
+        "open" => messages::open_words(alloc, words),
+        "datagrams" => capture::datagrams_words(alloc, words),
+        "import-snmpd" => import::import_words(alloc, words),
+        "merge-clocks" => replay::merge_words(alloc, words),
+        "check-clocks" => saved::clocks_words(alloc, words),
+        _ => Err(Unread::NoCommand),
+    }
+}
+
+/// The refusal of a command line, in the parser's words. The error says that memory ran out.
+fn refusal(alloc: Global, kind: ErrorKind, message: &str) -> Result<Error, AllocError>
+    ensures { IfOk result (λ fault. kind_of fault ≡ kind) }
+{
+    let mut parser = parser(alloc)?;
+    parser.error(kind, message)
+}
+
+/// The refusal of a command line whose command can't be read.
+fn refused(alloc: Global, fault: Unread) -> Result<Error, AllocError> {
+    match fault {
+        Unread::Missing(name) => refusal(alloc, ErrorKind::MissingRequiredArgument, name),
+        Unread::NoCommand => refusal(alloc, ErrorKind::MissingSubcommand, "a command is missing"),
+        Unread::OutOfMemory => Err(AllocError),
+    }
 }
 
 /// The refusal of words that are no text.
 pub fn not_text(alloc: Global) -> Result<Error, AllocError>
     ensures kind { IfOk result (λ fault. kind_of fault ≡ InvalidValue) }
 {
-    parser(alloc)?.error(
+    refusal(
+        alloc,
         ErrorKind::InvalidValue,
         "invalid UTF-8 was detected in one or more arguments",
     )
