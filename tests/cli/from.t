@@ -57,9 +57,11 @@ With `--names` some lines have a name.
 
 The file `-` is standard input.
 
-  $ snmpsec show --port 161 --from - < capture | head -n 1
-  datagram 1 1700000000
+  $ snmpsec show --port 161 --from - < capture > shown
   ! snmpsec: passed over: another port 1
+  [1]
+  $ head -n 1 shown
+  datagram 1 1700000000
 
 The file has one record, two, two and a part of the third, and all three.
 
