@@ -48,5 +48,3 @@ pub use snmp_answers::{
 };
 pub use unhandled::Unhandled;
 
-#[cfg(test)]
-mod tests;

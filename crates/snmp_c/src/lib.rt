@@ -18,5 +18,3 @@ mod manager_calls;
 pub mod privacy;
 pub mod reports;
 mod reports_calls;
-#[cfg(test)]
-mod tests;

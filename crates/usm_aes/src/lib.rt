@@ -25,5 +25,3 @@ mod field;
 mod key_expansion;
 mod lanes;
 pub mod laws;
-#[cfg(test)]
-mod tests;

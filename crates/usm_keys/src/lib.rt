@@ -29,5 +29,3 @@ mod kept_key;
 mod key;
 mod message_mac;
 mod pads;
-#[cfg(test)]
-mod tests;
