@@ -56,7 +56,10 @@ fn a_refused_growth_writes_no_binding(rt: HostRuntime) -> Result<(), Fail> {
 }
 
 /// The bindings of a PDU, as they come.
-fn collected_in_octets<'a>(alloc: Global, pdu: &Pdu<'a>) -> Result<Vec<VariableBinding<'a>>, AllocError>
+fn collected_in_octets<'a>(
+    alloc: Global,
+    pdu: &Pdu<'a>,
+) -> Result<Vec<VariableBinding<'a>>, AllocError>
     ensures { IfOk result (λ v. All (λ b. IsTag b.tag) v.items) }
 {
     let mut bindings = Vec::new(alloc);

@@ -3,12 +3,12 @@
 ghost use Rattle.std.specs.Prelude.{ℕ, List, IfOk};
 ghost use Rattle.snmp_ber.specs.Element.{IsElement};
 
+use engine_clock::Pair;
 use snmp_ber::Level;
 use snmp_msg::{Header, WriteFault, write_pdu, write_scoped};
 use std::alloc::{AllocError, Global};
 use std::process::Abort;
 use std::test::Fail;
-use engine_clock::Pair;
 use usm_core::*;
 use usm_keys::Auth;
 
@@ -47,7 +47,10 @@ pub fn users_after_refusal(alloc: Global) -> Result<Users, Fail> {
 /// `ann` has the keys of each level, and nobody else has any.
 fn assert_supports(rt: &impl Abort, users: &Users) {
     assert_eq!(rt; users.supports(b"ann", Level::AuthPriv), Ok(()));
-    assert_eq!(rt; users.supports(b"bob", Level::AuthPriv), Err(UsmFault::UnknownUser));
+    assert_eq!(rt;
+        users.supports(b"bob", Level::AuthPriv),
+        Err(UsmFault::UnknownUser)
+    );
 }
 
 #[test]
@@ -99,7 +102,14 @@ pub fn sealed(
         reportable: true,
         model: 3,
     };
-    users.seal(&header, engine, pair, b"ann", [0, 1, 2, 3, 4, 5, 6, 7], &scoped)
+    users.seal(
+        &header,
+        engine,
+        pair,
+        b"ann",
+        [0, 1, 2, 3, 4, 5, 6, 7],
+        &scoped,
+    )
 }
 
 /// The message, asked for again where a growth was refused.
@@ -126,7 +136,10 @@ fn opened(users: &mut Users, datagram: &[u8]) -> Result<Option<Vec<u8>>, UsmFaul
 
 /// A message is sealed and opened, each asked for again where a growth was refused.
 fn assert_sealed_and_opened(rt: &impl Abort, users: &mut Users, alloc: Global) -> Result<(), Fail> {
-    let pair = Pair { boots: 7, time: 1000 };
+    let pair = Pair {
+        boots: 7,
+        time: 1000,
+    };
     let text = sealed_after_refusal(users, alloc, &ENGINE, pair)?;
     let plain = match opened(users, &text) {
         Err(UsmFault::OutOfMemory) => opened(users, &text)?,
@@ -150,7 +163,9 @@ const SAMPLE: &str =
 fn authentic_of_three(users: &mut Users, datagram: &[u8]) -> u8 {
     let mut authentic = 0u8;
     for _ in 0..3 {
-        authentic = authentic.saturating_add(u8::from(users.open_auth(Role::Manager, datagram).is_ok()));
+        authentic = authentic.saturating_add(u8::from(
+            users.open_auth(Role::Manager, datagram).is_ok(),
+        ));
     }
     authentic
 }

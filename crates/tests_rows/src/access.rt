@@ -129,7 +129,8 @@ impl Views {
         question_of(alloc, tables, words)
     }
 
-    /// `explain MODEL NAME LEVEL VIEW CONTEXT ARCS`: the answer of tables of the rows, and the positions of those that decide.
+    /// `explain MODEL NAME LEVEL VIEW CONTEXT ARCS`: the answer of tables of the rows, and the positions of those
+    /// that decide.
     fn explain(&self, alloc: Global, words: &[Word<'_>]) -> Result<String> {
         let [model, name, level, view, context, arcs] = words else {
             bail!("explain MODEL NAME LEVEL VIEW CONTEXT ARCS");
@@ -214,7 +215,12 @@ impl fmt::Display for Steps<'_> {
         let Some(group) = &context.group else {
             return Ok(());
         };
-        write!(f, " group {} {}", group.position, Text(group.name.as_slice()))?;
+        write!(
+            f,
+            " group {} {}",
+            group.position,
+            Text(group.name.as_slice())
+        )?;
         match &group.access {
             Some(access) => write!(f, " access {}{}", access.position, Viewed(access)),
             None => Ok(()),
@@ -229,7 +235,12 @@ struct Viewed<'a>(&'a AccessStep);
 impl fmt::Display for Viewed<'_> {
     fn fmt<W: fmt::Write>(&self, f: &mut fmt::Formatter<W>) -> fmt::Result {
         match &self.0.view {
-            Some(view) => write!(f, " view {} family {:?}", Text(view.name.as_slice()), view.family),
+            Some(view) => write!(
+                f,
+                " view {} family {:?}",
+                Text(view.name.as_slice()),
+                view.family
+            ),
             None => Ok(()),
         }
     }

@@ -25,9 +25,22 @@ const SALT: [u8; 8] = [0, 1, 2, 3, 4, 5, 6, 7];
 pub fn has(kind: &str) -> bool {
     matches!(
         kind,
-        "agent_take" | "agent_read" | "counters" | "respond" | "respond_of" | "respond_kept"
-            | "fronts" | "decide" | "may" | "allows" | "notify" | "notify_of" | "unhandled"
-            | "refuse" | "count" | "status_of"
+        "agent_take"
+            | "agent_read"
+            | "counters"
+            | "respond"
+            | "respond_of"
+            | "respond_kept"
+            | "fronts"
+            | "decide"
+            | "may"
+            | "allows"
+            | "notify"
+            | "notify_of"
+            | "unhandled"
+            | "refuse"
+            | "count"
+            | "status_of"
     )
 }
 
@@ -106,7 +119,12 @@ fn decide(agent: &mut Agent, alloc: Global, now: &Word<'_>, datagram: &Word<'_>)
 }
 
 /// `unhandled NOW DATAGRAM`: why nothing answers what is accepted.
-fn unhandled(agent: &mut Agent, alloc: Global, now: &Word<'_>, datagram: &Word<'_>) -> Result<String> {
+fn unhandled(
+    agent: &mut Agent,
+    alloc: Global,
+    now: &Word<'_>,
+    datagram: &Word<'_>,
+) -> Result<String> {
     let taken = accepted(agent, now, datagram.octets()?)?;
     Ok(format!(in alloc; "{:?}", agent.unhandled(&taken))?)
 }
@@ -130,7 +148,10 @@ fn may(agent: &Agent, alloc: Global, words: &[Word<'_>]) -> Result<String> {
     };
     let arcs = Oid::from_text(arcs.text).context("arcs")?;
     let (level, view) = (level.level()?, view_of(view)?);
-    access_text(alloc, agent.may(name.name(), level, context.name(), view, &arcs))
+    access_text(
+        alloc,
+        agent.may(name.name(), level, context.name(), view, &arcs),
+    )
 }
 
 /// `allows NOW DATAGRAM VIEW ARCS`: whether the sender of an accepted message may see a variable.
@@ -143,7 +164,8 @@ fn allows(agent: &mut Agent, alloc: Global, words: &[Word<'_>]) -> Result<String
     access_text(alloc, agent.allows(&taken, view_of(view)?, &arcs))
 }
 
-/// `status_of TAG`: what becomes of a variable in a PDU of this tag, for each answer on access in the order of their numbers.
+/// `status_of TAG`: what becomes of a variable in a PDU of this tag, for each answer on access in the order of their
+/// numbers.
 fn statuses(alloc: Global, tag: &Word<'_>) -> Result<String> {
     let tag = tag.octet()?;
     let mut text = "status".to_string(alloc)?;
@@ -186,7 +208,10 @@ fn notify(agent: &mut Agent, alloc: Global, words: &[Word<'_>]) -> Result<String
         third: pdu.third,
         bindings: &bindings,
     };
-    sent(alloc, agent.notify(now.number()?, id, user, level.level()?, &body, SALT))
+    sent(
+        alloc,
+        agent.notify(now.number()?, id, user, level.level()?, &body, SALT),
+    )
 }
 
 /// `notify_of ..`: the same notification with names in octets.
@@ -206,11 +231,22 @@ fn notify_of(agent: &mut Agent, alloc: Global, words: &[Word<'_>]) -> Result<Str
         second: pdu.second,
         third: pdu.third,
     };
-    sent(alloc, agent.notify_of(now.number()?, id, user, level.level()?, &front, &bindings, SALT))
+    sent(
+        alloc,
+        agent.notify_of(
+            now.number()?,
+            id,
+            user,
+            level.level()?,
+            &front,
+            &bindings,
+            SALT,
+        ),
+    )
 }
 
-/// `respond`, `respond_of`, `respond_kept` or `fronts`, each NOW DATAGRAM PDU: the Response with status 0, index 0 and the bindings
-/// of the PDU to an accepted message.
+/// `respond`, `respond_of`, `respond_kept` or `fronts`, each NOW DATAGRAM PDU: the Response with status 0, index 0
+/// and the bindings of the PDU to an accepted message.
 fn responding(
     agent: &mut Agent,
     alloc: Global,
@@ -270,8 +306,8 @@ fn count_within(
     }
 }
 
-/// Whether the Response with these first bindings is written if there is room for it and for no octet more, and one with a binding
-/// fewer, or none, if there is an octet less.
+/// Whether the Response with these first bindings is written if there is room for it and for no octet more, and one
+/// with a binding fewer, or none, if there is an octet less.
 fn has_front(
     agent: &mut Agent,
     now: u64,

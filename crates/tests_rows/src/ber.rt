@@ -84,7 +84,10 @@ fn content(alloc: Global, words: &[Word<'_>]) -> Result<String> {
         bail!("int_content NUMBER");
     };
     let number = number.text.parse::<i64>()?;
-    ensure!(-2_147_483_648 <= number && number <= 4_294_967_295, "a number of 32 bits");
+    ensure!(
+        -2_147_483_648 <= number && number <= 4_294_967_295,
+        "a number of 32 bits"
+    );
     Ok(format!(in alloc; "{}", Hex(&int_content(number)))?)
 }
 
@@ -111,8 +114,8 @@ fn oid(alloc: Global, words: &[Word<'_>]) -> Result<String> {
     }
 }
 
-/// `put_oid BEFORE ARCS`: the octets from before with the identifier after them, and the length that was told; or that no
-/// subidentifier can hold the first two arcs.
+/// `put_oid BEFORE ARCS`: the octets from before with the identifier after them, and the length that was told; or
+/// that no subidentifier can hold the first two arcs.
 fn written_oid(alloc: Global, words: &[Word<'_>]) -> Result<String> {
     let [before, arcs] = words else {
         bail!("put_oid BEFORE ARCS");

@@ -1,4 +1,5 @@
-//! What is known of engines: pairs of boots and time, their joins, saved texts and time windows (RFC 3414, sections 2.2 and 3.2).
+//! What is known of engines: pairs of boots and time, their joins, saved texts and time windows (RFC 3414, sections
+//! 2.2 and 3.2).
 
 use crate::row::{Row, Word};
 use crate::shown::{Hex, Text, none, silent};
@@ -91,7 +92,8 @@ impl Held {
         silent(alloc)
     }
 
-    /// `read_saved TEXT NOW`: whether it is read, or its first line at fault. What is read takes the place of the clocks.
+    /// `read_saved TEXT NOW`: whether it is read, or its first line at fault. What is read takes the place of the
+    /// clocks.
     fn read(&mut self, alloc: Global, text: &Word<'_>, now: &Word<'_>) -> Result<String> {
         match Clocks::read_saved(alloc, text.octets()?, now.number()?) {
             Ok(clocks) => self.clocks = clocks,
@@ -126,7 +128,10 @@ pub fn pair_text(alloc: Global, pair: Option<Pair>) -> Result<String> {
 /// Boots and time, and the timestamp at which they were seen.
 pub fn mark_text(alloc: Global, mark: Option<Mark>) -> Result<String> {
     match mark {
-        Some(Mark { pair, seen }) => Ok(format!(in alloc; "{} {} seen {seen}", pair.boots, pair.time)?),
+        Some(Mark { pair, seen }) => Ok(format!(in alloc;
+            "{} {} seen {seen}",
+            pair.boots, pair.time
+        )?),
         None => none(alloc),
     }
 }
@@ -191,7 +196,10 @@ fn mark_in(word: &Word<'_>) -> Result<Option<Mark>> {
     let (pair, seen) = word.text.split_once('@').context("BOOTS/TIME@SEEN")?;
     let (boots, time) = pair.split_once('/').context("BOOTS/TIME")?;
     let pair = Pair::of(boots.parse::<u32>()?, time.parse::<u32>()?).context("a pair")?;
-    Ok(Some(Mark { pair, seen: seen.parse::<u64>()? }))
+    Ok(Some(Mark {
+        pair,
+        seen: seen.parse::<u64>()?,
+    }))
 }
 
 /// `in_window_manager HELD NOTION PAIR`: whether a message with the pair is in the time window of a manager.
@@ -201,12 +209,18 @@ fn manager_window(
     notion: &Word<'_>,
     pair: &Word<'_>,
 ) -> Result<String> {
-    let (held, pair) = (pair_in(held)?.context("a pair")?, pair_in(pair)?.context("a pair")?);
+    let (held, pair) = (
+        pair_in(held)?.context("a pair")?,
+        pair_in(pair)?.context("a pair")?,
+    );
     Ok(format!(in alloc; "{}", in_window_manager(held, notion.number32()?, pair))?)
 }
 
 /// `in_window_agent OWN PAIR`: whether a message with the pair is in the time window of an agent.
 fn agent_window(alloc: Global, own: &Word<'_>, pair: &Word<'_>) -> Result<String> {
-    let (own, pair) = (pair_in(own)?.context("a pair")?, pair_in(pair)?.context("a pair")?);
+    let (own, pair) = (
+        pair_in(own)?.context("a pair")?,
+        pair_in(pair)?.context("a pair")?,
+    );
     Ok(format!(in alloc; "{}", in_window_agent(own, pair))?)
 }

@@ -44,14 +44,20 @@ impl Settings {
 
     /// `supports NAME LEVEL`: whether the user has the keys that the level needs.
     fn supports(&self, alloc: Global, name: &Word<'_>, level: &Word<'_>) -> Result<String> {
-        let config = self.config.as_ref().context("a configuration that was read")?;
+        let config = self
+            .config
+            .as_ref()
+            .context("a configuration that was read")?;
         let answer = config.users.supports(name.name(), level.level()?);
         Ok(format!(in alloc; "{}", answer.is_ok())?)
     }
 
     /// `allowed MODEL NAME LEVEL VIEW CONTEXT ARCS`: what the tables answer.
     fn allowed(&self, alloc: Global, words: &[Word<'_>]) -> Result<String> {
-        let config = self.config.as_ref().context("a configuration that was read")?;
+        let config = self
+            .config
+            .as_ref()
+            .context("a configuration that was read")?;
         question_of(alloc, &config.access, words)
     }
 }

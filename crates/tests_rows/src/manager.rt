@@ -56,13 +56,24 @@ impl Asking {
         match (row.kind, row.words.as_slice()) {
             ("take", [now, datagram]) => take(&mut self.manager, alloc, now, datagram),
             ("take_one", [now, datagram]) => take_one(&mut self.manager, alloc, now, datagram),
-            ("take_changed", [bits, datagram]) => take_changed(&mut self.manager, alloc, bits, datagram),
+            ("take_changed", [bits, datagram]) => take_changed(
+                &mut self.manager,
+                alloc,
+                bits,
+                datagram,
+            ),
             ("run", words) => run(&mut self.manager, alloc, words),
             ("absorb", [text, now]) => absorb(&mut self.manager, alloc, text, now),
             ("request", words) => self.request(alloc, words),
             ("request_of", words) => self.request_of(alloc, words),
             ("discover", [id]) => self.discover(alloc, id),
-            ("reply", [now, datagram]) => reply(&mut self.manager, alloc, &self.pending, now, datagram),
+            ("reply", [now, datagram]) => reply(
+                &mut self.manager,
+                alloc,
+                &self.pending,
+                now,
+                datagram,
+            ),
             ("reply_to_earlier", [now, datagram]) => {
                 reply(&mut self.manager, alloc, &self.earlier, now, datagram)
             }
@@ -138,7 +149,12 @@ fn notion(manager: &Manager, alloc: Global, engine: &Word<'_>, now: &Word<'_>) -
 }
 
 /// `take NOW DATAGRAM`: what the message says, or why it is refused.
-fn take(manager: &mut Manager, alloc: Global, now: &Word<'_>, datagram: &Word<'_>) -> Result<String> {
+fn take(
+    manager: &mut Manager,
+    alloc: Global,
+    now: &Word<'_>,
+    datagram: &Word<'_>,
+) -> Result<String> {
     match manager.take(now.number()?, datagram.octets()?) {
         Ok(taken) => taken_text(alloc, &taken),
         Err(fault) => refused(alloc, fault),
@@ -228,7 +244,10 @@ fn request(manager: &mut Manager, alloc: Global, words: &[Word<'_>]) -> Result<A
     let pdu = pdu_of(pdu.octets()?)?;
     let bindings = bindings_of(alloc, &pdu)?;
     let (id, user) = (id.number32()?, user.name());
-    ensure!(is_pdu_tag(pdu.tag) && id <= 2_147_483_647 && user.len() <= 32, "a request");
+    ensure!(
+        is_pdu_tag(pdu.tag) && id <= 2_147_483_647 && user.len() <= 32,
+        "a request"
+    );
     let body = Body {
         context_engine: engine.octets()?,
         context_name: context.octets()?,
@@ -250,7 +269,10 @@ fn request_of(manager: &mut Manager, alloc: Global, words: &[Word<'_>]) -> Resul
     let pdu = pdu_of(pdu.octets()?)?;
     let bindings = variables_of(alloc, &pdu)?;
     let (id, user) = (id.number32()?, user.name());
-    ensure!(is_pdu_tag(pdu.tag) && id <= 2_147_483_647 && user.len() <= 32, "a request");
+    ensure!(
+        is_pdu_tag(pdu.tag) && id <= 2_147_483_647 && user.len() <= 32,
+        "a request"
+    );
     let front = Front {
         context_engine: engine.octets()?,
         context_name: context.octets()?,
@@ -260,7 +282,16 @@ fn request_of(manager: &mut Manager, alloc: Global, words: &[Word<'_>]) -> Resul
         third: pdu.third,
     };
     let (now, level, salt) = (now.number()?, level.level()?, salt_of(salt)?);
-    Ok(manager.request_of(now, id, &engine_of(engine)?, user, level, &front, &bindings, salt))
+    Ok(manager.request_of(
+        now,
+        id,
+        &engine_of(engine)?,
+        user,
+        level,
+        &front,
+        &bindings,
+        salt,
+    ))
 }
 
 /// `reply NOW DATAGRAM`: what an accepted message is to the last request.

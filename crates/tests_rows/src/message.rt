@@ -80,8 +80,15 @@ fn message(alloc: Global, words: &[Word<'_>]) -> Result<String> {
     let header = found.header;
     Ok(format!(in alloc;
         "id {} max-size {} auth {} priv {} reportable {} model {} level {:?} security {} data {}",
-        header.id, header.max_size, header.auth, header.privacy, header.reportable, header.model,
-        header.level(), found.security_at, found.data_at
+        header.id,
+        header.max_size,
+        header.auth,
+        header.privacy,
+        header.reportable,
+        header.model,
+        header.level(),
+        found.security_at,
+        found.data_at
     )?)
 }
 
@@ -95,8 +102,15 @@ fn security(alloc: Global, words: &[Word<'_>]) -> Result<String> {
     let pieces = cut(datagram, &found);
     Ok(format!(in alloc;
         "engine {} boots {} time {} user {} auth {} at {} salt {} front {} back {}",
-        Hex(found.engine), found.boots, found.time, Hex(found.user), Hex(found.auth), found.auth_at,
-        Hex(found.salt), pieces.front.len(), pieces.back.len()
+        Hex(found.engine),
+        found.boots,
+        found.time,
+        Hex(found.user),
+        Hex(found.auth),
+        found.auth_at,
+        Hex(found.salt),
+        pieces.front.len(),
+        pieces.back.len()
     )?)
 }
 
@@ -108,13 +122,18 @@ fn scoped(alloc: Global, words: &[Word<'_>]) -> Result<String> {
     let datagram = datagram.octets()?;
     match read_scoped(datagram, &read_message(datagram)?)? {
         Some(found) => Ok(format!(in alloc;
-            "engine {} name {} data {} {}", Hex(found.engine), Hex(found.name), found.data_at, Hex(found.pdu)
+            "engine {} name {} data {} {}",
+            Hex(found.engine),
+            Hex(found.name),
+            found.data_at,
+            Hex(found.pdu)
         )?),
         None => Ok("sealed".to_string(alloc)?),
     }
 }
 
-/// `read_scoped_front OCTETS`: the place of the data of the scoped PDU that they begin with, or the fault and its place.
+/// `read_scoped_front OCTETS`: the place of the data of the scoped PDU that they begin with, or the fault and its
+/// place.
 fn scoped_front(alloc: Global, words: &[Word<'_>]) -> Result<String> {
     let [octets] = words else {
         bail!("read_scoped_front OCTETS");
@@ -141,7 +160,10 @@ fn written_message(alloc: Global, words: &[Word<'_>]) -> Result<String> {
         bail!("write_message DATAGRAM");
     };
     let found = read_message(datagram.octets()?)?;
-    written(alloc, write_message(alloc, &found.header, found.security, &found.body))
+    written(
+        alloc,
+        write_message(alloc, &found.header, found.security, &found.body),
+    )
 }
 
 /// `write_scoped DATAGRAM`: its scoped PDU, written again around its data.
@@ -151,7 +173,10 @@ fn written_scoped(alloc: Global, words: &[Word<'_>]) -> Result<String> {
     };
     let datagram = datagram.octets()?;
     match read_scoped(datagram, &read_message(datagram)?)? {
-        Some(found) => written(alloc, write_scoped(alloc, found.engine, found.name, found.pdu)),
+        Some(found) => written(
+            alloc,
+            write_scoped(alloc, found.engine, found.name, found.pdu),
+        ),
         None => bail!("the scoped PDU is sealed"),
     }
 }
@@ -163,5 +188,8 @@ fn written_sealed(alloc: Global, words: &[Word<'_>]) -> Result<String> {
     };
     let found = read_message(datagram.octets()?)?;
     let octets = vec![in alloc; 0u8; count.place()?.min(100_000)]?;
-    pdu::length(alloc, write_message(alloc, &found.header, found.security, &Data::Sealed(&octets)))
+    pdu::length(
+        alloc,
+        write_message(alloc, &found.header, found.security, &Data::Sealed(&octets)),
+    )
 }

@@ -19,7 +19,9 @@ pub struct Reading {
 impl Reading {
     /// No users.
     pub fn new(alloc: Global) -> Result<Reading> {
-        Ok(Reading { people: People::new(alloc)? })
+        Ok(Reading {
+            people: People::new(alloc)?,
+        })
     }
 
     /// What is answered to a row.
@@ -56,8 +58,16 @@ pub fn taken_text(alloc: Global, taken: &Taken<'_>) -> Result<String> {
     let pdu = taken.pdu();
     Ok(format!(in alloc;
         "accepted {:?} id {} engine {} user {} context {} {} data {} {} tag {:02x} request {}",
-        taken.level, taken.id, taken.engine, Text(taken.user), Hex(scoped.engine), Text(scoped.name),
-        scoped.data_at, Hex(scoped.pdu), taken.tag, pdu.id
+        taken.level,
+        taken.id,
+        taken.engine,
+        Text(taken.user),
+        Hex(scoped.engine),
+        Text(scoped.name),
+        scoped.data_at,
+        Hex(scoped.pdu),
+        taken.tag,
+        pdu.id
     )?)
 }
 
@@ -94,7 +104,8 @@ fn fault_of(name: &Word<'_>, place: &Word<'_>) -> Result<TakeFault> {
     }
 }
 
-/// `fault NAME PLACE`: the number of the refusal, its name, its place, whether it is of memory, and how it is printed.
+/// `fault NAME PLACE`: the number of the refusal, its name, its place, whether it is of memory, and how it is
+/// printed.
 fn fault_text(alloc: Global, name: &Word<'_>, place: &Word<'_>) -> Result<String> {
     let fault = fault_of(name, place)?;
     let (number, name, place) = (fault.number(), fault.name(), fault.place());

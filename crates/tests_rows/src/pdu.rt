@@ -2,6 +2,7 @@
 
 ghost use Rattle.std.specs.Prelude.{All, IfOk};
 ghost use Rattle.snmp_ber.specs.Element.{IsTag};
+ghost use Rattle.snmp_message.specs.Scoped.{IsOneElement};
 ghost use Rattle.snmp_msg.specs.Variables.{CanBeWritten, variable_of};
 
 use crate::row::{Row, Word};
@@ -44,7 +45,13 @@ struct Arcs<'a>(Bindings<'a>);
 impl fmt::Display for Arcs<'_> {
     fn fmt<W: fmt::Write>(&self, f: &mut fmt::Formatter<W>) -> fmt::Result {
         for binding in self.0 {
-            write!(f, " {}={:02x}:{}", binding.name, binding.tag, Hex(binding.content))?;
+            write!(
+                f,
+                " {}={:02x}:{}",
+                binding.name,
+                binding.tag,
+                Hex(binding.content)
+            )?;
         }
         Ok(())
     }
@@ -59,7 +66,12 @@ fn read(alloc: Global, words: &[Word<'_>]) -> Result<String> {
     ensure!(at <= end && end <= octets.len(), "places of the octets");
     match read_pdu(octets, at, end) {
         Ok(pdu) => Ok(format!(in alloc;
-            "tag {:02x} {} {} {}{}", pdu.tag, pdu.id, pdu.second, pdu.third, Arcs(pdu.bindings())
+            "tag {:02x} {} {} {}{}",
+            pdu.tag,
+            pdu.id,
+            pdu.second,
+            pdu.third,
+            Arcs(pdu.bindings())
         )?),
         Err(fault) => Ok(fault.to_string(alloc)?),
     }
@@ -147,7 +159,9 @@ pub fn variables_of<'a>(
 }
 
 /// The PDU, written with names as arcs.
-fn with_arcs(alloc: Global, pdu: &Pdu<'_>) -> Result<Vec<u8>> {
+pub fn with_arcs(alloc: Global, pdu: &Pdu<'_>) -> Result<Vec<u8>>
+    ensures { IfOk result (λ v. IsOneElement v.items) }
+{
     let bindings = bindings_of(alloc, pdu)?;
     ensure!(is_pdu_tag(pdu.tag), "a tag of a PDU");
     Ok(write_pdu(alloc, pdu.tag, pdu.id, pdu.second, pdu.third, &bindings)?)
@@ -178,7 +192,11 @@ fn with_arcs_of(content: &[u8]) -> Result<Binding<'_>>
 {
     let name = Oid::of(&[1, 3]).context("an identifier")?;
     ensure!(name.is_object_id(), "an object id");
-    Ok(Binding { name, tag: 0x04, content })
+    Ok(Binding {
+        name,
+        tag: 0x04,
+        content,
+    })
 }
 
 /// The OCTET STRING of 1.3, with its name in octets.
@@ -186,7 +204,11 @@ fn in_octets_of(content: &[u8]) -> Result<VariableBinding<'_>>
     ensures { IfOk result (λ b. IsTag b.tag) }
 {
     let name = ObjectName::of(&[0x2b]).context("an identifier")?;
-    Ok(VariableBinding { name, tag: 0x04, content })
+    Ok(VariableBinding {
+        name,
+        tag: 0x04,
+        content,
+    })
 }
 
 /// `write_value arcs|octets CONTENT`: how long the GetRequest is that binds 1.3 to this OCTET STRING.
@@ -196,8 +218,14 @@ fn written_value(alloc: Global, words: &[Word<'_>]) -> Result<String> {
     };
     let content = content.octets()?;
     match form.text {
-        "arcs" => length(alloc, write_pdu(alloc, GET_REQUEST, 0, 0, 0, &[with_arcs_of(content)?])),
-        "octets" => length(alloc, write_pdu_of(alloc, GET_REQUEST, 0, 0, 0, &[in_octets_of(content)?])),
+        "arcs" => length(
+            alloc,
+            write_pdu(alloc, GET_REQUEST, 0, 0, 0, &[with_arcs_of(content)?]),
+        ),
+        "octets" => length(
+            alloc,
+            write_pdu_of(alloc, GET_REQUEST, 0, 0, 0, &[in_octets_of(content)?]),
+        ),
         _ => bail!("a form is arcs or octets"),
     }
 }

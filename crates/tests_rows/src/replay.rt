@@ -1,4 +1,5 @@
-//! Logs of datagrams that a manager takes, read and written by streams that are interrupted and fail, and texts of opened messages.
+//! Logs of datagrams that a manager takes, read and written by streams that are interrupted and fail, and texts of
+//! opened messages.
 
 use crate::row::{Row, Word};
 use crate::shown::Text;
@@ -29,7 +30,12 @@ impl Troubles {
             "-" => None,
             _ => Some(failing.number32()?),
         };
-        Ok(Troubles { interruptions, left: interruptions, calls: 0, failing })
+        Ok(Troubles {
+            interruptions,
+            left: interruptions,
+            calls: 0,
+            failing,
+        })
     }
 
     /// What becomes of a call.
@@ -142,7 +148,10 @@ fn replay(alloc: Global, words: &[Word<'_>]) -> Result<String> {
     let (troubles, text) = (Troubles::of(reading, read)?, log.octets()?);
     let writing = Troubles::of(writing, write)?;
     let mut log = BufReader::new(alloc, Slow { text, troubles })?;
-    let mut text = Choppy { written: Vec::new(alloc), troubles: writing };
+    let mut text = Choppy {
+        written: Vec::new(alloc),
+        troubles: writing,
+    };
     let outcome = replay_log(alloc, manager(alloc)?, &mut log, &mut text);
     ended(alloc, outcome, &text.written)
 }
@@ -172,7 +181,10 @@ fn written(alloc: Global, words: &[Word<'_>]) -> Result<String> {
         bail!("write_whole TEXT INTERRUPTIONS FAILING_WRITE");
     };
     let (text, troubles) = (text.octets()?, Troubles::of(interruptions, failing)?);
-    let mut writer = Choppy { written: Vec::new(alloc), troubles };
+    let mut writer = Choppy {
+        written: Vec::new(alloc),
+        troubles,
+    };
     let is_whole = write_whole(&mut writer, text).is_ok();
     Ok(format!(in alloc; "{is_whole} {}", Text(&writer.written))?)
 }

@@ -99,6 +99,10 @@ impl<'a> Row<'a> {
         } else {
             words_of(alloc, inputs, kept)?
         };
-        Ok(Row { kind, words, wanted })
+        Ok(Row {
+            kind,
+            words,
+            wanted,
+        })
     }
 }

@@ -42,7 +42,10 @@ fn check_line<R: Print + AllocGlobal>(
     let found = answer(rt.alloc(), state, &row)?;
     let is_same = found.as_str() == row.wanted;
     if !is_same {
-        println!(rt; "{}:{}: wanted {}, found {found}", place.0, place.1, row.wanted)?;
+        println!(rt;
+            "{}:{}: wanted {}, found {found}",
+            place.0, place.1, row.wanted
+        )?;
     }
     count.note(is_same, row.wanted.is_empty());
     Ok(())
@@ -60,8 +63,9 @@ fn check_text<R: Print + AllocGlobal>(rt: &R, file: &str, text: &str) -> Result<
         number = number.saturating_add(1);
         if !line.is_empty() && !line.starts_with('#') {
             let place = (file, number);
-            check_line(rt, &mut state, place, line, &mut count)
-                .context(format_args!("{file}:{number}"))?;
+            check_line(rt, &mut state, place, line, &mut count).context(format_args!(
+                "{file}:{number}"
+            ))?;
         }
     }
     Ok(count)

@@ -46,7 +46,8 @@ impl Stations {
         }
     }
 
-    /// `agent ENGINE BOOTS STARTED`: an agent of the users who were loaded, and of the tables, which are loaded anew after it.
+    /// `agent ENGINE BOOTS STARTED`: an agent of the users who were loaded, and of the tables, which are loaded anew
+    /// after it.
     fn begin(&mut self, alloc: Global, words: &[Word<'_>]) -> Result<String> {
         let [engine, boots, started] = words else {
             bail!("agent ENGINE BOOTS STARTED");

@@ -9,7 +9,7 @@ use crate::shown::silent;
 use crate::stations::Stations;
 use crate::usm::Sealing;
 use crate::world::Sharing;
-use crate::{ber, message, replay};
+use crate::{ber, keys, message, replay};
 use anyhow::{Result, bail};
 use std::alloc::Global;
 
@@ -18,6 +18,7 @@ use std::alloc::Global;
 enum Subject {
     Ber,
     Message,
+    Keys,
     Clocks,
     Access,
     Usm,
@@ -51,6 +52,7 @@ fn subject_of(file: &str) -> Result<Subject> {
     match name {
         "ber.rows" => Ok(Subject::Ber),
         "message.rows" => Ok(Subject::Message),
+        "keys.rows" => Ok(Subject::Keys),
         "clocks.rows" => Ok(Subject::Clocks),
         "access.rows" => Ok(Subject::Access),
         "usm.rows" => Ok(Subject::Usm),
@@ -104,6 +106,7 @@ pub fn answer(alloc: Global, state: &mut State, row: &Row<'_>) -> Result<String>
     match state.subject {
         Subject::Ber => ber::answer(alloc, row),
         Subject::Message => message::answer(alloc, row),
+        Subject::Keys => keys::answer(alloc, row),
         Subject::Clocks => state.held.answer(alloc, row),
         Subject::Access => state.views.answer(alloc, row),
         Subject::Usm => state.sealing.answer(alloc, row),

@@ -4,14 +4,14 @@ ghost use Rattle.std.specs.Prelude.{ℕ, List, IfOk};
 ghost use Rattle.snmp_ber.specs.Element.{IsElement};
 ghost use Rattle.snmp_message.specs.Spelling.{HeaderFits};
 
-use crate::pdu::{bindings_of, pdu_of};
+use crate::pdu::{pdu_of, with_arcs};
 use crate::people::People;
 use crate::row::{Row, Word};
 use crate::shown::{Hex, Text, silent};
 use anyhow::{Context, Result, bail, ensure};
 use engine_clock::EngineId;
 use snmp_ber::Level;
-use snmp_msg::{Header, Pdu, is_pdu_tag, write_pdu, write_scoped};
+use snmp_msg::{Header, Pdu, write_scoped};
 use std::alloc::Global;
 use usm_core::{Role, Users, UsmFault};
 
@@ -118,8 +118,13 @@ fn open(users: &mut Users, alloc: Global, role: &Word<'_>, datagram: &Word<'_>) 
             let said = &checked.security;
             Ok(format!(in alloc;
                 "{:?} id {} engine {} boots {} time {} user {} at {}",
-                checked.level, checked.message.header.id, Hex(said.engine), said.boots, said.time,
-                Text(said.user), said.auth_at
+                checked.level,
+                checked.message.header.id,
+                Hex(said.engine),
+                said.boots,
+                said.time,
+                Text(said.user),
+                said.auth_at
             )?)
         }
         Err(fault) => refused(alloc, fault),
@@ -150,7 +155,12 @@ fn plain(users: &mut Users, alloc: Global, role: &Word<'_>, datagram: &Word<'_>)
 }
 
 /// `again COUNT DATAGRAM`: how often of so many times a manager finds it authentic.
-fn again(users: &mut Users, alloc: Global, count: &Word<'_>, datagram: &Word<'_>) -> Result<String> {
+fn again(
+    users: &mut Users,
+    alloc: Global,
+    count: &Word<'_>,
+    datagram: &Word<'_>,
+) -> Result<String> {
     let datagram = datagram.octets()?;
     let mut authentic = 0u32;
     for _ in 0..count.number32()? {
@@ -175,7 +185,12 @@ fn authentic_changes(users: &mut Users, datagram: &mut [u8], bits: u8) -> u32 {
 }
 
 /// `changed BITS DATAGRAM`: in how many places a manager finds it authentic with these bits changed.
-fn changed(users: &mut Users, alloc: Global, bits: &Word<'_>, datagram: &Word<'_>) -> Result<String> {
+fn changed(
+    users: &mut Users,
+    alloc: Global,
+    bits: &Word<'_>,
+    datagram: &Word<'_>,
+) -> Result<String> {
     let mut datagram = datagram.octets()?.to_vec(alloc)?;
     let authentic = authentic_changes(users, &mut datagram, bits.octet()?);
     Ok(format!(in alloc; "authentic {authentic}")?)
@@ -185,9 +200,7 @@ fn changed(users: &mut Users, alloc: Global, bits: &Word<'_>, datagram: &Word<'_
 fn scoped_of(alloc: Global, engine: &[u8], name: &[u8], pdu: &Pdu<'_>) -> Result<Vec<u8>>
     ensures { IfOk result (λ v. (content : List ℕ) × IsElement 48 content v.items) }
 {
-    ensure!(is_pdu_tag(pdu.tag), "a tag of a PDU");
-    let bindings = bindings_of(alloc, pdu)?;
-    let written = write_pdu(alloc, pdu.tag, pdu.id, pdu.second, pdu.third, &bindings)?;
+    let written = with_arcs(alloc, pdu)?;
     Ok(write_scoped(alloc, engine, name, &written)?)
 }
 
@@ -216,7 +229,11 @@ pub fn salt_of(word: &Word<'_>) -> Result<[u8; 8]> {
 }
 
 /// The message of these words, sealed for a user.
-fn sealed(users: &mut Users, alloc: Global, words: &[Word<'_>]) -> Result<Result<Vec<u8>, UsmFault>> {
+fn sealed(
+    users: &mut Users,
+    alloc: Global,
+    words: &[Word<'_>],
+) -> Result<Result<Vec<u8>, UsmFault>> {
     let [id, flags, engine, pair, user, salt, name, pdu] = words else {
         bail!("seal ID FLAGS ENGINE BOOTS/TIME USER SALT CONTEXT PDU");
     };
@@ -224,7 +241,14 @@ fn sealed(users: &mut Users, alloc: Global, words: &[Word<'_>]) -> Result<Result
     ensure!(user.len() <= 32, "a user name has at most 32 octets");
     let pair = crate::clocks::pair_in(pair)?.context("a pair")?;
     let scoped = scoped_of(alloc, engine, name.octets()?, &pdu_of(pdu.octets()?)?)?;
-    Ok(users.seal(&header_of(id, flags)?, engine, pair, user, salt_of(salt)?, &scoped))
+    Ok(users.seal(
+        &header_of(id, flags)?,
+        engine,
+        pair,
+        user,
+        salt_of(salt)?,
+        &scoped,
+    ))
 }
 
 /// `seal ID FLAGS ENGINE BOOTS/TIME USER SALT CONTEXT PDU`: the message, or why it isn't sealed.

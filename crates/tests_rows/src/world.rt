@@ -160,7 +160,9 @@ fn event_of(alloc: Global, text: &str, messages: &[Vec<u8>]) -> Result<Event> {
             taking(alloc, *manager, *now, datagram)
         }
         ("noise", [manager, now]) => taking(alloc, *manager, *now, b"no message"),
-        ("save", [manager]) => Ok(Event::Save { manager: *manager as usize }),
+        ("save", [manager]) => Ok(Event::Save {
+            manager: *manager as usize,
+        }),
         ("absorb", [manager, file, now]) => Ok(Event::Absorb {
             manager: *manager as usize,
             file: *file as usize,

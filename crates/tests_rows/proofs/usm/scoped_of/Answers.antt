@@ -3,4 +3,4 @@ use Rattle.snmp_message.specs.Scoped.{IsOneElement}
 use Rattle.tests_rows.proofs.usm.scoped_of.Goals as goal
 
 pub write_scoped-requires : goal.write_scoped-requires
-write_scoped-requires c = subst IsOneElement (sym c.deref.ensures.value) c.in_ok-written.ensures.element
+write_scoped-requires c = subst IsOneElement (sym c.deref.ensures.value) c.in_ok-written.ensures
