@@ -14,6 +14,8 @@ mod elements;
 #[cfg(test)]
 mod examples;
 #[cfg(test)]
+mod handles;
+#[cfg(test)]
 mod manager;
 #[cfg(test)]
 mod replay;

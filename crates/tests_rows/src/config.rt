@@ -4,7 +4,6 @@ use crate::access::question_of;
 use crate::row::{Row, Word};
 use crate::shown::none;
 use anyhow::{Context, Result, bail};
-use snmp_held::AgentHandle;
 use snmpsec_config::{Config, ConfigFault, level_of, level_word};
 use std::alloc::Global;
 
@@ -27,7 +26,6 @@ impl Settings {
             ("supports", [name, level]) => self.supports(alloc, name, level),
             ("allowed", words) => self.allowed(alloc, words),
             ("level", [word]) => level(alloc, word),
-            ("agent_handle", [text, engine]) => handle(alloc, text, engine),
             _ => bail!("no row {} of so many words", row.kind),
         }
     }
@@ -67,13 +65,5 @@ fn level(alloc: Global, word: &Word<'_>) -> Result<String> {
     match level_of(word.said()?) {
         Some(level) => Ok(format!(in alloc; "{level:?} {}", level_word(level))?),
         None => none(alloc),
-    }
-}
-
-/// `agent_handle TEXT ENGINE`: whether an agent is made of a configuration.
-fn handle(alloc: Global, text: &Word<'_>, engine: &Word<'_>) -> Result<String> {
-    match AgentHandle::of(alloc, text.octets()?, engine.octets()?, 1, 0) {
-        Ok(_) => Ok("made".to_string(alloc)?),
-        Err(_) => none(alloc),
     }
 }

@@ -17,11 +17,11 @@ use usm_keys::{Auth, AuthHash, Key, localise, mac, password_key};
 pub fn answer(alloc: Global, row: &Row<'_>) -> Result<String> {
     match (row.kind, row.words.as_slice()) {
         ("password_key", [auth, password, engine]) => derived(alloc, auth, password, engine),
-        ("key", [auth, octets]) => key(alloc, auth, octets),
+        ("key", [auth, octets]) => kept_key(alloc, auth, octets),
         ("mac", words) => code(alloc, words),
         ("of_cycle", [auth, seed, total]) => cycle(alloc, auth, seed, total),
         ("of_parts", words) => parts(alloc, words),
-        ("encrypt_block", [key, block]) => block(alloc, key, block),
+        ("encrypt_block", [key, block]) => enciphered(alloc, key, block),
         ("iv", [pair, salt]) => vector(alloc, pair, salt),
         ("cfb_seal", [key, iv, text]) => sealed(alloc, key, iv, text),
         ("cfb_open", [key, iv, text]) => opened(alloc, key, iv, text),
@@ -46,7 +46,7 @@ fn derived(
 }
 
 /// `key PROTOCOL OCTETS`: the octets of a copy of the key that has these.
-fn key(alloc: Global, auth: &Word<'_>, octets: &Word<'_>) -> Result<String> {
+fn kept_key(alloc: Global, auth: &Word<'_>, octets: &Word<'_>) -> Result<String> {
     match Key::of(auth_of(auth.text)?, octets.octets()?) {
         Some(key) => Ok(format!(in alloc; "{}", Hex(key.copy().as_slice()))?),
         None => none(alloc),
@@ -101,7 +101,7 @@ fn sixteen(word: &Word<'_>) -> Result<[u8; 16]> {
 }
 
 /// `encrypt_block KEY BLOCK`: the block, enciphered.
-fn block(alloc: Global, key: &Word<'_>, block: &Word<'_>) -> Result<String> {
+fn enciphered(alloc: Global, key: &Word<'_>, block: &Word<'_>) -> Result<String> {
     let block = encrypt_block(&expand(&sixteen(key)?), sixteen(block)?);
     Ok(format!(in alloc; "{}", Hex(&block))?)
 }

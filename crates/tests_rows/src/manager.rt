@@ -1,6 +1,8 @@
 //! Managers: what they take, learn, ask for and are answered (RFC 3412, section 7; RFC 3414, section 3.2).
 
-ghost use Rattle.std.specs.Prelude.{All};
+ghost use Rattle.std.specs.Prelude.{◌≤◌, All, length};
+ghost use Rattle.snmp_ber.specs.Element.{IsTag};
+ghost use Rattle.snmp_msg.specs.Pdu.{IsPduTag};
 ghost use Rattle.snmp_msg.specs.Variables.{CanBeWritten, variable_of};
 
 use crate::clocks::{engine_of, mark_text, pair_text};
@@ -11,12 +13,13 @@ use crate::row::{Row, Word};
 use crate::shown::{Hex, Text, none, silent};
 use crate::usm::salt_of;
 use anyhow::{Context, Result, bail, ensure};
-use engine_clock::Clocks;
-use snmp_manager::{Manager, Outcome, Pending, answer_of};
-use snmp_msg::is_pdu_tag;
-use snmp_outcome::TakeFault;
+use engine_clock::{Clocks, EngineId};
+use snmp_ber::Level;
+use snmp_manager::{Answer, Manager, Outcome, Pending, Stopped, answer_of};
+use snmp_msg::{Binding, Pdu, VariableBinding, is_pdu_tag};
+use snmp_outcome::{TakeFault, Taken};
 use snmp_sending::{Body, Front};
-use std::alloc::Global;
+use std::alloc::{AllocError, Global};
 use std::mem;
 use usm_core::Users;
 
@@ -114,6 +117,36 @@ impl Asking {
     }
 }
 
+/// What the manager accepts, or why it doesn't.
+fn taken<'a>(manager: &mut Manager, now: u64, datagram: &'a [u8]) -> Result<Taken<'a>, TakeFault> {
+    manager.take(now, datagram)
+}
+
+/// What the manager makes of the datagram.
+fn took(manager: &mut Manager, now: u64, datagram: &[u8]) -> Result<Outcome, AllocError> {
+    manager.take_one(now, datagram)
+}
+
+/// What the manager makes of the datagrams, one after another.
+fn ran(manager: &mut Manager, list: &[(u64, Vec<u8>)]) -> Result<Vec<Outcome>, Stopped> {
+    manager.run(list)
+}
+
+/// The text of what the manager holds.
+fn save(manager: &Manager) -> Result<Vec<u8>, AllocError> {
+    manager.save()
+}
+
+/// The manager absorbs these clocks.
+fn learn(manager: &mut Manager, clocks: &Clocks) -> Result<(), AllocError> {
+    manager.absorb(clocks)
+}
+
+/// What the message is to a request.
+fn answer_to(pending: &Pending, taken: &Taken<'_>) -> Answer {
+    answer_of(pending, taken)
+}
+
 /// What is answered to a row about what the manager holds.
 fn held(manager: &Manager, alloc: Global, row: &Row<'_>) -> Result<String> {
     match (row.kind, row.words.as_slice()) {
@@ -127,7 +160,7 @@ fn held(manager: &Manager, alloc: Global, row: &Row<'_>) -> Result<String> {
 
 /// `save`: the saved text.
 fn saved(manager: &Manager, alloc: Global) -> Result<String> {
-    Ok(format!(in alloc; "{}", Text(&manager.save()?))?)
+    Ok(format!(in alloc; "{}", Text(&save(manager)?))?)
 }
 
 /// `pair ENGINE`: its boots and time.
@@ -155,7 +188,7 @@ fn take(
     now: &Word<'_>,
     datagram: &Word<'_>,
 ) -> Result<String> {
-    match manager.take(now.number()?, datagram.octets()?) {
+    match taken(manager, now.number()?, datagram.octets()?) {
         Ok(taken) => taken_text(alloc, &taken),
         Err(fault) => refused(alloc, fault),
     }
@@ -176,7 +209,7 @@ fn take_one(
     now: &Word<'_>,
     datagram: &Word<'_>,
 ) -> Result<String> {
-    let outcome = manager.take_one(now.number()?, datagram.octets()?)?;
+    let outcome = took(manager, now.number()?, datagram.octets()?)?;
     outcome_text(alloc, outcome)
 }
 
@@ -185,7 +218,7 @@ fn accepted_changes(manager: &mut Manager, datagram: &mut [u8], bits: u8) -> Res
     let mut accepted = 0u32;
     for place in 0..datagram.len() {
         datagram[place] ^= bits;
-        if let Outcome::Accepted { .. } = manager.take_one(5, datagram)? {
+        if let Outcome::Accepted { .. } = took(manager, 5, datagram)? {
             accepted = accepted.saturating_add(1);
         }
         datagram[place] ^= bits;
@@ -219,7 +252,7 @@ fn list_of(alloc: Global, words: &[Word<'_>]) -> Result<Vec<(u64, Vec<u8>)>> {
 
 /// `run NOW DATAGRAM ..`: the outcomes, one after another.
 fn run(manager: &mut Manager, alloc: Global, words: &[Word<'_>]) -> Result<String> {
-    let outcomes = manager.run(&list_of(alloc, words)?)?;
+    let outcomes = ran(manager, &list_of(alloc, words)?)?;
     let mut text = String::new(alloc);
     for outcome in outcomes.iter() {
         if !text.is_empty() {
@@ -232,66 +265,115 @@ fn run(manager: &mut Manager, alloc: Global, words: &[Word<'_>]) -> Result<Strin
 
 /// `absorb TEXT NOW`: takes over what a saved text has that is greater.
 fn absorb(manager: &mut Manager, alloc: Global, text: &Word<'_>, now: &Word<'_>) -> Result<String> {
-    manager.absorb(&Clocks::read_saved(alloc, text.octets()?, now.number()?)?)?;
+    let clocks = Clocks::read_saved(alloc, text.octets()?, now.number()?)?;
+    learn(manager, &clocks)?;
     silent(alloc)
+}
+
+/// What a row says of a request besides its PDU.
+#[derive(Clone, Copy)]
+struct Said<'a> {
+    now: u64,
+    id: u32,
+    engine: &'a [u8],
+    user: &'a [u8],
+    level: Level,
+    context: &'a [u8],
+    salt: [u8; 8],
+}
+
+/// What NOW ID ENGINE USER LEVEL CONTEXT SALT PDU says, and the PDU.
+fn said_in<'a>(words: &'a [Word<'_>]) -> Result<(Said<'a>, Pdu<'a>)> {
+    let [now, id, engine, user, level, context, salt, pdu] = words else {
+        bail!("request NOW ID ENGINE USER LEVEL CONTEXT SALT PDU");
+    };
+    let said = Said {
+        now: now.number()?,
+        id: id.number32()?,
+        engine: engine.octets()?,
+        user: user.name(),
+        level: level.level()?,
+        context: context.octets()?,
+        salt: salt_of(salt)?,
+    };
+    Ok((said, pdu_of(pdu.octets()?)?))
+}
+
+/// The request of this PDU, with names as arcs.
+fn asked_of(
+    manager: &mut Manager,
+    engine: &EngineId,
+    said: &Said<'_>,
+    pdu: &Pdu<'_>,
+    bindings: &[Binding<'_>],
+) -> Asked
+    requires id { said.now.id ≤ 2147483647 }
+    requires user { length said.now.user.now ≤ 32 }
+    requires tag { IsPduTag pdu.now.tag }
+    requires fit { All (λ b. CanBeWritten (variable_of b)) bindings.now }
+{
+    let body = Body {
+        context_engine: said.engine,
+        context_name: said.context,
+        tag: pdu.tag,
+        id: pdu.id,
+        second: pdu.second,
+        third: pdu.third,
+        bindings,
+    };
+    manager.request(
+        said.now, said.id, engine, said.user, said.level, &body, said.salt,
+    )
+}
+
+/// The request of this PDU, with names in octets.
+fn asked_in_octets(
+    manager: &mut Manager,
+    engine: &EngineId,
+    said: &Said<'_>,
+    pdu: &Pdu<'_>,
+    bindings: &[VariableBinding<'_>],
+) -> Asked
+    requires id { said.now.id ≤ 2147483647 }
+    requires user { length said.now.user.now ≤ 32 }
+    requires tag { IsPduTag pdu.now.tag }
+    requires fit { All (λ b. IsTag b.tag) bindings.now }
+{
+    let front = Front {
+        context_engine: said.engine,
+        context_name: said.context,
+        tag: pdu.tag,
+        id: pdu.id,
+        second: pdu.second,
+        third: pdu.third,
+    };
+    manager.request_of(
+        said.now, said.id, engine, said.user, said.level, &front, bindings, said.salt,
+    )
 }
 
 /// `request NOW ID ENGINE USER LEVEL CONTEXT SALT PDU`: a request of this PDU, with names as arcs.
 fn request(manager: &mut Manager, alloc: Global, words: &[Word<'_>]) -> Result<Asked> {
-    let [now, id, engine, user, level, context, salt, pdu] = words else {
-        bail!("request NOW ID ENGINE USER LEVEL CONTEXT SALT PDU");
-    };
-    let pdu = pdu_of(pdu.octets()?)?;
-    let bindings = bindings_of(alloc, &pdu)?;
-    let (id, user) = (id.number32()?, user.name());
+    let (said, pdu) = said_in(words)?;
     ensure!(
-        is_pdu_tag(pdu.tag) && id <= 2_147_483_647 && user.len() <= 32,
+        is_pdu_tag(pdu.tag) && said.id <= 2_147_483_647 && said.user.len() <= 32,
         "a request"
     );
-    let body = Body {
-        context_engine: engine.octets()?,
-        context_name: context.octets()?,
-        tag: pdu.tag,
-        id: pdu.id,
-        second: pdu.second,
-        third: pdu.third,
-        bindings: &bindings,
-    };
-    let (now, level, salt) = (now.number()?, level.level()?, salt_of(salt)?);
-    Ok(manager.request(now, id, &engine_of(engine)?, user, level, &body, salt))
+    let engine = EngineId::of(said.engine).context("an engine ID")?;
+    let bindings = bindings_of(alloc, &pdu)?;
+    Ok(asked_of(manager, &engine, &said, &pdu, &bindings))
 }
 
-/// `request_of ..`: the same request with names in octets.
+/// `request_of ..`: this request with names in octets.
 fn request_of(manager: &mut Manager, alloc: Global, words: &[Word<'_>]) -> Result<Asked> {
-    let [now, id, engine, user, level, context, salt, pdu] = words else {
-        bail!("request_of NOW ID ENGINE USER LEVEL CONTEXT SALT PDU");
-    };
-    let pdu = pdu_of(pdu.octets()?)?;
-    let bindings = variables_of(alloc, &pdu)?;
-    let (id, user) = (id.number32()?, user.name());
+    let (said, pdu) = said_in(words)?;
     ensure!(
-        is_pdu_tag(pdu.tag) && id <= 2_147_483_647 && user.len() <= 32,
+        is_pdu_tag(pdu.tag) && said.id <= 2_147_483_647 && said.user.len() <= 32,
         "a request"
     );
-    let front = Front {
-        context_engine: engine.octets()?,
-        context_name: context.octets()?,
-        tag: pdu.tag,
-        id: pdu.id,
-        second: pdu.second,
-        third: pdu.third,
-    };
-    let (now, level, salt) = (now.number()?, level.level()?, salt_of(salt)?);
-    Ok(manager.request_of(
-        now,
-        id,
-        &engine_of(engine)?,
-        user,
-        level,
-        &front,
-        &bindings,
-        salt,
-    ))
+    let engine = EngineId::of(said.engine).context("an engine ID")?;
+    let bindings = variables_of(alloc, &pdu)?;
+    Ok(asked_in_octets(manager, &engine, &said, &pdu, &bindings))
 }
 
 /// `reply NOW DATAGRAM`: what an accepted message is to the last request.
@@ -303,8 +385,8 @@ fn reply(
     datagram: &Word<'_>,
 ) -> Result<String> {
     let pending = pending.as_ref().context("a request")?;
-    match manager.take(now.number()?, datagram.octets()?) {
-        Ok(taken) => Ok(format!(in alloc; "{:?}", answer_of(pending, &taken))?),
+    match taken(manager, now.number()?, datagram.octets()?) {
+        Ok(taken) => Ok(format!(in alloc; "{:?}", answer_to(pending, &taken))?),
         Err(fault) => refused(alloc, fault),
     }
 }

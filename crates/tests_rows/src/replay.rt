@@ -10,7 +10,7 @@ use snmpsec_replay::{ReplayFault, replay_log};
 use snmpsec_streams::write_whole;
 use std::alloc::Global;
 use std::io;
-use std::io::{BufReader, ErrorKind, Read, Write};
+use std::io::{BufRead, BufReader, ErrorKind, Read, Write};
 use usm_core::Users;
 
 /// How often a stream is interrupted before each call that does something, and the call that fails, if one does.
@@ -135,6 +135,15 @@ fn manager(alloc: Global) -> Result<Manager> {
     Ok(Manager::new(alloc, Users::load(alloc, &[])?, Clocks::new(alloc)))
 }
 
+/// How it ended that a manager without users took the log.
+fn replayed<R: BufRead, W: Write>(
+    alloc: Global,
+    log: &mut R,
+    text: &mut W,
+) -> Result<Result<(), ReplayFault>> {
+    Ok(replay_log(alloc, manager(alloc)?, log, text))
+}
+
 /// What was written, and how it ended.
 fn ended(alloc: Global, outcome: Result<(), ReplayFault>, text: &[u8]) -> Result<String> {
     Ok(format!(in alloc; "{outcome:?} {}", Text(text))?)
@@ -152,7 +161,7 @@ fn replay(alloc: Global, words: &[Word<'_>]) -> Result<String> {
         written: Vec::new(alloc),
         troubles: writing,
     };
-    let outcome = replay_log(alloc, manager(alloc)?, &mut log, &mut text);
+    let outcome = replayed(alloc, &mut log, &mut text)?;
     ended(alloc, outcome, &text.written)
 }
 
@@ -160,7 +169,7 @@ fn replay(alloc: Global, words: &[Word<'_>]) -> Result<String> {
 fn never_ending(alloc: Global, line: &Word<'_>, end: &Word<'_>) -> Result<String> {
     let (line, end) = (line.octets()?, end.octet()?);
     let mut log = BufReader::new(alloc, Endless { line, at: 0, end })?;
-    let outcome = replay_log(alloc, manager(alloc)?, &mut log, &mut io::sink());
+    let outcome = replayed(alloc, &mut log, &mut io::sink())?;
     Ok(format!(in alloc; "{outcome:?}")?)
 }
 
@@ -171,7 +180,7 @@ fn longest(alloc: Global, now: &Word<'_>, count: &Word<'_>) -> Result<String> {
     log.push_str("0".repeat(alloc, count)?.as_str())?;
     log.push('\n')?;
     let mut reader = log.as_bytes();
-    let outcome = replay_log(alloc, manager(alloc)?, &mut reader, &mut io::sink());
+    let outcome = replayed(alloc, &mut reader, &mut io::sink())?;
     Ok(format!(in alloc; "{outcome:?}")?)
 }
 

@@ -6,7 +6,7 @@ use crate::row::{Row, Word};
 use crate::shown::{Text, none, silent};
 use anyhow::{Context, Result, bail};
 use engine_clock::{Clocks, EngineId};
-use snmp_world::{Event, World, WorldFault};
+use snmp_world::{Event, World, WorldFault, WorldStopped};
 use std::alloc::Global;
 use usm_core::Users;
 
@@ -70,7 +70,7 @@ impl Sharing {
     fn step(&mut self, alloc: Global, event: &Word<'_>) -> Result<String> {
         let event = event_of(alloc, event.text, &self.messages)?;
         let world = self.world.as_mut().context("a world")?;
-        match world.step(&event) {
+        match stepped(world, &event) {
             Ok(()) => Ok("done".to_string(alloc)?),
             Err(WorldFault::OutOfMemory) => bail!("out of memory"),
             Err(fault) => Ok(format!(in alloc; "{fault:?}")?),
@@ -83,7 +83,7 @@ impl Sharing {
         for word in words {
             events.push(event_of(alloc, word.text, &self.messages)?)?;
         }
-        let done = match self.world.as_mut().context("a world")?.run(&events) {
+        let done = match ran(self.world.as_mut().context("a world")?, &events) {
             Ok(()) => events.len(),
             Err(stopped) => stopped.done,
         };
@@ -101,6 +101,16 @@ impl Sharing {
             _ => bail!("no row {} of so many words", row.kind),
         }
     }
+}
+
+/// The event happens in the world.
+fn stepped(world: &mut World, event: &Event) -> Result<(), WorldFault> {
+    world.step(event)
+}
+
+/// The events happen in the world, one after another.
+fn ran(world: &mut World, events: &[Event]) -> Result<(), WorldStopped> {
+    world.run(events)
 }
 
 /// `size`: how many managers and files there are.
