@@ -59,6 +59,6 @@ fn a_refused_growth_gives_no_other_spelling(rt: HostRuntime) -> Result<(), Fail>
         Err(CanonFault::OutOfMemory) => canonical(rt.alloc(), &DISCOVERY)?,
         other => other?,
     };
-    assert_eq!(rt; spelled.as_slice(), &DISCOVERY);
+    assert_eq!(rt; spelled.as_slice(), DISCOVERY.as_slice());
     Ok(())
 }
