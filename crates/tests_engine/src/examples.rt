@@ -1,0 +1,24 @@
+//! An example of each library: `tools/crate-examples` puts it at the head of the library's root file.
+mod of_engine_clock;
+mod of_snmp_agent;
+mod of_snmp_answers;
+mod of_snmp_ber;
+mod of_snmp_calls;
+mod of_snmp_engine;
+mod of_snmp_held;
+mod of_snmp_manager;
+mod of_snmp_message;
+mod of_snmp_msg;
+mod of_snmp_outcome;
+mod of_snmp_sending;
+mod of_snmp_world;
+mod of_snmpsec_config;
+mod of_snmpsec_open;
+mod of_snmpsec_replay;
+mod of_usm_aes;
+mod of_usm_cache;
+mod of_usm_core;
+mod of_usm_keys;
+mod of_usm_users;
+mod of_vacm_core;
+mod of_vacm_table;

@@ -1,0 +1,50 @@
+//! Octets as answers show them.
+
+use anyhow::Result;
+use std::alloc::Global;
+use std::fmt;
+
+/// The answer to a row that sets something up.
+pub fn silent(alloc: Global) -> Result<String> {
+    Ok(String::new(alloc))
+}
+
+/// The answer that there is nothing.
+pub fn none(alloc: Global) -> Result<String> {
+    Ok("none".to_string(alloc)?)
+}
+
+/// Octets in hex, or `-` for none.
+#[derive(Clone, Copy)]
+pub struct Hex<'a>(pub &'a [u8]);
+
+impl fmt::Display for Hex<'_> {
+    fn fmt<W: fmt::Write>(&self, f: &mut fmt::Formatter<W>) -> fmt::Result {
+        if self.0.is_empty() {
+            return f.write_str("-");
+        }
+        for octet in self.0.iter() {
+            write!(f, "{octet:02x}")?;
+        }
+        Ok(())
+    }
+}
+
+/// A text as it stands in rows: `'` and then `_` for a space and `|` for a line feed.
+#[derive(Clone, Copy)]
+pub struct Text<'a>(pub &'a [u8]);
+
+impl fmt::Display for Text<'_> {
+    fn fmt<W: fmt::Write>(&self, f: &mut fmt::Formatter<W>) -> fmt::Result {
+        f.write_str("'")?;
+        for octet in self.0.iter() {
+            let shown = match *octet {
+                b' ' => '_',
+                b'\n' => '|',
+                other => char::from(other),
+            };
+            write!(f, "{shown}")?;
+        }
+        Ok(())
+    }
+}
