@@ -1,8 +1,10 @@
-//! What a refused growth of memory leaves, in each library, and an example of each library.
+//! What a refused growth of memory leaves, in each library, an example of each library, and ten thousand texts sealed and opened.
 #![tactic(auto)]
 
 #[cfg(test)]
 mod access;
+#[cfg(test)]
+mod aes;
 #[cfg(test)]
 mod agent;
 #[cfg(test)]

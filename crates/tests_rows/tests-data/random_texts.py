@@ -1,4 +1,4 @@
-"""Prints the digests that src/tests/random_texts.rt asks for: of 10,000 texts that OpenSSL seals and opens.
+"""Prints the digests that crates/tests_engine/src/aes.rt asks for: of 10,000 texts that OpenSSL seals and opens.
 
 Run it with Python's `cryptography`, which calls OpenSSL:
     python3 tests-data/random_texts.py
