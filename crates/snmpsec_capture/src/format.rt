@@ -15,7 +15,7 @@ use std::alloc::Global;
 use std::io::Read;
 
 /// What the items of a capture are read by.
-#[derive(Debug, Drop)]
+#[derive(Drop)]
 pub(crate) enum Format {
     /// The header of a capture in the format of libpcap.
     Pcap(Header),
@@ -24,7 +24,7 @@ pub(crate) enum Format {
 }
 
 /// A capture whose beginning was read.
-#[derive(Debug, Drop)]
+#[derive(Drop)]
 pub(crate) struct Begun {
     pub(crate) format: Format,
     /// How many octets the beginning has.
