@@ -22,7 +22,7 @@ use std::io::{Read, Write};
 const MOST: u64 = 4_611_686_018_427_387_904;
 
 /// What becomes of a record.
-#[derive(Clone, Copy, Debug, PartialEq, Eq)]
+#[derive(Clone, Copy)]
 pub(crate) enum Sorted<'a> {
     /// Its datagram is a line of the log, at this moment.
     Logged(u64, &'a [u8]),
@@ -33,7 +33,7 @@ pub(crate) enum Sorted<'a> {
 }
 
 /// Why a record that may be a datagram isn't in the log.
-#[derive(Clone, Copy, Debug, PartialEq, Eq)]
+#[derive(Clone, Copy)]
 pub(crate) enum Telling {
     Fragment,
     CutShort,

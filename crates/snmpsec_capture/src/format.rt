@@ -2,7 +2,7 @@
 
 ghost use Rattle.std.specs.Prelude.{◌≡◌, ◌<◌, ◌≤◌, ◌++◌, true, ℕ, List, Option, drop, length, IfOk, IfErr};
 ghost use Rattle.std.specs.Io.KnownBytes.{Consumes, IsAtEnd};
-ghost use Rattle.snmpsec_capture.specs.Formats.{Begins, IsNext, ReadsBeginning, StopsItem, begins_capture, state_of};
+ghost use Rattle.snmpsec_capture.specs.Formats.{Begins, IsNext, ReadsBeginning, StopsItem, begins_capture, of_header, state_of};
 ghost use Rattle.snmpsec_capture.specs.Pcapng.{begins_section};
 
 use crate::blocks::{finish_block, read_block};
@@ -15,7 +15,7 @@ use std::alloc::Global;
 use std::io::Read;
 
 /// What the items of a capture are read by.
-#[derive(Debug, Drop)]
+#[derive(Drop)]
 pub(crate) enum Format {
     /// The header of a capture in the format of libpcap.
     Pcap(Header),
@@ -24,7 +24,7 @@ pub(crate) enum Format {
 }
 
 /// A capture whose beginning was read.
-#[derive(Debug, Drop)]
+#[derive(Drop)]
 pub(crate) struct Begun {
     pub(crate) format: Format,
     /// How many octets the beginning has.
@@ -110,6 +110,23 @@ pub(crate) fn begin<R: Read>(
     }
 }
 
+/// Reads the next record as an item. Its packet stands in the room.
+fn read_record_item<R: Read>(
+    reader: &mut R,
+    header: Header,
+    room: &mut [u8],
+) -> Result<Next, CaptureFault>
+    requires { length room.old ≡ 262172 }
+    ensures room { length room.new ≡ 262172 }
+    ensures ok { IfOk result (IsNext (of_header header) (of_header header) room.new (R.remaining reader.old) (R.remaining reader.new)) }
+    ensures err { IfErr result (StopsItem (of_header header) (R.remaining reader.old) (R.remaining reader.new)) }
+{
+    match read_record(reader, header, room) {
+        Ok(next) => Ok(next),
+        Err(_) => Err(CaptureFault::CannotRead),
+    }
+}
+
 /// Reads the next item. Its packet stands in the room.
 pub(crate) fn read_item<R: Read>(
     reader: &mut R,
@@ -122,10 +139,7 @@ pub(crate) fn read_item<R: Read>(
     ensures err { IfErr result (StopsItem (state_of format.old) (R.remaining reader.old) (R.remaining reader.new)) }
 {
     match format {
-        Format::Pcap(header) => match read_record(reader, *header, room) {
-            Ok(next) => Ok(next),
-            Err(_) => Err(CaptureFault::CannotRead),
-        },
+        Format::Pcap(header) => read_record_item(reader, *header, room),
         Format::Pcapng(section) => read_block(reader, section, room),
     }
 }

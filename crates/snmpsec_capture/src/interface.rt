@@ -6,7 +6,7 @@ ghost use Rattle.snmpsec_capture.specs.Pcapng.{IsMoved, SayAll, behind_option, h
 use snmpsec_packet::{Order, read_16_by, read_64};
 
 /// What the description of an interface says of its packets.
-#[derive(Clone, Copy, Debug, PartialEq, Eq)]
+#[derive(Clone, Copy)]
 pub(crate) struct Interface {
     /// The type of the link, a number of LINKTYPE.
     pub(crate) link: u16,

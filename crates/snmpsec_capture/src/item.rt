@@ -1,7 +1,7 @@
 //! What stands next in a capture.
 
 /// What is known of a packet that was captured.
-#[derive(Clone, Copy, Debug, PartialEq, Eq)]
+#[derive(Clone, Copy)]
 pub(crate) struct Head {
     /// The type of the link, a number of LINKTYPE.
     pub(crate) link: u16,
@@ -16,7 +16,7 @@ pub(crate) struct Head {
 }
 
 /// An item that was read.
-#[derive(Clone, Copy, Debug, PartialEq, Eq)]
+#[derive(Clone, Copy)]
 pub(crate) struct Item {
     /// How many octets it has.
     pub(crate) size: usize,
@@ -25,7 +25,7 @@ pub(crate) struct Item {
 }
 
 /// What stands next in a capture.
-#[derive(Clone, Copy, Debug, PartialEq, Eq)]
+#[derive(Clone, Copy)]
 pub(crate) enum Next {
     /// An item.
     Item(Item),

@@ -21,7 +21,7 @@ const SECTION: u32 = 0x0a0d_0d0a;
 const MAGIC: u32 = 0x1a2b_3c4d;
 
 /// The kinds of blocks.
-#[derive(Clone, Copy, Debug, PartialEq, Eq)]
+#[derive(Clone, Copy)]
 pub(crate) enum Kind {
     /// The header of a section.
     Section,
@@ -36,7 +36,7 @@ pub(crate) enum Kind {
 }
 
 /// What was read of a section.
-#[derive(Debug, Drop)]
+#[derive(Drop)]
 pub(crate) struct Section {
     /// The order of the octets of all numbers.
     pub(crate) order: Order,
@@ -45,7 +45,7 @@ pub(crate) struct Section {
 }
 
 /// What the first octets of a block say.
-#[derive(Clone, Copy, Debug, PartialEq, Eq)]
+#[derive(Clone, Copy)]
 pub(crate) struct BlockHead {
     /// The order of the octets of its numbers.
     pub(crate) order: Order,
@@ -54,7 +54,7 @@ pub(crate) struct BlockHead {
 }
 
 /// What a block means.
-#[derive(Clone, Copy, Debug, PartialEq, Eq)]
+#[derive(Clone, Copy)]
 pub(crate) enum Meaning {
     /// It is a record.
     Record(Head),
