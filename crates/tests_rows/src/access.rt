@@ -2,6 +2,7 @@
 
 use crate::row::{Row, Word};
 use crate::shown::{Text, none, silent};
+use crate::subjects::Subject;
 use anyhow::{Context, Result, bail};
 use snmp_ber::Oid;
 use std::alloc::Global;
@@ -146,6 +147,16 @@ impl Views {
         };
         let tables = Vacm::load(alloc, &self.rows)?;
         Ok(format!(in alloc; "{}", Steps(&tables.explain(&self.rows, &asking)))?)
+    }
+}
+
+impl Subject for Views {
+    fn begin(alloc: Global) -> Result<Views> {
+        Ok(Views::new(alloc))
+    }
+
+    fn answered(&mut self, alloc: Global, row: &Row<'_>) -> Result<String> {
+        self.answer(alloc, row)
     }
 }
 

@@ -4,9 +4,24 @@ ghost use Rattle.std.specs.Prelude.{◌≤◌, length};
 
 use crate::row::{Row, Word};
 use crate::shown::{Hex, none};
+use crate::subjects::Subject;
 use anyhow::{Context, Result, bail, ensure};
 use snmp_ber::*;
 use std::alloc::Global;
+
+/// Elements and numbers. Their rows set nothing up.
+#[derive(Clone, Copy)]
+pub struct Elements;
+
+impl Subject for Elements {
+    fn begin(_alloc: Global) -> Result<Elements> {
+        Ok(Elements)
+    }
+
+    fn answered(&mut self, alloc: Global, row: &Row<'_>) -> Result<String> {
+        answer(alloc, row)
+    }
+}
 
 /// What is answered to a row.
 pub fn answer(alloc: Global, row: &Row<'_>) -> Result<String> {

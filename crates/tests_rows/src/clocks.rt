@@ -3,6 +3,7 @@
 
 use crate::row::{Row, Word};
 use crate::shown::{Hex, Text, none, silent};
+use crate::subjects::Subject;
 use anyhow::{Context, Result, bail};
 use engine_clock::*;
 use std::alloc::Global;
@@ -109,6 +110,16 @@ impl Held {
             Some(time) => Ok(format!(in alloc; "{time}")?),
             None => none(alloc),
         }
+    }
+}
+
+impl Subject for Held {
+    fn begin(alloc: Global) -> Result<Held> {
+        Ok(Held::new(alloc))
+    }
+
+    fn answered(&mut self, alloc: Global, row: &Row<'_>) -> Result<String> {
+        self.answer(alloc, row)
     }
 }
 

@@ -3,6 +3,7 @@
 use crate::access::question_of;
 use crate::row::{Row, Word};
 use crate::shown::none;
+use crate::subjects::Subject;
 use anyhow::{Context, Result, bail};
 use snmpsec_config::{Config, ConfigFault, level_of, level_word};
 use std::alloc::Global;
@@ -57,6 +58,16 @@ impl Settings {
             .as_ref()
             .context("a configuration that was read")?;
         question_of(alloc, &config.access, words)
+    }
+}
+
+impl Subject for Settings {
+    fn begin(_alloc: Global) -> Result<Settings> {
+        Ok(Settings::new())
+    }
+
+    fn answered(&mut self, alloc: Global, row: &Row<'_>) -> Result<String> {
+        self.answer(alloc, row)
     }
 }
 

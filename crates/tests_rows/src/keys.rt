@@ -4,6 +4,7 @@ use crate::clocks::pair_in;
 use crate::people::auth_of;
 use crate::row::{Row, Word};
 use crate::shown::{Hex, none};
+use crate::subjects::Subject;
 use crate::usm::salt_of;
 use anyhow::{Context, Result, bail, ensure};
 use md5::Md5;
@@ -12,6 +13,20 @@ use sha2::Sha256;
 use std::alloc::Global;
 use usm_aes::{cfb_open, cfb_seal, encrypt_block, expand, iv};
 use usm_keys::{Auth, AuthHash, Key, localise, mac, password_key};
+
+/// Keys, codes and the cipher. Their rows set nothing up.
+#[derive(Clone, Copy)]
+pub struct Keys;
+
+impl Subject for Keys {
+    fn begin(_alloc: Global) -> Result<Keys> {
+        Ok(Keys)
+    }
+
+    fn answered(&mut self, alloc: Global, row: &Row<'_>) -> Result<String> {
+        answer(alloc, row)
+    }
+}
 
 /// What is answered to a row.
 pub fn answer(alloc: Global, row: &Row<'_>) -> Result<String> {

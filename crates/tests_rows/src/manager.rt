@@ -70,16 +70,8 @@ impl Asking {
             ("request", words) => self.request(alloc, words),
             ("request_of", words) => self.request_of(alloc, words),
             ("discover", [id]) => self.discover(alloc, id),
-            ("reply", [now, datagram]) => reply(
-                &mut self.manager,
-                alloc,
-                &self.pending,
-                now,
-                datagram,
-            ),
-            ("reply_to_earlier", [now, datagram]) => {
-                reply(&mut self.manager, alloc, &self.earlier, now, datagram)
-            }
+            ("reply", [now, datagram]) => self.reply(alloc, now, datagram),
+            ("reply_to_earlier", [now, datagram]) => self.earlier_reply(alloc, now, datagram),
             _ => held(&self.manager, alloc, row),
         }
     }
@@ -106,6 +98,23 @@ impl Asking {
     fn request_of(&mut self, alloc: Global, words: &[Word<'_>]) -> Result<String> {
         let asked = request_of(&mut self.manager, alloc, words)?;
         self.asked(alloc, asked)
+    }
+
+    /// `reply NOW DATAGRAM`: what an accepted message is to the last request.
+    fn reply(&mut self, alloc: Global, now: &Word<'_>, datagram: &Word<'_>) -> Result<String> {
+        let pending = self.pending.as_ref().context("a request")?;
+        reply(&mut self.manager, alloc, pending, now, datagram)
+    }
+
+    /// `reply_to_earlier NOW DATAGRAM`: what an accepted message is to the request before the last.
+    fn earlier_reply(
+        &mut self,
+        alloc: Global,
+        now: &Word<'_>,
+        datagram: &Word<'_>,
+    ) -> Result<String> {
+        let pending = self.earlier.as_ref().context("a request before the last")?;
+        reply(&mut self.manager, alloc, pending, now, datagram)
     }
 
     /// `discover ID`: the discovery request.
@@ -376,15 +385,14 @@ fn request_of(manager: &mut Manager, alloc: Global, words: &[Word<'_>]) -> Resul
     Ok(asked_in_octets(manager, &engine, &said, &pdu, &bindings))
 }
 
-/// `reply NOW DATAGRAM`: what an accepted message is to the last request.
+/// What an accepted message is to a request.
 fn reply(
     manager: &mut Manager,
     alloc: Global,
-    pending: &Option<Pending>,
+    pending: &Pending,
     now: &Word<'_>,
     datagram: &Word<'_>,
 ) -> Result<String> {
-    let pending = pending.as_ref().context("a request")?;
     match taken(manager, now.number()?, datagram.octets()?) {
         Ok(taken) => Ok(format!(in alloc; "{:?}", answer_to(pending, &taken))?),
         Err(fault) => refused(alloc, fault),

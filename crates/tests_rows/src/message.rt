@@ -3,9 +3,24 @@
 use crate::pdu;
 use crate::row::{Row, Word};
 use crate::shown::Hex;
+use crate::subjects::Subject;
 use anyhow::{Result, bail};
 use snmp_msg::*;
 use std::alloc::Global;
+
+/// Messages. Their rows set nothing up.
+#[derive(Clone, Copy)]
+pub struct Messages;
+
+impl Subject for Messages {
+    fn begin(_alloc: Global) -> Result<Messages> {
+        Ok(Messages)
+    }
+
+    fn answered(&mut self, alloc: Global, row: &Row<'_>) -> Result<String> {
+        answer(alloc, row)
+    }
+}
 
 /// What is answered to a row.
 pub fn answer(alloc: Global, row: &Row<'_>) -> Result<String> {

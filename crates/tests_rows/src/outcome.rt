@@ -3,6 +3,7 @@
 use crate::people::People;
 use crate::row::{Row, Word};
 use crate::shown::{Hex, Text};
+use crate::subjects::Subject;
 use anyhow::{Result, bail, ensure};
 use engine_clock::EngineId;
 use snmp_outcome::{TakeFault, Taken, read_text, scoped_octets};
@@ -36,6 +37,16 @@ impl Reading {
             ("fault", [name, place]) => fault_text(alloc, name, place),
             _ => bail!("no row {} of so many words", row.kind),
         }
+    }
+}
+
+impl Subject for Reading {
+    fn begin(alloc: Global) -> Result<Reading> {
+        Reading::new(alloc)
+    }
+
+    fn answered(&mut self, alloc: Global, row: &Row<'_>) -> Result<String> {
+        self.answer(alloc, row)
     }
 }
 

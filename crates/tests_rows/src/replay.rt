@@ -3,6 +3,7 @@
 
 use crate::row::{Row, Word};
 use crate::shown::Text;
+use crate::subjects::Subject;
 use anyhow::{Result, bail};
 use engine_clock::Clocks;
 use snmp_manager::Manager;
@@ -116,6 +117,20 @@ impl Read for Endless<'_> {
             };
         }
         Ok(buf.len())
+    }
+}
+
+/// Logs and streams. Their rows set nothing up.
+#[derive(Clone, Copy)]
+pub struct Logs;
+
+impl Subject for Logs {
+    fn begin(_alloc: Global) -> Result<Logs> {
+        Ok(Logs)
+    }
+
+    fn answered(&mut self, alloc: Global, row: &Row<'_>) -> Result<String> {
+        answer(alloc, row)
     }
 }
 

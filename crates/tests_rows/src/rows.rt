@@ -1,8 +1,20 @@
 //! Files of rows, and how many rows of each pass.
 
+use crate::access::Views;
+use crate::ber::Elements;
+use crate::clocks::Held;
+use crate::config::Settings;
+use crate::keys::Keys;
+use crate::message::Messages;
+use crate::outcome::Reading;
+use crate::replay::Logs;
 use crate::row::Row;
-use crate::subjects::{State, answer};
-use anyhow::{Context, Result, ensure};
+use crate::shown::silent;
+use crate::stations::Stations;
+use crate::subjects::Subject;
+use crate::usm::Sealing;
+use crate::world::Sharing;
+use anyhow::{Context, Result, bail, ensure};
 use std::alloc::Global;
 use std::rt::{Env, Files};
 use std::{env, fs};
@@ -15,6 +27,14 @@ struct Count {
 }
 
 impl Count {
+    /// No row.
+    fn new() -> Count {
+        Count {
+            passed: 0,
+            failed: 0,
+        }
+    }
+
     fn add(&mut self, other: Count) {
         self.passed = self.passed.saturating_add(other.passed);
         self.failed = self.failed.saturating_add(other.failed);
@@ -30,16 +50,37 @@ impl Count {
     }
 }
 
+/// What a file of rows has set up.
+#[derive(Drop)]
+struct State<S: Subject> {
+    subject: S,
+    kept: Vec<u8>,
+}
+
+impl<S: Subject> State<S> {
+    /// What is answered to a row. `octets OCTETS` keeps them for words with `@`.
+    fn answer(&mut self, alloc: Global, row: &Row<'_>) -> Result<String> {
+        if row.kind != "octets" {
+            return self.subject.answered(alloc, row);
+        }
+        let [octets] = row.words.as_slice() else {
+            bail!("octets OCTETS");
+        };
+        self.kept = octets.octets()?.to_vec(alloc)?;
+        silent(alloc)
+    }
+}
+
 /// Checks a line, and prints it if it is answered in another way.
-fn check_line<R: Print + AllocGlobal>(
+fn check_line<R: Print + AllocGlobal, S: Subject>(
     rt: &R,
-    state: &mut State,
+    state: &mut State<S>,
     place: (&str, usize),
     line: &str,
     count: &mut Count,
 ) -> Result<()> {
-    let row = Row::of(rt.alloc(), line, state.kept())?;
-    let found = answer(rt.alloc(), state, &row)?;
+    let row = Row::of(rt.alloc(), line, &state.kept)?;
+    let found = state.answer(rt.alloc(), &row)?;
     let is_same = found.as_str() == row.wanted;
     if !is_same {
         println!(rt;
@@ -52,12 +93,12 @@ fn check_line<R: Print + AllocGlobal>(
 }
 
 /// Checks the rows of a text.
-fn check_text<R: Print + AllocGlobal>(rt: &R, file: &str, text: &str) -> Result<Count> {
-    let mut count = Count {
-        passed: 0,
-        failed: 0,
+fn check_text<R: Print + AllocGlobal, S: Subject>(rt: &R, file: &str, text: &str) -> Result<Count> {
+    let mut count = Count::new();
+    let mut state = State {
+        subject: S::begin(rt.alloc())?,
+        kept: Vec::new(rt.alloc()),
     };
-    let mut state = State::new(rt.alloc(), file)?;
     let mut number = 0usize;
     for line in text.lines() {
         number = number.saturating_add(1);
@@ -72,23 +113,44 @@ fn check_text<R: Print + AllocGlobal>(rt: &R, file: &str, text: &str) -> Result<
 }
 
 /// Checks the rows of a file, and prints how many passed.
-fn check_file<R: Files + Print + AllocGlobal>(rt: &R, file: &str) -> Result<Count> {
+fn check_file<R: Files + Print + AllocGlobal, S: Subject>(rt: &R, file: &str) -> Result<Count> {
     let text = fs::read_to_string(rt, file).context(format_args!("{file}"))?;
-    let count = check_text(rt, file, text.as_str())?;
+    let count = check_text::<R, S>(rt, file, text.as_str())?;
     println!(rt; "{file} {} passed, {} failed", count.passed, count.failed)?;
     Ok(count)
+}
+
+/// Checks the rows of a file by the subject of its name, which is what is after the last slash.
+fn check_named<R: Files + Print + AllocGlobal>(rt: &R, file: &str) -> Result<Count> {
+    let name = match file.rsplit_once('/') {
+        Some((_, name)) => name,
+        None => file,
+    };
+    match name {
+        "ber.rows" => check_file::<R, Elements>(rt, file),
+        "message.rows" => check_file::<R, Messages>(rt, file),
+        "keys.rows" => check_file::<R, Keys>(rt, file),
+        "clocks.rows" => check_file::<R, Held>(rt, file),
+        "access.rows" => check_file::<R, Views>(rt, file),
+        "usm.rows" => check_file::<R, Sealing>(rt, file),
+        "outcome.rows" => check_file::<R, Reading>(rt, file),
+        "config.rows" => check_file::<R, Settings>(rt, file),
+        "manager.rows" | "agent.rows" | "net_snmp.rows" | "exchange.rows" => {
+            check_file::<R, Stations>(rt, file)
+        }
+        "world.rows" => check_file::<R, Sharing>(rt, file),
+        "replay.rows" => check_file::<R, Logs>(rt, file),
+        _ => bail!("{file}: no subject has this name"),
+    }
 }
 
 /// Checks the files that the arguments name. Gives whether each row passed.
 pub fn check_files<R: Files + Env + Print + AllocGlobal>(rt: &R) -> Result<bool> {
     let words: Vec<String> = env::args(rt)?.collect(rt.alloc())?;
     ensure!(words.len() > 1, "usage: tests_rows FILE..");
-    let mut count = Count {
-        passed: 0,
-        failed: 0,
-    };
+    let mut count = Count::new();
     for file in words.iter().skip(1) {
-        count.add(check_file(rt, file)?);
+        count.add(check_named(rt, file)?);
     }
     println!(rt; "{} passed, {} failed", count.passed, count.failed)?;
     Ok(count.failed == 0)

@@ -7,6 +7,7 @@ use crate::manager::Asking;
 use crate::people::People;
 use crate::row::{Row, Word};
 use crate::shown::silent;
+use crate::subjects::Subject;
 use anyhow::{Context, Result, bail, ensure};
 use snmp_agent::Agent;
 use std::alloc::Global;
@@ -66,5 +67,15 @@ impl Stations {
             Some(agent) if agent::has(row.kind) => agent::answer(agent, alloc, row),
             _ => self.asking.answer(alloc, row),
         }
+    }
+}
+
+impl Subject for Stations {
+    fn begin(alloc: Global) -> Result<Stations> {
+        Stations::new(alloc)
+    }
+
+    fn answered(&mut self, alloc: Global, row: &Row<'_>) -> Result<String> {
+        self.answer(alloc, row)
     }
 }

@@ -8,6 +8,7 @@ use crate::pdu::{pdu_of, with_arcs};
 use crate::people::People;
 use crate::row::{Row, Word};
 use crate::shown::{Hex, Text, silent};
+use crate::subjects::Subject;
 use anyhow::{Context, Result, bail, ensure};
 use engine_clock::EngineId;
 use snmp_ber::Level;
@@ -53,6 +54,16 @@ impl Sealing {
     fn begin(&mut self, alloc: Global) -> Result<String> {
         self.users = self.people.users()?;
         silent(alloc)
+    }
+}
+
+impl Subject for Sealing {
+    fn begin(alloc: Global) -> Result<Sealing> {
+        Sealing::new(alloc)
+    }
+
+    fn answered(&mut self, alloc: Global, row: &Row<'_>) -> Result<String> {
+        self.answer(alloc, row)
     }
 }
 

@@ -4,6 +4,7 @@ use crate::clocks::{engine_of, pair_text};
 use crate::people::People;
 use crate::row::{Row, Word};
 use crate::shown::{Text, none, silent};
+use crate::subjects::Subject;
 use anyhow::{Context, Result, bail};
 use engine_clock::{Clocks, EngineId};
 use snmp_world::{Event, World, WorldFault, WorldStopped};
@@ -100,6 +101,16 @@ impl Sharing {
             ("file", [number]) => file(world, alloc, number),
             _ => bail!("no row {} of so many words", row.kind),
         }
+    }
+}
+
+impl Subject for Sharing {
+    fn begin(alloc: Global) -> Result<Sharing> {
+        Sharing::new(alloc)
+    }
+
+    fn answered(&mut self, alloc: Global, row: &Row<'_>) -> Result<String> {
+        self.answer(alloc, row)
     }
 }
 
