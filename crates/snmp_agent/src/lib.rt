@@ -47,4 +47,3 @@ pub use snmp_answers::{
     Status, refusal_is_short, report_is_short, response_is_accepted, status_of, too_big_is_short,
 };
 pub use unhandled::Unhandled;
-
