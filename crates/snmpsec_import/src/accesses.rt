@@ -11,7 +11,7 @@ use vacm_core::{AccessRow, Matching, Name};
 const VIEW_ROOM: usize = 33;
 
 /// What messages an access row is for.
-#[derive(Clone, Copy, Debug, PartialEq, Eq)]
+#[derive(Clone, Copy)]
 pub(crate) struct Conditions<'a> {
     pub(crate) group: &'a [u8],
     pub(crate) context: &'a [u8],
@@ -21,7 +21,7 @@ pub(crate) struct Conditions<'a> {
 }
 
 /// The tokens that conditions are written with.
-#[derive(Clone, Copy, Debug, PartialEq, Eq)]
+#[derive(Clone, Copy)]
 struct ConditionTokens<'a> {
     group: &'a [u8],
     context: &'a [u8],
@@ -88,7 +88,7 @@ pub(crate) fn conditions_of(text: &[u8]) -> Result<(Conditions<'_>, &[u8]), Line
 }
 
 /// The tokens that the views are written with.
-#[derive(Clone, Copy, Debug, PartialEq, Eq)]
+#[derive(Clone, Copy)]
 struct ViewTokens<'a> {
     read: &'a [u8],
     write: &'a [u8],

@@ -14,7 +14,7 @@ use std::alloc::Global;
 use vacm_core::{Matching, Name};
 
 /// A group, a model and a view, and what stands behind them.
-#[derive(Clone, Copy, Debug, PartialEq, Eq)]
+#[derive(Clone, Copy)]
 struct GroupView<'a> {
     group: &'a [u8],
     model: u32,

@@ -12,7 +12,7 @@ use vacm_core::{FamilyRow, Mask, Name};
 const OCTET_BITS: usize = 8;
 
 /// The words of a line, and its mask.
-#[derive(Clone, Copy, Debug, PartialEq, Eq)]
+#[derive(Clone, Copy)]
 struct ViewWords<'a> {
     view: &'a [u8],
     kind: &'a [u8],
