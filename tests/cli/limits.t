@@ -52,6 +52,13 @@ An object identifier has at most 128 numbers.
   ! snmpsec: OID "1.1.1.1.1.1.1.1.1.1.1.1.1.1.1.1.1.1.1.1."...: it has 129 numbers, and at most 128 are wanted; numbers with dots between are wanted, as 1.3.6.1.2.1.1.5.0
   [2]
 
+Of 128 numbers the first that isn't one is reported.
+
+  $ snmpsec who-sees empty ${numbers}x
+  ! snmpsec: bad word OID
+  ! snmpsec: OID "1.1.1.1.1.1.1.1.1.1.1.1.1.1.1.1.1.1.1.1."...: number 128, "x", is none (`snmptranslate -On` prints those of a name); numbers with dots between are wanted, as 1.3.6.1.2.1.1.5.0
+  [2]
+
 A read may fail.
 
   $ snmpsec check-log /proc/self/mem
