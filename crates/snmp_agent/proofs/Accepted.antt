@@ -6,11 +6,11 @@ use Rattle.engine_clock.specs.Marks.{Marks}
 use Rattle.usm_users.specs.User.{User}
 use Rattle.usm_core.specs.Sealed.{Seals}
 use Rattle.usm_core.specs.Verified.{manager}
-use Rattle.snmp_outcome.specs.Outcome.{as_manager}
-use Rattle.snmp_outcome.specs.declared.fault.TakeFault.{TakeFault}
-use Rattle.snmp_sending.specs.Accepts.{IsTakenInTime}
-use Rattle.snmp_sending.specs.Sends.{send_answer}
-use Rattle.snmp_sending.specs.Speaks.{Speech, spoken, spoken_contexts, SpeechFits, HasSameUser}
+use Rattle.snmp_incoming.specs.Outcome.{as_manager}
+use Rattle.snmp_incoming.specs.declared.fault.TakeFault.{TakeFault}
+use Rattle.snmp_outgoing.specs.Accepts.{IsTakenInTime}
+use Rattle.snmp_outgoing.specs.Sends.{send_answer}
+use Rattle.snmp_outgoing.specs.Speaks.{Speech, spoken, spoken_contexts, SpeechFits, HasSameUser}
 use Rattle.snmp_agent.specs.Sent.{IsAcceptedByManagers}
 
 -- what was sealed of the speech is accepted

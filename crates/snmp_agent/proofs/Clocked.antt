@@ -4,7 +4,7 @@ use Rattle.std.specs.Prelude.{Option, Some, None, Result, IfSome}
 use Rattle.engine_clock.specs.Pairs.{BootsAndTime, pair_max}
 use Rattle.usm_core.specs.Table.{holds}
 use Rattle.usm_core.specs.Sealed.{Sending, Seals, IsSealable}
-use Rattle.snmp_outcome.specs.Outcome.{own_pair}
+use Rattle.snmp_incoming.specs.Outcome.{own_pair}
 use Rattle.snmp_agent.specs.Agent.{AgentState}
 use Rattle.snmp_agent.specs.Sent.{Sends, CanBeSent}
 

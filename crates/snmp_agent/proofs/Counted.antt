@@ -11,11 +11,11 @@ use Rattle.usm_users.specs.User.{User}
 use Rattle.usm_users.specs.Users.{user_named, HasUserAt}
 use Rattle.usm_core.specs.Table.{Needs, Then, holds, fails, gives, refuses}
 use Rattle.usm_core.specs.Verified.{Side, agent, Verified, Verifies, ReadsLayout, Judges, IsReadAs}
-use Rattle.snmp_outcome.specs.declared.fault.TakeFault.{TakeFault}
-use Rattle.snmp_outcome.specs.declared.fault.TakeFault.TheVariants.{NotMessage, BadVersion, NotSecurity, NotScoped, UnknownEngine, UnknownUser, UnsupportedLevel, WrongDigest, NotInWindow, DecryptionError, BadScoped, BadPdu, OutOfMemory, ClockExhausted, TooLarge, UnknownModel, InvalidFlags}
-use Rattle.snmp_outcome.specs.Refusals.{number_of, answer_number}
-use Rattle.snmp_outcome.specs.Outcome.{Given, Taker, as_agent, side_at, ClockRuns, ReadsText, ReadsMessage, Weighs, Outcome}
-use Rattle.snmp_outcome.specs.Answers.{refused}
+use Rattle.snmp_incoming.specs.declared.fault.TakeFault.{TakeFault}
+use Rattle.snmp_incoming.specs.declared.fault.TakeFault.TheVariants.{NotMessage, BadVersion, NotSecurity, NotScoped, UnknownEngine, UnknownUser, UnsupportedLevel, WrongDigest, NotInWindow, DecryptionError, BadScoped, BadPdu, OutOfMemory, ClockExhausted, TooLarge, UnknownModel, InvalidFlags}
+use Rattle.snmp_incoming.specs.Refusals.{number_of, answer_number}
+use Rattle.snmp_incoming.specs.Outcome.{Given, Taker, as_agent, side_at, ClockRuns, ReadsText, ReadsMessage, Weighs, Outcome}
+use Rattle.snmp_incoming.specs.Answers.{refused}
 use Rattle.snmp_agent.specs.declared.asking.ReportedMessage.{ReportedMessage}
 use Rattle.snmp_agent.specs.Counting.{counter_of}
 use Rattle.snmp_agent.specs.Report.{AsksForReport, Offers, IsAsking}

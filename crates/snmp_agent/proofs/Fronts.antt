@@ -6,11 +6,11 @@ use Rattle.usm_users.specs.User.{User}
 use Rattle.usm_core.specs.Sealed.{Sending}
 use Rattle.usm_core.specs.Table.{holds}
 use Rattle.engine_clock.specs.Pairs.{BootsAndTime, pair_max}
-use Rattle.snmp_outcome.specs.Outcome.{own_pair}
-use Rattle.snmp_outcome.specs.declared.fault.TakeFault.{TakeFault}
-use Rattle.snmp_sending.specs.declared.front.Fronted.{Fronted}
-use Rattle.snmp_sending.specs.Speaks.{Speech, spoken, SpeechFits}
-use Rattle.snmp_sending.specs.Fronts.{FrontText, SealsFront, front_answer}
+use Rattle.snmp_incoming.specs.Outcome.{own_pair}
+use Rattle.snmp_incoming.specs.declared.fault.TakeFault.{TakeFault}
+use Rattle.snmp_outgoing.specs.declared.front.Fronted.{Fronted}
+use Rattle.snmp_outgoing.specs.Speaks.{Speech, spoken, SpeechFits}
+use Rattle.snmp_outgoing.specs.Fronts.{FrontText, SealsFront, front_answer}
 use Rattle.snmp_agent.specs.Agent.{AgentState}
 use Rattle.snmp_agent.specs.Sent.{SendsFront, IsAcceptedByManagers}
 use Rattle.snmp_agent.proofs.Accepted.{AreAccepted}

@@ -9,11 +9,11 @@ use Rattle.usm_core.specs.declared.fault.UsmFault.TheVariants as usm
 use Rattle.usm_core.specs.Refusals.{number_of}
 use Rattle.usm_core.specs.Table.{holds, fails, gives, refuses}
 use Rattle.usm_core.specs.Verified.{Verified, Verifies}
-use Rattle.snmp_outcome.specs.declared.fault.TakeFault.{TakeFault}
-use Rattle.snmp_outcome.specs.Refusals.{answer_number, IsSameRefusal}
-use Rattle.snmp_outcome.specs.Outcome.{Given, Taker, side_at, ClockRuns, IsFresh, pair_in, ReadsText, Weighs, Outcome}
-use Rattle.snmp_outcome.specs.Answers.{IsOpening, refused}
-use Rattle.snmp_outcome.proofs.Rows.{same_refused}
+use Rattle.snmp_incoming.specs.declared.fault.TakeFault.{TakeFault}
+use Rattle.snmp_incoming.specs.Refusals.{answer_number, IsSameRefusal}
+use Rattle.snmp_incoming.specs.Outcome.{Given, Taker, side_at, ClockRuns, IsFresh, pair_in, ReadsText, Weighs, Outcome}
+use Rattle.snmp_incoming.specs.Answers.{IsOpening, refused}
+use Rattle.snmp_incoming.proofs.Rows.{same_refused}
 
 pub not_both : (b : Bool) (P : Type 0) → IsTrue b ↔ P → b ≡ false → P → ⊥
 not_both b P h e p = let wrong : true ≡ false = sym (h.1 p) ∙ e in cc wrong

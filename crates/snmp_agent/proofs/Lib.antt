@@ -8,3 +8,6 @@ pub mod Accepted
 pub mod UpTos
 pub mod Values
 pub mod Fronts
+pub mod Sizes
+pub mod Speeches
+pub mod ResponseFronts

@@ -10,11 +10,11 @@ use Rattle.usm_users.specs.User.{User}
 use Rattle.usm_users.specs.Users.{user_named, supports, HasUser, HasUserAt}
 use Rattle.usm_core.specs.Table.{Needs, holds, fails}
 use Rattle.usm_core.specs.Sealed.{Sending, SealedText, Seals, IsSealable}
-use Rattle.snmp_outcome.specs.declared.fault.TakeFault.{TakeFault}
-use Rattle.snmp_outcome.specs.declared.fault.TakeFault.TheVariants.{NotMessage, BadVersion, NotSecurity, NotScoped, UnknownEngine, UnknownUser, UnsupportedLevel, WrongDigest, NotInWindow, DecryptionError, BadScoped, BadPdu, OutOfMemory, ClockExhausted, TooLarge, UnknownModel, InvalidFlags}
-use Rattle.snmp_outcome.specs.Refusals.{answer_number}
-use Rattle.snmp_sending.specs.Bodies.{has_auth, has_privacy, header_at}
-use Rattle.snmp_sending.specs.Sends.{send_refusal}
+use Rattle.snmp_incoming.specs.declared.fault.TakeFault.{TakeFault}
+use Rattle.snmp_incoming.specs.declared.fault.TakeFault.TheVariants.{NotMessage, BadVersion, NotSecurity, NotScoped, UnknownEngine, UnknownUser, UnsupportedLevel, WrongDigest, NotInWindow, DecryptionError, BadScoped, BadPdu, OutOfMemory, ClockExhausted, TooLarge, UnknownModel, InvalidFlags}
+use Rattle.snmp_incoming.specs.Refusals.{answer_number}
+use Rattle.snmp_outgoing.specs.Bodies.{has_auth, has_privacy, header_at}
+use Rattle.snmp_outgoing.specs.Sends.{send_refusal}
 use Rattle.snmp_agent.specs.declared.asking.ReportedMessage.{ReportedMessage}
 use Rattle.snmp_agent.specs.Counting.{counter_of, counter_at}
 use Rattle.snmp_agent.specs.Report.{AsksForReport, IsAsking, IsReport, offered, missing, reporting_of}

@@ -4,7 +4,7 @@ use Rattle.snmp_message.specs.Layout.{Parts, Outer}
 use Rattle.snmp_message.specs.Security.{Fields, SecText}
 use Rattle.snmp_message.specs.Scoped.{Contexts, HasScoped}
 use Rattle.snmp_msg.specs.Pdu.{PduParts, PduText}
-use Rattle.snmp_sending.specs.Classes.{is_confirmed}
+use Rattle.snmp_outgoing.specs.Classes.{is_confirmed}
 use Rattle.snmp_agent.specs.Report.{PlainPdu, AsksForReport}
 
 module _ (w : List ℕ)

@@ -1,7 +1,7 @@
 -- Tables of texts that are cut at a limit.
 use Rattle.std.proofs.Common.{ℕ, List, Option, Some, None}
 use Rattle.std.specs.Prelude.{Result, Err, IfSome, option_map}
-use Rattle.snmp_sending.specs.UpTo.{UpTo, refuses}
+use Rattle.snmp_outgoing.specs.UpTo.{UpTo, refuses}
 
 -- a refusal of the table is one of the table that is cut
 pub some_refused : (limit : ℕ) (P : Result (List ℕ) ℕ → Type 0) (o : Option ℕ) → IfSome (option_map (λ n. Err n) o) P → IfSome (option_map (λ n. Err n) o) (UpTo limit P)

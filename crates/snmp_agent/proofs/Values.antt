@@ -2,9 +2,9 @@
 use Rattle.std.proofs.Common.{◌≡◌, ℕ, ◌<◌, List, length, arith}
 use Rattle.std.specs.Prelude.{Some}
 use Rattle.std.proofs.lemmas.List.{get_or-set_same}
-use Rattle.snmp_sending.specs.declared.counter.Counter.{Counter}
-use Rattle.snmp_sending.specs.declared.counter.Counter.TheVariants.{UnknownPduHandlers, UnavailableContexts, UnknownContexts, InBadVersions, InAsnParseErrs, UnknownSecurityModels, InvalidMsgs, SilentDrops}
-use Rattle.snmp_sending.specs.Counters.{place_of}
+use Rattle.snmp_outgoing.specs.declared.counter.Counter.{Counter}
+use Rattle.snmp_outgoing.specs.declared.counter.Counter.TheVariants.{UnknownPduHandlers, UnavailableContexts, UnknownContexts, InBadVersions, InAsnParseErrs, UnknownSecurityModels, InvalidMsgs, SilentDrops}
+use Rattle.snmp_outgoing.specs.Counters.{place_of}
 use Rattle.snmp_agent.specs.Counts.{count_at, count_after, one_more}
 
 place_below : (counter : Counter) → place_of counter < 8

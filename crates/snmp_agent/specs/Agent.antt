@@ -3,10 +3,10 @@ use Rattle.std.specs.Prelude.{◌≡◌, ℕ, List, Option, Some, None, Result, 
 use Rattle.usm_users.specs.User.{User}
 use Rattle.usm_core.specs.Verified.{Verified, Verifies}
 use Rattle.vacm_core.specs.Tables.{Tables}
-use Rattle.snmp_outcome.specs.declared.taken.Taken.{Taken}
-use Rattle.snmp_outcome.specs.Refusals.{answer_number}
-use Rattle.snmp_outcome.specs.Outcome.{Given, Taker, as_agent, side_at, ClockRuns, IsFresh, Outcome}
-use Rattle.snmp_outcome.specs.Answers.{given_of, refused}
+use Rattle.snmp_incoming.specs.declared.taken.Taken.{Taken}
+use Rattle.snmp_incoming.specs.Refusals.{answer_number}
+use Rattle.snmp_incoming.specs.Outcome.{Given, Taker, as_agent, side_at, ClockRuns, IsFresh, Outcome}
+use Rattle.snmp_incoming.specs.Answers.{given_of, refused}
 use Rattle.snmp_agent.specs.declared.refused.Refused.{Refused}
 use Rattle.snmp_agent.specs.declared.engine.Engine.{Engine}
 use Rattle.snmp_agent.specs.Counting.{counters_after}

@@ -1,6 +1,6 @@
 -- The counters of refused messages (usmStats, RFC 3414, section 5).
 use Rattle.std.specs.Prelude.{ℕ, ◌+◌, ◌-◌, ◌%◌, ◌^◌, ◌==◌, if◌then◌else◌, List, slice_index, slice_set, Option, Some, None, Result, Ok, Err}
-use Rattle.snmp_outcome.specs.Outcome.{Given}
+use Rattle.snmp_incoming.specs.Outcome.{Given}
 
 -- the counter of a refusal: 1 usmStatsUnsupportedSecLevels, 2 usmStatsNotInTimeWindows, 3 usmStatsUnknownUserNames,
 -- 4 usmStatsUnknownEngineIDs, 5 usmStatsWrongDigests and 6 usmStatsDecryptionErrors

@@ -12,7 +12,7 @@ use Rattle.vacm_core.specs.declared.access.ViewType.TheVariants.{Read, Write}
 use Rattle.vacm_core.specs.declared.access.Access.{Access}
 use Rattle.snmp_agent.specs.declared.decision.Decision.{Decision}
 use Rattle.snmp_agent.specs.declared.decision.Decision.TheVariants.{ByName, NotByName}
-use Rattle.snmp_outcome.specs.Outcome.{Given}
+use Rattle.snmp_incoming.specs.Outcome.{Given}
 use Rattle.snmp_agent.specs.Agent.{AgentState}
 
 -- who asks: model 3, the user-based one, a user, its level, and the name of a context

@@ -6,13 +6,13 @@ use Rattle.snmp_message.specs.Scoped.{Contexts}
 use Rattle.snmp_msg.specs.Pdu.{PduParts}
 use Rattle.vacm_core.specs.Tables.{Tables}
 use Rattle.vacm_core.specs.Allowed.{HasContext}
-use Rattle.snmp_outcome.specs.declared.fault.TakeFault.{TakeFault}
-use Rattle.snmp_outcome.specs.Refusals.{answer_number}
-use Rattle.snmp_outcome.specs.Outcome.{Given}
-use Rattle.snmp_sending.specs.Classes.{is_confirmed}
-use Rattle.snmp_sending.specs.declared.counter.Counter.{Counter}
-use Rattle.snmp_sending.specs.declared.counter.Counter.TheVariants as counters
-use Rattle.snmp_answers.specs.CounterReports.{refusing}
+use Rattle.snmp_incoming.specs.declared.fault.TakeFault.{TakeFault}
+use Rattle.snmp_incoming.specs.Refusals.{answer_number}
+use Rattle.snmp_incoming.specs.Outcome.{Given}
+use Rattle.snmp_outgoing.specs.Classes.{is_confirmed}
+use Rattle.snmp_outgoing.specs.declared.counter.Counter.{Counter}
+use Rattle.snmp_outgoing.specs.declared.counter.Counter.TheVariants as counters
+use Rattle.snmp_agent.specs.CounterReports.{refusing}
 use Rattle.snmp_agent.specs.declared.unhandled.Unhandled.{Unhandled}
 use Rattle.snmp_agent.specs.declared.unhandled.Unhandled.TheVariants.{NoRequest, UnknownPduHandlers, UnavailableContexts, UnknownContexts}
 use Rattle.snmp_agent.specs.Counts.{count_after, one_more}

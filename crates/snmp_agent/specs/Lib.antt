@@ -5,3 +5,6 @@ pub mod Report
 pub mod Decides
 pub mod Sent
 pub mod Dispatch
+pub mod Responses
+pub mod CounterReports
+pub mod Statuses

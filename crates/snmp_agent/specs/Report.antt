@@ -8,9 +8,9 @@ use Rattle.engine_clock.specs.Pairs.{BootsAndTime}
 use Rattle.usm_users.specs.User.{User}
 use Rattle.usm_core.specs.Verified.{OuterOf, SecurityOf}
 use Rattle.usm_core.specs.Sealed.{Sending, SealedText}
-use Rattle.snmp_outcome.specs.Outcome.{Taker, own_pair, Outcome}
-use Rattle.snmp_sending.specs.Classes.{is_confirmed}
-use Rattle.snmp_answers.specs.CounterReports.{reporting}
+use Rattle.snmp_incoming.specs.Outcome.{Taker, own_pair, Outcome}
+use Rattle.snmp_outgoing.specs.Classes.{is_confirmed}
+use Rattle.snmp_agent.specs.CounterReports.{reporting}
 use Rattle.snmp_agent.specs.declared.asking.ReportedMessage.{ReportedMessage}
 use Rattle.snmp_agent.specs.Counting.{counter_of, counter_at}
 use Rattle.snmp_agent.specs.Agent.{AgentState}

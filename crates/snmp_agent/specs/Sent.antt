@@ -9,15 +9,15 @@ use Rattle.usm_core.specs.Sealed.{Sending, Seals, IsSealable}
 use Rattle.engine_clock.specs.Marks.{Marks}
 use Rattle.usm_users.specs.User.{User}
 use Rattle.usm_core.specs.Verified.{manager}
-use Rattle.snmp_outcome.specs.Outcome.{as_manager, own_pair}
-use Rattle.snmp_sending.specs.declared.front.Front.{Front}
-use Rattle.snmp_sending.specs.Bodies.{pdu_after}
-use Rattle.snmp_sending.specs.Accepts.{IsTakenInTime}
-use Rattle.snmp_sending.specs.Speaks.{Speech, spoken, spoken_contexts, HasSameUser}
-use Rattle.snmp_sending.specs.Sends.{CanSend, RefusesSender}
-use Rattle.snmp_sending.specs.Fronts.{FrontText, SealsFront}
-use Rattle.snmp_outcome.specs.declared.fault.TakeFault.{TakeFault}
-use Rattle.snmp_outcome.specs.declared.fault.TakeFault.TheVariants.{ClockExhausted}
+use Rattle.snmp_incoming.specs.Outcome.{as_manager, own_pair}
+use Rattle.snmp_outgoing.specs.declared.front.Front.{Front}
+use Rattle.snmp_outgoing.specs.Bodies.{pdu_after}
+use Rattle.snmp_outgoing.specs.Accepts.{IsTakenInTime}
+use Rattle.snmp_outgoing.specs.Speaks.{Speech, spoken, spoken_contexts, HasSameUser}
+use Rattle.snmp_outgoing.specs.Sends.{CanSend, RefusesSender}
+use Rattle.snmp_outgoing.specs.Fronts.{FrontText, SealsFront}
+use Rattle.snmp_incoming.specs.declared.fault.TakeFault.{TakeFault}
+use Rattle.snmp_incoming.specs.declared.fault.TakeFault.TheVariants.{ClockExhausted}
 use Rattle.snmp_agent.specs.Agent.{AgentState}
 
 -- a message with this front and these bindings from the engine that isn't answered, as an SNMPv2-Trap is (RFC 3414, section 3.1): the

@@ -2,7 +2,7 @@
 
 ghost use Rattle.std.specs.Prelude.{◌≡◌, ◌≤◌, ◌<◌, ◌⊎◌, replicate, IfErr, IsSome, MatchOption, MatchResult};
 ghost use Rattle.engine_clock.specs.Pairs.{pair_max};
-ghost use Rattle.snmp_outcome.specs.Refusals.{answer_number};
+ghost use Rattle.snmp_incoming.specs.Refusals.{answer_number};
 ghost use Rattle.snmp_agent.specs.Counting.{counter_at};
 ghost use Rattle.snmp_agent.specs.Agent.{taker_of, taken_answer, AgentTakes, IsOpened};
 ghost use Rattle.snmp_agent.specs.Report.{AgentReports, OffersOnAnswer, report_of};
@@ -17,12 +17,13 @@ use crate::laws::notification_is_accepted;
 use crate::notification::{Recipient, send_notification};
 use crate::refused::Refused;
 use crate::report::report;
+use crate::response::{Response, send_response};
+use crate::response_laws::response_is_accepted;
 use engine_clock::EngineId;
-use snmp_answers::{Response, response_is_accepted, send_response};
 use snmp_ber::{Level, Oid};
+use snmp_incoming::{TakeFault, Taken};
 use snmp_msg::{Binding, Spelled, USER_BASED, one_content, one_pdu};
-use snmp_outcome::{TakeFault, Taken};
-use snmp_sending::{Body, Front, supports};
+use snmp_outgoing::{Body, Front, supports};
 use std::alloc::{AllocError, Global};
 use std::marker::Model;
 use usm_core::Users;
@@ -56,13 +57,13 @@ impl Agent {
     ghost use Rattle.snmp_msg.specs.Pdu.{PduParts, PduText};
     ghost use Rattle.snmp_msg.specs.Variables.{CanBeWritten, variable_of};
     ghost use Rattle.vacm_core.specs.Allowed.{Allowed};
-    ghost use Rattle.snmp_outcome.specs.Texts.{text_of};
-    ghost use Rattle.snmp_outcome.specs.Answers.{given_of};
-    ghost use Rattle.snmp_sending.specs.Bodies.{BodyFits, front_in, variables_in};
-    ghost use Rattle.snmp_sending.specs.Sends.{send_answer};
+    ghost use Rattle.snmp_incoming.specs.Texts.{text_of};
+    ghost use Rattle.snmp_incoming.specs.Answers.{given_of};
+    ghost use Rattle.snmp_outgoing.specs.Bodies.{BodyFits, front_in, variables_in};
+    ghost use Rattle.snmp_outgoing.specs.Sends.{send_answer};
     ghost use Rattle.snmp_agent.specs.Decides.{question, question_of, IsDecision};
-    ghost use Rattle.snmp_outcome.specs.Outcome.{own_pair};
-    ghost use Rattle.snmp_answers.specs.Responses.{response, responding};
+    ghost use Rattle.snmp_incoming.specs.Outcome.{own_pair};
+    ghost use Rattle.snmp_agent.specs.Responses.{response, responding};
     ghost use Rattle.snmp_agent.specs.Sent.{notification, notifying, Sends, CanBeSent, CanSendAt, RefusesSenderAt, IsAcceptedByManagers};
 
     /// An agent that started at the moment `started`, with these boots, at most 2147483647. Its counters are 0. This takes no

@@ -4,8 +4,8 @@ ghost use Rattle.std.specs.Prelude.{◌≢◌, List, IfOk, MatchOption};
 ghost use Rattle.snmp_msg.specs.Variables.{Variable, AreBindings};
 ghost use Rattle.snmp_agent.specs.Decides.{question, IsDecidedBy, AreAnswers};
 
+use snmp_incoming::Taken;
 use snmp_msg::{GET_REQUEST, Pdu, SET_REQUEST, USER_BASED};
-use snmp_outcome::Taken;
 use std::alloc::{AllocError, Global};
 use vacm_core::{Access, Vacm, ViewType};
 

@@ -4,7 +4,7 @@ ghost use Rattle.std.specs.Prelude.{◌≡◌, false, MatchOption};
 ghost use Rattle.snmp_message.specs.Layout.{Outer};
 ghost use Rattle.snmp_message.specs.Message.{parts};
 ghost use Rattle.snmp_msg.specs.Pdu.{pdu_of};
-ghost use Rattle.snmp_sending.specs.Classes.{is_confirmed};
+ghost use Rattle.snmp_outgoing.specs.Classes.{is_confirmed};
 ghost use Rattle.snmp_agent.specs.Report.{PlainPdu, AsksForReport, IsCopied, IsAsking};
 
 use crate::asking::ReportedMessage;
@@ -12,7 +12,7 @@ use snmp_msg::{
     Message, Pdu, one_content, one_cut, one_message, one_pdu, read_message, read_pdu, read_scoped,
     read_security,
 };
-use snmp_sending::is_confirmed;
+use snmp_outgoing::is_confirmed;
 
 /// The PDU of a message that isn't sealed, where it can be read.
 fn plain_pdu<'a>(datagram: &'a [u8], message: &Message<'_>) -> Option<Pdu<'a>>

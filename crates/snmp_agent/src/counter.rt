@@ -2,10 +2,10 @@
 
 ghost use Rattle.std.specs.Prelude.{◌≡◌};
 ghost use Rattle.snmp_agent.specs.Counts.{drop_counter_of, one_more};
-ghost use Rattle.snmp_outcome.specs.Refusals.{number_of};
+ghost use Rattle.snmp_incoming.specs.Refusals.{number_of};
 
-use snmp_outcome::TakeFault;
-use snmp_sending::Counter;
+use snmp_incoming::TakeFault;
+use snmp_outgoing::Counter;
 
 /// The counter of a refusal that is never reported.
 pub(crate) fn drop_counter_of(why: TakeFault) -> Option<Counter>

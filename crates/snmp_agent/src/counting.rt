@@ -1,10 +1,10 @@
 //! The counters of refused messages.
 
 ghost use Rattle.std.specs.Prelude.{◌≡◌, ◌≤◌, IfSome};
-ghost use Rattle.snmp_outcome.specs.Refusals.{number_of};
+ghost use Rattle.snmp_incoming.specs.Refusals.{number_of};
 ghost use Rattle.snmp_agent.specs.Counting.{counter_of, counted};
 
-use snmp_outcome::TakeFault;
+use snmp_incoming::TakeFault;
 
 /// The number of the counter that counts this refusal, 1 to 6 (usmStats, RFC 3414, section 5).
 pub(crate) fn counter_of(why: TakeFault) -> Option<u8>

@@ -5,26 +5,28 @@ ghost use Rattle.std.specs.Prelude.{◌≡◌, [], All, map, take, IfOk, IfSome,
 ghost use Rattle.snmp_message.specs.Scoped.{Contexts, ScopedFront, contexts_of};
 ghost use Rattle.snmp_msg.specs.Pdu.{PduParts, PduText, pdu_of};
 ghost use Rattle.snmp_msg.specs.Variables.{CanBeWritten, variable_of};
-ghost use Rattle.snmp_outcome.specs.Texts.{text_of};
-ghost use Rattle.snmp_outcome.specs.Answers.{given_of};
-ghost use Rattle.snmp_outcome.specs.Outcome.{own_pair};
-ghost use Rattle.snmp_sending.specs.Sends.{send_answer};
-ghost use Rattle.snmp_sending.specs.UpTo.{UpTo};
-ghost use Rattle.snmp_sending.specs.Fronts.{front_answer};
+ghost use Rattle.snmp_incoming.specs.Texts.{text_of};
+ghost use Rattle.snmp_incoming.specs.Answers.{given_of};
+ghost use Rattle.snmp_incoming.specs.Outcome.{own_pair};
+ghost use Rattle.snmp_outgoing.specs.Sends.{send_answer};
+ghost use Rattle.snmp_outgoing.specs.UpTo.{UpTo};
+ghost use Rattle.snmp_outgoing.specs.Fronts.{front_answer};
 ghost use Rattle.snmp_agent.specs.Counts.{count_at, one_more};
-ghost use Rattle.snmp_answers.specs.Responses.{response, responding};
+ghost use Rattle.snmp_agent.specs.Responses.{response, responding};
 ghost use Rattle.snmp_agent.specs.Sent.{Sends, SendsFront, CanBeSent, IsAcceptedByManagers};
 ghost use Rattle.snmp_agent.specs.Dispatch.{HandledBy, Refuses, RefusalCanBeSent, refusing_answer};
-ghost use Rattle.snmp_sending.specs.declared.counter.Counter.TheVariants.{SilentDrops};
+ghost use Rattle.snmp_outgoing.specs.declared.counter.Counter.TheVariants.{SilentDrops};
 
 use crate::agent::Agent;
 use crate::commands::{is_answer, is_command};
 use crate::counter::one_more;
+use crate::refusal::{Counted, send_refusal};
+use crate::response::{Response, send_response_front};
+use crate::response_laws::response_is_accepted;
 use crate::unhandled::Unhandled;
-use snmp_answers::{Counted, Response, response_is_accepted, send_refusal, send_response_front};
+use snmp_incoming::{TakeFault, Taken};
 use snmp_msg::{Binding, Pdu, Scoped, Spelled, one_content, one_pdu};
-use snmp_outcome::{TakeFault, Taken};
-use snmp_sending::{Counter, Fronted, is_confirmed};
+use snmp_outgoing::{Counter, Fronted, is_confirmed};
 
 impl Agent {
     /// How many messages this counter has counted.

@@ -19,7 +19,7 @@ pub(crate) struct Engine {
 impl Engine {
     ghost use Rattle.std.specs.Prelude.{◌≡◌, ◌<◌, ◌-◌, MatchOption};
     ghost use Rattle.engine_clock.specs.Pairs.{IsPair};
-    ghost use Rattle.snmp_outcome.specs.Outcome.{own_pair};
+    ghost use Rattle.snmp_incoming.specs.Outcome.{own_pair};
 
     /// Its boots and its time, the seconds since it started, which are 0 where `now` is earlier; or None where the time would
     /// be above 2147483647.

@@ -3,13 +3,13 @@
 ghost use Rattle.std.specs.Prelude.{◌≡◌, ◌↔◌, true, IsTrue, IfSome, IsErrOf};
 ghost use Rattle.engine_clock.specs.Windows.{InAgentWindow};
 ghost use Rattle.usm_core.specs.Answers.{verified_of};
-ghost use Rattle.snmp_outcome.specs.Outcome.{Outcome, pair_in};
-ghost use Rattle.snmp_outcome.specs.Answers.{answer_of};
+ghost use Rattle.snmp_incoming.specs.Outcome.{Outcome, pair_in};
+ghost use Rattle.snmp_incoming.specs.Answers.{answer_of};
 ghost use Rattle.snmp_agent.specs.Agent.{taker_at, IsOpened};
 
 use crate::engine::Engine;
 use engine_clock::{Pair, in_window_agent};
-use snmp_outcome::{TakeFault, Taken, read_text, scoped_octets};
+use snmp_incoming::{TakeFault, Taken, read_text, scoped_octets};
 use usm_core::{Checked, Role, Users};
 
 /// Without auth, or inside the agent's window (RFC 3414, section 3.2, step 7).

@@ -13,16 +13,16 @@ ghost use Rattle.vacm_core.specs.declared.access.Access.{Access as Answer};
 ghost use Rattle.usm_users.specs.User.{User};
 ghost use Rattle.usm_core.specs.Verified.{manager};
 ghost use Rattle.usm_core.specs.Sealed.{Seals};
-ghost use Rattle.snmp_outcome.specs.Outcome.{as_manager};
-ghost use Rattle.snmp_sending.specs.declared.front.Front.{Front as Said};
-ghost use Rattle.snmp_sending.specs.Bodies.{pdu_after};
-ghost use Rattle.snmp_sending.specs.Accepts.{IsTakenInTime};
-ghost use Rattle.snmp_sending.specs.Speaks.{spoken_contexts, SpeechFits, HasSameUser};
+ghost use Rattle.snmp_incoming.specs.Outcome.{as_manager};
+ghost use Rattle.snmp_outgoing.specs.declared.front.Front.{Front as Said};
+ghost use Rattle.snmp_outgoing.specs.Bodies.{pdu_after};
+ghost use Rattle.snmp_outgoing.specs.Accepts.{IsTakenInTime};
+ghost use Rattle.snmp_outgoing.specs.Speaks.{spoken_contexts, SpeechFits, HasSameUser};
 ghost use Rattle.snmp_agent.specs.Agent.{AgentState};
 ghost use Rattle.snmp_agent.specs.Sent.{notification, notifying};
 ghost use Rattle.snmp_agent.specs.Decides.{HoldsRows};
 
-use snmp_sending::spoken_is_accepted;
+use snmp_outgoing::spoken_is_accepted;
 use vacm_core::laws::order_is_free;
 
 /// What an agent's notification is sent as, with any front and any bindings, is accepted by a manager with that user, with the same

@@ -1,5 +1,5 @@
-//! The agent: an authoritative SNMPv3 engine (RFC 3414, section 1.5.1). It takes datagrams, counts and reports those that it
-//! refuses, and decides what the senders of the others may see.
+//! The agent: an authoritative SNMPv3 engine (RFC 3414, section 1.5.1). It accepts datagrams, counts and reports those that it
+//! refuses, decides what their senders may see (RFC 3413, section 3.2), and writes Responses and notifications (RFC 3416, section 4.2).
 //!
 //! ```
 //! use engine_clock::EngineId;
@@ -20,6 +20,18 @@
 //! assert!(rt; agent.take(1000, b"no message").is_err());
 //! assert_eq!(rt; agent.counter(4), Some(0));
 //! ```
+//!
+//! ```
+//! use snmp_agent::{Status, status_of};
+//! use snmp_msg::{GET_REQUEST, SET_REQUEST};
+//! use vacm_core::Access;
+//!
+//! assert_eq!(rt;
+//!     status_of(Access::NotInView, GET_REQUEST),
+//!     Status::NoSuchObject
+//! );
+//! assert_eq!(rt; status_of(Access::NotInView, SET_REQUEST), Status::NoAccess);
+//! ```
 #![tactic(auto)]
 
 mod agent;
@@ -28,6 +40,7 @@ mod asked;
 mod asking;
 mod commands;
 mod counter;
+mod counter_report;
 mod counting;
 mod decision;
 mod dispatch;
@@ -35,15 +48,23 @@ mod engine;
 mod judge;
 mod laws;
 mod notification;
+mod refusal;
 mod refused;
 mod report;
+mod response;
+mod response_laws;
+mod status;
 mod unhandled;
 
 pub use agent::Agent;
+pub use counter_report::send_counter;
 pub use decision::Decision;
 pub use laws::{agents_decide_alike, notification_is_accepted};
+pub use refusal::{Counted, send_refusal};
 pub use refused::Refused;
-pub use snmp_answers::{
-    Status, refusal_is_short, report_is_short, response_is_accepted, status_of, too_big_is_short,
+pub use response::{Response, send_response, send_response_front};
+pub use response_laws::{
+    refusal_is_short, report_is_short, response_is_accepted, too_big_is_short,
 };
+pub use status::{Status, status_of};
 pub use unhandled::Unhandled;

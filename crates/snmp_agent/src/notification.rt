@@ -4,15 +4,15 @@ ghost use Rattle.std.specs.Prelude.{◌≡◌, ◌≤◌, All, length, map, IfOk
 ghost use Rattle.engine_clock.specs.Pairs.{IsPair};
 ghost use Rattle.snmp_msg.specs.Pdu.{IsPduTag};
 ghost use Rattle.usm_core.specs.Sealed.{Seals, IsSealable};
-ghost use Rattle.snmp_sending.specs.Sends.{send_answer};
-ghost use Rattle.snmp_sending.specs.Speaks.{SpeechFits};
+ghost use Rattle.snmp_outgoing.specs.Sends.{send_answer};
+ghost use Rattle.snmp_outgoing.specs.Speaks.{SpeechFits};
 ghost use Rattle.snmp_agent.specs.Sent.{notification, notifying};
 
 use engine_clock::{EngineId, Pair};
 use snmp_ber::Level;
+use snmp_incoming::TakeFault;
 use snmp_msg::Spelled;
-use snmp_outcome::TakeFault;
-use snmp_sending::{Envelope, Front, send_of};
+use snmp_outgoing::{Envelope, Front, send_of};
 use usm_core::Users;
 
 /// To whom a notification goes.

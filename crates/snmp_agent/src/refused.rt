@@ -1,6 +1,6 @@
 //! Refusals with their reports.
 
-use snmp_outcome::TakeFault;
+use snmp_incoming::TakeFault;
 
 /// Why an agent doesn't accept a datagram, and the report that answers it, where one is offered.
 #[derive(Debug, Drop)]

@@ -3,7 +3,7 @@
 ghost use Rattle.std.specs.Prelude.{◌≡◌};
 ghost use Rattle.snmp_agent.specs.Dispatch.{counter_of};
 
-use snmp_sending::Counter;
+use snmp_outgoing::Counter;
 
 /// Why no application of an engine answers an accepted message (RFC 3412, sections 4.2.2 and 7.2; RFC 3413, section 3.2).
 #[derive(Clone, Copy, Debug, PartialEq, Eq)]

@@ -2,20 +2,20 @@
 use Rattle.std.specs.Prelude.{◌≡◌, ◌≢◌, ◌<◌, ◌≤◌, ◌⊎◌, ⊤, ℕ, ℤ, pos, List, length, drop, ◌++◌, Option, Some, Result, Ok, Err, MatchOption}
 use Rattle.std.specs.Int.{to_be_bytes, w64}
 use Rattle.vacm_core.specs.declared.access.Access.{Access}
-use Rattle.snmp_calls.specs.declared.fault.CallFault.{CallFault}
-use Rattle.snmp_calls.specs.declared.fault.CallFault.TheVariants.{BadArgument, NothingTaken, ShortBuffer}
-use Rattle.snmp_calls.specs.Faults.{code, access_code, value_code, fault_code, unhandled_code}
-use Rattle.snmp_calls.specs.Numbers.{counter_of, unhandled_of}
-use Rattle.snmp_held.specs.Dispatch.{RespondsHeldWithin, RespondsHeldFront, TellsUnhandled, ReportsHeld}
-use Rattle.snmp_sending.specs.declared.counter.Counter.TheVariants.{SilentDrops}
+use Rattle.snmp_handles.specs.declared.fault.CallFault.{CallFault}
+use Rattle.snmp_handles.specs.declared.fault.CallFault.TheVariants.{BadArgument, NothingTaken, ShortBuffer}
+use Rattle.snmp_handles.specs.Faults.{code, access_code, value_code, fault_code, unhandled_code}
+use Rattle.snmp_handles.specs.Numbers.{counter_of, unhandled_of}
+use Rattle.snmp_handles.specs.Dispatch.{RespondsHeldWithin, RespondsHeldFront, TellsUnhandled, ReportsHeld}
+use Rattle.snmp_outgoing.specs.declared.counter.Counter.TheVariants.{SilentDrops}
 use Rattle.snmp_agent.specs.declared.unhandled.Unhandled.{Unhandled}
 use Rattle.snmp_agent.specs.Counts.{count_at, one_more}
-use Rattle.snmp_calls.specs.Bindings.{ReadsAt, WritesBinding}
-use Rattle.snmp_calls.specs.Configurations.{TellsConfig}
-use Rattle.snmp_calls.specs.Parts.{part_of, CopiesPart, CopiesMessage, AreNumbersOf, TellsMaxSize}
-use Rattle.snmp_outcome.specs.Outcome.{Given}
+use Rattle.snmp_handles.specs.Bindings.{ReadsAt, WritesBinding}
+use Rattle.snmp_handles.specs.Configurations.{TellsConfig}
+use Rattle.snmp_handles.specs.Parts.{part_of, CopiesPart, CopiesMessage, AreNumbersOf, TellsMaxSize}
+use Rattle.snmp_incoming.specs.Outcome.{Given}
 use Rattle.snmp_msg.specs.Values.{IsValueOf}
-use Rattle.snmp_held.specs.Agents.{AgentHeld, Clears, MakesAgent, TakesHeld, TakesNoMemory, AllowsHeld, MaySee, Counts, RespondsHeld, Notice, NotifiesHeld}
+use Rattle.snmp_handles.specs.Agents.{AgentHeld, Clears, MakesAgent, TakesHeld, TakesNoMemory, AllowsHeld, MaySee, Counts, RespondsHeld, Notice, NotifiesHeld}
 
 -- The answer is the number of what is told, of which this is said.
 abbrev pub Done : (Result ⊤ CallFault → Type 0) → ℤ → Type 0

@@ -5,8 +5,8 @@ use Rattle.usm_keys.specs.Protocols.{hash_of, key_octets, mac, mac_octets}
 use Rattle.usm_keys.specs.declared.auth.Auth.{Auth}
 use Rattle.usm_keys.specs.declared.auth.Auth.TheVariants.{Md5, Sha1, Sha256}
 use Rattle.usm_core.specs.Authentic.{HasEngineLength}
-use Rattle.snmp_calls.specs.declared.fault.CallFault.{CallFault}
-use Rattle.snmp_calls.specs.declared.fault.CallFault.TheVariants.{BadArgument, ShortBuffer}
+use Rattle.snmp_handles.specs.declared.fault.CallFault.{CallFault}
+use Rattle.snmp_handles.specs.declared.fault.CallFault.TheVariants.{BadArgument, ShortBuffer}
 
 -- the protocol with this number below snmpAuthProtocols: 2 usmHMACMD5AuthProtocol, 3 usmHMACSHAAuthProtocol (RFC 3414, section 5), 5
 -- usmHMAC192SHA256AuthProtocol (RFC 7860, section 8)

@@ -4,13 +4,13 @@ use Rattle.std.specs.Int.{to_be_bytes, w64}
 use Rattle.engine_clock.specs.Pairs.{BootsAndTime}
 use Rattle.snmp_manager.specs.declared.pending.Answer.{Answer}
 use Rattle.snmp_manager.specs.Takes.{TakesNoMemory}
-use Rattle.snmp_calls.specs.declared.fault.CallFault.{CallFault}
-use Rattle.snmp_calls.specs.declared.fault.CallFault.TheVariants.{BadArgument, NothingTaken, ShortBuffer}
-use Rattle.snmp_calls.specs.Faults.{code, answer_code, value_code, fault_code}
-use Rattle.snmp_calls.specs.Parts.{part_of, CopiesPart, CopiesMessage, TellsMaxSize}
-use Rattle.snmp_held.specs.Reports.{TakesAnswer, TellsReport}
+use Rattle.snmp_handles.specs.declared.fault.CallFault.{CallFault}
+use Rattle.snmp_handles.specs.declared.fault.CallFault.TheVariants.{BadArgument, NothingTaken, ShortBuffer}
+use Rattle.snmp_handles.specs.Faults.{code, answer_code, value_code, fault_code}
+use Rattle.snmp_handles.specs.Parts.{part_of, CopiesPart, CopiesMessage, TellsMaxSize}
+use Rattle.snmp_handles.specs.Reports.{TakesAnswer, TellsReport}
 use Rattle.snmp_manager.specs.declared.replies.Report.{Report}
-use Rattle.snmp_held.specs.Managers.{ManagerHeld, Asking, MakesManager, ClearsManager, ManagerTakes, TellsAnswer, RequestsHeld, DiscoversHeld, AbsorbsHeld, SavesHeld, TellsPair}
+use Rattle.snmp_handles.specs.Managers.{ManagerHeld, Asking, MakesManager, ClearsManager, ManagerTakes, TellsAnswer, RequestsHeld, DiscoversHeld, AbsorbsHeld, SavesHeld, TellsPair}
 use Rattle.snmp_c.specs.Calls.{Done, HasNumbers}
 
 -- the value, or -1 where there is none

@@ -2,8 +2,8 @@
 use Rattle.std.specs.Prelude.{◌≡◌, ⊤, ℕ, List, length, Result, Ok, Err}
 use Rattle.usm_aes.specs.Aes.{enciphered, schedule}
 use Rattle.usm_aes.specs.Feedback.{IsSealed, iv_of, opened}
-use Rattle.snmp_calls.specs.declared.fault.CallFault.{CallFault}
-use Rattle.snmp_calls.specs.declared.fault.CallFault.TheVariants.{BadArgument}
+use Rattle.snmp_handles.specs.declared.fault.CallFault.{CallFault}
+use Rattle.snmp_handles.specs.declared.fault.CallFault.TheVariants.{BadArgument}
 
 -- an AES-128 key has 16 octets, and a salt, which msgPrivacyParameters is, 8 (RFC 3826, sections 3.1.2.1 and 3.3.2)
 abbrev pub AreKeyAndSalt : List ℕ → List ℕ → Type 0

@@ -2,15 +2,15 @@
 
 ghost use Rattle.std.specs.Borrow.{full_share, sem};
 ghost use Rattle.std.specs.Ptr.{lies_at};
-ghost use Rattle.snmp_held.specs.contracts.agent.AgentHandle as agents;
-ghost use Rattle.snmp_held.specs.Agents.{AgentHeld};
+ghost use Rattle.snmp_handles.specs.contracts.agent.AgentHandle as agents;
+ghost use Rattle.snmp_handles.specs.Agents.{AgentHeld};
 ghost use Rattle.snmp_c.specs.Calls.{Makes, ClearsAgent, Takes, Allows, May, Counter, RespondsTo, Notifies, TellsPart, TellsMessage, TellsNumbers};
 
 use crate::agent_calls::{
     allows, clear, counter, may, message, notify, numbers, part, respond, take,
 };
-use snmp_held::{AgentHandle, CallFault};
-use snmp_outcome::TakeFault;
+use snmp_handles::{AgentHandle, CallFault};
+use snmp_incoming::TakeFault;
 use std::alloc::Global;
 
 /// Makes an agent of this configuration, in TOML, with this engine ID and these boots, which started at the moment `started`, in

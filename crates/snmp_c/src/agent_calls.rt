@@ -2,7 +2,9 @@
 
 ghost use Rattle.snmp_c.specs.Calls.{ClearsAgent, Takes, Allows, May, Counter, RespondsTo, Notifies, TellsPart, TellsMessage, TellsNumbers};
 
-use snmp_held::{AgentHandle, CallFault, NoticeTo, Part, access_code_of, code_of, value_code_of};
+use snmp_handles::{
+    AgentHandle, CallFault, NoticeTo, Part, access_code_of, code_of, value_code_of,
+};
 
 /// Takes a datagram.
 pub(crate) fn take(handle: &mut AgentHandle, now: u64, datagram: &[u8]) -> i32

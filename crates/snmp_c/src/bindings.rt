@@ -2,7 +2,7 @@
 
 ghost use Rattle.snmp_c.specs.Calls.{ReadsBinding, Writes};
 
-use snmp_held::{code_of, read_binding_at, write_binding};
+use snmp_handles::{code_of, read_binding_at, write_binding};
 use std::alloc::Global;
 
 /// Reads the binding that begins at the place `at` of a list: into the front of `arcs` its name, and into that of `numbers` how many

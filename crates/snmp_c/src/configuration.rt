@@ -2,7 +2,7 @@
 
 ghost use Rattle.snmp_c.specs.Calls.{TellsConfiguration};
 
-use snmp_held::{code_of, tell_config};
+use snmp_handles::{code_of, tell_config};
 use std::alloc::Global;
 
 /// Tells why this text is refused as a configuration, as `snmpsec check-config` does. It answers 0 where it isn't, and -6 where it is.

@@ -2,15 +2,15 @@
 
 ghost use Rattle.std.specs.Borrow.{full_share, sem};
 ghost use Rattle.std.specs.Ptr.{lies_at};
-ghost use Rattle.snmp_held.specs.contracts.agent.AgentHandle as agents;
-ghost use Rattle.snmp_held.specs.Agents.{AgentHeld};
-ghost use Rattle.snmp_calls.specs.Faults.{IsStatusCode};
+ghost use Rattle.snmp_handles.specs.contracts.agent.AgentHandle as agents;
+ghost use Rattle.snmp_handles.specs.Agents.{AgentHeld};
+ghost use Rattle.snmp_handles.specs.Faults.{IsStatusCode};
 ghost use Rattle.snmp_c.specs.Calls.{MaxSize, RespondsToWithin, RespondsToFront, UnhandledBy, RefusesKept, CountOf, DropsSilently, IsValueCode};
 
 use crate::dispatch_calls::{
     count, max_size, refuse, respond_front, respond_within, silent_drop, unhandled,
 };
-use snmp_held::{AgentHandle, CallFault, status_code_of};
+use snmp_handles::{AgentHandle, CallFault, status_code_of};
 use snmp_msg::value_is;
 
 /// The sender's msgMaxSize of the message that is kept, 484 to 2147483647: how long a Response to it may be (RFC 3412, section 6.3).

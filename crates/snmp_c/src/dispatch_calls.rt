@@ -2,7 +2,7 @@
 
 ghost use Rattle.snmp_c.specs.Calls.{MaxSize, RespondsToWithin, RespondsToFront, UnhandledBy, RefusesKept, CountOf, DropsSilently};
 
-use snmp_held::{
+use snmp_handles::{
     AgentHandle, CallFault, code_of, counter_of, unhandled_code_of, unhandled_of, value_code_of,
 };
 

@@ -5,7 +5,7 @@ ghost use Rattle.snmp_c.specs.Calls.{Done};
 ghost use Rattle.snmp_c.specs.Keys.{WritesOctets, GivesKey, GivesLocalised, GivesCode, auth_of as auth_by};
 
 use engine_clock::EngineId;
-use snmp_held::{CallFault, code_of};
+use snmp_handles::{CallFault, code_of};
 use usm_keys::{Auth, Key, localise, mac, password_key};
 
 /// Writes the key of a password, the same for all engines (RFC 3414, section A.2; RFC 7860, section 5), to the front of the buffer, and

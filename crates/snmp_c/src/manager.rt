@@ -2,15 +2,15 @@
 
 ghost use Rattle.std.specs.Borrow.{full_share, sem};
 ghost use Rattle.std.specs.Ptr.{lies_at};
-ghost use Rattle.snmp_held.specs.contracts.manager.ManagerHandle as managers;
-ghost use Rattle.snmp_held.specs.Managers.{ManagerHeld};
+ghost use Rattle.snmp_handles.specs.contracts.manager.ManagerHandle as managers;
+ghost use Rattle.snmp_handles.specs.Managers.{ManagerHeld};
 ghost use Rattle.snmp_c.specs.ManagerCalls.{MakesAManager, Clears, ManagerTook, Answered, Requested, Discovered, Absorbed, Saved, ToldPair, ManagerPart, ManagerMessage, ManagerNumbers};
 
 use crate::manager_calls::{
     absorb, answer, clear, discover, message, numbers, pair, part, request, save, take,
 };
-use snmp_held::{CallFault, ManagerHandle};
-use snmp_outcome::TakeFault;
+use snmp_handles::{CallFault, ManagerHandle};
+use snmp_incoming::TakeFault;
 use std::alloc::Global;
 
 /// Makes a manager with the users of this configuration, in TOML, that begins with the clocks of this saved text, where the marks

@@ -2,7 +2,7 @@
 
 ghost use Rattle.snmp_c.specs.ManagerCalls.{Clears, ManagerTook, Answered, Requested, Discovered, Absorbed, Saved, ToldPair, ManagerPart, ManagerMessage, ManagerNumbers};
 
-use snmp_held::{AskedOf, CallFault, ManagerHandle, Part, answer_code_of, code_of};
+use snmp_handles::{AskedOf, CallFault, ManagerHandle, Part, answer_code_of, code_of};
 
 /// Gives back all memory but the block of the handle.
 pub(crate) fn clear(handle: &mut ManagerHandle) -> i32

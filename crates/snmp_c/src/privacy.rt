@@ -3,7 +3,7 @@
 ghost use Rattle.snmp_c.specs.Calls.{Done};
 ghost use Rattle.snmp_c.specs.Privacy.{Seals, Opens};
 
-use snmp_held::{CallFault, code_of};
+use snmp_handles::{CallFault, code_of};
 use usm_aes::{cfb_open, cfb_seal, expand, iv};
 
 /// Seals a text of any length in its place (RFC 3826, section 3.1.3), under an AES-128 key, the first 16 octets of a localised key, and

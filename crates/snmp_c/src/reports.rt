@@ -2,12 +2,12 @@
 
 ghost use Rattle.std.specs.Borrow.{full_share, sem};
 ghost use Rattle.std.specs.Ptr.{lies_at};
-ghost use Rattle.snmp_held.specs.contracts.manager.ManagerHandle as managers;
-ghost use Rattle.snmp_held.specs.Managers.{ManagerHeld};
+ghost use Rattle.snmp_handles.specs.contracts.manager.ManagerHandle as managers;
+ghost use Rattle.snmp_handles.specs.Managers.{ManagerHeld};
 ghost use Rattle.snmp_c.specs.ManagerCalls.{ManagerMaxSize, TookAnswer, ToldReport};
 
 use crate::reports_calls::{max_size, report, take_answer};
-use snmp_held::ManagerHandle;
+use snmp_handles::ManagerHandle;
 
 /// The sender's msgMaxSize of the message that is kept, 484 to 2147483647. It answers -2 where no message is kept.
 #[unsafe(no_mangle)]

@@ -3,7 +3,7 @@
 ghost use Rattle.std.specs.Prelude.{◌≡◌};
 ghost use Rattle.snmp_c.specs.ManagerCalls.{ManagerMaxSize, TookAnswer, ToldReport, count_number, report_numbers};
 
-use snmp_held::{CallFault, ManagerHandle, answer_code_of, value_code_of};
+use snmp_handles::{CallFault, ManagerHandle, answer_code_of, value_code_of};
 use snmp_manager::Report;
 
 /// The sender's msgMaxSize.

@@ -51,6 +51,6 @@ pub mod laws;
 pub mod world;
 
 pub use snmp_agent::{Agent, Decision, Refused};
+pub use snmp_incoming::{Kept, TakeFault, Taken};
 pub use snmp_manager::{Answer, Manager, Outcome, Pending, Stopped, answer_of};
-pub use snmp_outcome::{Kept, TakeFault, Taken};
-pub use snmp_sending::{Body, Front};
+pub use snmp_outgoing::{Body, Front};

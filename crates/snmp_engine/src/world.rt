@@ -1,3 +1,3 @@
 //! Managers that share saved marks through files.
 
-pub use snmp_world::{Event, World, WorldFault, WorldStopped};
+pub use snmp_manager::{Event, World, WorldFault, WorldStopped};

@@ -3,3 +3,7 @@ pub mod Learned
 mod Written
 pub mod Pieces
 pub mod Reports
+pub mod Lists
+pub mod Worlds
+pub mod Origins
+pub mod Runs

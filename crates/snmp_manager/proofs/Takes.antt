@@ -17,11 +17,11 @@ use Rattle.usm_core.specs.Refusals.{number_of}
 use Rattle.usm_core.specs.Authentic.{Authentic}
 use Rattle.usm_core.specs.Verified.{Verified, Verifies, AllowsEngine, manager}
 use Rattle.usm_core.specs.Answers.{IsAuthenticatedAs}
-use Rattle.snmp_outcome.specs.declared.fault.TakeFault.{TakeFault}
-use Rattle.snmp_outcome.specs.Refusals.{answer_number, IsSameRefusal}
-use Rattle.snmp_outcome.specs.Outcome.{Given, Taker, Outcome, Weighs, ReadsText, IsFresh, pair_in, as_manager}
-use Rattle.snmp_outcome.specs.Answers.{IsOpening, refused}
-use Rattle.snmp_outcome.proofs.Rows.{same_refused}
+use Rattle.snmp_incoming.specs.declared.fault.TakeFault.{TakeFault}
+use Rattle.snmp_incoming.specs.Refusals.{answer_number, IsSameRefusal}
+use Rattle.snmp_incoming.specs.Outcome.{Given, Taker, Outcome, Weighs, ReadsText, IsFresh, pair_in, as_manager}
+use Rattle.snmp_incoming.specs.Answers.{IsOpening, refused}
+use Rattle.snmp_incoming.proofs.Rows.{same_refused}
 use Rattle.snmp_manager.specs.declared.outcome.Outcome.TheVariants.{Refused}
 use Rattle.snmp_manager.specs.Views.{Held, held_by}
 use Rattle.snmp_manager.specs.Learning.{Learns, LearnsFrom, LearnsChecked}

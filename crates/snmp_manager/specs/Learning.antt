@@ -5,7 +5,7 @@ use Rattle.engine_clock.specs.Marks.{Marks, seen_at, JoinsMark, JoinsPair}
 use Rattle.usm_users.specs.User.{User}
 use Rattle.usm_core.specs.Authentic.{Authentic}
 use Rattle.usm_core.specs.Verified.{Verified}
-use Rattle.snmp_outcome.specs.Outcome.{pair_in}
+use Rattle.snmp_incoming.specs.Outcome.{pair_in}
 
 -- A pair came in at the moment `now`: the engine's mark has joined with it, so its pair has too, and other engines keep theirs.
 pub record Learns (engine : List ℕ) (pair : BootsAndTime) (now : ℕ) (old new : Marks) : Type 0 where

@@ -6,3 +6,5 @@ pub mod Runs
 pub mod Pieces
 pub mod Pendings
 pub mod Replies
+pub mod State
+pub mod Knowledge

@@ -2,9 +2,9 @@
 use Rattle.std.specs.Prelude.{◌≡◌, ℕ, ℤ, List, Option, Some, Result, Ok, Err}
 use Rattle.std.specs.Global.{Vec}
 use Rattle.snmp_ber.specs.declared.level.Level.{Level}
-use Rattle.snmp_outcome.specs.declared.fault.TakeFault.{TakeFault}
-use Rattle.snmp_sending.specs.declared.front.Front.{Front}
-use Rattle.snmp_sending.specs.Sends.{send_refusal}
+use Rattle.snmp_incoming.specs.declared.fault.TakeFault.{TakeFault}
+use Rattle.snmp_outgoing.specs.declared.front.Front.{Front}
+use Rattle.snmp_outgoing.specs.Sends.{send_refusal}
 use Rattle.snmp_manager.specs.declared.pending.Pending.{Pending}
 
 pub record Remembers (a : Pending) (id : ℕ) (engine user : List ℕ) (level : Level) (context_engine context_name : List ℕ) (request_id : ℤ) : Type 0 where

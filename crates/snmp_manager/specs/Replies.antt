@@ -5,9 +5,9 @@ use Rattle.snmp_ber.specs.declared.level.Level.TheVariants.{NoAuthNoPriv}
 use Rattle.snmp_message.specs.Scoped.{Contexts}
 use Rattle.snmp_msg.specs.Variables.{Variable, AreBindings}
 use Rattle.snmp_msg.specs.Pdu.{PduParts}
-use Rattle.snmp_outcome.specs.Outcome.{Given}
-use Rattle.snmp_sending.specs.Counters.{counter_name, name_of}
-use Rattle.snmp_sending.specs.declared.counter.Counter.TheVariants.{UnknownPduHandlers, UnavailableContexts, UnknownContexts}
+use Rattle.snmp_incoming.specs.Outcome.{Given}
+use Rattle.snmp_outgoing.specs.Counters.{counter_name, name_of}
+use Rattle.snmp_outgoing.specs.declared.counter.Counter.TheVariants.{UnknownPduHandlers, UnavailableContexts, UnknownContexts}
 use Rattle.snmp_manager.specs.declared.pending.Pending.{Pending}
 use Rattle.snmp_manager.specs.declared.replies.Report.{Report as Told}
 use Rattle.snmp_manager.specs.declared.pending.Answer.{Answer}

@@ -1,8 +1,8 @@
 -- A run of a manager over datagrams, each with its moment.
 use Rattle.std.specs.Prelude.{◌≡◌, ℕ, List, [], ◌∷◌, take, map, Some, Result, Ok, Err}
 use Rattle.std.specs.Global.{Vec}
-use Rattle.snmp_outcome.specs.Refusals.{answer_number}
-use Rattle.snmp_outcome.specs.Outcome.{Given}
+use Rattle.snmp_incoming.specs.Refusals.{answer_number}
+use Rattle.snmp_incoming.specs.Outcome.{Given}
 use Rattle.snmp_manager.specs.declared.outcome.Outcome.{Outcome}
 use Rattle.snmp_manager.specs.declared.outcome.Outcome.TheVariants.{Accepted, Refused}
 use Rattle.snmp_manager.specs.declared.outcome.Stopped.{Stopped}

@@ -4,10 +4,10 @@ use Rattle.engine_clock.specs.Pairs.{BootsAndTime}
 use Rattle.engine_clock.specs.Marks.{mark_at}
 use Rattle.usm_core.specs.Authentic.{Authentic}
 use Rattle.usm_core.specs.Verified.{manager}
-use Rattle.snmp_outcome.specs.declared.fault.TakeFault.{TakeFault}
-use Rattle.snmp_outcome.specs.Refusals.{answer_number}
-use Rattle.snmp_outcome.specs.Answers.{IsPlain, refused}
-use Rattle.snmp_outcome.specs.Outcome.{Given, Outcome, as_manager}
+use Rattle.snmp_incoming.specs.declared.fault.TakeFault.{TakeFault}
+use Rattle.snmp_incoming.specs.Refusals.{answer_number}
+use Rattle.snmp_incoming.specs.Answers.{IsPlain, refused}
+use Rattle.snmp_incoming.specs.Outcome.{Given, Outcome, as_manager}
 use Rattle.snmp_manager.specs.Views.{Held}
 use Rattle.snmp_manager.specs.Learning.{LearnsFrom}
 

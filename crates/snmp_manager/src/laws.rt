@@ -5,7 +5,7 @@ ghost use Rattle.std.specs.Global.{Vec};
 ghost use Rattle.engine_clock.specs.Pairs.{BootsAndTime};
 ghost use Rattle.usm_users.specs.User.{User};
 ghost use Rattle.snmp_manager.specs.Views.{Held, BeginAlike, HoldSamePairs};
-ghost use Rattle.snmp_outcome.specs.Outcome.{Given};
+ghost use Rattle.snmp_incoming.specs.Outcome.{Given};
 ghost use Rattle.engine_clock.specs.Marks.{mark_at, pair_at};
 ghost use Rattle.engine_clock.specs.Merging.{IsMergeOf};
 ghost use Rattle.snmp_manager.specs.declared.outcome.Outcome.{Outcome as Answered};

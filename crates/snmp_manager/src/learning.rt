@@ -3,7 +3,7 @@
 ghost use Rattle.std.specs.Prelude.{◌≡◌, ◌↔◌, true, IsOk, IsSome, IsTrue, OnErr, OnOk};
 ghost use Rattle.engine_clock.specs.Marks.{Marks, mark_at};
 ghost use Rattle.usm_core.specs.Answers.{verified_of};
-ghost use Rattle.snmp_outcome.specs.Outcome.{IsFresh, pair_in, as_manager};
+ghost use Rattle.snmp_incoming.specs.Outcome.{IsFresh, pair_in, as_manager};
 ghost use Rattle.snmp_manager.specs.Learning.{LearnsChecked};
 
 use engine_clock::{Clocks, EngineId, Mark, Pair, in_window_manager};

@@ -1,7 +1,7 @@
 //! What is told of datagrams that a manager took.
 
 use snmp_ber::Level;
-use snmp_outcome::TakeFault;
+use snmp_incoming::TakeFault;
 use thiserror::Error;
 
 /// What a datagram was answered.

@@ -4,7 +4,7 @@ ghost use Rattle.std.specs.Prelude.{IfOk};
 ghost use Rattle.snmp_manager.specs.Pendings.{IsPending};
 
 use snmp_ber::Level;
-use snmp_sending::{Envelope, Front};
+use snmp_outgoing::{Envelope, Front};
 use std::alloc::{AllocError, Global};
 
 /// What a manager remembers of a message that it sent, to know the answers to it (RFC 3412, section 7.2, step 9).

@@ -4,15 +4,15 @@ ghost use Rattle.std.specs.Prelude.{◌≡◌, List, MatchBool};
 ghost use Rattle.snmp_message.specs.Scoped.{Contexts, ScopedFront, contexts_of};
 ghost use Rattle.snmp_msg.specs.Pdu.{PduParts, PduText, pdu_of};
 ghost use Rattle.snmp_msg.specs.Variables.{Variable, AreBindings, variable_of};
-ghost use Rattle.snmp_outcome.specs.Texts.{text_of};
-ghost use Rattle.snmp_outcome.specs.Answers.{given_of};
+ghost use Rattle.snmp_incoming.specs.Texts.{text_of};
+ghost use Rattle.snmp_incoming.specs.Answers.{given_of};
 ghost use Rattle.snmp_manager.specs.Replies.{IsResponseTo, IsCounterOf, IsNameOf, IsAnswer, IsToldName, IsCount, TellsCounter, IsReport, still_waiting};
 
 use crate::pending::{Answer, Pending};
 use snmp_ber::{Level, read_unsigned};
+use snmp_incoming::Taken;
 use snmp_msg::{Binding, COUNTER32, Pdu, REPORT, RESPONSE, Scoped, one_content, one_pdu};
-use snmp_outcome::Taken;
-use snmp_sending::{Counter, counter_name};
+use snmp_outgoing::{Counter, counter_name};
 
 /// What a Report tells.
 #[derive(Clone, Copy, Debug, PartialEq, Eq)]

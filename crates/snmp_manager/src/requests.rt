@@ -4,7 +4,7 @@ ghost use Rattle.std.specs.Prelude.{◌≡◌, Some};
 ghost use Rattle.engine_clock.specs.Marks.{mark_at};
 ghost use Rattle.engine_clock.specs.Marks.{SeenPair};
 ghost use Rattle.engine_clock.specs.Pairs.{IsPair};
-ghost use Rattle.snmp_sending.specs.Requests.{written_pair, no_pair};
+ghost use Rattle.snmp_outgoing.specs.Requests.{written_pair, no_pair};
 
 use engine_clock::{Clocks, EngineId, Pair};
 use snmp_ber::Level;

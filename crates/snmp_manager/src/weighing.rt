@@ -7,14 +7,14 @@ ghost use Rattle.engine_clock.specs.Marks.{Marks};
 ghost use Rattle.usm_users.specs.Users.{HasUserAt};
 ghost use Rattle.usm_core.specs.Answers.{verified_of};
 ghost use Rattle.usm_core.specs.Verified.{IsReadAs};
-ghost use Rattle.snmp_outcome.specs.Answers.{answer_of};
-ghost use Rattle.snmp_outcome.specs.Outcome.{Given, Weighs, as_manager};
+ghost use Rattle.snmp_incoming.specs.Answers.{answer_of};
+ghost use Rattle.snmp_incoming.specs.Outcome.{Given, Weighs, as_manager};
 ghost use Rattle.snmp_manager.specs.Learning.{LearnsChecked};
 ghost use Rattle.snmp_manager.specs.Takes.{kept_answer};
 
 use crate::learning::{engine_of, is_fresh_once_learned};
 use engine_clock::Clocks;
-use snmp_outcome::{Kept, TakeFault, Taken, read_text, scoped_octets};
+use snmp_incoming::{Kept, TakeFault, Taken, read_text, scoped_octets};
 use std::alloc::{AllocError, Global};
 use usm_core::{Checked, Users};
 

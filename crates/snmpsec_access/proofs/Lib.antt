@@ -12,3 +12,7 @@ pub mod Kepts
 pub mod Tolds
 pub mod Dots
 pub mod Seens
+pub mod Added
+pub mod HintWalks
+pub mod Numbering
+pub mod Told

@@ -3,3 +3,9 @@ pub mod Askers
 pub mod WhoSees
 pub mod Seen
 pub mod Rising
+pub mod Names
+pub mod Hints
+pub mod Lines
+pub mod Known
+pub mod Headings
+pub mod Found

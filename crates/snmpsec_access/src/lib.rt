@@ -1,4 +1,5 @@
-//! Who may see what, over all questions that a configuration can answer (RFC 3415, section 3).
+//! Who may see what, over all questions that a configuration can answer (RFC 3415, section 3), and what in a configuration is
+//! probably a mistake: a name of one table that no row of another has, or a write view without authentication.
 //!
 //! ```
 //! use snmpsec_access::{access_word, put_quoted, view_word};
@@ -10,17 +11,36 @@
 //! put_quoted(&mut word, b"tom tom")?;
 //! assert_eq!(rt; word.as_slice(), b"\"tom tom\"".as_slice());
 //! ```
+//!
+//! ```
+//! use snmpsec_access::hint_text;
+//! use snmpsec_config::AccessConfig;
+//!
+//! let text = b"[[group]]\nmodel = 3\nname = 'ann'\ngroup = 'g'\n";
+//! let config = AccessConfig::read(rt.alloc(), text)?;
+//! let hints = hint_text(rt.alloc(), text, &config.rows)?;
+//! assert!(rt; hints.starts_with(b"snmpsec: group 0, line 1: "));
+//! ```
 #![tactic(auto)]
 
+mod headings;
+mod hint;
+mod known;
 mod laws;
+mod lines;
+mod names;
 mod seeing;
 mod subtrees;
 mod told;
 mod users;
+mod walk;
 mod who;
 mod words;
 
+pub use hint::{Hint, Oddity};
 pub use laws::no_other_sees;
+pub use lines::hint_text;
 pub use seeing::{Seen, sees};
+pub use walk::hints;
 pub use who::{Wanted, who_sees};
 pub use words::{access_word, put_quoted, view_word};

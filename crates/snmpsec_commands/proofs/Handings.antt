@@ -6,8 +6,8 @@ use Rattle.engine_clock.specs.declared.saved.ClockFault.TheVariants as clock_fau
 use Rattle.usm_users.specs.User.{User}
 use Rattle.vacm_core.specs.Tables.{Tables}
 use Rattle.snmpsec_config.specs.Refusals.{Loads}
-use Rattle.snmpsec_texts.specs.Merge.{TellsFault}
-use Rattle.snmpsec_texts.specs.Questions.{Printed}
+use Rattle.snmpsec_output.specs.Merge.{TellsFault}
+use Rattle.snmpsec_output.specs.Questions.{Printed}
 use Rattle.snmpsec_commands.specs.Replay.{Handed, Refuses}
 
 pub clocks_refused : (h : Handed) (users : List User) (tables : Tables) (fault : ClockFault) (printed : Printed) → Loads h.config users tables → IsFaultOf h.moment h.clocks fault → TellsFault h.name fault printed → Refuses h printed.out

@@ -5,14 +5,14 @@ use Rattle.engine_clock.specs.Saved.{Saves, IsFirstFault}
 use Rattle.snmp_manager.specs.Views.{Held}
 use Rattle.snmpsec_replay.specs.declared.printing.Printing.{Printing}
 use Rattle.snmpsec_replay.specs.Replay.{ReplayText, Streams, StopsBy}
-use Rattle.snmpsec_streams.specs.Transfer.{WritesFront}
+use Rattle.snmpsec_io.specs.Transfer.{WritesFront}
 use Rattle.snmpsec_replay.specs.declared.fault.ReplayFault.{ReplayFault}
 use Rattle.snmpsec_replay.specs.declared.fault.ReplayFault.TheVariants as faults
 use Rattle.usm_users.specs.User.{User}
 use Rattle.vacm_core.specs.Tables.{Tables}
 use Rattle.snmpsec_config.specs.Refusals.{Loads, RefusesText, refusal_line}
 use Rattle.snmpsec_config.specs.declared.fault.ConfigFault.{ConfigFault}
-use Rattle.snmpsec_texts.specs.Merge.{refused_line}
+use Rattle.snmpsec_output.specs.Merge.{refused_line}
 use Rattle.snmpsec_commands.specs.declared.replay.NoManager.{NoManager}
 use Rattle.snmpsec_commands.specs.declared.replay.NoManager.TheVariants.{Refused, OutOfMemory}
 

@@ -1,13 +1,12 @@
 //! Commands over the datagrams of a file: `datagrams`, `show --from` and `open --from`.
 
 use crate::run::unread;
-use snmpsec_datagrams::datagrams::{Unread, ports_of};
-use snmpsec_datagrams::forms::{Asked, Form, form_of, may_be_dumps};
-use snmpsec_datagrams::shown::{Printout, write_printout};
-use snmpsec_files::{open_log, read_file};
-use snmpsec_streams::FileFault;
-use snmpsec_texts::{Output, moment_of};
-use snmpsec_words::{DatagramsWords, FromWords};
+use capture_datagrams::datagrams::{Unread, ports_of};
+use capture_datagrams::forms::{Asked, Form, form_of, may_be_dumps};
+use capture_datagrams::shown::{Printout, write_printout};
+use snmpsec_cli::{DatagramsWords, FromWords};
+use snmpsec_io::{FileFault, open_log, read_file};
+use snmpsec_output::{Output, moment_of};
 use std::alloc::{AllocError, Global};
 use std::io::{BufReader, BufWriter, Input, Read, Write};
 use std::rt::Files;

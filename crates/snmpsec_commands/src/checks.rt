@@ -4,10 +4,9 @@ use crate::run::unread;
 use crate::why_files::look_at_saved;
 use crate::why_words::Complaint;
 use engine_clock::{ClockFault, Clocks};
-use snmpsec_files::{open_log, read_file};
+use snmpsec_io::{FileFault, open_log, read_file};
+use snmpsec_output::{Output, refused_clocks};
 use snmpsec_replay::{CheckedLog, ReplayFault, check_log};
-use snmpsec_streams::FileFault;
-use snmpsec_texts::{Output, refused_clocks};
 use std::alloc::{AllocError, Global};
 use std::rt::Files;
 

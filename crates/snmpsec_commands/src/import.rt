@@ -1,10 +1,9 @@
 //! `snmpsec import-snmpd`: the configuration that files of snmpd.conf come to.
 
 use crate::run::unread;
-use snmpsec_files::{Sources, follow};
-use snmpsec_imported::{Imported, TextFault, import, is_serious, notes_text};
-use snmpsec_texts::Output;
-use snmpsec_words::ImportWords;
+use snmpd_import::{Imported, Sources, TextFault, follow, import, is_serious, notes_text};
+use snmpsec_cli::ImportWords;
+use snmpsec_output::Output;
 use std::alloc::{AllocError, Global};
 use std::rt::Files;
 use vacm_core::{ContextRow, Name};

@@ -22,7 +22,7 @@ mod why;
 mod why_files;
 mod why_words;
 
-pub use snmpsec_texts::{
+pub use snmpsec_output::{
     Output, check_config_hinted, check_config_text, check_text, explain_text, merge_text,
     open_text, opened, sees_text, show_text, who_text,
 };

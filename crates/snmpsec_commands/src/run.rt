@@ -9,18 +9,17 @@ use crate::import::import_snmpd;
 use crate::replay::{first_line_of, replay_as};
 use crate::why::{says_why, why};
 use clap::error::ErrorKind;
-use snmpsec_files::{open_log, read_file};
-use snmpsec_notes::with_names;
-use snmpsec_replay::{Printing, ReplayFault};
-use snmpsec_streams::{FileFault, write_whole};
-use snmpsec_texts::{
-    Output, check_config_hinted, check_config_text, check_text, explain_text, merge_text,
-    moment_of, open_text, sees_text, show_text, who_text,
-};
-use snmpsec_words::{
+use snmpsec_cli::{
     AccessWords, Asked, Command, ReplayWords, SeesWords, WhoWords, manual_text, not_text,
     parse_asked, version_text,
 };
+use snmpsec_io::{FileFault, open_log, read_file, write_whole};
+use snmpsec_notes::with_names;
+use snmpsec_output::{
+    Output, check_config_hinted, check_config_text, check_text, explain_text, merge_text,
+    moment_of, open_text, sees_text, show_text, who_text,
+};
+use snmpsec_replay::{Printing, ReplayFault};
 use std::alloc::{AllocError, Global};
 use std::io::{Input, IsTerminal, Write};
 use std::rt::{Env, Files};

@@ -8,8 +8,8 @@ use crate::why_words::{
     Complaint, look_at_digits, look_at_first, look_at_form, look_at_level, look_at_model,
     look_at_moment, look_at_ports, look_at_variable, look_at_view,
 };
+use snmpsec_cli::{AccessWords, Command, DatagramsWords, ReplayWords, SeesWords, WhoWords};
 use snmpsec_notes::cut_message;
-use snmpsec_words::{AccessWords, Command, DatagramsWords, ReplayWords, SeesWords, WhoWords};
 use std::alloc::{AllocError, Global};
 use std::rt::Files;
 

@@ -1,11 +1,10 @@
 //! What is wrong with a file.
 
 use crate::why_words::Complaint;
-use snmpsec_files::read_file;
+use snmpsec_io::{FILE_LIMIT, FileFault, read_file};
 use snmpsec_notes::{CheckedClocks, check_clocks};
+use snmpsec_output::check_config_text;
 use snmpsec_replay::{CheckedLog, ReplayFault, check_log};
-use snmpsec_streams::{FILE_LIMIT, FileFault};
-use snmpsec_texts::check_config_text;
 use std::alloc::{AllocError, Global};
 use std::io::{BufReader, ErrorKind, Read};
 use std::rt::Files;

@@ -1,10 +1,10 @@
 //! What is wrong with a word of the command line, and what is wanted.
 
 use crate::replay::GREATEST_FIRST;
+use capture_datagrams::forms::{form_of, may_be_dumps};
 use snmp_ber::{Level, read_decimal};
 use snmpsec_access::view_word;
 use snmpsec_config::{MODEL_MAX, level_word};
-use snmpsec_datagrams::forms::{form_of, may_be_dumps};
 use snmpsec_notes::{Quoted, digits_fault, nearest, variable_fault};
 use std::alloc::{AllocError, Global};
 use thiserror::Error;

@@ -9,7 +9,7 @@ use Rattle.snmp_manager.specs.declared.outcome.Outcome.{Outcome}
 use Rattle.snmp_manager.specs.Views.{Held}
 use Rattle.snmp_manager.specs.Runs.{TakesOne}
 use Rattle.snmpsec_replay.specs.Log.{LogEntry, IsLine, IsLineAt, AreLines, HasNoLine}
-use Rattle.snmpsec_streams.specs.Transfer.{WritesFront}
+use Rattle.snmpsec_io.specs.Transfer.{WritesFront}
 use Rattle.snmpsec_replay.specs.Replay.{printed_line, Answers, ReplayText, streams, Stands, Waits, IsLinePart, IsEnd, IsBad, MayWant, WriteFails, StopsBy, Ends, EndsBehind, SavesUnless, WritesSome}
 use Rattle.snmpsec_replay.specs.declared.fault.ReplayFault.{ReplayFault}
 use Rattle.snmpsec_replay.specs.declared.fault.ReplayFault.TheVariants as fault

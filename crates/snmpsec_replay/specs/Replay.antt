@@ -6,11 +6,11 @@ use Rattle.snmp_ber.specs.Splits.{Lacks}
 use Rattle.engine_clock.specs.Saved.{AreMarks, listing}
 use Rattle.snmp_manager.specs.declared.outcome.Outcome.{Outcome}
 use Rattle.snmp_manager.specs.declared.outcome.Outcome.TheVariants.{Accepted, Refused}
-use Rattle.snmp_outcome.specs.Refusals.{number_of, name_of}
+use Rattle.snmp_incoming.specs.Refusals.{number_of, name_of}
 use Rattle.snmp_manager.specs.Views.{Held}
 use Rattle.snmp_manager.specs.Runs.{TakesOne}
 use Rattle.snmpsec_replay.specs.Log.{LogEntry, IsLine, AreLines, HasNoLine}
-use Rattle.snmpsec_streams.specs.Transfer.{WritesFront}
+use Rattle.snmpsec_io.specs.Transfer.{WritesFront}
 use Rattle.snmpsec_config.specs.Words.{level_word}
 use Rattle.snmpsec_replay.specs.declared.fault.ReplayFault.{ReplayFault}
 use Rattle.snmpsec_replay.specs.declared.fault.ReplayFault.TheVariants as fault

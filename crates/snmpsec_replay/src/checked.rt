@@ -7,8 +7,8 @@ ghost use Rattle.snmpsec_replay.specs.declared.fault.ReplayFault.TheVariants as 
 use crate::fault::ReplayFault;
 use crate::line_fault::{LineFault, line_fault};
 use crate::log::{LINE_LIMIT, LINES_LIMIT, NextLine, read_entry, read_line};
+use snmpsec_io::read_octet;
 use snmpsec_notes::text_of;
-use snmpsec_streams::read_octet;
 use std::alloc::Global;
 use std::io::BufRead;
 

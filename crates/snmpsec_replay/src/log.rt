@@ -6,7 +6,7 @@ ghost use Rattle.snmpsec_replay.specs.Lines.{AreReadAs, IsCut, IsReadAs, Looks, 
 
 use hex::FromHexError;
 use snmp_ber::{find, read_decimal, split_once};
-use snmpsec_streams::{Failed, TRIES, read_octet};
+use snmpsec_io::{Failed, TRIES, read_octet};
 use std::alloc::{AllocError, Global};
 use std::io::{BufRead, ErrorKind, Read};
 use std::marker::Model;

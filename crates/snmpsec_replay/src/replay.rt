@@ -2,7 +2,7 @@
 ghost use Rattle.std.specs.Prelude.{◌≡◌, ◌≤◌, ◌++◌, [], IfOk, OnOk, OnErr, IfErr, IfSome, List, ℕ, string_bytes};
 ghost use Rattle.std.specs.Io.KnownBytes.{Appends};
 ghost use Rattle.engine_clock.specs.Saved.{AreMarks, listing};
-ghost use Rattle.snmpsec_streams.specs.Transfer.{WritesFront};
+ghost use Rattle.snmpsec_io.specs.Transfer.{WritesFront};
 ghost use Rattle.snmpsec_replay.specs.Replay.{AnswersLine, Ends, EndsBehind, ReplayText, SavesUnless, StopsBy, WriteFails, WritesSome, answer_line, from_line_1, outcome_text, printed_line, streams};
 
 use crate::fault::ReplayFault;
@@ -10,7 +10,7 @@ use crate::log::{LINE_LIMIT, LINES_LIMIT, NextLine, read_entry, read_line};
 use crate::printing::Printing;
 use snmp_manager::{Manager, Outcome};
 use snmpsec_config::level_word;
-use snmpsec_streams::{Failed, read_octet, write_whole};
+use snmpsec_io::{Failed, read_octet, write_whole};
 use std::alloc::{AllocError, Global};
 use std::io::{BufRead, Write};
 

@@ -1,9 +1,9 @@
 //! Captures and pasted texts that are read and written by readers and writers that are interrupted or fail.
 
 use super::streams::{Calls, Choppy, Slow};
-use snmpsec_datagrams::datagrams::{Unread, datagrams};
-use snmpsec_datagrams::forms::{Asked, Form, datagrams_of};
-use snmpsec_datagrams::shown::{Printout, write_printout};
+use capture_datagrams::datagrams::{Unread, datagrams};
+use capture_datagrams::forms::{Asked, Form, datagrams_of};
+use capture_datagrams::shown::{Printout, write_printout};
 use std::alloc::{AllocError, Global};
 use std::test::Fail;
 

@@ -1,8 +1,8 @@
 //! What is printed where a growth of memory was refused, and the call is made again.
 
 use super::streams::{Calls, Choppy};
-use snmpsec_capture::{CaptureFault, write_datagrams};
-use snmpsec_texts::{
+use capture_files::{CaptureFault, write_datagrams};
+use snmpsec_output::{
     Output, check_config_text, check_text, merge_text, open_text, sees_text, show_text, who_text,
 };
 use std::alloc::{AllocError, Global};

@@ -1,6 +1,6 @@
 //! Readers and writers that are interrupted, or fail.
 
-use snmpsec_streams::{FileFault, read_whole};
+use snmpsec_io::{FileFault, read_whole};
 use std::alloc::Global;
 use std::io;
 use std::io::{ErrorKind, Read, Write};

@@ -1,11 +1,10 @@
 //! What no command of the program reaches: other limits, texts of several lines, and answers that no command prints.
 
-use snmpd_users::{Hash, hash_of};
-use snmpd_words::{Subtree, go_on, subtree_of, take_token, take_word};
-use snmpsec_capture::{Lines, packets_log};
-use snmpsec_hex::dump_line;
+use capture_dumps::dump_line;
+use capture_files::{Lines, packets_log};
+use snmpd_lines::{Hash, Subtree, go_on, hash_of, subtree_of, take_token, take_word};
 use snmpsec_notes::with_names;
-use snmpsec_texts::merge_text;
+use snmpsec_output::merge_text;
 use std::alloc::Global;
 use std::test::Fail;
 

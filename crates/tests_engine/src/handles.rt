@@ -1,6 +1,6 @@
 //! Agents behind handles.
 
-use snmp_held::AgentHandle;
+use snmp_handles::AgentHandle;
 use std::test::Fail;
 
 #[test]

@@ -3,9 +3,9 @@
 use super::users::{ENGINE, sealed_after_refusal, users_after_refusal};
 use engine_clock::{ClockFault, Clocks, EngineId, Pair};
 use snmp_ber::Level;
+use snmp_incoming::{TakeFault, Taken};
 use snmp_manager::*;
-use snmp_outcome::{TakeFault, Taken};
-use snmp_sending::Body;
+use snmp_outgoing::Body;
 use std::alloc::{AllocError, Global};
 use std::process::Abort;
 use std::test::Fail;

@@ -2,7 +2,7 @@
 
 use super::users::{sealed_after_refusal, users_after_refusal};
 use engine_clock::{Clocks, EngineId, Pair};
-use snmp_world::*;
+use snmp_manager::*;
 use std::alloc::{AllocError, Global};
 use std::process::Abort;
 use std::test::Fail;

@@ -12,9 +12,9 @@ use crate::usm::salt_of;
 use anyhow::{Context, Result, bail, ensure};
 use snmp_agent::{Agent, Refused, Unhandled, status_of};
 use snmp_ber::Oid;
+use snmp_incoming::{Kept, TakeFault, Taken};
 use snmp_msg::{Binding, TRAP};
-use snmp_outcome::{Kept, TakeFault, Taken};
-use snmp_sending::{Body, Counter, Front};
+use snmp_outgoing::{Body, Counter, Front};
 use std::alloc::Global;
 use vacm_core::Access;
 

@@ -6,8 +6,8 @@ use crate::shown::{Hex, Text};
 use crate::subjects::Subject;
 use anyhow::{Result, bail, ensure};
 use engine_clock::EngineId;
-use snmp_outcome::{TakeFault, Taken, read_text, scoped_octets};
-use snmpsec_open::{octets_line, opened_lines};
+use snmp_incoming::{TakeFault, Taken, read_text, scoped_octets};
+use snmpsec_output::{octets_line, opened_lines};
 use std::alloc::Global;
 use usm_core::{Role, Users, UsmFault};
 

@@ -7,7 +7,7 @@ use crate::shown::{Text, none, silent};
 use crate::subjects::Subject;
 use anyhow::{Context, Result, bail};
 use engine_clock::{Clocks, EngineId};
-use snmp_world::{Event, World, WorldFault, WorldStopped};
+use snmp_manager::{Event, World, WorldFault, WorldStopped};
 use std::alloc::Global;
 use usm_core::Users;
 

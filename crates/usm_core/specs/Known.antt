@@ -2,7 +2,7 @@
 use Rattle.std.specs.Prelude.{List}
 use Rattle.usm_keys.specs.AuthKey.{AuthKey}
 use Rattle.usm_users.specs.User.{User}
-use Rattle.usm_cache.specs.declared.cache.KeyId.{KeyId}
+use Rattle.usm_users.specs.declared.cache.KeyId.{KeyId}
 
 -- What a contract sees of `Users`.
 pub record Known : Type 0 where

@@ -7,16 +7,15 @@ ghost use Rattle.snmp_message.specs.Security.{IsCut, fields_of};
 ghost use Rattle.usm_keys.specs.Protocols.{mac as mac_by, mac_octets};
 ghost use Rattle.usm_users.specs.User.{User as UserOf};
 ghost use Rattle.usm_users.specs.Users.{user_named};
-ghost use Rattle.usm_cache.specs.Cache.{AreCached, localised_to};
+ghost use Rattle.usm_users.specs.Cache.{AreCached, localised_to};
 ghost use Rattle.usm_core.specs.Authentic.{IsMac};
 ghost use Rattle.usm_core.specs.Sealed.{SendingFits, spelled_with, digest_of};
 ghost use Rattle.usm_core.specs.Writing.{sending_of};
 
 use crate::spell::{Outgoing, code_place};
 use snmp_message::{Message, ScopedPdu, Security, cut, field_filled, one_cut};
-use usm_cache::{CachedKey, KeyCache, Purpose};
 use usm_keys::{KeptKey, Key, localise};
-use usm_users::User;
+use usm_users::{CachedKey, KeyCache, Purpose, User};
 
 /// Whether the octets are the same. It looks at each of them wherever they differ, so that the time tells nothing of the place.
 fn are_same(a: &[u8], b: &[u8]) -> bool

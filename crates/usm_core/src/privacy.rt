@@ -10,7 +10,7 @@ ghost use Rattle.usm_aes.specs.Aes.{enciphered, schedule};
 ghost use Rattle.usm_aes.specs.Feedback.{IsSealed, iv_of, opened};
 ghost use Rattle.usm_users.specs.User.{User as UserOf};
 ghost use Rattle.usm_users.specs.Users.{HasUserAt, user_named};
-ghost use Rattle.usm_cache.specs.Cache.{AreCached};
+ghost use Rattle.usm_users.specs.Cache.{AreCached};
 ghost use Rattle.usm_core.specs.Sealed.{UserKey, IsPlaintext};
 ghost use Rattle.usm_core.specs.declared.fault.UsmFault.TheVariants.{DecryptionError, OutOfMemory};
 
@@ -20,9 +20,8 @@ use crate::spell::Outgoing;
 use snmp_message::{ScopedPdu, Security};
 use std::alloc::{AllocError, Global};
 use usm_aes::{Schedule, cfb_open, cfb_seal, iv};
-use usm_cache::{CachedKey, KeyCache, Purpose};
 use usm_keys::{Key, localise};
-use usm_users::UserTable;
+use usm_users::{CachedKey, KeyCache, Purpose, UserTable};
 
 /// The first 16 octets of the key localised to the engine, expanded, of a user's privacy key. The localised key is the kept
 /// one, which becomes the last used, or one that is made and kept.

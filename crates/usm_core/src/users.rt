@@ -8,7 +8,7 @@ ghost use Rattle.snmp_message.specs.Security.{fields_of};
 ghost use Rattle.snmp_message.specs.Level.{level_of};
 ghost use Rattle.engine_clock.specs.Pairs.{BootsAndTime};
 ghost use Rattle.usm_users.specs.Users.{AreUsers, HasUserAt};
-ghost use Rattle.usm_cache.specs.Cache.{AreCached};
+ghost use Rattle.usm_users.specs.Cache.{AreCached};
 ghost use Rattle.usm_core.specs.Authentic.{Authentic};
 ghost use Rattle.usm_core.specs.Verified.{Verifies, AllowsEngine, IsReadAs, IsJudged};
 ghost use Rattle.usm_core.specs.Answers.{side_of, checked_answer, verified_of, seal_answer, IsAuthenticatedAs};
@@ -31,8 +31,7 @@ use snmp_ber::Level;
 use snmp_message::{Header, ScopedOctets, ScopedPdu, one_cut, one_message};
 use std::alloc::{AllocError, Global};
 use std::marker::Model;
-use usm_cache::{KeyCache, Purpose};
-use usm_users::{UserFault, UserRow, UserTable, places_of, table_of};
+use usm_users::{KeyCache, Purpose, UserFault, UserRow, UserTable, places_of, table_of};
 
 /// Users, each with the keys of its passwords, not yet localised to an engine (RFC 3414, section 2.6). Their names are
 /// distinct.
@@ -46,7 +45,7 @@ pub struct Users {
 impl Model for Users {
     ghost use Rattle.usm_core.specs.Known.{Known};
     ghost use Rattle.usm_users.specs.Users.{AreUsers};
-    ghost use Rattle.usm_cache.specs.Cache.{AreCached};
+    ghost use Rattle.usm_users.specs.Cache.{AreCached};
 
     ghost Value = { Known };
 

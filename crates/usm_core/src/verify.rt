@@ -6,16 +6,15 @@ ghost use Rattle.snmp_ber.specs.declared.level.Level.TheVariants.{NoAuthNoPriv};
 ghost use Rattle.usm_core.specs.Authentic.{HasEngineLength};
 ghost use Rattle.usm_core.specs.Verified.{Verifies, AllowsEngine, manager};
 ghost use Rattle.usm_core.specs.Answers.{side_of, checked_answer};
-ghost use Rattle.usm_cache.specs.Cache.{AreCached, IsCachedAt, key_id};
-ghost use Rattle.usm_cache.specs.declared.cache.Purpose.TheVariants.{Authentication};
+ghost use Rattle.usm_users.specs.Cache.{AreCached, IsCachedAt, key_id};
+ghost use Rattle.usm_users.specs.declared.cache.Purpose.TheVariants.{Authentication};
 
 use crate::checked::{Checked, Role};
 use crate::digest::is_digest_right;
 use crate::fault::UsmFault;
 use crate::layout::read_layout;
 use snmp_ber::Level;
-use usm_cache::{CachedKey, KeyCache};
-use usm_users::UserTable;
+use usm_users::{CachedKey, KeyCache, UserTable};
 
 /// The engine's own identifier at an agent, and any of 5 to 32 octets at a manager.
 fn allows_engine(role: Role<'_>, engine: &[u8]) -> bool

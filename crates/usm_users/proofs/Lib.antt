@@ -1,3 +1,4 @@
 pub mod Indexing
 pub mod Loaded
 pub mod Named
+pub mod Caching

@@ -3,3 +3,4 @@ pub mod Credentials
 pub mod Users
 pub mod Rows
 pub mod Index
+pub mod Cache

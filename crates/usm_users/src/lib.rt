@@ -1,5 +1,5 @@
-//! Users with the keys of their passwords, not yet localised to an engine (RFC 3414, sections 2.1 and 2.6): the rows that say
-//! them, and a table in which a name is found whatever their number.
+//! Users of the User-based Security Model (RFC 3414, sections 2.1 and 2.6): the rows that define them, a table that finds a user by
+//! name, and localised keys that are kept for the next message.
 //!
 //! ```
 //! use snmp_ber::Level;
@@ -17,13 +17,35 @@
 //! assert!(rt; user.supports(Level::AuthNoPriv));
 //! assert!(rt; !user.supports(Level::AuthPriv));
 //! ```
+//!
+//! ```
+//! use usm_keys::{Auth, localise, password_key};
+//! use usm_users::{CachedKey, KeyCache, Purpose};
+//!
+//! const ENGINE: &[u8] = b"\x80\x00\x1f\x88\x04k";
+//!
+//! let key = localise(&password_key(Auth::Sha1, b"maplesyrup")?, ENGINE);
+//! let mut cache = KeyCache::new(rt.alloc())?;
+//! let made = Some(CachedKey::for_authentication(key));
+//! cache.note_use(b"ann", ENGINE, Purpose::Authentication, made);
+//! assert!(rt;
+//!     cache
+//!         .find(b"ann", ENGINE, Purpose::Authentication)
+//!         .is_some()
+//! );
+//! assert!(rt; cache.find(b"ann", ENGINE, Purpose::Privacy).is_none());
+//! ```
 #![tactic(auto)]
 
+mod cache;
+mod cached_key;
 mod credentials;
 mod load;
 mod user;
 mod user_table;
 
+pub use cache::{KeyCache, KeyId, Purpose};
+pub use cached_key::CachedKey;
 pub use credentials::Credentials;
 pub use load::{UserFault, UserRow, places_of, table_of};
 pub use user::{User, UserName};

@@ -18,7 +18,7 @@ use Rattle.std.proofs.lemmas.List.Sorted.{searchable_from_sorted}
 use Rattle.std.proofs.lemmas.Map.Lookups.{exact_bytes}
 use Rattle.vacm_core.specs.declared.rows.FamilyRow.{FamilyRow}
 use Rattle.vacm_core.specs.Allowed.{IsBestOf, family_order}
-use Rattle.vacm_table.specs.Place.{AreFalling}
+use Rattle.vacm_core.specs.RowOrder.{AreFalling}
 use Rattle.vacm_core.specs.Place.{arcs_order}
 use Rattle.vacm_core.specs.View.{IsExact, AreExact, HasArcs}
 use Rattle.vacm_core.proofs.First.{not_exceeded}

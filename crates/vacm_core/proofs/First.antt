@@ -10,7 +10,7 @@ use Rattle.std.proofs.lemmas.List.{get_or_default}
 use Rattle.std.proofs.lemmas.List.Elements.{Contains-append_left, Contains-append_right, Contains-append_cases}
 use Rattle.std.proofs.lemmas.List.Sorted.{sorted_far, ranks_by}
 use Rattle.vacm_core.specs.Allowed.{IsBestOf, NoneFits}
-use Rattle.vacm_table.specs.Place.{AreFalling}
+use Rattle.vacm_core.specs.RowOrder.{AreFalling}
 
 -- the best of a name's rows is the best of their table
 module _ {R : Type 0} (Fits Here : R → Type 0) (rank : R → R → Ordering) (name : R → List ℕ) (wanted : List ℕ) (rows those : List R)

@@ -8,3 +8,5 @@ pub mod Positions
 pub mod Seen
 pub mod Uniqueness
 pub mod Views
+pub mod Places
+pub mod Runs

@@ -8,7 +8,7 @@ use Rattle.vacm_core.specs.declared.rows.AccessRow.{AccessRow}
 use Rattle.vacm_core.specs.declared.rows.FamilyRow.{FamilyRow}
 use Rattle.vacm_core.specs.Tables.{Tables}
 use Rattle.vacm_core.specs.Allowed.{Allowed, Requester, HasContext, HasView, IsInGroup, IsBestOf, NoneFits, FitsMessage, FitsVariable, access_order, family_order, view_name}
-use Rattle.vacm_table.specs.Place.{IsRunOf}
+use Rattle.vacm_core.specs.RowOrder.{IsRunOf}
 use Rattle.vacm_core.specs.Place.{family_name}
 use Rattle.vacm_core.specs.View.{HasArcs, AnswersView}
 use Rattle.vacm_core.proofs.First.{best_of_table, none_of_table}

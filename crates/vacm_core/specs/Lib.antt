@@ -7,3 +7,4 @@ pub mod View
 pub mod Laws
 pub mod Numbers
 pub mod Steps
+pub mod RowOrder

@@ -8,9 +8,9 @@ ghost use Rattle.vacm_core.specs.Steps.{HasNoGroup, DecidesContext, requester_of
 use crate::Access;
 use crate::rows::{AccessRow, ContextRow, FamilyRow, GroupRow};
 use crate::steps::Asking;
+use crate::table::OrderedTable;
 use crate::view::viewed;
 use snmp_ber::Level;
-use vacm_table::OrderedTable;
 
 /// The row of the context of this name.
 pub(crate) fn context_row<'a>(

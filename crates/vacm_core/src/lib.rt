@@ -1,7 +1,5 @@
-//! View-based access control (RFC 3415): contexts, groups, access rows and view tree families, and the decision whether a
-//! message may see a variable.
-//!
-//! The rows are kept in order, and those that a question asks for are found by their names.
+//! View-based access control (RFC 3415): contexts, groups, access rows and view tree families, and the decision whether a message
+//! may see a variable. Tables keep rows in order, and find them by name.
 //!
 //! ```
 //! use snmp_ber::{Level, Oid};
@@ -30,6 +28,26 @@
 //! let bob = vacm.is_access_allowed(3, b"bob", level, ViewType::Read, b"", &variable);
 //! assert_eq!(rt; bob, Access::NoGroupName);
 //! ```
+//!
+//! ```
+//! use vacm_core::{GroupRow, Name, OrderedTable};
+//!
+//! /// A row of ann's under a security model.
+//! fn row_of(model: u32) -> Option<GroupRow> {
+//!     Some(GroupRow {
+//!         model,
+//!         name: Name::of(b"ann")?,
+//!         group: Name::of(b"readers")?,
+//!     })
+//! }
+//!
+//! let mut rows = Vec::new(rt.alloc());
+//! rows.push(row_of(2).ok_or("a row")?)?;
+//! rows.push(row_of(3).ok_or("a row")?)?;
+//! let table = OrderedTable::of(rt.alloc(), &rows)?;
+//! assert_eq!(rt; table.rows_of(b"ann").first().map(|row| row.model), Some(3));
+//! assert_eq!(rt; table.rows_of(b"bob").len(), 0);
+//! ```
 #![tactic(auto)]
 
 mod access;
@@ -38,16 +56,22 @@ mod explain;
 mod fault;
 pub mod laws;
 mod mask;
+mod name;
+mod named_row;
+mod place;
 mod row;
 mod rows;
 mod steps;
+mod table;
 mod vacm;
 mod view;
 
 pub use access::{Access, ViewType};
 pub use fault::{Table, VacmFault};
 pub use mask::Mask;
+pub use name::Name;
+pub use named_row::NamedRow;
 pub use rows::{AccessRow, ContextRow, FamilyRow, GroupRow, Matching, Rows};
 pub use steps::{AccessStep, Asking, ContextStep, Explained, GroupStep, ViewStep};
+pub use table::OrderedTable;
 pub use vacm::Vacm;
-pub use vacm_table::Name;

@@ -9,10 +9,11 @@ ghost use Rattle.vacm_core.specs.Laws.{equal_total, access_order-total, family_o
 ghost use Rattle.std.proofs.lemmas.Cmp.{nat_cmp_total, on_total};
 ghost use Rattle.vacm_core.specs.declared.rows.GroupRow.{GroupRow as Group};
 
+use crate::name::Name;
+use crate::named_row::NamedRow;
 use crate::rows::{AccessRow, ContextRow, FamilyRow, GroupRow};
 use snmp_ber::Oid;
 use std::cmp::Ordering;
-use vacm_table::{Name, NamedRow};
 
 /// The greatest number of a security model.
 const MODEL_MAX: u32 = 2147483647;

@@ -14,13 +14,14 @@ ghost use Rattle.vacm_core.specs.Steps.{DecidesContext, TellsContext, requester_
 use crate::ask::{Deciding, context_row, decided};
 use crate::explain::context_step;
 use crate::fault::find_fault;
+use crate::named_row::NamedRow;
 use crate::rows::{AccessRow, ContextRow, FamilyRow, GroupRow};
 use crate::steps::{Asking, Explained};
+use crate::table::OrderedTable;
 use crate::{Access, Rows, VacmFault, ViewType};
 use snmp_ber::{Level, Oid};
 use std::alloc::{AllocError, Global};
 use std::marker::Model;
-use vacm_table::{NamedRow, OrderedTable};
 
 /// The four tables, each without two rows of one index.
 ///

@@ -1,16 +1,17 @@
 //! The rows of one view, and the one of them that decides on a variable.
 ghost use Rattle.std.specs.Prelude.{◌≡◌, ◌≢◌, ◌⊎◌, [], ◌++◌, ℕ, ◌<◌, ◌≤◌, ◌↔◌, length, IsTrue, MatchOption, MatchResult, slice_index, get_or};
 ghost use Rattle.std.specs.declared.cmp.Ordering.TheVariants.{Less, Greater};
-ghost use Rattle.vacm_table.specs.Place.{AreFalling};
+ghost use Rattle.vacm_core.specs.RowOrder.{AreFalling};
 ghost use Rattle.vacm_core.specs.Place.{arcs_order};
 ghost use Rattle.vacm_core.specs.View.{AreExact, HasArcs, AnswersView};
 ghost use Rattle.vacm_core.specs.declared.rows.FamilyRow.{FamilyRow as Family};
 ghost use Rattle.vacm_core.specs.Steps.{DecidesView};
 ghost use Rattle.vacm_core.specs.Allowed.{IsBestOf, NoneFits, family_order, mask_bit};
 
+use crate::named_row::NamedRow;
 use crate::rows::{FamilyRow, arcs_order};
+use crate::table::OrderedTable;
 use crate::{Access, Mask};
-use vacm_table::{NamedRow, OrderedTable};
 
 /// The arcs that the mask compares are equal.
 fn agrees(subtree: &[u32], mask: &Mask, variable: &[u32]) -> bool

@@ -1,7 +1,7 @@
 //! `snmp_manager`: a manager discovers, and takes what comes.
 use engine_clock::Clocks;
+use snmp_incoming::TakeFault;
 use snmp_manager::{Manager, Outcome};
-use snmp_outcome::TakeFault;
 use std::test::Fail;
 use usm_core::Users;
 

@@ -2,7 +2,7 @@ use Rattle.std.proofs.Common.{rules, ◌≡◌, true, sym, subst, ◌∙◌, ap,
 use Rattle.std.proofs.lemmas.Int.{to_z-of_z}
 use Rattle.snmp_message.specs.Message.{parts}
 use Rattle.snmp_msg.specs.Pdu.{PduParts}
-use Rattle.snmp_sending.specs.Classes.{is_confirmed}
+use Rattle.snmp_outgoing.specs.Classes.{is_confirmed}
 use Rattle.snmp_agent.proofs.Requests.{same_pdu}
 use Rattle.snmp_agent.proofs.asked.copied_id.Goals as goal
 

@@ -2,8 +2,8 @@ use Rattle.std.proofs.Common.{sym, subst, arith}
 use Rattle.engine_clock.specs.Pairs.{BootsAndTime}
 use Rattle.engine_clock.specs.Windows.{InAgentWindow}
 use Rattle.usm_core.specs.Answers.{verified_of}
-use Rattle.snmp_outcome.specs.Texts.{text_of}
-use Rattle.snmp_outcome.specs.Outcome.{pair_in}
+use Rattle.snmp_incoming.specs.Texts.{text_of}
+use Rattle.snmp_incoming.specs.Outcome.{pair_in}
 use Rattle.snmp_agent.specs.Agent.{taker_at}
 use Rattle.snmp_agent.proofs.Judging.{not_both, inside, stopped, told_refused, late, unopened, reads}
 use Rattle.snmp_agent.proofs.judge.judge.Goals as goal

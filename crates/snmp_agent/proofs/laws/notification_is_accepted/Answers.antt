@@ -1,4 +1,4 @@
-use Rattle.snmp_outcome.specs.Outcome.{as_manager}
+use Rattle.snmp_incoming.specs.Outcome.{as_manager}
 use Rattle.snmp_agent.specs.Sent.{notification}
 use Rattle.snmp_agent.proofs.laws.notification_is_accepted.Goals as goal
 

@@ -2,11 +2,11 @@ use Rattle.std.proofs.Common.{rules, ◌≡◌, ap, subst, ℕ, arith, Bool, w32
 use Rattle.std.specs.Prelude.{◌≢◌, Result, Err, None}
 use Rattle.std.specs.Global.{Vec}
 use Rattle.std.proofs.lemmas.Int.{to_z-of_z}
-use Rattle.snmp_outcome.specs.declared.fault.TakeFault.{TakeFault}
-use Rattle.snmp_outcome.specs.declared.fault.TakeFault.TheVariants.{TooLarge}
-use Rattle.snmp_outcome.specs.Refusals.{answer_number, MemoryIs}
+use Rattle.snmp_incoming.specs.declared.fault.TakeFault.{TakeFault}
+use Rattle.snmp_incoming.specs.declared.fault.TakeFault.TheVariants.{TooLarge}
+use Rattle.snmp_incoming.specs.Refusals.{answer_number, MemoryIs}
 use Rattle.snmp_agent.specs.Report.{reporting_of}
-use Rattle.snmp_answers.proofs.Sizes.{scoped_most}
+use Rattle.snmp_agent.proofs.Sizes.{scoped_most}
 use Rattle.snmp_agent.proofs.Reports.{seals_text, refusal_is, report_sealable}
 use Rattle.snmp_agent.proofs.report.send_report.Goals as goal
 

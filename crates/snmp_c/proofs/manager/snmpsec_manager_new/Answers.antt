@@ -1,7 +1,7 @@
 use Rattle.std.proofs.Common.{Err, refl, ◌∙◌, rules, w32, SFits}
 use Rattle.std.proofs.lemmas.Int.{to_z-of_z}
-use Rattle.snmp_outcome.specs.declared.fault.TakeFault.TheVariants.{OutOfMemory}
-use Rattle.snmp_calls.specs.declared.fault.CallFault.TheVariants.{Refused}
+use Rattle.snmp_incoming.specs.declared.fault.TakeFault.TheVariants.{OutOfMemory}
+use Rattle.snmp_handles.specs.declared.fault.CallFault.TheVariants.{Refused}
 use Rattle.snmp_c.proofs.manager.snmpsec_manager_new.Goals as goal
 
 pub returns : goal.returns

@@ -33,8 +33,8 @@ use denote.Triple.Clauses.{Lasts, lasts}
 use denote.Triple.Spec.{triple_of}
 use denote.Triple.Table.{framed}
 use denote.Triple.Walked.{Stays, walk_of, stay_dropped, Goes-dropped, gave_slice, Goes-gave_slice, gave_ref, Goes-gave_ref, ends_at}
-use Rattle.snmp_held.specs.contracts.manager.ManagerHandle as handles
-use Rattle.snmp_held.specs.Managers.{ManagerHeld}
+use Rattle.snmp_handles.specs.contracts.manager.ManagerHandle as handles
+use Rattle.snmp_handles.specs.Managers.{ManagerHeld}
 use Rattle.snmp_c.specs.ManagerCalls.{ToldReport}
 use types.Logic.{sem}
 use Rattle.snmp_c.specs.contracts.reports_calls.report as g

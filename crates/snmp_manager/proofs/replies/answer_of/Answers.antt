@@ -1,7 +1,7 @@
 use Rattle.std.proofs.Common.{◌≡◌}
 use Rattle.snmp_message.specs.Scoped.{contexts_of}
 use Rattle.snmp_msg.specs.Pdu.{pdu_of}
-use Rattle.snmp_outcome.specs.Texts.{text_of}
+use Rattle.snmp_incoming.specs.Texts.{text_of}
 use Rattle.snmp_manager.proofs.replies.answer_of.Goals as goal
 
 pub returns-then-is_response : goal.returns-then-is_response

@@ -1,5 +1,5 @@
 use Rattle.std.proofs.Common.{◌≡◌, ℕ, ◌<◌, ◌≤◌}
-use Rattle.snmp_sending.specs.Counters.{counter_name}
+use Rattle.snmp_outgoing.specs.Counters.{counter_name}
 use Rattle.snmp_manager.proofs.replies.counter_of.Given as goal
 
 -- no counter below n has the name

@@ -1,6 +1,6 @@
 use Rattle.usm_core.specs.Answers.{verified_of}
-use Rattle.snmp_outcome.specs.Outcome.{as_manager}
-use Rattle.snmp_outcome.specs.Texts.{text_of}
+use Rattle.snmp_incoming.specs.Outcome.{as_manager}
+use Rattle.snmp_incoming.specs.Texts.{text_of}
 use Rattle.snmp_manager.proofs.Takes.{weighs_late, weighs_unopened, weighs_read, not_both, is_so}
 use Rattle.snmp_manager.proofs.weighing.weigh.Goals as goal
 

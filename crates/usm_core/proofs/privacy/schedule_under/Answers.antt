@@ -1,5 +1,5 @@
-use Rattle.usm_cache.specs.declared.cache.Purpose.TheVariants.{Privacy}
-use Rattle.usm_cache.proofs.Caching.{cached_is, localised-least}
+use Rattle.usm_users.specs.declared.cache.Purpose.TheVariants.{Privacy}
+use Rattle.usm_users.proofs.Caching.{cached_is, localised-least}
 use Rattle.usm_core.proofs.privacy.schedule_under.Goals as goal
 
 pub schedule-schedule-requires : goal.schedule-schedule-requires

@@ -1,10 +1,10 @@
 use Rattle.std.proofs.Common.{◌≡◌, ◌∙◌, ℕ, List, Option, Some, Bor, ap, sym, subst}
 use Rattle.std.specs.Option.{option_copied, option_map}
 use Rattle.usm_keys.specs.AuthKey.{AuthKey}
-use Rattle.usm_cache.specs.declared.cache.Purpose.TheVariants.{Authentication}
-use Rattle.usm_cache.specs.Cache.{AreCached, schedule_at}
+use Rattle.usm_users.specs.declared.cache.Purpose.TheVariants.{Authentication}
+use Rattle.usm_users.specs.Cache.{AreCached, schedule_at}
 use Rattle.usm_core.specs.Writing.{sending_of}
-use Rattle.usm_cache.proofs.Caching.{is_cached}
+use Rattle.usm_users.proofs.Caching.{is_cached}
 use Rattle.usm_core.proofs.seal.seal_under.Goals.{in-Some, in-None}
 use Rattle.usm_core.proofs.seal.seal_under.Goals as goal
 

@@ -1,4 +1,4 @@
-use Rattle.vacm_table.proofs.Runs.{first_row}
+use Rattle.vacm_core.proofs.Runs.{first_row}
 use Rattle.vacm_core.specs.Place.{context_name, context_rank}
 use Rattle.vacm_core.proofs.ask.context_row.Goals as goal
 

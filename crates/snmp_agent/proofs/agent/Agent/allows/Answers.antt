@@ -2,8 +2,8 @@ use Rattle.std.proofs.Common.{◌≡◌, subst, ap}
 use Rattle.snmp_message.specs.Scoped.{Contexts, contexts_of}
 use Rattle.vacm_core.specs.Tables.{Tables}
 use Rattle.vacm_core.specs.Allowed.{Allowed}
-use Rattle.snmp_outcome.specs.Texts.{text_of}
-use Rattle.snmp_outcome.specs.Answers.{given_of}
+use Rattle.snmp_incoming.specs.Texts.{text_of}
+use Rattle.snmp_incoming.specs.Answers.{given_of}
 use Rattle.snmp_agent.specs.Agent.{AgentState}
 use Rattle.snmp_agent.specs.Decides.{question_of}
 use Rattle.snmp_agent.proofs.agent.Agent.allows.Goals as goal

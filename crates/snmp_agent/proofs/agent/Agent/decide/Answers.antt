@@ -3,8 +3,8 @@ use Rattle.snmp_message.specs.Scoped.{Contexts, contexts_of}
 use Rattle.snmp_msg.specs.Pdu.{PduParts, pdu_of}
 use Rattle.snmp_msg.specs.Variables.{AreBindings}
 use Rattle.vacm_core.specs.Tables.{Tables}
-use Rattle.snmp_outcome.specs.Texts.{text_of}
-use Rattle.snmp_outcome.specs.Answers.{given_of}
+use Rattle.snmp_incoming.specs.Texts.{text_of}
+use Rattle.snmp_incoming.specs.Answers.{given_of}
 use Rattle.snmp_agent.specs.Agent.{AgentState}
 use Rattle.snmp_agent.specs.Decides.{question_of, IsDecidedBy, AreAnswers}
 use Rattle.snmp_agent.proofs.agent.Agent.decide.Goals as goal

@@ -1,8 +1,8 @@
 use Rattle.std.proofs.Common.{subst}
 use Rattle.std.specs.Prelude.{IfSome}
-use Rattle.snmp_sending.specs.declared.front.Front.{Front}
-use Rattle.snmp_sending.specs.Bodies.{variables_in}
-use Rattle.snmp_sending.specs.Sends.{send_answer}
+use Rattle.snmp_outgoing.specs.declared.front.Front.{Front}
+use Rattle.snmp_outgoing.specs.Bodies.{variables_in}
+use Rattle.snmp_outgoing.specs.Sends.{send_answer}
 use Rattle.snmp_agent.specs.Sent.{notifying, Sends}
 use Rattle.snmp_agent.proofs.agent.Agent.notify.Goals as goal
 

@@ -1,9 +1,9 @@
 use Rattle.std.proofs.Common.{subst, ap, arith}
 use Rattle.std.specs.Prelude.{map, IfOk, IfSome}
 use Rattle.usm_core.specs.Table.{fails}
-use Rattle.snmp_sending.specs.Sends.{send_answer}
+use Rattle.snmp_outgoing.specs.Sends.{send_answer}
 use Rattle.snmp_agent.specs.Agent.{AgentState}
-use Rattle.snmp_outcome.specs.Outcome.{own_pair}
+use Rattle.snmp_incoming.specs.Outcome.{own_pair}
 use Rattle.engine_clock.specs.Pairs.{BootsAndTime}
 use Rattle.snmp_agent.specs.Sent.{notification, notifying, Sends, CanBeSent, IsAcceptedByManagers}
 use Rattle.snmp_agent.proofs.Accepted.{AreAccepted, accepted}

@@ -3,14 +3,14 @@ use Rattle.std.specs.Prelude.{Option, Some, Ok, IfSome}
 use Rattle.usm_users.specs.User.{User}
 use Rattle.snmp_msg.specs.Pdu.{pdu_of}
 use Rattle.usm_core.specs.Table.{fails}
-use Rattle.snmp_outcome.specs.Answers.{given_of}
-use Rattle.snmp_outcome.specs.Refusals.{answer_number}
-use Rattle.snmp_sending.specs.Classes.{is_confirmed}
-use Rattle.snmp_sending.specs.Sends.{send_refusal}
+use Rattle.snmp_incoming.specs.Answers.{given_of}
+use Rattle.snmp_incoming.specs.Refusals.{answer_number}
+use Rattle.snmp_outgoing.specs.Classes.{is_confirmed}
+use Rattle.snmp_outgoing.specs.Sends.{send_refusal}
 use Rattle.snmp_agent.specs.Agent.{AgentState}
-use Rattle.snmp_sending.specs.declared.counter.Counter.{Counter}
+use Rattle.snmp_outgoing.specs.declared.counter.Counter.{Counter}
 use Rattle.snmp_agent.specs.Counts.{count_after, one_more}
-use Rattle.snmp_answers.specs.CounterReports.{refusing}
+use Rattle.snmp_agent.specs.CounterReports.{refusing}
 use Rattle.snmp_agent.specs.Dispatch.{counter_of, agent_counted, IsReported, SendsRefusal}
 use Rattle.snmp_agent.proofs.Clocked.{sends}
 use Rattle.snmp_agent.proofs.Values.{counted_value}

@@ -3,12 +3,12 @@ use Rattle.std.specs.Prelude.{map, take, IfOk, IfSome}
 use Rattle.std.proofs.lemmas.Int.{to_z-of_z}
 use Rattle.snmp_msg.specs.Variables.{Variable}
 use Rattle.usm_core.specs.Table.{fails}
-use Rattle.snmp_outcome.specs.Answers.{given_of}
-use Rattle.snmp_sending.specs.Fronts.{front_answer}
+use Rattle.snmp_incoming.specs.Answers.{given_of}
+use Rattle.snmp_outgoing.specs.Fronts.{front_answer}
 use Rattle.snmp_agent.specs.Agent.{AgentState}
-use Rattle.snmp_outcome.specs.Outcome.{own_pair}
-use Rattle.snmp_sending.specs.Speaks.{SpeechFits}
-use Rattle.snmp_answers.specs.Responses.{response, responding}
+use Rattle.snmp_incoming.specs.Outcome.{own_pair}
+use Rattle.snmp_outgoing.specs.Speaks.{SpeechFits}
+use Rattle.snmp_agent.specs.Responses.{response, responding}
 use Rattle.snmp_agent.specs.Sent.{SendsFront, CanBeSent, IsAcceptedByManagers}
 use Rattle.engine_clock.specs.Pairs.{BootsAndTime}
 use Rattle.snmp_agent.proofs.Clocked.{can_be_sent}

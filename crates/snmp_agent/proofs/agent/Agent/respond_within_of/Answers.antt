@@ -2,10 +2,10 @@ use Rattle.std.proofs.Common.{rules, ◌<◌, ◌≤◌, length, w32, SFits}
 use Rattle.std.specs.Prelude.{map}
 use Rattle.std.proofs.lemmas.Int.{to_z-of_z}
 use Rattle.std.proofs.lemmas.Result.{err_from_is_err_and}
-use Rattle.snmp_outcome.specs.Answers.{given_of}
-use Rattle.snmp_outcome.specs.Refusals.{answer_number}
-use Rattle.snmp_sending.specs.UpTo.{fits, longer}
-use Rattle.snmp_answers.specs.Responses.{responding}
+use Rattle.snmp_incoming.specs.Answers.{given_of}
+use Rattle.snmp_incoming.specs.Refusals.{answer_number}
+use Rattle.snmp_outgoing.specs.UpTo.{fits, longer}
+use Rattle.snmp_agent.specs.Responses.{responding}
 use Rattle.snmp_agent.specs.Sent.{Sends}
 use Rattle.snmp_agent.proofs.UpTos.{some_refused}
 use Rattle.snmp_agent.proofs.agent.Agent.respond_within_of.Goals as goal

@@ -1,7 +1,7 @@
 use Rattle.std.proofs.Common.{◌≡◌, subst}
 use Rattle.snmp_message.specs.Scoped.{Contexts, contexts_of}
 use Rattle.snmp_msg.specs.Pdu.{PduParts, pdu_of}
-use Rattle.snmp_outcome.specs.Texts.{text_of}
+use Rattle.snmp_incoming.specs.Texts.{text_of}
 use Rattle.snmp_agent.specs.Dispatch.{HandledBy}
 use Rattle.snmp_agent.proofs.agent.Agent.unhandled.Goals as goal
 

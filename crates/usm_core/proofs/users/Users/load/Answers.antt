@@ -1,6 +1,6 @@
 use Rattle.std.proofs.Common.{sym, subst}
 use Rattle.usm_users.specs.Users.{AreUsers}
-use Rattle.usm_cache.proofs.Caching.{none_cached}
+use Rattle.usm_users.proofs.Caching.{none_cached}
 use Rattle.usm_users.proofs.Loaded.{users_of_sound}
 use Rattle.usm_core.proofs.users.Users.load.Goals as goal
 

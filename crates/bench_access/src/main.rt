@@ -1,0 +1,123 @@
+//! Loads rows of the four tables and asks questions again and again, for `bench/access` to time.
+//!
+//! `bench_access SHAPE ROWS WILD ARCS KIND LOADS ASKS` makes ROWS rows of each table, loads them LOADS times and asks ASKS
+//! questions, 1,000 different ones in turn. It prints how many were allowed and how many were not in view.
+//!
+//! Under the SHAPE `many` a view has 20 family rows, and under `one` a single view has them all. A group has 5 access rows, of
+//! which the last in order matches. Each WILDth family row has a wildcard (0: none). A question is for a variable of ARCS arcs,
+//! which a row of 10 arcs has for the KIND `hit`; for `miss` no row has it, though one has all but the last of its own arcs.
+#![tactic(auto)]
+
+mod rows;
+
+use anyhow::{Context, Result, bail};
+use rows::{Shape, name_of, rows_of, variable_of};
+use snmp_ber::{Level, Oid};
+use std::alloc::Global;
+use std::env;
+use vacm_core::{Access, Name, Rows, Vacm, VacmFault, ViewType};
+
+/// How many different questions are asked in turn.
+const QUESTIONS: u32 = 1000;
+
+/// What is asked, but for the model, the level and the view type.
+#[derive(Drop)]
+struct Question {
+    user: Name,
+    context: Name,
+    variable: Oid,
+}
+
+fn questions(alloc: Global, count: u32, arcs: usize, is_hit: bool) -> Result<Vec<Question>> {
+    let mut made = Vec::new(alloc);
+    let mut number = 0u32;
+    for _ in 0..QUESTIONS {
+        number = number.wrapping_add(7919) % count.max(1);
+        made.push(Question {
+            user: name_of(b'u', number)?,
+            context: name_of(b'c', number)?,
+            variable: variable_of(number, arcs, is_hit)?,
+        })?;
+    }
+    Ok(made)
+}
+
+fn loaded(alloc: Global, rows: &Rows) -> Result<Vacm> {
+    match Vacm::load(alloc, rows) {
+        Ok(vacm) => Ok(vacm),
+        Err(VacmFault::OutOfMemory) => bail!("out of memory"),
+        Err(_) => bail!("refused"),
+    }
+}
+
+/// How many of the questions were allowed, and how many not in view.
+fn asked(vacm: &Vacm, questions: &[Question], asks: usize) -> (u64, u64) {
+    let mut allowed = 0u64;
+    let mut not_in_view = 0u64;
+    for question in questions.iter().cycle().take(asks) {
+        match vacm.is_access_allowed(
+            3,
+            question.user.as_slice(),
+            Level::AuthPriv,
+            ViewType::Read,
+            question.context.as_slice(),
+            &question.variable,
+        ) {
+            Access::AccessAllowed => allowed = allowed.wrapping_add(1),
+            Access::NotInView => not_in_view = not_in_view.wrapping_add(1),
+            _ => {}
+        }
+    }
+    (allowed, not_in_view)
+}
+
+/// What is measured.
+#[derive(Clone, Copy)]
+struct Wanted {
+    shape: Shape,
+    count: u32,
+    wild: u32,
+    arcs: usize,
+    is_hit: bool,
+    loads: u64,
+    asks: usize,
+}
+
+fn read_words(words: &[String]) -> Result<Wanted> {
+    let [_, shape, count, wild, arcs, kind, loads, asks] = words else {
+        bail!("usage: bench_access many|one ROWS WILD ARCS hit|miss LOADS ASKS");
+    };
+    Ok(Wanted {
+        shape: shape.as_str().parse()?,
+        count: count.as_str().parse().context("ROWS")?,
+        wild: wild.as_str().parse().context("WILD")?,
+        arcs: arcs.as_str().parse().context("ARCS")?,
+        is_hit: kind.as_str() == "hit",
+        loads: loads.as_str().parse().context("LOADS")?,
+        asks: asks.as_str().parse().context("ASKS")?,
+    })
+}
+
+/// Loads the rows so often, once at least, and answers what was loaded last.
+fn loaded_often(alloc: Global, rows: &Rows, loads: u64) -> Result<Vacm> {
+    for _ in 1..loads {
+        loaded(alloc, rows)?;
+    }
+    loaded(alloc, rows)
+}
+
+/// What the questions were answered.
+fn counted(alloc: Global, wanted: Wanted) -> Result<(u64, u64)> {
+    let questions = questions(alloc, wanted.count, wanted.arcs, wanted.is_hit)?;
+    let rows = rows_of(alloc, wanted.shape, wanted.count, wanted.wild)?;
+    let vacm = loaded_often(alloc, &rows, wanted.loads)?;
+    Ok(asked(&vacm, questions.as_slice(), wanted.asks))
+}
+
+fn main(rt: HostRuntime) -> Result<()> {
+    let alloc = rt.alloc();
+    let words: Vec<String> = env::args(&rt)?.collect(alloc)?;
+    let (allowed, not_in_view) = counted(alloc, read_words(words.as_slice())?)?;
+    println!(rt; "{allowed} {not_in_view}")?;
+    Ok(())
+}

@@ -1,0 +1,140 @@
+//! The rows that are loaded, by an arithmetic rule.
+ghost use Rattle.std.specs.Prelude.{◌≡◌, ◌≤◌, length, IfOk, Ok};
+ghost use Rattle.bench_access.specs.declared.rows.Shape.{Shape as AShape};
+ghost use Rattle.bench_access.specs.Words.{shape_word};
+
+use anyhow::{Context, Result};
+use snmp_ber::{Level, Oid};
+use std::alloc::Global;
+use std::str::FromStr;
+use thiserror::Error;
+use vacm_core::{AccessRow, ContextRow, FamilyRow, GroupRow, Mask, Matching, Name, Rows};
+
+/// How many access rows a group has.
+const IN_GROUP: u32 = 5;
+
+/// How many family rows a view has, where there are many views.
+const IN_VIEW: u32 = 20;
+
+/// How the family rows are spread over views.
+#[derive(Clone, Copy, PartialEq, Eq, Debug)]
+pub(crate) enum Shape {
+    /// Over many views.
+    Many,
+    /// One view has them all.
+    One,
+}
+
+/// No shape has this name.
+#[derive(Clone, Copy, PartialEq, Eq, Debug, Error)]
+#[error("SHAPE is many or one")]
+pub(crate) struct UnknownShape;
+
+impl FromStr for Shape {
+    type Err = UnknownShape;
+
+    fn from_str(name: &str) -> Result<Shape, UnknownShape>
+        ensures found { IfOk result (λ shape. name.now ≡ shape_word shape) }
+        ensures all { (shape : AShape) → name.now ≡ shape_word shape → result ≡ Ok shape }
+    {
+        match name {
+            "many" => Ok(Shape::Many),
+            "one" => Ok(Shape::One),
+            _ => Err(UnknownShape),
+        }
+    }
+}
+
+impl Shape {
+    /// The number of the view of the family row of this number.
+    fn view(self, number: u32) -> u32 {
+        match self {
+            Shape::Many => number / IN_VIEW,
+            Shape::One => 0,
+        }
+    }
+}
+
+/// Nine octets: the letter five times, and the number.
+pub(crate) fn name_of(letter: u8, number: u32) -> Result<Name>
+    ensures { IfOk result (λ name. length name ≡ 9) }
+{
+    let [a, b, c, d] = number.to_be_bytes();
+    Name::of(&[letter, letter, letter, letter, letter, a, b, c, d]).context("a name")
+}
+
+/// A subtree of 10 arcs.
+fn subtree_of(number: u32) -> [u32; 10] {
+    [1, 3, 6, 1, 2, 1, 2, 2, number / 64, number % 64]
+}
+
+/// A variable of at least 10 and at most 128 arcs under the subtree of this number, or for no hit one that differs from it in
+/// the last arc of the subtree.
+pub(crate) fn variable_of(number: u32, arcs: usize, is_hit: bool) -> Result<Oid>
+    ensures { 10 ≤ arcs → arcs ≤ 128 → IfOk result (λ variable. length variable ≡ arcs) }
+{
+    let mut variable = [5u32; 128];
+    variable[..10].copy_from_slice(&subtree_of(number));
+    if !is_hit {
+        variable[9] = 100;
+    }
+    let arcs = arcs.max(10).min(128);
+    Oid::of(&variable[..arcs]).context("arcs")
+}
+
+fn access_row(shape: Shape, number: u32) -> Result<AccessRow> {
+    let group = number / IN_GROUP;
+    let prefix = match number % IN_GROUP {
+        0 => Name::of(b"").context("a name")?,
+        place => name_of(b'p', place)?,
+    };
+    Ok(AccessRow {
+        group: name_of(b'g', group)?,
+        prefix,
+        model: 3,
+        level: Level::NoAuthNoPriv,
+        matching: Matching::Prefix,
+        read: name_of(b'v', shape.view(number))?,
+        write: Name::of(b"").context("a name")?,
+        notify: Name::of(b"").context("a name")?,
+    })
+}
+
+fn family_row(shape: Shape, number: u32, is_wild: bool) -> Result<FamilyRow> {
+    let mask: &[u8] = if is_wild { &[0xFD] } else { &[] };
+    Ok(FamilyRow {
+        view: name_of(b'v', shape.view(number))?,
+        subtree: Oid::of(&subtree_of(number)).context("arcs")?,
+        mask: Mask::of(mask).context("a mask")?,
+        include: number % 2 == 0,
+    })
+}
+
+/// So many rows of each table.
+pub(crate) fn rows_of(alloc: Global, shape: Shape, count: u32, wild: u32) -> Result<Rows>
+    ensures contexts { IfOk result (λ rows. length rows.contexts.items ≡ count) }
+    ensures groups { IfOk result (λ rows. length rows.groups.items ≡ count) }
+    ensures access { IfOk result (λ rows. length rows.access.items ≡ count) }
+    ensures families { IfOk result (λ rows. length rows.families.items ≡ count) }
+{
+    let mut rows = Rows {
+        contexts: Vec::new(alloc),
+        groups: Vec::new(alloc),
+        access: Vec::new(alloc),
+        families: Vec::new(alloc),
+    };
+    for number in 0..count {
+        rows.contexts.push(ContextRow {
+            name: name_of(b'c', number)?,
+        })?;
+        rows.groups.push(GroupRow {
+            model: 3,
+            name: name_of(b'u', number)?,
+            group: name_of(b'g', number / IN_GROUP)?,
+        })?;
+        rows.access.push(access_row(shape, number)?)?;
+        let is_wild = wild != 0 && number % wild == 0;
+        rows.families.push(family_row(shape, number, is_wild)?)?;
+    }
+    Ok(rows)
+}

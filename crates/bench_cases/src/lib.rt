@@ -1,0 +1,10 @@
+//! The operations that `bench_operations` times, and what each needs.
+#![tactic(auto)]
+
+mod answering;
+mod operation;
+mod station;
+
+pub use answering::Form;
+pub use operation::{Operation, Others, UnknownOperation};
+pub use station::Station;

@@ -1,0 +1,61 @@
+-- What `snmpsec datagrams`, `show --from` and `open --from` do with a file in any of its forms.
+use Rattle.std.specs.Prelude.{◌≡◌, ◌⊎◌, Bool, true, false, List, ℕ, codes, Option, Some, None, IfSome}
+use Rattle.capture_files.specs.Formats.{begins_capture}
+use Rattle.capture_files.specs.Datagrams.{CannotBegin, Printing, Streams}
+use Rattle.capture_files.specs.declared.fault.CaptureFault.TheVariants as capture
+use Rattle.capture_datagrams.specs.Datagrams.{Tells, TellsNot}
+use Rattle.capture_datagrams.specs.Texts.{TellsText, StopsText}
+use Rattle.capture_datagrams.specs.declared.forms.Form.{Form}
+use Rattle.capture_datagrams.specs.declared.forms.Form.TheVariants.{Pcap, Hex, Dump, Packets}
+use Rattle.capture_datagrams.specs.declared.texts.TextForm.{TextForm}
+use Rattle.capture_datagrams.specs.declared.texts.TextForm.TheVariants as text
+use Rattle.capture_datagrams.specs.declared.forms.Asked.{Asked}
+use Rattle.capture_datagrams.specs.declared.datagrams.Unread.{Unread}
+use Rattle.capture_datagrams.specs.declared.datagrams.Unread.TheVariants as unread
+
+-- the word for a form; dumps of packets have none
+abbrev pub IsFormWord : Form → List ℕ → Type 0
+IsFormWord Pcap word = word ≡ codes "pcap"
+IsFormWord Hex word = word ≡ codes "hex"
+IsFormWord Dump word = word ≡ codes "dump"
+IsFormWord Packets word = ⊥
+
+-- a form that dumps of packets may be asked for beside, or none
+abbrev pub may_be_dumps : Option Form → Bool
+may_be_dumps (Some Pcap) = false
+may_be_dumps (Some Hex) = false
+may_be_dumps (Some Dump) = true
+may_be_dumps (Some Packets) = true
+may_be_dumps None = true
+
+-- a file is read as a capture: that is asked for, or the file begins as one where no form is
+abbrev pub is_capture : Option Form → List ℕ → Bool
+is_capture (Some Pcap) octets = true
+is_capture (Some Hex) octets = false
+is_capture (Some Dump) octets = false
+is_capture (Some Packets) octets = false
+is_capture None octets = begins_capture octets
+
+abbrev pub form_by : Option Form → Asked → TextForm
+form_by (Some Pcap) a = text.Found
+form_by (Some Hex) a = text.Hex
+form_by (Some Dump) a = text.Dump
+form_by (Some Packets) a = text.Packets a.ports
+form_by None a = text.Found
+
+-- how a text is read: as it is asked for
+abbrev pub text_form : Asked → TextForm
+text_form a = form_by a.form a
+
+-- A capture is read, or else a text.
+abbrev pub Reads : Option Form → Streams → Type 0 → Type 0 → Type 0
+Reads form s Capture Text =
+    (IfSome s.unread (λ octets. is_capture form octets ≡ true) × Capture) ⊎ (IfSome s.unread (λ octets. is_capture form octets ≡ false) × Text)
+
+abbrev pub TellsFile : Printing → Asked → List ℕ → Streams → ℕ → Type 0
+TellsFile P a name s status = Reads a.form s (Tells P a.ports.now name s status) (TellsText P (text_form a) a.moment name s status)
+
+-- the first octets aren't read, or it stops behind them
+abbrev pub StopsFile : Printing → Asked → List ℕ → Streams → Unread → Type 0
+StopsFile P a name s f =
+    ((f ≡ unread.CannotRead) × CannotBegin s capture.CannotRead) ⊎ Reads a.form s (TellsNot P a.ports.now name s f) (StopsText P (text_form a) a.moment name s f)

@@ -1,0 +1,99 @@
+-- What `snmpsec show --from` and `snmpsec open --from` print: of each datagram of a file what `show` and `open` do, behind a line of its own.
+use Rattle.std.specs.Prelude.{◌≡◌, ◌⊎◌, ⊤, ℕ, ◌==◌, not, Bool, true, false, List, ◌++◌, codes, decimal, Option}
+use Rattle.std.specs.Io.KnownBytes.{Appends, Keeps}
+use Rattle.snmpsec_io.specs.Transfer.{WritesFront}
+use Rattle.usm_users.specs.User.{User}
+use Rattle.vacm_core.specs.Tables.{Tables}
+use Rattle.capture_files.specs.Datagrams.{PrintsLine, Streams}
+use Rattle.snmpsec_config.specs.declared.fault.ConfigFault.{ConfigFault}
+use Rattle.snmpsec_config.specs.Refusals.{Loads, RefusesText, refusal_line}
+use Rattle.snmpsec_notes.specs.Names.{AddsNames}
+use Rattle.snmpsec_output.specs.Open.{OpensBy}
+use Rattle.snmpsec_output.specs.Questions.{Printed}
+use Rattle.snmpsec_output.specs.Show.{ShowsDatagram}
+use Rattle.capture_datagrams.specs.Forms.{StopsFile, TellsFile}
+use Rattle.capture_datagrams.specs.declared.forms.Asked.{Asked}
+use Rattle.capture_datagrams.specs.declared.datagrams.Unread.{Unread}
+use Rattle.capture_datagrams.specs.declared.datagrams.Unread.TheVariants as unread
+use Rattle.capture_datagrams.specs.declared.shown.Printout.{Printout}
+use Rattle.capture_datagrams.specs.declared.shown.Printout.TheVariants as printout
+use Rattle.capture_datagrams.specs.declared.shown.NoUsers.{NoUsers}
+use Rattle.capture_datagrams.specs.declared.shown.NoUsers.TheVariants as none
+
+-- the line of datagram n, from 1, and its moment
+abbrev pub head_line : ℕ → ℕ → List ℕ
+head_line n moment = codes "datagram " ++ (decimal n ++ (codes " " ++ (decimal moment ++ codes "\n")))
+
+-- The text as it is, or with names behind its lines where these are asked for. The line of a refusal has none.
+abbrev pub IsNamed : Bool → Bool → List ℕ → List ℕ → Type 0
+IsNamed true false text told = AddsNames text told
+IsNamed true true text told = told ≡ text
+IsNamed false refused text told = told ≡ text
+
+-- what a command prints, behind the line of the datagram; a status other than 0 is a refusal
+pub record StandsBehind (names : Bool) (n moment : ℕ) (printed : Printed) (text : List ℕ) (refused : Bool) : Type 0 where
+  pub told : List ℕ
+  pub status : refused ≡ not (printed.status == 0)
+  pub named : IsNamed names refused printed.out told
+  pub is : text ≡ head_line n moment ++ told
+
+-- as `show` prints it
+abbrev pub PrintsShown : Bool → ℕ → ℕ → List ℕ → List ℕ → Bool → Type 0
+PrintsShown names n moment datagram text refused = (printed : Printed) × ShowsDatagram datagram printed × StandsBehind names n moment printed text refused
+
+-- as `open` prints it, by these users
+abbrev pub PrintsOpened : Bool → List User → ℕ → ℕ → List ℕ → List ℕ → Bool → Type 0
+PrintsOpened names users n moment datagram text refused = (printed : Printed) × OpensBy users datagram printed × StandsBehind names n moment printed text refused
+
+-- ---- a file of datagrams, opened by the users of a configuration
+
+-- the users of the configuration, with the keys of their passwords
+abbrev pub LoadsUsers : List ℕ → List User → Type 0
+LoadsUsers config users = (tables : Tables) × Loads config users tables
+
+-- the line of a configuration that is refused
+pub record IsRefusalOf (config line : List ℕ) : Type 0 where
+  pub fault : ConfigFault
+  pub told : RefusesText config fault
+  pub text : line ≡ refusal_line fault ++ codes "\n"
+
+-- why no users are there
+abbrev pub TellsNoUsers : List ℕ → NoUsers → Type 0
+TellsNoUsers config (none.Refused line) = IsRefusalOf config line.items
+TellsNoUsers config none.OutOfMemory = ⊤
+
+-- The configuration is refused, and of its line that is done which `Writes` says. Nothing is read of the file.
+pub record RefusesUsers (config : List ℕ) (s : Streams) (Writes : Option (List ℕ) → Option (List ℕ) → List ℕ → Type 0) : Type 0 where
+  pub line : List ℕ
+  pub refuses : IsRefusalOf config line
+  pub unread : s.left ≡ s.unread
+  pub wrote : Writes s.held s.written line
+  pub tells : Keeps s.untold s.told
+
+-- The line of a refused configuration is written, with status 1, or else the datagrams as its users open them.
+abbrev pub OpensFile : Bool → List ℕ → Asked → List ℕ → Streams → ℕ → Type 0
+OpensFile names config a name s status =
+    ((status ≡ 1) × RefusesUsers config s Appends)
+    ⊎ ((users : List User) × LoadsUsers config users × TellsFile (PrintsOpened names users) a name s status)
+
+-- where it stops before the file
+abbrev pub StopsBefore : List ℕ → Streams → Unread → Type 0
+StopsBefore config s unread.CannotRead = ⊥
+StopsBefore config s unread.CannotWrite = RefusesUsers config s WritesFront
+StopsBefore config s unread.OutOfMemory = (s.left ≡ s.unread) × Keeps s.held s.written × Keeps s.untold s.told
+
+abbrev pub StopsOpening : Bool → List ℕ → Asked → List ℕ → Streams → Unread → Type 0
+StopsOpening names config a name s f =
+    StopsBefore config s f ⊎ ((users : List User) × LoadsUsers config users × StopsFile (PrintsOpened names users) a name s f)
+
+-- ---- each printout
+
+abbrev pub TellsPrintout : Printout → Asked → List ℕ → Streams → ℕ → Type 0
+TellsPrintout printout.Log a name s status = TellsFile PrintsLine a name s status
+TellsPrintout (printout.Shown names) a name s status = TellsFile (PrintsShown names) a name s status
+TellsPrintout (printout.Opened config names) a name s status = OpensFile names config.now a name s status
+
+abbrev pub StopsPrintout : Printout → Asked → List ℕ → Streams → Unread → Type 0
+StopsPrintout printout.Log a name s f = StopsFile PrintsLine a name s f
+StopsPrintout (printout.Shown names) a name s f = StopsFile (PrintsShown names) a name s f
+StopsPrintout (printout.Opened config names) a name s f = StopsOpening names config.now a name s f

@@ -1,0 +1,145 @@
+//! `snmpsec datagrams` of a file in any of its forms.
+
+ghost use Rattle.std.specs.Prelude.{◌≡◌, ◌<◌, Option, IfErr, IfOk, IfSome, Some};
+ghost use Rattle.capture_files.specs.Datagrams.{PrintsLine, streams};
+ghost use Rattle.capture_datagrams.specs.Forms.{IsFormWord, StopsFile, TellsFile, is_capture, may_be_dumps, text_form};
+ghost use Rattle.capture_datagrams.specs.declared.forms.Form.{Form as FormIs};
+
+use crate::datagrams::{Unread, datagrams_behind};
+use crate::texts::{TextForm, write_text};
+use capture_files::{HEADER, Lines, Printer, begins_capture};
+use snmpsec_io::read_full;
+use std::alloc::Global;
+use std::io::{Read, Write};
+
+/// The form of a file with datagrams.
+#[derive(Clone, Copy, Debug, PartialEq, Eq)]
+pub enum Form {
+    /// A capture.
+    Pcap,
+    /// Pasted hex.
+    Hex,
+    /// Dumps.
+    Dump,
+    /// Dumps of packets, each from its IP header on.
+    Packets,
+}
+
+/// The form of this name: `pcap`, `hex` or `dump`. Dumps of packets have none.
+pub fn form_of(word: &str) -> Option<Form>
+    ensures found { IfSome result (λ form. IsFormWord form word.now) }
+    ensures all { (form : FormIs) → IsFormWord form word.now → result ≡ Some form }
+{
+    if word == "pcap" {
+        return Some(Form::Pcap);
+    }
+    if word == "hex" {
+        return Some(Form::Hex);
+    }
+    if word == "dump" {
+        return Some(Form::Dump);
+    }
+    None
+}
+
+/// The file is dumps, or may be found to be: what is asked for goes with dumps of packets.
+pub fn may_be_dumps(form: Option<Form>) -> bool
+    ensures { result ≡ may_be_dumps form }
+{
+    match form {
+        Some(Form::Dump | Form::Packets) | None => true,
+        Some(Form::Pcap | Form::Hex) => false,
+    }
+}
+
+/// What is asked of a file with datagrams.
+#[derive(Clone, Copy)]
+pub struct Asked<'a> {
+    /// The form of the file, or `None` where its octets tell.
+    pub form: Option<Form>,
+    /// The moment of what has none, in seconds.
+    pub moment: u64,
+    /// The ports that the datagrams of a capture, or of dumps of packets, are from or to.
+    pub ports: &'a [u16],
+}
+
+/// The file that begins so is read as a capture: that is asked for, or it begins as one where no form is.
+fn is_capture(form: Option<Form>, front: &[u8]) -> bool
+    ensures { result ≡ is_capture form front.now }
+{
+    match form {
+        Some(Form::Pcap) => true,
+        Some(Form::Hex | Form::Dump | Form::Packets) => false,
+        None => begins_capture(front),
+    }
+}
+
+/// How a text is read.
+fn text_form(asked: Asked<'_>) -> TextForm<'_>
+    ensures { result ≡ text_form asked.entry }
+{
+    match asked.form {
+        Some(Form::Hex) => TextForm::Hex,
+        Some(Form::Dump) => TextForm::Dump,
+        Some(Form::Packets) => TextForm::Packets(asked.ports),
+        Some(Form::Pcap) | None => TextForm::Found,
+    }
+}
+
+/// What `snmpsec datagrams` does with a file, with the status that it ends with: `datagrams` where it is a capture, and else the
+/// line of a log for the octets of pasted hex, of each dump or of each datagram in dumps of packets, or the line that refuses it.
+///
+/// The errors are CannotRead, CannotWrite and OutOfMemory.
+pub fn datagrams_of<R: Read, L: Write, N: Write>(
+    alloc: Global,
+    asked: Asked<'_>,
+    name: &str,
+    reader: &mut R,
+    log: &mut L,
+    notes: &mut N,
+) -> Result<u8, Unread>
+    ensures ok { IfOk result (TellsFile PrintsLine asked.entry name.now
+        (streams (R.remaining reader.old) (R.remaining reader.new) (L.contents log.old) (L.contents log.new) (N.contents notes.old) (N.contents notes.new))) }
+    ensures err { IfErr result (StopsFile PrintsLine asked.entry name.now
+        (streams (R.remaining reader.old) (R.remaining reader.new) (L.contents log.old) (L.contents log.new) (N.contents notes.old) (N.contents notes.new))) }
+{
+    print_datagrams(alloc, asked, name, &mut Lines, reader, log, notes)
+}
+
+/// The same with what a printer makes of each datagram in the place of its line, and with status 1 too where that tells a refusal.
+pub fn print_datagrams<P: Printer, R: Read, L: Write, N: Write>(
+    alloc: Global,
+    asked: Asked<'_>,
+    name: &str,
+    printer: &mut P,
+    reader: &mut R,
+    log: &mut L,
+    notes: &mut N,
+) -> Result<u8, Unread>
+    ensures ok { IfOk result (TellsFile (P.prints printer.old) asked.entry name.now
+        (streams (R.remaining reader.old) (R.remaining reader.new) (L.contents log.old) (L.contents log.new) (N.contents notes.old) (N.contents notes.new))) }
+    ensures err { IfErr result (StopsFile (P.prints printer.old) asked.entry name.now
+        (streams (R.remaining reader.old) (R.remaining reader.new) (L.contents log.old) (L.contents log.new) (N.contents notes.old) (N.contents notes.new))) }
+{
+    let mut octets = [0u8; HEADER];
+    let Ok(count) = read_full(reader, &mut octets) else {
+        return Err(Unread::CannotRead);
+    };
+    let front = &octets[..count];
+    if is_capture(asked.form, front) {
+        datagrams_behind(alloc, front, asked.ports, name, printer, reader, log, notes)
+    } else {
+        let form = text_form(asked);
+        write_text(
+            alloc,
+            front,
+            form,
+            asked.moment,
+            name,
+            printer,
+            reader,
+            log,
+            notes,
+        )
+    }
+}

@@ -1,0 +1,25 @@
+//! The datagrams of a file, a capture, dumps or pasted hex: of each what is printed, a line of a log or what `show` or `open` prints of it.
+//!
+//! ```
+//! use capture_datagrams::forms::{Asked, datagrams_of};
+//!
+//! let asked = Asked {
+//!     form: None,
+//!     moment: 1_700_000_000,
+//!     ports: &[161, 162],
+//! };
+//! let mut file = b"30 03 02 01 03".as_slice();
+//! let mut log: Vec<u8> = Vec::new(rt.alloc());
+//! let mut notes: Vec<u8> = Vec::new(rt.alloc());
+//! let status = datagrams_of(rt.alloc(), asked, "f", &mut file, &mut log, &mut notes)?;
+//! assert_eq!(rt; status, 0);
+//! assert_eq!(rt; log.as_slice(), b"1700000000 3003020103\n".as_slice());
+//! ```
+#![tactic(auto)]
+
+pub mod datagrams;
+mod dumped;
+pub mod forms;
+mod packets;
+pub mod shown;
+mod texts;

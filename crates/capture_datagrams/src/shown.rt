@@ -1,0 +1,205 @@
+//! What `snmpsec datagrams`, `show --from` and `open --from` print of each datagram of a file: a line of a log, or what `show` and `open` do.
+
+ghost use Rattle.std.specs.Prelude.{◌≡◌, IfErr, IfOk, string_bytes};
+ghost use Rattle.capture_files.specs.Datagrams.{streams};
+ghost use Rattle.capture_datagrams.specs.Shown.{IsNamed, LoadsUsers, OpensFile, PrintsOpened, PrintsShown, StandsBehind, StopsOpening, StopsPrintout, TellsNoUsers, TellsPrintout, head_line};
+ghost use Rattle.capture_datagrams.specs.declared.shown.NoUsers.TheVariants as none;
+ghost use Rattle.snmpsec_output.specs.Questions.{Printed as PrintedIs};
+
+use crate::datagrams::Unread;
+use crate::forms::{Asked, print_datagrams};
+use capture_files::{Lines, Printed, Printer};
+use snmpsec_config::Config;
+use snmpsec_io::write_whole;
+use snmpsec_notes::with_names;
+use snmpsec_output::{Output, opened, shown};
+use std::alloc::{AllocError, Global};
+use std::io::{Read, Write};
+use thiserror::Error;
+use usm_core::Users;
+
+/// Prints each datagram as `show` does, behind a line `datagram N MOMENT`.
+#[derive(Clone, Copy, Debug)]
+pub struct Shows {
+    /// Whether names stand behind the lines that have one.
+    pub names: bool,
+}
+
+/// Prints each datagram as `open` does, behind a line `datagram N MOMENT`.
+#[derive(Drop)]
+pub struct Opens {
+    /// Whether names stand behind the lines that have one.
+    pub names: bool,
+    /// By whose keys it is opened.
+    pub users: Users,
+}
+
+/// The line of a datagram.
+fn head_line(alloc: Global, number: u64, moment: u64) -> Result<String, AllocError>
+    ensures { IfOk result (λ text. string_bytes text ≡ head_line number moment) }
+{
+    format!(in alloc; "datagram {number} {moment}\n")
+}
+
+/// The text, with names behind its lines where these are asked for and it tells no refusal.
+fn named(alloc: Global, names: bool, refused: bool, text: Vec<u8>) -> Result<Vec<u8>, AllocError>
+    ensures { IfOk result (λ told. IsNamed names refused text.items told.items) }
+{
+    if names && !refused {
+        with_names(alloc, &text)
+    } else {
+        Ok(text)
+    }
+}
+
+/// What a command prints, behind the line of the datagram.
+fn behind_head(
+    alloc: Global,
+    names: bool,
+    number: u64,
+    moment: u64,
+    output: Output,
+) -> Result<Printed, AllocError>
+    ensures { let told : PrintedIs = record { out = output.out.items; err = output.err.items; status = output.status } in
+        IfOk result (λ printed. StandsBehind names number moment told printed.text.items printed.refused) }
+{
+    let refused = output.status != 0;
+    let told = named(alloc, names, refused, output.out)?;
+    let mut text = head_line(alloc, number, moment)?.into_bytes();
+    text.extend_from_slice(&told)?;
+    Ok(Printed { text, refused })
+}
+
+impl Printer for Shows {
+    ghost prints = { λ p. PrintsShown p.names };
+
+    fn print(
+        &mut self,
+        alloc: Global,
+        number: u64,
+        moment: u64,
+        datagram: &[u8],
+    ) -> Result<Printed, AllocError> {
+        let output = shown(alloc, datagram)?;
+        behind_head(alloc, self.names, number, moment, output)
+    }
+}
+
+impl Printer for Opens {
+    ghost prints = { λ p. PrintsOpened p.names p.users.users };
+
+    fn print(
+        &mut self,
+        alloc: Global,
+        number: u64,
+        moment: u64,
+        datagram: &[u8],
+    ) -> Result<Printed, AllocError> {
+        let output = opened(alloc, &mut self.users, datagram)?;
+        behind_head(alloc, self.names, number, moment, output)
+    }
+}
+
+/// What is printed of the datagrams of a file.
+#[derive(Clone, Copy)]
+pub enum Printout<'a> {
+    /// A line of a log of each.
+    Log,
+    /// What `show` prints of each, with names where they are asked for.
+    Shown { names: bool },
+    /// What `open` prints of each by the users of this configuration, with names where they are asked for.
+    Opened { config: &'a [u8], names: bool },
+}
+
+/// Why there are no users.
+#[derive(Debug, Drop, Error)]
+enum NoUsers {
+    /// The configuration is refused by this line.
+    #[error("the configuration is refused")]
+    Refused(Vec<u8>),
+    /// A growth of memory was refused.
+    #[error("out of memory")]
+    OutOfMemory,
+}
+
+impl From<AllocError> for NoUsers {
+    ghost from_gives = { λ _ e. e ≡ none.OutOfMemory };
+
+    fn from(_fault: AllocError) -> NoUsers {
+        NoUsers::OutOfMemory
+    }
+}
+
+/// The users of a configuration.
+fn users_of(alloc: Global, config: &[u8]) -> Result<Users, NoUsers>
+    ensures loads { IfOk result (λ users. LoadsUsers config.now users.users) }
+    ensures none { IfErr result (TellsNoUsers config.now) }
+{
+    match Config::read(alloc, config) {
+        Ok(config) => Ok(config.users),
+        Err(fault) if fault.is_memory() => Err(NoUsers::OutOfMemory),
+        Err(fault) => Err(NoUsers::Refused(Output::refused(alloc, &fault)?.out)),
+    }
+}
+
+/// What `snmpsec open CONFIG --from FILE` does, with the status that it ends with: the line of the configuration, where that is refused,
+/// with status 1, and nothing is read; or else of each datagram of the file what `open` prints, as `print_datagrams` says.
+///
+/// The errors are CannotRead, CannotWrite and OutOfMemory.
+fn open_datagrams<R: Read, L: Write, N: Write>(
+    alloc: Global,
+    config: &[u8],
+    names: bool,
+    asked: Asked<'_>,
+    name: &str,
+    reader: &mut R,
+    log: &mut L,
+    notes: &mut N,
+) -> Result<u8, Unread>
+    ensures ok { IfOk result (OpensFile names config.now asked.entry name.now
+        (streams (R.remaining reader.old) (R.remaining reader.new) (L.contents log.old) (L.contents log.new) (N.contents notes.old) (N.contents notes.new))) }
+    ensures err { IfErr result (StopsOpening names config.now asked.entry name.now
+        (streams (R.remaining reader.old) (R.remaining reader.new) (L.contents log.old) (L.contents log.new) (N.contents notes.old) (N.contents notes.new))) }
+{
+    match users_of(alloc, config) {
+        Ok(users) => {
+            let mut printer = Opens { names, users };
+            print_datagrams(alloc, asked, name, &mut printer, reader, log, notes)
+        }
+        Err(NoUsers::Refused(line)) => match write_whole(log, &line) {
+            Ok(()) => Ok(1),
+            Err(_) => Err(Unread::CannotWrite),
+        },
+        Err(NoUsers::OutOfMemory) => Err(Unread::OutOfMemory),
+    }
+}
+
+/// Reads a file, and writes what is asked for of its datagrams; answers the status: 0, or 1 where the file or the configuration is refused by
+/// a line, or what is printed of a datagram tells a refusal.
+///
+/// The errors are CannotRead, CannotWrite and OutOfMemory.
+pub fn write_printout<R: Read, L: Write, N: Write>(
+    alloc: Global,
+    printout: Printout<'_>,
+    asked: Asked<'_>,
+    name: &str,
+    reader: &mut R,
+    log: &mut L,
+    notes: &mut N,
+) -> Result<u8, Unread>
+    ensures ok { IfOk result (TellsPrintout printout.entry asked.entry name.now
+        (streams (R.remaining reader.old) (R.remaining reader.new) (L.contents log.old) (L.contents log.new) (N.contents notes.old) (N.contents notes.new))) }
+    ensures err { IfErr result (StopsPrintout printout.entry asked.entry name.now
+        (streams (R.remaining reader.old) (R.remaining reader.new) (L.contents log.old) (L.contents log.new) (N.contents notes.old) (N.contents notes.new))) }
+{
+    match printout {
+        Printout::Log => print_datagrams(alloc, asked, name, &mut Lines, reader, log, notes),
+        Printout::Shown { names } => {
+            let mut printer = Shows { names };
+            print_datagrams(alloc, asked, name, &mut printer, reader, log, notes)
+        }
+        Printout::Opened { config, names } => {
+            open_datagrams(alloc, config, names, asked, name, reader, log, notes)
+        }
+    }
+}

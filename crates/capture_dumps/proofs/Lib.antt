@@ -1,0 +1,9 @@
+pub mod Rows
+pub mod Blocks
+pub mod LineLists
+pub mod OneKind
+pub mod OneList
+pub mod Begins
+pub mod Parts
+pub mod Places
+pub mod Dumps

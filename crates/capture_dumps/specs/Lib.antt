@@ -1,0 +1,9 @@
+pub mod Base
+pub mod Offset
+pub mod Column
+pub mod Row
+pub mod Line
+pub mod Dumps
+pub mod Text
+pub mod Part
+pub mod Dump

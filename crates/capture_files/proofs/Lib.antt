@@ -1,0 +1,11 @@
+pub mod Records
+pub mod Fronts
+pub mod Readings
+pub mod Options
+pub mod Meanings
+pub mod Counts
+pub mod Logs
+pub mod Units
+pub mod RawRecords
+pub mod Walks
+pub mod Parts

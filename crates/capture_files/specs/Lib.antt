@@ -1,0 +1,9 @@
+pub mod Items
+pub mod Pcap
+pub mod Pcapng
+pub mod Formats
+pub mod Datagrams
+pub mod Packets
+pub mod Field
+pub mod Packet
+pub mod Passed

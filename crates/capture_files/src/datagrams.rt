@@ -1,0 +1,341 @@
+//! The datagrams of a capture, as the lines of a log.
+
+ghost use Rattle.std.specs.Prelude.{◌≡◌, ◌+◌, ◌<◌, ◌≤◌, List, ℕ, Option, length, IfOk, IfErr, IfSome, OnOk, option_map, string_bytes};
+ghost use Rattle.std.specs.Io.KnownBytes.{Appends, Consumes, IsAtEnd};
+ghost use Rattle.capture_files.specs.Formats.{state_of};
+ghost use Rattle.capture_files.specs.Items.{record_of};
+ghost use Rattle.capture_files.specs.Passed.{IsBelow, counts_of, none_passed};
+ghost use Rattle.capture_files.specs.Datagrams.{IsEnd, IsLogOf, IsSorted, IsSortedRecord, PrintsAs, PrintsLine, Stands, StopsDatagram, StopsBy, StopsItems, StopsRecord, StopsWrite, WritesDatagram, WritesItem, WritesRecord, log_line, note_line, record_from, told_word, streams};
+
+use crate::fault::CaptureFault;
+use crate::format::{Begun, begin, read_item};
+use crate::item::{Head, Item, Next};
+use crate::packet::{Found, find_datagram};
+use crate::passed::{Reason, Tally};
+use crate::pcap::HEADER;
+use crate::pcapng::ROOM;
+use crate::printer::{Lines, Printer};
+use snmpsec_io::{read_full, write_whole};
+use std::alloc::{AllocError, Global};
+use std::io::{Read, Write};
+
+/// Where no item is read any more.
+const MOST: u64 = 4_611_686_018_427_387_904;
+
+/// What becomes of a record.
+#[derive(Clone, Copy)]
+pub(crate) enum Sorted<'a> {
+    /// Its datagram is a line of the log, at this moment.
+    Logged(u64, &'a [u8]),
+    /// It is told by itself.
+    Told(Telling),
+    /// It is counted.
+    Counted(Reason),
+}
+
+/// Why a record that may be a datagram isn't in the log.
+#[derive(Clone, Copy)]
+pub(crate) enum Telling {
+    Fragment,
+    CutShort,
+    BadLength,
+    Empty,
+    NoMoment,
+}
+
+/// What becomes of a record of this moment and link in which this was found, where datagrams from and to these ports are wanted.
+fn sort<'a>(moment: u64, link: u16, found: Found<'a>, ports: &[u16]) -> Sorted<'a>
+    ensures { IsSorted ports.now link moment found.entry result }
+{
+    match found {
+        Found::Datagram {
+            source,
+            destination,
+            octets,
+        } => {
+            if !ports.contains(&source) && !ports.contains(&destination) {
+                return Sorted::Counted(Reason::AnotherPort);
+            }
+            if octets.is_empty() {
+                return Sorted::Told(Telling::Empty);
+            }
+            Sorted::Logged(moment, octets)
+        }
+        Found::Fragment => Sorted::Told(Telling::Fragment),
+        Found::CutShort => Sorted::Told(Telling::CutShort),
+        Found::BadLength => Sorted::Told(Telling::BadLength),
+        Found::NotUdp => Sorted::Counted(Reason::NotUdp),
+        Found::NotIp => Sorted::Counted(Reason::NotIp),
+        Found::OtherLink => Sorted::Counted(Reason::OtherLink(link)),
+    }
+}
+
+/// A record that was read.
+#[derive(Clone, Copy)]
+pub(crate) struct Captured<'a> {
+    /// Its number, from 1.
+    pub(crate) number: u64,
+    /// What is known of it.
+    pub(crate) head: Head,
+    /// What was captured of its packet.
+    pub(crate) packet: &'a [u8],
+}
+
+/// What becomes of a record.
+fn sort_record<'a>(captured: Captured<'a>, ports: &[u16]) -> Sorted<'a>
+    ensures { IsSortedRecord ports.now (record_from captured.entry) result }
+{
+    let head = captured.head;
+    let Some(moment) = head.moment else {
+        return Sorted::Told(Telling::NoMoment);
+    };
+    let whole = head.original as usize <= captured.packet.len();
+    let found = find_datagram(u32::from(head.link), captured.packet, whole);
+    sort(moment, head.link, found, ports)
+}
+
+/// The words for a record that is told.
+fn told_word(why: Telling) -> &'static str
+    ensures { result.now ≡ told_word why }
+{
+    match why {
+        Telling::Fragment => "fragment",
+        Telling::CutShort => "cut short",
+        Telling::BadLength => "bad length",
+        Telling::Empty => "empty datagram",
+        Telling::NoMoment => "no moment",
+    }
+}
+
+/// The line of a log for a datagram, `MOMENT HEX` and a line feed, with the moment in decimal and two small hex digits an octet.
+#[tactic(auto, unfolding(crate::specs::Datagrams::log_line))]
+pub fn log_line(alloc: Global, moment: u64, datagram: &[u8]) -> Result<String, AllocError>
+    ensures { IfOk result (λ text. string_bytes text ≡ log_line moment datagram.now) }
+{
+    let digits = hex::encode(alloc, datagram)?;
+    format!(in alloc; "{moment} {digits}\n")
+}
+
+/// The line that tells a record.
+#[tactic(auto, unfolding(crate::specs::Datagrams::note_line))]
+fn note_line(alloc: Global, number: u64, why: Telling) -> Result<String, AllocError>
+    ensures { IfOk result (λ text. string_bytes text ≡ note_line number why) }
+{
+    let word = told_word(why);
+    format!(in alloc; "snmpsec: record {number}: {word}\n")
+}
+
+/// Writes a datagram as it is printed, behind so many.
+fn write_datagram<P: Printer, L: Write>(
+    alloc: Global,
+    printer: &mut P,
+    moment: u64,
+    datagram: &[u8],
+    passed: &mut Tally,
+    log: &mut L,
+) -> Result<(), CaptureFault>
+    requires { IsBelow (counts_of passed.old) 18446744073709551615 }
+    ensures ok { OnOk result (WritesDatagram (P.prints printer.old) moment datagram.now (counts_of passed.old) (counts_of passed.new) (L.contents log.old) (L.contents log.new)) }
+    ensures err { IfErr result (StopsDatagram (P.prints printer.old) moment datagram.now (counts_of passed.old) (L.contents log.old) (L.contents log.new)) }
+    ensures keeps { PrintsAs (P.prints printer.new) (P.prints printer.old) }
+{
+    let Ok(printed) = printer.print(alloc, passed.datagrams + 1, moment, datagram) else {
+        return Err(CaptureFault::OutOfMemory);
+    };
+    match write_whole(log, &printed.text) {
+        Ok(()) => {
+            passed.print(printed.refused);
+            Ok(())
+        }
+        Err(_) => Err(CaptureFault::CannotWrite),
+    }
+}
+
+/// Sorts a record, and writes what it comes to.
+pub(crate) fn write_record<P: Printer, L: Write, N: Write>(
+    alloc: Global,
+    ports: &[u16],
+    captured: Captured<'_>,
+    printer: &mut P,
+    passed: &mut Tally,
+    log: &mut L,
+    notes: &mut N,
+) -> Result<(), CaptureFault>
+    requires { IsBelow (counts_of passed.old) 18446744073709551615 }
+    ensures ok { OnOk result (WritesRecord (P.prints printer.old) ports.now (record_from captured.entry) captured.entry.number (counts_of passed.old) (counts_of passed.new) (L.contents log.old) (L.contents log.new) (N.contents notes.old) (N.contents notes.new)) }
+    ensures err { IfErr result (StopsRecord (P.prints printer.old) ports.now (record_from captured.entry) captured.entry.number (counts_of passed.old).datagrams (L.contents log.old) (L.contents log.new) (N.contents notes.old) (N.contents notes.new)) }
+    ensures keeps { PrintsAs (P.prints printer.new) (P.prints printer.old) }
+{
+    match sort_record(captured, ports) {
+        Sorted::Logged(moment, datagram) => {
+            write_datagram(alloc, printer, moment, datagram, passed, log)
+        }
+        Sorted::Told(why) => {
+            let Ok(line) = note_line(alloc, captured.number, why) else {
+                return Err(CaptureFault::OutOfMemory);
+            };
+            match write_whole(notes, line.as_bytes()) {
+                Ok(()) => Ok(()),
+                Err(_) => Err(CaptureFault::CannotWrite),
+            }
+        }
+        Sorted::Counted(why) => {
+            passed.count(why);
+            Ok(())
+        }
+    }
+}
+
+/// Writes what an item comes to, whose packet stands in the room, and answers the number of the next record.
+fn write_item<P: Printer, L: Write, N: Write>(
+    alloc: Global,
+    ports: &[u16],
+    number: u64,
+    packet: Option<Head>,
+    room: &[u8],
+    printer: &mut P,
+    passed: &mut Tally,
+    log: &mut L,
+    notes: &mut N,
+) -> Result<u64, CaptureFault>
+    requires within { IfSome packet (λ h. h.at + h.size ≤ length room.now) }
+    requires number { number < 18446744073709551615 }
+    requires below { IsBelow (counts_of passed.old) 18446744073709551615 }
+    ensures ok { IfOk result (λ next. WritesItem (P.prints printer.old) ports.now (option_map (λ h. record_of h room.now) packet) number next (counts_of passed.old) (counts_of passed.new) (L.contents log.old) (L.contents log.new) (N.contents notes.old) (N.contents notes.new)) }
+    ensures err { IfErr result (StopsWrite (P.prints printer.old) ports.now (option_map (λ h. record_of h room.now) packet) number (counts_of passed.old).datagrams (L.contents log.old) (L.contents log.new) (N.contents notes.old) (N.contents notes.new)) }
+    ensures keeps { PrintsAs (P.prints printer.new) (P.prints printer.old) }
+{
+    let Some(head) = packet else {
+        return Ok(number);
+    };
+    let captured = Captured {
+        number,
+        head,
+        packet: &room[head.at..head.at + head.size],
+    };
+    match write_record(alloc, ports, captured, printer, passed, log, notes) {
+        Ok(()) => Ok(number + 1),
+        Err(fault) => Err(fault),
+    }
+}
+
+/// Reads the items of a capture behind its beginning, and writes what they come to.
+fn write_items<P: Printer, R: Read, L: Write, N: Write>(
+    alloc: Global,
+    ports: &[u16],
+    begun: Begun,
+    mut passed: Tally,
+    room: &mut [u8],
+    printer: &mut P,
+    reader: &mut R,
+    log: &mut L,
+    notes: &mut N,
+) -> Result<Tally, CaptureFault>
+    requires room { length room.old ≡ 262172 }
+    requires near { begun.place ≤ 4294967295 }
+    requires none { counts_of passed ≡ none_passed }
+    ensures ok { IfOk result (λ passed. Stands (P.prints printer.old) ports.now (state_of begun.format) (streams (R.remaining reader.old) (R.remaining reader.new) (L.contents log.old) (L.contents log.new) (N.contents notes.old) (N.contents notes.new)) (IsEnd (R.remaining reader.new)) (counts_of passed)) }
+    ensures err { IfErr result (StopsItems (P.prints printer.old) ports.now (state_of begun.format) begun.place (streams (R.remaining reader.old) (R.remaining reader.new) (L.contents log.old) (L.contents log.new) (N.contents notes.old) (N.contents notes.new))) }
+{
+    let (mut format, mut place) = (begun.format, begun.place);
+    let mut number = 1u64;
+    while place < MOST {
+        let item = match read_item(reader, &mut format, room)? {
+            Next::Item(item) => item,
+            Next::End => return Ok(passed),
+            Next::OutOfForm => return Err(CaptureFault::Octet(place)),
+        };
+        number = write_item(
+            alloc,
+            ports,
+            number,
+            item.packet,
+            room,
+            printer,
+            &mut passed,
+            log,
+            notes,
+        )?;
+        place += item.size as u64;
+    }
+    Err(CaptureFault::Octet(place))
+}
+
+/// Writes the datagrams of a capture in the format of libpcap or in pcapng as a log, a line `MOMENT HEX` for each, and counts or
+/// tells what isn't in the log: `notes` gets a line `snmpsec: record N: REASON` for each piece of a datagram, each that was cut short
+/// when it was captured, each of a length that can't be, each that is empty and each record without a moment; what else is no
+/// datagram from or to one of these ports is counted. MOMENT is in whole seconds, and N counts from 1.
+///
+/// It holds one record at a time, of at most 262,144 octets, and of a section of pcapng what is said of its interfaces. A reader that
+/// doesn't read ahead is given in a `BufReader`, and writers in a `BufWriter`.
+///
+/// The errors are Octet(n), where what begins at octet n is no header, record or block, or n is 2^62 or more; CannotRead and
+/// CannotWrite, where a read or a write fails, or is interrupted 1,000 times in a row; and OutOfMemory. Before each of them but
+/// CannotWrite all is written that the records before come to.
+pub fn write_datagrams<R: Read, L: Write, N: Write>(
+    alloc: Global,
+    ports: &[u16],
+    reader: &mut R,
+    log: &mut L,
+    notes: &mut N,
+) -> Result<Tally, CaptureFault>
+    ensures ok { IfOk result (λ passed. IfSome (R.remaining reader.old) (λ capture. (lines : List ℕ) × (tells : List ℕ)
+        × IsLogOf PrintsLine ports.now capture lines tells (counts_of passed)
+        × Appends (L.contents log.old) (L.contents log.new) lines × Appends (N.contents notes.old) (N.contents notes.new) tells)) }
+    ensures err { IfErr result (StopsBy PrintsLine ports.now
+        (streams (R.remaining reader.old) (R.remaining reader.new) (L.contents log.old) (L.contents log.new) (N.contents notes.old) (N.contents notes.new))) }
+{
+    let mut octets = [0u8; HEADER];
+    let Ok(count) = read_full(reader, &mut octets) else {
+        return Err(CaptureFault::CannotRead);
+    };
+    print_datagrams_behind(
+        alloc,
+        &octets[..count],
+        ports,
+        &mut Lines,
+        reader,
+        log,
+        notes,
+    )
+}
+
+/// The same for a capture of which the first 24 octets were read, or all where it has fewer, with what a printer makes of each datagram in the
+/// place of its line. The datagrams count from 1.
+pub fn print_datagrams_behind<P: Printer, R: Read, L: Write, N: Write>(
+    alloc: Global,
+    front: &[u8],
+    ports: &[u16],
+    printer: &mut P,
+    reader: &mut R,
+    log: &mut L,
+    notes: &mut N,
+) -> Result<Tally, CaptureFault>
+    requires short { length front.now ≤ 24 }
+    requires end { length front.now < 24 → IsAtEnd (R.remaining reader.old) }
+    ensures ok { (unread : Option (List ℕ)) → Consumes unread (R.remaining reader.old) front.now
+        → IfOk result (λ passed. IfSome unread (λ capture. (lines : List ℕ) × (tells : List ℕ)
+        × IsLogOf (P.prints printer.old) ports.now capture lines tells (counts_of passed)
+        × Appends (L.contents log.old) (L.contents log.new) lines × Appends (N.contents notes.old) (N.contents notes.new) tells)) }
+    ensures err { (unread : Option (List ℕ)) → Consumes unread (R.remaining reader.old) front.now → IfErr result (StopsBy (P.prints printer.old) ports.now
+        (streams unread (R.remaining reader.new) (L.contents log.old) (L.contents log.new) (N.contents notes.old) (N.contents notes.new))) }
+{
+    let Ok(mut room) = vec![in alloc; 0u8; ROOM] else {
+        return Err(CaptureFault::OutOfMemory);
+    };
+    let Ok(passed) = Tally::none(alloc) else {
+        return Err(CaptureFault::OutOfMemory);
+    };
+    let begun = begin(alloc, front, room.as_mut_slice(), reader)?;
+    write_items(
+        alloc,
+        ports,
+        begun,
+        passed,
+        room.as_mut_slice(),
+        printer,
+        reader,
+        log,
+        notes,
+    )
+}

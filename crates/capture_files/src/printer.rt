@@ -1,0 +1,55 @@
+//! What stands for a datagram in what is written.
+
+ghost use Rattle.std.specs.Prelude.{Bool, ℕ, List, IfOk};
+ghost use Rattle.capture_files.specs.Datagrams.{PrintsAs, PrintsLine};
+
+use crate::datagrams::log_line;
+use std::alloc::{AllocError, Global};
+
+/// What is printed of a datagram.
+#[derive(Debug, PartialEq, Eq, Drop)]
+pub struct Printed {
+    /// The octets of it.
+    pub text: Vec<u8>,
+    /// Whether they tell why the datagram is refused.
+    pub refused: bool,
+}
+
+/// What makes a text of each datagram.
+pub trait Printer {
+    /// The datagram with this number, at this moment, with these octets, is printed as this text, which tells a refusal or doesn't.
+    ghost prints: { Self → ℕ → ℕ → List ℕ → List ℕ → Bool → Type 0 };
+
+    /// What is printed of a datagram with this number, that was received at this moment, in seconds. The error is want of memory.
+    fn print(
+        &mut self,
+        alloc: Global,
+        number: u64,
+        moment: u64,
+        datagram: &[u8],
+    ) -> Result<Printed, AllocError>
+        ensures ok { IfOk result (λ printed. prints self.old number moment datagram.now printed.text.items printed.refused) }
+        ensures keeps { PrintsAs (prints self.new) (prints self.old) };
+}
+
+/// A line of a log for each datagram, `MOMENT HEX`.
+#[derive(Clone, Copy, Debug)]
+pub struct Lines;
+
+impl Printer for Lines {
+    ghost prints = { λ lines. PrintsLine };
+
+    fn print(
+        &mut self,
+        alloc: Global,
+        _number: u64,
+        moment: u64,
+        datagram: &[u8],
+    ) -> Result<Printed, AllocError> {
+        let line = log_line(alloc, moment, datagram)?;
+        Ok(Printed {
+            text: line.into_bytes(),
+            refused: false,
+        })
+    }
+}

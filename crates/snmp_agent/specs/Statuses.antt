@@ -1,0 +1,24 @@
+-- What becomes of a request by the answers on access (RFC 3413, section 3.2; RFC 3416, section 4.2).
+use Rattle.std.specs.Prelude.{◌≡◌, ◌≢◌, ◌⊎◌, ℕ}
+use Rattle.vacm_core.specs.declared.access.Access.{Access}
+use Rattle.vacm_core.specs.declared.access.Access.TheVariants.{NoSuchContext, NoGroupName, NoAccessEntry, NoSuchView, NotInView, AccessAllowed}
+use Rattle.snmp_agent.specs.declared.status.Status.{Status}
+use Rattle.snmp_agent.specs.declared.status.Status.TheVariants.{NoError, NoAccess, AuthorizationError, NoSuchObject, NotSeen, UnknownContext}
+
+-- the answer on access and the tag of the PDU for which each is due
+abbrev pub IsStatusOf : Access → ℕ → Status → Type 0
+IsStatusOf access tag NoError = access ≡ AccessAllowed
+IsStatusOf access tag UnknownContext = access ≡ NoSuchContext
+IsStatusOf access tag AuthorizationError = (access ≡ NoGroupName) ⊎ ((access ≡ NoAccessEntry) ⊎ (access ≡ NoSuchView))
+IsStatusOf access tag NoAccess = (access ≡ NotInView) × (tag ≡ 163)
+IsStatusOf access tag NoSuchObject = (access ≡ NotInView) × (tag ≡ 160)
+IsStatusOf access tag NotSeen = (access ≡ NotInView) × (tag ≢ 160) × (tag ≢ 163)
+
+-- the error-status (RFC 3416, section 3), or the exception's tag, or one that no message has
+abbrev pub status_number : Status → ℕ
+status_number NoError = 0
+status_number NoAccess = 6
+status_number AuthorizationError = 16
+status_number NoSuchObject = 128
+status_number NotSeen = 256
+status_number UnknownContext = 257

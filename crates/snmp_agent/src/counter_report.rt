@@ -1,0 +1,49 @@
+//! The report of one counter (RFC 3412, section 7.1, step 3).
+
+ghost use Rattle.std.specs.Prelude.{◌≡◌, ◌+◌, ◌<◌, length, IfSome, IsErrOf};
+ghost use Rattle.snmp_ber.specs.Oid.{IsObjectId};
+ghost use Rattle.usm_core.specs.Sealed.{Seals, IsSealable};
+ghost use Rattle.snmp_outgoing.specs.Sends.{send_answer, sent_with};
+ghost use Rattle.snmp_agent.specs.CounterReports.{counter_scoped};
+
+use engine_clock::EngineId;
+use snmp_ber::{Oid, int_content};
+use snmp_incoming::TakeFault;
+use snmp_msg::{Binding, COUNTER32, LARGEST, REPORT};
+use snmp_outgoing::{Body, Envelope, send};
+use usm_core::Users;
+
+/// The report of the counter of this name with its value, in this envelope, in the default context of the engine.
+///
+/// The errors are those of `send`, in its order.
+pub fn send_counter(
+    users: &mut Users,
+    envelope: &Envelope<'_>,
+    engine: &EngineId,
+    request_id: i32,
+    name: Oid,
+    value: u32,
+) -> Result<Vec<u8>, TakeFault>
+    requires { IsObjectId name }
+    ensures rows { IfSome (send_answer result) (Seals users.old.users (sent_with envelope.now (counter_scoped engine.now request_id name value))) }
+    ensures memory { IsErrOf result TakeFault.OutOfMemory → IsSealable users.old.users (sent_with envelope.now (counter_scoped engine.now request_id name value)) }
+    ensures short { IsErrOf result TakeFault.TooLarge → LARGEST < 150 + length envelope.now.engine.now + length envelope.now.user.now + length (counter_scoped engine.now request_id name value) }
+    ensures users { users.new.users ≡ users.old.users }
+{
+    let content = int_content(i64::from(value));
+    let bindings = [Binding {
+        name,
+        tag: COUNTER32,
+        content: content.as_slice(),
+    }];
+    let body = Body {
+        context_engine: engine.as_slice(),
+        context_name: &[],
+        tag: REPORT,
+        id: request_id,
+        second: 0,
+        third: 0,
+        bindings: &bindings,
+    };
+    send(users, envelope, &body)
+}

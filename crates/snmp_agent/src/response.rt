@@ -1,0 +1,136 @@
+//! Responses.
+
+ghost use Rattle.std.specs.Prelude.{◌≡◌, List, [], All, map, take, IfOk, IfSome, IsErrOf};
+ghost use Rattle.engine_clock.specs.Engines.{IsEngine};
+ghost use Rattle.engine_clock.specs.Pairs.{IsPair};
+ghost use Rattle.snmp_message.specs.Scoped.{Contexts, ScopedFront, scoped_text};
+ghost use Rattle.snmp_msg.specs.Pdu.{PduParts, PduText, pdu_with, pdu_text};
+ghost use Rattle.snmp_msg.specs.Variables.{Variable};
+ghost use Rattle.usm_core.specs.Sealed.{Seals, IsSealable};
+ghost use Rattle.snmp_incoming.specs.Texts.{text_of};
+ghost use Rattle.snmp_incoming.specs.Answers.{given_of};
+ghost use Rattle.snmp_outgoing.specs.Bodies.{pdu_after, scoped_after};
+ghost use Rattle.snmp_outgoing.specs.Sends.{send_answer, sent_with};
+ghost use Rattle.snmp_outgoing.specs.Fronts.{SealsFront, front_answer};
+ghost use Rattle.snmp_outgoing.specs.Speaks.{SpeechFits};
+ghost use Rattle.snmp_agent.specs.Responses.{response as speech, responding};
+
+use engine_clock::{EngineId, Pair};
+use snmp_incoming::{TakeFault, Taken};
+use snmp_msg::{RESPONSE, Spelled, one_content, one_pdu};
+use snmp_outgoing::{Envelope, Front, Fronted, send_front, send_of};
+use usm_core::Users;
+
+/// What a Response says besides what it copies and its bindings.
+#[derive(Clone, Copy)]
+pub struct Response {
+    /// error-status.
+    pub status: i32,
+    /// error-index.
+    pub index: i32,
+    /// msgPrivacyParameters at authPriv; the other levels send none.
+    pub salt: [u8; 8],
+}
+
+/// The envelope of the Response to what was taken.
+fn envelope<'a>(
+    engine: &'a EngineId,
+    own: Pair,
+    taken: &'a Taken<'_>,
+    response: &Response,
+) -> Envelope<'a>
+    ensures id { result.id ≡ taken.now.id }
+    ensures engine { result.engine.now ≡ engine.now }
+    ensures bounds { IsEngine engine.now }
+    ensures pair { result.pair ≡ own }
+    ensures user { result.user.now ≡ taken.now.user.now }
+    ensures message { (c : Contexts) (p : PduParts) (vs : List Variable)
+        → sent_with result (scoped_text c.engine c.name (pdu_text (pdu_with 162 p.id response.now.status response.now.index vs)))
+        ≡ responding engine.now own (given_of taken.now) c p response.now.status response.now.index vs response.now.salt }
+{
+    Envelope {
+        level: taken.level,
+        id: taken.id,
+        reportable: false,
+        engine: engine.as_slice(),
+        pair: own,
+        user: taken.user,
+        salt: response.salt,
+    }
+}
+
+/// What it says besides its bindings: the contexts and the request-id of what was taken.
+fn front<'a>(taken: &'a Taken<'_>, response: &Response) -> Front<'a>
+    ensures tag { result.tag ≡ 162 }
+    ensures pdu { (c : Contexts) (p : PduParts) (vs : List Variable) → ScopedFront (text_of taken.now.text) c → PduText c.pdu p
+        → pdu_after result vs ≡ pdu_with 162 p.id response.now.status response.now.index vs }
+    ensures scoped { (c : Contexts) (p : PduParts) (vs : List Variable) → ScopedFront (text_of taken.now.text) c → PduText c.pdu p
+        → scoped_after result vs ≡ scoped_text c.engine c.name (pdu_text (pdu_with 162 p.id response.now.status response.now.index vs)) }
+{
+    one_content();
+    one_pdu();
+    let scoped = taken.scoped();
+    let pdu = taken.pdu();
+    Front {
+        context_engine: scoped.engine,
+        context_name: scoped.name,
+        tag: RESPONSE,
+        id: pdu.id,
+        second: response.status,
+        third: response.index,
+    }
+}
+
+/// The Response to what was taken, with these bindings, from this engine with its own boots and time, each at most 2147483647.
+///
+/// The errors are those of `send_of`, in its order.
+pub fn send_response<B: Spelled>(
+    users: &mut Users,
+    engine: &EngineId,
+    own: Pair,
+    taken: &Taken<'_>,
+    response: &Response,
+    bindings: &[B],
+) -> Result<Vec<u8>, TakeFault>
+    requires bindings { All (λ b. B.fits b) bindings.now }
+    requires pair { IsPair own }
+    ensures rows { (c : Contexts) (p : PduParts) → ScopedFront (text_of taken.now.text) c → PduText c.pdu p
+        → IfSome (send_answer result) (Seals users.old.users (responding engine.now own (given_of taken.now) c p response.now.status response.now.index (map B.says bindings.now) response.now.salt)) }
+    ensures memory { (c : Contexts) (p : PduParts) → ScopedFront (text_of taken.now.text) c → PduText c.pdu p → IsErrOf result TakeFault.OutOfMemory
+        → IsSealable users.old.users (responding engine.now own (given_of taken.now) c p response.now.status response.now.index (map B.says bindings.now) response.now.salt) }
+    ensures fits { (c : Contexts) (p : PduParts) → ScopedFront (text_of taken.now.text) c → PduText c.pdu p
+        → IfOk result (λ _. SpeechFits (speech engine.now own (given_of taken.now) c p response.now.status response.now.index (map B.says bindings.now) response.now.salt)) }
+    ensures users { users.new.users ≡ users.old.users }
+{
+    let envelope = envelope(engine, own, taken, response);
+    let front = front(taken, response);
+    send_of(users, &envelope, &front, bindings)
+}
+
+/// The Response to what was taken, with the longest front of these bindings whose text has at most `limit` octets, and how many bindings
+/// that has.
+///
+/// The errors are those of `send_front`, in its order.
+pub fn send_response_front<B: Spelled>(
+    users: &mut Users,
+    engine: &EngineId,
+    own: Pair,
+    taken: &Taken<'_>,
+    response: &Response,
+    bindings: &[B],
+    limit: usize,
+) -> Result<Fronted, TakeFault>
+    requires bindings { All (λ b. B.fits b) bindings.now }
+    requires pair { IsPair own }
+    ensures rows { (c : Contexts) (p : PduParts) → ScopedFront (text_of taken.now.text) c → PduText c.pdu p
+        → IfSome (front_answer result) (SealsFront users.old.users limit (λ vs. responding engine.now own (given_of taken.now) c p response.now.status response.now.index vs response.now.salt) (map B.says bindings.now)) }
+    ensures memory { (c : Contexts) (p : PduParts) → ScopedFront (text_of taken.now.text) c → PduText c.pdu p → IsErrOf result TakeFault.OutOfMemory
+        → IsSealable users.old.users (responding engine.now own (given_of taken.now) c p response.now.status response.now.index [] response.now.salt) }
+    ensures fits { (c : Contexts) (p : PduParts) → ScopedFront (text_of taken.now.text) c → PduText c.pdu p
+        → IfOk result (λ f. SpeechFits (speech engine.now own (given_of taken.now) c p response.now.status response.now.index (take f.count (map B.says bindings.now)) response.now.salt)) }
+    ensures users { users.new.users ≡ users.old.users }
+{
+    let envelope = envelope(engine, own, taken, response);
+    let front = front(taken, response);
+    send_front(users, &envelope, &front, bindings, limit)
+}

@@ -1,0 +1,63 @@
+//! Laws of Responses and reports. Each function does nothing: its contract is the law.
+
+ghost use Rattle.std.specs.Prelude.{◌≡◌, ◌≤◌, ℕ, ℤ, List, [], length, Ok};
+ghost use Rattle.snmp_message.specs.Scoped.{Contexts};
+ghost use Rattle.snmp_msg.specs.Variables.{Variable};
+ghost use Rattle.snmp_msg.specs.Pdu.{PduParts, pdu_with};
+ghost use Rattle.engine_clock.specs.Pairs.{BootsAndTime, IsPair};
+ghost use Rattle.engine_clock.specs.Marks.{Marks};
+ghost use Rattle.usm_users.specs.User.{User};
+ghost use Rattle.usm_core.specs.Verified.{manager};
+ghost use Rattle.usm_core.specs.Sealed.{Seals, SealedText};
+ghost use Rattle.snmp_incoming.specs.Outcome.{Given, as_manager};
+ghost use Rattle.snmp_outgoing.specs.Accepts.{IsTakenInTime};
+ghost use Rattle.snmp_outgoing.specs.Speaks.{spoken_contexts, SpeechFits, HasSameUser};
+ghost use Rattle.snmp_outgoing.specs.declared.counter.Counter.{Counter as Which};
+ghost use Rattle.snmp_agent.specs.Responses.{response, responding};
+ghost use Rattle.snmp_agent.specs.CounterReports.{reporting, refusing};
+
+use snmp_ber::one_element;
+use snmp_outgoing::spoken_is_accepted;
+use usm_core::sealed_size;
+
+/// What an agent's Response is sent as is accepted by a manager with that user, with the same ScopedPDU given on, exactly where
+/// its pair is in the window of what the manager holds once it has learned the pair; at noAuthNoPriv always.
+pub fn response_is_accepted()
+    ensures { (senders users : List User) (held : Marks) (now : ℕ) (engine : List ℕ) (own : BootsAndTime) (g : Given) (c : Contexts) (p : PduParts) (status index : ℤ) (vs : List Variable) (salt text : List ℕ)
+        → SpeechFits (response engine own g c p status index vs salt) → HasSameUser manager senders users g.user g.level
+        → Seals senders (responding engine own g c p status index vs salt) (Ok text)
+        → IsTakenInTime (as_manager held) users now text (responding engine own g c p status index vs salt)
+        (spoken_contexts (response engine own g c p status index vs salt)) (pdu_with 162 p.id status index vs) }
+{
+    spoken_is_accepted();
+}
+
+/// A report has at most 484 octets, the least that a sender may say it can take (RFC 3412, section 6.3).
+pub fn report_is_short()
+    ensures { (users : List User) (engine : List ℕ) (own : BootsAndTime) (id : ℕ) (user : List ℕ) (request_id : ℤ) (n value : ℕ) (text : List ℕ)
+        → length engine ≤ 32 → IsPair own → id ≤ 2147483647 → length user ≤ 32 → SealedText users (reporting engine own id user request_id n value) text → length text ≤ 484 }
+{
+    one_element();
+    sealed_size();
+}
+
+/// So has the report on an accepted message that isn't handled.
+pub fn refusal_is_short()
+    ensures { (users : List User) (engine : List ℕ) (own : BootsAndTime) (g : Given) (p : PduParts) (counter : Which) (value : ℕ) (salt text : List ℕ)
+        → length engine ≤ 32 → IsPair own → g.id ≤ 2147483647 → length g.user ≤ 32 → length salt ≡ 8
+        → SealedText users (refusing engine own g p counter value salt) text → length text ≤ 484 }
+{
+    one_element();
+    sealed_size();
+}
+
+/// And so has a Response without bindings, as a tooBig is (RFC 3416, section 4.2.1), where neither contextEngineID nor contextName is
+/// longer than 32 octets: such a tooBig can always be sent.
+pub fn too_big_is_short()
+    ensures { (users : List User) (engine : List ℕ) (own : BootsAndTime) (g : Given) (c : Contexts) (p : PduParts) (status index : ℤ) (salt text : List ℕ)
+        → length engine ≤ 32 → IsPair own → g.id ≤ 2147483647 → length g.user ≤ 32 → length salt ≡ 8 → length c.engine ≤ 32 → length c.name ≤ 32
+        → SealedText users (responding engine own g c p status index [] salt) text → length text ≤ 484 }
+{
+    one_element();
+    sealed_size();
+}

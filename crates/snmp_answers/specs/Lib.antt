@@ -1,3 +1,0 @@
-pub mod Responses
-pub mod CounterReports
-pub mod Statuses

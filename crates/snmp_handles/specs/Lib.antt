@@ -1,0 +1,11 @@
+pub mod Agents
+pub mod Dispatch
+pub mod Between
+pub mod Managers
+pub mod Reports
+pub mod Asked
+pub mod Faults
+pub mod Numbers
+pub mod Bindings
+pub mod Parts
+pub mod Configurations

@@ -1,0 +1,118 @@
+//! Why a call of a handle isn't done.
+
+ghost use Rattle.std.specs.Prelude.{◌≡◌};
+ghost use Rattle.snmp_handles.specs.Faults.{code, access_code, value_code, answer_code, fault_code, unhandled_code, IsStatusCode};
+
+use crate::numbers::{access_of, unhandled_number};
+use snmp_agent::{Unhandled, status_of};
+use snmp_incoming::TakeFault;
+use snmp_manager::Answer;
+use vacm_core::Access;
+
+/// Why a call of a handle isn't done.
+#[derive(Clone, Copy, Debug, PartialEq, Eq)]
+pub enum CallFault {
+    /// The engine refuses the message that was taken, or that was to be written; want of memory is one of its refusals.
+    Refused(TakeFault),
+    /// An argument is outside of its range.
+    BadArgument,
+    /// No accepted message is kept.
+    NothingTaken,
+    /// The message that is kept doesn't ask for a Response.
+    NotAsked,
+    /// The octets aren't variable bindings, one after another.
+    BadBindings,
+    /// The buffer is too short.
+    ShortBuffer,
+    /// The text is no configuration.
+    BadConfiguration,
+    /// The text saves no clocks.
+    BadClocks,
+}
+
+impl CallFault {
+    /// The fault's number: that of the refusal, 1 to 18, or for a fault of the call -1 BadArgument, -2 NothingTaken, -3
+    /// NotAsked, -4 BadBindings, -5 ShortBuffer, -6 BadConfiguration, -7 BadClocks.
+    pub fn code(self) -> i32
+        ensures { result ≡ fault_code self }
+    {
+        match self {
+            CallFault::Refused(fault) => i32::from(fault.number()),
+            CallFault::BadArgument => -1,
+            CallFault::NothingTaken => -2,
+            CallFault::NotAsked => -3,
+            CallFault::BadBindings => -4,
+            CallFault::ShortBuffer => -5,
+            CallFault::BadConfiguration => -6,
+            CallFault::BadClocks => -7,
+        }
+    }
+}
+
+/// The number of what a call tells: 0 where it was done, or the fault's.
+pub fn code_of(told: Result<(), CallFault>) -> i32
+    ensures { result ≡ code told }
+{
+    match told {
+        Ok(()) => 0,
+        Err(fault) => fault.code(),
+    }
+}
+
+/// The number of an answer on access, 0 to 5 as `Access::number` has it, or the fault's.
+pub fn access_code_of(told: Result<Access, CallFault>) -> i32
+    ensures { result ≡ access_code told }
+{
+    match told {
+        Ok(access) => i32::from(access.number()),
+        Err(fault) => fault.code(),
+    }
+}
+
+/// The value, or the fault's number.
+pub fn value_code_of(told: Result<u32, CallFault>) -> i64
+    ensures { result ≡ value_code told }
+{
+    match told {
+        Ok(value) => i64::from(value),
+        Err(fault) => i64::from(fault.code()),
+    }
+}
+
+/// The number of what an accepted message is to a request: 0 its Response, 1 neither, 10 a Report that names no counter, and 11 to 16
+/// a Report of the counter 1 to 6; or the fault's.
+pub fn answer_code_of(told: Result<Answer, CallFault>) -> i32
+    ensures { result ≡ answer_code told }
+{
+    match told {
+        Ok(Answer::Response) => 0,
+        Ok(Answer::NotForIt) => 1,
+        Ok(Answer::Report(n)) => 10 + i32::from(n),
+        Err(fault) => fault.code(),
+    }
+}
+
+/// The number of why nothing answers what is kept: 0 where it is to be answered, 1 where no request waits for it, or the number of its
+/// counter: 7 snmpUnknownPDUHandlers, 9 snmpUnknownContexts; or the fault's.
+pub fn unhandled_code_of(told: Result<Option<Unhandled>, CallFault>) -> i32
+    ensures { result ≡ unhandled_code told }
+{
+    match told {
+        Ok(why) => i32::from(unhandled_number(why)),
+        Err(fault) => fault.code(),
+    }
+}
+
+/// The number of what becomes of a variable for which access was answered by this number, in a request whose PDU has this tag, as
+/// `Status::number` has it; or that of BadArgument, where no answer has the number or the tag is above 255.
+pub fn status_code_of(access: u32, tag: u32) -> i32
+    ensures { IsStatusCode access tag result }
+{
+    let Some(access) = access_of(access) else {
+        return CallFault::BadArgument.code();
+    };
+    if tag > 255 {
+        return CallFault::BadArgument.code();
+    }
+    i32::from(status_of(access, tag as u8).number())
+}

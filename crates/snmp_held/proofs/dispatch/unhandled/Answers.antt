@@ -1,7 +1,0 @@
-use Rattle.std.proofs.Common.{subst}
-use Rattle.snmp_outcome.specs.Outcome.{Given}
-use Rattle.snmp_held.specs.Dispatch.{IsHandled}
-use Rattle.snmp_held.proofs.dispatch.unhandled.Goals as goal
-
-pub returns : goal.returns
-returns c = subst (λ (g : Given). IsHandled c.args.agent.now g c.unhandled.result) c.taken-taken.ensures c.unhandled.ensures

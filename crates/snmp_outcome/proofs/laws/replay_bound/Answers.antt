@@ -1,5 +1,0 @@
-use Rattle.snmp_outcome.proofs.Replays.{replay}
-use Rattle.snmp_outcome.proofs.laws.replay_bound.Goals as goal
-
-pub returns : goal.returns
-returns c = replay c.one_message.ensures.one c.one_cut.ensures.one c.verified_was_read.ensures.accepted

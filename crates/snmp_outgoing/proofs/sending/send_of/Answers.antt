@@ -1,0 +1,11 @@
+use Rattle.snmp_outgoing.proofs.Refusing.{told_as, memory_as, large_as}
+use Rattle.snmp_outgoing.proofs.sending.send_of.Goals as goal
+
+pub returns-in-Err-clause-rows : goal.returns-in-Err-clause-rows
+returns-in-Err-clause-rows g c = told_as c.in-Err.fault c.into.result _ c.into.ensures c.in-Err.ensures.rows
+
+pub returns-in-Err-clause-memory : goal.returns-in-Err-clause-memory
+returns-in-Err-clause-memory g c is = c.in-Err.ensures.memory (memory_as c.in-Err.fault c.into.result c.into.ensures is)
+
+pub returns-in-Err-clause-short : goal.returns-in-Err-clause-short
+returns-in-Err-clause-short g c is = c.in-Err.ensures.short (large_as c.in-Err.fault c.into.result c.into.ensures is)

@@ -1,0 +1,30 @@
+//! What goes out: the body of a message and its envelope, and the one way of writing them.
+//!
+//! ```
+//! use snmp_msg::{GET_REQUEST, RESPONSE};
+//! use snmp_outgoing::{Counter, is_confirmed};
+//!
+//! assert!(rt; is_confirmed(GET_REQUEST) && !is_confirmed(RESPONSE));
+//! let name = Counter::UnknownPduHandlers.name();
+//! assert_eq!(rt; name, [1, 3, 6, 1, 6, 3, 11, 2, 1, 3, 0].as_slice());
+//! ```
+#![tactic(auto)]
+
+mod body;
+mod class;
+mod count;
+mod counter;
+mod envelope;
+mod front;
+mod laws;
+mod measured;
+mod sending;
+
+pub use body::Body;
+pub use class::is_confirmed;
+pub use count::count_within;
+pub use counter::{Counter, counter_name};
+pub use envelope::Envelope;
+pub use front::{Front, Fronted};
+pub use laws::{request_is_accepted, sealed_is_accepted, spoken_is_accepted};
+pub use sending::{send, send_front, send_of, send_plain, supports};

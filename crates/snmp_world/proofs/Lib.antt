@@ -1,4 +1,0 @@
-pub mod Lists
-pub mod Worlds
-pub mod Origins
-pub mod Runs

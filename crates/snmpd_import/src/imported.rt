@@ -1,0 +1,43 @@
+//! From lines to the configuration that they come to, and what is told of them.
+
+ghost use Rattle.std.specs.Prelude.{map, IfOk};
+ghost use Rattle.snmpd_import.specs.Rows.{ComesTo};
+ghost use Rattle.snmpd_import.specs.Notes.{told_of};
+
+use crate::notes::Told;
+use crate::read_back::{TextFault, configuration};
+use crate::rows::kept_of;
+use crate::told::all_notes;
+use snmpd_tables::{Item, lists_of, meant};
+use std::alloc::Global;
+use vacm_core::ContextRow;
+
+/// What files of snmpd.conf come to.
+#[derive(Drop)]
+pub struct Imported {
+    /// The configuration.
+    pub text: Vec<u8>,
+    /// What isn't in it, or not as snmpd has it.
+    pub notes: Vec<Told>,
+}
+
+/// The configuration that these lines come to, with these contexts, given the names of the files that the lines are from.
+///
+/// Each line is in its rows, or is told: first those that make no row, in their order; then those that changed a row of another index than their own;
+/// then the rows beside which another one counts; and at last for which messages snmpd and RFC 3415 choose rows with other views. The fault is want of
+/// memory, or `NotReadBack`.
+pub fn import(
+    alloc: Global,
+    files: &[String],
+    items: Vec<Item>,
+    contexts: Vec<ContextRow>,
+) -> Result<Imported, TextFault>
+    ensures { IfOk result (λ done. ComesTo items.items contexts.items done.text.items (map told_of done.notes.items)) }
+{
+    let lines = meant(alloc, items)?;
+    let lists = lists_of(alloc, &lines)?;
+    let kept = kept_of(alloc, &lines, &lists, contexts)?;
+    let text = configuration(alloc, files, &kept)?;
+    let notes = all_notes(alloc, &lines, &lists, &kept)?;
+    Ok(Imported { text, notes })
+}

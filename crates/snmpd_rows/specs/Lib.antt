@@ -1,0 +1,13 @@
+pub mod Groups
+pub mod Accesses
+pub mod Views
+pub mod Choice
+pub mod Simple
+pub mod Settings
+pub mod GroupViews
+pub mod Entries
+pub mod Files
+pub mod Line
+pub mod Names
+pub mod Rights
+pub mod Stands

@@ -1,0 +1,9 @@
+pub mod Runs
+pub mod Choosing
+pub mod Indexes
+pub mod Apart
+pub mod Bests
+pub mod ComparedChoosing
+pub mod Telling
+pub mod Covering
+pub mod Nones

@@ -1,0 +1,14 @@
+use Rattle.std.proofs.Common.{[], sym, subst}
+use Rattle.snmpd_tables.specs.Compared.{Tells, IsOfPairs}
+use Rattle.snmpd_tables.proofs.Telling.{pairs_none, all_told}
+use Rattle.snmpd_tables.proofs.compared.differences.Goals as goal
+
+pub loop-place-init : goal.loop-place-init
+loop-place-init c =
+    subst (λ xs. Tells c.args.compared.now.rows (IsOfPairs c.args.compared.now []) [] xs) (sym c.new-found.ensures.items) (pairs_none c.args.compared.now [])
+
+pub loop-place-preserved : goal.loop-place-preserved
+loop-place-preserved c = c.in_ok-put_next_group.ensures [] c.loop-place.invariant
+
+pub returns : goal.returns
+returns c = all_told c.args.compared.now c.loop-place.place c.loop-place.found.items c.loop-place-test.false c.loop-place.invariant

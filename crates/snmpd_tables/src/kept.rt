@@ -1,0 +1,144 @@
+//! Of the rows that snmpd holds those that count, one of each index.
+
+ghost use Rattle.std.specs.Prelude.{◌≡◌, ◌↔◌, ◌++◌, IsTrue, IfOk, OnOk, MatchOption};
+ghost use Rattle.std.specs.List.{flat_map};
+ghost use Rattle.snmpd_tables.specs.Kept as spec;
+ghost use Rattle.snmpd_tables.specs.Kept.{IsNew, IsFirstLike, Keeps, AreFirsts, stands_for, IsNamed, IsWanted, AreWanted, AreGroupsKept, AreFamiliesKept};
+
+use crate::copies::copy_name;
+use crate::rows::{Held, HeldAccess, HeldFamily, HeldGroup, Place};
+use std::alloc::{AllocError, Global};
+use vacm_core::{GroupRow, Name};
+
+/// The place of the first row that has the index of this one.
+pub fn find<H: Held>(rows: &[H], row: &H) -> Option<usize>
+    ensures { MatchOption result (IsNew H.order rows.now row.now) (IsFirstLike H.order rows.now row.now) }
+{
+    for (place, held) in rows.iter().enumerate() {
+        if held.order(row).is_eq() {
+            return Some(place);
+        }
+    }
+    None
+}
+
+/// Keeps a row of a new index.
+fn keep<H: Held>(kept: &mut Vec<H>, row: &H) -> Result<(), AllocError>
+    ensures { OnOk result (Keeps H.order kept.old.items row.now kept.new.items) }
+{
+    match find(kept, row) {
+        Some(_) => Ok(()),
+        None => {
+            kept.push(row.copy())?;
+            Ok(())
+        }
+    }
+}
+
+/// The first row of each index.
+fn firsts<H: Held>(alloc: Global, rows: &[H]) -> Result<Vec<H>, AllocError>
+    ensures { IfOk result (λ kept. AreFirsts H.order rows.now kept.items) }
+{
+    let mut kept = Vec::new(alloc);
+    for row in rows {
+        keep(&mut kept, row)?;
+    }
+    Ok(kept)
+}
+
+/// The row, for this model.
+fn with_model(held: &HeldGroup, model: u32) -> HeldGroup
+    ensures { result ≡ spec.with_model held.now model }
+{
+    HeldGroup {
+        place: held.place,
+        row: GroupRow {
+            model,
+            name: copy_name(&held.row.name),
+            group: copy_name(&held.row.group),
+        },
+    }
+}
+
+/// Appends the rows that a row stands for.
+fn put_rows(rows: &mut Vec<HeldGroup>, held: &HeldGroup) -> Result<(), AllocError>
+    ensures { OnOk result (rows.new.items ≡ rows.old.items ++ stands_for held.now) }
+{
+    if held.row.model != 0 {
+        rows.push(held.copy())?;
+        return Ok(());
+    }
+    rows.push(with_model(held, 1))?;
+    rows.push(with_model(held, 2))?;
+    rows.push(with_model(held, 3))?;
+    Ok(())
+}
+
+/// The rows that these stand for.
+fn meant(alloc: Global, held: &[HeldGroup]) -> Result<Vec<HeldGroup>, AllocError>
+    ensures { IfOk result (λ rows. rows.items ≡ flat_map stands_for held.now) }
+{
+    let mut rows = Vec::new(alloc);
+    for row in held {
+        put_rows(&mut rows, row)?;
+    }
+    Ok(rows)
+}
+
+/// The group rows that count: the first of each index, where a row for any model stands for one of each of the models 1 to 3.
+///
+/// The error is want of memory.
+pub fn groups_kept(alloc: Global, held: &[HeldGroup]) -> Result<Vec<HeldGroup>, AllocError>
+    ensures { IfOk result (λ kept. AreGroupsKept held.now kept.items) }
+{
+    let rows = meant(alloc, held)?;
+    firsts(alloc, &rows)
+}
+
+/// An access row names the view.
+fn is_named(access: &[HeldAccess], view: &Name) -> bool
+    ensures { IsTrue result ↔ IsNamed access.now view.now }
+{
+    access.iter().any(|held| {
+        held.row.read == *view || held.row.write == *view || held.row.notify == *view
+    })
+}
+
+/// The row is of a line, or an access row names its view.
+fn is_wanted(access: &[HeldAccess], held: &HeldFamily) -> bool
+    ensures { IsTrue result ↔ IsWanted access.now held.now }
+{
+    held.place != Place::BuiltIn || is_named(access, &held.row.view)
+}
+
+/// Those of the rows that are wanted.
+fn wanted(
+    alloc: Global,
+    access: &[HeldAccess],
+    held: &[HeldFamily],
+) -> Result<Vec<HeldFamily>, AllocError>
+    ensures { IfOk result (λ rows. AreWanted access.now held.now rows.items) }
+{
+    let mut rows = Vec::new(alloc);
+    for row in held {
+        if is_wanted(access, row) {
+            rows.push(row.copy())?;
+        }
+    }
+    Ok(rows)
+}
+
+/// The family rows that count beside these access rows: of those of lines, and of the built-in views that access rows name, the first of each
+/// index.
+///
+/// The error is want of memory.
+pub fn families_kept(
+    alloc: Global,
+    access: &[HeldAccess],
+    held: &[HeldFamily],
+) -> Result<Vec<HeldFamily>, AllocError>
+    ensures { IfOk result (λ kept. AreFamiliesKept access.now held.now kept.items) }
+{
+    let rows = wanted(alloc, access, held)?;
+    firsts(alloc, &rows)
+}

@@ -1,2 +1,0 @@
-pub mod Protocols
-pub mod Users

@@ -1,0 +1,7 @@
+use Rattle.std.proofs.Common.{take}
+use Rattle.snmpsec_access.specs.Known.{AreThose}
+use Rattle.snmpsec_access.specs.Names.{is_user}
+use Rattle.snmpsec_access.proofs.names.Names.of_users.Given as goal
+
+abbrev pub invariant-loop-row : goal.invariant-loop-row
+invariant-loop-row l = AreThose l.names (is_user (take l.row-index l.users))

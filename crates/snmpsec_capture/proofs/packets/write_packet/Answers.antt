@@ -1,6 +1,0 @@
-use Rattle.std.proofs.Common.{arith}
-use Rattle.snmpsec_capture.proofs.RawRecords.{as_packet}
-use Rattle.snmpsec_capture.proofs.packets.write_packet.Goals as goal
-
-pub returns-in-Ok-clause-ok : goal.returns-in-Ok-clause-ok
-returns-in-Ok-clause-ok g c = as_packet _ _ _ _ _ _ _ _ _ _ _ _ (omega arith) c.in-Ok.ensures.ok

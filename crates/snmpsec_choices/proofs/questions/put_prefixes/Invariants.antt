@@ -1,7 +1,0 @@
-use Rattle.std.proofs.Common.{take}
-use Rattle.snmpsec_choices.specs.Questions.{Tells, IsOfPrefixes}
-use Rattle.snmpsec_choices.proofs.questions.put_prefixes.Given as goal
-
-abbrev pub invariant-loop-place : goal.invariant-loop-place
-invariant-loop-place l =
-    Tells l.rows (IsOfPrefixes (take l.place l.rows.held.now) l.asking.group.now l.asking.model) l.initial.found.items l.found.items

@@ -1,4 +1,0 @@
-pub mod Begins
-pub mod Parts
-pub mod Places
-pub mod Dumps

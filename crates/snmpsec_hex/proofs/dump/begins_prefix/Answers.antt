@@ -1,7 +1,0 @@
-use Rattle.std.proofs.Common.{◌∙◌, drop, ap}
-use Rattle.snmpsec_hex.specs.Dump.{begins_offset}
-use Rattle.snmpsec_hex.proofs.Dumps.{behind_is_drop}
-use Rattle.snmpsec_hex.proofs.dump.begins_prefix.Goals as goal
-
-pub returns : goal.returns
-returns c = c.begins_offset.ensures ∙ (ap begins_offset (behind_is_drop c.prefix_size.result c.args.text.now) ∙ ap (λ n. begins_offset (drop n c.args.text.now)) c.prefix_size.ensures.is)

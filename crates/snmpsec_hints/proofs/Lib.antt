@@ -1,4 +1,0 @@
-pub mod Added
-pub mod Walks
-pub mod Numbering
-pub mod Told

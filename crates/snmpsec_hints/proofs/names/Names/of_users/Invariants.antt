@@ -1,7 +1,0 @@
-use Rattle.std.proofs.Common.{take}
-use Rattle.snmpsec_hints.specs.Known.{AreThose}
-use Rattle.snmpsec_hints.specs.Names.{is_user}
-use Rattle.snmpsec_hints.proofs.names.Names.of_users.Given as goal
-
-abbrev pub invariant-loop-row : goal.invariant-loop-row
-invariant-loop-row l = AreThose l.names (is_user (take l.row-index l.users))

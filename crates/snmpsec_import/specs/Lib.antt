@@ -1,9 +1,0 @@
-pub mod Groups
-pub mod Accesses
-pub mod Views
-pub mod Choice
-pub mod Simple
-pub mod Settings
-pub mod GroupViews
-pub mod Entries
-pub mod Files

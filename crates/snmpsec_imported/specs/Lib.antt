@@ -1,4 +1,0 @@
-pub mod Rows
-pub mod Notes
-pub mod Users
-pub mod Seconds

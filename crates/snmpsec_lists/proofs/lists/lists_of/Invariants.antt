@@ -1,6 +1,0 @@
-use Rattle.std.proofs.Common.{drop}
-use Rattle.snmpsec_lists.specs.Lists.{Tables, tables_of, at_start, HoldsAfter}
-use Rattle.snmpsec_lists.proofs.lists.lists_of.Given as goal
-
-abbrev pub invariant-loop-item : goal.invariant-loop-item
-invariant-loop-item l = (after : Tables) → HoldsAfter (tables_of l.lists) (drop l.item-index l.items) after → HoldsAfter at_start l.items after

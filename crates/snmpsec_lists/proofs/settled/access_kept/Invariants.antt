@@ -1,9 +1,0 @@
-use Rattle.std.proofs.Common.{List, [], drop}
-use Rattle.snmpsec_lists.specs.declared.rows.HeldAccess.{HeldAccess}
-use Rattle.snmpsec_lists.specs.Kept.{SettlesAfter}
-use Rattle.snmpsec_lists.proofs.Apart.{AreApart}
-use Rattle.snmpsec_lists.proofs.settled.access_kept.Given as goal
-
-abbrev pub invariant-loop-row : goal.invariant-loop-row
-invariant-loop-row l =
-    ((after : List HeldAccess) → SettlesAfter l.kept.items (drop l.row-index l.held) after → SettlesAfter [] l.held after) × AreApart l.kept.items

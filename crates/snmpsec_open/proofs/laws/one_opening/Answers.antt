@@ -1,5 +1,0 @@
-use Rattle.snmpsec_open.proofs.Determined.{opening_one}
-use Rattle.snmpsec_open.proofs.laws.one_opening.Goals as goal
-
-pub returns : goal.returns
-returns c = opening_one c.one_content.ensures.front c.one_pdu.ensures.pdu c.one_answer.ensures

@@ -1,0 +1,51 @@
+-- Rows of the table, for the function that opens a message.
+use Rattle.std.proofs.Common.{◌≡◌, ℕ, List, Option, Some, None, sym, subst}
+use Rattle.std.specs.Prelude.{◌≢◌, Result, Ok, Err, IfOk, IfSome, IsSomeAnd}
+use Rattle.usm_users.specs.User.{User}
+use Rattle.usm_core.specs.declared.fault.UsmFault.{UsmFault}
+use Rattle.usm_core.specs.declared.fault.UsmFault.TheVariants as usm
+use Rattle.usm_core.specs.Refusals.{number_of}
+use Rattle.usm_core.specs.Table.{holds, fails, gives, refuses}
+use Rattle.usm_core.specs.Verified.{Verified, Verifies, manager}
+use Rattle.snmp_incoming.specs.declared.fault.TakeFault.{TakeFault}
+use Rattle.snmp_incoming.specs.Refusals.{IsSameRefusal, answer_number}
+use Rattle.snmp_incoming.specs.Outcome.{Given, ReadsText}
+use Rattle.snmp_incoming.specs.Answers as outcome
+use Rattle.snmp_incoming.specs.Answers.{IsOpening}
+use Rattle.snmp_incoming.proofs.Rows.{same_refused}
+use Rattle.snmp_incoming.specs.Texts.{FrontOf, PduOf}
+use Rattle.snmpsec_output.specs.Opening.{opened_lines, TellsText, Opens, refused}
+
+-- what is told as a refusal has its number
+told_number : (o : Option ℕ) (n : ℕ) → outcome.refused o ≡ Some (Err n) → o ≡ Some n
+told_number None n e = cc
+told_number (Some m) n e = cc
+
+-- refused down to the digest
+pub opens_refused : (users : List User) (w : List ℕ) (fault : UsmFault) (e : TakeFault) → fault ≢ usm.OutOfMemory → IsSameRefusal fault e → Verifies manager users w (Err (number_of fault))
+    → IfSome (refused (answer_number e)) (Opens users w)
+unfolding Opens
+opens_refused users w fault e h same rows =
+    subst (λ (o : Option ℕ). IfSome (refused o) (Opens users w)) (sym (told_number (answer_number e) (number_of fault) (same_refused fault e h same))) (refuses (number_of fault) rows)
+
+module _ (users : List User) (w : List ℕ) (v : Verified) (rows : Verifies manager users w (Ok v)) where
+  -- the salt doesn't have 8 octets
+  pub opens_unopened : IsOpening users w v None → Opens users w (Err 11)
+  unfolding Opens
+  opens_unopened opening = gives v rows (fails (λ salt. opening.1 (salt opening.0)))
+
+  module _ (text : List ℕ) (opening : IsOpening users w v (Some text)) where
+    -- the text has no PDU
+    pub opens_unread : (o : Option ℕ) → IsSomeAnd (outcome.refused o) (ReadsText v text) → IfSome (refused o) (Opens users w)
+    unfolding Opens
+    opens_unread None read = tt
+    opens_unread (Some n) read = gives v rows (holds opening.0 (refuses n (text, opening.1, read)))
+
+    pub opens_read : (given : Given) (lines : List ℕ) → ReadsText v text (Ok given) → TellsText v given.text lines → Opens users w (Ok lines)
+    unfolding Opens
+    opens_read given lines read tells = gives v rows (holds opening.0 (gives given (text, opening.1, read) tells))
+
+pub if_told : {A E : Type 0} (r : Result A E) (out : A → List ℕ) (v : Verified) {text : List ℕ} (s : FrontOf text) (p : PduOf s.contexts.pdu)
+    → IfOk r (λ x. out x ≡ opened_lines v s.contexts p.pdu) → IfOk r (λ x. TellsText v text (out x))
+if_told (Ok x) out v s p lines = (s, p, lines)
+if_told (Err e) out v s p lines = tt

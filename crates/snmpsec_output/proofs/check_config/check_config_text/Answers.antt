@@ -1,0 +1,10 @@
+use Rattle.snmpsec_output.proofs.Checks.{if_counted, if_explained}
+use Rattle.snmpsec_output.proofs.check_config.check_config_text.Goals as goal
+
+pub returns-in-Ok : goal.returns-in-Ok
+returns-in-Ok c =
+    if_counted c.counted.result (λ output. output.out.items) (λ output. output.err.items) (λ output. output.status) _ _ _ c.in-Ok.ensures.says c.counted.ensures.out c.counted.ensures.err c.counted.ensures.status
+
+pub returns-in-Err-2 : goal.returns-in-Err-2
+returns-in-Err-2 c =
+    if_explained c.explained.result (λ output. output.out.items) (λ output. output.err.items) (λ output. output.status) _ c.in-Err.fault (record { cause = c.in-Err.ensures.refuses; no_memory = c.if-is_memory.ensures }) c.explained.ensures.out c.explained.ensures.err c.explained.ensures.status

@@ -1,0 +1,12 @@
+pub mod Refusals
+pub mod Show
+pub mod Merge
+pub mod Words
+pub mod Steps
+pub mod Questions
+pub mod CheckConfig
+pub mod Open
+pub mod WhoSees
+pub mod Sees
+pub mod Lines
+pub mod Opening

@@ -1,0 +1,72 @@
+-- What `snmpsec who-sees` prints.
+use Rattle.std.specs.Prelude.{◌≡◌, ◌⊎◌, ⊤, ℕ, Bool, List, [], ◌∷◌, ◌++◌, codes, Option, Some, None, IsSomeAnd}
+use Rattle.snmp_ber.specs.Oid.{AreArcs, dotted}
+use Rattle.usm_users.specs.declared.load.UserRow.{UserRow}
+use Rattle.vacm_core.specs.Tables.{Tables}
+use Rattle.vacm_core.specs.declared.access.ViewType.{ViewType}
+use Rattle.vacm_core.specs.declared.access.ViewType.TheVariants.{Read, Write, Notify}
+use Rattle.snmpsec_config.specs.Refusals.{SaysSound}
+use Rattle.snmpsec_access.specs.Words.{view_word}
+use Rattle.snmpsec_access.specs.WhoSees.{TellsWho}
+use Rattle.snmpsec_output.specs.declared.check.Argument.{Argument}
+use Rattle.snmpsec_output.specs.declared.check.Argument.TheVariants.{Model, Level as LevelWord, View, Oid}
+use Rattle.snmpsec_output.specs.CheckConfig.{Explains}
+use Rattle.snmpsec_output.specs.Questions.{Printed, IsNoOid, IsNoView, argument_name}
+
+-- the words OID and VIEW, which may be left out
+pub record WhoWords : Type 0 where
+  pub variable : List ℕ
+  pub view : Option (List ℕ)
+
+-- the view that the word asks for, where there is one
+abbrev pub IsViewWord : Option (List ℕ) → Option ViewType → Type 0
+IsViewWord None None = ⊤
+IsViewWord None (Some view) = ⊥
+IsViewWord (Some word) None = ⊥
+IsViewWord (Some word) (Some view) = word ≡ view_word view
+
+-- all views, where none is asked for
+abbrev pub views_of : Option ViewType → List ViewType
+views_of None = Read ∷ Write ∷ Notify ∷ []
+views_of (Some view) = view ∷ []
+
+-- The words ask for this variable, and for this view.
+pub record AsksWho (words : WhoWords) (variable : List ℕ) (view : Option ViewType) : Type 0 where
+  pub arcs : AreArcs variable
+  pub variable_word : words.variable ≡ dotted variable
+  pub view_word : IsViewWord words.view view
+
+-- The word of this argument is the first out of its form.
+abbrev pub IsFirstWrong : WhoWords → Argument → Type 0
+IsFirstWrong words Oid = IsNoOid words.variable
+IsFirstWrong words View = ((arcs : List ℕ) × AreArcs arcs × (words.variable ≡ dotted arcs)) × IsSomeAnd words.view IsNoView
+IsFirstWrong words Model = ⊥
+IsFirstWrong words LevelWord = ⊥
+
+-- The first word out of its form is told.
+pub record TellsWord (words : WhoWords) (printed : Printed) : Type 0 where
+  pub argument : Argument
+  pub first : IsFirstWrong words argument
+  pub out : printed.out ≡ []
+  pub err : printed.err ≡ codes "snmpsec: " ++ ((codes "bad word " ++ argument_name argument) ++ codes "\n")
+  pub status : printed.status ≡ 2
+
+-- 0 where there is a line
+abbrev pub line_status : List ℕ → ℕ
+line_status [] = 1
+line_status (c ∷ cs) = 0
+
+-- Who sees the variable is printed, over the rows that the configuration stands for.
+pub record Lists (config : List ℕ) (only_users : Bool) (variable : List ℕ) (view : Option ViewType) (printed : Printed) : Type 0 where
+  pub users : List UserRow
+  pub rows : Tables
+  pub says : SaysSound config users rows
+  pub out : TellsWho rows (views_of view) only_users users variable printed.out
+  pub err : printed.err ≡ []
+  pub status : printed.status ≡ line_status printed.out
+
+-- A word out of its form is told first, then a configuration that is refused and what is wrong with it, and else who sees the variable.
+abbrev pub PrintsWho : List ℕ → WhoWords → Bool → Printed → Type 0
+PrintsWho config words only_users printed =
+    TellsWord words printed
+    ⊎ ((variable : List ℕ) × (view : Option ViewType) × AsksWho words variable view × (Explains config printed ⊎ Lists config only_users variable view printed))

@@ -1,0 +1,71 @@
+//! `snmpsec explain-access`: what `check-access` answers, and which rows decided.
+
+ghost use Rattle.std.specs.Prelude.{◌≡◌, ◌++◌, [], IfOk, codes, map};
+ghost use Rattle.vacm_core.specs.Tables.{tables_of, HaveSameRows};
+ghost use Rattle.vacm_core.specs.Allowed.{Allowed};
+ghost use Rattle.vacm_core.specs.Steps.{TellsContext};
+ghost use Rattle.snmpsec_output.specs.Questions.{ExplainsAccess, Printed, asked_of};
+ghost use Rattle.snmpsec_output.specs.Steps.{context_lines};
+ghost use Rattle.snmpsec_access.specs.Words.{access_word};
+ghost use Rattle.snmpsec_output.specs.Words.{access_status};
+
+use crate::check::{Question, bad_word, question_of};
+use crate::output::Output;
+use crate::steps::put_steps;
+use crate::words::status_of;
+use snmpsec_access::access_word;
+use snmpsec_config::AccessConfig;
+use std::alloc::{AllocError, Global};
+use vacm_core::{Asking, Explained, Rows, Vacm};
+
+/// What `snmpsec explain-access` prints for a configuration and the words of `check_text`: its answer, with the same status, and
+/// then a line for each row that decided, as far as it came.
+///
+/// Positions are those of the configuration's tables, and count from 0. What isn't asked or isn't read is told as by
+/// `check_text`. No key is made of a password.
+pub fn explain_text(alloc: Global, config: &[u8], words: &[&str; 6]) -> Result<Output, AllocError>
+    ensures { IfOk result (λ output. let printed : Printed = record { out = output.out.items; err = output.err.items; status = output.status } in
+        ExplainsAccess config.now (map (λ word. word.now) words.now) printed) }
+{
+    let question = match question_of(words) {
+        Ok(question) => question,
+        Err(argument) => return bad_word(alloc, argument),
+    };
+    match AccessConfig::read(alloc, config) {
+        Ok(config) => {
+            let explained = decided(&config.access, &config.rows.access, &question);
+            told(alloc, &explained)
+        }
+        Err(fault) if fault.is_memory() => Err(AllocError),
+        Err(fault) => Output::refused(alloc, &fault),
+    }
+}
+
+/// What decides on the question over these tables, which are made of the rows.
+fn decided(access: &Vacm, rows: &Rows, question: &Question<'_>) -> Explained
+    requires { HaveSameRows (tables_of rows.now) access.now }
+    ensures answer { let asked = asked_of question.now in Allowed access.now asked.message asked.view asked.arcs result.answer }
+    ensures steps { let asked = asked_of question.now in TellsContext (tables_of rows.now) asked.message asked.view asked.arcs result.context }
+{
+    let asking = Asking {
+        model: question.model,
+        name: question.name.as_bytes(),
+        level: question.level,
+        context: question.context.as_bytes(),
+        view: question.view,
+        variable: question.variable.as_slice(),
+    };
+    access.explain(rows, &asking)
+}
+
+/// The line for an answer, and those of the rows that decided.
+fn told(alloc: Global, explained: &Explained) -> Result<Output, AllocError>
+    ensures out { IfOk result (λ output. output.out.items ≡ (access_word explained.now.answer ++ codes "\n") ++ context_lines explained.now.context) }
+    ensures err { IfOk result (λ output. output.err.items ≡ []) }
+    ensures status { IfOk result (λ output. output.status ≡ access_status explained.now.answer) }
+{
+    let name = access_word(explained.answer);
+    let mut out = format!(in alloc; "{name}\n")?.into_bytes();
+    put_steps(alloc, &mut out, &explained.context)?;
+    Ok(Output::out(alloc, out, status_of(explained.answer)))
+}

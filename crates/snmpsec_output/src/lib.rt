@@ -1,0 +1,51 @@
+//! What the commands of `snmpsec` print of a message, of an answer on access, of a configuration and of saved clocks, and their
+//! status. `open` uses the keys of users.
+//!
+//! ```
+//! use snmpsec_output::show_text;
+//!
+//! let output = show_text(rt.alloc(), "3005")?;
+//! assert_eq!(rt;
+//!     output.out.as_slice(),
+//!     b"refused 1 NotMessage at 0\n".as_slice()
+//! );
+//! assert_eq!(rt; output.status, 1);
+//! ```
+//!
+//! ```
+//! use snmpsec_output::octets_line;
+//!
+//! let line = octets_line(rt.alloc(), "user", b"ann")?;
+//! assert_eq!(rt; line.as_str(), "user 616e6e\n");
+//! ```
+#![tactic(auto)]
+
+mod check;
+mod check_config;
+mod explain;
+mod laws;
+mod lines;
+mod merge;
+mod open;
+mod opened;
+mod output;
+mod refused;
+mod sees;
+mod show;
+mod steps;
+mod who_sees;
+mod words;
+
+pub use check::check_text;
+pub use check_config::{check_config_hinted, check_config_text};
+pub use explain::explain_text;
+pub use laws::one_opening;
+pub use lines::{message_lines, octets_line, scoped_lines};
+pub use merge::{merge_text, refused_clocks};
+pub use open::{open_text, opened};
+pub use opened::opened_lines;
+pub use output::Output;
+pub use sees::sees_text;
+pub use show::{show_text, shown};
+pub use who_sees::who_text;
+pub use words::moment_of;

@@ -1,0 +1,45 @@
+//! `snmpsec open`: a message, opened by the keys of a configuration's users.
+
+ghost use Rattle.std.specs.Prelude.{◌≡◌, IfOk};
+ghost use Rattle.snmpsec_output.specs.Questions.{Printed};
+ghost use Rattle.snmpsec_output.specs.Open.{OpensBy, OpensText};
+
+use crate::opened::opened_lines;
+use crate::output::Output;
+use crate::refused::RefusedAt;
+use crate::show::{datagram_of, refused_output};
+use snmpsec_config::Config;
+use std::alloc::{AllocError, Global};
+use usm_core::Users;
+
+/// What `snmpsec open CONFIG HEX` prints: the lines of the message, opened by the keys of the configuration's users, as a
+/// manager does that has no clocks, with status 0.
+///
+/// A word that isn't one or more pairs of hex digits is told on standard error, with status 2. Then a configuration that isn't
+/// read is told by one line, with status 1. A refusal of the message is a line with status 1 too; `opened_lines` says in which
+/// order they come.
+pub fn open_text(alloc: Global, config: &[u8], digits: &str) -> Result<Output, AllocError>
+    ensures { IfOk result (λ output. let printed : Printed = record { out = output.out.items; err = output.err.items; status = output.status } in
+        OpensText config.now digits.now printed) }
+{
+    let Some(datagram) = datagram_of(alloc, digits)? else {
+        return Output::complaint(alloc, "bad word HEX");
+    };
+    match Config::read(alloc, config) {
+        Ok(mut config) => opened(alloc, &mut config.users, &datagram),
+        Err(fault) if fault.is_memory() => Err(AllocError),
+        Err(fault) => Output::refused(alloc, &fault),
+    }
+}
+
+/// The lines of the message, or its refusal.
+pub fn opened(alloc: Global, users: &mut Users, datagram: &[u8]) -> Result<Output, AllocError>
+    ensures opens { IfOk result (λ output. let printed : Printed = record { out = output.out.items; err = output.err.items; status = output.status } in
+        OpensBy users.old.users datagram.now printed) }
+    ensures users { users.new.users ≡ users.old.users }
+{
+    match opened_lines(alloc, users, datagram) {
+        Ok(lines) => Ok(Output::out(alloc, lines.into_bytes(), 0)),
+        Err(fault) => refused_output(alloc, RefusedAt::from(fault)),
+    }
+}

@@ -1,0 +1,54 @@
+//! A message, opened by the keys of users.
+
+ghost use Rattle.std.specs.Prelude.{◌≡◌, IfOk, IfSome, string_bytes};
+ghost use Rattle.usm_core.specs.Answers.{verified_of};
+ghost use Rattle.snmp_incoming.specs.Texts.{text_of};
+ghost use Rattle.snmpsec_output.specs.Opening.{TellsText, Opens, lines_answer};
+
+use crate::lines::{message_lines, scoped_lines};
+use engine_clock::EngineId;
+use snmp_incoming::{TakeFault, Taken, read_text, scoped_octets};
+use snmpsec_config::level_word;
+use std::alloc::{AllocError, Global};
+use usm_core::{Checked, Role, Users};
+
+/// The lines of a message that is opened by the keys of these users, as a manager does that has no clocks: those of
+/// `message_lines`, a line `level`, and those of `scoped_lines`.
+///
+/// The errors are, the first that applies: those of `Users::open_auth`, then OutOfMemory (14), DecryptionError (11), BadScoped
+/// (12) and BadPdu (13). The time window isn't looked at. OutOfMemory comes too where the lines find no memory.
+pub fn opened_lines(alloc: Global, users: &mut Users, datagram: &[u8]) -> Result<String, TakeFault>
+    ensures opens { IfSome (lines_answer result) (Opens users.old.users datagram.now) }
+    ensures users { users.new.users ≡ users.old.users }
+{
+    let checked = users.open_auth(Role::Manager, datagram)?;
+    let Some(engine) = EngineId::of(checked.security.engine) else {
+        unreachable!();
+    };
+    let Ok(opening) = scoped_octets(users, datagram, &checked) else {
+        return Err(TakeFault::OutOfMemory);
+    };
+    let Some(text) = opening else {
+        return Err(TakeFault::DecryptionError);
+    };
+    let taken = read_text(&checked, engine, text)?;
+    match taken_lines(alloc, &checked, &taken) {
+        Ok(lines) => Ok(lines),
+        Err(_) => Err(TakeFault::OutOfMemory),
+    }
+}
+
+/// The lines of a message that was checked and taken.
+fn taken_lines(
+    alloc: Global,
+    checked: &Checked<'_>,
+    taken: &Taken<'_>,
+) -> Result<String, AllocError>
+    ensures { IfOk result (λ text. TellsText (verified_of checked.now) (text_of taken.now.text) (string_bytes text)) }
+{
+    let message = message_lines(alloc, &checked.message.header, &checked.security)?;
+    let level = level_word(checked.level);
+    let (scoped, pdu) = (taken.scoped(), taken.pdu());
+    let scoped = scoped_lines(alloc, &scoped, &pdu)?;
+    format!(in alloc; "{message}level {level}\n{scoped}")
+}

@@ -1,0 +1,122 @@
+//! `snmpsec who-sees`: who may see a variable.
+
+ghost use Rattle.std.specs.Prelude.{◌≡◌, [], IfOk, IfErr};
+ghost use Rattle.std.specs.Option.{option_map};
+ghost use Rattle.vacm_core.specs.Tables.{tables_of};
+ghost use Rattle.snmpsec_access.specs.WhoSees.{AnswerFor, TellsWho};
+ghost use Rattle.snmpsec_output.specs.Questions.{Printed};
+ghost use Rattle.snmpsec_output.specs.WhoSees.{PrintsWho, WhoWords, AsksWho, IsFirstWrong, views_of, line_status};
+
+use crate::check::{Argument, bad_word};
+use crate::check_config::explained;
+use crate::output::Output;
+use crate::words::view_of;
+use snmp_ber::Oid;
+use snmpsec_access::{Wanted, who_sees};
+use snmpsec_config::AccessConfig;
+use std::alloc::{AllocError, Global};
+use vacm_core::ViewType;
+
+/// What `snmpsec who-sees` prints for a configuration and the words OID and VIEW: a line `MODEL NAME LEVEL VIEW CONTEXT` for each
+/// question of the variable that `check-access` answers by accessAllowed, with status 0, or with status 1 where there is none.
+///
+/// Without VIEW each view is asked for. With `only_users` there are the lines of names alone that are users' and support the
+/// level. The first word out of its form is told on standard error, with status 2; then a configuration that is refused, with
+/// what is wrong on standard error, and status 1. No key is made of a password.
+pub fn who_text(
+    alloc: Global,
+    config: &[u8],
+    variable: &str,
+    view: Option<&str>,
+    only_users: bool,
+) -> Result<Output, AllocError>
+    ensures { IfOk result (λ output. let printed : Printed = record { out = output.out.items; err = output.err.items; status = output.status } in
+        let words : WhoWords = record { variable = variable.now; view = option_map (λ word. word.now) view.entry } in
+        PrintsWho config.now words only_users printed) }
+{
+    let asked = match asked_of(variable, view) {
+        Ok(asked) => asked,
+        Err(argument) => return bad_word(alloc, argument),
+    };
+    match AccessConfig::read(alloc, config) {
+        Ok(config) => listed(alloc, &config, &asked, only_users),
+        Err(fault) if fault.is_memory() => Err(AllocError),
+        Err(fault) => explained(alloc, &fault),
+    }
+}
+
+/// A variable, and the view of which it is asked, or all.
+#[derive(Drop)]
+struct Asked {
+    variable: Oid,
+    view: Option<ViewType>,
+}
+
+/// Reads the words. The error is the first argument whose word is out of its form.
+fn asked_of(variable: &str, view: Option<&str>) -> Result<Asked, Argument>
+    ensures asks { let words : WhoWords = record { variable = variable.now; view = option_map (λ word. word.now) view.entry } in
+        IfOk result (λ asked. AsksWho words asked.variable asked.view) }
+    ensures wrong { let words : WhoWords = record { variable = variable.now; view = option_map (λ word. word.now) view.entry } in
+        IfErr result (IsFirstWrong words) }
+{
+    let Some(variable) = Oid::from_text(variable) else {
+        return Err(Argument::Oid);
+    };
+    let Some(word) = view else {
+        return Ok(Asked {
+            variable,
+            view: None,
+        });
+    };
+    match view_of(word) {
+        Some(view) => Ok(Asked {
+            variable,
+            view: Some(view),
+        }),
+        None => Err(Argument::View),
+    }
+}
+
+/// The lines of who sees the variable.
+fn lines_of(
+    alloc: Global,
+    config: &AccessConfig,
+    asked: &Asked,
+    only_users: bool,
+) -> Result<Vec<u8>, AllocError>
+    requires { AnswerFor config.now.access (tables_of config.now.rows.access) }
+    ensures { IfOk result (λ text. TellsWho (tables_of config.now.rows.access) (views_of asked.now.view) only_users config.now.rows.users.items asked.now.variable text.items) }
+{
+    let wanted = Wanted {
+        access: &config.access,
+        rows: &config.rows.access,
+        users: config.rows.users.as_slice(),
+        only_users,
+        variable: &asked.variable,
+    };
+    match asked.view {
+        Some(view) => who_sees(alloc, &wanted, &[view]),
+        None => who_sees(
+            alloc,
+            &wanted,
+            &[ViewType::Read, ViewType::Write, ViewType::Notify],
+        ),
+    }
+}
+
+/// The lines, and the status that says whether there is one.
+fn listed(
+    alloc: Global,
+    config: &AccessConfig,
+    asked: &Asked,
+    only_users: bool,
+) -> Result<Output, AllocError>
+    requires { AnswerFor config.now.access (tables_of config.now.rows.access) }
+    ensures out { IfOk result (λ output. TellsWho (tables_of config.now.rows.access) (views_of asked.now.view) only_users config.now.rows.users.items asked.now.variable output.out.items) }
+    ensures err { IfOk result (λ output. output.err.items ≡ []) }
+    ensures status { IfOk result (λ output. output.status ≡ line_status output.out.items) }
+{
+    let text = lines_of(alloc, config, asked, only_users)?;
+    let status = if text.is_empty() { 1 } else { 0 };
+    Ok(Output::out(alloc, text, status))
+}

@@ -1,6 +1,0 @@
-pub mod Merges
-pub mod Shows
-pub mod Checks
-pub mod Opens
-pub mod Whos
-pub mod Seens

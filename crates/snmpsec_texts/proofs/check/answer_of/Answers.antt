@@ -1,4 +1,0 @@
-use Rattle.snmpsec_texts.proofs.check.answer_of.Goals as goal
-
-pub returns : goal.returns
-returns c = rw (← c.as_bytes.ensures.value, ← c.as_bytes-2.ensures.value) c.is_access_allowed.ensures.answer

@@ -1,4 +1,0 @@
-use Rattle.snmpsec_texts.proofs.explain.decided.Goals as goal
-
-pub returns-clause-answer : goal.returns-clause-answer
-returns-clause-answer c = rw (← c.as_bytes.ensures.value, ← c.as_bytes-2.ensures.value, ← c.as_slice.ensures.value) c.explain.ensures.answer

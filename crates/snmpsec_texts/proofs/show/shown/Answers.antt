@@ -1,7 +1,0 @@
-use Rattle.snmpsec_texts.proofs.Shows.{if_told}
-use Rattle.snmpsec_texts.proofs.show.shown.Goals as goal
-
-pub returns-in-Err : goal.returns-in-Err
-returns-in-Err c =
-    if_told c.refused_output.result (λ output. output.out.items) (λ output. output.err.items) (λ output. output.status) c.args.datagram.now c.in-Err.refused
-    c.in-Err.ensures c.refused_output.ensures.no_memory c.refused_output.ensures.line c.refused_output.ensures.err c.refused_output.ensures.status

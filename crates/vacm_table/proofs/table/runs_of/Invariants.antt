@@ -1,5 +1,0 @@
-use Rattle.vacm_table.specs.Place.{AreRuns}
-use Rattle.vacm_table.proofs.table.runs_of.Given as goal
-
-abbrev pub invariant-loop-place : goal.invariant-loop-place
-invariant-loop-place g l = AreRuns g.R.NamedRow.name_of g.R.NamedRow.rank l.rows l.place l.runs.entries
