@@ -1,11 +1,13 @@
 //! Loads rows of the four tables and asks questions again and again, for `bench/access` to time.
 //!
-//! `bench_access SHAPE ROWS WILD ARCS KIND LOADS ASKS` makes ROWS rows of each table, loads them LOADS times and asks ASKS
-//! questions, 1,000 different ones in turn. It prints how many were allowed and how many were not in view.
+//! `bench_access SHAPE ROWS WILD ARCS KIND LOADS ASKS` makes ROWS rows of each table, loads them LOADS times
+//! and asks ASKS questions, 1,000 different ones in turn. It prints how many were allowed and how many were
+//! not in view.
 //!
-//! Under the SHAPE `many` a view has 20 family rows, and under `one` a single view has them all. A group has 5 access rows, of
-//! which the last in order matches. Each WILDth family row has a wildcard (0: none). A question is for a variable of ARCS arcs,
-//! which a row of 10 arcs has for the KIND `hit`; for `miss` no row has it, though one has all but the last of its own arcs.
+//! Under the SHAPE `many` a view has 20 family rows, and under `one` a single view has them all. A group has
+//! 5 access rows, of which the last in order matches. Each WILDth family row has a wildcard (0: none). A
+//! question is for a variable of ARCS arcs, which a row of 10 arcs has for the KIND `hit`; for `miss` no row
+//! has it, though one has all but the last of its own arcs.
 #![tactic(auto)]
 
 mod rows;

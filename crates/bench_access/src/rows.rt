@@ -68,8 +68,8 @@ fn subtree_of(number: u32) -> [u32; 10] {
     [1, 3, 6, 1, 2, 1, 2, 2, number / 64, number % 64]
 }
 
-/// A variable of at least 10 and at most 128 arcs under the subtree of this number, or for no hit one that differs from it in
-/// the last arc of the subtree.
+/// A variable of at least 10 and at most 128 arcs under the subtree of this number, or for no hit one that
+/// differs from it in the last arc of the subtree.
 pub(crate) fn variable_of(number: u32, arcs: usize, is_hit: bool) -> Result<Oid>
     ensures { 10 ≤ arcs → arcs ≤ 128 → IfOk result (λ variable. length variable ≡ arcs) }
 {

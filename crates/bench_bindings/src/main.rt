@@ -1,9 +1,10 @@
 //! Goes through bindings and writes them again and again, for `bench/bindings` to time.
 //!
-//! `bench_bindings STEP FORM COUNT TIMES` makes a PDU of COUNT bindings and does the STEP on it TIMES times: `walk` goes through its
-//! bindings, `write` writes a PDU of them, and `answer` reads the PDU, collects its bindings and writes a PDU of them. Under the
-//! FORM `arcs` the bindings have the arcs of their names, under `octets` their names' octets. It prints how many octets of values
-//! were gone through, or of PDUs were written, in all.
+//! `bench_bindings STEP FORM COUNT TIMES` makes a PDU of COUNT bindings and does the STEP on it TIMES times:
+//! `walk` goes through its bindings, `write` writes a PDU of them, and `answer` reads the PDU, collects its
+//! bindings and writes a PDU of them. Under the FORM `arcs` the bindings have the arcs of their names, under
+//! `octets` their names' octets. It prints how many octets of values were gone through, or of PDUs were
+//! written, in all.
 #![tactic(auto)]
 
 mod pdus;

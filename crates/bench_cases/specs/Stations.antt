@@ -3,7 +3,8 @@ use Rattle.std.specs.Prelude.{◌≡◌, ℕ, ◌+◌, Bool, true, false, length
 use Rattle.bench_cases.specs.declared.operation.Others.{Others}
 use Rattle.bench_cases.specs.declared.operation.Others.TheVariants.{Nobody, Thousand, TenThousand}
 use Rattle.bench_cases.specs.declared.operation.Operation.{Operation}
-use Rattle.bench_cases.specs.declared.operation.Operation.TheVariants.{PasswordKey, Mac, CfbSeal, CfbOpen, OpenAuth, Take, AgentTake, AgentAnswer, Request, Seal}
+use Rattle.bench_cases.specs.declared.operation.Operation.TheVariants.{PasswordKey, Mac, CfbSeal, CfbOpen, OpenAuth}
+use Rattle.bench_cases.specs.declared.operation.Operation.TheVariants.{Take, AgentTake, AgentAnswer, Request, Seal}
 use Rattle.bench_cases.specs.declared.station.Station.{Station}
 
 abbrev pub number_of : Others → ℕ
@@ -49,7 +50,8 @@ answerers Seal = 0
 
 -- so many users open messages, take them, and take and answer them
 abbrev pub HasUsers : Station → ℕ → ℕ → ℕ → Type 0
-HasUsers station opening taking answering = (length station.users.users ≡ opening) × (length station.manager.users ≡ taking) × (length station.agent.users ≡ answering)
+HasUsers station opening taking answering = (length station.users.users ≡ opening)
+    × (length station.manager.users ≡ taking) × (length station.agent.users ≡ answering)
 
 -- the operation is done on a message or a part of one
 abbrev pub is_of_a_message : Operation → Bool

@@ -4,7 +4,8 @@ use Rattle.usm_keys.specs.declared.auth.Auth.TheVariants.{Md5, Sha1, Sha256}
 use Rattle.bench_cases.specs.declared.operation.Others.TheVariants.{Nobody, Thousand, TenThousand}
 use Rattle.bench_cases.specs.declared.answering.Form.TheVariants.{Arcs, Octets}
 use Rattle.bench_cases.specs.declared.operation.Operation.{Operation}
-use Rattle.bench_cases.specs.declared.operation.Operation.TheVariants.{PasswordKey, Mac, CfbSeal, CfbOpen, OpenAuth, Take, AgentTake, AgentAnswer, Request, Seal}
+use Rattle.bench_cases.specs.declared.operation.Operation.TheVariants.{PasswordKey, Mac, CfbSeal, CfbOpen, OpenAuth}
+use Rattle.bench_cases.specs.declared.operation.Operation.TheVariants.{Take, AgentTake, AgentAnswer, Request, Seal}
 
 abbrev pub operation_word : Operation → List ℕ
 operation_word (PasswordKey Md5) = codes "password-key-md5"

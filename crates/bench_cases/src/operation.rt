@@ -1,6 +1,7 @@
 //! The operations that can be timed.
 
-ghost use Rattle.std.specs.Prelude.{◌≡◌, ◌++◌, ◌-◌, [], ◌∷◌, ℕ, IsTrue, false, IfOk, Ok, drop, length, map, replicate, take};
+ghost use Rattle.std.specs.Prelude.{◌≡◌, ◌++◌, ◌-◌, [], ◌∷◌, ℕ, IsTrue, false, IfOk, Ok, drop, length, map};
+ghost use Rattle.std.specs.Prelude.{replicate, take};
 ghost use Rattle.snmp_message.specs.Scoped.{IsOneElement};
 ghost use Rattle.bench_cases.specs.declared.operation.Operation.{Operation as AnOperation};
 ghost use Rattle.bench_cases.specs.Words.{operation_word};
@@ -73,26 +74,26 @@ pub enum Operation {
     PasswordKey(Auth),
     /// `mac-md5`, `mac-sha1`, `mac-sha256`: the text's message authentication code under 32 octets 0B.
     Mac(Auth),
-    /// `cfb-seal`: the text sealed in place under the key 00 to 0F, which is expanded before, with boots 7, time 1000 and the salt
-    /// 00 to 07. The result is its last 16 octets, or all of a shorter one.
+    /// `cfb-seal`: the text sealed in place under the key 00 to 0F, which is expanded before, with boots 7,
+    /// time 1000 and the salt 00 to 07. The result is its last 16 octets, or all of a shorter one.
     CfbSeal,
     /// `cfb-open`: the text opened in place, and else as `cfb-seal`.
     CfbOpen,
-    /// `open-auth-md5`, `open-auth-sha1`, `open-auth-sha256`: the text, which is a message of the user `ann` with the password
-    /// `maplesyrup`, opened by a manager. The result is the message's authentication code.
+    /// `open-auth-md5`, `open-auth-sha1`, `open-auth-sha256`: the text, which is a message of the user `ann`
+    /// with the password `maplesyrup`, opened by a manager. The result is the message's authentication code.
     OpenAuth(Auth),
-    /// `take`, `take-among-1000`, `take-among-10000`: the text, which is a message of the user `oak` with SHA-1 and AES and the
-    /// passwords `oaktreepass` and `oakprivpass`, taken by a manager that has so many other users. The result is the last 16
-    /// octets of its PDU.
+    /// `take`, `take-among-1000`, `take-among-10000`: the text, which is a message of the user `oak` with
+    /// SHA-1 and AES and the passwords `oaktreepass` and `oakprivpass`, taken by a manager that has so many
+    /// other users. The result is the last 16 octets of its PDU.
     Take(Others),
-    /// `agent-take`: the text, which is such a message to the engine of the captured ones, taken by an agent. The result is the
-    /// last 16 octets of its PDU.
+    /// `agent-take`: the text, which is such a message to the engine of the captured ones, taken by an agent.
+    /// The result is the last 16 octets of its PDU.
     AgentTake,
-    /// `agent-answer`, `agent-answer-octets`: the same, and then a Response with the bindings of what was taken, with the arcs of their
-    /// names or with their names' octets. The result is its last 16 octets.
+    /// `agent-answer`, `agent-answer-octets`: the same, and then a Response with the bindings of what was
+    /// taken, with the arcs of their names or with their names' octets. The result is its last 16 octets.
     AgentAnswer(Form),
-    /// `request`, `request-octets`: a request at authPriv by a manager that has `oak`, with the bindings of the text, which is a PDU, in the
-    /// same forms. The result is its last 16 octets.
+    /// `request`, `request-octets`: a request at authPriv by a manager that has `oak`, with the bindings of
+    /// the text, which is a PDU, in the same forms. The result is its last 16 octets.
     Request(Form),
     /// `seal`: the text, which is a PDU, sealed by `oak` as a message at authPriv. The result is its last 16 octets.
     Seal,
@@ -161,10 +162,11 @@ impl Operation {
         )
     }
 
-    /// The texts to begin with: the messages that the word gives in hex, with commas between them, or one text of as many octets
-    /// `a` as the word says.
+    /// The texts to begin with: the messages that the word gives in hex, with commas between them, or one
+    /// text of as many octets `a` as the word says.
     pub fn texts(self, alloc: Global, word: &str) -> Result<Vec<Vec<u8>>>
-        ensures { count.is_of_a_message self ≡ false → IfOk result (λ texts. (n : ℕ) × (map (λ text. text.items) texts.items ≡ replicate n 97 ∷ [])) }
+        ensures { count.is_of_a_message self ≡ false
+            → IfOk result (λ texts. (n : ℕ) × (map (λ text. text.items) texts.items ≡ replicate n 97 ∷ [])) }
     {
         if self.is_of_a_message() {
             return messages(alloc, word);
@@ -177,7 +179,8 @@ impl Operation {
 
     /// What the operation is done with.
     pub fn station(self, alloc: Global) -> Result<Station>
-        ensures { IfOk result (λ station. HasUsers station (count.openers self) (count.takers self) (count.answerers self)) }
+        ensures { IfOk result
+            (λ station. HasUsers station (count.openers self) (count.takers self) (count.answerers self)) }
     {
         match self {
             Operation::OpenAuth(auth) => Station::of_ann(alloc, auth),
@@ -189,8 +192,9 @@ impl Operation {
         }
     }
 
-    /// Does the operation `times` times, on the texts in turn, and answers the last result: no octets for no times. Where a text
-    /// isn't a message, each result is written over its first octets for the next time. Where there is no text, it is an error.
+    /// Does the operation `times` times, on the texts in turn, and answers the last result: no octets for no
+    /// times. Where a text isn't a message, each result is written over its first octets for the next time.
+    /// Where there is no text, it is an error.
     pub fn repeat(
         self,
         alloc: Global,

@@ -147,7 +147,8 @@ impl Station {
         takers: &[UserRow],
         answerers: &[UserRow],
     ) -> Result<Station>
-        ensures { IfOk result (λ station. HasUsers station (length openers.now) (length takers.now) (length answerers.now)) }
+        ensures { IfOk result
+            (λ station. HasUsers station (length openers.now) (length takers.now) (length answerers.now)) }
     {
         Ok(Station {
             users: Users::load(alloc, openers)?,

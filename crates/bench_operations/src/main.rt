@@ -1,10 +1,10 @@
 //! Does one operation of the library again and again, for `bench/compare` to time.
 //!
-//! `bench_operations OPERATION OCTETS TIMES` does the operation TIMES times, first on a text of OCTETS octets `a`, and
-//! then each time on that text with the last result over its first octets, so that no time can be left out.
-//! `bench_operations OPERATION MESSAGE[,MESSAGE..] TIMES` opens, takes or answers the messages, given in hex, in turn, TIMES times in all;
-//! `seal` seals PDUs likewise.
-//! It prints the last result in lower-case hex.
+//! `bench_operations OPERATION OCTETS TIMES` does the operation TIMES times, first on a text of OCTETS octets
+//! `a`, and then each time on that text with the last result over its first octets, so that no time can be
+//! left out. `bench_operations OPERATION MESSAGE[,MESSAGE..] TIMES` opens, takes or answers the messages,
+//! given in hex, in turn, TIMES times in all; `seal` seals PDUs likewise. It prints the last result in
+//! lower-case hex.
 #![tactic(auto)]
 
 use anyhow::{Context, Result, bail};

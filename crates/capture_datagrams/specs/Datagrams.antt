@@ -1,5 +1,6 @@
 -- What `snmpsec datagrams`, `show --from` and `open --from` do with a capture.
-use Rattle.std.specs.Prelude.{◌≡◌, ◌⊎◌, ℕ, ◌<◌, ◌^◌, Bool, if◌then◌else◌, map, List, [], ◌∷◌, ◌++◌, codes, decimal, Option, IfSome}
+use Rattle.std.specs.Prelude.{◌≡◌, ◌⊎◌, ℕ, ◌<◌, ◌^◌, Bool, if◌then◌else◌, map, List, [], ◌∷◌, ◌++◌, codes, decimal}
+use Rattle.std.specs.Prelude.{Option, IfSome}
 use Rattle.std.specs.List.{All, Contains}
 use Rattle.std.specs.Io.KnownBytes.{Appends, Keeps}
 use Rattle.snmpsec_io.specs.Transfer.{WritesFront}
@@ -44,16 +45,21 @@ refused_line name place = codes "refused datagrams " ++ (name ++ (codes " octet 
 abbrev pub status_of : Bool → ℕ
 status_of refused = if refused then 1 else 0
 
--- The capture was read to its end, and the log of its datagrams is written; the line for what was passed over is to be told.
+-- The capture was read to its end, and the log of its datagrams is written; the line for what was passed over
+-- is to be told.
 pub record IsWhole (P : Printing) (ports : List ℕ) (s : Streams) (passed : Counts) : Type 0 where
-  pub log_is : IfSome s.unread (λ capture. (lines : List ℕ) × (tells : List ℕ) × IsLogOf P ports capture lines tells passed
+  pub log_is : IfSome s.unread
+      (λ capture. (lines : List ℕ) × (tells : List ℕ) × IsLogOf P ports capture lines tells passed
       × Appends s.held s.written lines × Appends s.untold s.told tells)
 
--- What a capture comes to is written, as far as it is one. Then these lines are due, the one in the log and the other beside it.
+-- What a capture comes to is written, as far as it is one. Then these lines are due, the one in the log and
+-- the other beside it.
 abbrev pub Leaves : Printing → List ℕ → List ℕ → Streams → ℕ → List ℕ → List ℕ → Type 0
 Leaves P ports name s status in_log beside =
-    ((passed : Counts) × (status ≡ status_of passed.refused) × IsWhole P ports s passed × (in_log ≡ []) × IsPassedLine passed beside)
-    ⊎ ((status ≡ 1) × (place : ℕ) × StopsBy P ports s (capture.Octet place) × (in_log ≡ refused_line name place) × (beside ≡ []))
+    ((passed : Counts) × (status ≡ status_of passed.refused) × IsWhole P ports s passed × (in_log ≡ [])
+    × IsPassedLine passed beside)
+    ⊎ ((status ≡ 1) × (place : ℕ) × StopsBy P ports s (capture.Octet place) × (in_log ≡ refused_line name place)
+    × (beside ≡ []))
 
 -- What a capture comes to is written, as far as it is one, and no line behind it.
 pub record LeavesUntold (P : Printing) (ports : List ℕ) (s : Streams) : Type 0 where
@@ -64,8 +70,10 @@ pub record LeavesUntold (P : Printing) (ports : List ℕ) (s : Streams) : Type 0
   pub wrote : Keeps written s.written
   pub tells : Keeps told s.told
 
--- What a capture comes to is written as far as it is one, of the last line in the log what `Writes` says, and of that beside it what `TellsLine` says.
-pub record Ends (P : Printing) (ports name : List ℕ) (s : Streams) (Writes TellsLine : Option (List ℕ) → Option (List ℕ) → List ℕ → Type 0) (status : ℕ) : Type 0 where
+-- What a capture comes to is written as far as it is one, of the last line in the log what `Writes` says, and
+-- of that beside it what `TellsLine` says.
+pub record Ends (P : Printing) (ports name : List ℕ) (s : Streams)
+    (Writes TellsLine : Option (List ℕ) → Option (List ℕ) → List ℕ → Type 0) (status : ℕ) : Type 0 where
   pub written : Option (List ℕ)
   pub told : Option (List ℕ)
   pub in_log : List ℕ
@@ -78,11 +86,14 @@ pub record Ends (P : Printing) (ports name : List ℕ) (s : Streams) (Writes Tel
 abbrev pub Tells : Printing → List ℕ → List ℕ → Streams → ℕ → Type 0
 Tells P ports name s status = Ends P ports name s Appends Appends status
 
--- What is done where it stops with a fault: it stops within the capture, or only a front of the last line is written, or none is made.
+-- What is done where it stops with a fault: it stops within the capture, or only a front of the last line is
+-- written, or none is made.
 abbrev pub TellsNot : Printing → List ℕ → List ℕ → Streams → Unread → Type 0
 TellsNot P ports name s unread.CannotRead = StopsBy P ports s capture.CannotRead
 TellsNot P ports name s unread.CannotWrite =
-    StopsBy P ports s capture.CannotWrite ⊎ ((status : ℕ) × (Ends P ports name s Appends WritesFront status ⊎ Ends P ports name s WritesFront Appends status))
+    StopsBy P ports s capture.CannotWrite
+    ⊎ ((status : ℕ) × (Ends P ports name s Appends WritesFront status
+    ⊎ Ends P ports name s WritesFront Appends status))
 TellsNot P ports name s unread.OutOfMemory = StopsBy P ports s capture.OutOfMemory ⊎ LeavesUntold P ports s
 
 -- ---- between the functions

@@ -11,16 +11,19 @@ use Rattle.capture_datagrams.specs.declared.texts.TextForm.TheVariants.{Hex, Dum
 
 -- ---- what is printed of datagrams
 
--- what is printed of these datagrams, which were received at this moment and of which the first has number n, and whether any of it tells a refusal
+-- what is printed of these datagrams, which were received at this moment and of which the first has number n,
+-- and whether any of it tells a refusal
 abbrev pub PrintsAll : Printing → ℕ → ℕ → List (List ℕ) → List ℕ → Bool → Type 0
 PrintsAll P n moment [] text refused = (text ≡ []) × (refused ≡ false)
 PrintsAll P n moment (octets ∷ others) text refused =
-    (first : List ℕ) × (tells : Bool) × (later : List ℕ) × (tell : Bool) × P n moment octets first tells × PrintsAll P (n + 1) moment others later tell
+    (first : List ℕ) × (tells : Bool) × (later : List ℕ) × (tell : Bool) × P n moment octets first tells
+    × PrintsAll P (n + 1) moment others later tell
     × (text ≡ first ++ later) × (refused ≡ (tells || tell))
 
 -- nothing is told beside, and the status is 1 where a refusal is told
 abbrev pub PrintsDumps : Printing → ℕ → List (List ℕ) → List ℕ → List ℕ → ℕ → Type 0
-PrintsDumps P moment dumps text note status = (refused : Bool) × PrintsAll P 1 moment dumps text refused × (note ≡ []) × (status ≡ status_of refused)
+PrintsDumps P moment dumps text note status = (refused : Bool) × PrintsAll P 1 moment dumps text refused × (note ≡ [])
+    × (status ≡ status_of refused)
 
 -- the octets of each dump are a datagram, or a packet where these are asked for
 abbrev pub PrintsOctets : Printing → TextForm → ℕ → List (List ℕ) → List ℕ → List ℕ → ℕ → Type 0
@@ -44,13 +47,18 @@ refused_row name line = codes "refused datagrams " ++ (name ++ (codes " line " +
 
 -- what is told beside that
 abbrev pub dump_note : DumpFault → List ℕ
-dump_note fault.NoDump = codes "snmpsec: no line has the offset 0 and an octet behind it; --form hex reads pairs of hex digits without offsets\n"
+dump_note fault.NoDump = codes
+    "snmpsec: no line has the offset 0 and an octet behind it; --form hex reads pairs of hex digits without offsets\n"
 dump_note (fault.Unreadable line) =
     codes "snmpsec: line " ++ (decimal line
-    ++ codes ": behind the offset pairs of hex digits are wanted, and perhaps a column that shows their octets, as hexdump -C and od -tx1 print them\n")
+    ++ codes
+    ": behind the offset pairs of hex digits are wanted, and perhaps a column that shows their octets, as hexdump -C and od -tx1 print them\n")
 dump_note (fault.NotBegun line) =
-    codes "snmpsec: line " ++ (decimal line ++ codes ": a dump goes on here, and none has begun at the offset 0; where a * stands for lines, -v prints them\n")
-dump_note (fault.OtherCount line) = codes "snmpsec: line " ++ (decimal line ++ codes ": it has more octets or fewer than the offset of the next line says\n")
+    codes "snmpsec: line "
+    ++ (decimal line ++ codes
+    ": a dump goes on here, and none has begun at the offset 0; where a * stands for lines, -v prints them\n")
+dump_note (fault.OtherCount line) = codes "snmpsec: line "
+    ++ (decimal line ++ codes ": it has more octets or fewer than the offset of the next line says\n")
 dump_note fault.OutOfMemory = []
 
 -- a fault of the text
@@ -64,9 +72,12 @@ IsOfText fault.OutOfMemory = ⊥
 -- The text is refused by the line at which it is no dump, with status 1, and the reason is told beside.
 abbrev pub IsRefusedDump : List ℕ → List ℕ → List ℕ → List ℕ → ℕ → Type 0
 IsRefusedDump name text line note status =
-    (why : DumpFault) × IsUnread text why × IsOfText why × (line ≡ refused_row name (fault_line why)) × (note ≡ dump_note why) × (status ≡ 1)
+    (why : DumpFault) × IsUnread text why × IsOfText why × (line ≡ refused_row name (fault_line why))
+    × (note ≡ dump_note why) × (status ≡ 1)
 
--- what is printed of a text of dumps, what is told beside, and the status: that of the octets of each dump, in their order, or of the refusal alone
+-- what is printed of a text of dumps, what is told beside, and the status: that of the octets of each dump,
+-- in their order, or of the refusal alone
 abbrev pub IsDumpsOf : Printing → TextForm → ℕ → List ℕ → List ℕ → List ℕ → List ℕ → ℕ → Type 0
 IsDumpsOf P form moment name text line note status =
-    ((dumps : List (List ℕ)) × HasDumps text dumps × PrintsOctets P form moment dumps line note status) ⊎ IsRefusedDump name text line note status
+    ((dumps : List (List ℕ)) × HasDumps text dumps × PrintsOctets P form moment dumps line note status)
+    ⊎ IsRefusedDump name text line note status

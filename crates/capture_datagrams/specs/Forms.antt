@@ -50,12 +50,15 @@ text_form a = form_by a.form a
 -- A capture is read, or else a text.
 abbrev pub Reads : Option Form → Streams → Type 0 → Type 0 → Type 0
 Reads form s Capture Text =
-    (IfSome s.unread (λ octets. is_capture form octets ≡ true) × Capture) ⊎ (IfSome s.unread (λ octets. is_capture form octets ≡ false) × Text)
+    (IfSome s.unread (λ octets. is_capture form octets ≡ true) × Capture)
+    ⊎ (IfSome s.unread (λ octets. is_capture form octets ≡ false) × Text)
 
 abbrev pub TellsFile : Printing → Asked → List ℕ → Streams → ℕ → Type 0
-TellsFile P a name s status = Reads a.form s (Tells P a.ports.now name s status) (TellsText P (text_form a) a.moment name s status)
+TellsFile P a name s status = Reads a.form s (Tells P a.ports.now name s status)
+    (TellsText P (text_form a) a.moment name s status)
 
 -- the first octets aren't read, or it stops behind them
 abbrev pub StopsFile : Printing → Asked → List ℕ → Streams → Unread → Type 0
 StopsFile P a name s f =
-    ((f ≡ unread.CannotRead) × CannotBegin s capture.CannotRead) ⊎ Reads a.form s (TellsNot P a.ports.now name s f) (StopsText P (text_form a) a.moment name s f)
+    ((f ≡ unread.CannotRead) × CannotBegin s capture.CannotRead)
+    ⊎ Reads a.form s (TellsNot P a.ports.now name s f) (StopsText P (text_form a) a.moment name s f)

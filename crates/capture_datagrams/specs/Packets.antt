@@ -5,9 +5,11 @@ use Rattle.capture_files.specs.Packets.{ComeTo}
 use Rattle.capture_files.specs.Passed.{Counts}
 use Rattle.capture_datagrams.specs.Datagrams.{IsPassedLine, status_of}
 
--- What is printed of packets that were received at this moment, what is told beside, and the status: they come to what records of a capture do, and
--- behind what is told of them by their numbers stands the line for what was passed over.
-pub record PrintsPackets (P : Printing) (ports : List ℕ) (moment : ℕ) (packets : List (List ℕ)) (text note : List ℕ) (status : ℕ) : Type 0 where
+-- What is printed of packets that were received at this moment, what is told beside, and the status: they
+-- come to what records of a capture do, and behind what is told of them by their numbers stands the line for
+-- what was passed over.
+pub record PrintsPackets (P : Printing) (ports : List ℕ) (moment : ℕ) (packets : List (List ℕ)) (text note : List ℕ)
+    (status : ℕ) : Type 0 where
   pub passed : Counts
   pub notes : List ℕ
   pub line : List ℕ

@@ -1,4 +1,5 @@
--- What `snmpsec show --from` and `snmpsec open --from` print: of each datagram of a file what `show` and `open` do, behind a line of its own.
+-- What `snmpsec show --from` and `snmpsec open --from` print: of each datagram of a file what `show` and
+-- `open` do, behind a line of its own.
 use Rattle.std.specs.Prelude.{◌≡◌, ◌⊎◌, ⊤, ℕ, ◌==◌, not, Bool, true, false, List, ◌++◌, codes, decimal, Option}
 use Rattle.std.specs.Io.KnownBytes.{Appends, Keeps}
 use Rattle.snmpsec_io.specs.Transfer.{WritesFront}
@@ -31,7 +32,8 @@ IsNamed true true text told = told ≡ text
 IsNamed false refused text told = told ≡ text
 
 -- what a command prints, behind the line of the datagram; a status other than 0 is a refusal
-pub record StandsBehind (names : Bool) (n moment : ℕ) (printed : Printed) (text : List ℕ) (refused : Bool) : Type 0 where
+pub record StandsBehind (names : Bool) (n moment : ℕ) (printed : Printed) (text : List ℕ)
+    (refused : Bool) : Type 0 where
   pub told : List ℕ
   pub status : refused ≡ not (printed.status == 0)
   pub named : IsNamed names refused printed.out told
@@ -39,11 +41,13 @@ pub record StandsBehind (names : Bool) (n moment : ℕ) (printed : Printed) (tex
 
 -- as `show` prints it
 abbrev pub PrintsShown : Bool → ℕ → ℕ → List ℕ → List ℕ → Bool → Type 0
-PrintsShown names n moment datagram text refused = (printed : Printed) × ShowsDatagram datagram printed × StandsBehind names n moment printed text refused
+PrintsShown names n moment datagram text refused = (printed : Printed) × ShowsDatagram datagram printed
+    × StandsBehind names n moment printed text refused
 
 -- as `open` prints it, by these users
 abbrev pub PrintsOpened : Bool → List User → ℕ → ℕ → List ℕ → List ℕ → Bool → Type 0
-PrintsOpened names users n moment datagram text refused = (printed : Printed) × OpensBy users datagram printed × StandsBehind names n moment printed text refused
+PrintsOpened names users n moment datagram text refused = (printed : Printed) × OpensBy users datagram printed
+    × StandsBehind names n moment printed text refused
 
 -- ---- a file of datagrams, opened by the users of a configuration
 
@@ -63,7 +67,8 @@ TellsNoUsers config (none.Refused line) = IsRefusalOf config line.items
 TellsNoUsers config none.OutOfMemory = ⊤
 
 -- The configuration is refused, and of its line that is done which `Writes` says. Nothing is read of the file.
-pub record RefusesUsers (config : List ℕ) (s : Streams) (Writes : Option (List ℕ) → Option (List ℕ) → List ℕ → Type 0) : Type 0 where
+pub record RefusesUsers (config : List ℕ) (s : Streams)
+    (Writes : Option (List ℕ) → Option (List ℕ) → List ℕ → Type 0) : Type 0 where
   pub line : List ℕ
   pub refuses : IsRefusalOf config line
   pub unread : s.left ≡ s.unread
@@ -84,7 +89,8 @@ StopsBefore config s unread.OutOfMemory = (s.left ≡ s.unread) × Keeps s.held 
 
 abbrev pub StopsOpening : Bool → List ℕ → Asked → List ℕ → Streams → Unread → Type 0
 StopsOpening names config a name s f =
-    StopsBefore config s f ⊎ ((users : List User) × LoadsUsers config users × StopsFile (PrintsOpened names users) a name s f)
+    StopsBefore config s f
+    ⊎ ((users : List User) × LoadsUsers config users × StopsFile (PrintsOpened names users) a name s f)
 
 -- ---- each printout
 

@@ -14,12 +14,15 @@ use Rattle.capture_datagrams.specs.declared.datagrams.Unread.TheVariants as unre
 
 -- the first place of the file at which it is no hex
 abbrev pub refused_place : List ℕ → ℕ → ℕ → List ℕ
-refused_place name line column = codes "refused datagrams " ++ (name ++ (codes " line " ++ (decimal line ++ (codes " column " ++ (decimal column ++ codes "\n")))))
+refused_place name line column = codes "refused datagrams "
+    ++ (name ++ (codes " line " ++ (decimal line ++ (codes " column " ++ (decimal column ++ codes "\n")))))
 
--- what is printed of a text of hex: that of its octets as the one datagram, or the line of the place at which it is no hex, with status 1
+-- what is printed of a text of hex: that of its octets as the one datagram, or the line of the place at which
+-- it is no hex, with status 1
 abbrev pub IsHexOf : Printing → ℕ → List ℕ → List ℕ → List ℕ → ℕ → Type 0
 IsHexOf P moment name text line status =
-    ((octets : List ℕ) × IsHexText text octets × (refused : Bool) × P 1 moment octets line refused × (status ≡ status_of refused))
+    ((octets : List ℕ) × IsHexText text octets × (refused : Bool) × P 1 moment octets line refused
+    × (status ≡ status_of refused))
     ⊎ ((status ≡ 1) × (row : ℕ) × (column : ℕ) × IsFaultAt text row column × (line ≡ refused_place name row column))
 
 -- A text is read as dumps: that is asked for, or it has a dump's first line where nothing is.
@@ -39,10 +42,12 @@ IsPlainText Found text = HasNoDump text
 -- what is printed of a text that is read so, what is told beside, and the status
 abbrev pub IsTextOf : Printing → TextForm → ℕ → List ℕ → List ℕ → List ℕ → List ℕ → ℕ → Type 0
 IsTextOf P form moment name text line note status =
-    (IsDumpText form text × IsDumpsOf P form moment name text line note status) ⊎ (IsPlainText form text × (note ≡ []) × IsHexOf P moment name text line status)
+    (IsDumpText form text × IsDumpsOf P form moment name text line note status)
+    ⊎ (IsPlainText form text × (note ≡ []) × IsHexOf P moment name text line status)
 
 -- The text was read to its end, and of what is printed of it and told beside that is done which `Ends` says.
-pub record IsText (P : Printing) (form : TextForm) (moment : ℕ) (name : List ℕ) (s : Streams) (Ends : Streams → List ℕ → List ℕ → Type 0) (status : ℕ) : Type 0 where
+pub record IsText (P : Printing) (form : TextForm) (moment : ℕ) (name : List ℕ) (s : Streams)
+    (Ends : Streams → List ℕ → List ℕ → Type 0) (status : ℕ) : Type 0 where
   pub text : List ℕ
   pub line : List ℕ
   pub note : List ℕ
@@ -57,7 +62,8 @@ WritesBoth s line note = Appends s.held s.written line × Appends s.untold s.tol
 
 -- what is printed is written but for an end, or what is told beside
 abbrev pub WritesPart : Streams → List ℕ → List ℕ → Type 0
-WritesPart s line note = (WritesFront s.held s.written line × Keeps s.untold s.told) ⊎ (Appends s.held s.written line × WritesFront s.untold s.told note)
+WritesPart s line note = (WritesFront s.held s.written line × Keeps s.untold s.told)
+    ⊎ (Appends s.held s.written line × WritesFront s.untold s.told note)
 
 abbrev pub TellsText : Printing → TextForm → ℕ → List ℕ → Streams → ℕ → Type 0
 TellsText P form moment name s status = IsText P form moment name s WritesBoth status

@@ -1,8 +1,10 @@
 //! `snmpsec datagrams`: the datagrams of a capture, as a log.
 
-ghost use Rattle.std.specs.Prelude.{◌≡◌, ◌<◌, ◌≤◌, ◌^◌, ℕ, List, Option, length, decimal, map, IfErr, IfOk, IfSome, IfNone, OnOk, Some, string_bytes};
+ghost use Rattle.std.specs.Prelude.{◌≡◌, ◌<◌, ◌≤◌, ◌^◌, ℕ, List, Option, length, decimal, map, IfErr, IfOk, IfSome};
+ghost use Rattle.std.specs.Prelude.{IfNone, OnOk, Some, string_bytes};
 ghost use Rattle.std.specs.Io.KnownBytes.{Appends, Consumes, IsAtEnd};
-ghost use Rattle.capture_datagrams.specs.Datagrams.{AskPorts, HasNoPort, IsPassedLine, LosesLine, LosesPassed, Tells, TellsNot, TellsPassed, refused_line};
+ghost use Rattle.capture_datagrams.specs.Datagrams.{AskPorts, HasNoPort, IsPassedLine, LosesLine, LosesPassed, Tells};
+ghost use Rattle.capture_datagrams.specs.Datagrams.{TellsNot, TellsPassed, refused_line};
 ghost use Rattle.capture_files.specs.Datagrams.{PrintsLine, streams};
 ghost use Rattle.capture_files.specs.Passed.{counts_of};
 
@@ -39,9 +41,11 @@ fn port_of(word: &str) -> Option<u16>
     Some(port as u16)
 }
 
-/// The ports that the words ask for: theirs, or 161 and 162 (RFC 3417, section 3.1) where there is no word. `None` where one is no port.
+/// The ports that the words ask for: theirs, or 161 and 162 (RFC 3417, section 3.1) where there is no word.
+/// `None` where one is no port.
 pub fn ports_of(alloc: Global, words: &[&str]) -> Result<Option<Vec<u16>>, AllocError>
-    ensures found { IfOk result (λ ports. IfSome ports (λ ports. AskPorts (map (λ word. word.now) words.now) ports.items)) }
+    ensures found { IfOk result
+        (λ ports. IfSome ports (λ ports. AskPorts (map (λ word. word.now) words.now) ports.items)) }
     ensures none { IfOk result (λ ports. IfNone ports (HasNoPort (map (λ word. word.now) words.now))) }
 {
     if words.is_empty() {
@@ -57,9 +61,9 @@ pub fn ports_of(alloc: Global, words: &[&str]) -> Result<Option<Vec<u16>>, Alloc
     Ok(Some(ports))
 }
 
-/// What `snmpsec datagrams` does with a capture, with the status that it ends with: `write_datagrams`, and then a line in `notes`
-/// for what was passed over, if anything was, and status 0. Where the capture is out of its form, a line in the log for the first
-/// octet that is, with status 1.
+/// What `snmpsec datagrams` does with a capture, with the status that it ends with: `write_datagrams`, and
+/// then a line in `notes` for what was passed over, if anything was, and status 0. Where the capture is out
+/// of its form, a line in the log for the first octet that is, with status 1.
 ///
 /// The errors are CannotRead, CannotWrite and OutOfMemory, as those of `write_datagrams`.
 pub fn datagrams<R: Read, L: Write, N: Write>(
@@ -71,9 +75,11 @@ pub fn datagrams<R: Read, L: Write, N: Write>(
     notes: &mut N,
 ) -> Result<u8, Unread>
     ensures ok { IfOk result (Tells PrintsLine ports.now name.now
-        (streams (R.remaining reader.old) (R.remaining reader.new) (L.contents log.old) (L.contents log.new) (N.contents notes.old) (N.contents notes.new))) }
+        (streams (R.remaining reader.old) (R.remaining reader.new) (L.contents log.old) (L.contents log.new)
+        (N.contents notes.old) (N.contents notes.new))) }
     ensures err { IfErr result (TellsNot PrintsLine ports.now name.now
-        (streams (R.remaining reader.old) (R.remaining reader.new) (L.contents log.old) (L.contents log.new) (N.contents notes.old) (N.contents notes.new))) }
+        (streams (R.remaining reader.old) (R.remaining reader.new) (L.contents log.old) (L.contents log.new)
+        (N.contents notes.old) (N.contents notes.new))) }
 {
     let mut octets = [0u8; HEADER];
     let Ok(count) = read_full(reader, &mut octets) else {
@@ -91,8 +97,8 @@ pub fn datagrams<R: Read, L: Write, N: Write>(
     )
 }
 
-/// The same for a capture of which the first 24 octets were read, or all where it has fewer, with what the printer makes of each datagram; the
-/// status is 1 too where that tells a refusal.
+/// The same for a capture of which the first 24 octets were read, or all where it has fewer, with what the
+/// printer makes of each datagram; the status is 1 too where that tells a refusal.
 pub(crate) fn datagrams_behind<P: Printer, R: Read, L: Write, N: Write>(
     alloc: Global,
     front: &[u8],
@@ -105,10 +111,14 @@ pub(crate) fn datagrams_behind<P: Printer, R: Read, L: Write, N: Write>(
 ) -> Result<u8, Unread>
     requires short { length front.now ≤ 24 }
     requires end { length front.now < 24 → IsAtEnd (R.remaining reader.old) }
-    ensures ok { (unread : Option (List ℕ)) → Consumes unread (R.remaining reader.old) front.now → IfOk result (Tells (P.prints printer.old) ports.now name.now
-        (streams unread (R.remaining reader.new) (L.contents log.old) (L.contents log.new) (N.contents notes.old) (N.contents notes.new))) }
-    ensures err { (unread : Option (List ℕ)) → Consumes unread (R.remaining reader.old) front.now → IfErr result (TellsNot (P.prints printer.old) ports.now name.now
-        (streams unread (R.remaining reader.new) (L.contents log.old) (L.contents log.new) (N.contents notes.old) (N.contents notes.new))) }
+    ensures ok { (unread : Option (List ℕ)) → Consumes unread (R.remaining reader.old) front.now
+        → IfOk result (Tells (P.prints printer.old) ports.now name.now
+        (streams unread (R.remaining reader.new) (L.contents log.old) (L.contents log.new) (N.contents notes.old)
+        (N.contents notes.new))) }
+    ensures err { (unread : Option (List ℕ)) → Consumes unread (R.remaining reader.old) front.now
+        → IfErr result (TellsNot (P.prints printer.old) ports.now name.now
+        (streams unread (R.remaining reader.new) (L.contents log.old) (L.contents log.new) (N.contents notes.old)
+        (N.contents notes.new))) }
 {
     match print_datagrams_behind(alloc, front, ports, printer, reader, log, notes) {
         Ok(passed) => match tell_passed(alloc, &passed, notes) {

@@ -1,7 +1,8 @@
 //! Dumps: the octets of each as a datagram, which is printed.
 
 ghost use Rattle.std.specs.Prelude.{◌≡◌, ◌||◌, IfOk, map, string_bytes};
-ghost use Rattle.capture_datagrams.specs.Dumped.{IsDumpsOf, PrintsDumps, PrintsOctets, dump_note, fault_line, refused_row};
+ghost use Rattle.capture_datagrams.specs.Dumped.{IsDumpsOf, PrintsDumps, PrintsOctets, dump_note, fault_line};
+ghost use Rattle.capture_datagrams.specs.Dumped.{refused_row};
 
 use crate::packets::print_packets;
 use crate::texts::{TextForm, Told};
@@ -51,7 +52,9 @@ fn dump_note(alloc: Global, fault: DumpFault) -> Result<String, AllocError>
 
 /// What a text comes to that is no dump for this reason.
 fn refused_dump(alloc: Global, name: &str, fault: DumpFault) -> Result<Told, AllocError>
-    ensures { IfOk result (λ told. (told.text.items ≡ refused_row name.now (fault_line fault)) × (told.note.items ≡ dump_note fault) × (told.status ≡ 1)) }
+    ensures { IfOk result
+        (λ told. (told.text.items ≡ refused_row name.now (fault_line fault)) × (told.note.items ≡ dump_note fault)
+        × (told.status ≡ 1)) }
 {
     let text = refused_row(alloc, name, fault_line(fault))?;
     let note = dump_note(alloc, fault)?;
@@ -76,7 +79,9 @@ fn print_dumps<P: Printer>(
     printer: &mut P,
     dumps: &[Vec<u8>],
 ) -> Result<Told, AllocError>
-    ensures { IfOk result (λ told. PrintsDumps (P.prints printer.old) moment (map (λ octets. octets.items) dumps.now) told.text.items told.note.items told.status) }
+    ensures { IfOk result
+        (λ told. PrintsDumps (P.prints printer.old) moment
+        (map (λ octets. octets.items) dumps.now) told.text.items told.note.items told.status) }
 {
     let mut text = Vec::new(alloc);
     let mut refused = false;
@@ -100,7 +105,9 @@ fn print_octets<P: Printer>(
     printer: &mut P,
     dumps: &[Vec<u8>],
 ) -> Result<Told, AllocError>
-    ensures { IfOk result (λ told. PrintsOctets (P.prints printer.old) form.entry moment (map (λ octets. octets.items) dumps.now) told.text.items told.note.items told.status) }
+    ensures { IfOk result
+        (λ told. PrintsOctets (P.prints printer.old) form.entry moment
+        (map (λ octets. octets.items) dumps.now) told.text.items told.note.items told.status) }
 {
     match form {
         TextForm::Packets(ports) => print_packets(alloc, ports, moment, printer, dumps),
@@ -119,7 +126,9 @@ pub(crate) fn dumps_told<P: Printer>(
     printer: &mut P,
     text: &[u8],
 ) -> Result<Told, AllocError>
-    ensures { IfOk result (λ told. IsDumpsOf (P.prints printer.old) form.entry moment name.now text.now told.text.items told.note.items told.status) }
+    ensures { IfOk result
+        (λ told. IsDumpsOf (P.prints printer.old) form.entry moment name.now text.now told.text.items
+        told.note.items told.status) }
 {
     match read_dumps(alloc, text) {
         Ok(dumps) => print_octets(alloc, form, moment, printer, &dumps),

@@ -86,8 +86,9 @@ fn text_form(asked: Asked<'_>) -> TextForm<'_>
     }
 }
 
-/// What `snmpsec datagrams` does with a file, with the status that it ends with: `datagrams` where it is a capture, and else the
-/// line of a log for the octets of pasted hex, of each dump or of each datagram in dumps of packets, or the line that refuses it.
+/// What `snmpsec datagrams` does with a file, with the status that it ends with: `datagrams` where it is a
+/// capture, and else the line of a log for the octets of pasted hex, of each dump or of each datagram in
+/// dumps of packets, or the line that refuses it.
 ///
 /// The errors are CannotRead, CannotWrite and OutOfMemory.
 pub fn datagrams_of<R: Read, L: Write, N: Write>(
@@ -99,14 +100,17 @@ pub fn datagrams_of<R: Read, L: Write, N: Write>(
     notes: &mut N,
 ) -> Result<u8, Unread>
     ensures ok { IfOk result (TellsFile PrintsLine asked.entry name.now
-        (streams (R.remaining reader.old) (R.remaining reader.new) (L.contents log.old) (L.contents log.new) (N.contents notes.old) (N.contents notes.new))) }
+        (streams (R.remaining reader.old) (R.remaining reader.new) (L.contents log.old) (L.contents log.new)
+        (N.contents notes.old) (N.contents notes.new))) }
     ensures err { IfErr result (StopsFile PrintsLine asked.entry name.now
-        (streams (R.remaining reader.old) (R.remaining reader.new) (L.contents log.old) (L.contents log.new) (N.contents notes.old) (N.contents notes.new))) }
+        (streams (R.remaining reader.old) (R.remaining reader.new) (L.contents log.old) (L.contents log.new)
+        (N.contents notes.old) (N.contents notes.new))) }
 {
     print_datagrams(alloc, asked, name, &mut Lines, reader, log, notes)
 }
 
-/// The same with what a printer makes of each datagram in the place of its line, and with status 1 too where that tells a refusal.
+/// The same with what a printer makes of each datagram in the place of its line, and with status 1 too where
+/// that tells a refusal.
 pub fn print_datagrams<P: Printer, R: Read, L: Write, N: Write>(
     alloc: Global,
     asked: Asked<'_>,
@@ -117,9 +121,11 @@ pub fn print_datagrams<P: Printer, R: Read, L: Write, N: Write>(
     notes: &mut N,
 ) -> Result<u8, Unread>
     ensures ok { IfOk result (TellsFile (P.prints printer.old) asked.entry name.now
-        (streams (R.remaining reader.old) (R.remaining reader.new) (L.contents log.old) (L.contents log.new) (N.contents notes.old) (N.contents notes.new))) }
+        (streams (R.remaining reader.old) (R.remaining reader.new) (L.contents log.old) (L.contents log.new)
+        (N.contents notes.old) (N.contents notes.new))) }
     ensures err { IfErr result (StopsFile (P.prints printer.old) asked.entry name.now
-        (streams (R.remaining reader.old) (R.remaining reader.new) (L.contents log.old) (L.contents log.new) (N.contents notes.old) (N.contents notes.new))) }
+        (streams (R.remaining reader.old) (R.remaining reader.new) (L.contents log.old) (L.contents log.new)
+        (N.contents notes.old) (N.contents notes.new))) }
 {
     let mut octets = [0u8; HEADER];
     let Ok(count) = read_full(reader, &mut octets) else {

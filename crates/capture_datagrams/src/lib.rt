@@ -1,4 +1,5 @@
-//! The datagrams of a file, a capture, dumps or pasted hex: of each what is printed, a line of a log or what `show` or `open` prints of it.
+//! The datagrams of a file, a capture, dumps or pasted hex: of each what is printed, a line of a log or what
+//! `show` or `open` prints of it.
 //!
 //! ```
 //! use capture_datagrams::forms::{Asked, datagrams_of};

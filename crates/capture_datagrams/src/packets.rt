@@ -8,8 +8,8 @@ use crate::texts::Told;
 use capture_files::{Printer, packets_log};
 use std::alloc::{AllocError, Global};
 
-/// What is printed of the datagrams of packets, and told beside: a line for each packet that may be part of one, and a last one for what was
-/// passed over.
+/// What is printed of the datagrams of packets, and told beside: a line for each packet that may be part of
+/// one, and a last one for what was passed over.
 pub(crate) fn print_packets<P: Printer>(
     alloc: Global,
     ports: &[u16],
@@ -17,7 +17,9 @@ pub(crate) fn print_packets<P: Printer>(
     printer: &mut P,
     packets: &[Vec<u8>],
 ) -> Result<Told, AllocError>
-    ensures { IfOk result (λ told. PrintsPackets (P.prints printer.old) ports.now moment (map (λ octets. octets.items) packets.now) told.text.items told.note.items told.status) }
+    ensures { IfOk result
+        (λ told. PrintsPackets (P.prints printer.old) ports.now moment
+        (map (λ octets. octets.items) packets.now) told.text.items told.note.items told.status) }
 {
     let printed = packets_log(alloc, ports, moment, packets, printer)?;
     let line = passed_line(alloc, &printed.passed)?;

@@ -1,8 +1,11 @@
-//! What `snmpsec datagrams`, `show --from` and `open --from` print of each datagram of a file: a line of a log, or what `show` and `open` do.
+//! What `snmpsec datagrams`, `show --from` and `open --from` print of each datagram of a file: a line of a
+//! log, or what `show` and `open` do.
 
 ghost use Rattle.std.specs.Prelude.{◌≡◌, IfErr, IfOk, string_bytes};
 ghost use Rattle.capture_files.specs.Datagrams.{streams};
-ghost use Rattle.capture_datagrams.specs.Shown.{IsNamed, LoadsUsers, OpensFile, PrintsOpened, PrintsShown, StandsBehind, StopsOpening, StopsPrintout, TellsNoUsers, TellsPrintout, head_line};
+ghost use Rattle.capture_datagrams.specs.Shown.{IsNamed, LoadsUsers, OpensFile, PrintsOpened, PrintsShown};
+ghost use Rattle.capture_datagrams.specs.Shown.{StandsBehind, StopsOpening, StopsPrintout, TellsNoUsers};
+ghost use Rattle.capture_datagrams.specs.Shown.{TellsPrintout, head_line};
 ghost use Rattle.capture_datagrams.specs.declared.shown.NoUsers.TheVariants as none;
 ghost use Rattle.snmpsec_output.specs.Questions.{Printed as PrintedIs};
 
@@ -60,7 +63,11 @@ fn behind_head(
     moment: u64,
     output: Output,
 ) -> Result<Printed, AllocError>
-    ensures { let told : PrintedIs = record { out = output.out.items; err = output.err.items; status = output.status } in
+    ensures { let told : PrintedIs = record {
+      out = output.out.items;
+      err = output.err.items;
+      status = output.status;
+    } in
         IfOk result (λ printed. StandsBehind names number moment told printed.text.items printed.refused) }
 {
     let refused = output.status != 0;
@@ -142,8 +149,9 @@ fn users_of(alloc: Global, config: &[u8]) -> Result<Users, NoUsers>
     }
 }
 
-/// What `snmpsec open CONFIG --from FILE` does, with the status that it ends with: the line of the configuration, where that is refused,
-/// with status 1, and nothing is read; or else of each datagram of the file what `open` prints, as `print_datagrams` says.
+/// What `snmpsec open CONFIG --from FILE` does, with the status that it ends with: the line of the
+/// configuration, where that is refused, with status 1, and nothing is read; or else of each datagram of the
+/// file what `open` prints, as `print_datagrams` says.
 ///
 /// The errors are CannotRead, CannotWrite and OutOfMemory.
 fn open_datagrams<R: Read, L: Write, N: Write>(
@@ -157,9 +165,11 @@ fn open_datagrams<R: Read, L: Write, N: Write>(
     notes: &mut N,
 ) -> Result<u8, Unread>
     ensures ok { IfOk result (OpensFile names config.now asked.entry name.now
-        (streams (R.remaining reader.old) (R.remaining reader.new) (L.contents log.old) (L.contents log.new) (N.contents notes.old) (N.contents notes.new))) }
+        (streams (R.remaining reader.old) (R.remaining reader.new) (L.contents log.old) (L.contents log.new)
+        (N.contents notes.old) (N.contents notes.new))) }
     ensures err { IfErr result (StopsOpening names config.now asked.entry name.now
-        (streams (R.remaining reader.old) (R.remaining reader.new) (L.contents log.old) (L.contents log.new) (N.contents notes.old) (N.contents notes.new))) }
+        (streams (R.remaining reader.old) (R.remaining reader.new) (L.contents log.old) (L.contents log.new)
+        (N.contents notes.old) (N.contents notes.new))) }
 {
     match users_of(alloc, config) {
         Ok(users) => {
@@ -174,8 +184,8 @@ fn open_datagrams<R: Read, L: Write, N: Write>(
     }
 }
 
-/// Reads a file, and writes what is asked for of its datagrams; answers the status: 0, or 1 where the file or the configuration is refused by
-/// a line, or what is printed of a datagram tells a refusal.
+/// Reads a file, and writes what is asked for of its datagrams; answers the status: 0, or 1 where the file or
+/// the configuration is refused by a line, or what is printed of a datagram tells a refusal.
 ///
 /// The errors are CannotRead, CannotWrite and OutOfMemory.
 pub fn write_printout<R: Read, L: Write, N: Write>(
@@ -188,9 +198,11 @@ pub fn write_printout<R: Read, L: Write, N: Write>(
     notes: &mut N,
 ) -> Result<u8, Unread>
     ensures ok { IfOk result (TellsPrintout printout.entry asked.entry name.now
-        (streams (R.remaining reader.old) (R.remaining reader.new) (L.contents log.old) (L.contents log.new) (N.contents notes.old) (N.contents notes.new))) }
+        (streams (R.remaining reader.old) (R.remaining reader.new) (L.contents log.old) (L.contents log.new)
+        (N.contents notes.old) (N.contents notes.new))) }
     ensures err { IfErr result (StopsPrintout printout.entry asked.entry name.now
-        (streams (R.remaining reader.old) (R.remaining reader.new) (L.contents log.old) (L.contents log.new) (N.contents notes.old) (N.contents notes.new))) }
+        (streams (R.remaining reader.old) (R.remaining reader.new) (L.contents log.old) (L.contents log.new)
+        (N.contents notes.old) (N.contents notes.new))) }
 {
     match printout {
         Printout::Log => print_datagrams(alloc, asked, name, &mut Lines, reader, log, notes),

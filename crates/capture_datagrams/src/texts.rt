@@ -1,11 +1,13 @@
 //! Pasted hex and dumps: their octets as datagrams, which are printed.
 
-ghost use Rattle.std.specs.Prelude.{◌≡◌, ◌⊎◌, ◌<◌, ◌≤◌, ℕ, List, [], Option, length, IfErr, IfOk, MatchBool, string_bytes};
+ghost use Rattle.std.specs.Prelude.{◌≡◌, ◌⊎◌, ◌<◌, ◌≤◌, ℕ, List, [], Option, length, IfErr, IfOk, MatchBool};
+ghost use Rattle.std.specs.Prelude.{string_bytes};
 ghost use Rattle.std.specs.Io.KnownBytes.{Appends, Consumes, Keeps};
 ghost use Rattle.snmpsec_io.specs.Transfer.{WritesFront};
 ghost use Rattle.capture_files.specs.Datagrams.{streams};
 ghost use Rattle.capture_datagrams.specs.declared.datagrams.Unread.TheVariants as unread;
-ghost use Rattle.capture_datagrams.specs.Texts.{IsDumpText, IsHexOf, IsPlainText, IsTextOf, StopsText, TellsText, refused_place};
+ghost use Rattle.capture_datagrams.specs.Texts.{IsDumpText, IsHexOf, IsPlainText, IsTextOf, StopsText, TellsText};
+ghost use Rattle.capture_datagrams.specs.Texts.{refused_place};
 
 use crate::datagrams::Unread;
 use crate::dumped::dumps_told;
@@ -38,7 +40,8 @@ fn hex_told<P: Printer>(
     printer: &mut P,
     text: &[u8],
 ) -> Result<Told, AllocError>
-    ensures is { IfOk result (λ told. IsHexOf (P.prints printer.old) moment name.now text.now told.text.items told.status) }
+    ensures is { IfOk result
+        (λ told. IsHexOf (P.prints printer.old) moment name.now text.now told.text.items told.status) }
     ensures note { IfOk result (λ told. told.note.items ≡ []) }
 {
     match read_hex(alloc, text) {
@@ -96,7 +99,9 @@ fn told_of<P: Printer>(
     printer: &mut P,
     text: &[u8],
 ) -> Result<Told, AllocError>
-    ensures { IfOk result (λ told. IsTextOf (P.prints printer.old) form.entry moment name.now text.now told.text.items told.note.items told.status) }
+    ensures { IfOk result
+        (λ told. IsTextOf (P.prints printer.old) form.entry moment name.now text.now told.text.items
+        told.note.items told.status) }
 {
     if are_dumps(form, text) {
         dumps_told(alloc, form, moment, name, printer, text)
@@ -107,9 +112,16 @@ fn told_of<P: Printer>(
 
 /// Writes what a text comes to.
 fn write_told<L: Write, N: Write>(told: &Told, log: &mut L, notes: &mut N) -> Result<u8, Unread>
-    ensures ok { IfOk result (λ status. (status ≡ told.now.status) × Appends (L.contents log.old) (L.contents log.new) told.now.text.items × Appends (N.contents notes.old) (N.contents notes.new) told.now.note.items) }
-    ensures err { IfErr result (λ f. (f ≡ unread.CannotWrite) × ((WritesFront (L.contents log.old) (L.contents log.new) told.now.text.items × Keeps (N.contents notes.old) (N.contents notes.new))
-        ⊎ (Appends (L.contents log.old) (L.contents log.new) told.now.text.items × WritesFront (N.contents notes.old) (N.contents notes.new) told.now.note.items))) }
+    ensures ok { IfOk result
+        (λ status. (status ≡ told.now.status)
+        × Appends (L.contents log.old) (L.contents log.new) told.now.text.items
+        × Appends (N.contents notes.old) (N.contents notes.new) told.now.note.items) }
+    ensures err { IfErr result
+        (λ f. (f ≡ unread.CannotWrite)
+        × ((WritesFront (L.contents log.old) (L.contents log.new) told.now.text.items
+        × Keeps (N.contents notes.old) (N.contents notes.new))
+        ⊎ (Appends (L.contents log.old) (L.contents log.new) told.now.text.items
+        × WritesFront (N.contents notes.old) (N.contents notes.new) told.now.note.items))) }
 {
     if write_whole(log, &told.text).is_err() {
         return Err(Unread::CannotWrite);
@@ -120,10 +132,12 @@ fn write_told<L: Write, N: Write>(told: &Told, log: &mut L, notes: &mut N) -> Re
     }
 }
 
-/// What is done with a text of which these octets were read, with the status that it ends with: where it is read as dumps, what is printed of the
-/// octets of each as a datagram, received at this moment, and status 0, or 1 where that tells a refusal; or else a line for the first line at which
-/// it is none, and status 1. Of dumps of packets the same of the datagrams in them, and `notes` gets what a capture's records come to beside. Where it is read
-/// as hex, the same of its octets as the one datagram, or else a line for the first place at which it is no hex.
+/// What is done with a text of which these octets were read, with the status that it ends with: where it is
+/// read as dumps, what is printed of the octets of each as a datagram, received at this moment, and status 0,
+/// or 1 where that tells a refusal; or else a line for the first line at which it is none, and status 1. Of
+/// dumps of packets the same of the datagrams in them, and `notes` gets what a capture's records come to
+/// beside. Where it is read as hex, the same of its octets as the one datagram, or else a line for the first
+/// place at which it is no hex.
 ///
 /// The errors are CannotRead, where a read fails or there are over 16,777,216 octets; CannotWrite; and OutOfMemory.
 pub(crate) fn write_text<P: Printer, R: Read, L: Write, N: Write>(
@@ -138,10 +152,14 @@ pub(crate) fn write_text<P: Printer, R: Read, L: Write, N: Write>(
     notes: &mut N,
 ) -> Result<u8, Unread>
     requires { length front.now ≤ 24 }
-    ensures ok { (unread : Option (List ℕ)) → Consumes unread (R.remaining reader.old) front.now → IfOk result (TellsText (P.prints printer.old) form.entry moment name.now
-        (streams unread (R.remaining reader.new) (L.contents log.old) (L.contents log.new) (N.contents notes.old) (N.contents notes.new))) }
-    ensures err { (unread : Option (List ℕ)) → Consumes unread (R.remaining reader.old) front.now → IfErr result (StopsText (P.prints printer.old) form.entry moment name.now
-        (streams unread (R.remaining reader.new) (L.contents log.old) (L.contents log.new) (N.contents notes.old) (N.contents notes.new))) }
+    ensures ok { (unread : Option (List ℕ)) → Consumes unread (R.remaining reader.old) front.now
+        → IfOk result (TellsText (P.prints printer.old) form.entry moment name.now
+        (streams unread (R.remaining reader.new) (L.contents log.old) (L.contents log.new) (N.contents notes.old)
+        (N.contents notes.new))) }
+    ensures err { (unread : Option (List ℕ)) → Consumes unread (R.remaining reader.old) front.now
+        → IfErr result (StopsText (P.prints printer.old) form.entry moment name.now
+        (streams unread (R.remaining reader.new) (L.contents log.old) (L.contents log.new) (N.contents notes.old)
+        (N.contents notes.new))) }
 {
     let text = match read_whole_behind(alloc, front, reader, FILE_LIMIT) {
         Ok(text) => text,

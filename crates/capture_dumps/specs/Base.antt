@@ -1,5 +1,6 @@
 -- The bases in which the offsets of dumps are written.
-use Rattle.std.specs.Prelude.{ℕ, ◌/◌, ◌%◌, ◌==◌, ◌&&◌, ◌||◌, Bool, true, false, List, [], ◌∷◌, reverse, Option, Some, None}
+use Rattle.std.specs.Prelude.{ℕ, ◌/◌, ◌%◌, ◌==◌, ◌&&◌, ◌||◌, Bool, true, false, List, [], ◌∷◌, reverse, Option, Some}
+use Rattle.std.specs.Prelude.{None}
 use Rattle.hex.specs.Hex.{hex_digit_value}
 use Rattle.capture_dumps.specs.declared.base.Base.{Base}
 use Rattle.capture_dumps.specs.declared.base.Base.TheVariants.{Hex, Decimal, Octal}

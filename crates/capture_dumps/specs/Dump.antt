@@ -1,5 +1,6 @@
 -- A dump: lines of octets with an offset before those of each line. Its first line has the offset 0.
-use Rattle.std.specs.Prelude.{◌≡◌, ◌⊎◌, ℕ, ◌+◌, ◌-◌, ◌<◌, ◌≤◌, ◌==◌, ◌&&◌, ◌||◌, nat_le, if◌then◌else◌, Bool, true, List, [], ◌∷◌, ◌++◌, length, take, drop, slice_index, is_some}
+use Rattle.std.specs.Prelude.{◌≡◌, ◌⊎◌, ℕ, ◌+◌, ◌-◌, ◌<◌, ◌≤◌, ◌==◌, ◌&&◌, ◌||◌, nat_le, if◌then◌else◌, Bool, true}
+use Rattle.std.specs.Prelude.{List, [], ◌∷◌, ◌++◌, length, take, drop, slice_index, is_some}
 use Rattle.std.specs.List.{AllByRecursion, count_by, prefix_len}
 use Rattle.hex.specs.Hex.{hex_digit_value}
 
@@ -17,8 +18,8 @@ is_digit c = is_some (hex_digit_value c)
 abbrev pub AreOf : (ℕ → Bool) → List ℕ → Type 0
 AreOf p octets = AllByRecursion (λ c. p c ≡ true) octets
 
--- The text begins as a dump does: blanks, perhaps 0x or 0X, an offset of 4 to 8 digits 0, perhaps a colon, a blank at least, and a pair of hex
--- digits.
+-- The text begins as a dump does: blanks, perhaps 0x or 0X, an offset of 4 to 8 digits 0, perhaps a colon, a
+-- blank at least, and a pair of hex digits.
 pub record BeginsDump (text : List ℕ) : Type 0 where
   pub indent : List ℕ
   pub prefix : List ℕ
@@ -68,7 +69,8 @@ abbrev pub zeros : List ℕ → ℕ
 zeros text = prefix_len is_zero text
 
 abbrev pub prefix_size : List ℕ → ℕ
-prefix_size text = if (slice_index text 0 == 48) && ((slice_index text 1 == 120) || (slice_index text 1 == 88)) then 2 else 0
+prefix_size text = if (slice_index text 0 == 48) &&
+    ((slice_index text 1 == 120) || (slice_index text 1 == 88)) then 2 else 0
 
 abbrev pub colon_size : List ℕ → ℕ
 colon_size text = if slice_index text 0 == 58 then 1 else 0

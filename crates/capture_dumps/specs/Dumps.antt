@@ -1,5 +1,6 @@
 -- The dumps of a text.
-use Rattle.std.specs.Prelude.{◌≡◌, ◌≢◌, ◌⊎◌, ⊤, ℕ, zero, suc, ◌+◌, ◌-◌, ◌<◌, true, false, List, [], ◌∷◌, ◌++◌, length, map, Option, Some, None}
+use Rattle.std.specs.Prelude.{◌≡◌, ◌≢◌, ◌⊎◌, ⊤, ℕ, zero, suc, ◌+◌, ◌-◌, ◌<◌, true, false, List, [], ◌∷◌, ◌++◌, length}
+use Rattle.std.specs.Prelude.{map, Option, Some, None}
 use Rattle.capture_dumps.specs.Base.{base_number, has, is_number}
 use Rattle.capture_dumps.specs.Line.{AreLines, Kind, other, begin, more, words, bad}
 use Rattle.capture_dumps.specs.declared.base.Base.{Base}
@@ -15,7 +16,8 @@ use Rattle.capture_dumps.specs.declared.dumps.DumpFault.TheVariants as faults
 abbrev pub IsNext : Base → List ℕ → List ℕ → Type 0
 IsNext base before digits = is_number (base_number base) digits (length before) ≡ true
 
--- Behind these octets the lines go on a dump, which has those octets in the end: the offset of each is the number of the octets before it.
+-- Behind these octets the lines go on a dump, which has those octets in the end: the offset of each is the
+-- number of the octets before it.
 abbrev pub GoOn : Base → List ℕ → List Kind → List ℕ → Type 0
 GoOn base before [] octets = octets ≡ before
 GoOn base before (more digits said ∷ lines) octets = IsNext base before digits × GoOn base (before ++ said) lines octets
@@ -65,12 +67,14 @@ IsBlock block dumps rest =
 abbrev pub AreBlocks : ℕ → List Kind → List (List ℕ) → List Kind → Type 0
 AreBlocks zero lines dumps rest = (lines ≡ rest) × (dumps ≡ [])
 AreBlocks (suc n) lines dumps rest =
-    (block : List Kind) × (later : List Kind) × (said : List (List ℕ)) × (others : List (List ℕ)) × (lines ≡ block ++ later) × IsBlock block said later
+    (block : List Kind) × (later : List Kind) × (said : List (List ℕ)) × (others : List (List ℕ))
+    × (lines ≡ block ++ later) × IsBlock block said later
     × (dumps ≡ said ++ others) × AreBlocks n later others rest
 
 -- The text has these dumps, one at least.
 abbrev pub HasDumps : List ℕ → List (List ℕ) → Type 0
-HasDumps text dumps = (lines : List Kind) × (n : ℕ) × AreLines text lines × AreBlocks n lines dumps [] × (0 < length dumps)
+HasDumps text dumps = (lines : List Kind) × (n : ℕ) × AreLines text lines × AreBlocks n lines dumps []
+    × (0 < length dumps)
 
 -- ---- where a text can't be read
 
@@ -88,16 +92,20 @@ pub record StopsAt (Stops : List Kind → ℕ → Type 0) (lines : List Kind) (n
 abbrev pub IsUnreadable : List Kind → ℕ → Type 0
 IsUnreadable rest at =
     ((later : List Kind) × (rest ≡ bad ∷ later) × (at ≡ 1))
-    ⊎ ((block : List Kind) × (later : List Kind) × (octets : List ℕ) × (rest ≡ block ++ (words ∷ later)) × IsDump block octets × (at ≡ length block + 1))
+    ⊎ ((block : List Kind) × (later : List Kind) × (octets : List ℕ) × (rest ≡ block ++ (words ∷ later))
+    × IsDump block octets × (at ≡ length block + 1))
 
 -- it goes on a dump with octets, and there is none
 abbrev pub IsNotBegun : List Kind → ℕ → Type 0
-IsNotBegun rest at = (digits : List ℕ) × (octets : List ℕ) × (later : List Kind) × (rest ≡ more digits octets ∷ later) × (octets ≢ []) × (at ≡ 1)
+IsNotBegun rest at = (digits : List ℕ) × (octets : List ℕ) × (later : List Kind) × (rest ≡ more digits octets ∷ later)
+    × (octets ≢ []) × (at ≡ 1)
 
--- up to it the lines are a dump, and with the next line, whose offset is another number than that of the octets before, they aren't in any base
+-- up to it the lines are a dump, and with the next line, whose offset is another number than that of the
+-- octets before, they aren't in any base
 abbrev pub IsOtherCount : List Kind → ℕ → Type 0
 IsOtherCount rest at =
-    (block : List Kind) × (digits : List ℕ) × (said : List ℕ) × (later : List Kind) × (octets : List ℕ) × (rest ≡ block ++ (more digits said ∷ later))
+    (block : List Kind) × (digits : List ℕ) × (said : List ℕ) × (later : List Kind) × (octets : List ℕ)
+    × (rest ≡ block ++ (more digits said ∷ later))
     × IsDump block octets × ((all : List ℕ) → IsDump (block ++ (more digits said ∷ [])) all → ⊥) × (at ≡ length block)
 
 -- why lines aren't read
@@ -150,4 +158,5 @@ Follows before line after = (lines rest : List Kind) → ReadUp lines (line ∷ 
 -- At the line it stops, before which so many lines stand.
 abbrev pub StopsAfter : ℕ → Reading → Kind → DumpFault → Type 0
 StopsAfter place before line fault =
-    (lines rest : List Kind) → length lines ≡ place + length (line ∷ rest) → ReadUp lines (line ∷ rest) before → StopsIn lines fault
+    (lines rest : List Kind) → length lines ≡ place + length (line ∷ rest) → ReadUp lines (line ∷ rest) before
+    → StopsIn lines fault

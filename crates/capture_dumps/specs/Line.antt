@@ -1,5 +1,6 @@
 -- The lines of a text with dumps.
-use Rattle.std.specs.Prelude.{◌≡◌, ◌≢◌, ◌⊎◌, ℕ, ◌-◌, ◌%◌, ◌==◌, ◌&&◌, ◌||◌, not, nat_lt, if◌then◌else◌, Bool, true, false, List, [], ◌∷◌, length, take, drop, Option, Some, None}
+use Rattle.std.specs.Prelude.{◌≡◌, ◌≢◌, ◌⊎◌, ℕ, ◌-◌, ◌%◌, ◌==◌, ◌&&◌, ◌||◌, not, nat_lt, if◌then◌else◌, Bool, true}
+use Rattle.std.specs.Prelude.{false, List, [], ◌∷◌, length, take, drop, Option, Some, None}
 use Rattle.std.specs.List.{list_all, prefix_len}
 use Rattle.snmp_ber.specs.Splits.{Lacks, IsSplit}
 use Rattle.capture_dumps.specs.Dump.{blanks, is_blank, is_digit}
@@ -9,8 +10,9 @@ use Rattle.capture_dumps.specs.Offset.{Offset, offset_of, is_zero_offset}
 use Rattle.capture_dumps.specs.declared.line.Line.{Line}
 use Rattle.capture_dumps.specs.declared.line.Line.TheVariants as of
 
--- What a line is to a dump: one without an offset; the first line of one, with these octets; a further line, with these digits as its offset and these
--- octets, or without octets; an offset and other words; or an offset and pairs that can't be read.
+-- What a line is to a dump: one without an offset; the first line of one, with these octets; a further line,
+-- with these digits as its offset and these octets, or without octets; an offset and other words; or an
+-- offset and pairs that can't be read.
 pub data Kind : Type 0 where
   other : Kind
   begin : (octets : List ℕ) → Kind
@@ -37,7 +39,8 @@ are_pairs word = not (length word == 0) && ((length word % 2 == 0) && are_digits
 abbrev pub has_pairs : Offset → Bool
 has_pairs o = are_pairs (first_word o.rest)
 
--- Behind a colon pairs may be joined; else the first stands apart, since other tools write numbers of several octets there, the lowest first.
+-- Behind a colon pairs may be joined; else the first stands apart, since other tools write numbers of several
+-- octets there, the lowest first.
 abbrev pub is_apart : Offset → Bool
 is_apart o = o.colon || (length (first_word o.rest) == 2)
 
@@ -54,7 +57,8 @@ abbrev pub IsKindAt : Offset → Kind → Type 0
 IsKindAt o other = ⊥
 IsKindAt o (begin octets) = (is_zero_offset o.digits ≡ true) × IsRowAt o octets
 IsKindAt o (more digits octets) =
-    (digits ≡ o.digits) × (((are_blanks o.rest ≡ true) × (octets ≡ [])) ⊎ ((is_zero_offset o.digits ≡ false) × IsRowAt o octets))
+    (digits ≡ o.digits) × (((are_blanks o.rest ≡ true) × (octets ≡ []))
+    ⊎ ((is_zero_offset o.digits ≡ false) × IsRowAt o octets))
 IsKindAt o words = (are_blanks o.rest ≡ false) × (has_pairs o ≡ false)
 IsKindAt o bad = (has_pairs o ≡ true) × ((is_apart o ≡ false) ⊎ IsNoRow o.rest)
 
@@ -77,7 +81,8 @@ IsFirstLine text line rest = IsSplit 10 text line rest ⊎ ((text ≢ []) × Lac
 -- These are the lines of the text, and there is no other.
 abbrev pub AreLines : List ℕ → List Kind → Type 0
 AreLines text [] = text ≡ []
-AreLines text (k ∷ kinds) = (first : List ℕ) × (rest : List ℕ) × IsFirstLine text first rest × IsKindOf first k × AreLines rest kinds
+AreLines text (k ∷ kinds) = (first : List ℕ) × (rest : List ℕ) × IsFirstLine text first rest × IsKindOf first k
+    × AreLines rest kinds
 
 -- ---- between the functions
 

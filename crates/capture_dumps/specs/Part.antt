@@ -1,4 +1,5 @@
--- Between the functions: the part that a text begins with, by its first octets. Behind the end they are 0, which stands in no part.
+-- Between the functions: the part that a text begins with, by its first octets. Behind the end they are 0,
+-- which stands in no part.
 use Rattle.std.specs.Prelude.{ℕ, ◌+◌, ◌*◌, ◌==◌, ◌&&◌, ◌||◌, if◌then◌else◌, List, slice_index, Option, Some, None}
 use Rattle.hex.specs.Hex.{hex_digit_value}
 use Rattle.capture_dumps.specs.Text.{is_between}
@@ -24,7 +25,8 @@ joined_digits (Some high) None = None
 joined_digits (Some high) (Some low) = Some (high * 16 + low)
 
 abbrev pub pair_value : List ℕ → ℕ → Option ℕ
-pair_value text place = joined_digits (hex_digit_value (slice_index text place)) (hex_digit_value (slice_index text (place + 1)))
+pair_value text place = joined_digits (hex_digit_value (slice_index text place))
+    (hex_digit_value (slice_index text (place + 1)))
 
 abbrev pub octet_part : ℕ → Option ℕ → Option Part
 octet_part size None = None

@@ -42,7 +42,8 @@ reads (suc n) text = goes_on (reads n text)
 
 -- The text begins with n pairs, which write these octets, and behind them stands a column that shows these.
 abbrev pub IsShownBehind : ℕ → List ℕ → List ℕ → Type 0
-IsShownBehind n text octets = (rest : List ℕ) × (0 < n) × (reads n text ≡ Some (octets, rest)) × (has_any_column octets rest ≡ true)
+IsShownBehind n text octets = (rest : List ℕ) × (0 < n) × (reads n text ≡ Some (octets, rest))
+    × (has_any_column octets rest ≡ true)
 
 -- These are the octets that a column shows: of the fewest pairs behind which one stands.
 pub record IsShown (text octets : List ℕ) : Type 0 where
@@ -55,7 +56,8 @@ HasNoColumn text = (n : ℕ) (octets : List ℕ) → IsShownBehind n text octets
 
 -- The text is pairs, one at least, which write these octets, and blanks.
 abbrev pub IsBare : List ℕ → List ℕ → Type 0
-IsBare text octets = (count : ℕ) × (rest : List ℕ) × (0 < count) × (reads count text ≡ Some (octets, rest)) × (are_blanks rest ≡ true)
+IsBare text octets = (count : ℕ) × (rest : List ℕ) × (0 < count) × (reads count text ≡ Some (octets, rest))
+    × (are_blanks rest ≡ true)
 
 -- These are the octets of the text: those that its column shows, or all that it is where it has no column.
 abbrev pub IsRow : List ℕ → List ℕ → Type 0

@@ -1,5 +1,6 @@
 -- A text of hex: a pair of digits for each octet, and what may stand between and before pairs.
-use Rattle.std.specs.Prelude.{◌≡◌, ◌⊎◌, ℕ, zero, suc, ◌+◌, ◌/◌, ◌%◌, ◌<◌, ◌==◌, ◌||◌, not, Bool, true, List, [], ◌∷◌, ◌++◌, length, Some}
+use Rattle.std.specs.Prelude.{◌≡◌, ◌⊎◌, ℕ, zero, suc, ◌+◌, ◌/◌, ◌%◌, ◌<◌, ◌==◌, ◌||◌, not, Bool, true, List, [], ◌∷◌}
+use Rattle.std.specs.Prelude.{◌++◌, length, Some}
 use Rattle.std.specs.List.{count_by, suffix_len}
 use Rattle.hex.specs.Hex.{hex_digit_value}
 use Rattle.capture_dumps.specs.declared.text.HexFault.{HexFault}
@@ -39,7 +40,8 @@ IsPart part octets = (IsGap part × (octets ≡ [])) ⊎ ((octet : ℕ) × IsPai
 abbrev pub AreParts : ℕ → List ℕ → List ℕ → Type 0
 AreParts zero text octets = (text ≡ []) × (octets ≡ [])
 AreParts (suc n) text octets =
-    (part : List ℕ) × (said : List ℕ) × (rest : List ℕ) × (more : List ℕ) × IsPart part said × (text ≡ part ++ rest) × (octets ≡ said ++ more) × AreParts n rest more
+    (part : List ℕ) × (said : List ℕ) × (rest : List ℕ) × (more : List ℕ) × IsPart part said × (text ≡ part ++ rest)
+    × (octets ≡ said ++ more) × AreParts n rest more
 
 -- the text writes these octets, one at least
 abbrev pub IsHexText : List ℕ → List ℕ → Type 0
@@ -74,7 +76,8 @@ pub record IsFaultAt (text : List ℕ) (line column : ℕ) : Type 0 where
 
 -- the text begins with parts that write an octet
 abbrev pub BeginsHex : List ℕ → Type 0
-BeginsHex text = (n : ℕ) × (front : List ℕ) × (rest : List ℕ) × (octets : List ℕ) × AreParts n front octets × (text ≡ front ++ rest) × (0 < length octets)
+BeginsHex text = (n : ℕ) × (front : List ℕ) × (rest : List ℕ) × (octets : List ℕ) × AreParts n front octets
+    × (text ≡ front ++ rest) × (0 < length octets)
 
 -- Why a text isn't read. Memory is wanted for octets alone.
 abbrev pub IsNoText : List ℕ → HexFault → Type 0

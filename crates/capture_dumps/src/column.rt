@@ -1,7 +1,8 @@
 //! The column that shows the octets of a line as text.
 
 ghost use Rattle.std.specs.Prelude.{◌≡◌, ◌+◌, ◌-◌, ◌==◌, if◌then◌else◌};
-ghost use Rattle.capture_dumps.specs.Column.{is_graphic, shows, are_shown, are_blanks, has_column, has_marked, has_any_column, seen_size};
+ghost use Rattle.capture_dumps.specs.Column.{is_graphic, shows, are_shown, are_blanks, has_column, has_marked};
+ghost use Rattle.capture_dumps.specs.Column.{has_any_column, seen_size};
 
 use crate::dump::is_blank;
 
@@ -78,8 +79,9 @@ fn has_marked(before: u8, after: u8, octets: &[u8], text: &[u8]) -> bool
         && are_shown(octets, column)
 }
 
-/// The text is two blanks at least, and then a column that shows the octets: as it is, between `|` and `|`, or between `>` and `<`. The blanks
-/// at the end of a column may be missing: `seen` is the number of the octets before those.
+/// The text is two blanks at least, and then a column that shows the octets: as it is, between `|` and `|`,
+/// or between `>` and `<`. The blanks at the end of a column may be missing: `seen` is the number of the
+/// octets before those.
 pub(crate) fn has_any_column(octets: &[u8], seen: usize, text: &[u8]) -> bool
     requires { seen ≡ seen_size octets.now }
     ensures { result ≡ has_any_column octets.now text.now }
@@ -91,7 +93,8 @@ pub(crate) fn has_any_column(octets: &[u8], seen: usize, text: &[u8]) -> bool
         || has_marked(b'>', b'<', octets, text)
 }
 
-/// How many octets there are up to the last that isn't a blank, behind one more octet, which is the last of `count`. `seen` is the number before it.
+/// How many octets there are up to the last that isn't a blank, behind one more octet, which is the last of
+/// `count`. `seen` is the number before it.
 pub(crate) fn more_seen(seen: usize, octet: u8, count: usize) -> usize
     ensures { result ≡ (if octet == 32 then seen else count) }
 {

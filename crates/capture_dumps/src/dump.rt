@@ -1,7 +1,9 @@
 //! Dumps: texts with an offset before the octets of each line. They are known by their first line, and not read.
 
 ghost use Rattle.std.specs.Prelude.{◌≡◌, ◌-◌, ◌<◌, ◌≤◌, ◌==◌, false, length, MatchBool, MatchOption};
-ghost use Rattle.capture_dumps.specs.Dump.{BeginsLine, HasDumpOn, HasNoDump, IsFirstDump, begins_dump, begins_octets, begins_offset, begins_pair, begins_prefix, blanks, colon_size, is_blank, prefix_size, zeros};
+ghost use Rattle.capture_dumps.specs.Dump.{BeginsLine, HasDumpOn, HasNoDump, IsFirstDump, begins_dump, begins_octets};
+ghost use Rattle.capture_dumps.specs.Dump.{begins_offset, begins_pair, begins_prefix, blanks, colon_size, is_blank};
+ghost use Rattle.capture_dumps.specs.Dump.{prefix_size, zeros};
 
 use crate::part::{digit_value, octet_at};
 use crate::place::place_behind;
@@ -111,7 +113,8 @@ fn begins_line(text: &[u8], place: usize) -> bool
 
 /// The first place at which a line begins, and a dump.
 fn dump_place(text: &[u8]) -> Option<usize>
-    ensures { MatchOption result (HasNoDump text.now) (λ place. (place ≤ length text.now) × IsFirstDump text.now place) }
+    ensures { MatchOption result (HasNoDump text.now)
+        (λ place. (place ≤ length text.now) × IsFirstDump text.now place) }
 {
     for place in 0..text.len() {
         if begins_line(text, place) && begins_dump(&text[place..]) {
@@ -121,8 +124,9 @@ fn dump_place(text: &[u8]) -> Option<usize>
     None
 }
 
-/// The number of the line, from 1, on which a dump first begins in a text: blanks, perhaps `0x` or `0X`, an offset of 4 to 8 digits 0, perhaps a
-/// colon, a blank at least, and a pair of hex digits. `None` where no line is so.
+/// The number of the line, from 1, on which a dump first begins in a text: blanks, perhaps `0x` or `0X`, an
+/// offset of 4 to 8 digits 0, perhaps a colon, a blank at least, and a pair of hex digits. `None` where no
+/// line is so.
 pub fn dump_line(text: &[u8]) -> Option<u64>
     ensures { MatchOption result (HasNoDump text.now) (λ line. HasDumpOn text.now line) }
 {

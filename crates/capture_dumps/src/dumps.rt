@@ -2,7 +2,8 @@
 
 ghost use Rattle.std.specs.Prelude.{◌≡◌, ◌++◌, ◌<◌, [], None, map, IfErr, IfOk, ℕ};
 ghost use Rattle.capture_dumps.specs.Line.{begin, kind, more, words};
-ghost use Rattle.capture_dumps.specs.Dumps.{AreBlocks, Follows, HasDumps, IsUnread, StopsAfter, StopsIn, as_list, ended};
+ghost use Rattle.capture_dumps.specs.Dumps.{AreBlocks, Follows, HasDumps, IsUnread, StopsAfter, StopsIn, as_list};
+ghost use Rattle.capture_dumps.specs.Dumps.{ended};
 
 use crate::base::Bases;
 use crate::line::{Line, read_lines};
@@ -15,7 +16,8 @@ pub enum DumpFault {
     /// No line begins a dump.
     #[error("no dump")]
     NoDump,
-    /// What stands behind the offset of this line can't be read: no pairs, half a pair, or a column that shows other octets than those before it.
+    /// What stands behind the offset of this line can't be read: no pairs, half a pair, or a column that
+    /// shows other octets than those before it.
     #[error("line {0}: no octets")]
     Unreadable(u64),
     /// This line goes on a dump, and none stands before it.
@@ -71,13 +73,15 @@ impl Reading {
 
     /// What goes on is this, and the dump before has ended.
     fn begun(self, going: Option<Dump>) -> Result<Reading, AllocError>
-        ensures { IfOk result (λ reading. (ended reading ≡ ended self ++ as_list self.going) × (reading.going ≡ going)) }
+        ensures { IfOk result
+            (λ reading. (ended reading ≡ ended self ++ as_list self.going) × (reading.going ≡ going)) }
     {
         let dumps = self.closed()?;
         Ok(Reading { dumps, going })
     }
 
-    /// What is read behind a line with these digits as its offset and these octets, where `place` lines stand before it.
+    /// What is read behind a line with these digits as its offset and these octets, where `place` lines stand
+    /// before it.
     fn longer(self, place: usize, digits: &[u8], octets: &[u8]) -> Result<Reading, DumpFault>
         requires { place < 18446744073709551615 }
         ensures ok { IfOk result (Follows self (more digits.now octets.now)) }
@@ -139,7 +143,8 @@ impl Reading {
 
 /// The dumps of these lines.
 fn dumps_in(alloc: Global, lines: &[Line<'_>]) -> Result<Vec<Vec<u8>>, DumpFault>
-    ensures ok { IfOk result (λ dumps. (n : ℕ) × AreBlocks n (map kind lines.now) (map (λ octets. octets.items) dumps.items) []) }
+    ensures ok { IfOk result
+        (λ dumps. (n : ℕ) × AreBlocks n (map kind lines.now) (map (λ octets. octets.items) dumps.items) []) }
     ensures err { IfErr result (StopsIn (map kind lines.now)) }
 {
     let mut reading = Reading {
@@ -154,13 +159,15 @@ fn dumps_in(alloc: Global, lines: &[Line<'_>]) -> Result<Vec<Vec<u8>>, DumpFault
 
 /// The dumps of a text, one at least, each by its octets, in their order.
 ///
-/// A line of a dump is perhaps blanks, perhaps `0x` or `0X`, an offset of 4 to 8 hex digits, perhaps a colon, a blank, and pairs of hex digits with
-/// blanks between; behind a colon also without. At its end may stand, behind two blanks, a column that shows its octets as text, perhaps between
-/// `|` and `|` or `>` and `<`; what isn't a column that shows them is read as pairs. A dump begins at the offset 0; each further offset is the
-/// number of the octets before, all in hex, or all in decimal, or all in octal, and at the end one may stand alone. Other lines end a dump, and
-/// are passed over.
+/// A line of a dump is perhaps blanks, perhaps `0x` or `0X`, an offset of 4 to 8 hex digits, perhaps a colon,
+/// a blank, and pairs of hex digits with blanks between; behind a colon also without. At its end may stand,
+/// behind two blanks, a column that shows its octets as text, perhaps between `|` and `|` or `>` and `<`;
+/// what isn't a column that shows them is read as pairs. A dump begins at the offset 0; each further offset
+/// is the number of the octets before, all in hex, or all in decimal, or all in octal, and at the end one may
+/// stand alone. Other lines end a dump, and are passed over.
 ///
-/// The errors are NoDump; Unreadable, NotBegun and OtherCount, for the first line that is none of these where it stands; and OutOfMemory.
+/// The errors are NoDump; Unreadable, NotBegun and OtherCount, for the first line that is none of these where
+/// it stands; and OutOfMemory.
 pub fn read_dumps(alloc: Global, text: &[u8]) -> Result<Vec<Vec<u8>>, DumpFault>
     ensures ok { IfOk result (λ dumps. HasDumps text.now (map (λ octets. octets.items) dumps.items)) }
     ensures err { IfErr result (IsUnread text.now) }

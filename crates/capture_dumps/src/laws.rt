@@ -12,5 +12,6 @@ pub fn one_list()
 
 /// A text with dumps can't be refused but for want of memory: no text is both read and refused.
 pub fn read_or_refused()
-    ensures { (text : List ℕ) (dumps : List (List ℕ)) (fault : Fault) → HasDumps text dumps → IsUnread text fault → fault ≡ OutOfMemory }
+    ensures { (text : List ℕ) (dumps : List (List ℕ)) (fault : Fault) → HasDumps text dumps → IsUnread text fault
+        → fault ≡ OutOfMemory }
 {}

@@ -1,5 +1,5 @@
-//! Octets as text: pasted hex, and dumps, which are lines that begin with the offset of their first octet and may end with a column
-//! of characters.
+//! Octets as text: pasted hex, and dumps, which are lines that begin with the offset of their first octet and
+//! may end with a column of characters.
 //!
 //! ```
 //! use capture_dumps::read_dumps;

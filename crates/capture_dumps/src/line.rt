@@ -2,7 +2,8 @@
 
 ghost use Rattle.std.specs.Prelude.{◌≡◌, ◌≢◌, ◌<◌, ◌≤◌, [], true, length, map, IfOk};
 ghost use Rattle.capture_dumps.specs.Line as spec;
-ghost use Rattle.capture_dumps.specs.Line.{AreLines, IsFirstLine, IsKindAt, IsKindOf, are_digits, are_pairs, first_word, has_pairs, kind, word_size};
+ghost use Rattle.capture_dumps.specs.Line.{AreLines, IsFirstLine, IsKindAt, IsKindOf, are_digits, are_pairs};
+ghost use Rattle.capture_dumps.specs.Line.{first_word, has_pairs, kind, word_size};
 ghost use Rattle.capture_dumps.specs.Offset.{told};
 
 use crate::column::are_blanks;

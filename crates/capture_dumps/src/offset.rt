@@ -40,7 +40,8 @@ fn stands_apart(text: &[u8]) -> bool
 
 /// The offset that the text begins with.
 fn digits_of(text: &[u8]) -> Option<Offset<'_>>
-    ensures { MatchOption result (spec.digits_of text.now ≡ None) (λ offset. spec.digits_of text.now ≡ Some (told offset)) }
+    ensures { MatchOption result (spec.digits_of text.now ≡ None)
+        (λ offset. spec.digits_of text.now ≡ Some (told offset)) }
 {
     let count = digit_count(text);
     if count < 4 || count > 8 {
@@ -61,16 +62,18 @@ fn digits_of(text: &[u8]) -> Option<Offset<'_>>
 
 /// The same, perhaps behind `0x` or `0X`.
 fn prefixed(text: &[u8]) -> Option<Offset<'_>>
-    ensures { MatchOption result (spec.prefixed text.now ≡ None) (λ offset. spec.prefixed text.now ≡ Some (told offset)) }
+    ensures { MatchOption result (spec.prefixed text.now ≡ None)
+        (λ offset. spec.prefixed text.now ≡ Some (told offset)) }
 {
     let (_, text) = text.split_at(prefix_size(text));
     digits_of(text)
 }
 
-/// The offset that the text begins with, perhaps behind blanks: perhaps `0x` or `0X`, 4 to 8 hex digits, perhaps a colon, and a blank or the end
-/// of the text.
+/// The offset that the text begins with, perhaps behind blanks: perhaps `0x` or `0X`, 4 to 8 hex digits,
+/// perhaps a colon, and a blank or the end of the text.
 pub(crate) fn offset_of(text: &[u8]) -> Option<Offset<'_>>
-    ensures { MatchOption result (spec.offset_of text.now ≡ None) (λ offset. spec.offset_of text.now ≡ Some (told offset)) }
+    ensures { MatchOption result (spec.offset_of text.now ≡ None)
+        (λ offset. spec.offset_of text.now ≡ Some (told offset)) }
 {
     let (_, text) = text.split_at(blanks(text));
     prefixed(text)

@@ -11,7 +11,8 @@ use std::alloc::{AllocError, Global};
 
 /// The octet that the text begins with, perhaps behind blanks, and the text behind its two digits.
 fn next_pair(text: &[u8]) -> Option<(u8, &[u8])>
-    ensures { MatchOption result (spec.next_pair text.now ≡ None) (λ pair. spec.next_pair text.now ≡ Some (pair.0, pair.1.now)) }
+    ensures { MatchOption result (spec.next_pair text.now ≡ None)
+        (λ pair. spec.next_pair text.now ≡ Some (pair.0, pair.1.now)) }
 {
     let (_, text) = text.split_at(blanks(text));
     let [high, low, rest @ ..] = text else {
@@ -23,8 +24,8 @@ fn next_pair(text: &[u8]) -> Option<(u8, &[u8])>
     }
 }
 
-/// The octets of a text: those of its first pairs behind which a column stands that shows them, or, where it has no column, those of its pairs,
-/// behind which nothing may stand but blanks. `None` where it is neither.
+/// The octets of a text: those of its first pairs behind which a column stands that shows them, or, where it
+/// has no column, those of its pairs, behind which nothing may stand but blanks. `None` where it is neither.
 pub(crate) fn row_octets(alloc: Global, text: &[u8]) -> Result<Option<Vec<u8>>, AllocError>
     ensures { IfOk result (λ row. MatchOption row (IsNoRow text.now) (λ octets. IsRow text.now octets.items)) }
 {

@@ -11,7 +11,8 @@ use thiserror::Error;
 /// Why a text wasn't read.
 #[derive(Clone, Copy, Debug, PartialEq, Eq, Drop, Error)]
 pub enum HexFault {
-    /// What begins in this column of this line, each from 1, is no part of a text of hex, or the text ends there without an octet.
+    /// What begins in this column of this line, each from 1, is no part of a text of hex, or the text ends
+    /// there without an octet.
     #[error("line {line} column {column}")]
     At { line: u64, column: u64 },
     /// A growth of memory was refused.
@@ -19,8 +20,9 @@ pub enum HexFault {
     OutOfMemory,
 }
 
-/// The octets that a text of hex writes: pairs of hex digits of either case. Between pairs may stand any blanks, tabs, line ends,
-/// and octets of `:`, `,`, `-` and `"`, and a backslash before a line end; before a pair may stand `0x`, `0X` or `\x`.
+/// The octets that a text of hex writes: pairs of hex digits of either case. Between pairs may stand any
+/// blanks, tabs, line ends, and octets of `:`, `,`, `-` and `"`, and a backslash before a line end; before a
+/// pair may stand `0x`, `0X` or `\x`.
 ///
 /// The errors are At, for a text that isn't of this form, or writes no octet; and OutOfMemory.
 pub fn read_hex(alloc: Global, text: &[u8]) -> Result<Vec<u8>, HexFault>

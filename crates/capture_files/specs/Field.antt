@@ -10,9 +10,11 @@ field16 octets at = slice_index octets at * 256 + slice_index octets (at + 1)
 -- four octets, the highest first or the lowest first
 abbrev pub field32 : Order → List ℕ → ℕ → ℕ
 field32 Big octets at =
-    ((slice_index octets at * 256 + slice_index octets (at + 1)) * 256 + slice_index octets (at + 2)) * 256 + slice_index octets (at + 3)
+    ((slice_index octets at * 256 + slice_index octets (at + 1)) * 256 + slice_index octets (at + 2)) * 256
+    + slice_index octets (at + 3)
 field32 Little octets at =
-    ((slice_index octets (at + 3) * 256 + slice_index octets (at + 2)) * 256 + slice_index octets (at + 1)) * 256 + slice_index octets at
+    ((slice_index octets (at + 3) * 256 + slice_index octets (at + 2)) * 256 + slice_index octets (at + 1)) * 256
+    + slice_index octets at
 
 -- two octets in an order
 abbrev pub field16_by : Order → List ℕ → ℕ → ℕ

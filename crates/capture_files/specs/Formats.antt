@@ -1,11 +1,13 @@
 -- A capture in either format, as items that are read one behind the other: records, and blocks that are none.
-use Rattle.std.specs.Prelude.{◌≡◌, ◌≢◌, ◌⊎◌, ℕ, ◌+◌, ◌-◌, ◌<◌, ◌≤◌, ◌||◌, ⊤, Bool, true, false, List, [], ◌∷◌, ◌++◌, length, take, filter_map, Option, Some, None, IfSome, option_map}
+use Rattle.std.specs.Prelude.{◌≡◌, ◌≢◌, ◌⊎◌, ℕ, ◌+◌, ◌-◌, ◌<◌, ◌≤◌, ◌||◌, ⊤, Bool, true, false, List, [], ◌∷◌, ◌++◌}
+use Rattle.std.specs.Prelude.{length, take, filter_map, Option, Some, None, IfSome, option_map}
 use Rattle.std.specs.Io.KnownBytes.{Consumes, IsAtEnd}
 use Rattle.std.proofs.Common.{inl, inr}
 use Rattle.capture_files.specs.Field.{field16_by, field32}
 use Rattle.capture_files.specs.Items.{Record, record_of}
 use Rattle.capture_files.specs.Pcap.{IsHeader, IsHeaderFault, IsRecord, begins_pcap}
-use Rattle.capture_files.specs.Pcapng.{InSection, IsBlockIn, IsFours, IsPacket, LOOKED_AT, Means, begins_section, block_order, least_size, nowhere, section_of}
+use Rattle.capture_files.specs.Pcapng.{InSection, IsBlockIn, IsFours, IsPacket, LOOKED_AT, Means, begins_section}
+use Rattle.capture_files.specs.Pcapng.{block_order, least_size, nowhere, section_of}
 use Rattle.capture_files.specs.declared.field.Order.{Order}
 use Rattle.capture_files.specs.declared.pcap.Header.{Header}
 use Rattle.capture_files.specs.declared.pcapng.BlockHead.{BlockHead}
@@ -24,7 +26,8 @@ use Rattle.capture_files.specs.declared.fault.CaptureFault.TheVariants as fault
 
 -- ---- items
 
--- what the next item is read by: the header of a capture in the format of libpcap, or what was read of a section of one in pcapng
+-- what the next item is read by: the header of a capture in the format of libpcap, or what was read of a
+-- section of one in pcapng
 abbrev pub State : Type 0
 State = Header ⊎ InSection
 
@@ -37,14 +40,16 @@ IsItem (inr s) octets r t = (q : InSection) × IsBlockIn s octets r q × (t ≡ 
 abbrev pub AreItems : State → List (Option Record) → List ℕ → State → Type 0
 AreItems s [] octets t = (octets ≡ []) × (t ≡ s)
 AreItems s (x ∷ xs) octets t =
-    (item : List ℕ) × (rest : List ℕ) × (next' : State) × IsItem s item x next' × (octets ≡ item ++ rest) × AreItems next' xs rest t
+    (item : List ℕ) × (rest : List ℕ) × (next' : State) × IsItem s item x next' × (octets ≡ item ++ rest)
+    × AreItems next' xs rest t
 
 abbrev pub records_of : List (Option Record) → List Record
 records_of items = filter_map (λ x. x) items
 
 -- the octets don't begin with an item
 abbrev pub HasNoItem : State → List ℕ → Type 0
-HasNoItem s octets = (item rest : List ℕ) (r : Option Record) (t : State) → IsItem s item r t → octets ≡ item ++ rest → ⊥
+HasNoItem s octets = (item rest : List ℕ) (r : Option Record) (t : State) → IsItem s item r t
+    → octets ≡ item ++ rest → ⊥
 
 -- ---- the beginning of a capture
 
@@ -55,7 +60,8 @@ begins_capture octets = begins_pcap octets || begins_section octets
 -- what a capture begins with: the header, or that of the first section
 abbrev pub IsBeginning : List ℕ → State → Type 0
 IsBeginning octets (inl h) = IsHeader octets h
-IsBeginning octets (inr q) = (begins_section octets ≡ true) × (r : Option Record) × IsItem (inr nowhere) octets r (inr q)
+IsBeginning octets (inr q) = (begins_section octets ≡ true) × (r : Option Record)
+    × IsItem (inr nowhere) octets r (inr q)
 
 -- ---- between the functions
 
@@ -120,14 +126,17 @@ pub record IsBlockHead (section : Order) (octets : List ℕ) (h : BlockHead) : T
 -- of no block
 abbrev pub HasNoBlockHead : Order → List ℕ → Type 0
 HasNoBlockHead section octets =
-    (order : Order) → block_order section octets ≡ Some order → least_size octets ≤ field32 order octets 4 → IsFours (field32 order octets 4) → ⊥
+    (order : Order) → block_order section octets ≡ Some order → least_size octets ≤ field32 order octets 4
+    → IsFours (field32 order octets 4) → ⊥
 
 -- These octets of a block were read: it is whole, and its length stands there again, or not.
 abbrev pub IsRead : BlockHead → List ℕ → List ℕ → Option (List ℕ) → Bool → Type 0
 IsRead h octets room left true =
-    (length octets ≡ h.size) × (take LOOKED_AT octets ≡ take h.size room) × (field32 h.order octets (h.size - 4) ≡ h.size)
+    (length octets ≡ h.size) × (take LOOKED_AT octets ≡ take h.size room)
+    × (field32 h.order octets (h.size - 4) ≡ h.size)
 IsRead h octets room left false =
-    ((length octets < h.size) × IsAtEnd left) ⊎ ((length octets ≡ h.size) × (field32 h.order octets (h.size - 4) ≢ h.size))
+    ((length octets < h.size) × IsAtEnd left)
+    ⊎ ((length octets ≡ h.size) × (field32 h.order octets (h.size - 4) ≢ h.size))
 
 -- behind the front of a block more was read
 pub record ReadsRest (h : BlockHead) (front room : List ℕ) (old new : Option (List ℕ)) (whole : Bool) : Type 0 where
@@ -155,15 +164,19 @@ abbrev pub of_section : InSection → State
 of_section s = inr s
 
 -- a block of which that is the front was read, or it is none
-abbrev pub IsNextBlock : List ℕ → InSection → InSection → List ℕ → Option (List ℕ) → Option (List ℕ) → Option Item → Type 0
-IsNextBlock front s t room old new (Some i) = (w : ReadsItem (inr s) (inr t) room old new i) × (more : List ℕ) × (w.octets ≡ front ++ more)
+abbrev pub IsNextBlock : List ℕ → InSection → InSection → List ℕ → Option (List ℕ) → Option (List ℕ)
+    → Option Item → Type 0
+IsNextBlock front s t room old new (Some i) = (w : ReadsItem (inr s) (inr t) room old new i) × (more : List ℕ)
+    × (w.octets ≡ front ++ more)
 IsNextBlock front s t room old new None = ReadsNone (inr s) old new
 
 -- what a block means of which that is the front
 abbrev pub IsMeaning : InSection → Order → List ℕ → ℕ → InSection → Meaning → Type 0
-IsMeaning s order front size t (meaning.Record h) = Means s order front size (Some (record_of h front)) t × (h.at + h.size ≤ length front)
+IsMeaning s order front size t (meaning.Record h) = Means s order front size (Some (record_of h front)) t
+    × (h.at + h.size ≤ length front)
 IsMeaning s order front size t meaning.Nothing = Means s order front size None t
-IsMeaning s order front size t meaning.OutOfForm = (r : Option Record) (q : InSection) → Means s order front size r q → ⊥
+IsMeaning s order front size t meaning.OutOfForm = (r : Option Record) (q : InSection)
+    → Means s order front size r q → ⊥
 
 -- an interface more is known
 abbrev pub with_interface : InSection → Interface → InSection
@@ -174,7 +187,8 @@ TakesInterface s order front size = (i : Interface) × Means s order front size 
 
 abbrev pub IsSectionBegun : Order → List ℕ → InSection → Meaning → Type 0
 IsSectionBegun order front t (meaning.Record h) = ⊥
-IsSectionBegun order front t meaning.Nothing = (field16_by order front 12 ≡ 1) × (t ≡ record { order = order; interfaces = [] })
+IsSectionBegun order front t meaning.Nothing = (field16_by order front 12 ≡ 1)
+    × (t ≡ record { order = order; interfaces = [] })
 IsSectionBegun order front t meaning.OutOfForm = field16_by order front 12 ≢ 1
 
 abbrev pub IsPacketHead : InSection → Order → List ℕ → ℕ → Head → Type 0
@@ -198,7 +212,8 @@ BeginsSection known = IfSome known (λ octets. begins_section octets ≡ true)
 abbrev pub IsBadBeginning : Option (List ℕ) → Option (List ℕ) → ℕ → List ℕ → Type 0
 IsBadBeginning unread left place part =
     ((begins_section part ≡ false) × IsHeaderFault part place × ((length part < 24) → IsAtEnd left))
-    ⊎ (BeginsSection unread × (place ≡ 0) × ((rest : List ℕ) → left ≡ Some rest → HasNoItem (inr nowhere) (part ++ rest)))
+    ⊎ (BeginsSection unread × (place ≡ 0)
+    × ((rest : List ℕ) → left ≡ Some rest → HasNoItem (inr nowhere) (part ++ rest)))
 
 -- less than the beginning was read
 abbrev pub IsPartBeginning : Option (List ℕ) → List ℕ → Type 0

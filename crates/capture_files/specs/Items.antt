@@ -2,7 +2,8 @@
 use Rattle.std.specs.Prelude.{ℕ, List, Option, take, drop}
 use Rattle.capture_files.specs.declared.item.Head.{Head}
 
--- A packet, the type of the link on which it was captured, the second of that, if it is known, and how many octets it had then.
+-- A packet, the type of the link on which it was captured, the second of that, if it is known, and how many
+-- octets it had then.
 pub record Record : Type 0 where
   pub link : ℕ
   pub moment : Option ℕ
@@ -11,4 +12,9 @@ pub record Record : Type 0 where
 
 -- the record that a head tells, where the packet stands in these octets
 abbrev pub record_of : Head → List ℕ → Record
-record_of h room = record { link = h.link; moment = h.moment; packet = take h.size (drop h.at room); original = h.original }
+record_of h room = record {
+  link = h.link;
+  moment = h.moment;
+  packet = take h.size (drop h.at room);
+  original = h.original;
+}

@@ -1,5 +1,6 @@
 -- The datagram of a packet: the frame of its link, IP and UDP. A packet is octets as they were captured.
-use Rattle.std.specs.Prelude.{◌≡◌, ◌≢◌, ◌⊎◌, ℕ, zero, suc, ◌+◌, ◌-◌, ◌*◌, ◌/◌, ◌%◌, ◌<◌, ◌≤◌, ◌==◌, ◌&&◌, ◌||◌, not, Bool, true, false, if◌then◌else◌, List, length, take, drop, slice_index}
+use Rattle.std.specs.Prelude.{◌≡◌, ◌≢◌, ◌⊎◌, ℕ, zero, suc, ◌+◌, ◌-◌, ◌*◌, ◌/◌, ◌%◌, ◌<◌, ◌≤◌, ◌==◌, ◌&&◌, ◌||◌, not}
+use Rattle.std.specs.Prelude.{Bool, true, false, if◌then◌else◌, List, length, take, drop, slice_index}
 use Rattle.capture_files.specs.Field.{field16}
 use Rattle.capture_files.specs.declared.packet.Place.{Place}
 use Rattle.capture_files.specs.declared.packet.Walk.{Walk}
@@ -26,7 +27,9 @@ HasBadLength octets size = (size < 8) ⊎ ((8 ≤ length octets) × ((field16 oc
 
 -- the header or the datagram isn't whole
 abbrev pub IsCutShort : List ℕ → ℕ → Type 0
-IsCutShort octets size = (8 ≤ size) × ((length octets < 8) ⊎ ((8 ≤ field16 octets 4) × (field16 octets 4 ≤ size) × (length octets < field16 octets 4)))
+IsCutShort octets size = (8 ≤ size)
+    × ((length octets < 8)
+    ⊎ ((8 ≤ field16 octets 4) × (field16 octets 4 ≤ size) × (length octets < field16 octets 4)))
 
 abbrev pub FindsUdp : List ℕ → ℕ → Found → Type 0
 FindsUdp octets size (found.Datagram source destination datagram) = IsUdp octets size source destination datagram.now
@@ -54,7 +57,8 @@ pub record IsIpv4 (octets : List ℕ) : Type 0 where
 abbrev pub ipv4_protocol : List ℕ → ℕ
 ipv4_protocol octets = slice_index octets 9
 
--- The flag "more fragments" and the offset, both 0 for a packet that isn't a piece. The flag "don't fragment" is left out.
+-- The flag "more fragments" and the offset, both 0 for a packet that isn't a piece. The flag "don't fragment"
+-- is left out.
 abbrev pub ipv4_piece : List ℕ → ℕ
 ipv4_piece octets = field16 octets 6 % 16384
 
@@ -83,9 +87,11 @@ is_extension kind = (kind == 0) || (kind == 43) || (kind == 44) || (kind == 60)
 
 -- a fragment header that has an offset, or behind which more pieces come
 abbrev pub is_piece : List ℕ → Place → Bool
-is_piece octets p = (p.kind == 44) && (not (field16 octets (p.at + 2) / 8 == 0) || not (field16 octets (p.at + 2) % 2 == 0))
+is_piece octets p = (p.kind == 44) &&
+    (not (field16 octets (p.at + 2) / 8 == 0) || not (field16 octets (p.at + 2) % 2 == 0))
 
--- What stands behind an extension header: its kind is in the first octet, and its length in the second but for a fragment header.
+-- What stands behind an extension header: its kind is in the first octet, and its length in the second but
+-- for a fragment header.
 abbrev pub next_place : List ℕ → Place → Place
 next_place octets p = record {
   kind = slice_index octets p.at;
@@ -117,7 +123,8 @@ pub record IsPieceOf (octets : List ℕ) (Protocol : ℕ → Type 0) (p : Place)
 abbrev pub WalksTo : List ℕ → Walk → Type 0
 WalksTo octets (walk.Udp at) = LeadsTo octets (record { kind = 17; at = at })
 WalksTo octets walk.Fragment = (p : Place) × IsPieceOf octets (λ kind. kind ≡ 17) p
-WalksTo octets walk.Other = (p : Place) × ((LeadsTo octets p × (is_extension p.kind ≡ false) × (p.kind ≢ 17)) ⊎ IsPieceOf octets (λ kind. kind ≢ 17) p)
+WalksTo octets walk.Other = (p : Place)
+    × ((LeadsTo octets p × (is_extension p.kind ≡ false) × (p.kind ≢ 17)) ⊎ IsPieceOf octets (λ kind. kind ≢ 17) p)
 WalksTo octets walk.Ends = (p : Place) × LeadsTo octets p × (is_extension p.kind ≡ true) × (length octets < p.at + 8)
 
 -- the octets begin with a header of IPv6
@@ -172,7 +179,8 @@ pub record IsUntagged (first : ℕ) (behind : List ℕ) (kind : ℕ) (octets : L
   pub octets_are : octets ≡ drop (4 * tags) behind
   pub last : is_tag kind ≡ true → length octets < 4
 
--- The frame has a header of so many octets, with the type at a place, and behind it and all tags these octets of that type.
+-- The frame has a header of so many octets, with the type at a place, and behind it and all tags these octets
+-- of that type.
 pub record IsFrame (packet : List ℕ) (place head kind : ℕ) (octets : List ℕ) : Type 0 where
   pub long : head ≤ length packet
   pub untagged : IsUntagged (field16 packet place) (drop head packet) kind octets
@@ -181,7 +189,8 @@ abbrev pub IsFramed : List ℕ → ℕ → ℕ → Network → Type 0
 IsFramed packet place head (network.Ipv4 octets) = IsFrame packet place head 2048 octets.now
 IsFramed packet place head (network.Ipv6 octets) = IsFrame packet place head 34525 octets.now
 IsFramed packet place head network.NotIp =
-    (length packet < head) ⊎ ((kind : ℕ) × (octets : List ℕ) × IsFrame packet place head kind octets × (kind ≢ 2048) × (kind ≢ 34525))
+    (length packet < head)
+    ⊎ ((kind : ℕ) × (octets : List ℕ) × IsFrame packet place head kind octets × (kind ≢ 2048) × (kind ≢ 34525))
 IsFramed packet place head network.OtherLink = ⊥
 
 -- IP without a frame

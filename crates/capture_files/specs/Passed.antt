@@ -1,5 +1,6 @@
 -- How many datagrams are printed, and how many packets are passed over, by reason, and what is said of these.
-use Rattle.std.specs.Prelude.{◌≡◌, ℕ, ◌+◌, ◌<◌, ◌==◌, ◌||◌, Bool, false, if◌then◌else◌, List, [], ◌∷◌, ◌++◌, length, replicate, slice_index, slice_set, codes, decimal, IsPermutation, IsSorted}
+use Rattle.std.specs.Prelude.{◌≡◌, ℕ, ◌+◌, ◌<◌, ◌==◌, ◌||◌, Bool, false, if◌then◌else◌, List, [], ◌∷◌, ◌++◌, length}
+use Rattle.std.specs.Prelude.{replicate, slice_index, slice_set, codes, decimal, IsPermutation, IsSorted}
 use Rattle.std.specs.Cmp.Lexicographic.{slice_cmp}
 use Rattle.std.specs.Ordering.{nat_cmp}
 use Rattle.std.specs.List.{join_by}
@@ -7,8 +8,8 @@ use Rattle.capture_files.specs.declared.passed.Reason.{Reason}
 use Rattle.capture_files.specs.declared.passed.Reason.TheVariants as reason
 use Rattle.capture_files.specs.declared.passed.Tally.{Tally}
 
--- How many datagrams there are, and whether what was printed of one tells a refusal; and how many records are passed over, those of links by
--- the link's type.
+-- How many datagrams there are, and whether what was printed of one tells a refusal; and how many records are
+-- passed over, those of links by the link's type.
 pub record Counts : Type 0 where
   pub datagrams : ℕ
   pub refused : Bool
@@ -18,14 +19,28 @@ pub record Counts : Type 0 where
   pub not_udp : ℕ
 
 abbrev pub counts_of : Tally → Counts
-counts_of p = record { datagrams = p.datagrams; refused = p.refused; another_port = p.another_port; other_links = p.other_links.items; not_ip = p.not_ip; not_udp = p.not_udp }
+counts_of p = record {
+  datagrams = p.datagrams;
+  refused = p.refused;
+  another_port = p.another_port;
+  other_links = p.other_links.items;
+  not_ip = p.not_ip;
+  not_udp = p.not_udp;
+}
 
 -- so many counts of nothing
 unfoldable pub zeros : ℕ → List ℕ
 zeros n = replicate n 0
 
 abbrev pub none_passed : Counts
-none_passed = record { datagrams = 0; refused = false; another_port = 0; other_links = zeros 65536; not_ip = 0; not_udp = 0 }
+none_passed = record {
+  datagrams = 0;
+  refused = false;
+  another_port = 0;
+  other_links = zeros 65536;
+  not_ip = 0;
+  not_udp = 0;
+}
 
 -- one datagram more, of which what was printed tells a refusal or doesn't
 abbrev pub one_printed : Counts → Bool → Counts
@@ -34,7 +49,8 @@ one_printed c refused = record c { datagrams = c.datagrams + 1; refused = c.refu
 -- one more for a reason
 abbrev pub one_more : Counts → Reason → Counts
 one_more c reason.AnotherPort = record c { another_port = c.another_port + 1 }
-one_more c (reason.OtherLink link) = record c { other_links = slice_set c.other_links link (slice_index c.other_links link + 1) }
+one_more c (reason.OtherLink link) = record c
+    { other_links = slice_set c.other_links link (slice_index c.other_links link + 1) }
 one_more c reason.NotIp = record c { not_ip = c.not_ip + 1 }
 one_more c reason.NotUdp = record c { not_udp = c.not_udp + 1 }
 

@@ -1,5 +1,7 @@
--- A capture in the format of libpcap: a header, and records of a header and a packet each. All numbers are in one order.
-use Rattle.std.specs.Prelude.{◌≡◌, ◌≢◌, ◌⊎◌, ℕ, ◌+◌, ◌<◌, ◌≤◌, ◌==◌, ◌&&◌, ◌||◌, nat_le, Bool, true, false, List, ◌++◌, length, drop, Option, Some}
+-- A capture in the format of libpcap: a header, and records of a header and a packet each. All numbers are in
+-- one order.
+use Rattle.std.specs.Prelude.{◌≡◌, ◌≢◌, ◌⊎◌, ℕ, ◌+◌, ◌<◌, ◌≤◌, ◌==◌, ◌&&◌, ◌||◌, nat_le, Bool, true, false, List}
+use Rattle.std.specs.Prelude.{◌++◌, length, drop, Option, Some}
 use Rattle.std.specs.Io.KnownBytes.{Consumes}
 use Rattle.capture_files.specs.Field.{field16_by, field32}
 use Rattle.capture_files.specs.Items.{Record}
@@ -32,12 +34,13 @@ abbrev pub IsHeaderFault : List ℕ → ℕ → Type 0
 IsHeaderFault octets place =
     ((place ≡ 0) × ((length octets < 24) ⊎ ((order : Order) → is_magic order octets ≡ false)))
     ⊎ ((order : Order) × (is_magic order octets ≡ true) × (length octets ≡ 24)
-    × (((place ≡ 4) × (major order octets ≢ 2)) ⊎ ((place ≡ 20) × (major order octets ≡ 2) × (65535 < field32 order octets 20))))
+    × (((place ≡ 4) × (major order octets ≢ 2))
+    ⊎ ((place ≡ 20) × (major order octets ≡ 2) × (65535 < field32 order octets 20))))
 
 -- ---- a record
 
--- The octets are a record: the second, what is below a second, how many octets of the packet there are and how many it had, in
--- four octets each, and the packet. The link is the header's.
+-- The octets are a record: the second, what is below a second, how many octets of the packet there are and
+-- how many it had, in four octets each, and the packet. The link is the header's.
 pub record IsRecord (header : Header) (octets : List ℕ) (r : Record) : Type 0 where
   pub long : length octets ≡ 16 + length r.packet
   pub link : r.link ≡ header.link
@@ -49,7 +52,8 @@ pub record IsRecord (header : Header) (octets : List ℕ) (r : Record) : Type 0 
 
 -- the octets don't begin with a record
 abbrev pub HasNoRecord : Header → List ℕ → Type 0
-HasNoRecord header octets = (r : Record) (record' rest : List ℕ) → IsRecord header record' r → octets ≡ record' ++ rest → ⊥
+HasNoRecord header octets = (r : Record) (record' rest : List ℕ) → IsRecord header record' r
+    → octets ≡ record' ++ rest → ⊥
 
 -- ---- between the functions
 

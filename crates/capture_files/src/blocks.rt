@@ -3,7 +3,8 @@
 ghost use Rattle.std.specs.Prelude.{◌≡◌, ◌<◌, ◌≤◌, ℕ, List, Option, take, length, IfOk, IfErr, OnErr};
 ghost use Rattle.std.specs.Io.KnownBytes.{Consumes};
 ghost use Rattle.capture_files.specs.Pcapng.{IsFours, section_of};
-ghost use Rattle.capture_files.specs.Formats.{IsBlockHead, IsNext, IsNextBlock, ReadsNoRest, ReadsRest, SkipsAll, SkipsPart, StopsItem, of_section};
+ghost use Rattle.capture_files.specs.Formats.{IsBlockHead, IsNext, IsNextBlock, ReadsNoRest, ReadsRest, SkipsAll};
+ghost use Rattle.capture_files.specs.Formats.{SkipsPart, StopsItem, of_section};
 
 use crate::fault::CaptureFault;
 use crate::field::read_32;
@@ -35,7 +36,8 @@ fn skip<R: Read>(reader: &mut R, count: usize) -> Result<bool, Failed>
     Ok(true)
 }
 
-/// Reads the rest of a block that has no more than there is room for. It is whole, and its length stands there again, where that is told.
+/// Reads the rest of a block that has no more than there is room for. It is whole, and its length stands
+/// there again, where that is told.
 fn read_short<R: Read>(
     reader: &mut R,
     head: BlockHead,
@@ -47,8 +49,11 @@ fn read_short<R: Read>(
     requires least { 12 ≤ head.size }
     requires most { head.size ≤ 262172 }
     ensures room { length room.new ≡ 262172 }
-    ensures ok { IfOk result (λ whole. ReadsRest head (take have room.old) room.new (R.remaining reader.old) (R.remaining reader.new) whole) }
-    ensures err { OnErr result (ReadsNoRest head (take have room.old) (R.remaining reader.old) (R.remaining reader.new)) }
+    ensures ok { IfOk result
+        (λ whole. ReadsRest head (take have room.old) room.new (R.remaining reader.old)
+        (R.remaining reader.new) whole) }
+    ensures err { OnErr result
+        (ReadsNoRest head (take have room.old) (R.remaining reader.old) (R.remaining reader.new)) }
 {
     let Ok(count) = read_full(reader, &mut room[have..head.size]) else {
         return Err(Failed);
@@ -71,8 +76,11 @@ fn read_long<R: Read>(
     requires fours { IsFours head.size }
     requires least { 262172 < head.size }
     ensures room { length room.new ≡ 262172 }
-    ensures ok { IfOk result (λ whole. ReadsRest head (take have room.old) room.new (R.remaining reader.old) (R.remaining reader.new) whole) }
-    ensures err { OnErr result (ReadsNoRest head (take have room.old) (R.remaining reader.old) (R.remaining reader.new)) }
+    ensures ok { IfOk result
+        (λ whole. ReadsRest head (take have room.old) room.new (R.remaining reader.old)
+        (R.remaining reader.new) whole) }
+    ensures err { OnErr result
+        (ReadsNoRest head (take have room.old) (R.remaining reader.old) (R.remaining reader.new)) }
 {
     let Ok(count) = read_full(reader, &mut room[have..]) else {
         return Err(Failed);
@@ -96,8 +104,8 @@ fn read_long<R: Read>(
     Ok(read_32(head.order, &again, 0) as usize == head.size)
 }
 
-/// Reads the rest of a block, of which the room has the first octets. It is whole, and its length stands there again, where that is
-/// told.
+/// Reads the rest of a block, of which the room has the first octets. It is whole, and its length stands
+/// there again, where that is told.
 fn read_rest<R: Read>(
     reader: &mut R,
     head: BlockHead,
@@ -110,8 +118,11 @@ fn read_rest<R: Read>(
     requires fours { IsFours head.size }
     requires least { 12 ≤ head.size }
     ensures room { length room.new ≡ 262172 }
-    ensures ok { IfOk result (λ whole. ReadsRest head (take have room.old) room.new (R.remaining reader.old) (R.remaining reader.new) whole) }
-    ensures err { OnErr result (ReadsNoRest head (take have room.old) (R.remaining reader.old) (R.remaining reader.new)) }
+    ensures ok { IfOk result
+        (λ whole. ReadsRest head (take have room.old) room.new (R.remaining reader.old)
+        (R.remaining reader.new) whole) }
+    ensures err { OnErr result
+        (ReadsNoRest head (take have room.old) (R.remaining reader.old) (R.remaining reader.new)) }
 {
     if head.size <= ROOM {
         read_short(reader, head, have, room)
@@ -135,7 +146,8 @@ pub(crate) fn finish_block<R: Read>(
     requires head { IsBlockHead section.old.order (take have room.old) head }
     ensures room { length room.new ≡ 262172 }
     ensures ok { (unread : Option (List ℕ)) → Consumes unread (R.remaining reader.old) (take have room.old)
-        → IfOk result (IsNextBlock (take have room.old) (section_of section.old) (section_of section.new) room.new unread (R.remaining reader.new)) }
+        → IfOk result (IsNextBlock (take have room.old) (section_of section.old)
+        (section_of section.new) room.new unread (R.remaining reader.new)) }
     ensures err { (unread : Option (List ℕ)) → Consumes unread (R.remaining reader.old) (take have room.old)
         → IfErr result (StopsItem (of_section (section_of section.old)) unread (R.remaining reader.new)) }
 {
@@ -167,8 +179,11 @@ pub(crate) fn read_block<R: Read>(
 ) -> Result<Next, CaptureFault>
     requires { length room.old ≡ 262172 }
     ensures room { length room.new ≡ 262172 }
-    ensures ok { IfOk result (IsNext (of_section (section_of section.old)) (of_section (section_of section.new)) room.new (R.remaining reader.old) (R.remaining reader.new)) }
-    ensures err { IfErr result (StopsItem (of_section (section_of section.old)) (R.remaining reader.old) (R.remaining reader.new)) }
+    ensures ok { IfOk result
+        (IsNext (of_section (section_of section.old)) (of_section (section_of section.new)) room.new
+        (R.remaining reader.old) (R.remaining reader.new)) }
+    ensures err { IfErr result
+        (StopsItem (of_section (section_of section.old)) (R.remaining reader.old) (R.remaining reader.new)) }
 {
     let Ok(count) = read_full(reader, &mut room[..FRONT]) else {
         return Err(CaptureFault::CannotRead);

@@ -1,11 +1,15 @@
 //! The datagrams of a capture, as the lines of a log.
 
-ghost use Rattle.std.specs.Prelude.{◌≡◌, ◌+◌, ◌<◌, ◌≤◌, List, ℕ, Option, length, IfOk, IfErr, IfSome, OnOk, option_map, string_bytes};
+ghost use Rattle.std.specs.Prelude.{◌≡◌, ◌+◌, ◌<◌, ◌≤◌, List, ℕ, Option, length, IfOk, IfErr, IfSome, OnOk};
+ghost use Rattle.std.specs.Prelude.{option_map, string_bytes};
 ghost use Rattle.std.specs.Io.KnownBytes.{Appends, Consumes, IsAtEnd};
 ghost use Rattle.capture_files.specs.Formats.{state_of};
 ghost use Rattle.capture_files.specs.Items.{record_of};
 ghost use Rattle.capture_files.specs.Passed.{IsBelow, counts_of, none_passed};
-ghost use Rattle.capture_files.specs.Datagrams.{IsEnd, IsLogOf, IsSorted, IsSortedRecord, PrintsAs, PrintsLine, Stands, StopsDatagram, StopsBy, StopsItems, StopsRecord, StopsWrite, WritesDatagram, WritesItem, WritesRecord, log_line, note_line, record_from, told_word, streams};
+ghost use Rattle.capture_files.specs.Datagrams.{IsEnd, IsLogOf, IsSorted, IsSortedRecord, PrintsAs, PrintsLine};
+ghost use Rattle.capture_files.specs.Datagrams.{Stands, StopsDatagram, StopsBy, StopsItems, StopsRecord, StopsWrite};
+ghost use Rattle.capture_files.specs.Datagrams.{WritesDatagram, WritesItem, WritesRecord, log_line, note_line};
+ghost use Rattle.capture_files.specs.Datagrams.{record_from, told_word, streams};
 
 use crate::fault::CaptureFault;
 use crate::format::{Begun, begin, read_item};
@@ -43,7 +47,8 @@ pub(crate) enum Telling {
     NoMoment,
 }
 
-/// What becomes of a record of this moment and link in which this was found, where datagrams from and to these ports are wanted.
+/// What becomes of a record of this moment and link in which this was found, where datagrams from and to
+/// these ports are wanted.
 fn sort<'a>(moment: u64, link: u16, found: Found<'a>, ports: &[u16]) -> Sorted<'a>
     ensures { IsSorted ports.now link moment found.entry result }
 {
@@ -107,7 +112,8 @@ fn told_word(why: Telling) -> &'static str
     }
 }
 
-/// The line of a log for a datagram, `MOMENT HEX` and a line feed, with the moment in decimal and two small hex digits an octet.
+/// The line of a log for a datagram, `MOMENT HEX` and a line feed, with the moment in decimal and two small
+/// hex digits an octet.
 #[tactic(auto, unfolding(crate::specs::Datagrams::log_line))]
 pub fn log_line(alloc: Global, moment: u64, datagram: &[u8]) -> Result<String, AllocError>
     ensures { IfOk result (λ text. string_bytes text ≡ log_line moment datagram.now) }
@@ -135,8 +141,12 @@ fn write_datagram<P: Printer, L: Write>(
     log: &mut L,
 ) -> Result<(), CaptureFault>
     requires { IsBelow (counts_of passed.old) 18446744073709551615 }
-    ensures ok { OnOk result (WritesDatagram (P.prints printer.old) moment datagram.now (counts_of passed.old) (counts_of passed.new) (L.contents log.old) (L.contents log.new)) }
-    ensures err { IfErr result (StopsDatagram (P.prints printer.old) moment datagram.now (counts_of passed.old) (L.contents log.old) (L.contents log.new)) }
+    ensures ok { OnOk result
+        (WritesDatagram (P.prints printer.old) moment datagram.now (counts_of passed.old) (counts_of passed.new)
+        (L.contents log.old) (L.contents log.new)) }
+    ensures err { IfErr result
+        (StopsDatagram (P.prints printer.old) moment datagram.now (counts_of passed.old) (L.contents log.old)
+        (L.contents log.new)) }
     ensures keeps { PrintsAs (P.prints printer.new) (P.prints printer.old) }
 {
     let Ok(printed) = printer.print(alloc, passed.datagrams + 1, moment, datagram) else {
@@ -162,8 +172,14 @@ pub(crate) fn write_record<P: Printer, L: Write, N: Write>(
     notes: &mut N,
 ) -> Result<(), CaptureFault>
     requires { IsBelow (counts_of passed.old) 18446744073709551615 }
-    ensures ok { OnOk result (WritesRecord (P.prints printer.old) ports.now (record_from captured.entry) captured.entry.number (counts_of passed.old) (counts_of passed.new) (L.contents log.old) (L.contents log.new) (N.contents notes.old) (N.contents notes.new)) }
-    ensures err { IfErr result (StopsRecord (P.prints printer.old) ports.now (record_from captured.entry) captured.entry.number (counts_of passed.old).datagrams (L.contents log.old) (L.contents log.new) (N.contents notes.old) (N.contents notes.new)) }
+    ensures ok { OnOk result
+        (WritesRecord (P.prints printer.old) ports.now (record_from captured.entry) captured.entry.number
+        (counts_of passed.old) (counts_of passed.new) (L.contents log.old) (L.contents log.new)
+        (N.contents notes.old) (N.contents notes.new)) }
+    ensures err { IfErr result
+        (StopsRecord (P.prints printer.old) ports.now (record_from captured.entry) captured.entry.number
+        (counts_of passed.old).datagrams (L.contents log.old) (L.contents log.new) (N.contents notes.old)
+        (N.contents notes.new)) }
     ensures keeps { PrintsAs (P.prints printer.new) (P.prints printer.old) }
 {
     match sort_record(captured, ports) {
@@ -201,8 +217,14 @@ fn write_item<P: Printer, L: Write, N: Write>(
     requires within { IfSome packet (λ h. h.at + h.size ≤ length room.now) }
     requires number { number < 18446744073709551615 }
     requires below { IsBelow (counts_of passed.old) 18446744073709551615 }
-    ensures ok { IfOk result (λ next. WritesItem (P.prints printer.old) ports.now (option_map (λ h. record_of h room.now) packet) number next (counts_of passed.old) (counts_of passed.new) (L.contents log.old) (L.contents log.new) (N.contents notes.old) (N.contents notes.new)) }
-    ensures err { IfErr result (StopsWrite (P.prints printer.old) ports.now (option_map (λ h. record_of h room.now) packet) number (counts_of passed.old).datagrams (L.contents log.old) (L.contents log.new) (N.contents notes.old) (N.contents notes.new)) }
+    ensures ok { IfOk result
+        (λ next. WritesItem (P.prints printer.old) ports.now
+        (option_map (λ h. record_of h room.now) packet) number next (counts_of passed.old) (counts_of passed.new)
+        (L.contents log.old) (L.contents log.new) (N.contents notes.old) (N.contents notes.new)) }
+    ensures err { IfErr result
+        (StopsWrite (P.prints printer.old) ports.now (option_map (λ h. record_of h room.now) packet) number
+        (counts_of passed.old).datagrams (L.contents log.old) (L.contents log.new) (N.contents notes.old)
+        (N.contents notes.new)) }
     ensures keeps { PrintsAs (P.prints printer.new) (P.prints printer.old) }
 {
     let Some(head) = packet else {
@@ -234,8 +256,14 @@ fn write_items<P: Printer, R: Read, L: Write, N: Write>(
     requires room { length room.old ≡ 262172 }
     requires near { begun.place ≤ 4294967295 }
     requires none { counts_of passed ≡ none_passed }
-    ensures ok { IfOk result (λ passed. Stands (P.prints printer.old) ports.now (state_of begun.format) (streams (R.remaining reader.old) (R.remaining reader.new) (L.contents log.old) (L.contents log.new) (N.contents notes.old) (N.contents notes.new)) (IsEnd (R.remaining reader.new)) (counts_of passed)) }
-    ensures err { IfErr result (StopsItems (P.prints printer.old) ports.now (state_of begun.format) begun.place (streams (R.remaining reader.old) (R.remaining reader.new) (L.contents log.old) (L.contents log.new) (N.contents notes.old) (N.contents notes.new))) }
+    ensures ok { IfOk result
+        (λ passed. Stands (P.prints printer.old) ports.now (state_of begun.format)
+        (streams (R.remaining reader.old) (R.remaining reader.new) (L.contents log.old) (L.contents log.new)
+        (N.contents notes.old) (N.contents notes.new)) (IsEnd (R.remaining reader.new)) (counts_of passed)) }
+    ensures err { IfErr result
+        (StopsItems (P.prints printer.old) ports.now (state_of begun.format) begun.place
+        (streams (R.remaining reader.old) (R.remaining reader.new) (L.contents log.old) (L.contents log.new)
+        (N.contents notes.old) (N.contents notes.new))) }
 {
     let (mut format, mut place) = (begun.format, begun.place);
     let mut number = 1u64;
@@ -261,17 +289,18 @@ fn write_items<P: Printer, R: Read, L: Write, N: Write>(
     Err(CaptureFault::Octet(place))
 }
 
-/// Writes the datagrams of a capture in the format of libpcap or in pcapng as a log, a line `MOMENT HEX` for each, and counts or
-/// tells what isn't in the log: `notes` gets a line `snmpsec: record N: REASON` for each piece of a datagram, each that was cut short
-/// when it was captured, each of a length that can't be, each that is empty and each record without a moment; what else is no
-/// datagram from or to one of these ports is counted. MOMENT is in whole seconds, and N counts from 1.
+/// Writes the datagrams of a capture in the format of libpcap or in pcapng as a log, a line `MOMENT HEX` for
+/// each, and counts or tells what isn't in the log: `notes` gets a line `snmpsec: record N: REASON` for each
+/// piece of a datagram, each that was cut short when it was captured, each of a length that can't be, each
+/// that is empty and each record without a moment; what else is no datagram from or to one of these ports is
+/// counted. MOMENT is in whole seconds, and N counts from 1.
 ///
-/// It holds one record at a time, of at most 262,144 octets, and of a section of pcapng what is said of its interfaces. A reader that
-/// doesn't read ahead is given in a `BufReader`, and writers in a `BufWriter`.
+/// It holds one record at a time, of at most 262,144 octets, and of a section of pcapng what is said of its
+/// interfaces. A reader that doesn't read ahead is given in a `BufReader`, and writers in a `BufWriter`.
 ///
-/// The errors are Octet(n), where what begins at octet n is no header, record or block, or n is 2^62 or more; CannotRead and
-/// CannotWrite, where a read or a write fails, or is interrupted 1,000 times in a row; and OutOfMemory. Before each of them but
-/// CannotWrite all is written that the records before come to.
+/// The errors are Octet(n), where what begins at octet n is no header, record or block, or n is 2^62 or more;
+/// CannotRead and CannotWrite, where a read or a write fails, or is interrupted 1,000 times in a row; and
+/// OutOfMemory. Before each of them but CannotWrite all is written that the records before come to.
 pub fn write_datagrams<R: Read, L: Write, N: Write>(
     alloc: Global,
     ports: &[u16],
@@ -281,9 +310,11 @@ pub fn write_datagrams<R: Read, L: Write, N: Write>(
 ) -> Result<Tally, CaptureFault>
     ensures ok { IfOk result (λ passed. IfSome (R.remaining reader.old) (λ capture. (lines : List ℕ) × (tells : List ℕ)
         × IsLogOf PrintsLine ports.now capture lines tells (counts_of passed)
-        × Appends (L.contents log.old) (L.contents log.new) lines × Appends (N.contents notes.old) (N.contents notes.new) tells)) }
+        × Appends (L.contents log.old) (L.contents log.new) lines
+        × Appends (N.contents notes.old) (N.contents notes.new) tells)) }
     ensures err { IfErr result (StopsBy PrintsLine ports.now
-        (streams (R.remaining reader.old) (R.remaining reader.new) (L.contents log.old) (L.contents log.new) (N.contents notes.old) (N.contents notes.new))) }
+        (streams (R.remaining reader.old) (R.remaining reader.new) (L.contents log.old) (L.contents log.new)
+        (N.contents notes.old) (N.contents notes.new))) }
 {
     let mut octets = [0u8; HEADER];
     let Ok(count) = read_full(reader, &mut octets) else {
@@ -300,8 +331,8 @@ pub fn write_datagrams<R: Read, L: Write, N: Write>(
     )
 }
 
-/// The same for a capture of which the first 24 octets were read, or all where it has fewer, with what a printer makes of each datagram in the
-/// place of its line. The datagrams count from 1.
+/// The same for a capture of which the first 24 octets were read, or all where it has fewer, with what a
+/// printer makes of each datagram in the place of its line. The datagrams count from 1.
 pub fn print_datagrams_behind<P: Printer, R: Read, L: Write, N: Write>(
     alloc: Global,
     front: &[u8],
@@ -316,9 +347,12 @@ pub fn print_datagrams_behind<P: Printer, R: Read, L: Write, N: Write>(
     ensures ok { (unread : Option (List ℕ)) → Consumes unread (R.remaining reader.old) front.now
         → IfOk result (λ passed. IfSome unread (λ capture. (lines : List ℕ) × (tells : List ℕ)
         × IsLogOf (P.prints printer.old) ports.now capture lines tells (counts_of passed)
-        × Appends (L.contents log.old) (L.contents log.new) lines × Appends (N.contents notes.old) (N.contents notes.new) tells)) }
-    ensures err { (unread : Option (List ℕ)) → Consumes unread (R.remaining reader.old) front.now → IfErr result (StopsBy (P.prints printer.old) ports.now
-        (streams unread (R.remaining reader.new) (L.contents log.old) (L.contents log.new) (N.contents notes.old) (N.contents notes.new))) }
+        × Appends (L.contents log.old) (L.contents log.new) lines
+        × Appends (N.contents notes.old) (N.contents notes.new) tells)) }
+    ensures err { (unread : Option (List ℕ)) → Consumes unread (R.remaining reader.old) front.now
+        → IfErr result (StopsBy (P.prints printer.old) ports.now
+        (streams unread (R.remaining reader.new) (L.contents log.old) (L.contents log.new) (N.contents notes.old)
+        (N.contents notes.new))) }
 {
     let Ok(mut room) = vec![in alloc; 0u8; ROOM] else {
         return Err(CaptureFault::OutOfMemory);

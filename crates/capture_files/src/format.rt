@@ -2,7 +2,8 @@
 
 ghost use Rattle.std.specs.Prelude.{◌≡◌, ◌<◌, ◌≤◌, ◌++◌, true, ℕ, List, Option, drop, length, IfOk, IfErr};
 ghost use Rattle.std.specs.Io.KnownBytes.{Consumes, IsAtEnd};
-ghost use Rattle.capture_files.specs.Formats.{Begins, IsNext, ReadsBeginning, StopsItem, begins_capture, of_header, state_of};
+ghost use Rattle.capture_files.specs.Formats.{Begins, IsNext, ReadsBeginning, StopsItem, begins_capture, of_header};
+ghost use Rattle.capture_files.specs.Formats.{state_of};
 ghost use Rattle.capture_files.specs.Pcapng.{begins_section};
 
 use crate::blocks::{finish_block, read_block};
@@ -31,8 +32,8 @@ pub(crate) struct Begun {
     pub(crate) place: u64,
 }
 
-/// The octets begin as a capture does, with a number of the format of libpcap in either order of octets, or as pcapng. Four octets are
-/// looked at.
+/// The octets begin as a capture does, with a number of the format of libpcap in either order of octets, or
+/// as pcapng. Four octets are looked at.
 pub fn begins_capture(octets: &[u8]) -> bool
     ensures { result ≡ begins_capture octets.now }
 {
@@ -60,8 +61,10 @@ fn begin_section<R: Read>(
     requires end { length front.now < 24 → IsAtEnd (R.remaining reader.old) }
     requires begins { begins_section front.now ≡ true }
     ensures room { length room.new ≡ 262172 }
-    ensures ok { (unread : Option (List ℕ)) → Consumes unread (R.remaining reader.old) front.now → IfOk result (Begins unread (R.remaining reader.new)) }
-    ensures err { (unread : Option (List ℕ)) → Consumes unread (R.remaining reader.old) front.now → IfErr result (ReadsBeginning unread (R.remaining reader.new)) }
+    ensures ok { (unread : Option (List ℕ)) → Consumes unread (R.remaining reader.old) front.now
+        → IfOk result (Begins unread (R.remaining reader.new)) }
+    ensures err { (unread : Option (List ℕ)) → Consumes unread (R.remaining reader.old) front.now
+        → IfErr result (ReadsBeginning unread (R.remaining reader.new)) }
 {
     if front.len() < HEADER {
         return Err(CaptureFault::Octet(0));
@@ -95,8 +98,10 @@ pub(crate) fn begin<R: Read>(
     requires short { length front.now ≤ 24 }
     requires end { length front.now < 24 → IsAtEnd (R.remaining reader.old) }
     ensures room { length room.new ≡ 262172 }
-    ensures ok { (unread : Option (List ℕ)) → Consumes unread (R.remaining reader.old) front.now → IfOk result (Begins unread (R.remaining reader.new)) }
-    ensures err { (unread : Option (List ℕ)) → Consumes unread (R.remaining reader.old) front.now → IfErr result (ReadsBeginning unread (R.remaining reader.new)) }
+    ensures ok { (unread : Option (List ℕ)) → Consumes unread (R.remaining reader.old) front.now
+        → IfOk result (Begins unread (R.remaining reader.new)) }
+    ensures err { (unread : Option (List ℕ)) → Consumes unread (R.remaining reader.old) front.now
+        → IfErr result (ReadsBeginning unread (R.remaining reader.new)) }
 {
     if begins_section(front) {
         return begin_section(alloc, front, room, reader);
@@ -118,7 +123,9 @@ fn read_record_item<R: Read>(
 ) -> Result<Next, CaptureFault>
     requires { length room.old ≡ 262172 }
     ensures room { length room.new ≡ 262172 }
-    ensures ok { IfOk result (IsNext (of_header header) (of_header header) room.new (R.remaining reader.old) (R.remaining reader.new)) }
+    ensures ok { IfOk result
+        (IsNext (of_header header) (of_header header) room.new (R.remaining reader.old)
+        (R.remaining reader.new)) }
     ensures err { IfErr result (StopsItem (of_header header) (R.remaining reader.old) (R.remaining reader.new)) }
 {
     match read_record(reader, header, room) {
@@ -135,7 +142,9 @@ pub(crate) fn read_item<R: Read>(
 ) -> Result<Next, CaptureFault>
     requires { length room.old ≡ 262172 }
     ensures room { length room.new ≡ 262172 }
-    ensures ok { IfOk result (IsNext (state_of format.old) (state_of format.new) room.new (R.remaining reader.old) (R.remaining reader.new)) }
+    ensures ok { IfOk result
+        (IsNext (state_of format.old) (state_of format.new) room.new (R.remaining reader.old)
+        (R.remaining reader.new)) }
     ensures err { IfErr result (StopsItem (state_of format.old) (R.remaining reader.old) (R.remaining reader.new)) }
 {
     match format {

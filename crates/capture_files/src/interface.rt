@@ -1,7 +1,8 @@
 //! What a section of pcapng says of an interface, and when a packet of it was captured.
 
 ghost use Rattle.std.specs.Prelude.{◌≡◌, ◌<◌, ◌≤◌, ◌^◌, ◌/◌, SomeIff, length, true};
-ghost use Rattle.capture_files.specs.Pcapng.{IsMoved, SayAll, behind_option, has_option, plain_interface, units, with_option};
+ghost use Rattle.capture_files.specs.Pcapng.{IsMoved, SayAll, behind_option, has_option, plain_interface, units};
+ghost use Rattle.capture_files.specs.Pcapng.{with_option};
 
 use crate::field::{Order, read_16_by, read_64};
 

@@ -1,5 +1,5 @@
-//! The datagrams of a capture (pcap, pcapng): the packets of a file, the UDP datagram that a packet carries whole, and why a packet
-//! carries none.
+//! The datagrams of a capture (pcap, pcapng): the packets of a file, the UDP datagram that a packet carries
+//! whole, and why a packet carries none.
 //!
 //! ```
 //! use capture_files::begins_capture;

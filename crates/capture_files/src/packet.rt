@@ -1,7 +1,8 @@
 //! The datagram of a packet: the frame of its link, IP and UDP.
 
 ghost use Rattle.std.specs.Prelude.{◌≡◌, ◌+◌, ◌≤◌, length, take, drop};
-ghost use Rattle.capture_files.specs.Packet.{FindsIpv4, FindsIpv6, FindsUdp, IsFound, IsFramed, IsNetwork, IsRaw, IsUntagged, WalksTo, is_extension, is_piece, is_tag, next_place};
+ghost use Rattle.capture_files.specs.Packet.{FindsIpv4, FindsIpv6, FindsUdp, IsFound, IsFramed, IsNetwork, IsRaw};
+ghost use Rattle.capture_files.specs.Packet.{IsUntagged, WalksTo, is_extension, is_piece, is_tag, next_place};
 
 use crate::field::read_16;
 
@@ -46,11 +47,11 @@ pub(crate) enum Network<'a> {
     OtherLink,
 }
 
-/// The datagram of a packet on a link of this type (the numbers of LINKTYPE), or what the packet is in its place. `whole` says
-/// that the packet wasn't cut when it was captured.
+/// The datagram of a packet on a link of this type (the numbers of LINKTYPE), or what the packet is in its
+/// place. `whole` says that the packet wasn't cut when it was captured.
 ///
-/// Links are Ethernet (1) with any tags of virtual LANs, raw IP (101), and both cooked kinds of Linux (113, 276). Sums over
-/// octets aren't looked at.
+/// Links are Ethernet (1) with any tags of virtual LANs, raw IP (101), and both cooked kinds of Linux (113,
+/// 276). Sums over octets aren't looked at.
 pub fn find_datagram(link: u32, packet: &[u8], whole: bool) -> Found<'_>
     ensures { IsFound link packet.now whole result }
 {

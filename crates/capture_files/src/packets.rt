@@ -38,7 +38,10 @@ fn write_packet<P: Printer>(
     notes: &mut Vec<u8>,
 ) -> Result<(), AllocError>
     requires { IsBelow (counts_of passed.old) 18446744073709551615 }
-    ensures ok { OnOk result (WritesRecord (P.prints printer.old) ports.now (packet_record moment packet.now) number (counts_of passed.old) (counts_of passed.new) (Some log.old.items) (Some log.new.items) (Some notes.old.items) (Some notes.new.items)) }
+    ensures ok { OnOk result
+        (WritesRecord (P.prints printer.old) ports.now (packet_record moment packet.now) number
+        (counts_of passed.old) (counts_of passed.new) (Some log.old.items) (Some log.new.items)
+        (Some notes.old.items) (Some notes.new.items)) }
     ensures keeps { PrintsAs (P.prints printer.new) (P.prints printer.old) }
 {
     let head = Head {
@@ -59,10 +62,10 @@ fn write_packet<P: Printer>(
     }
 }
 
-/// What packets come to that begin with their IP header (IPv4 or IPv6) and were received at this moment, in seconds, as the records of a
-/// capture do: what is printed of each datagram from or to one of these ports; a line `snmpsec: record N: REASON` for each piece of a
-/// datagram, each that is cut short, each of a length that can't be and each that is empty, N counting packets from 1; and how many
-/// others there are, by reason.
+/// What packets come to that begin with their IP header (IPv4 or IPv6) and were received at this moment, in
+/// seconds, as the records of a capture do: what is printed of each datagram from or to one of these ports; a
+/// line `snmpsec: record N: REASON` for each piece of a datagram, each that is cut short, each of a length
+/// that can't be and each that is empty, N counting packets from 1; and how many others there are, by reason.
 pub fn packets_log<P: Printer>(
     alloc: Global,
     ports: &[u16],
@@ -70,7 +73,9 @@ pub fn packets_log<P: Printer>(
     packets: &[Vec<u8>],
     printer: &mut P,
 ) -> Result<PacketLog, AllocError>
-    ensures { IfOk result (λ told. ComeTo (P.prints printer.old) ports.now moment (map (λ packet. packet.items) packets.now) told.log.items told.notes.items (counts_of told.passed)) }
+    ensures { IfOk result
+        (λ told. ComeTo (P.prints printer.old) ports.now moment
+        (map (λ packet. packet.items) packets.now) told.log.items told.notes.items (counts_of told.passed)) }
 {
     let mut passed = Tally::none(alloc)?;
     let mut log = Vec::new(alloc);

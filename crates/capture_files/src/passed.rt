@@ -1,7 +1,8 @@
 //! How many datagrams were printed, and how many packets passed over, by reason.
 
 ghost use Rattle.std.specs.Prelude.{◌≡◌, ◌++◌, map, IfOk, OnOk, string_bytes};
-ghost use Rattle.capture_files.specs.Passed.{IsBelow, IsPassedWords, count_part, counts_of, link_parts, link_word, none_passed, one_more, one_printed, zeros};
+ghost use Rattle.capture_files.specs.Passed.{IsBelow, IsPassedWords, count_part, counts_of, link_parts, link_word};
+ghost use Rattle.capture_files.specs.Passed.{none_passed, one_more, one_printed, zeros};
 
 use std::alloc::{AllocError, Global};
 
@@ -84,8 +85,9 @@ impl Tally {
         }
     }
 
-    /// The reasons that there were, each with how often, as `another port 3, not UDP 20`: `another port`, `link type N`, `not IP` and
-    /// `not UDP`, in the order of their octets. Empty where no record was passed over.
+    /// The reasons that there were, each with how often, as `another port 3, not UDP 20`: `another port`,
+    /// `link type N`, `not IP` and `not UDP`, in the order of their octets. Empty where no record was passed
+    /// over.
     pub fn words(&self, alloc: Global) -> Result<String, AllocError>
         ensures { IfOk result (λ text. IsPassedWords (counts_of self.now) (string_bytes text)) }
     {
@@ -113,7 +115,8 @@ fn push_part(
     word: &str,
     count: u64,
 ) -> Result<(), AllocError>
-    ensures { OnOk result (map string_bytes parts.new.items ≡ map string_bytes parts.old.items ++ count_part word.now count) }
+    ensures { OnOk result
+        (map string_bytes parts.new.items ≡ map string_bytes parts.old.items ++ count_part word.now count) }
 {
     if count == 0 {
         return Ok(());
@@ -130,7 +133,9 @@ fn push_link(
     link: usize,
     count: u64,
 ) -> Result<(), AllocError>
-    ensures { OnOk result (map string_bytes parts.new.items ≡ map string_bytes parts.old.items ++ count_part (link_word link) count) }
+    ensures { OnOk result
+        (map string_bytes parts.new.items
+        ≡ map string_bytes parts.old.items ++ count_part (link_word link) count) }
 {
     if count == 0 {
         return Ok(());
@@ -141,7 +146,8 @@ fn push_link(
 
 /// Adds the types of links that were met, in the order of their numbers.
 fn push_links(alloc: Global, parts: &mut Vec<String>, counts: &[u64]) -> Result<(), AllocError>
-    ensures { OnOk result (map string_bytes parts.new.items ≡ map string_bytes parts.old.items ++ link_parts 0 counts.now) }
+    ensures { OnOk result
+        (map string_bytes parts.new.items ≡ map string_bytes parts.old.items ++ link_parts 0 counts.now) }
 {
     for link in 0..counts.len() {
         push_link(alloc, parts, link, counts[link])?;

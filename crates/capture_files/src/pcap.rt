@@ -126,7 +126,9 @@ pub(crate) fn read_record<R: Read>(
 ) -> Result<Next, Failed>
     requires { length room.old ≡ 262172 }
     ensures room { length room.new ≡ 262172 }
-    ensures ok { IfOk result (IsNext (of_header header) (of_header header) room.new (R.remaining reader.old) (R.remaining reader.new)) }
+    ensures ok { IfOk result
+        (IsNext (of_header header) (of_header header) room.new (R.remaining reader.old)
+        (R.remaining reader.new)) }
     ensures err { OnErr result (ReadsPart header (R.remaining reader.old) (R.remaining reader.new)) }
 {
     let mut octets = [0u8; HEAD];

@@ -1,9 +1,11 @@
 //! The blocks of a capture in pcapng, and what they mean.
 
 ghost use Rattle.std.specs.Prelude.{◌≡◌, ◌≤◌, min, length, IfOk, IfSome, IfNone, OnErr};
-ghost use Rattle.capture_files.specs.Formats.{HasNoBlockHead, IsBlockHead, IsMeaning, IsNotPacket, IsPacketHead, IsSectionBegun, TakesInterface};
+ghost use Rattle.capture_files.specs.Formats.{HasNoBlockHead, IsBlockHead, IsMeaning, IsNotPacket, IsPacketHead};
+ghost use Rattle.capture_files.specs.Formats.{IsSectionBegun, TakesInterface};
 ghost use Rattle.capture_files.specs.declared.interface.Interface.{Interface as InterfaceIs};
-ghost use Rattle.capture_files.specs.Pcapng.{IsInterface, begins_section, block_kind, block_order, kind_of, least_size, section_of};
+ghost use Rattle.capture_files.specs.Pcapng.{IsInterface, begins_section, block_kind, block_order, kind_of};
+ghost use Rattle.capture_files.specs.Pcapng.{least_size, section_of};
 
 use crate::field::{Order, read_16_by, read_32};
 use crate::interface::{Interface, read_options};
@@ -167,7 +169,8 @@ impl Section {
     pub(crate) fn take(&mut self, head: BlockHead, front: &[u8]) -> Result<Meaning, AllocError>
         requires front { length front.now ≡ min head.size 262172 }
         requires least { least_size front.now ≤ head.size }
-        ensures ok { IfOk result (IsMeaning (section_of self.old) head.order front.now head.size (section_of self.new)) }
+        ensures ok { IfOk result
+            (IsMeaning (section_of self.old) head.order front.now head.size (section_of self.new)) }
         ensures err { OnErr result (TakesInterface (section_of self.old) head.order front.now head.size) }
     {
         match block_kind(head.order, front) {

@@ -17,10 +17,12 @@ pub struct Printed {
 
 /// What makes a text of each datagram.
 pub trait Printer {
-    /// The datagram with this number, at this moment, with these octets, is printed as this text, which tells a refusal or doesn't.
+    /// The datagram with this number, at this moment, with these octets, is printed as this text, which tells
+    /// a refusal or doesn't.
     ghost prints: { Self → ℕ → ℕ → List ℕ → List ℕ → Bool → Type 0 };
 
-    /// What is printed of a datagram with this number, that was received at this moment, in seconds. The error is want of memory.
+    /// What is printed of a datagram with this number, that was received at this moment, in seconds. The
+    /// error is want of memory.
     fn print(
         &mut self,
         alloc: Global,
@@ -28,7 +30,8 @@ pub trait Printer {
         moment: u64,
         datagram: &[u8],
     ) -> Result<Printed, AllocError>
-        ensures ok { IfOk result (λ printed. prints self.old number moment datagram.now printed.text.items printed.refused) }
+        ensures ok { IfOk result
+            (λ printed. prints self.old number moment datagram.now printed.text.items printed.refused) }
         ensures keeps { PrintsAs (prints self.new) (prints self.old) };
 }
 

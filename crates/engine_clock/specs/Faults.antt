@@ -5,7 +5,8 @@ use Rattle.engine_clock.specs.Saved.{BeginsWell, IsFirstFault}
 use Rattle.engine_clock.specs.declared.saved.ClockFault.{ClockFault}
 use Rattle.engine_clock.specs.declared.saved.ClockFault.TheVariants.{Line, OutOfMemory}
 
--- the fault is the text's; or it is want of memory, which comes only where the heading and an entry are as they have to be
+-- the fault is the text's; or it is want of memory, which comes only where the heading and an entry are as
+-- they have to be
 abbrev pub IsFaultOf : ℕ → List ℕ → ClockFault → Type 0
 IsFaultOf now text (Line n) = IsFirstFault now text n
 IsFaultOf now text OutOfMemory = BeginsWell now text 2

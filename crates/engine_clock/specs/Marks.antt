@@ -47,7 +47,8 @@ mark_cmp_total = then_total (on_total (λ m. m.pair) pair_cmp_total) (back_total
 pub mark_cmp_exact : CmpEqualImpliesEq mark_cmp
 mark_cmp_exact m n e =
     ap (λ (p : BootsAndTime × ℕ). record { pair = p.0; seen = p.1 })
-    (exact_pairs pair_cmp (flip_args nat_cmp) pair_cmp_exact (λ x y h. sym (exact_unsigned y x h)) (m.pair, m.seen) (n.pair, n.seen) e)
+    (exact_pairs pair_cmp (flip_args nat_cmp) pair_cmp_exact (λ x y h. sym (exact_unsigned y x h)) (m.pair, m.seen)
+    (n.pair, n.seen) e)
 
 -- ---- maps
 
@@ -68,12 +69,14 @@ pair_at marks engine = option_map (λ mark. mark.pair) (map.get marks engine)
 -- The mark of one engine is the join of the one before with this one, and all other engines keep theirs.
 abbrev pub JoinsMark : List ℕ → SeenPair → Marks → Marks → Type 0
 JoinsMark engine mark old new =
-    (q : List ℕ) → mark_at new q ≡ (if eq_by_cmp engine_cmp q engine then option_join mark_join (mark_at old q) (Some mark) else mark_at old q)
+    (q : List ℕ) → mark_at new q
+    ≡ (if eq_by_cmp engine_cmp q engine then option_join mark_join (mark_at old q) (Some mark) else mark_at old q)
 
 -- The same of pairs.
 abbrev pub JoinsPair : List ℕ → BootsAndTime → Marks → Marks → Type 0
 JoinsPair engine pair old new =
-    (q : List ℕ) → pair_at new q ≡ (if eq_by_cmp engine_cmp q engine then option_join pair_join (pair_at old q) (Some pair) else pair_at old q)
+    (q : List ℕ) → pair_at new q
+    ≡ (if eq_by_cmp engine_cmp q engine then option_join pair_join (pair_at old q) (Some pair) else pair_at old q)
 
 -- ---- the marks of another map come in
 
@@ -83,11 +86,13 @@ HoldsAll held other = (engine : List ℕ) → IsSome (mark_at other engine) → 
 
 -- the join of two maps: at each engine the greater of the one or two marks there, and no other engine
 abbrev pub IsMarkJoinOf : Marks → Marks → Marks → Type 0
-IsMarkJoinOf a b joined = (engine : List ℕ) → mark_at joined engine ≡ option_join mark_join (mark_at a engine) (mark_at b engine)
+IsMarkJoinOf a b joined = (engine : List ℕ)
+    → mark_at joined engine ≡ option_join mark_join (mark_at a engine) (mark_at b engine)
 
 -- The same of pairs.
 abbrev pub IsJoinOf : Marks → Marks → Marks → Type 0
-IsJoinOf a b joined = (engine : List ℕ) → pair_at joined engine ≡ option_join pair_join (pair_at a engine) (pair_at b engine)
+IsJoinOf a b joined = (engine : List ℕ)
+    → pair_at joined engine ≡ option_join pair_join (pair_at a engine) (pair_at b engine)
 
 -- ---- the map that the code makes
 
@@ -103,7 +108,8 @@ learned engine mark marks = map.insert marks engine (joined_to (map.get marks en
 
 abbrev pub mark_code : Coded SeenPair
 mark_code =
-    code_by (ℕ × (ℕ × ℕ)) (coded× coded_ℕ (coded× coded_ℕ coded_ℕ)) (λ m. (m.pair.boots, (m.pair.time, m.seen))) (λ n. record { pair = record { boots = n.0; time = n.1.0 }; seen = n.1.1 }) (λ _. refl)
+    code_by (ℕ × (ℕ × ℕ)) (coded× coded_ℕ (coded× coded_ℕ coded_ℕ)) (λ m. (m.pair.boots, (m.pair.time, m.seen)))
+    (λ n. record { pair = record { boots = n.0; time = n.1.0 }; seen = n.1.1 }) (λ _. refl)
 
 abbrev pub marks_code : Coded Marks
 marks_code = map.code (coded_list coded_ℕ) mark_code

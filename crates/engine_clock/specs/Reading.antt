@@ -10,7 +10,8 @@ use Rattle.engine_clock.specs.declared.saved.ClockFault.TheVariants.{Line, OutOf
 
 -- what comes after the boots: the time, which has no octet that ends it, and the moment where the form has it
 abbrev pub IsTail : Form → List ℕ → List ℕ → ℕ → List ℕ → Type 0
-IsTail WithMoments text time seen rest = (text ≡ time ++ (32 ∷ (decimal seen ++ (10 ∷ rest)))) × Lacks 32 time × (seen < 2 ^ 64)
+IsTail WithMoments text time seen rest = (text ≡ time ++ (32 ∷ (decimal seen ++ (10 ∷ rest)))) × Lacks 32 time
+    × (seen < 2 ^ 64)
 IsTail (ReadAt now) text time seen rest = (text ≡ time ++ (10 ∷ rest)) × Lacks 10 time × (seen ≡ now) × (seen < 2 ^ 64)
 
 -- the fault is the text's in this form; or it is want of memory, which comes only where an entry is as it has to be

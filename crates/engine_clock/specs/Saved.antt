@@ -1,6 +1,6 @@
--- The texts of saved clocks. Version 2 is the line `snmp-clocks 2`, and then for each engine a line of its identifier in
--- lower-case hex, its boots, its time and the moment at which they were seen, the engines in the order of their octets.
--- Version 1 is the line `snmp-clocks 1`, and the same lines without the moment.
+-- The texts of saved clocks. Version 2 is the line `snmp-clocks 2`, and then for each engine a line of its
+-- identifier in lower-case hex, its boots, its time and the moment at which they were seen, the engines in
+-- the order of their octets. Version 1 is the line `snmp-clocks 1`, and the same lines without the moment.
 use Rattle.std.specs.Prelude.{◌≡◌, ◌⊎◌, ℕ, ◌<◌, ◌^◌, suc, List, [], ◌∷◌, ◌++◌, codes, decimal}
 use Rattle.std.specs.List.{AllByRecursion}
 use Rattle.std.specs.List.Sorted.{IsStrictlySortedBy}
@@ -31,7 +31,8 @@ AreMarks marks = AllFit IsEntry marks
 
 -- the engine in lower-case hex, its boots, its time and its moment, in decimals without leading zeros
 abbrev pub line : Entry → List ℕ
-line e = encode_lower e.0 ++ 32 ∷ decimal e.1.pair.boots ++ 32 ∷ decimal e.1.pair.time ++ 32 ∷ decimal e.1.seen ++ 10 ∷ []
+line e = encode_lower e.0 ++ 32 ∷ decimal e.1.pair.boots ++ 32 ∷ decimal e.1.pair.time ++ 32
+    ∷ decimal e.1.seen ++ 10 ∷ []
 
 abbrev pub heading : List ℕ
 heading = codes "snmp-clocks 2\n"
@@ -61,7 +62,8 @@ Saves now text marks = Lists heading line IsEntry text marks ⊎ Lists old_headi
 
 -- The first n lines of the text are as they have to be in one of the versions.
 abbrev pub BeginsWell : ℕ → List ℕ → ℕ → Type 0
-BeginsWell now text n = BeginsWellBy heading line IsEntry text n ⊎ BeginsWellBy old_heading old_line (IsSeenAt now) text n
+BeginsWell now text n = BeginsWellBy heading line IsEntry text n
+    ⊎ BeginsWellBy old_heading old_line (IsSeenAt now) text n
 
 -- The text saves no map, and n is the number, counted from 1, of its first line that is not as it has to be.
 pub record IsFirstFault (now : ℕ) (text : List ℕ) (n : ℕ) : Type 0 where

@@ -5,7 +5,8 @@ ghost use Rattle.std.specs.FinMap as map;
 ghost use Rattle.std.specs.Ordering.{is_lt};
 ghost use Rattle.std.specs.List.{list_all};
 ghost use Rattle.engine_clock.specs.Engines.{engine_cmp};
-ghost use Rattle.engine_clock.specs.Marks.{Marks, mark_at, pair_at, seen_at, learned, JoinsMark, JoinsPair, HoldsAll, IsMarkJoinOf, IsJoinOf};
+ghost use Rattle.engine_clock.specs.Marks.{Marks, mark_at, pair_at, seen_at, learned, JoinsMark, JoinsPair, HoldsAll};
+ghost use Rattle.engine_clock.specs.Marks.{IsMarkJoinOf, IsJoinOf};
 ghost use Rattle.engine_clock.specs.Windows.{notion_at};
 
 use crate::mark::Mark;
@@ -14,8 +15,8 @@ use std::alloc::{AllocError, Global};
 use std::collections::BTreeMap;
 use std::marker::Model;
 
-/// A map from each engine that is held to the greatest of its marks that has come in (RFC 3414 section 2.3). All moments
-/// are in seconds from one beginning, which the caller keeps.
+/// A map from each engine that is held to the greatest of its marks that has come in (RFC 3414 section 2.3).
+/// All moments are in seconds from one beginning, which the caller keeps.
 #[derive(Debug, Drop)]
 pub struct Clocks {
     pub(crate) alloc: Global,
@@ -47,8 +48,8 @@ impl Clocks {
         }
     }
 
-    /// Learns a pair of an engine at the moment `now`: the mark (pair, now) is joined in. Where the engine is held already,
-    /// this takes no memory and succeeds. On an error all is as before.
+    /// Learns a pair of an engine at the moment `now`: the mark (pair, now) is joined in. Where the engine is
+    /// held already, this takes no memory and succeeds. On an error all is as before.
     pub fn learn(&mut self, engine: EngineId, pair: Pair, now: u64) -> Result<(), AllocError>
         ensures marks { OnOk result (JoinsMark engine (seen_at pair now) self.old self.new) }
         // So the pair is joined in.
@@ -59,8 +60,8 @@ impl Clocks {
         self.join_in(engine, Mark { pair, seen: now })
     }
 
-    /// Joins each mark of `other` in. Where all its engines are held already, this takes no memory and succeeds. On an error
-    /// all is as before.
+    /// Joins each mark of `other` in. Where all its engines are held already, this takes no memory and
+    /// succeeds. On an error all is as before.
     pub fn absorb(&mut self, other: &Clocks) -> Result<(), AllocError>
         ensures marks { OnOk result (IsMarkJoinOf self.old other.now self.new) }
         // So it is the join of the pairs.
@@ -101,8 +102,8 @@ impl Clocks {
         self.marks.get(engine).copied()
     }
 
-    /// The notion of the engine's time at the moment `now` (RFC 3414 section 2.3), where a pair is held: its time, and the
-    /// seconds since it was set, none where `now` is earlier. It is at most 2147483647.
+    /// The notion of the engine's time at the moment `now` (RFC 3414 section 2.3), where a pair is held: its
+    /// time, and the seconds since it was set, none where `now` is earlier. It is at most 2147483647.
     pub fn notion(&self, engine: &EngineId, now: u64) -> Option<u32>
         ensures { result ≡ option_map (notion_at now) (mark_at self.now engine.now) }
     {

@@ -50,7 +50,8 @@ impl Ord for Mark {
 impl PartialOrd for Mark {
     ghost partial_cmp = { as_partial_cmp mark_cmp };
 
-    ghost laws = { partial_order_from_own_ties (partial_order_from_total mark_cmp_total) (Prim.search (comparing, rules)) };
+    ghost laws = { partial_order_from_own_ties (partial_order_from_total mark_cmp_total)
+        (Prim.search (comparing, rules)) };
 
     fn partial_cmp(&self, other: &Mark) -> Option<Ordering> {
         Some(self.cmp(other))
@@ -79,8 +80,8 @@ impl Mark {
         }
     }
 
-    /// The engine's time at the moment `now`, as far as the mark tells: its time, and the seconds since it was seen, at most
-    /// 2147483647.
+    /// The engine's time at the moment `now`, as far as the mark tells: its time, and the seconds since it
+    /// was seen, at most 2147483647.
     pub fn notion(&self, now: u64) -> u32
         ensures { result ≡ notion_at now self.now }
     {

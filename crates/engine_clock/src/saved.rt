@@ -1,5 +1,6 @@
 //! The text of saved clocks: how it is written, and how each of its versions is read.
-ghost use Rattle.std.specs.Prelude.{◌≡◌, ◌≢◌, ℕ, ◌<◌, ◌≤◌, ◌++◌, List, decimal, Some, IfSome, IfNone, IfOk, IfErr, OnOk};
+ghost use Rattle.std.specs.Prelude.{◌≡◌, ◌≢◌, ℕ, ◌<◌, ◌≤◌, ◌++◌, List, decimal, Some, IfSome, IfNone, IfOk, IfErr};
+ghost use Rattle.std.specs.Prelude.{OnOk};
 ghost use Rattle.std.specs.List.{flat_map, list_any};
 ghost use Rattle.std.specs.Char.{is_ascii_uppercase};
 ghost use Rattle.std.specs.String.{string_bytes};
@@ -28,8 +29,8 @@ const OLD_HEADING: &str = "snmp-clocks 1\n";
 /// Why a saved text is not read.
 #[derive(Clone, Copy, Debug, PartialEq, Eq, Error)]
 pub enum ClockFault {
-    /// The number, counted from 1, of the first line that is not as it has to be, or whose engine is not above that of the
-    /// line before. A line ends with its line feed.
+    /// The number, counted from 1, of the first line that is not as it has to be, or whose engine is not
+    /// above that of the line before. A line ends with its line feed.
     #[error("line {0}")]
     Line(usize),
     /// Memory was refused.
@@ -38,8 +39,8 @@ pub enum ClockFault {
 }
 
 impl Clocks {
-    /// The text of the marks: a line `snmp-clocks 2`, and then a line for each engine, in their order, of its identifier in
-    /// lower-case hex, its boots, its time and the moment. Each line ends with a line feed.
+    /// The text of the marks: a line `snmp-clocks 2`, and then a line for each engine, in their order, of its
+    /// identifier in lower-case hex, its boots, its time and the moment. Each line ends with a line feed.
     pub fn save(&self) -> Result<Vec<u8>, AllocError>
         ensures text { IfOk result (λ v. v.items ≡ listing self.now) }
         // They are within their bounds, so the text can be read again.
@@ -50,9 +51,9 @@ impl Clocks {
         Ok(text.into_bytes())
     }
 
-    /// Reads what `save` wrote, version 2 of the text, or version 1, whose first line is `snmp-clocks 1` and whose lines have no
-    /// moment: each mark is then seen at `now`, in seconds. In version 2 `now` changes nothing. Any other text is refused by
-    /// the number of its first faulty line.
+    /// Reads what `save` wrote, version 2 of the text, or version 1, whose first line is `snmp-clocks 1` and
+    /// whose lines have no moment: each mark is then seen at `now`, in seconds. In version 2 `now` changes
+    /// nothing. Any other text is refused by the number of its first faulty line.
     pub fn read_saved(alloc: Global, text: &[u8], now: u64) -> Result<Clocks, ClockFault>
         // The text that is read saves the marks.
         ensures read { IfOk result (λ clocks. Saves now text.now clocks) }
@@ -75,7 +76,8 @@ impl Clocks {
 fn read_lines(alloc: Global, text: &[u8], rest: &[u8], form: Form) -> Result<Clocks, ClockFault>
     requires { text.now ≡ heading_in form ++ rest.now }
     ensures read { IfOk result (λ clocks. Lists (heading_in form) (line_in form) (FitsIn form) text.now clocks) }
-    ensures all { (marks : Marks) → Lists (heading_in form) (line_in form) (FitsIn form) text.now marks → GivesBack marks result }
+    ensures all { (marks : Marks) → Lists (heading_in form) (line_in form) (FitsIn form) text.now marks
+        → GivesBack marks result }
     ensures fault { IfErr result (IsFaultIn form text.now) }
 {
     let mut rest = rest;
@@ -137,7 +139,8 @@ fn read_line(text: &[u8], form: Form) -> Option<(EngineId, Mark, &[u8])>
 /// The octets of the time and the moment, and what is after the line.
 fn read_tail(text: &[u8], form: Form) -> Option<(&[u8], u64, &[u8])>
     ensures found { IfSome result (λ r. IsTail form text.now r.0.now r.1 r.2.now) }
-    ensures none { IfNone result ((time : List ℕ) (seen : ℕ) (rest : List ℕ) → IsTail form text.now time seen rest → ⊥) }
+    ensures none { IfNone result
+        ((time : List ℕ) (seen : ℕ) (rest : List ℕ) → IsTail form text.now time seen rest → ⊥) }
 {
     match form {
         Form::WithMoments => {
@@ -178,7 +181,8 @@ fn has_capital(text: &[u8]) -> bool
 /// Reads boots and time.
 fn read_pair(boots: &[u8], time: &[u8]) -> Option<Pair>
     ensures found { IfSome result (λ p. (boots.now ≡ decimal p.boots) × (time.now ≡ decimal p.time)) }
-    ensures all { (p : BootsAndTime) → IsPair p → boots.now ≡ decimal p.boots → time.now ≡ decimal p.time → result ≡ Some p }
+    ensures all { (p : BootsAndTime) → IsPair p → boots.now ≡ decimal p.boots → time.now ≡ decimal p.time
+        → result ≡ Some p }
 {
     let boots = read_number(boots)?;
     let time = read_number(time)?;

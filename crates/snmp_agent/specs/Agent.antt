@@ -12,7 +12,8 @@ use Rattle.snmp_agent.specs.declared.engine.Engine.{Engine}
 use Rattle.snmp_agent.specs.Counting.{counters_after}
 use Rattle.snmp_agent.specs.Counts.{counts_after}
 
--- its engine ID, its boots, the moment of its start, its users, its tables, its six usmStats, and its eight other counters
+-- its engine ID, its boots, the moment of its start, its users, its tables, its six usmStats, and its eight
+-- other counters
 pub record AgentState : Type 0 where
   pub engine : List ℕ
   pub boots : ℕ
@@ -33,12 +34,13 @@ abbrev pub taken_answer : Result Taken Refused → Option (Result Given ℕ)
 taken_answer (Ok t) = Some (Ok (given_of t))
 taken_answer (Err r) = refused (answer_number r.why)
 
--- The answer is the table's, and nothing but the counter of the refusal changes. For want of memory there is no answer, and
--- all is as before.
+-- The answer is the table's, and nothing but the counter of the refusal changes. For want of memory there is
+-- no answer, and all is as before.
 abbrev pub AgentTakes : AgentState → ℕ → List ℕ → Option (Result Given ℕ) → AgentState → Type 0
 AgentTakes old now w None new = new ≡ old
 AgentTakes old now w (Some answer) new =
-    Outcome (taker_of old) old.users now w answer × (new ≡ record old { counters = counters_after old.counters answer; counts = counts_after old.counts answer })
+    Outcome (taker_of old) old.users now w answer
+    × (new ≡ record old { counters = counters_after old.counters answer; counts = counts_after old.counts answer })
 
 -- A message comes as far as its opening, and is sealed, so that memory is needed for what it is opened to.
 pub record IsOpened (taker : Taker) (users : List User) (now : ℕ) (w : List ℕ) : Type 0 where

@@ -1,4 +1,5 @@
--- Reports of one counter (RFC 3412, section 7.1, step 3; RFC 3414, section 3.2), each as what is handed in to be sealed.
+-- Reports of one counter (RFC 3412, section 7.1, step 3; RFC 3414, section 3.2), each as what is handed in to
+-- be sealed.
 use Rattle.std.specs.Prelude.{◌==◌, ℕ, ℤ, pos, false, if◌then◌else◌, List, [], ◌∷◌, replicate}
 use Rattle.snmp_ber.specs.declared.level.Level.{Level}
 use Rattle.snmp_ber.specs.declared.level.Level.TheVariants.{NoAuthNoPriv, AuthNoPriv}
@@ -23,10 +24,12 @@ counter_variable n value = record { name = counter_name n; tag = 65; content = i
 -- the ScopedPDU of the report of the counter of this name: in the default context of the engine, with the counter alone
 abbrev pub counter_scoped : List ℕ → ℤ → List ℕ → ℕ → List ℕ
 counter_scoped engine request_id name value =
-    scoped_text engine [] (pdu_text (pdu_with 168 request_id (pos 0) (pos 0) (record { name = name; tag = 65; content = integer (pos value) } ∷ [])))
+    scoped_text engine []
+    (pdu_text (pdu_with 168 request_id (pos 0) (pos 0)
+    (record { name = name; tag = 65; content = integer (pos value) } ∷ [])))
 
--- usmStatsNotInTimeWindows, whose number is 2, is reported with authentication (RFC 3414, section 3.2, step 7), and the others
--- without
+-- usmStatsNotInTimeWindows, whose number is 2, is reported with authentication (RFC 3414, section 3.2, step
+-- 7), and the others without
 abbrev pub report_level : ℕ → Level
 report_level k = if k == 2 then AuthNoPriv else NoAuthNoPriv
 
@@ -47,8 +50,8 @@ reporting engine own id user request_id k value = record {
 abbrev pub count_variable : Counter → ℕ → Variable
 count_variable counter value = record { name = name_of counter; tag = 65; content = integer (pos value) }
 
--- The report on an accepted message that isn't answered: at the message's own level, to its user, in the default context of the engine,
--- with the counter's value.
+-- The report on an accepted message that isn't answered: at the message's own level, to its user, in the
+-- default context of the engine, with the counter's value.
 abbrev pub count_report : List ℕ → BootsAndTime → Given → PduParts → Counter → ℕ → List ℕ → Speech
 count_report engine own g p counter value salt = record {
   level = g.level;

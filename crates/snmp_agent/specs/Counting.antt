@@ -1,5 +1,6 @@
 -- The counters of refused messages (usmStats, RFC 3414, section 5).
-use Rattle.std.specs.Prelude.{ℕ, ◌+◌, ◌-◌, ◌%◌, ◌^◌, ◌==◌, if◌then◌else◌, List, slice_index, slice_set, Option, Some, None, Result, Ok, Err}
+use Rattle.std.specs.Prelude.{ℕ, ◌+◌, ◌-◌, ◌%◌, ◌^◌, ◌==◌, if◌then◌else◌, List, slice_index, slice_set, Option, Some}
+use Rattle.std.specs.Prelude.{None, Result, Ok, Err}
 use Rattle.snmp_incoming.specs.Outcome.{Given}
 
 -- the counter of a refusal: 1 usmStatsUnsupportedSecLevels, 2 usmStatsNotInTimeWindows, 3 usmStatsUnknownUserNames,

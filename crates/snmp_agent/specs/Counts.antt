@@ -1,10 +1,12 @@
--- The counters of messages that were refused without a report, that no application handled, or that had no answer short enough
--- (RFC 3412, section 5; RFC 3413, section 4.1.2; RFC 3418).
-use Rattle.std.specs.Prelude.{ℕ, ◌+◌, ◌%◌, ◌^◌, ◌==◌, ◌||◌, if◌then◌else◌, List, slice_index, slice_set, Option, Some, None, Result, Ok, Err}
+-- The counters of messages that were refused without a report, that no application handled, or that had no
+-- answer short enough (RFC 3412, section 5; RFC 3413, section 4.1.2; RFC 3418).
+use Rattle.std.specs.Prelude.{ℕ, ◌+◌, ◌%◌, ◌^◌, ◌==◌, ◌||◌, if◌then◌else◌, List, slice_index, slice_set, Option, Some}
+use Rattle.std.specs.Prelude.{None, Result, Ok, Err}
 use Rattle.snmp_incoming.specs.Outcome.{Given}
 use Rattle.snmp_outgoing.specs.Counters.{place_of}
 use Rattle.snmp_outgoing.specs.declared.counter.Counter.{Counter}
-use Rattle.snmp_outgoing.specs.declared.counter.Counter.TheVariants.{InBadVersions, InAsnParseErrs, UnknownSecurityModels, InvalidMsgs}
+use Rattle.snmp_outgoing.specs.declared.counter.Counter.TheVariants.{InBadVersions, InAsnParseErrs}
+use Rattle.snmp_outgoing.specs.declared.counter.Counter.TheVariants.{UnknownSecurityModels, InvalidMsgs}
 
 abbrev pub count_at : List ℕ → Counter → ℕ
 count_at counts counter = slice_index counts (place_of counter)

@@ -34,7 +34,8 @@ AreAnswers tables message view vs answers = AllZip (λ v answer. Allowed tables 
 abbrev pub IsDecision : Tables → Given → Contexts → PduParts → Decision → Type 0
 IsDecision tables g c p NotByName = (p.tag ≢ 160) × (p.tag ≢ 163)
 IsDecision tables g c p (ByName answers) =
-    (view : ViewType) × IsDecidedBy p.tag view × ((vs : List Variable) × AreBindings vs p.list × AreAnswers tables (question_of g c) view vs answers.items)
+    (view : ViewType) × IsDecidedBy p.tag view
+    × ((vs : List Variable) × AreBindings vs p.list × AreAnswers tables (question_of g c) view vs answers.items)
 
 -- The agent's tables were made of these rows, in whatever order they came.
 abbrev pub HoldsRows : Tables → AgentState → Type 0

@@ -1,5 +1,5 @@
--- Which accepted messages an agent answers, and what becomes of the others (RFC 3412, sections 4.2.2, 7.1 and 7.2; RFC 3413, section
--- 3.2).
+-- Which accepted messages an agent answers, and what becomes of the others (RFC 3412, sections 4.2.2, 7.1 and
+-- 7.2; RFC 3413, section 3.2).
 use Rattle.std.specs.Prelude.{◌≡◌, ◌⊎◌, ℕ, true, List, Option, Some, None, option_map, Result, Ok, Err}
 use Rattle.std.specs.Global.{Vec}
 use Rattle.snmp_message.specs.Scoped.{Contexts}
@@ -14,7 +14,8 @@ use Rattle.snmp_outgoing.specs.declared.counter.Counter.{Counter}
 use Rattle.snmp_outgoing.specs.declared.counter.Counter.TheVariants as counters
 use Rattle.snmp_agent.specs.CounterReports.{refusing}
 use Rattle.snmp_agent.specs.declared.unhandled.Unhandled.{Unhandled}
-use Rattle.snmp_agent.specs.declared.unhandled.Unhandled.TheVariants.{NoRequest, UnknownPduHandlers, UnavailableContexts, UnknownContexts}
+use Rattle.snmp_agent.specs.declared.unhandled.Unhandled.TheVariants.{NoRequest, UnknownPduHandlers}
+use Rattle.snmp_agent.specs.declared.unhandled.Unhandled.TheVariants.{UnavailableContexts, UnknownContexts}
 use Rattle.snmp_agent.specs.Counts.{count_after, one_more}
 use Rattle.snmp_agent.specs.Agent.{AgentState}
 use Rattle.snmp_agent.specs.Sent.{Sends, CanBeSent}
@@ -26,7 +27,8 @@ use Rattle.snmp_agent.specs.Report.{report_of}
 abbrev pub IsCommand : ℕ → Type 0
 IsCommand tag = (tag ≡ 160) ⊎ ((tag ≡ 161) ⊎ ((tag ≡ 163) ⊎ (tag ≡ 165)))
 
--- the PDUs of the Response Class (RFC 3411, section 2.8), a Response and a Report: they go to the request that waits for them
+-- the PDUs of the Response Class (RFC 3411, section 2.8), a Response and a Report: they go to the request
+-- that waits for them
 abbrev pub IsAnswer : ℕ → Type 0
 IsAnswer tag = (tag ≡ 162) ⊎ (tag ≡ 168)
 
@@ -62,20 +64,27 @@ pub record IsReported (p : PduParts) (why : Unhandled) (counter : Counter) : Typ
 
 -- what is sent of it: the answer to sending the report with the counter after one more
 abbrev pub SendsRefusal : AgentState → ℕ → Given → PduParts → Counter → List ℕ → Result (List ℕ) ℕ → Type 0
-SendsRefusal a now g p counter salt = Sends a now (λ own. refusing a.engine own g p counter (count_after a.counts counter) salt)
+SendsRefusal a now g p counter salt = Sends a now
+    (λ own. refusing a.engine own g p counter (count_after a.counts counter) salt)
 
 -- There is a report, and none of the refusals before its text applies.
 abbrev pub RefusalCanBeSent : AgentState → ℕ → Given → PduParts → Unhandled → List ℕ → Type 0
 RefusalCanBeSent a now g p why salt =
-    (counter : Counter) × IsReported p why counter × CanBeSent a now (λ own. refusing a.engine own g p counter (count_after a.counts counter) salt)
+    (counter : Counter) × IsReported p why counter
+    × CanBeSent a now (λ own. refusing a.engine own g p counter (count_after a.counts counter) salt)
 
--- A message that is reported is counted too, and where the report can't be sent nothing changes; another is counted alone, where it has
--- a counter.
-abbrev pub Refuses : AgentState → ℕ → Given → PduParts → Unhandled → List ℕ → Result (Option (List ℕ)) ℕ → AgentState → Type 0
-Refuses old now g p why salt (Ok None) new = ((counter : Counter) → IsReported p why counter → ⊥) × (new ≡ agent_counted old why)
+-- A message that is reported is counted too, and where the report can't be sent nothing changes; another is
+-- counted alone, where it has a counter.
+abbrev pub Refuses : AgentState → ℕ → Given → PduParts → Unhandled → List ℕ → Result (Option (List ℕ)) ℕ
+    → AgentState → Type 0
+Refuses old now g p why salt (Ok None) new = ((counter : Counter) → IsReported p why counter → ⊥)
+    × (new ≡ agent_counted old why)
 Refuses old now g p why salt (Ok (Some text)) new =
-    ((counter : Counter) × IsReported p why counter × SendsRefusal old now g p counter salt (Ok text)) × (new ≡ agent_counted old why)
-Refuses old now g p why salt (Err n) new = ((counter : Counter) × IsReported p why counter × SendsRefusal old now g p counter salt (Err n)) × (new ≡ old)
+    ((counter : Counter) × IsReported p why counter × SendsRefusal old now g p counter salt (Ok text))
+    × (new ≡ agent_counted old why)
+Refuses old now g p why salt
+    (Err n) new = ((counter : Counter) × IsReported p why counter × SendsRefusal old now g p counter salt (Err n))
+    × (new ≡ old)
 
 -- what the call answers; None for want of memory
 abbrev pub refusing_answer : Result (Option (Vec ℕ)) TakeFault → Option (Result (Option (List ℕ)) ℕ)

@@ -24,7 +24,8 @@ pub record PlainPdu (w : List ℕ) (m : Parts) : Type 0 where
   pub pdu : PduParts
   pub is_pdu : PduText contexts.pdu pdu
 
--- The message asks for reports: the reportableFlag is set, and its PDU, where it can be read, is of the Confirmed Class.
+-- The message asks for reports: the reportableFlag is set, and its PDU, where it can be read, is of the
+-- Confirmed Class.
 pub record AsksForReport (w : List ℕ) : Type 0 where
   pub outer : OuterOf w
   pub security : SecurityOf outer.parts
@@ -47,18 +48,21 @@ OffersOnAnswer taker users now w = (n : ℕ) × Outcome taker users now w (Err n
 abbrev pub IsCopiedId : List ℕ → Parts → ℤ → Type 0
 IsCopiedId w m id = ((plain : PlainPdu w m) × (id ≡ plain.pdu.id)) ⊎ ((PlainPdu w m → ⊥) × (id ≡ pos 0))
 
--- The report on refusal n of the datagram, by the users and the engine of the agent, its boots and time, and its counters after
--- the refusal was counted; or None where none is offered.
-pub data IsReport (users : List User) (engine : List ℕ) (own : BootsAndTime) (counters : List ℕ) (w : List ℕ) (n : ℕ) : Option (List ℕ) → Type 0 where
+-- The report on refusal n of the datagram, by the users and the engine of the agent, its boots and time, and
+-- its counters after the refusal was counted; or None where none is offered.
+pub data IsReport (users : List User) (engine : List ℕ) (own : BootsAndTime) (counters : List ℕ) (w : List ℕ)
+    (n : ℕ) : Option (List ℕ) → Type 0 where
   offered : (offer : Offers w n) (id : ℤ) (text : List ℕ) → IsCopiedId w offer.asks.outer.parts id
-      → SealedText users (reporting engine own offer.asks.outer.parts.header.id offer.asks.security.fields.user id offer.counter (counter_at counters offer.counter)) text
+      → SealedText users (reporting engine own offer.asks.outer.parts.header.id offer.asks.security.fields.user id
+      offer.counter (counter_at counters offer.counter)) text
       → IsReport users engine own counters w n (Some text)
   missing : (Offers w n → ⊥) → IsReport users engine own counters w n None
 
 -- what an agent, as the refusal left it, reports; nothing for want of memory
 abbrev pub AgentReports : AgentState → ℕ → List ℕ → Option ℕ → Option (List ℕ) → Type 0
 AgentReports agent now w None report = report ≡ None
-AgentReports agent now w (Some n) report = IsReport agent.users agent.engine (own_pair agent.boots agent.started now) agent.counters w n report
+AgentReports agent now w (Some n) report = IsReport agent.users agent.engine
+    (own_pair agent.boots agent.started now) agent.counters w n report
 
 abbrev pub report_of : Option (Vec ℕ) → Option (List ℕ)
 report_of report = option_map (λ v. v.items) report

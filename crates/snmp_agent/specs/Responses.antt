@@ -8,8 +8,9 @@ use Rattle.usm_core.specs.Sealed.{Sending}
 use Rattle.snmp_incoming.specs.Outcome.{Given}
 use Rattle.snmp_outgoing.specs.Speaks.{Speech, spoken}
 
--- The Response to what was given, with contexts c and PDU p, from the engine with its boots and time (RFC 3412, section 7.1;
--- RFC 3416, section 4.2): msgID, user, level, contexts and request-id are those of the request.
+-- The Response to what was given, with contexts c and PDU p, from the engine with its boots and time (RFC
+-- 3412, section 7.1; RFC 3416, section 4.2): msgID, user, level, contexts and request-id are those of the
+-- request.
 abbrev pub response : List ℕ → BootsAndTime → Given → Contexts → PduParts → ℤ → ℤ → List Variable → List ℕ → Speech
 response engine own g c p status index vs salt = record {
   level = g.level;

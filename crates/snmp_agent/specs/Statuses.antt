@@ -1,9 +1,11 @@
 -- What becomes of a request by the answers on access (RFC 3413, section 3.2; RFC 3416, section 4.2).
 use Rattle.std.specs.Prelude.{◌≡◌, ◌≢◌, ◌⊎◌, ℕ}
 use Rattle.vacm_core.specs.declared.access.Access.{Access}
-use Rattle.vacm_core.specs.declared.access.Access.TheVariants.{NoSuchContext, NoGroupName, NoAccessEntry, NoSuchView, NotInView, AccessAllowed}
+use Rattle.vacm_core.specs.declared.access.Access.TheVariants.{NoSuchContext, NoGroupName, NoAccessEntry, NoSuchView}
+use Rattle.vacm_core.specs.declared.access.Access.TheVariants.{NotInView, AccessAllowed}
 use Rattle.snmp_agent.specs.declared.status.Status.{Status}
-use Rattle.snmp_agent.specs.declared.status.Status.TheVariants.{NoError, NoAccess, AuthorizationError, NoSuchObject, NotSeen, UnknownContext}
+use Rattle.snmp_agent.specs.declared.status.Status.TheVariants.{NoError, NoAccess, AuthorizationError, NoSuchObject}
+use Rattle.snmp_agent.specs.declared.status.Status.TheVariants.{NotSeen, UnknownContext}
 
 -- the answer on access and the tag of the PDU for which each is due
 abbrev pub IsStatusOf : Access → ℕ → Status → Type 0

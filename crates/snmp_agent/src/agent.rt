@@ -29,8 +29,8 @@ use std::marker::Model;
 use usm_core::Users;
 use vacm_core::{Access, Vacm, ViewType};
 
-/// An authoritative engine (RFC 3414, section 1.5.1), with its users, its view-based access (RFC 3415) and the counters of what
-/// it refused. All moments are in seconds from one beginning, which the caller keeps.
+/// An authoritative engine (RFC 3414, section 1.5.1), with its users, its view-based access (RFC 3415) and
+/// the counters of what it refused. All moments are in seconds from one beginning, which the caller keeps.
 #[derive(Drop)]
 pub struct Agent {
     pub(crate) alloc: Global,
@@ -48,7 +48,15 @@ impl Model for Agent {
 
     ghost Value = { AgentState };
 
-    ghost view = { λ a. record { engine = a.engine.id; boots = a.engine.boots; started = a.engine.started; users = a.users.users; tables = a.vacm; counters = a.counters; counts = a.counts } };
+    ghost view = { λ a. record {
+      engine = a.engine.id;
+      boots = a.engine.boots;
+      started = a.engine.started;
+      users = a.users.users;
+      tables = a.vacm;
+      counters = a.counters;
+      counts = a.counts;
+    } };
 }
 
 impl Agent {
@@ -64,10 +72,11 @@ impl Agent {
     ghost use Rattle.snmp_agent.specs.Decides.{question, question_of, IsDecision};
     ghost use Rattle.snmp_incoming.specs.Outcome.{own_pair};
     ghost use Rattle.snmp_agent.specs.Responses.{response, responding};
-    ghost use Rattle.snmp_agent.specs.Sent.{notification, notifying, Sends, CanBeSent, CanSendAt, RefusesSenderAt, IsAcceptedByManagers};
+    ghost use Rattle.snmp_agent.specs.Sent.{notification, notifying, Sends, CanBeSent, CanSendAt, RefusesSenderAt};
+    ghost use Rattle.snmp_agent.specs.Sent.{IsAcceptedByManagers};
 
-    /// An agent that started at the moment `started`, with these boots, at most 2147483647. Its counters are 0. This takes no
-    /// memory.
+    /// An agent that started at the moment `started`, with these boots, at most 2147483647. Its counters are
+    /// 0. This takes no memory.
     pub fn new(
         alloc: Global,
         engine: EngineId,
@@ -77,7 +86,15 @@ impl Agent {
         vacm: Vacm,
     ) -> Agent
         requires { boots ≤ pair_max }
-        ensures { result ≡ record { engine = engine; boots = boots; started = started; users = users.users; tables = vacm; counters = replicate 6 0; counts = replicate 8 0 } }
+        ensures { result ≡ record {
+          engine = engine;
+          boots = boots;
+          started = started;
+          users = users.users;
+          tables = vacm;
+          counters = replicate 6 0;
+          counts = replicate 8 0;
+        } }
     {
         Agent {
             alloc,
@@ -95,7 +112,8 @@ impl Agent {
 
     /// The value of counter n, usmStats n of RFC 3414, section 5, or None where n isn't 1 to 6.
     pub fn counter(&self, n: u8) -> Option<u32>
-        ensures { MatchOption result ((n ≡ 0) ⊎ (6 < n)) (λ value. (1 ≤ n) × (n ≤ 6) × (value ≡ counter_at self.now.counters n)) }
+        ensures { MatchOption result ((n ≡ 0) ⊎ (6 < n))
+            (λ value. (1 ≤ n) × (n ≤ 6) × (value ≡ counter_at self.now.counters n)) }
     {
         if n == 0 || n > 6 {
             return None;
@@ -103,18 +121,22 @@ impl Agent {
         Some(self.counters[usize::from(n) - 1])
     }
 
-    /// Takes a datagram at the moment `now`: reads and authenticates it (RFC 3412, section 7.2, and RFC 3414, section 3.2),
-    /// looks at the time window, opens the message and reads its ScopedPDU. A refusal that has a counter adds one to it, and where
-    /// that is one of usmStats it is reported where the message asks for reports.
+    /// Takes a datagram at the moment `now`: reads and authenticates it (RFC 3412, section 7.2, and RFC 3414,
+    /// section 3.2), looks at the time window, opens the message and reads its ScopedPDU. A refusal that has
+    /// a counter adds one to it, and where that is one of usmStats it is reported where the message asks for
+    /// reports.
     ///
-    /// The errors are, the first that applies: ClockExhausted (15), where the engine's time would be above 2147483647; those of
-    /// `Users::open_auth`; NotInWindow (10), DecryptionError (11), BadScoped (12) and BadPdu (13). OutOfMemory (14), from
-    /// opening a message or in the place of a refusal whose report finds no memory, leaves all as before. Memory is taken to
-    /// open a sealed message that is in the window, and for a report.
+    /// The errors are, the first that applies: ClockExhausted (15), where the engine's time would be above
+    /// 2147483647; those of `Users::open_auth`; NotInWindow (10), DecryptionError (11), BadScoped (12) and
+    /// BadPdu (13). OutOfMemory (14), from opening a message or in the place of a refusal whose report finds
+    /// no memory, leaves all as before. Memory is taken to open a sealed message that is in the window, and
+    /// for a report.
     pub fn take<'a>(&mut self, now: u64, datagram: &'a [u8]) -> Result<Taken<'a>, Refused>
         ensures takes { AgentTakes self.old now datagram.now (taken_answer result) self.new }
-        ensures report { IfErr result (λ r. AgentReports self.new now datagram.now (answer_number r.why) (report_of r.report)) }
-        ensures no_memory { (IsOpened (taker_of self.old) self.old.users now datagram.now → ⊥) → (OffersOnAnswer (taker_of self.old) self.old.users now datagram.now → ⊥)
+        ensures report { IfErr result
+            (λ r. AgentReports self.new now datagram.now (answer_number r.why) (report_of r.report)) }
+        ensures no_memory { (IsOpened (taker_of self.old) self.old.users now datagram.now → ⊥)
+            → (OffersOnAnswer (taker_of self.old) self.old.users now datagram.now → ⊥)
             → IsSome (taken_answer result) }
     {
         let why = match judge(&mut self.users, &self.engine, now, datagram) {
@@ -140,10 +162,11 @@ impl Agent {
         }
     }
 
-    /// Whether the sender of an accepted message may see this variable in the message's context (isAccessAllowed, RFC 3415,
-    /// section 3). The context's engine isn't looked at. It takes no memory.
+    /// Whether the sender of an accepted message may see this variable in the message's context
+    /// (isAccessAllowed, RFC 3415, section 3). The context's engine isn't looked at. It takes no memory.
     pub fn allows(&self, taken: &Taken<'_>, view: ViewType, variable: &Oid) -> Access
-        ensures { (c : Contexts) → ScopedFront (text_of taken.now.text) c → Allowed self.now.tables (question_of (given_of taken.now) c) view variable.now result }
+        ensures { (c : Contexts) → ScopedFront (text_of taken.now.text) c
+            → Allowed self.now.tables (question_of (given_of taken.now) c) view variable.now result }
     {
         one_content();
         let scoped = taken.scoped();
@@ -157,8 +180,8 @@ impl Agent {
         )
     }
 
-    /// The same without a message: whether this user at this level may see the variable in the context of this name, as for the
-    /// notify view of a notification. It takes no memory.
+    /// The same without a message: whether this user at this level may see the variable in the context of
+    /// this name, as for the notify view of a notification. It takes no memory.
     pub fn may(
         &self,
         user: &[u8],
@@ -173,11 +196,14 @@ impl Agent {
             .is_access_allowed(USER_BASED, user, level, view, context, variable)
     }
 
-    /// Whether a request by name may see each variable that it names, in their order: a GetRequest by the read view, and a
-    /// SetRequest by the write view. The names that another PDU asks for are known only as they are answered: for them there is
-    /// `allows`, and no memory is taken here. The error is want of memory.
+    /// Whether a request by name may see each variable that it names, in their order: a GetRequest by the
+    /// read view, and a SetRequest by the write view. The names that another PDU asks for are known only as
+    /// they are answered: for them there is `allows`, and no memory is taken here. The error is want of
+    /// memory.
     pub fn decide(&self, taken: &Taken<'_>) -> Result<Decision, AllocError>
-        ensures decision { IfOk result (λ d. (c : Contexts) (p : PduParts) → ScopedFront (text_of taken.now.text) c → PduText c.pdu p → IsDecision self.now.tables (given_of taken.now) c p d) }
+        ensures decision { IfOk result
+            (λ d. (c : Contexts) (p : PduParts) → ScopedFront (text_of taken.now.text) c → PduText c.pdu p
+            → IsDecision self.now.tables (given_of taken.now) c p d) }
         ensures no_memory { taken.now.tag ≢ 160 → taken.now.tag ≢ 163 → IsOk result }
     {
         one_content();
@@ -192,11 +218,12 @@ impl Agent {
         Ok(Decision::ByName(answers))
     }
 
-    /// Whether messages of this user at this level can be sent at the moment `now` (RFC 3414, section 3.1). The errors are
-    /// ClockExhausted (15), and then at levels with authentication UnknownUser (7), and where there is such a user UnsupportedLevel (8).
-    /// It takes no memory.
+    /// Whether messages of this user at this level can be sent at the moment `now` (RFC 3414, section 3.1).
+    /// The errors are ClockExhausted (15), and then at levels with authentication UnknownUser (7), and where
+    /// there is such a user UnsupportedLevel (8). It takes no memory.
     pub fn supports(&self, now: u64, user: &[u8], level: Level) -> Result<(), TakeFault>
-        ensures { MatchResult result (λ _. CanSendAt self.now now user.now level) (RefusesSenderAt self.now now user.now level) }
+        ensures { MatchResult result (λ _. CanSendAt self.now now user.now level)
+            (RefusesSenderAt self.now now user.now level) }
     {
         if self.engine.pair(now).is_none() {
             return Err(TakeFault::ClockExhausted);
@@ -204,13 +231,14 @@ impl Agent {
         supports(&self.users, user, level)
     }
 
-    /// The Response to an accepted request, at its level: its msgID, user, contexts and request-id, with this error-status, this
-    /// error-index and these bindings, under the agent's engine, boots and time. Nothing of the agent changes. The salt is used
-    /// at authPriv alone.
+    /// The Response to an accepted request, at its level: its msgID, user, contexts and request-id, with this
+    /// error-status, this error-index and these bindings, under the agent's engine, boots and time. Nothing
+    /// of the agent changes. The salt is used at authPriv alone.
     ///
-    /// The errors are ClockExhausted (15), then at levels with authentication UnknownUser (7) and UnsupportedLevel (8), and then
-    /// TooLarge (16), only where the text would be longer than 65,507 octets, or OutOfMemory (14), whichever is met first.
-    /// Where it is TooLarge, a tooBig is sent by calling this again with status 1 and no bindings.
+    /// The errors are ClockExhausted (15), then at levels with authentication UnknownUser (7) and
+    /// UnsupportedLevel (8), and then TooLarge (16), only where the text would be longer than 65,507 octets,
+    /// or OutOfMemory (14), whichever is met first. Where it is TooLarge, a tooBig is sent by calling this
+    /// again with status 1 and no bindings.
     pub fn respond(
         &mut self,
         now: u64,
@@ -222,21 +250,27 @@ impl Agent {
     ) -> Result<Vec<u8>, TakeFault>
         requires { All (λ b. CanBeWritten (variable_of b)) bindings.now }
         ensures answer { (c : Contexts) (p : PduParts) → ScopedFront (text_of taken.now.text) c → PduText c.pdu p
-            → IfSome (send_answer result) (Sends self.old now (λ own. responding self.old.engine own (given_of taken.now) c p status index (map variable_of bindings.now) salt)) }
+            → IfSome (send_answer result)
+            (Sends self.old now (λ own. responding self.old.engine own (given_of taken.now) c p status index
+            (map variable_of bindings.now) salt)) }
 
         // The refusals before the text come before want of memory.
-        ensures memory { (c : Contexts) (p : PduParts) → ScopedFront (text_of taken.now.text) c → PduText c.pdu p → IsErrOf result TakeFault.OutOfMemory
-            → CanBeSent self.old now (λ own. responding self.old.engine own (given_of taken.now) c p status index (map variable_of bindings.now) salt) }
+        ensures memory { (c : Contexts) (p : PduParts) → ScopedFront (text_of taken.now.text) c → PduText c.pdu p
+            → IsErrOf result TakeFault.OutOfMemory
+            → CanBeSent self.old now
+            (λ own. responding self.old.engine own (given_of taken.now) c p status index
+            (map variable_of bindings.now) salt) }
         ensures accepted { (c : Contexts) (p : PduParts) → ScopedFront (text_of taken.now.text) c → PduText c.pdu p
             → IfOk result (λ text. IsAcceptedByManagers self.old.users
-            (response self.old.engine (own_pair self.old.boots self.old.started now) (given_of taken.now) c p status index (map variable_of bindings.now) salt) text.items) }
+            (response self.old.engine (own_pair self.old.boots self.old.started now)
+            (given_of taken.now) c p status index (map variable_of bindings.now) salt) text.items) }
         ensures same { self.new ≡ self.old }
     {
         self.respond_of(now, taken, status, index, bindings, salt)
     }
 
-    /// The same Response, of bindings in any form that can be written: `VariableBinding` is the quick one, with its name's octets, of which only the
-    /// tags are asked.
+    /// The same Response, of bindings in any form that can be written: `VariableBinding` is the quick one,
+    /// with its name's octets, of which only the tags are asked.
     ///
     /// The errors are those of `respond`, in its order.
     pub fn respond_of<B: Spelled>(
@@ -250,12 +284,18 @@ impl Agent {
     ) -> Result<Vec<u8>, TakeFault>
         requires { All (λ b. B.fits b) bindings.now }
         ensures answer { (c : Contexts) (p : PduParts) → ScopedFront (text_of taken.now.text) c → PduText c.pdu p
-            → IfSome (send_answer result) (Sends self.old now (λ own. responding self.old.engine own (given_of taken.now) c p status index (map B.says bindings.now) salt)) }
-        ensures memory { (c : Contexts) (p : PduParts) → ScopedFront (text_of taken.now.text) c → PduText c.pdu p → IsErrOf result TakeFault.OutOfMemory
-            → CanBeSent self.old now (λ own. responding self.old.engine own (given_of taken.now) c p status index (map B.says bindings.now) salt) }
+            → IfSome (send_answer result)
+            (Sends self.old now (λ own. responding self.old.engine own (given_of taken.now) c p status index
+            (map B.says bindings.now) salt)) }
+        ensures memory { (c : Contexts) (p : PduParts) → ScopedFront (text_of taken.now.text) c → PduText c.pdu p
+            → IsErrOf result TakeFault.OutOfMemory
+            → CanBeSent self.old now
+            (λ own. responding self.old.engine own (given_of taken.now) c p status index
+            (map B.says bindings.now) salt) }
         ensures accepted { (c : Contexts) (p : PduParts) → ScopedFront (text_of taken.now.text) c → PduText c.pdu p
             → IfOk result (λ text. IsAcceptedByManagers self.old.users
-            (response self.old.engine (own_pair self.old.boots self.old.started now) (given_of taken.now) c p status index (map B.says bindings.now) salt) text.items) }
+            (response self.old.engine (own_pair self.old.boots self.old.started now)
+            (given_of taken.now) c p status index (map B.says bindings.now) salt) text.items) }
         ensures same { self.new ≡ self.old }
     {
         response_is_accepted();
@@ -277,9 +317,9 @@ impl Agent {
         )
     }
 
-    /// An SNMPv2-Trap for this user at this level (RFC 3416, section 4.2.6), under the agent's engine, boots and time, which
-    /// asks for no report. Nothing of the agent changes. `id` is msgID, at most 2147483647, and the user's name has at most 32
-    /// octets; the salt is used at authPriv alone.
+    /// An SNMPv2-Trap for this user at this level (RFC 3416, section 4.2.6), under the agent's engine, boots
+    /// and time, which asks for no report. Nothing of the agent changes. `id` is msgID, at most 2147483647,
+    /// and the user's name has at most 32 octets; the salt is used at authPriv alone.
     ///
     /// The errors are those of `respond`, in its order.
     pub fn notify(
@@ -295,13 +335,18 @@ impl Agent {
         requires user { length user.now ≤ 32 }
         requires tag { body.now.tag ≡ 167 }
         requires body { BodyFits body.now }
-        ensures answer { IfSome (send_answer result) (Sends self.old now (λ own. notifying self.old.engine own id user.now level (front_in body.now) (variables_in body.now) salt)) }
+        ensures answer { IfSome (send_answer result)
+            (Sends self.old now (λ own. notifying self.old.engine own id user.now level (front_in body.now)
+            (variables_in body.now) salt)) }
 
         // The refusals before the text come before want of memory.
         ensures memory { IsErrOf result TakeFault.OutOfMemory
-            → CanBeSent self.old now (λ own. notifying self.old.engine own id user.now level (front_in body.now) (variables_in body.now) salt) }
+            → CanBeSent self.old now
+            (λ own. notifying self.old.engine own id user.now level (front_in body.now)
+            (variables_in body.now) salt) }
         ensures accepted { IfOk result (λ text. IsAcceptedByManagers self.old.users
-            (notification self.old.engine (own_pair self.old.boots self.old.started now) id user.now level (front_in body.now) (variables_in body.now) salt) text.items) }
+            (notification self.old.engine (own_pair self.old.boots self.old.started now) id user.now level
+            (front_in body.now) (variables_in body.now) salt) text.items) }
         ensures same { self.new ≡ self.old }
     {
         self.notify_of(now, id, user, level, &body.front(), body.bindings, salt)
@@ -324,11 +369,15 @@ impl Agent {
         requires user { length user.now ≤ 32 }
         requires tag { front.now.tag ≡ 167 }
         requires fit { All (λ b. B.fits b) bindings.now }
-        ensures answer { IfSome (send_answer result) (Sends self.old now (λ own. notifying self.old.engine own id user.now level front.now (map B.says bindings.now) salt)) }
+        ensures answer { IfSome (send_answer result)
+            (Sends self.old now (λ own. notifying self.old.engine own id user.now level front.now
+            (map B.says bindings.now) salt)) }
         ensures memory { IsErrOf result TakeFault.OutOfMemory
-            → CanBeSent self.old now (λ own. notifying self.old.engine own id user.now level front.now (map B.says bindings.now) salt) }
+            → CanBeSent self.old now
+            (λ own. notifying self.old.engine own id user.now level front.now (map B.says bindings.now) salt) }
         ensures accepted { IfOk result (λ text. IsAcceptedByManagers self.old.users
-            (notification self.old.engine (own_pair self.old.boots self.old.started now) id user.now level front.now (map B.says bindings.now) salt) text.items) }
+            (notification self.old.engine (own_pair self.old.boots self.old.started now) id user.now level front.now
+            (map B.says bindings.now) salt) text.items) }
         ensures same { self.new ≡ self.old }
     {
         notification_is_accepted();

@@ -34,7 +34,9 @@ fn plain_pdu<'a>(datagram: &'a [u8], message: &Message<'_>) -> Option<Pdu<'a>>
 /// The request-id that a report copies, or None where the PDU can be read and isn't answered.
 fn copied_id(datagram: &[u8], message: &Message<'_>) -> Option<i32>
     requires { Outer datagram.now (parts message.now) }
-    ensures { MatchOption result ((plain : PlainPdu datagram.now (parts message.now)) × (is_confirmed plain.pdu.tag ≡ false)) (IsCopied datagram.now (parts message.now)) }
+    ensures { MatchOption result
+        ((plain : PlainPdu datagram.now (parts message.now)) × (is_confirmed plain.pdu.tag ≡ false))
+        (IsCopied datagram.now (parts message.now)) }
 {
     one_content();
     one_pdu();

@@ -5,8 +5,8 @@ ghost use Rattle.snmp_agent.specs.Dispatch.{IsCommand, IsAnswer};
 
 use snmp_msg::{GET_BULK_REQUEST, GET_NEXT_REQUEST, GET_REQUEST, REPORT, RESPONSE, SET_REQUEST};
 
-/// Whether the tag is of a PDU that a command responder is registered for: GetRequest, GetNextRequest, SetRequest or GetBulkRequest
-/// (RFC 3413, section 3.2).
+/// Whether the tag is of a PDU that a command responder is registered for: GetRequest, GetNextRequest,
+/// SetRequest or GetBulkRequest (RFC 3413, section 3.2).
 pub(crate) fn is_command(tag: u8) -> bool
     ensures { IsTrue result ↔ IsCommand tag }
 {

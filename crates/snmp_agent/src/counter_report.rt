@@ -25,9 +25,13 @@ pub fn send_counter(
     value: u32,
 ) -> Result<Vec<u8>, TakeFault>
     requires { IsObjectId name }
-    ensures rows { IfSome (send_answer result) (Seals users.old.users (sent_with envelope.now (counter_scoped engine.now request_id name value))) }
-    ensures memory { IsErrOf result TakeFault.OutOfMemory → IsSealable users.old.users (sent_with envelope.now (counter_scoped engine.now request_id name value)) }
-    ensures short { IsErrOf result TakeFault.TooLarge → LARGEST < 150 + length envelope.now.engine.now + length envelope.now.user.now + length (counter_scoped engine.now request_id name value) }
+    ensures rows { IfSome (send_answer result)
+        (Seals users.old.users (sent_with envelope.now (counter_scoped engine.now request_id name value))) }
+    ensures memory { IsErrOf result TakeFault.OutOfMemory
+        → IsSealable users.old.users (sent_with envelope.now (counter_scoped engine.now request_id name value)) }
+    ensures short { IsErrOf result TakeFault.TooLarge
+        → LARGEST < 150 + length envelope.now.engine.now + length envelope.now.user.now
+        + length (counter_scoped engine.now request_id name value) }
     ensures users { users.new.users ≡ users.old.users }
 {
     let content = int_content(i64::from(value));

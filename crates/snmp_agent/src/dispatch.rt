@@ -1,5 +1,5 @@
-//! What an agent does with the messages that it accepts (RFC 3412, sections 4.2.2 and 7.1; RFC 3413, section 3.2), and Responses
-//! within a limit.
+//! What an agent does with the messages that it accepts (RFC 3412, sections 4.2.2 and 7.1; RFC 3413, section
+//! 3.2), and Responses within a limit.
 
 ghost use Rattle.std.specs.Prelude.{◌≡◌, [], All, map, take, IfOk, IfSome, OnErr, IsErrOf, Some};
 ghost use Rattle.snmp_message.specs.Scoped.{Contexts, ScopedFront, contexts_of};
@@ -36,19 +36,21 @@ impl Agent {
         self.counts[counter.place()]
     }
 
-    /// Counts a request in snmpSilentDrops: it has no answer, since even the one without bindings is too long (RFC 3416, section
-    /// 4.2.1).
+    /// Counts a request in snmpSilentDrops: it has no answer, since even the one without bindings is too long
+    /// (RFC 3416, section 4.2.1).
     pub fn silent_drop(&mut self)
         ensures { self.new ≡ record self.old { counts = one_more self.old.counts (Some SilentDrops) } }
     {
         self.counts = one_more(self.counts, Some(Counter::SilentDrops));
     }
 
-    /// Why no application of this agent answers an accepted message, the first that applies: NoRequest of a Response or a Report;
-    /// UnknownPduHandlers, where contextEngineID isn't the agent's own or the PDU is no GetRequest, GetNextRequest, SetRequest or
-    /// GetBulkRequest; UnknownContexts, where no context has its name. None where it is to be answered. It takes no memory.
+    /// Why no application of this agent answers an accepted message, the first that applies: NoRequest of a
+    /// Response or a Report; UnknownPduHandlers, where contextEngineID isn't the agent's own or the PDU is no
+    /// GetRequest, GetNextRequest, SetRequest or GetBulkRequest; UnknownContexts, where no context has its
+    /// name. None where it is to be answered. It takes no memory.
     pub fn unhandled(&self, taken: &Taken<'_>) -> Option<Unhandled>
-        ensures { (c : Contexts) (p : PduParts) → ScopedFront (text_of taken.now.text) c → PduText c.pdu p → HandledBy self.now.engine self.now.tables c p result }
+        ensures { (c : Contexts) (p : PduParts) → ScopedFront (text_of taken.now.text) c → PduText c.pdu p
+            → HandledBy self.now.engine self.now.tables c p result }
     {
         one_content();
         one_pdu();
@@ -76,9 +78,10 @@ impl Agent {
         None
     }
 
-    /// Counts an accepted message that isn't answered, and where its PDU is of the Confirmed Class writes the report on it (RFC 3412,
-    /// section 7.1, step 3): at its own level, in the default context of the agent's engine, with the counter after it was counted.
-    /// Another PDU is counted alone, and a message without a counter isn't. The salt is used at authPriv alone.
+    /// Counts an accepted message that isn't answered, and where its PDU is of the Confirmed Class writes the
+    /// report on it (RFC 3412, section 7.1, step 3): at its own level, in the default context of the agent's
+    /// engine, with the counter after it was counted. Another PDU is counted alone, and a message without a
+    /// counter isn't. The salt is used at authPriv alone.
     ///
     /// The errors are those of `respond` before its text, and OutOfMemory (14); all is as before then.
     pub fn refuse(
@@ -89,10 +92,12 @@ impl Agent {
         salt: [u8; 8],
     ) -> Result<Option<Vec<u8>>, TakeFault>
         ensures answer { (c : Contexts) (p : PduParts) → ScopedFront (text_of taken.now.text) c → PduText c.pdu p
-            → IfSome (refusing_answer result) (λ answer. Refuses self.old now (given_of taken.now) p why salt answer self.new) }
+            → IfSome (refusing_answer result)
+            (λ answer. Refuses self.old now (given_of taken.now) p why salt answer self.new) }
 
         // There is a report, and the refusals before its text come before want of memory.
-        ensures memory { (c : Contexts) (p : PduParts) → ScopedFront (text_of taken.now.text) c → PduText c.pdu p → IsErrOf result TakeFault.OutOfMemory
+        ensures memory { (c : Contexts) (p : PduParts) → ScopedFront (text_of taken.now.text) c → PduText c.pdu p
+            → IsErrOf result TakeFault.OutOfMemory
             → RefusalCanBeSent self.old now (given_of taken.now) p why salt }
         ensures err { OnErr result (self.new ≡ self.old) }
     {
@@ -111,8 +116,10 @@ impl Agent {
         why: Unhandled,
         salt: [u8; 8],
     ) -> Result<Option<Vec<u8>>, TakeFault>
-        ensures answer { IfSome (refusing_answer result) (λ answer. Refuses self.old now (given_of taken.now) (pdu_of pdu.now) why salt answer self.new) }
-        ensures memory { IsErrOf result TakeFault.OutOfMemory → RefusalCanBeSent self.old now (given_of taken.now) (pdu_of pdu.now) why salt }
+        ensures answer { IfSome (refusing_answer result)
+            (λ answer. Refuses self.old now (given_of taken.now) (pdu_of pdu.now) why salt answer self.new) }
+        ensures memory { IsErrOf result TakeFault.OutOfMemory
+            → RefusalCanBeSent self.old now (given_of taken.now) (pdu_of pdu.now) why salt }
         ensures err { OnErr result (self.new ≡ self.old) }
     {
         let Some(counter) = why.counter() else {
@@ -140,12 +147,12 @@ impl Agent {
         }
     }
 
-    /// What `respond` gives where that has at most `limit` octets, as the sender's msgMaxSize (`Taken::max_size`) or a local
-    /// constraint, and else TooLarge (16).
+    /// What `respond` gives where that has at most `limit` octets, as the sender's msgMaxSize
+    /// (`Taken::max_size`) or a local constraint, and else TooLarge (16).
     ///
-    /// The errors are those of `respond`, in its order. Where it is TooLarge, a tooBig is sent by calling this again with status 1 and
-    /// no bindings (RFC 3416, section 4.2.1); a limit of 484 octets is enough for it, wherever contextEngineID and contextName have at
-    /// most 32 octets.
+    /// The errors are those of `respond`, in its order. Where it is TooLarge, a tooBig is sent by calling
+    /// this again with status 1 and no bindings (RFC 3416, section 4.2.1); a limit of 484 octets is enough
+    /// for it, wherever contextEngineID and contextName have at most 32 octets.
     pub fn respond_within(
         &mut self,
         now: u64,
@@ -158,14 +165,21 @@ impl Agent {
     ) -> Result<Vec<u8>, TakeFault>
         requires { All (λ b. CanBeWritten (variable_of b)) bindings.now }
         ensures answer { (c : Contexts) (p : PduParts) → ScopedFront (text_of taken.now.text) c → PduText c.pdu p
-            → IfSome (send_answer result) (UpTo limit (Sends self.old now (λ own. responding self.old.engine own (given_of taken.now) c p status index (map variable_of bindings.now) salt))) }
+            → IfSome (send_answer result)
+            (UpTo limit (Sends self.old now
+            (λ own. responding self.old.engine own (given_of taken.now) c p status index
+            (map variable_of bindings.now) salt))) }
 
         // The refusals before the text come before want of memory.
-        ensures memory { (c : Contexts) (p : PduParts) → ScopedFront (text_of taken.now.text) c → PduText c.pdu p → IsErrOf result TakeFault.OutOfMemory
-            → CanBeSent self.old now (λ own. responding self.old.engine own (given_of taken.now) c p status index (map variable_of bindings.now) salt) }
+        ensures memory { (c : Contexts) (p : PduParts) → ScopedFront (text_of taken.now.text) c → PduText c.pdu p
+            → IsErrOf result TakeFault.OutOfMemory
+            → CanBeSent self.old now
+            (λ own. responding self.old.engine own (given_of taken.now) c p status index
+            (map variable_of bindings.now) salt) }
         ensures accepted { (c : Contexts) (p : PduParts) → ScopedFront (text_of taken.now.text) c → PduText c.pdu p
             → IfOk result (λ text. IsAcceptedByManagers self.old.users
-            (response self.old.engine (own_pair self.old.boots self.old.started now) (given_of taken.now) c p status index (map variable_of bindings.now) salt) text.items) }
+            (response self.old.engine (own_pair self.old.boots self.old.started now)
+            (given_of taken.now) c p status index (map variable_of bindings.now) salt) text.items) }
         ensures same { self.new ≡ self.old }
     {
         self.respond_within_of(now, taken, status, index, bindings, salt, limit)
@@ -186,12 +200,19 @@ impl Agent {
     ) -> Result<Vec<u8>, TakeFault>
         requires { All (λ b. B.fits b) bindings.now }
         ensures answer { (c : Contexts) (p : PduParts) → ScopedFront (text_of taken.now.text) c → PduText c.pdu p
-            → IfSome (send_answer result) (UpTo limit (Sends self.old now (λ own. responding self.old.engine own (given_of taken.now) c p status index (map B.says bindings.now) salt))) }
-        ensures memory { (c : Contexts) (p : PduParts) → ScopedFront (text_of taken.now.text) c → PduText c.pdu p → IsErrOf result TakeFault.OutOfMemory
-            → CanBeSent self.old now (λ own. responding self.old.engine own (given_of taken.now) c p status index (map B.says bindings.now) salt) }
+            → IfSome (send_answer result)
+            (UpTo limit (Sends self.old now
+            (λ own. responding self.old.engine own (given_of taken.now) c p status index
+            (map B.says bindings.now) salt))) }
+        ensures memory { (c : Contexts) (p : PduParts) → ScopedFront (text_of taken.now.text) c → PduText c.pdu p
+            → IsErrOf result TakeFault.OutOfMemory
+            → CanBeSent self.old now
+            (λ own. responding self.old.engine own (given_of taken.now) c p status index
+            (map B.says bindings.now) salt) }
         ensures accepted { (c : Contexts) (p : PduParts) → ScopedFront (text_of taken.now.text) c → PduText c.pdu p
             → IfOk result (λ text. IsAcceptedByManagers self.old.users
-            (response self.old.engine (own_pair self.old.boots self.old.started now) (given_of taken.now) c p status index (map B.says bindings.now) salt) text.items) }
+            (response self.old.engine (own_pair self.old.boots self.old.started now)
+            (given_of taken.now) c p status index (map B.says bindings.now) salt) text.items) }
         ensures same { self.new ≡ self.old }
     {
         let text = self.respond_of(now, taken, status, index, bindings, salt)?;
@@ -201,11 +222,13 @@ impl Agent {
         Ok(text)
     }
 
-    /// The Response with the longest front of the bindings whose text has at most `limit` octets, as a GetBulk's is cut (RFC 3416, section
-    /// 4.2.3), and how many bindings that has. One text is sealed, and of the others only the length is counted.
+    /// The Response with the longest front of the bindings whose text has at most `limit` octets, as a
+    /// GetBulk's is cut (RFC 3416, section 4.2.3), and how many bindings that has. One text is sealed, and of
+    /// the others only the length is counted.
     ///
-    /// The errors are those of `respond` before its text; then TooLarge (16), exactly where even the Response without bindings has more
-    /// octets than `limit`, or than 65,507; and OutOfMemory (14), which the refusals before the text come before.
+    /// The errors are those of `respond` before its text; then TooLarge (16), exactly where even the Response
+    /// without bindings has more octets than `limit`, or than 65,507; and OutOfMemory (14), which the
+    /// refusals before the text come before.
     pub fn respond_front<B: Spelled>(
         &mut self,
         now: u64,
@@ -218,12 +241,18 @@ impl Agent {
     ) -> Result<Fronted, TakeFault>
         requires { All (λ b. B.fits b) bindings.now }
         ensures answer { (c : Contexts) (p : PduParts) → ScopedFront (text_of taken.now.text) c → PduText c.pdu p
-            → IfSome (front_answer result) (SendsFront self.old now limit (λ own vs. responding self.old.engine own (given_of taken.now) c p status index vs salt) (map B.says bindings.now)) }
-        ensures memory { (c : Contexts) (p : PduParts) → ScopedFront (text_of taken.now.text) c → PduText c.pdu p → IsErrOf result TakeFault.OutOfMemory
-            → CanBeSent self.old now (λ own. responding self.old.engine own (given_of taken.now) c p status index [] salt) }
+            → IfSome (front_answer result)
+            (SendsFront self.old now limit
+            (λ own vs. responding self.old.engine own (given_of taken.now) c p status index vs salt)
+            (map B.says bindings.now)) }
+        ensures memory { (c : Contexts) (p : PduParts) → ScopedFront (text_of taken.now.text) c → PduText c.pdu p
+            → IsErrOf result TakeFault.OutOfMemory
+            → CanBeSent self.old now
+            (λ own. responding self.old.engine own (given_of taken.now) c p status index [] salt) }
         ensures accepted { (c : Contexts) (p : PduParts) → ScopedFront (text_of taken.now.text) c → PduText c.pdu p
             → IfOk result (λ f. IsAcceptedByManagers self.old.users
-            (response self.old.engine (own_pair self.old.boots self.old.started now) (given_of taken.now) c p status index (take f.count (map B.says bindings.now)) salt) f.text.items) }
+            (response self.old.engine (own_pair self.old.boots self.old.started now)
+            (given_of taken.now) c p status index (take f.count (map B.says bindings.now)) salt) f.text.items) }
         ensures same { self.new ≡ self.old }
     {
         response_is_accepted();

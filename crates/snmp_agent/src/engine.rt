@@ -21,11 +21,12 @@ impl Engine {
     ghost use Rattle.engine_clock.specs.Pairs.{IsPair};
     ghost use Rattle.snmp_incoming.specs.Outcome.{own_pair};
 
-    /// Its boots and its time, the seconds since it started, which are 0 where `now` is earlier; or None where the time would
-    /// be above 2147483647.
+    /// Its boots and its time, the seconds since it started, which are 0 where `now` is earlier; or None
+    /// where the time would be above 2147483647.
     pub(crate) fn pair(&self, now: u64) -> Option<Pair>
         ensures { MatchOption result (pair_max < now - self.now.started)
-            (λ pair. (now - self.now.started ≤ pair_max) × (pair ≡ own_pair self.now.boots self.now.started now) × IsPair pair) }
+            (λ pair. (now - self.now.started ≤ pair_max) × (pair ≡ own_pair self.now.boots self.now.started now)
+            × IsPair pair) }
     {
         let time = now.saturating_sub(self.started);
         if time > u64::from(Pair::MAX) {

@@ -14,7 +14,8 @@ use usm_core::{Checked, Role, Users};
 
 /// Without auth, or inside the agent's window (RFC 3414, section 3.2, step 7).
 fn is_in_window(own: Pair, checked: &Checked<'_>) -> bool
-    ensures { IsTrue result ↔ (checked.now.message.header.auth ≡ true → InAgentWindow own (pair_in (verified_of checked.now))) }
+    ensures { IsTrue result
+        ↔ (checked.now.message.header.auth ≡ true → InAgentWindow own (pair_in (verified_of checked.now))) }
 {
     let pair = Pair {
         boots: checked.security.boots,
@@ -23,8 +24,8 @@ fn is_in_window(own: Pair, checked: &Checked<'_>) -> bool
     !checked.message.header.auth || in_window_agent(own, pair)
 }
 
-/// The answer to the datagram, without counting it. The window is looked at before memory is asked for, so that no stale
-/// message is opened.
+/// The answer to the datagram, without counting it. The window is looked at before memory is asked for, so
+/// that no stale message is opened.
 pub(crate) fn judge<'a>(
     users: &mut Users,
     engine: &Engine,
@@ -32,7 +33,8 @@ pub(crate) fn judge<'a>(
     datagram: &'a [u8],
 ) -> Result<Taken<'a>, TakeFault>
     ensures rows { IfSome (answer_of result) (Outcome (taker_at engine.now) users.old.users now datagram.now) }
-    ensures memory { IsErrOf result TakeFault.OutOfMemory → IsOpened (taker_at engine.now) users.old.users now datagram.now }
+    ensures memory { IsErrOf result TakeFault.OutOfMemory
+        → IsOpened (taker_at engine.now) users.old.users now datagram.now }
     ensures users { users.new.users ≡ users.old.users }
 {
     let Some(own) = engine.pair(now) else {

@@ -1,5 +1,6 @@
-//! The agent: an authoritative SNMPv3 engine (RFC 3414, section 1.5.1). It accepts datagrams, counts and reports those that it
-//! refuses, decides what their senders may see (RFC 3413, section 3.2), and writes Responses and notifications (RFC 3416, section 4.2).
+//! The agent: an authoritative SNMPv3 engine (RFC 3414, section 1.5.1). It accepts datagrams, counts and
+//! reports those that it refuses, decides what their senders may see (RFC 3413, section 3.2), and writes
+//! Responses and notifications (RFC 3416, section 4.2).
 //!
 //! ```
 //! use engine_clock::EngineId;

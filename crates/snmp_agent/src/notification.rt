@@ -40,10 +40,17 @@ pub(crate) fn send_notification<B: Spelled>(
     requires tag { IsPduTag front.now.tag }
     requires fit { All (λ b. B.fits b) bindings.now }
     requires pair { IsPair own }
-    ensures rows { IfSome (send_answer result) (Seals users.old.users (notifying engine.now own to.now.id to.now.user.now to.now.level front.now (map B.says bindings.now) to.now.salt)) }
+    ensures rows { IfSome (send_answer result)
+        (Seals users.old.users
+        (notifying engine.now own to.now.id to.now.user.now to.now.level front.now
+        (map B.says bindings.now) to.now.salt)) }
     ensures memory { IsErrOf result TakeFault.OutOfMemory
-        → IsSealable users.old.users (notifying engine.now own to.now.id to.now.user.now to.now.level front.now (map B.says bindings.now) to.now.salt) }
-    ensures fits { IfOk result (λ _. SpeechFits (notification engine.now own to.now.id to.now.user.now to.now.level front.now (map B.says bindings.now) to.now.salt)) }
+        → IsSealable users.old.users
+        (notifying engine.now own to.now.id to.now.user.now to.now.level front.now
+        (map B.says bindings.now) to.now.salt) }
+    ensures fits { IfOk result
+        (λ _. SpeechFits (notification engine.now own to.now.id to.now.user.now to.now.level front.now
+        (map B.says bindings.now) to.now.salt)) }
     ensures users { users.new.users ≡ users.old.users }
 {
     let envelope = Envelope {

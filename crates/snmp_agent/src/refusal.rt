@@ -37,8 +37,14 @@ pub fn send_refusal<'a>(
     pdu: &Pdu<'_>,
     counted: Counted,
 ) -> Result<Vec<u8>, TakeFault>
-    ensures rows { IfSome (send_answer result) (Seals users.old.users (refusing engine.now own (given_of taken.now) (pdu_of pdu.now) counted.counter counted.value counted.salt)) }
-    ensures memory { IsErrOf result TakeFault.OutOfMemory → IsSealable users.old.users (refusing engine.now own (given_of taken.now) (pdu_of pdu.now) counted.counter counted.value counted.salt) }
+    ensures rows { IfSome (send_answer result)
+        (Seals users.old.users
+        (refusing engine.now own (given_of taken.now)
+        (pdu_of pdu.now) counted.counter counted.value counted.salt)) }
+    ensures memory { IsErrOf result TakeFault.OutOfMemory
+        → IsSealable users.old.users
+        (refusing engine.now own (given_of taken.now)
+        (pdu_of pdu.now) counted.counter counted.value counted.salt) }
     ensures users { users.new.users ≡ users.old.users }
 {
     let Some(name) = Oid::of(counted.counter.name()) else {

@@ -36,9 +36,13 @@ pub(crate) fn report(
     why: TakeFault,
     datagram: &[u8],
 ) -> Result<Option<Vec<u8>>, AllocError>
-    requires rows { IfSome (refused (answer_number why)) (Outcome (taker_at engine.now) users.old.users now datagram.now) }
+    requires rows { IfSome (refused (answer_number why))
+        (Outcome (taker_at engine.now) users.old.users now datagram.now) }
     ensures users { users.new.users ≡ users.old.users }
-    ensures report { IfOk result (λ r. IsReport users.old.users engine.now.id (own_pair engine.now.boots engine.now.started now) counters.now datagram.now (number_of why) (report_of r)) }
+    ensures report { IfOk result
+        (λ r. IsReport users.old.users engine.now.id
+        (own_pair engine.now.boots engine.now.started now) counters.now datagram.now (number_of why)
+        (report_of r)) }
     ensures memory { OnErr result (Offers datagram.now (number_of why)) }
 {
     one_message();
@@ -69,8 +73,8 @@ fn report_level(n: u8) -> Level
     }
 }
 
-/// The report of counter n. A report is short, and at a level with authentication its user has been authenticated; so the
-/// error is want of memory.
+/// The report of counter n. A report is short, and at a level with authentication its user has been
+/// authenticated; so the error is want of memory.
 fn send_report(
     users: &mut Users,
     engine: &EngineId,
@@ -81,7 +85,8 @@ fn send_report(
 ) -> Result<Vec<u8>, AllocError>
     requires known { n ≡ 2 → HasUserAt users.old.users asking.now.user.now AuthNoPriv }
     ensures users { users.new.users ≡ users.old.users }
-    ensures text { IfOk result (λ text. SealedText users.old.users (reporting_of engine.now own n asking.now value) text.items) }
+    ensures text { IfOk result
+        (λ text. SealedText users.old.users (reporting_of engine.now own n asking.now value) text.items) }
 {
     let Some(name) = Oid::of(&counter_name(n)) else {
         unreachable!();

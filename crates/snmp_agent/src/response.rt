@@ -45,8 +45,10 @@ fn envelope<'a>(
     ensures pair { result.pair ≡ own }
     ensures user { result.user.now ≡ taken.now.user.now }
     ensures message { (c : Contexts) (p : PduParts) (vs : List Variable)
-        → sent_with result (scoped_text c.engine c.name (pdu_text (pdu_with 162 p.id response.now.status response.now.index vs)))
-        ≡ responding engine.now own (given_of taken.now) c p response.now.status response.now.index vs response.now.salt }
+        → sent_with result (scoped_text c.engine c.name
+        (pdu_text (pdu_with 162 p.id response.now.status response.now.index vs)))
+        ≡ responding engine.now own
+        (given_of taken.now) c p response.now.status response.now.index vs response.now.salt }
 {
     Envelope {
         level: taken.level,
@@ -62,10 +64,13 @@ fn envelope<'a>(
 /// What it says besides its bindings: the contexts and the request-id of what was taken.
 fn front<'a>(taken: &'a Taken<'_>, response: &Response) -> Front<'a>
     ensures tag { result.tag ≡ 162 }
-    ensures pdu { (c : Contexts) (p : PduParts) (vs : List Variable) → ScopedFront (text_of taken.now.text) c → PduText c.pdu p
+    ensures pdu { (c : Contexts) (p : PduParts) (vs : List Variable) → ScopedFront (text_of taken.now.text) c
+        → PduText c.pdu p
         → pdu_after result vs ≡ pdu_with 162 p.id response.now.status response.now.index vs }
-    ensures scoped { (c : Contexts) (p : PduParts) (vs : List Variable) → ScopedFront (text_of taken.now.text) c → PduText c.pdu p
-        → scoped_after result vs ≡ scoped_text c.engine c.name (pdu_text (pdu_with 162 p.id response.now.status response.now.index vs)) }
+    ensures scoped { (c : Contexts) (p : PduParts) (vs : List Variable) → ScopedFront (text_of taken.now.text) c
+        → PduText c.pdu p
+        → scoped_after result vs
+        ≡ scoped_text c.engine c.name (pdu_text (pdu_with 162 p.id response.now.status response.now.index vs)) }
 {
     one_content();
     one_pdu();
@@ -81,7 +86,8 @@ fn front<'a>(taken: &'a Taken<'_>, response: &Response) -> Front<'a>
     }
 }
 
-/// The Response to what was taken, with these bindings, from this engine with its own boots and time, each at most 2147483647.
+/// The Response to what was taken, with these bindings, from this engine with its own boots and time, each at
+/// most 2147483647.
 ///
 /// The errors are those of `send_of`, in its order.
 pub fn send_response<B: Spelled>(
@@ -95,11 +101,19 @@ pub fn send_response<B: Spelled>(
     requires bindings { All (λ b. B.fits b) bindings.now }
     requires pair { IsPair own }
     ensures rows { (c : Contexts) (p : PduParts) → ScopedFront (text_of taken.now.text) c → PduText c.pdu p
-        → IfSome (send_answer result) (Seals users.old.users (responding engine.now own (given_of taken.now) c p response.now.status response.now.index (map B.says bindings.now) response.now.salt)) }
-    ensures memory { (c : Contexts) (p : PduParts) → ScopedFront (text_of taken.now.text) c → PduText c.pdu p → IsErrOf result TakeFault.OutOfMemory
-        → IsSealable users.old.users (responding engine.now own (given_of taken.now) c p response.now.status response.now.index (map B.says bindings.now) response.now.salt) }
+        → IfSome (send_answer result)
+        (Seals users.old.users
+        (responding engine.now own (given_of taken.now) c p response.now.status response.now.index
+        (map B.says bindings.now) response.now.salt)) }
+    ensures memory { (c : Contexts) (p : PduParts) → ScopedFront (text_of taken.now.text) c → PduText c.pdu p
+        → IsErrOf result TakeFault.OutOfMemory
+        → IsSealable users.old.users
+        (responding engine.now own (given_of taken.now) c p response.now.status response.now.index
+        (map B.says bindings.now) response.now.salt) }
     ensures fits { (c : Contexts) (p : PduParts) → ScopedFront (text_of taken.now.text) c → PduText c.pdu p
-        → IfOk result (λ _. SpeechFits (speech engine.now own (given_of taken.now) c p response.now.status response.now.index (map B.says bindings.now) response.now.salt)) }
+        → IfOk result (λ _. SpeechFits
+        (speech engine.now own (given_of taken.now) c p response.now.status response.now.index
+        (map B.says bindings.now) response.now.salt)) }
     ensures users { users.new.users ≡ users.old.users }
 {
     let envelope = envelope(engine, own, taken, response);
@@ -107,8 +121,8 @@ pub fn send_response<B: Spelled>(
     send_of(users, &envelope, &front, bindings)
 }
 
-/// The Response to what was taken, with the longest front of these bindings whose text has at most `limit` octets, and how many bindings
-/// that has.
+/// The Response to what was taken, with the longest front of these bindings whose text has at most `limit`
+/// octets, and how many bindings that has.
 ///
 /// The errors are those of `send_front`, in its order.
 pub fn send_response_front<B: Spelled>(
@@ -123,11 +137,20 @@ pub fn send_response_front<B: Spelled>(
     requires bindings { All (λ b. B.fits b) bindings.now }
     requires pair { IsPair own }
     ensures rows { (c : Contexts) (p : PduParts) → ScopedFront (text_of taken.now.text) c → PduText c.pdu p
-        → IfSome (front_answer result) (SealsFront users.old.users limit (λ vs. responding engine.now own (given_of taken.now) c p response.now.status response.now.index vs response.now.salt) (map B.says bindings.now)) }
-    ensures memory { (c : Contexts) (p : PduParts) → ScopedFront (text_of taken.now.text) c → PduText c.pdu p → IsErrOf result TakeFault.OutOfMemory
-        → IsSealable users.old.users (responding engine.now own (given_of taken.now) c p response.now.status response.now.index [] response.now.salt) }
+        → IfSome (front_answer result)
+        (SealsFront users.old.users limit
+        (λ vs. responding engine.now own
+        (given_of taken.now) c p response.now.status response.now.index vs response.now.salt)
+        (map B.says bindings.now)) }
+    ensures memory { (c : Contexts) (p : PduParts) → ScopedFront (text_of taken.now.text) c → PduText c.pdu p
+        → IsErrOf result TakeFault.OutOfMemory
+        → IsSealable users.old.users
+        (responding engine.now own
+        (given_of taken.now) c p response.now.status response.now.index [] response.now.salt) }
     ensures fits { (c : Contexts) (p : PduParts) → ScopedFront (text_of taken.now.text) c → PduText c.pdu p
-        → IfOk result (λ f. SpeechFits (speech engine.now own (given_of taken.now) c p response.now.status response.now.index (take f.count (map B.says bindings.now)) response.now.salt)) }
+        → IfOk result (λ f. SpeechFits
+        (speech engine.now own (given_of taken.now) c p response.now.status response.now.index
+        (take f.count (map B.says bindings.now)) response.now.salt)) }
     ensures users { users.new.users ≡ users.old.users }
 {
     let envelope = envelope(engine, own, taken, response);

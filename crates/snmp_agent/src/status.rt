@@ -24,8 +24,8 @@ pub enum Status {
 }
 
 impl Status {
-    /// Its number: that of the error-status (0 noError, 6 noAccess, 16 authorizationError), 128 for noSuchObject, whose tag it is, and
-    /// 256 and 257 for NotSeen and UnknownContext, which no message has.
+    /// Its number: that of the error-status (0 noError, 6 noAccess, 16 authorizationError), 128 for
+    /// noSuchObject, whose tag it is, and 256 and 257 for NotSeen and UnknownContext, which no message has.
     pub fn number(self) -> u16
         ensures { result ≡ status_number self }
     {
@@ -40,8 +40,8 @@ impl Status {
     }
 }
 
-/// What becomes of a variable for which access was answered so, in a request whose PDU has this tag: a GetRequest (A0), a SetRequest
-/// (A3), or a walk, as a GetNextRequest (A1) or a GetBulkRequest (A5).
+/// What becomes of a variable for which access was answered so, in a request whose PDU has this tag: a
+/// GetRequest (A0), a SetRequest (A3), or a walk, as a GetNextRequest (A1) or a GetBulkRequest (A5).
 pub fn status_of(access: Access, tag: u8) -> Status
     ensures { IsStatusOf access tag result }
 {

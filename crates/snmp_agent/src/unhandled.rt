@@ -5,7 +5,8 @@ ghost use Rattle.snmp_agent.specs.Dispatch.{counter_of};
 
 use snmp_outgoing::Counter;
 
-/// Why no application of an engine answers an accepted message (RFC 3412, sections 4.2.2 and 7.2; RFC 3413, section 3.2).
+/// Why no application of an engine answers an accepted message (RFC 3412, sections 4.2.2 and 7.2; RFC 3413,
+/// section 3.2).
 #[derive(Clone, Copy, Debug, PartialEq, Eq)]
 pub enum Unhandled {
     /// It is a Response or a Report, and no request waits for it: it is neither counted nor reported.

@@ -1,5 +1,6 @@
 -- The canonical spelling: the shortest length, and an INTEGER's fewest octets.
-use Rattle.std.specs.Prelude.{ℕ, suc, ℤ, pos, negsuc, ◌+◌, ◌-◌, nat_lt, if◌then◌else◌, List, [], ◌∷◌, ◌++◌, length, drop}
+use Rattle.std.specs.Prelude.{ℕ, suc, ℤ, pos, negsuc, ◌+◌, ◌-◌, nat_lt, if◌then◌else◌, List, [], ◌∷◌, ◌++◌, length}
+use Rattle.std.specs.Prelude.{drop}
 use Rattle.std.specs.Int.{w32, w64, to_be_bytes, cast_unsigned}
 
 -- how many digits in base 256 a number below 2 ^ 32 takes
@@ -26,7 +27,8 @@ element tag content = head_of tag (length content) ++ content
 
 -- how many octets a number from -2147483648 to 4294967295 takes in two's complement
 abbrev pub octet_count : ℤ → ℕ
-octet_count (pos n) = if nat_lt n 128 then 1 else if nat_lt n 32768 then 2 else if nat_lt n 8388608 then 3 else if nat_lt n 2147483648 then 4 else 5
+octet_count (pos n) = if nat_lt n 128 then 1 else if nat_lt n 32768 then 2 else if nat_lt n 8388608 then 3
+    else if nat_lt n 2147483648 then 4 else 5
 octet_count (negsuc n) = if nat_lt n 128 then 1 else if nat_lt n 32768 then 2 else if nat_lt n 8388608 then 3 else 4
 
 -- the content of the INTEGER of a number: the last octets of it in two's complement

@@ -30,7 +30,9 @@ fn read_digits(text: &[u8]) -> Option<u64>
 
 /// There is a plus sign in front, or a zero that leads.
 fn begins_wrongly(text: &[u8]) -> bool
-    ensures { MatchBool result ((slice_index text.now 0 ≡ 43) ⊎ ((slice_index text.now 0 ≡ 48) × (1 < length text.now))) ((slice_index text.now 0 ≢ 43) × (slice_index text.now 0 ≡ 48 → length text.now ≡ 1)) }
+    ensures { MatchBool result
+        ((slice_index text.now 0 ≡ 43) ⊎ ((slice_index text.now 0 ≡ 48) × (1 < length text.now)))
+        ((slice_index text.now 0 ≢ 43) × (slice_index text.now 0 ≡ 48 → length text.now ≡ 1)) }
 {
     !text.is_empty() && (text[0] == b'+' || text[0] == b'0' && text.len() > 1)
 }

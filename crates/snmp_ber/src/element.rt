@@ -1,6 +1,7 @@
 //! Elements: a tag, a length and that many octets of content (X.690, section 8.1; RFC 3417, section 8).
 
-ghost use Rattle.std.specs.Prelude.{◌≡◌, ℕ, ◌+◌, ◌^◌, ◌<◌, ◌≤◌, ◌++◌, List, Option, Some, None, option_map, length, slice_range, IfSome, IfOk, IfErr, OnOk, OnErr, vec_len, vec_capacity};
+ghost use Rattle.std.specs.Prelude.{◌≡◌, ℕ, ◌+◌, ◌^◌, ◌<◌, ◌≤◌, ◌++◌, List, Option, Some, None, option_map, length};
+ghost use Rattle.std.specs.Prelude.{slice_range, IfSome, IfOk, IfErr, OnOk, OnErr, vec_len, vec_capacity};
 ghost use Rattle.std.specs.Result.{result_ok};
 ghost use Rattle.snmp_ber.specs.Number.{number};
 ghost use Rattle.snmp_ber.specs.Reading.{length_at, front_of};
@@ -65,7 +66,8 @@ fn read_length(octets: &[u8]) -> Option<(usize, usize)>
 /// The element that the octets begin with: its tag, the size of its tag and length, its content, and the rest.
 #[tactic(auto, unfolding(crate::specs::Reading::front_of))]
 fn read_front(octets: &[u8]) -> Option<(u8, usize, &[u8], &[u8])>
-    ensures value { option_map (λ f. record { tag = f.0; head_size = f.1; content = f.2.now; rest = f.3.now }) result ≡ front_of octets.now }
+    ensures value { option_map (λ f. record { tag = f.0; head_size = f.1; content = f.2.now; rest = f.3.now }) result
+        ≡ front_of octets.now }
     ensures size { IfSome result (λ f. f.1 + (length f.2.now + length f.3.now) ≡ length octets.now) }
 {
     let [tag, after_tag @ ..] = octets else {
@@ -85,9 +87,9 @@ fn read_front(octets: &[u8]) -> Option<(u8, usize, &[u8], &[u8])>
 
 /// The element that begins at the place `at` and ends at the place `end` or before it.
 ///
-/// The length may have any definite form of at most 4 length octets, also one longer than needed. It is an error that no
-/// such element begins there: no octet is left, the tag's low five bits are all ones, the length has another form, or the
-/// content runs past `end`.
+/// The length may have any definite form of at most 4 length octets, also one longer than needed. It is an
+/// error that no such element begins there: no octet is left, the tag's low five bits are all ones, the
+/// length has another form, or the content runs past `end`.
 pub fn read_tlv(bytes: &[u8], at: usize, end: usize) -> Result<Tlv<'_>, BerFault>
     requires start { at ≤ end }
     requires within { end ≤ length bytes.now }
@@ -98,7 +100,9 @@ pub fn read_tlv(bytes: &[u8], at: usize, end: usize) -> Result<Tlv<'_>, BerFault
     ensures within { IfOk result (λ t. t.end ≤ end) }
 
     // A fault says that the octets from there on begin with no element.
-    ensures none { IfErr result (λ _. (tag : ℕ) (head content rest : List ℕ) → Begins (slice_range bytes.now at end) tag head content rest → ⊥) }
+    ensures none { IfErr result
+        (λ _. (tag : ℕ) (head content rest : List ℕ)
+        → Begins (slice_range bytes.now at end) tag head content rest → ⊥) }
     ensures fault { IfErr result (λ e. e.at ≡ at) }
 
     ensures exact { option_map (front_at bytes.now end) (result_ok result) ≡ front_of (slice_range bytes.now at end) }
@@ -189,8 +193,8 @@ pub fn put_head(out: &mut Vec<u8>, tag: u8, size: usize) -> Result<(), AllocErro
 
 /// Appends the element with this tag and content, in its shortest spelling.
 ///
-/// Its tag has a clear bit among the low five, and its content at most 4,294,967,295 octets. The error is want of memory:
-/// it comes only where the room that is left is too small, and changes nothing.
+/// Its tag has a clear bit among the low five, and its content at most 4,294,967,295 octets. The error is
+/// want of memory: it comes only where the room that is left is too small, and changes nothing.
 pub fn put_tlv(out: &mut Vec<u8>, tag: u8, content: &[u8]) -> Result<(), AllocError>
     requires is_tag { IsTag tag }
     requires fits { length content.now < 2 ^ 32 }

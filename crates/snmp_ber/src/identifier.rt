@@ -1,8 +1,10 @@
 //! The content of an OBJECT IDENTIFIER (X.690, section 8.19).
 
-ghost use Rattle.std.specs.Prelude.{◌≡◌, ℕ, ◌+◌, ◌<◌, ◌≤◌, ◌↔◌, ◌++◌, ◌∷◌, List, Some, length, IfSome, OnOk, OnErr, option_map, option_and_then, is_some, nat_lt, vec_len, vec_capacity, IsTrue};
+ghost use Rattle.std.specs.Prelude.{◌≡◌, ℕ, ◌+◌, ◌<◌, ◌≤◌, ◌↔◌, ◌++◌, ◌∷◌, List, Some, length, IfSome, OnOk, OnErr};
+ghost use Rattle.std.specs.Prelude.{option_map, option_and_then, is_some, nat_lt, vec_len, vec_capacity, IsTrue};
 ghost use Rattle.std.specs.List.{list_all};
-ghost use Rattle.snmp_ber.specs.Oid.{IsObjectId, IsIdentifier, subidentifiers, subidentifiers_in, at_most, identifier_in, group_count, subidentifier, identifier};
+ghost use Rattle.snmp_ber.specs.Oid.{IsObjectId, IsIdentifier, subidentifiers, subidentifiers_in, at_most};
+ghost use Rattle.snmp_ber.specs.Oid.{identifier_in, group_count, subidentifier, identifier};
 ghost use Rattle.snmp_ber.specs.Spelling.{element};
 
 use crate::element::{head_len, put_tlv};
@@ -115,8 +117,8 @@ fn count_subidentifiers(content: &[u8]) -> Option<usize>
     Some(count)
 }
 
-/// The content is an identifier's, which `read_oid` gives: one to 127 subidentifiers, each at most 4,294,967,295 and in the
-/// fewest octets.
+/// The content is an identifier's, which `read_oid` gives: one to 127 subidentifiers, each at most
+/// 4,294,967,295 and in the fewest octets.
 pub fn is_oid(content: &[u8]) -> bool
     ensures identifier { IsTrue result ↔ ((arcs : List ℕ) × IsIdentifier arcs content.now) }
     ensures exact { result ≡ is_some (identifier_in content.now) }

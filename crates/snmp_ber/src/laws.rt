@@ -13,20 +13,23 @@ pub fn one_element()
     ensures one { (a b x y : List ℕ) (tag other_tag : ℕ) (content other_content : List ℕ)
         → IsElement tag content a → IsElement other_tag other_content b → a ++ x ≡ b ++ y
         → (tag ≡ other_tag) × (content ≡ other_content) × (a ≡ b) × (x ≡ y) }
-    ensures canonical { (tag : ℕ) (content : List ℕ) → IsTag tag → length content < 2 ^ 32 → IsElement tag content (element tag content) }
-    ensures shortest { (tag : ℕ) (content text : List ℕ) → AreOctets text → IsElement tag content text → length (element tag content) ≤ length text }
+    ensures canonical { (tag : ℕ) (content : List ℕ) → IsTag tag → length content < 2 ^ 32
+        → IsElement tag content (element tag content) }
+    ensures shortest { (tag : ℕ) (content text : List ℕ) → AreOctets text → IsElement tag content text
+        → length (element tag content) ≤ length text }
 {}
 
-/// The numbers of 32 bits with sign are those that two's complement spells in at most 4 octets and no fewer than needed,
-/// and each has one such content (X.690, section 8.3).
+/// The numbers of 32 bits with sign are those that two's complement spells in at most 4 octets and no fewer
+/// than needed, and each has one such content (X.690, section 8.3).
 pub fn one_integer()
     ensures spelled { (z : ℤ) → negsuc 2147483647 ≤ℤ z → z ≤ℤ pos 2147483647 → IsInteger32 z (integer z) }
-    ensures range { (z : ℤ) (content : List ℕ) → AreOctets content → IsInteger32 z content → (negsuc 2147483647 ≤ℤ z) × (z ≤ℤ pos 2147483647) }
+    ensures range { (z : ℤ) (content : List ℕ) → AreOctets content → IsInteger32 z content
+        → (negsuc 2147483647 ≤ℤ z) × (z ≤ℤ pos 2147483647) }
     ensures one { (z : ℤ) (a b : List ℕ) → AreOctets a → AreOctets b → IsInteger32 z a → IsInteger32 z b → a ≡ b }
 {}
 
-/// An identifier whose first two arcs a subidentifier can tell has one content, which is its canonical one, and a content
-/// is one identifier's (X.690, section 8.19).
+/// An identifier whose first two arcs a subidentifier can tell has one content, which is its canonical one,
+/// and a content is one identifier's (X.690, section 8.19).
 pub fn one_identifier()
     ensures spelled { (arcs : List ℕ) → AreArcs arcs → IsObjectId arcs → IsIdentifier arcs (identifier arcs) }
     ensures content { (arcs a b : List ℕ) → IsIdentifier arcs a → IsIdentifier arcs b → a ≡ b }

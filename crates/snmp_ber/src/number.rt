@@ -1,6 +1,7 @@
 //! The content of an INTEGER (X.690, section 8.3).
 
-ghost use Rattle.std.specs.Prelude.{◌≡◌, ℕ, ℤ, pos, negsuc, ◌+◌, ◌<◌, ◌≤◌, ◌≤ℤ◌, ◌↔◌, ◌++◌, Some, IsTrue, length, OnOk, OnErr, vec_len, vec_capacity};
+ghost use Rattle.std.specs.Prelude.{◌≡◌, ℕ, ℤ, pos, negsuc, ◌+◌, ◌<◌, ◌≤◌, ◌≤ℤ◌, ◌↔◌, ◌++◌, Some, IsTrue, length};
+ghost use Rattle.std.specs.Prelude.{OnOk, OnErr, vec_len, vec_capacity};
 ghost use Rattle.snmp_ber.specs.Number.{signed_number, IsInteger, IsInteger32, IsUnsigned};
 ghost use Rattle.snmp_ber.specs.Reading.{has_fewest, integer32_of};
 ghost use Rattle.snmp_ber.specs.Spelling.{element, octet_count, integer};
@@ -50,7 +51,8 @@ pub fn read_int(content: &[u8]) -> Option<i32>
     Some(signed_of(content))
 }
 
-/// The content is of a number without sign that is below 256 to the power of `most`: it takes so many octets, or one more of 0.
+/// The content is of a number without sign that is below 256 to the power of `most`: it takes so many octets,
+/// or one more of 0.
 fn is_unsigned(content: &[u8], most: usize) -> bool
     ensures { IsTrue result ↔ ((n : ℕ) × IsUnsigned most n content.now) }
 {
@@ -69,8 +71,9 @@ fn is_unsigned(content: &[u8], most: usize) -> bool
     content.len() - 1 == most
 }
 
-/// The number of 32 bits without sign whose content this is: two's complement in the fewest octets, high octet first. It is `None`
-/// where the content has no octet, or more than the number needs, or is of a number below 0 or above 4294967295.
+/// The number of 32 bits without sign whose content this is: two's complement in the fewest octets, high
+/// octet first. It is `None` where the content has no octet, or more than the number needs, or is of a number
+/// below 0 or above 4294967295.
 pub fn read_unsigned(content: &[u8]) -> Option<u32>
     ensures { (n : ℕ) → (result ≡ Some n) ↔ IsUnsigned 4 n content.now }
 {

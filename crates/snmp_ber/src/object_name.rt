@@ -7,8 +7,9 @@ use crate::identifier::{is_oid, read_oid};
 use crate::oid::Oid;
 use std::marker::Model;
 
-/// An object identifier, in the octets elsewhere that are the content of its OBJECT IDENTIFIER (X.690, section 8.19). It is of
-/// 16 octets, where an `Oid` is of 520, and its arcs are read where they are asked for.
+/// An object identifier, in the octets elsewhere that are the content of its OBJECT IDENTIFIER (X.690,
+/// section 8.19). It is of 16 octets, where an `Oid` is of 520, and its arcs are read where they are asked
+/// for.
 #[derive(Drop)]
 pub struct ObjectName<'a> {
     content: &'a [u8],
@@ -29,7 +30,8 @@ impl<'a> Model for ObjectName<'a> {
 impl<'a> ObjectName<'a> {
     /// The identifier with this content, or None where it is no identifier's: `read_oid` tells which are.
     pub fn of(content: &'a [u8]) -> Option<ObjectName<'a>>
-        ensures identifier { MatchOption result ((arcs : List ℕ) → IsIdentifier arcs content.now → ⊥) (λ name. IsIdentifier name content.now) }
+        ensures identifier { MatchOption result ((arcs : List ℕ) → IsIdentifier arcs content.now → ⊥)
+            (λ name. IsIdentifier name content.now) }
         ensures exact { result ≡ identifier_in content.now }
     {
         if !is_oid(content) {

@@ -1,5 +1,6 @@
 -- What the calls on a manager's handle answer and leave.
-use Rattle.std.specs.Prelude.{◌≡◌, ◌≢◌, ◌<◌, ◌≤◌, ◌⊎◌, if◌then◌else◌, ℕ, ℤ, pos, negsuc, List, [], ◌∷◌, ◌++◌, length, drop, Option, Some, None, Result, Ok, Err, MatchOption, MatchResult}
+use Rattle.std.specs.Prelude.{◌≡◌, ◌≢◌, ◌<◌, ◌≤◌, ◌⊎◌, if◌then◌else◌, ℕ, ℤ, pos, negsuc, List, [], ◌∷◌, ◌++◌, length}
+use Rattle.std.specs.Prelude.{drop, Option, Some, None, Result, Ok, Err, MatchOption, MatchResult}
 use Rattle.std.specs.Int.{to_be_bytes, w64}
 use Rattle.engine_clock.specs.Pairs.{BootsAndTime}
 use Rattle.snmp_manager.specs.declared.pending.Answer.{Answer}
@@ -10,7 +11,8 @@ use Rattle.snmp_handles.specs.Faults.{code, answer_code, value_code, fault_code}
 use Rattle.snmp_handles.specs.Parts.{part_of, CopiesPart, CopiesMessage, TellsMaxSize}
 use Rattle.snmp_handles.specs.Reports.{TakesAnswer, TellsReport}
 use Rattle.snmp_manager.specs.declared.replies.Report.{Report}
-use Rattle.snmp_handles.specs.Managers.{ManagerHeld, Asking, MakesManager, ClearsManager, ManagerTakes, TellsAnswer, RequestsHeld, DiscoversHeld, AbsorbsHeld, SavesHeld, TellsPair}
+use Rattle.snmp_handles.specs.Managers.{ManagerHeld, Asking, MakesManager, ClearsManager, ManagerTakes, TellsAnswer}
+use Rattle.snmp_handles.specs.Managers.{RequestsHeld, DiscoversHeld, AbsorbsHeld, SavesHeld, TellsPair}
 use Rattle.snmp_c.specs.Calls.{Done, HasNumbers}
 
 -- the value, or -1 where there is none
@@ -19,21 +21,25 @@ count_number None = negsuc 0
 count_number (Some value) = pos value
 
 abbrev pub MakesAManager : List ℕ → List ℕ → ℕ → ℤ → Type 0
-MakesAManager config clocks now answer = (told : Result ManagerHeld CallFault) × (answer ≡ code told) × MakesManager config clocks now told
+MakesAManager config clocks now answer = (told : Result ManagerHeld CallFault) × (answer ≡ code told)
+    × MakesManager config clocks now told
 
 abbrev pub Clears : ManagerHeld → ManagerHeld → ℤ → Type 0
 Clears old new answer = Done (λ told. ClearsManager old told new) answer
 
 -- 14, want of memory, isn't answered where none is wanted.
 abbrev pub ManagerTook : ℕ → List ℕ → ManagerHeld → ManagerHeld → ℤ → Type 0
-ManagerTook now w old new answer = Done (λ told. ManagerTakes old now w told new) answer × (TakesNoMemory old.manager now w → answer ≢ pos 14)
+ManagerTook now w old new answer = Done (λ told. ManagerTakes old now w told new) answer
+    × (TakesNoMemory old.manager now w → answer ≢ pos 14)
 
 -- Nothing changes.
 abbrev pub Answered : ManagerHeld → ManagerHeld → ℤ → Type 0
-Answered old new answer = (new ≡ old) × ((told : Result Answer CallFault) × (answer ≡ answer_code told) × TellsAnswer old told)
+Answered old new answer = (new ≡ old)
+    × ((told : Result Answer CallFault) × (answer ≡ answer_code told) × TellsAnswer old told)
 
 abbrev pub Requested : ℕ → Asking → List ℕ → ℕ → ManagerHeld → ManagerHeld → ℤ → Type 0
-Requested now ask list salt old new answer = Done (λ told. RequestsHeld old now ask list (to_be_bytes w64 salt) told new) answer
+Requested now ask list salt old new answer = Done
+    (λ told. RequestsHeld old now ask list (to_be_bytes w64 salt) told new) answer
 
 abbrev pub Discovered : ℕ → ManagerHeld → ManagerHeld → ℤ → Type 0
 Discovered id old new answer = Done (λ told. DiscoversHeld old id told new) answer
@@ -51,12 +57,14 @@ HasPair boots boots_new time time_new (Err fault) = (boots_new ≡ boots) × (ti
 
 abbrev pub ToldPair : List ℕ → ℕ → ℕ → ℕ → ℕ → ManagerHeld → ManagerHeld → ℤ → Type 0
 ToldPair engine boots boots_new time time_new old new answer =
-    (new ≡ old) × ((told : Result BootsAndTime CallFault) × (answer ≡ code told) × TellsPair old engine told × HasPair boots boots_new time time_new told)
+    (new ≡ old) × ((told : Result BootsAndTime CallFault) × (answer ≡ code told) × TellsPair old engine told
+    × HasPair boots boots_new time time_new told)
 
 -- ---- answers
 
 abbrev pub ManagerMaxSize : ManagerHeld → ManagerHeld → ℤ → Type 0
-ManagerMaxSize old new answer = (new ≡ old) × ((told : Result ℕ CallFault) × (answer ≡ value_code told) × TellsMaxSize old.last told)
+ManagerMaxSize old new answer = (new ≡ old)
+    × ((told : Result ℕ CallFault) × (answer ≡ value_code told) × TellsMaxSize old.last told)
 
 abbrev pub TookAnswer : ManagerHeld → ManagerHeld → ℤ → Type 0
 TookAnswer old new answer = (told : Result Answer CallFault) × (answer ≡ answer_code told) × TakesAnswer old told new
@@ -75,17 +83,21 @@ HasReport (Some told) out out_new answer =
 abbrev pub ToldReport : List ℤ → List ℤ → ManagerHeld → ManagerHeld → ℤ → Type 0
 ToldReport out out_new old new answer =
     (new ≡ old) × ((told : Result (Option Report) CallFault) × TellsReport old told
-    × MatchResult told (λ report. HasReport report out out_new answer) (λ fault. (answer ≡ fault_code fault) × (out_new ≡ out)))
+    × MatchResult told (λ report. HasReport report out out_new answer)
+    (λ fault. (answer ≡ fault_code fault) × (out_new ≡ out)))
 
 -- ---- what is kept
 
 abbrev pub ManagerPart : ℕ → List ℕ → List ℕ → ℕ → ManagerHeld → ManagerHeld → ℤ → Type 0
 ManagerPart n out out_new written old new answer =
-    (new ≡ old) × MatchOption (part_of n) ((answer ≡ fault_code BadArgument) × (out_new ≡ out)) (λ part. Done (λ told. CopiesPart old.last part out out_new written told) answer)
+    (new ≡ old) × MatchOption (part_of n) ((answer ≡ fault_code BadArgument) × (out_new ≡ out))
+    (λ part. Done (λ told. CopiesPart old.last part out out_new written told) answer)
 
 abbrev pub ManagerMessage : List ℕ → List ℕ → ℕ → ManagerHeld → ManagerHeld → ℤ → Type 0
-ManagerMessage out out_new written old new answer = (new ≡ old) × Done (λ told. CopiesMessage old.message out out_new written told) answer
+ManagerMessage out out_new written old new answer = (new ≡ old)
+    × Done (λ told. CopiesMessage old.message out out_new written told) answer
 
 abbrev pub ManagerNumbers : List ℤ → List ℤ → ManagerHeld → ManagerHeld → ℤ → Type 0
 ManagerNumbers out out_new old new answer =
-    (new ≡ old) × MatchOption old.last ((answer ≡ fault_code NothingTaken) × (out_new ≡ out)) (λ g. HasNumbers g out out_new answer)
+    (new ≡ old) × MatchOption old.last ((answer ≡ fault_code NothingTaken) × (out_new ≡ out))
+    (λ g. HasNumbers g out out_new answer)

@@ -9,8 +9,8 @@ use Rattle.snmp_handles.specs.declared.fault.CallFault.TheVariants.{BadArgument}
 abbrev pub AreKeyAndSalt : List ℕ → List ℕ → Type 0
 AreKeyAndSalt key salt = (length key ≡ 16) × (length salt ≡ 8)
 
--- The text is sealed in its place (RFC 3826, section 3.1.3), and opens again; exactly where key and salt have their lengths, and
--- else it is as it was.
+-- The text is sealed in its place (RFC 3826, section 3.1.3), and opens again; exactly where key and salt have
+-- their lengths, and else it is as it was.
 abbrev pub Seals : List ℕ → ℕ → ℕ → List ℕ → List ℕ → List ℕ → Result ⊤ CallFault → Type 0
 Seals key boots time salt text text_new (Ok done) =
     AreKeyAndSalt key salt

@@ -4,7 +4,8 @@ ghost use Rattle.std.specs.Borrow.{full_share, sem};
 ghost use Rattle.std.specs.Ptr.{lies_at};
 ghost use Rattle.snmp_handles.specs.contracts.agent.AgentHandle as agents;
 ghost use Rattle.snmp_handles.specs.Agents.{AgentHeld};
-ghost use Rattle.snmp_c.specs.Calls.{Makes, ClearsAgent, Takes, Allows, May, Counter, RespondsTo, Notifies, TellsPart, TellsMessage, TellsNumbers};
+ghost use Rattle.snmp_c.specs.Calls.{Makes, ClearsAgent, Takes, Allows, May, Counter, RespondsTo, Notifies};
+ghost use Rattle.snmp_c.specs.Calls.{TellsPart, TellsMessage, TellsNumbers};
 
 use crate::agent_calls::{
     allows, clear, counter, may, message, notify, numbers, part, respond, take,
@@ -13,11 +14,13 @@ use snmp_handles::{AgentHandle, CallFault};
 use snmp_incoming::TakeFault;
 use std::alloc::Global;
 
-/// Makes an agent of this configuration, in TOML, with this engine ID and these boots, which started at the moment `started`, in
-/// seconds, and writes the pointer to it. Where it answers another number than 0, nothing is written.
+/// Makes an agent of this configuration, in TOML, with this engine ID and these boots, which started at the
+/// moment `started`, in seconds, and writes the pointer to it. Where it answers another number than 0,
+/// nothing is written.
 ///
-/// It answers -1 where the engine ID hasn't 5 to 32 octets, or has only 0 or only 255 (SnmpEngineID, RFC 3411, section 5), or boots are
-/// above 2147483647, -6 where the configuration is refused, and 14 for want of memory.
+/// It answers -1 where the engine ID hasn't 5 to 32 octets, or has only 0 or only 255 (SnmpEngineID, RFC
+/// 3411, section 5), or boots are above 2147483647, -6 where the configuration is refused, and 14 for want of
+/// memory.
 #[unsafe(no_mangle)]
 pub extern "C" fn snmpsec_agent_new(
     alloc: Global,
@@ -42,43 +45,47 @@ pub extern "C" fn snmpsec_agent_new(
     }
 }
 
-/// Gives back all memory but the block at the pointer, for which the caller then calls the heap's `rattle_dealloc`: it answers 14,
-/// and nothing is given back, for want of memory.
+/// Gives back all memory but the block at the pointer, for which the caller then calls the heap's
+/// `rattle_dealloc`: it answers 14, and nothing is given back, for want of memory.
 #[unsafe(no_mangle)]
 pub unsafe extern "C" fn snmpsec_agent_clear(at: *mut u8) -> i32
     ghost held: { AgentHeld }
     requires* { sem 𝓛 (lies_at agents.the_row full_share at held) }
-    ensures* { ∃ₛ (λ (new : AgentHeld). sem 𝓛 (lies_at agents.the_row full_share at new) ∗ ⌜ ClearsAgent held new result ⌝) }
+    ensures* { ∃ₛ (λ (new : AgentHeld). sem 𝓛
+        (lies_at agents.the_row full_share at new) ∗ ⌜ ClearsAgent held new result ⌝) }
 {
     clear(&mut *(at as *mut AgentHandle))
 }
 
-/// Takes a datagram at the moment `now`, in seconds. Where it answers 0 the message is accepted, and kept for the calls below; a
-/// refusal is answered by its number, 1 to 18, and leaves its report as the message to be sent, where there is one.
+/// Takes a datagram at the moment `now`, in seconds. Where it answers 0 the message is accepted, and kept for
+/// the calls below; a refusal is answered by its number, 1 to 18, and leaves its report as the message to be
+/// sent, where there is one.
 #[unsafe(no_mangle)]
 pub unsafe extern "C" fn snmpsec_agent_take(at: *mut u8, now: u64, datagram: &[u8]) -> i32
     ghost held: { AgentHeld }
     requires* { sem 𝓛 (lies_at agents.the_row full_share at held) }
-    ensures* { ∃ₛ (λ (new : AgentHeld). sem 𝓛 (lies_at agents.the_row full_share at new) ∗ ⌜ Takes now datagram.now held new result ⌝) }
+    ensures* { ∃ₛ (λ (new : AgentHeld). sem 𝓛
+        (lies_at agents.the_row full_share at new) ∗ ⌜ Takes now datagram.now held new result ⌝) }
 {
     take(&mut *(at as *mut AgentHandle), now, datagram)
 }
 
-/// Whether the sender of the message that is kept may see the variable with these arcs, by the view 0 (read), 1 (write) or 2
-/// (notify), in the message's context: 0 where it may, 1 notInView, 2 noSuchView, 3 noAccessEntry, 4 noGroupName, 5
-/// noSuchContext (isAccessAllowed, RFC 3415, section 3); -1 where no view has the number or there aren't 1 to 128 arcs, and -2 where
-/// no message is kept.
+/// Whether the sender of the message that is kept may see the variable with these arcs, by the view 0 (read),
+/// 1 (write) or 2 (notify), in the message's context: 0 where it may, 1 notInView, 2 noSuchView, 3
+/// noAccessEntry, 4 noGroupName, 5 noSuchContext (isAccessAllowed, RFC 3415, section 3); -1 where no view has
+/// the number or there aren't 1 to 128 arcs, and -2 where no message is kept.
 #[unsafe(no_mangle)]
 pub unsafe extern "C" fn snmpsec_agent_allows(at: *mut u8, view: u32, arcs: &[u32]) -> i32
     ghost held: { AgentHeld }
     requires* { sem 𝓛 (lies_at agents.the_row full_share at held) }
-    ensures* { ∃ₛ (λ (new : AgentHeld). sem 𝓛 (lies_at agents.the_row full_share at new) ∗ ⌜ Allows view arcs.now held new result ⌝) }
+    ensures* { ∃ₛ (λ (new : AgentHeld). sem 𝓛
+        (lies_at agents.the_row full_share at new) ∗ ⌜ Allows view arcs.now held new result ⌝) }
 {
     allows(&mut *(at as *mut AgentHandle), view, arcs)
 }
 
-/// The same without a message: whether this user at the level 1 (noAuthNoPriv), 2 (authNoPriv) or 3 (authPriv) may see the
-/// variable in the context of this name.
+/// The same without a message: whether this user at the level 1 (noAuthNoPriv), 2 (authNoPriv) or 3
+/// (authPriv) may see the variable in the context of this name.
 #[unsafe(no_mangle)]
 pub unsafe extern "C" fn snmpsec_agent_may(
     at: *mut u8,
@@ -90,7 +97,9 @@ pub unsafe extern "C" fn snmpsec_agent_may(
 ) -> i32
     ghost held: { AgentHeld }
     requires* { sem 𝓛 (lies_at agents.the_row full_share at held) }
-    ensures* { ∃ₛ (λ (new : AgentHeld). sem 𝓛 (lies_at agents.the_row full_share at new) ∗ ⌜ May user.now level context.now view arcs.now held new result ⌝) }
+    ensures* { ∃ₛ (λ (new : AgentHeld). sem 𝓛
+        (lies_at agents.the_row full_share at new) ∗ ⌜ May user.now level context.now view arcs.now held
+        new result ⌝) }
 {
     may(
         &mut *(at as *mut AgentHandle),
@@ -107,15 +116,17 @@ pub unsafe extern "C" fn snmpsec_agent_may(
 pub unsafe extern "C" fn snmpsec_agent_counter(at: *mut u8, n: u32) -> i64
     ghost held: { AgentHeld }
     requires* { sem 𝓛 (lies_at agents.the_row full_share at held) }
-    ensures* { ∃ₛ (λ (new : AgentHeld). sem 𝓛 (lies_at agents.the_row full_share at new) ∗ ⌜ Counter n held new result ⌝) }
+    ensures* { ∃ₛ (λ (new : AgentHeld). sem 𝓛
+        (lies_at agents.the_row full_share at new) ∗ ⌜ Counter n held new result ⌝) }
 {
     counter(&mut *(at as *mut AgentHandle), n)
 }
 
-/// Writes the Response to the message that is kept, with this error-status, error-index and the variable bindings that these
-/// octets are, and leaves it as the message to be sent. Each salt is to be another one, at authPriv. Where it doesn't answer 0,
-/// nothing changes: it answers -1 where status or index are above 2147483647, -2 where no message is kept, -3 where
-/// that is of no PDU that is answered, -4 where the octets aren't bindings, and the refusals of sending: 15, 7, 8, 16, 14.
+/// Writes the Response to the message that is kept, with this error-status, error-index and the variable
+/// bindings that these octets are, and leaves it as the message to be sent. Each salt is to be another one,
+/// at authPriv. Where it doesn't answer 0, nothing changes: it answers -1 where status or index are above
+/// 2147483647, -2 where no message is kept, -3 where that is of no PDU that is answered, -4 where the octets
+/// aren't bindings, and the refusals of sending: 15, 7, 8, 16, 14.
 #[unsafe(no_mangle)]
 pub unsafe extern "C" fn snmpsec_agent_respond(
     at: *mut u8,
@@ -127,7 +138,9 @@ pub unsafe extern "C" fn snmpsec_agent_respond(
 ) -> i32
     ghost held: { AgentHeld }
     requires* { sem 𝓛 (lies_at agents.the_row full_share at held) }
-    ensures* { ∃ₛ (λ (new : AgentHeld). sem 𝓛 (lies_at agents.the_row full_share at new) ∗ ⌜ RespondsTo now status index list.now salt held new result ⌝) }
+    ensures* { ∃ₛ (λ (new : AgentHeld). sem 𝓛
+        (lies_at agents.the_row full_share at new) ∗ ⌜ RespondsTo now status index list.now salt held
+        new result ⌝) }
 {
     respond(
         &mut *(at as *mut AgentHandle),
@@ -139,10 +152,10 @@ pub unsafe extern "C" fn snmpsec_agent_respond(
     )
 }
 
-/// Writes an SNMPv2-Trap (RFC 3416, section 4.2.6) for this user at the level 1 to 3, with this msgID and request-id, these
-/// contexts and the variable bindings that these octets are, and leaves it as the message to be sent. Where it doesn't answer 0,
-/// nothing changes: it answers -1 where a number is out of its range or the name has more than 32 octets, -4 where the octets
-/// aren't bindings, and the refusals of sending.
+/// Writes an SNMPv2-Trap (RFC 3416, section 4.2.6) for this user at the level 1 to 3, with this msgID and
+/// request-id, these contexts and the variable bindings that these octets are, and leaves it as the message
+/// to be sent. Where it doesn't answer 0, nothing changes: it answers -1 where a number is out of its range
+/// or the name has more than 32 octets, -4 where the octets aren't bindings, and the refusals of sending.
 #[unsafe(no_mangle)]
 pub unsafe extern "C" fn snmpsec_agent_notify(
     at: *mut u8,
@@ -158,7 +171,15 @@ pub unsafe extern "C" fn snmpsec_agent_notify(
 ) -> i32
     ghost held: { AgentHeld }
     requires* { sem 𝓛 (lies_at agents.the_row full_share at held) }
-    ensures* { ∃ₛ (λ (new : AgentHeld). sem 𝓛 (lies_at agents.the_row full_share at new) ∗ ⌜ Notifies now (record { id = id; user = user.now; level = level; request_id = request_id; context_engine = context_engine.now; context_name = context_name.now }) list.now salt held new result ⌝) }
+    ensures* { ∃ₛ (λ (new : AgentHeld). sem 𝓛 (lies_at agents.the_row full_share at new) ∗ ⌜ Notifies now
+        (record {
+          id = id;
+          user = user.now;
+          level = level;
+          request_id = request_id;
+          context_engine = context_engine.now;
+          context_name = context_name.now;
+        }) list.now salt held new result ⌝) }
 {
     notify(
         &mut *(at as *mut AgentHandle),
@@ -174,10 +195,11 @@ pub unsafe extern "C" fn snmpsec_agent_notify(
     )
 }
 
-/// Copies a part of the message that is kept to the front of the buffer, and writes how many octets it has: the part 0 (the content
-/// of the PDU's variable-bindings), 1 (msgUserName), 2 (contextEngineID), 3 (contextName) or 4 (msgAuthoritativeEngineID). It
-/// answers -1 where no part has the number, -2 where no message is kept, and -5 where the buffer is too short; the octets are
-/// counted then too, and the buffer stays as it was.
+/// Copies a part of the message that is kept to the front of the buffer, and writes how many octets it has:
+/// the part 0 (the content of the PDU's variable-bindings), 1 (msgUserName), 2 (contextEngineID), 3
+/// (contextName) or 4 (msgAuthoritativeEngineID). It answers -1 where no part has the number, -2 where no
+/// message is kept, and -5 where the buffer is too short; the octets are counted then too, and the buffer
+/// stays as it was.
 #[unsafe(no_mangle)]
 pub unsafe extern "C" fn snmpsec_agent_part(
     at: *mut u8,
@@ -187,13 +209,16 @@ pub unsafe extern "C" fn snmpsec_agent_part(
 ) -> i32
     ghost held: { AgentHeld }
     requires* { sem 𝓛 (lies_at agents.the_row full_share at held) }
-    ensures* { ∃ₛ (λ (new : AgentHeld). sem 𝓛 (lies_at agents.the_row full_share at new) ∗ ⌜ TellsPart number out.old out.new written.new held new result ⌝) }
+    ensures* { ∃ₛ (λ (new : AgentHeld). sem 𝓛
+        (lies_at agents.the_row full_share at new) ∗ ⌜ TellsPart number out.old out.new written.new held
+        new result ⌝) }
 {
     part(&mut *(at as *mut AgentHandle), number, out, written)
 }
 
-/// Copies the message that is to be sent in the same way: the report on what was taken last, or the response or notification
-/// that was written since. It answers -2 where there is none, and -5 where the buffer is too short.
+/// Copies the message that is to be sent in the same way: the report on what was taken last, or the response
+/// or notification that was written since. It answers -2 where there is none, and -5 where the buffer is too
+/// short.
 #[unsafe(no_mangle)]
 pub unsafe extern "C" fn snmpsec_agent_message(
     at: *mut u8,
@@ -202,18 +227,22 @@ pub unsafe extern "C" fn snmpsec_agent_message(
 ) -> i32
     ghost held: { AgentHeld }
     requires* { sem 𝓛 (lies_at agents.the_row full_share at held) }
-    ensures* { ∃ₛ (λ (new : AgentHeld). sem 𝓛 (lies_at agents.the_row full_share at new) ∗ ⌜ TellsMessage out.old out.new written.new held new result ⌝) }
+    ensures* { ∃ₛ (λ (new : AgentHeld). sem 𝓛
+        (lies_at agents.the_row full_share at new) ∗ ⌜ TellsMessage out.old out.new written.new held
+        new result ⌝) }
 {
     message(&mut *(at as *mut AgentHandle), out, written)
 }
 
-/// Writes the six numbers of the message that is kept: its level (1 to 3), the PDU's tag, request-id, second and third number, and
-/// msgID. It answers -2 where no message is kept, and -5 where there is no room for six.
+/// Writes the six numbers of the message that is kept: its level (1 to 3), the PDU's tag, request-id, second
+/// and third number, and msgID. It answers -2 where no message is kept, and -5 where there is no room for
+/// six.
 #[unsafe(no_mangle)]
 pub unsafe extern "C" fn snmpsec_agent_numbers(at: *mut u8, out: &mut [i32]) -> i32
     ghost held: { AgentHeld }
     requires* { sem 𝓛 (lies_at agents.the_row full_share at held) }
-    ensures* { ∃ₛ (λ (new : AgentHeld). sem 𝓛 (lies_at agents.the_row full_share at new) ∗ ⌜ TellsNumbers out.old out.new held new result ⌝) }
+    ensures* { ∃ₛ (λ (new : AgentHeld). sem 𝓛
+        (lies_at agents.the_row full_share at new) ∗ ⌜ TellsNumbers out.old out.new held new result ⌝) }
 {
     numbers(&mut *(at as *mut AgentHandle), out)
 }

@@ -1,6 +1,7 @@
 //! What the calls on an agent do, without pointers.
 
-ghost use Rattle.snmp_c.specs.Calls.{ClearsAgent, Takes, Allows, May, Counter, RespondsTo, Notifies, TellsPart, TellsMessage, TellsNumbers};
+ghost use Rattle.snmp_c.specs.Calls.{ClearsAgent, Takes, Allows, May, Counter, RespondsTo, Notifies, TellsPart};
+ghost use Rattle.snmp_c.specs.Calls.{TellsMessage, TellsNumbers};
 
 use snmp_handles::{
     AgentHandle, CallFault, NoticeTo, Part, access_code_of, code_of, value_code_of,
@@ -68,7 +69,16 @@ pub(crate) fn notify(
     list: &[u8],
     salt: u64,
 ) -> i32
-    ensures { Notifies now (record { id = id; user = user.now; level = level; request_id = request_id; context_engine = context_engine.now; context_name = context_name.now }) list.now salt handle.old handle.new result }
+    ensures { Notifies now
+        (record {
+          id = id;
+          user = user.now;
+          level = level;
+          request_id = request_id;
+          context_engine = context_engine.now;
+          context_name = context_name.now;
+        }) list.now salt handle.old
+        handle.new result }
 {
     let to = NoticeTo {
         id,

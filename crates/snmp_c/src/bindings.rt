@@ -5,10 +5,11 @@ ghost use Rattle.snmp_c.specs.Calls.{ReadsBinding, Writes};
 use snmp_handles::{code_of, read_binding_at, write_binding};
 use std::alloc::Global;
 
-/// Reads the binding that begins at the place `at` of a list: into the front of `arcs` its name, and into that of `numbers` how many
-/// arcs they are, the tag of the value, the place of its content, its length in octets, and the place after the binding. It answers
-/// -1 where the place is behind the list, -4 where no binding begins there, and -5 where there is no room, for which 128 arcs and 5
-/// numbers are enough; the buffers are then as they were.
+/// Reads the binding that begins at the place `at` of a list: into the front of `arcs` its name, and into
+/// that of `numbers` how many arcs they are, the tag of the value, the place of its content, its length in
+/// octets, and the place after the binding. It answers -1 where the place is behind the list, -4 where no
+/// binding begins there, and -5 where there is no room, for which 128 arcs and 5 numbers are enough; the
+/// buffers are then as they were.
 #[unsafe(no_mangle)]
 pub extern "C" fn snmpsec_binding_read(
     list: &[u8],
@@ -21,9 +22,10 @@ pub extern "C" fn snmpsec_binding_read(
     code_of(read_binding_at(list, at, arcs, numbers))
 }
 
-/// Writes a binding of these arcs, with this tag and this content of its value, to the front of the buffer, and writes how many
-/// octets it has. It answers -1 where the arcs are no identifier's, the tag's low five bits are all ones or it is above 255, or
-/// the content has more than 65,507 octets; 14 for want of memory; and -5 where there is no room, and the octets are counted too.
+/// Writes a binding of these arcs, with this tag and this content of its value, to the front of the buffer,
+/// and writes how many octets it has. It answers -1 where the arcs are no identifier's, the tag's low five
+/// bits are all ones or it is above 255, or the content has more than 65,507 octets; 14 for want of memory;
+/// and -5 where there is no room, and the octets are counted too.
 #[unsafe(no_mangle)]
 pub extern "C" fn snmpsec_binding_write(
     alloc: Global,

@@ -1,6 +1,7 @@
 //! What the calls that go with an agent's answers do, without pointers.
 
-ghost use Rattle.snmp_c.specs.Calls.{MaxSize, RespondsToWithin, RespondsToFront, UnhandledBy, RefusesKept, CountOf, DropsSilently};
+ghost use Rattle.snmp_c.specs.Calls.{MaxSize, RespondsToWithin, RespondsToFront, UnhandledBy, RefusesKept, CountOf};
+ghost use Rattle.snmp_c.specs.Calls.{DropsSilently};
 
 use snmp_handles::{
     AgentHandle, CallFault, code_of, counter_of, unhandled_code_of, unhandled_of, value_code_of,

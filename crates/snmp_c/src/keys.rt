@@ -8,12 +8,13 @@ use engine_clock::EngineId;
 use snmp_handles::{CallFault, code_of};
 use usm_keys::{Auth, Key, localise, mac, password_key};
 
-/// Writes the key of a password, the same for all engines (RFC 3414, section A.2; RFC 7860, section 5), to the front of the buffer, and
-/// how many octets it has: 16 for MD5, 20 for SHA-1, 32 for SHA-256. The protocol has its number below snmpAuthProtocols: 2
-/// usmHMACMD5AuthProtocol, 3 usmHMACSHAAuthProtocol (RFC 3414, section 5), 5 usmHMAC192SHA256AuthProtocol (RFC 7860, section 8).
+/// Writes the key of a password, the same for all engines (RFC 3414, section A.2; RFC 7860, section 5), to
+/// the front of the buffer, and how many octets it has: 16 for MD5, 20 for SHA-1, 32 for SHA-256. The
+/// protocol has its number below snmpAuthProtocols: 2 usmHMACMD5AuthProtocol, 3 usmHMACSHAAuthProtocol (RFC
+/// 3414, section 5), 5 usmHMAC192SHA256AuthProtocol (RFC 7860, section 8).
 ///
-/// It answers -1 where no protocol has the number or the password has fewer than 8 octets, and else -5 where the buffer is too short.
-/// Nothing is written then, and no octets are counted.
+/// It answers -1 where no protocol has the number or the password has fewer than 8 octets, and else -5 where
+/// the buffer is too short. Nothing is written then, and no octets are counted.
 #[unsafe(no_mangle)]
 pub extern "C" fn snmpsec_password_key(
     protocol: u32,
@@ -28,8 +29,8 @@ pub extern "C" fn snmpsec_password_key(
 
 /// Writes the key localised to the engine (RFC 3414, section 2.6; RFC 7860, section 5) in the same way.
 ///
-/// It answers -1 where no protocol has the number, the key has more than 32 octets or the engine ID hasn't 5 to 32, and else -5 where
-/// the buffer is too short. Nothing is written then, and no octets are counted.
+/// It answers -1 where no protocol has the number, the key has more than 32 octets or the engine ID hasn't 5
+/// to 32, and else -5 where the buffer is too short. Nothing is written then, and no octets are counted.
 #[unsafe(no_mangle)]
 pub extern "C" fn snmpsec_localise(
     protocol: u32,
@@ -43,12 +44,12 @@ pub extern "C" fn snmpsec_localise(
     code_of(give_localised(protocol, key, engine, out, written))
 }
 
-/// Writes the message authentication code, under a localised key, of `front`, as many zero octets as are asked for, and `back`, joined
-/// (RFC 3414, sections 6.3.1 and 7.3.1; RFC 7860, section 4.2.1), in the same way: 12 octets for MD5 and SHA-1, 24 for SHA-256. The
-/// zeros stand for the code's own place in the message.
+/// Writes the message authentication code, under a localised key, of `front`, as many zero octets as are
+/// asked for, and `back`, joined (RFC 3414, sections 6.3.1 and 7.3.1; RFC 7860, section 4.2.1), in the same
+/// way: 12 octets for MD5 and SHA-1, 24 for SHA-256. The zeros stand for the code's own place in the message.
 ///
-/// It answers -1 where no protocol has the number, the key has more than 32 octets or the zeros are more than 24, and else -5 where
-/// the buffer is too short. Nothing is written then, and no octets are counted.
+/// It answers -1 where no protocol has the number, the key has more than 32 octets or the zeros are more than
+/// 24, and else -5 where the buffer is too short. Nothing is written then, and no octets are counted.
 #[unsafe(no_mangle)]
 pub extern "C" fn snmpsec_mac(
     protocol: u32,
@@ -59,7 +60,8 @@ pub extern "C" fn snmpsec_mac(
     out: &mut [u8],
     written: &mut usize,
 ) -> i32
-    ensures { Done (GivesCode protocol key.now front.now zeros back.now out.old out.new written.old written.new) result }
+    ensures { Done (GivesCode protocol key.now front.now zeros back.now out.old out.new written.old
+        written.new) result }
 {
     code_of(give_code(protocol, key, front, zeros, back, out, written))
 }
@@ -134,7 +136,8 @@ fn auth_of(number: u32) -> Option<Auth>
     }
 }
 
-/// Writes the octets to the front of the buffer, and how many they are. The error is ShortBuffer, and nothing is written then.
+/// Writes the octets to the front of the buffer, and how many they are. The error is ShortBuffer, and nothing
+/// is written then.
 fn give(octets: &[u8], out: &mut [u8], written: &mut usize) -> Result<(), CallFault>
     ensures { WritesOctets octets.now out.old out.new written.old written.new result }
 {

@@ -1,9 +1,10 @@
 //! What programs in C, Rust and Python call.
 //!
-//! An export on a handle takes a pointer that its `_new` wrote; what lies there is lent to one call and comes back as its
-//! contract says. All other arguments may be anything: what is out of range is answered by a number. A number answers each call: 0
-//! where it was done, 1 to 18 for a refusal by its number, and a negative one for a fault of the call.
-//! Keys, codes, sealed texts and bindings need no handle: those exports keep nothing between two calls.
+//! An export on a handle takes a pointer that its `_new` wrote; what lies there is lent to one call and comes
+//! back as its contract says. All other arguments may be anything: what is out of range is answered by a
+//! number. A number answers each call: 0 where it was done, 1 to 18 for a refusal by its number, and a
+//! negative one for a fault of the call. Keys, codes, sealed texts and bindings need no handle: those exports
+//! keep nothing between two calls.
 #![tactic(auto)]
 
 pub mod agent;

@@ -4,7 +4,8 @@ ghost use Rattle.std.specs.Borrow.{full_share, sem};
 ghost use Rattle.std.specs.Ptr.{lies_at};
 ghost use Rattle.snmp_handles.specs.contracts.manager.ManagerHandle as managers;
 ghost use Rattle.snmp_handles.specs.Managers.{ManagerHeld};
-ghost use Rattle.snmp_c.specs.ManagerCalls.{MakesAManager, Clears, ManagerTook, Answered, Requested, Discovered, Absorbed, Saved, ToldPair, ManagerPart, ManagerMessage, ManagerNumbers};
+ghost use Rattle.snmp_c.specs.ManagerCalls.{MakesAManager, Clears, ManagerTook, Answered, Requested, Discovered};
+ghost use Rattle.snmp_c.specs.ManagerCalls.{Absorbed, Saved, ToldPair, ManagerPart, ManagerMessage, ManagerNumbers};
 
 use crate::manager_calls::{
     absorb, answer, clear, discover, message, numbers, pair, part, request, save, take,
@@ -13,9 +14,10 @@ use snmp_handles::{CallFault, ManagerHandle};
 use snmp_incoming::TakeFault;
 use std::alloc::Global;
 
-/// Makes a manager with the users of this configuration, in TOML, that begins with the clocks of this saved text, where the marks
-/// of version 1 were seen at the moment `now`, in seconds, and writes the pointer to it. Where it answers another number than 0,
-/// nothing is written: -7 where the text saves no clocks, -6 where the configuration is refused, 14 for want of memory.
+/// Makes a manager with the users of this configuration, in TOML, that begins with the clocks of this saved
+/// text, where the marks of version 1 were seen at the moment `now`, in seconds, and writes the pointer to
+/// it. Where it answers another number than 0, nothing is written: -7 where the text saves no clocks, -6
+/// where the configuration is refused, 14 for want of memory.
 #[unsafe(no_mangle)]
 pub extern "C" fn snmpsec_manager_new(
     alloc: Global,
@@ -39,42 +41,47 @@ pub extern "C" fn snmpsec_manager_new(
     }
 }
 
-/// Gives back all memory but the block at the pointer, for which the caller then calls the heap's `rattle_dealloc`: it answers 14,
-/// and nothing is given back, for want of memory.
+/// Gives back all memory but the block at the pointer, for which the caller then calls the heap's
+/// `rattle_dealloc`: it answers 14, and nothing is given back, for want of memory.
 #[unsafe(no_mangle)]
 pub unsafe extern "C" fn snmpsec_manager_clear(at: *mut u8) -> i32
     ghost held: { ManagerHeld }
     requires* { sem 𝓛 (lies_at managers.the_row full_share at held) }
-    ensures* { ∃ₛ (λ (new : ManagerHeld). sem 𝓛 (lies_at managers.the_row full_share at new) ∗ ⌜ Clears held new result ⌝) }
+    ensures* { ∃ₛ (λ (new : ManagerHeld). sem 𝓛
+        (lies_at managers.the_row full_share at new) ∗ ⌜ Clears held new result ⌝) }
 {
     clear(&mut *(at as *mut ManagerHandle))
 }
 
-/// Takes a datagram at the moment `now`, in seconds, and learns its pair where it is authentic. Where it answers 0 the message is
-/// accepted and kept; a refusal is answered by its number, 1 to 18.
+/// Takes a datagram at the moment `now`, in seconds, and learns its pair where it is authentic. Where it
+/// answers 0 the message is accepted and kept; a refusal is answered by its number, 1 to 18.
 #[unsafe(no_mangle)]
 pub unsafe extern "C" fn snmpsec_manager_take(at: *mut u8, now: u64, datagram: &[u8]) -> i32
     ghost held: { ManagerHeld }
     requires* { sem 𝓛 (lies_at managers.the_row full_share at held) }
-    ensures* { ∃ₛ (λ (new : ManagerHeld). sem 𝓛 (lies_at managers.the_row full_share at new) ∗ ⌜ ManagerTook now datagram.now held new result ⌝) }
+    ensures* { ∃ₛ (λ (new : ManagerHeld). sem 𝓛
+        (lies_at managers.the_row full_share at new) ∗ ⌜ ManagerTook now datagram.now held new result ⌝) }
 {
     take(&mut *(at as *mut ManagerHandle), now, datagram)
 }
 
-/// What the message that is kept is to the request that was written last: 0 its Response, 1 neither, 10 a Report that names no
-/// counter, 11 to 16 a Report of the counter 1 to 6; -2 where no message is kept or no request was written.
+/// What the message that is kept is to the request that was written last: 0 its Response, 1 neither, 10 a
+/// Report that names no counter, 11 to 16 a Report of the counter 1 to 6; -2 where no message is kept or no
+/// request was written.
 #[unsafe(no_mangle)]
 pub unsafe extern "C" fn snmpsec_manager_answer(at: *mut u8) -> i32
     ghost held: { ManagerHeld }
     requires* { sem 𝓛 (lies_at managers.the_row full_share at held) }
-    ensures* { ∃ₛ (λ (new : ManagerHeld). sem 𝓛 (lies_at managers.the_row full_share at new) ∗ ⌜ Answered held new result ⌝) }
+    ensures* { ∃ₛ (λ (new : ManagerHeld). sem 𝓛
+        (lies_at managers.the_row full_share at new) ∗ ⌜ Answered held new result ⌝) }
 {
     answer(&mut *(at as *mut ManagerHandle))
 }
 
-/// Writes a request to the engine with this ID, for this user at the level 1 to 3, with this msgID, contexts, PDU and variable bindings,
-/// leaves it as the message to be sent and waits for its answer. It answers -1 where a number or a length is out of its range, -4
-/// where the octets aren't bindings, and the refusals of sending: 7, 8, 16, 14. Then nothing changes.
+/// Writes a request to the engine with this ID, for this user at the level 1 to 3, with this msgID, contexts,
+/// PDU and variable bindings, leaves it as the message to be sent and waits for its answer. It answers -1
+/// where a number or a length is out of its range, -4 where the octets aren't bindings, and the refusals of
+/// sending: 7, 8, 16, 14. Then nothing changes.
 #[unsafe(no_mangle)]
 pub unsafe extern "C" fn snmpsec_manager_request(
     at: *mut u8,
@@ -94,7 +101,19 @@ pub unsafe extern "C" fn snmpsec_manager_request(
 ) -> i32
     ghost held: { ManagerHeld }
     requires* { sem 𝓛 (lies_at managers.the_row full_share at held) }
-    ensures* { ∃ₛ (λ (new : ManagerHeld). sem 𝓛 (lies_at managers.the_row full_share at new) ∗ ⌜ Requested now (record { id = id; engine = engine.now; user = user.now; level = level; context_engine = context_engine.now; context_name = context_name.now; tag = tag; request_id = request_id; second = second; third = third }) list.now salt held new result ⌝) }
+    ensures* { ∃ₛ (λ (new : ManagerHeld). sem 𝓛 (lies_at managers.the_row full_share at new) ∗ ⌜ Requested now
+        (record {
+          id = id;
+          engine = engine.now;
+          user = user.now;
+          level = level;
+          context_engine = context_engine.now;
+          context_name = context_name.now;
+          tag = tag;
+          request_id = request_id;
+          second = second;
+          third = third;
+        }) list.now salt held new result ⌝) }
 {
     request(
         &mut *(at as *mut ManagerHandle),
@@ -114,24 +133,26 @@ pub unsafe extern "C" fn snmpsec_manager_request(
     )
 }
 
-/// Writes the request by which an engine is discovered, with this msgID, leaves it as the message to be sent and waits for its
-/// answer. It answers -1 where the msgID is above 2147483647, and 14 for want of memory.
+/// Writes the request by which an engine is discovered, with this msgID, leaves it as the message to be sent
+/// and waits for its answer. It answers -1 where the msgID is above 2147483647, and 14 for want of memory.
 #[unsafe(no_mangle)]
 pub unsafe extern "C" fn snmpsec_manager_discover(at: *mut u8, id: u32) -> i32
     ghost held: { ManagerHeld }
     requires* { sem 𝓛 (lies_at managers.the_row full_share at held) }
-    ensures* { ∃ₛ (λ (new : ManagerHeld). sem 𝓛 (lies_at managers.the_row full_share at new) ∗ ⌜ Discovered id held new result ⌝) }
+    ensures* { ∃ₛ (λ (new : ManagerHeld). sem 𝓛
+        (lies_at managers.the_row full_share at new) ∗ ⌜ Discovered id held new result ⌝) }
 {
     discover(&mut *(at as *mut ManagerHandle), id)
 }
 
-/// Joins in the clocks of this saved text, where the marks of version 1 were seen at the moment `now`. It answers -7 where the
-/// text saves none, and 14 for want of memory; then nothing changes.
+/// Joins in the clocks of this saved text, where the marks of version 1 were seen at the moment `now`. It
+/// answers -7 where the text saves none, and 14 for want of memory; then nothing changes.
 #[unsafe(no_mangle)]
 pub unsafe extern "C" fn snmpsec_manager_absorb(at: *mut u8, text: &[u8], now: u64) -> i32
     ghost held: { ManagerHeld }
     requires* { sem 𝓛 (lies_at managers.the_row full_share at held) }
-    ensures* { ∃ₛ (λ (new : ManagerHeld). sem 𝓛 (lies_at managers.the_row full_share at new) ∗ ⌜ Absorbed text.now now held new result ⌝) }
+    ensures* { ∃ₛ (λ (new : ManagerHeld). sem 𝓛
+        (lies_at managers.the_row full_share at new) ∗ ⌜ Absorbed text.now now held new result ⌝) }
 {
     absorb(&mut *(at as *mut ManagerHandle), text, now)
 }
@@ -141,13 +162,14 @@ pub unsafe extern "C" fn snmpsec_manager_absorb(at: *mut u8, text: &[u8], now: u
 pub unsafe extern "C" fn snmpsec_manager_save(at: *mut u8) -> i32
     ghost held: { ManagerHeld }
     requires* { sem 𝓛 (lies_at managers.the_row full_share at held) }
-    ensures* { ∃ₛ (λ (new : ManagerHeld). sem 𝓛 (lies_at managers.the_row full_share at new) ∗ ⌜ Saved held new result ⌝) }
+    ensures* { ∃ₛ (λ (new : ManagerHeld). sem 𝓛
+        (lies_at managers.the_row full_share at new) ∗ ⌜ Saved held new result ⌝) }
 {
     save(&mut *(at as *mut ManagerHandle))
 }
 
-/// Writes the boots and the time that are held of the engine. It answers -1 where the ID hasn't 5 to 32 octets, and -2 where
-/// nothing is held; then nothing is written.
+/// Writes the boots and the time that are held of the engine. It answers -1 where the ID hasn't 5 to 32
+/// octets, and -2 where nothing is held; then nothing is written.
 #[unsafe(no_mangle)]
 pub unsafe extern "C" fn snmpsec_manager_pair(
     at: *mut u8,
@@ -157,7 +179,9 @@ pub unsafe extern "C" fn snmpsec_manager_pair(
 ) -> i32
     ghost held: { ManagerHeld }
     requires* { sem 𝓛 (lies_at managers.the_row full_share at held) }
-    ensures* { ∃ₛ (λ (new : ManagerHeld). sem 𝓛 (lies_at managers.the_row full_share at new) ∗ ⌜ ToldPair engine.now boots.old boots.new time.old time.new held new result ⌝) }
+    ensures* { ∃ₛ (λ (new : ManagerHeld). sem 𝓛
+        (lies_at managers.the_row full_share at new) ∗ ⌜ ToldPair engine.now boots.old boots.new time.old time.new
+        held new result ⌝) }
 {
     pair(&mut *(at as *mut ManagerHandle), engine, boots, time)
 }
@@ -172,7 +196,9 @@ pub unsafe extern "C" fn snmpsec_manager_part(
 ) -> i32
     ghost held: { ManagerHeld }
     requires* { sem 𝓛 (lies_at managers.the_row full_share at held) }
-    ensures* { ∃ₛ (λ (new : ManagerHeld). sem 𝓛 (lies_at managers.the_row full_share at new) ∗ ⌜ ManagerPart number out.old out.new written.new held new result ⌝) }
+    ensures* { ∃ₛ (λ (new : ManagerHeld). sem 𝓛
+        (lies_at managers.the_row full_share at new) ∗ ⌜ ManagerPart number out.old out.new written.new held
+        new result ⌝) }
 {
     part(&mut *(at as *mut ManagerHandle), number, out, written)
 }
@@ -186,7 +212,9 @@ pub unsafe extern "C" fn snmpsec_manager_message(
 ) -> i32
     ghost held: { ManagerHeld }
     requires* { sem 𝓛 (lies_at managers.the_row full_share at held) }
-    ensures* { ∃ₛ (λ (new : ManagerHeld). sem 𝓛 (lies_at managers.the_row full_share at new) ∗ ⌜ ManagerMessage out.old out.new written.new held new result ⌝) }
+    ensures* { ∃ₛ (λ (new : ManagerHeld). sem 𝓛
+        (lies_at managers.the_row full_share at new) ∗ ⌜ ManagerMessage out.old out.new written.new held
+        new result ⌝) }
 {
     message(&mut *(at as *mut ManagerHandle), out, written)
 }
@@ -196,7 +224,8 @@ pub unsafe extern "C" fn snmpsec_manager_message(
 pub unsafe extern "C" fn snmpsec_manager_numbers(at: *mut u8, out: &mut [i32]) -> i32
     ghost held: { ManagerHeld }
     requires* { sem 𝓛 (lies_at managers.the_row full_share at held) }
-    ensures* { ∃ₛ (λ (new : ManagerHeld). sem 𝓛 (lies_at managers.the_row full_share at new) ∗ ⌜ ManagerNumbers out.old out.new held new result ⌝) }
+    ensures* { ∃ₛ (λ (new : ManagerHeld). sem 𝓛
+        (lies_at managers.the_row full_share at new) ∗ ⌜ ManagerNumbers out.old out.new held new result ⌝) }
 {
     numbers(&mut *(at as *mut ManagerHandle), out)
 }

@@ -1,6 +1,7 @@
 //! What the calls on a manager do, without pointers.
 
-ghost use Rattle.snmp_c.specs.ManagerCalls.{Clears, ManagerTook, Answered, Requested, Discovered, Absorbed, Saved, ToldPair, ManagerPart, ManagerMessage, ManagerNumbers};
+ghost use Rattle.snmp_c.specs.ManagerCalls.{Clears, ManagerTook, Answered, Requested, Discovered, Absorbed, Saved};
+ghost use Rattle.snmp_c.specs.ManagerCalls.{ToldPair, ManagerPart, ManagerMessage, ManagerNumbers};
 
 use snmp_handles::{AskedOf, CallFault, ManagerHandle, Part, answer_code_of, code_of};
 
@@ -42,7 +43,19 @@ pub(crate) fn request(
     list: &[u8],
     salt: u64,
 ) -> i32
-    ensures { Requested now (record { id = id; engine = engine.now; user = user.now; level = level; context_engine = context_engine.now; context_name = context_name.now; tag = tag; request_id = request_id; second = second; third = third }) list.now salt handle.old handle.new result }
+    ensures { Requested now
+        (record {
+          id = id;
+          engine = engine.now;
+          user = user.now;
+          level = level;
+          context_engine = context_engine.now;
+          context_name = context_name.now;
+          tag = tag;
+          request_id = request_id;
+          second = second;
+          third = third;
+        }) list.now salt handle.old handle.new result }
 {
     let of = AskedOf {
         id,

@@ -6,9 +6,9 @@ ghost use Rattle.snmp_c.specs.Privacy.{Seals, Opens};
 use snmp_handles::{CallFault, code_of};
 use usm_aes::{cfb_open, cfb_seal, expand, iv};
 
-/// Seals a text of any length in its place (RFC 3826, section 3.1.3), under an AES-128 key, the first 16 octets of a localised key, and
-/// the initialization vector of the authoritative engine's boots and time, in seconds, and of the salt, 8 octets (section 3.1.2.1). No
-/// salt is to come twice for a key.
+/// Seals a text of any length in its place (RFC 3826, section 3.1.3), under an AES-128 key, the first 16
+/// octets of a localised key, and the initialization vector of the authoritative engine's boots and time, in
+/// seconds, and of the salt, 8 octets (section 3.1.2.1). No salt is to come twice for a key.
 ///
 /// It answers -1 where the key hasn't 16 octets or the salt hasn't 8; the text is then as it was.
 #[unsafe(no_mangle)]
@@ -24,7 +24,8 @@ pub extern "C" fn snmpsec_seal(
     code_of(seal(key, boots, time, salt, text))
 }
 
-/// Opens a sealed text in its place (RFC 3826, section 3.1.4), under the key, boots, time and salt with which it was sealed.
+/// Opens a sealed text in its place (RFC 3826, section 3.1.4), under the key, boots, time and salt with which
+/// it was sealed.
 ///
 /// It answers -1 where the key hasn't 16 octets or the salt hasn't 8; the text is then as it was.
 #[unsafe(no_mangle)]

@@ -14,31 +14,35 @@ use snmp_handles::ManagerHandle;
 pub unsafe extern "C" fn snmpsec_manager_max_size(at: *mut u8) -> i64
     ghost held: { ManagerHeld }
     requires* { sem 𝓛 (lies_at managers.the_row full_share at held) }
-    ensures* { ∃ₛ (λ (new : ManagerHeld). sem 𝓛 (lies_at managers.the_row full_share at new) ∗ ⌜ ManagerMaxSize held new result ⌝) }
+    ensures* { ∃ₛ (λ (new : ManagerHeld). sem 𝓛
+        (lies_at managers.the_row full_share at new) ∗ ⌜ ManagerMaxSize held new result ⌝) }
 {
     max_size(&mut *(at as *mut ManagerHandle))
 }
 
-/// What `snmpsec_manager_answer` answers; and where that is 0, the Response, the request isn't waited for any more: the same message
-/// again is -2.
+/// What `snmpsec_manager_answer` answers; and where that is 0, the Response, the request isn't waited for any
+/// more: the same message again is -2.
 #[unsafe(no_mangle)]
 pub unsafe extern "C" fn snmpsec_manager_take_answer(at: *mut u8) -> i32
     ghost held: { ManagerHeld }
     requires* { sem 𝓛 (lies_at managers.the_row full_share at held) }
-    ensures* { ∃ₛ (λ (new : ManagerHeld). sem 𝓛 (lies_at managers.the_row full_share at new) ∗ ⌜ TookAnswer held new result ⌝) }
+    ensures* { ∃ₛ (λ (new : ManagerHeld). sem 𝓛
+        (lies_at managers.the_row full_share at new) ∗ ⌜ TookAnswer held new result ⌝) }
 {
     take_answer(&mut *(at as *mut ManagerHandle))
 }
 
-/// Writes what the message that is kept tells, where it is a Report on the request that is waited for: the number of its counter (1 to 6
-/// usmStats, 7 snmpUnknownPDUHandlers, 8 snmpUnavailableContexts, 9 snmpUnknownContexts, or 0), the counter's value or -1 where it has
-/// none, and 1 where it came with authentication, or 0. It answers 1 where it is no such Report, -2 where no message is kept or no
-/// request is waited for, and -5 where there is no room for three.
+/// Writes what the message that is kept tells, where it is a Report on the request that is waited for: the
+/// number of its counter (1 to 6 usmStats, 7 snmpUnknownPDUHandlers, 8 snmpUnavailableContexts, 9
+/// snmpUnknownContexts, or 0), the counter's value or -1 where it has none, and 1 where it came with
+/// authentication, or 0. It answers 1 where it is no such Report, -2 where no message is kept or no request
+/// is waited for, and -5 where there is no room for three.
 #[unsafe(no_mangle)]
 pub unsafe extern "C" fn snmpsec_manager_report(at: *mut u8, out: &mut [i64]) -> i32
     ghost held: { ManagerHeld }
     requires* { sem 𝓛 (lies_at managers.the_row full_share at held) }
-    ensures* { ∃ₛ (λ (new : ManagerHeld). sem 𝓛 (lies_at managers.the_row full_share at new) ∗ ⌜ ToldReport out.old out.new held new result ⌝) }
+    ensures* { ∃ₛ (λ (new : ManagerHeld). sem 𝓛
+        (lies_at managers.the_row full_share at new) ∗ ⌜ ToldReport out.old out.new held new result ⌝) }
 {
     report(&mut *(at as *mut ManagerHandle), out)
 }

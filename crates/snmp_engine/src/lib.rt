@@ -1,5 +1,6 @@
-//! An SNMPv3 engine: managers, agents, and worlds of managers. It takes datagrams, moments and salts, and gives opened messages,
-//! refusals, reports, sealed datagrams and access answers (RFC 3412, RFC 3414, RFC 3415).
+//! An SNMPv3 engine: managers, agents, and worlds of managers. It takes datagrams, moments and salts, and
+//! gives opened messages, refusals, reports, sealed datagrams and access answers (RFC 3412, RFC 3414, RFC
+//! 3415).
 //!
 //! Each item stands in a crate below, under the same name.
 //!

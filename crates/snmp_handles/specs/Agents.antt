@@ -1,5 +1,6 @@
 -- An agent with what it accepted last and what it wrote last, and what its calls leave.
-use Rattle.std.specs.Prelude.{◌≡◌, ◌<◌, ◌≤◌, ◌⊎◌, All, ℕ, pos, List, [], length, replicate, Option, Some, None, Result, Ok, Err, IfSome, false, true}
+use Rattle.std.specs.Prelude.{◌≡◌, ◌<◌, ◌≤◌, ◌⊎◌, All, ℕ, pos, List, [], length, replicate, Option, Some, None}
+use Rattle.std.specs.Prelude.{Result, Ok, Err, IfSome, false, true}
 use Rattle.snmp_ber.specs.declared.level.Level.{Level}
 use Rattle.snmp_message.specs.Scoped.{Contexts, ScopedFront}
 use Rattle.snmp_msg.specs.Pdu.{PduParts, PduText, pdu_with}
@@ -29,7 +30,8 @@ use Rattle.snmp_incoming.specs.declared.fault.TakeFault.{TakeFault}
 use Rattle.snmp_incoming.specs.declared.fault.TakeFault.TheVariants.{OutOfMemory}
 use Rattle.snmp_handles.specs.Numbers.{level_of, view_of}
 use Rattle.snmp_handles.specs.declared.fault.CallFault.{CallFault}
-use Rattle.snmp_handles.specs.declared.fault.CallFault.TheVariants.{Refused, BadArgument, NothingTaken, NotAsked, BadBindings, BadConfiguration}
+use Rattle.snmp_handles.specs.declared.fault.CallFault.TheVariants.{Refused, BadArgument, NothingTaken, NotAsked}
+use Rattle.snmp_handles.specs.declared.fault.CallFault.TheVariants.{BadBindings, BadConfiguration}
 
 pub record AgentHeld : Type 0 where
   pub agent : AgentState
@@ -43,14 +45,24 @@ pub record AgentHeld : Type 0 where
 -- an agent that took nothing yet
 abbrev pub begins : List ℕ → ℕ → ℕ → List User → Tables → AgentHeld
 begins engine boots started users tables = record {
-  agent = record { engine = engine; boots = boots; started = started; users = users; tables = tables; counters = replicate 6 0; counts = replicate 8 0 };
+  agent = record {
+    engine = engine;
+    boots = boots;
+    started = started;
+    users = users;
+    tables = tables;
+    counters = replicate 6 0;
+    counts = replicate 8 0;
+  };
   last = None;
   message = None;
 }
 
--- an identifier that an engine may have: 5 to 32 octets, not all of them 0 and not all of them 255 (SnmpEngineID, RFC 3411, section 5)
+-- an identifier that an engine may have: 5 to 32 octets, not all of them 0 and not all of them 255
+-- (SnmpEngineID, RFC 3411, section 5)
 abbrev pub IsOwnEngine : List ℕ → Type 0
-IsOwnEngine octets = HasEngineLength octets × (All (λ octet. octet ≡ 0) octets → ⊥) × (All (λ octet. octet ≡ 255) octets → ⊥)
+IsOwnEngine octets = HasEngineLength octets × (All (λ octet. octet ≡ 0) octets → ⊥)
+    × (All (λ octet. octet ≡ 255) octets → ⊥)
 
 -- an identifier that an engine may have, and boots that it can have
 abbrev pub IsEngineAt : List ℕ → ℕ → Type 0
@@ -59,24 +71,28 @@ IsEngineAt engine boots = IsOwnEngine engine × (boots ≤ pair_max)
 -- why none is made, the first that applies
 abbrev pub RefusesAgent : List ℕ → List ℕ → ℕ → CallFault → Type 0
 RefusesAgent config engine boots BadArgument = (IsOwnEngine engine → ⊥) ⊎ (pair_max < boots)
-RefusesAgent config engine boots BadConfiguration = IsEngineAt engine boots × ((fault : ConfigFault) × RefusesText config fault)
+RefusesAgent config engine boots BadConfiguration = IsEngineAt engine boots
+    × ((fault : ConfigFault) × RefusesText config fault)
 RefusesAgent config engine boots (Refused fault) = IsEngineAt engine boots × (fault ≡ OutOfMemory)
 RefusesAgent config engine boots _ = ⊥
 
 -- an agent of the configuration, with this engine and these boots, which started at this moment
 abbrev pub MakesAgent : List ℕ → List ℕ → ℕ → ℕ → Result AgentHeld CallFault → Type 0
 MakesAgent config engine boots started (Ok made) =
-    IsEngineAt engine boots × ((users : List User) × (tables : Tables) × Loads config users tables × (made ≡ begins engine boots started users tables))
+    IsEngineAt engine boots
+    × ((users : List User) × (tables : Tables) × Loads config users tables
+    × (made ≡ begins engine boots started users tables))
 MakesAgent config engine boots started (Err fault) = RefusesAgent config engine boots fault
 
 -- no row in any table
 abbrev pub no_rows : Tables
 no_rows = record { contexts = []; groups = []; access = []; families = [] }
 
--- Nothing is held any more: it is as one that began with an engine ID of five zeros, no users and no rows. A refusal changes
--- nothing.
+-- Nothing is held any more: it is as one that began with an engine ID of five zeros, no users and no rows. A
+-- refusal changes nothing.
 abbrev pub Clears : {V : Type 0} → AgentHeld → Result V CallFault → AgentHeld → Type 0
-Clears old (Ok done) new = (tables : Tables) × HaveSameRows no_rows tables × (new ≡ begins (replicate 5 0) 0 0 [] tables)
+Clears old (Ok done) new = (tables : Tables) × HaveSameRows no_rows tables
+    × (new ≡ begins (replicate 5 0) 0 0 [] tables)
 Clears old (Err fault) new = (fault ≡ Refused OutOfMemory) × (new ≡ old)
 
 -- ---- taking
@@ -87,7 +103,8 @@ pub record TakesNoMemory (agent : AgentState) (now : ℕ) (w : List ℕ) : Type 
   pub unreported : OffersOnAnswer (taker_of agent) agent.users now w → ⊥
   pub refused : (g : Given) → Outcome (taker_of agent) agent.users now w (Ok g) → ⊥
 
--- An accepted datagram is kept, and nothing is to be sent. A refused one leaves its report to be sent, where there is one.
+-- An accepted datagram is kept, and nothing is to be sent. A refused one leaves its report to be sent, where
+-- there is one.
 abbrev pub TakesHeld : {V : Type 0} → AgentHeld → ℕ → List ℕ → Result V CallFault → AgentHeld → Type 0
 TakesHeld old now w (Ok done) new =
     (g : Given) × (new.last ≡ Some g) × (new.message ≡ None) × AgentTakes old.agent now w (Some (Ok g)) new.agent
@@ -116,7 +133,8 @@ abbrev pub MaySee : AgentHeld → List ℕ → ℕ → List ℕ → ℕ → List
 MaySee held user level context view arcs (Ok access) =
     (at : Level) × (asked : ViewType) × (level_of level ≡ Some at) × (view_of view ≡ Some asked)
     × Allowed held.agent.tables (question user at context) asked arcs access
-MaySee held user level context view arcs (Err BadArgument) = (level_of level ≡ None) ⊎ ((view_of view ≡ None) ⊎ AreNoArcs arcs)
+MaySee held user level context view arcs (Err BadArgument) = (level_of level ≡ None)
+    ⊎ ((view_of view ≡ None) ⊎ AreNoArcs arcs)
 MaySee held user level context view arcs (Err _) = ⊥
 
 -- ---- counters
@@ -149,14 +167,17 @@ StopsResponse agent now g status index list salt fault =
 abbrev pub HasNoBindings : AgentState → ℕ → Given → List ℕ → Type 0
 HasNoBindings agent now g list = CanSendAt agent now g.user g.level × ((vs : List Variable) → AreBindings vs list → ⊥)
 
--- Why what is kept isn't answered with the bindings that these octets are, the first that applies: the numbers are out of range, nothing
--- is kept, it isn't asked for an answer; then what stops the answer itself, or that the octets aren't bindings.
+-- Why what is kept isn't answered with the bindings that these octets are, the first that applies: the
+-- numbers are out of range, nothing is kept, it isn't asked for an answer; then what stops the answer itself,
+-- or that the octets aren't bindings.
 abbrev pub RefusesAnswer : AgentHeld → ℕ → ℕ → ℕ → List ℕ → (Given → TakeFault → Type 0) → CallFault → Type 0
 RefusesAnswer held now status index list Stops (Refused fault) = (g : Given) × IsAsked held g × Stops g fault
 RefusesAnswer held now status index list Stops BadArgument = (2147483647 < status) ⊎ (2147483647 < index)
 RefusesAnswer held now status index list Stops NothingTaken = held.last ≡ None
-RefusesAnswer held now status index list Stops NotAsked = (g : Given) × (held.last ≡ Some g) × (is_confirmed g.tag ≡ false)
-RefusesAnswer held now status index list Stops BadBindings = (g : Given) × IsAsked held g × HasNoBindings held.agent now g list
+RefusesAnswer held now status index list Stops NotAsked = (g : Given) × (held.last ≡ Some g)
+    × (is_confirmed g.tag ≡ false)
+RefusesAnswer held now status index list Stops BadBindings = (g : Given) × IsAsked held g
+    × HasNoBindings held.agent now g list
 RefusesAnswer held now status index list Stops _ = ⊥
 
 abbrev pub RefusesResponse : AgentHeld → ℕ → ℕ → ℕ → List ℕ → List ℕ → CallFault → Type 0
@@ -168,10 +189,13 @@ abbrev pub LeavesMessage : AgentHeld → List ℕ → AgentHeld → Type 0
 LeavesMessage old text new = new ≡ record old { message = Some text }
 
 -- The Response to what is kept is to be sent. A refusal changes nothing.
-abbrev pub RespondsHeld : {V : Type 0} → AgentHeld → ℕ → ℕ → ℕ → List ℕ → List ℕ → Result V CallFault → AgentHeld → Type 0
+abbrev pub RespondsHeld : {V : Type 0} → AgentHeld → ℕ → ℕ → ℕ → List ℕ → List ℕ → Result V CallFault
+    → AgentHeld → Type 0
 RespondsHeld old now status index list salt (Ok done) new =
-    (g : Given) × (text : List ℕ) × IsAsked old g × Responds old.agent now g status index list salt (Ok text) × LeavesMessage old text new
-RespondsHeld old now status index list salt (Err fault) new = RefusesResponse old now status index list salt fault × (new ≡ old)
+    (g : Given) × (text : List ℕ) × IsAsked old g × Responds old.agent now g status index list salt (Ok text)
+    × LeavesMessage old text new
+RespondsHeld old now status index list salt (Err fault) new = RefusesResponse old now status index list salt fault
+    × (new ≡ old)
 
 -- whom a notification goes to, and what it says besides its bindings
 pub record Notice : Type 0 where
@@ -201,10 +225,12 @@ trap engine own n level vs salt = record {
 -- the notification at this level
 abbrev pub NotifiesAt : AgentState → ℕ → Notice → Level → List ℕ → List ℕ → Result (List ℕ) ℕ → Type 0
 NotifiesAt agent now n level list salt answer =
-    (vs : List Variable) × AreBindings vs list × Sends agent now (λ own. spoken (trap agent.engine own n level vs salt)) answer
+    (vs : List Variable) × AreBindings vs list
+    × Sends agent now (λ own. spoken (trap agent.engine own n level vs salt)) answer
 
 abbrev pub Notifies : AgentState → ℕ → Notice → List ℕ → List ℕ → Result (List ℕ) ℕ → Type 0
-Notifies agent now n list salt answer = (at : Level) × (level_of n.level ≡ Some at) × NotifiesAt agent now n at list salt answer
+Notifies agent now n list salt answer = (at : Level) × (level_of n.level ≡ Some at)
+    × NotifiesAt agent now n at list salt answer
 
 -- Nothing can be sent for the user at this level; or it can, and the notification is refused, or finds no memory.
 abbrev pub StopsNotice : AgentState → ℕ → Notice → Level → List ℕ → List ℕ → TakeFault → Type 0
@@ -214,16 +240,21 @@ StopsNotice agent now n level list salt fault =
 
 -- a number or the name is out of its range
 abbrev pub IsNoticeOutOfRange : Notice → Type 0
-IsNoticeOutOfRange n = (level_of n.level ≡ None) ⊎ ((2147483647 < n.id) ⊎ ((2147483647 < n.request_id) ⊎ (32 < length n.user)))
+IsNoticeOutOfRange n = (level_of n.level ≡ None)
+    ⊎ ((2147483647 < n.id) ⊎ ((2147483647 < n.request_id) ⊎ (32 < length n.user)))
 
 abbrev pub RefusesNotice : AgentHeld → ℕ → Notice → List ℕ → List ℕ → CallFault → Type 0
-RefusesNotice held now n list salt (Refused fault) = (at : Level) × (level_of n.level ≡ Some at) × StopsNotice held.agent now n at list salt fault
+RefusesNotice held now n list salt (Refused fault) = (at : Level) × (level_of n.level ≡ Some at)
+    × StopsNotice held.agent now n at list salt fault
 RefusesNotice held now n list salt BadArgument = IsNoticeOutOfRange n
 RefusesNotice held now n list salt BadBindings =
-    (at : Level) × (level_of n.level ≡ Some at) × CanSendAt held.agent now n.user at × ((vs : List Variable) → AreBindings vs list → ⊥)
+    (at : Level) × (level_of n.level ≡ Some at) × CanSendAt held.agent now n.user at
+    × ((vs : List Variable) → AreBindings vs list → ⊥)
 RefusesNotice held now n list salt _ = ⊥
 
 -- The notification is to be sent. A refusal changes nothing.
-abbrev pub NotifiesHeld : {V : Type 0} → AgentHeld → ℕ → Notice → List ℕ → List ℕ → Result V CallFault → AgentHeld → Type 0
-NotifiesHeld old now n list salt (Ok done) new = (text : List ℕ) × Notifies old.agent now n list salt (Ok text) × LeavesMessage old text new
+abbrev pub NotifiesHeld : {V : Type 0} → AgentHeld → ℕ → Notice → List ℕ → List ℕ → Result V CallFault
+    → AgentHeld → Type 0
+NotifiesHeld old now n list salt (Ok done) new = (text : List ℕ) × Notifies old.agent now n list salt (Ok text)
+    × LeavesMessage old text new
 NotifiesHeld old now n list salt (Err fault) new = RefusesNotice old now n list salt fault × (new ≡ old)

@@ -28,10 +28,13 @@ asking_of of = record {
 
 -- what is remembered of the request at this level
 abbrev pub RemembersAsking : Pending → Asking → Level → Type 0
-RemembersAsking a ask level = Remembers a ask.id ask.engine ask.user level ask.context_engine ask.context_name (pos ask.request_id)
+RemembersAsking a ask level = Remembers a ask.id ask.engine ask.user level ask.context_engine ask.context_name
+    (pos ask.request_id)
 
 abbrev pub AnswersRequest : Held → ℕ → Asking → Level → List ℕ → List ℕ → Result (Vec ℕ × Pending) CallFault → Type 0
-AnswersRequest held now ask level list salt (Ok sent) = AsksAt held now ask level list salt (Ok sent.0.items) × RemembersAsking sent.1 ask level
+AnswersRequest held now ask level list salt (Ok sent) = AsksAt held now ask level list salt (Ok sent.0.items)
+    × RemembersAsking sent.1 ask level
 AnswersRequest held now ask level list salt (Err (Refused fault)) = StopsRequest held now ask level list salt fault
-AnswersRequest held now ask level list salt (Err BadBindings) = CanSend held.users ask.user level × ((vs : List Variable) → AreBindings vs list → ⊥)
+AnswersRequest held now ask level list salt (Err BadBindings) = CanSend held.users ask.user level
+    × ((vs : List Variable) → AreBindings vs list → ⊥)
 AnswersRequest held now ask level list salt (Err _) = ⊥

@@ -13,14 +13,17 @@ use Rattle.snmp_handles.specs.declared.agent.NoticeTo.{NoticeTo}
 use Rattle.snmp_handles.specs.declared.fault.CallFault.{CallFault}
 use Rattle.snmp_handles.specs.declared.fault.CallFault.TheVariants.{Refused, NotAsked, BadBindings}
 
--- Nothing can be answered to what was given: it isn't asked for an answer, or nothing can be sent for its user at its level.
+-- Nothing can be answered to what was given: it isn't asked for an answer, or nothing can be sent for its
+-- user at its level.
 abbrev pub CannotAnswer : AgentState → ℕ → Given → CallFault → Type 0
 CannotAnswer agent now g (Refused fault) = (is_confirmed g.tag ≡ true) × RefusesSenderAt agent now g.user g.level fault
 CannotAnswer agent now g NotAsked = is_confirmed g.tag ≡ false
 CannotAnswer agent now g _ = ⊥
 
--- What was given is answered so, or is refused: it isn't asked for an answer, or these octets aren't bindings, or the answer stops.
-abbrev pub Answering : {T : Type 0} → AgentState → ℕ → Given → List ℕ → (T → Type 0) → (TakeFault → Type 0) → Result T CallFault → Type 0
+-- What was given is answered so, or is refused: it isn't asked for an answer, or these octets aren't
+-- bindings, or the answer stops.
+abbrev pub Answering : {T : Type 0} → AgentState → ℕ → Given → List ℕ → (T → Type 0) → (TakeFault → Type 0)
+    → Result T CallFault → Type 0
 Answering agent now g list Told Stops (Ok told) = (is_confirmed g.tag ≡ true) × Told told
 Answering agent now g list Told Stops (Err (Refused fault)) = (is_confirmed g.tag ≡ true) × Stops fault
 Answering agent now g list Told Stops (Err NotAsked) = is_confirmed g.tag ≡ false
@@ -29,7 +32,8 @@ Answering agent now g list Told Stops (Err _) = ⊥
 
 abbrev pub AnswersResponse : AgentState → ℕ → Given → ℕ → ℕ → List ℕ → List ℕ → Result (Vec ℕ) CallFault → Type 0
 AnswersResponse agent now g status index list salt answer =
-    Answering agent now g list (λ text. Responds agent now g status index list salt (Ok text.items)) (λ f. StopsResponse agent now g status index list salt f) answer
+    Answering agent now g list (λ text. Responds agent now g status index list salt (Ok text.items))
+    (λ f. StopsResponse agent now g status index list salt f) answer
 
 abbrev pub notice_of : NoticeTo → Notice
 notice_of to = record {
@@ -44,5 +48,6 @@ notice_of to = record {
 abbrev pub AnswersNotice : AgentState → ℕ → Notice → Level → List ℕ → List ℕ → Result (Vec ℕ) CallFault → Type 0
 AnswersNotice agent now n level list salt (Ok text) = NotifiesAt agent now n level list salt (Ok text.items)
 AnswersNotice agent now n level list salt (Err (Refused fault)) = StopsNotice agent now n level list salt fault
-AnswersNotice agent now n level list salt (Err BadBindings) = CanSendAt agent now n.user level × ((vs : List Variable) → AreBindings vs list → ⊥)
+AnswersNotice agent now n level list salt (Err BadBindings) = CanSendAt agent now n.user level
+    × ((vs : List Variable) → AreBindings vs list → ⊥)
 AnswersNotice agent now n level list salt (Err _) = ⊥

@@ -15,8 +15,9 @@ RefusesBindings octets _ = ⊥
 
 -- ---- one binding
 
--- The octets from a place on begin with a binding. Its arcs stand in the front of one buffer; in the front of the other how many they
--- are, the value's tag, the place of its content and its length, and the place after the binding.
+-- The octets from a place on begin with a binding. Its arcs stand in the front of one buffer; in the front of
+-- the other how many they are, the value's tag, the place of its content and its length, and the place after
+-- the binding.
 pub record ReadsOne (list : List ℕ) (at : ℕ) (arcs arcs_new numbers numbers_new : List ℕ) : Type 0 where
   pub says : Variable
   pub text : List ℕ
@@ -26,7 +27,8 @@ pub record ReadsOne (list : List ℕ) (at : ℕ) (arcs arcs_new numbers numbers_
   pub parts : slice_range list at (length list) ≡ text ++ slice_range list next (length list)
   pub value : says.content ≡ slice_range list place next
   pub arcs_are : arcs_new ≡ says.name ++ drop (length says.name) arcs
-  pub numbers_are : numbers_new ≡ (length says.name ∷ says.tag ∷ place ∷ length says.content ∷ next ∷ []) ++ drop 5 numbers
+  pub numbers_are : numbers_new
+      ≡ (length says.name ∷ says.tag ∷ place ∷ length says.content ∷ next ∷ []) ++ drop 5 numbers
 
 -- The buffers are as they were.
 abbrev pub AreLeft : List ℕ → List ℕ → List ℕ → List ℕ → Type 0
@@ -34,7 +36,8 @@ AreLeft arcs arcs_new numbers numbers_new = (arcs_new ≡ arcs) × (numbers_new 
 
 -- no binding begins at the place
 abbrev pub BeginsNone : List ℕ → ℕ → Type 0
-BeginsNone list at = (v : Variable) (text rest : List ℕ) → IsBinding text v → slice_range list at (length list) ≡ text ++ rest → ⊥
+BeginsNone list at = (v : Variable) (text rest : List ℕ) → IsBinding text v
+    → slice_range list at (length list) ≡ text ++ rest → ⊥
 
 -- A binding begins at the place, and a buffer has no room: one for its arcs, or the other for the five numbers.
 pub record LacksRoom (list : List ℕ) (at : ℕ) (arcs numbers : List ℕ) : Type 0 where
@@ -47,8 +50,10 @@ pub record LacksRoom (list : List ℕ) (at : ℕ) (arcs numbers : List ℕ) : Ty
 
 abbrev pub ReadsAt : {V : Type 0} → List ℕ → ℕ → List ℕ → List ℕ → List ℕ → List ℕ → Result V CallFault → Type 0
 ReadsAt list at arcs arcs_new numbers numbers_new (Ok done) = ReadsOne list at arcs arcs_new numbers numbers_new
-ReadsAt list at arcs arcs_new numbers numbers_new (Err BadArgument) = (length list < at) × AreLeft arcs arcs_new numbers numbers_new
-ReadsAt list at arcs arcs_new numbers numbers_new (Err BadBindings) = BeginsNone list at × AreLeft arcs arcs_new numbers numbers_new
+ReadsAt list at arcs arcs_new numbers numbers_new (Err BadArgument) = (length list < at)
+    × AreLeft arcs arcs_new numbers numbers_new
+ReadsAt list at arcs arcs_new numbers numbers_new (Err BadBindings) = BeginsNone list at
+    × AreLeft arcs arcs_new numbers numbers_new
 ReadsAt list at arcs arcs_new numbers numbers_new (Err ShortBuffer) =
     LacksRoom list at arcs numbers × AreLeft arcs arcs_new numbers numbers_new
 ReadsAt list at arcs arcs_new numbers numbers_new (Err _) = ⊥
@@ -56,6 +61,8 @@ ReadsAt list at arcs arcs_new numbers numbers_new (Err _) = ⊥
 -- The binding is in the front of the buffer.
 abbrev pub WritesBinding : {V : Type 0} → List ℕ → ℕ → List ℕ → List ℕ → List ℕ → ℕ → Result V CallFault → Type 0
 WritesBinding arcs tag content out out_new written (Err BadArgument) =
-    (AreArcs arcs → CanBeWritten (record { name = arcs; tag = tag; content = content }) → ((255 < tag) ⊎ (65507 < length content))) × (out_new ≡ out)
+    (AreArcs arcs → CanBeWritten (record { name = arcs; tag = tag; content = content })
+    → ((255 < tag) ⊎ (65507 < length content))) × (out_new ≡ out)
 WritesBinding arcs tag content out out_new written (Err (Refused fault)) = (fault ≡ OutOfMemory) × (out_new ≡ out)
-WritesBinding arcs tag content out out_new written told = Copies (variable_text (record { name = arcs; tag = tag; content = content })) out out_new written told
+WritesBinding arcs tag content out out_new written told = Copies
+    (variable_text (record { name = arcs; tag = tag; content = content })) out out_new written told

@@ -10,7 +10,8 @@ use Rattle.snmpsec_config.specs.declared.table.ConfigKey.TheVariants as keys
 use Rattle.snmpsec_config.specs.declared.fault.KeyFault.{KeyFault}
 use Rattle.snmpsec_config.specs.declared.fault.KeyFault.TheVariants.{Unlisted, Missing, Value}
 use Rattle.snmpsec_config.specs.declared.fault.LoadFault.{LoadFault}
-use Rattle.snmpsec_config.specs.declared.fault.LoadFault.TheVariants.{BadUser, ShortPassword, DuplicateUser, BadRow, Duplicate}
+use Rattle.snmpsec_config.specs.declared.fault.LoadFault.TheVariants.{BadUser, ShortPassword, DuplicateUser, BadRow}
+use Rattle.snmpsec_config.specs.declared.fault.LoadFault.TheVariants.{Duplicate}
 use Rattle.snmpsec_config.specs.declared.fault.ConfigFault.{ConfigFault}
 use Rattle.snmpsec_config.specs.declared.fault.ConfigFault.TheVariants as faults
 use Rattle.snmpsec_config.specs.Refusals.{SaysSound, RefusesText, refusal_line}
@@ -62,7 +63,8 @@ row_numbers (Value key) = (5, key_number key)
 abbrev pub numbers_of : ConfigFault → List ℕ
 numbers_of (faults.Toml fault) = 0 ∷ 0 ∷ 1 ∷ 0 ∷ []
 numbers_of (faults.Top key) = 0 ∷ 0 ∷ 2 ∷ 0 ∷ []
-numbers_of (faults.BadKey of position fault) = table_number of ∷ position ∷ (row_numbers fault).0 ∷ (row_numbers fault).1 ∷ []
+numbers_of (faults.BadKey of position fault) = table_number of ∷ position ∷ (row_numbers fault).0
+    ∷ (row_numbers fault).1 ∷ []
 numbers_of (faults.Row of position wrong) = table_number of ∷ position ∷ wrong_number wrong ∷ 0 ∷ []
 numbers_of faults.OutOfMemory = 0 ∷ 0 ∷ 1 ∷ 0 ∷ []
 
@@ -70,22 +72,26 @@ numbers_of faults.OutOfMemory = 0 ∷ 0 ∷ 1 ∷ 0 ∷ []
 
 -- two lines: the refusal, and what is wrong and what is wanted
 abbrev pub IsTold : ConfigFault → List ℕ → Type 0
-IsTold fault text = (why : List ℕ) × IsWhy fault why × (text ≡ refusal_line fault ++ (codes "\n" ++ (why ++ codes "\n")))
+IsTold fault text = (why : List ℕ) × IsWhy fault why
+    × (text ≡ refusal_line fault ++ (codes "\n" ++ (why ++ codes "\n")))
 
 -- The text is refused for this fault, whose numbers stand in the front, and this is told of it.
 abbrev pub RefusesConfig : List ℕ → List ℕ → List ℕ → List ℕ → Type 0
 RefusesConfig config numbers numbers_new text =
-    (fault : ConfigFault) × RefusesText config fault × (numbers_new ≡ numbers_of fault ++ drop 4 numbers) × IsTold fault text
+    (fault : ConfigFault) × RefusesText config fault × (numbers_new ≡ numbers_of fault ++ drop 4 numbers)
+    × IsTold fault text
 
 -- Whether a text is a configuration, and what is told where it is none.
 abbrev pub TellsConfig : {V : Type 0} → List ℕ → List ℕ → List ℕ → List ℕ → List ℕ → ℕ → ℕ → Result V CallFault → Type 0
 TellsConfig config numbers numbers_new out out_new written written_new (Ok done) =
-    ((users : List UserRow) × (rows : Tables) × SaysSound config users rows) × (4 ≤ length numbers) × (numbers_new ≡ numbers) × (out_new ≡ out) × (written_new ≡ 0)
+    ((users : List UserRow) × (rows : Tables) × SaysSound config users rows) × (4 ≤ length numbers)
+    × (numbers_new ≡ numbers) × (out_new ≡ out) × (written_new ≡ 0)
 TellsConfig config numbers numbers_new out out_new written written_new (Err BadConfiguration) =
     (text : List ℕ) × (4 ≤ length numbers) × RefusesConfig config numbers numbers_new text
     × (length text ≤ length out) × (written_new ≡ length text) × (out_new ≡ text ++ drop (length text) out)
 TellsConfig config numbers numbers_new out out_new written written_new (Err ShortBuffer) =
-    (text : List ℕ) × (4 ≤ length numbers) × RefusesConfig config numbers numbers_new text × (length out < length text) × (written_new ≡ length text) × (out_new ≡ out)
+    (text : List ℕ) × (4 ≤ length numbers) × RefusesConfig config numbers numbers_new text
+    × (length out < length text) × (written_new ≡ length text) × (out_new ≡ out)
 TellsConfig config numbers numbers_new out out_new written written_new (Err BadArgument) =
     (length numbers < 4) × (numbers_new ≡ numbers) × (out_new ≡ out) × (written_new ≡ written)
 TellsConfig config numbers numbers_new out out_new written written_new (Err (Refused fault)) =

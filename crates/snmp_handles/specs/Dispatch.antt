@@ -1,6 +1,6 @@
--- What the calls of an agent leave that go with what it accepted, besides its answer: how long the answer may be, whether anything
--- answers it at all, the report where nothing does, and the counters (RFC 3412, sections 4.2.2 and 7.1; RFC 3413, section 3.2; RFC 3416,
--- section 4.2).
+-- What the calls of an agent leave that go with what it accepted, besides its answer: how long the answer may
+-- be, whether anything answers it at all, the report where nothing does, and the counters (RFC 3412, sections
+-- 4.2.2 and 7.1; RFC 3413, section 3.2; RFC 3416, section 4.2).
 use Rattle.std.specs.Prelude.{◌≡◌, ◌⊎◌, ℕ, pos, List, Option, Some, None, option_map, Result, Ok, Err, IfSome}
 use Rattle.std.specs.Global.{Vec}
 use Rattle.snmp_message.specs.Scoped.{Contexts, ScopedFront}
@@ -26,68 +26,82 @@ use Rattle.snmp_handles.specs.declared.fault.CallFault.TheVariants.{Refused, Not
 
 -- ---- answers within a limit
 
--- The Response to what was given, with the bindings that these octets are, where it has at most so many octets; or its refusal.
+-- The Response to what was given, with the bindings that these octets are, where it has at most so many
+-- octets; or its refusal.
 abbrev pub RespondsWithin : AgentState → ℕ → Given → ℕ → ℕ → List ℕ → List ℕ → ℕ → Result (List ℕ) ℕ → Type 0
 RespondsWithin agent now g status index list salt limit answer =
     (vs : List Variable) × AreBindings vs list
     × ((c : Contexts) (p : PduParts) → ScopedFront g.text c → PduText c.pdu p
     → UpTo limit (Sends agent now (λ own. responding agent.engine own g c p (pos status) (pos index) vs salt)) answer)
 
--- Nothing can be sent for its user at its level; or it can, and the Response is refused or too long, or finds no memory.
+-- Nothing can be sent for its user at its level; or it can, and the Response is refused or too long, or finds
+-- no memory.
 abbrev pub StopsWithin : AgentState → ℕ → Given → ℕ → ℕ → List ℕ → List ℕ → ℕ → TakeFault → Type 0
 StopsWithin agent now g status index list salt limit fault =
     RefusesSenderAt agent now g.user g.level fault
-    ⊎ (CanSendAt agent now g.user g.level × IfSome (send_refusal fault) (RespondsWithin agent now g status index list salt limit))
+    ⊎ (CanSendAt agent now g.user g.level
+    × IfSome (send_refusal fault) (RespondsWithin agent now g status index list salt limit))
 
 abbrev pub RefusesWithin : AgentHeld → ℕ → ℕ → ℕ → List ℕ → List ℕ → ℕ → CallFault → Type 0
 RefusesWithin held now status index list salt limit fault =
     RefusesAnswer held now status index list (λ g f. StopsWithin held.agent now g status index list salt limit f) fault
 
 -- The Response to what is kept, of at most so many octets, is to be sent. A refusal changes nothing.
-abbrev pub RespondsHeldWithin : {V : Type 0} → AgentHeld → ℕ → ℕ → ℕ → List ℕ → List ℕ → ℕ → Result V CallFault → AgentHeld → Type 0
+abbrev pub RespondsHeldWithin : {V : Type 0} → AgentHeld → ℕ → ℕ → ℕ → List ℕ → List ℕ → ℕ → Result V CallFault
+    → AgentHeld → Type 0
 RespondsHeldWithin old now status index list salt limit (Ok done) new =
-    (g : Given) × (text : List ℕ) × IsAsked old g × RespondsWithin old.agent now g status index list salt limit (Ok text) × LeavesMessage old text new
-RespondsHeldWithin old now status index list salt limit (Err fault) new = RefusesWithin old now status index list salt limit fault × (new ≡ old)
+    (g : Given) × (text : List ℕ) × IsAsked old g
+    × RespondsWithin old.agent now g status index list salt limit (Ok text) × LeavesMessage old text new
+RespondsHeldWithin old now status index list salt limit
+    (Err fault) new = RefusesWithin old now status index list salt limit fault × (new ≡ old)
 
--- The Response to what was given, with the longest front of the bindings that these octets are that has room within so many octets, and
--- how many that front has; or its refusal.
+-- The Response to what was given, with the longest front of the bindings that these octets are that has room
+-- within so many octets, and how many that front has; or its refusal.
 abbrev pub RespondsFront : AgentState → ℕ → Given → ℕ → ℕ → List ℕ → List ℕ → ℕ → Result FrontText ℕ → Type 0
 RespondsFront agent now g status index list salt limit answer =
     (vs : List Variable) × AreBindings vs list
     × ((c : Contexts) (p : PduParts) → ScopedFront g.text c → PduText c.pdu p
-    → SendsFront agent now limit (λ own xs. responding agent.engine own g c p (pos status) (pos index) xs salt) vs answer)
+    → SendsFront agent now limit
+    (λ own xs. responding agent.engine own g c p (pos status) (pos index) xs salt) vs answer)
 
--- Nothing can be sent for its user at its level; or it can, and the Response is refused, has no room even without bindings, or finds no
--- memory.
+-- Nothing can be sent for its user at its level; or it can, and the Response is refused, has no room even
+-- without bindings, or finds no memory.
 abbrev pub StopsFront : AgentState → ℕ → Given → ℕ → ℕ → List ℕ → List ℕ → ℕ → TakeFault → Type 0
 StopsFront agent now g status index list salt limit fault =
     RefusesSenderAt agent now g.user g.level fault
-    ⊎ (CanSendAt agent now g.user g.level × IfSome (front_answer (Err fault)) (RespondsFront agent now g status index list salt limit))
+    ⊎ (CanSendAt agent now g.user g.level
+    × IfSome (front_answer (Err fault)) (RespondsFront agent now g status index list salt limit))
 
--- The Response to what is kept, with the longest front that has room, is to be sent, and its count is told. A refusal changes nothing.
+-- The Response to what is kept, with the longest front that has room, is to be sent, and its count is told. A
+-- refusal changes nothing.
 abbrev pub RespondsHeldFront : AgentHeld → ℕ → ℕ → ℕ → List ℕ → List ℕ → ℕ → Result ℕ CallFault → AgentHeld → Type 0
 RespondsHeldFront old now status index list salt limit (Ok count) new =
-    (g : Given) × (text : List ℕ) × IsAsked old g × RespondsFront old.agent now g status index list salt limit (Ok (record { text = text; count = count }))
+    (g : Given) × (text : List ℕ) × IsAsked old g
+    × RespondsFront old.agent now g status index list salt limit (Ok (record { text = text; count = count }))
     × LeavesMessage old text new
 RespondsHeldFront old now status index list salt limit (Err fault) new =
-    RefusesAnswer old now status index list (λ g f. StopsFront old.agent now g status index list salt limit f) fault × (new ≡ old)
+    RefusesAnswer old now status index list (λ g f. StopsFront old.agent now g status index list salt limit f) fault
+    × (new ≡ old)
 
 -- between the functions: the same of what is kept, before it is left to be sent
 abbrev pub AnswersWithin : AgentState → ℕ → Given → ℕ → ℕ → List ℕ → List ℕ → ℕ → Result (Vec ℕ) CallFault → Type 0
 AnswersWithin agent now g status index list salt limit answer =
-    Answering agent now g list (λ text. RespondsWithin agent now g status index list salt limit (Ok text.items)) (λ f. StopsWithin agent now g status index list salt limit f) answer
+    Answering agent now g list (λ text. RespondsWithin agent now g status index list salt limit (Ok text.items))
+    (λ f. StopsWithin agent now g status index list salt limit f) answer
 
 abbrev pub AnswersFront : AgentState → ℕ → Given → ℕ → ℕ → List ℕ → List ℕ → ℕ → Result Fronted CallFault → Type 0
 AnswersFront agent now g status index list salt limit answer =
     Answering agent now g list
-    (λ told. RespondsFront agent now g status index list salt limit (Ok (record { text = told.text.items; count = told.count })))
+    (λ told. RespondsFront agent now g status index list salt limit
+    (Ok (record { text = told.text.items; count = told.count })))
     (λ f. StopsFront agent now g status index list salt limit f) answer
 
 -- ---- who answers
 
 -- why nothing answers what was given, or None where it is to be answered
 abbrev pub IsHandled : AgentState → Given → Option Unhandled → Type 0
-IsHandled agent g why = (c : Contexts) (p : PduParts) → ScopedFront g.text c → PduText c.pdu p → HandledBy agent.engine agent.tables c p why
+IsHandled agent g why = (c : Contexts) (p : PduParts) → ScopedFront g.text c → PduText c.pdu p
+    → HandledBy agent.engine agent.tables c p why
 
 abbrev pub TellsUnhandled : AgentHeld → Result (Option Unhandled) CallFault → Type 0
 TellsUnhandled held (Ok why) = (g : Given) × (held.last ≡ Some g) × IsHandled held.agent g why
@@ -107,12 +121,14 @@ report_refusal fault = option_map (λ n. Err n) (answer_number fault)
 
 -- There is a report, and none of the refusals before its text applies.
 abbrev pub CanReport : AgentState → ℕ → Given → Unhandled → List ℕ → Type 0
-CanReport agent now g why salt = (c : Contexts) (p : PduParts) → ScopedFront g.text c → PduText c.pdu p → RefusalCanBeSent agent now g p why salt
+CanReport agent now g why salt = (c : Contexts) (p : PduParts) → ScopedFront g.text c → PduText c.pdu p
+    → RefusalCanBeSent agent now g p why salt
 
 -- The report is refused, or finds no memory where there is one that can be sent. Nothing changes.
 abbrev pub StopsWith : AgentState → ℕ → Given → Unhandled → List ℕ → TakeFault → Type 0
 StopsWith agent now g why salt fault =
-    IfSome (report_refusal fault) (λ answer. Reports agent now g why salt answer agent) × (fault ≡ OutOfMemory → CanReport agent now g why salt)
+    IfSome (report_refusal fault) (λ answer. Reports agent now g why salt answer agent)
+    × (fault ≡ OutOfMemory → CanReport agent now g why salt)
 
 abbrev pub StopsReport : AgentHeld → ℕ → Unhandled → List ℕ → CallFault → Type 0
 StopsReport held now why salt (Refused fault) =
@@ -123,12 +139,15 @@ StopsReport held now why salt _ = ⊥
 -- What is kept is counted, and its report is to be sent; nothing is, where there is none. An error changes nothing.
 abbrev pub ReportsHeld : {V : Type 0} → AgentHeld → ℕ → Unhandled → List ℕ → Result V CallFault → AgentHeld → Type 0
 ReportsHeld old now why salt (Ok done) new =
-    (g : Given) × (report : Option (List ℕ)) × (agent : AgentState) × (old.last ≡ Some g) × Reports old.agent now g why salt (Ok report) agent
+    (g : Given) × (report : Option (List ℕ)) × (agent : AgentState) × (old.last ≡ Some g)
+    × Reports old.agent now g why salt (Ok report) agent
     × (new ≡ record old { agent = agent; message = report })
 ReportsHeld old now why salt (Err fault) new = StopsReport old now why salt fault × (new ≡ old)
 
 -- between the functions: the same of what is kept, before it is left to be sent
-abbrev pub AnswersReport : AgentState → ℕ → Given → Unhandled → List ℕ → Result (Option (Vec ℕ)) CallFault → AgentState → Type 0
-AnswersReport old now g why salt (Ok report) new = Reports old now g why salt (Ok (option_map (λ v. v.items) report)) new
+abbrev pub AnswersReport : AgentState → ℕ → Given → Unhandled → List ℕ → Result (Option (Vec ℕ)) CallFault
+    → AgentState → Type 0
+AnswersReport old now g why salt (Ok report) new = Reports old now g why salt
+    (Ok (option_map (λ v. v.items) report)) new
 AnswersReport old now g why salt (Err (Refused fault)) new = StopsWith old now g why salt fault
 AnswersReport old now g why salt (Err _) new = ⊥

@@ -10,7 +10,9 @@ use Rattle.snmp_agent.specs.declared.status.Status.{Status}
 use Rattle.snmp_agent.specs.declared.unhandled.Unhandled.{Unhandled}
 use Rattle.snmp_handles.specs.Numbers.{access_of, unhandled_number}
 use Rattle.snmp_handles.specs.declared.fault.CallFault.{CallFault}
-use Rattle.snmp_handles.specs.declared.fault.CallFault.TheVariants.{Refused, BadArgument, NothingTaken, NotAsked, BadBindings, ShortBuffer, BadConfiguration, BadClocks}
+use Rattle.snmp_handles.specs.declared.fault.CallFault.TheVariants.{Refused, BadArgument, NothingTaken, NotAsked}
+use Rattle.snmp_handles.specs.declared.fault.CallFault.TheVariants.{BadBindings, ShortBuffer, BadConfiguration}
+use Rattle.snmp_handles.specs.declared.fault.CallFault.TheVariants.{BadClocks}
 
 -- a refusal has its own number, and a fault of the call a negative one
 abbrev pub fault_code : CallFault → ℤ
@@ -50,9 +52,10 @@ abbrev pub unhandled_code : Result (Option Unhandled) CallFault → ℤ
 unhandled_code (Ok why) = pos (unhandled_number why)
 unhandled_code (Err fault) = fault_code fault
 
--- The number of what becomes of a variable for which access was answered so, in a request whose PDU has this tag; or that of
--- BadArgument, where no answer has the number or the tag isn't an octet.
+-- The number of what becomes of a variable for which access was answered so, in a request whose PDU has this
+-- tag; or that of BadArgument, where no answer has the number or the tag isn't an octet.
 abbrev pub IsStatusCode : ℕ → ℕ → ℤ → Type 0
 IsStatusCode access tag told =
-    ((answer : Access) × (status : Status) × (access_of access ≡ Some answer) × (tag < 256) × IsStatusOf answer tag status × (told ≡ pos (status_number status)))
+    ((answer : Access) × (status : Status) × (access_of access ≡ Some answer) × (tag < 256)
+    × IsStatusOf answer tag status × (told ≡ pos (status_number status)))
     ⊎ (((access_of access ≡ None) ⊎ (255 < tag)) × (told ≡ fault_code BadArgument))

@@ -32,7 +32,8 @@ use Rattle.snmpsec_config.specs.declared.fault.ConfigFault.{ConfigFault}
 use Rattle.vacm_core.specs.Tables.{Tables}
 use Rattle.snmp_handles.specs.Numbers.{level_of}
 use Rattle.snmp_handles.specs.declared.fault.CallFault.{CallFault}
-use Rattle.snmp_handles.specs.declared.fault.CallFault.TheVariants.{Refused, BadArgument, NothingTaken, BadBindings, BadConfiguration, BadClocks}
+use Rattle.snmp_handles.specs.declared.fault.CallFault.TheVariants.{Refused, BadArgument, NothingTaken, BadBindings}
+use Rattle.snmp_handles.specs.declared.fault.CallFault.TheVariants.{BadConfiguration, BadClocks}
 
 pub record ManagerHeld : Type 0 where
   pub manager : Held
@@ -47,7 +48,8 @@ pub record ManagerHeld : Type 0 where
 
 -- why none is made, the first that applies
 abbrev pub RefusesManager : List ℕ → List ℕ → ℕ → CallFault → Type 0
-RefusesManager config text now BadConfiguration = ((clocks : Marks) × Saves now text clocks) × ((fault : ConfigFault) × RefusesText config fault)
+RefusesManager config text now BadConfiguration = ((clocks : Marks) × Saves now text clocks)
+    × ((fault : ConfigFault) × RefusesText config fault)
 RefusesManager config text now BadClocks = (clocks : Marks) → Saves now text clocks → ⊥
 RefusesManager config text now (Refused fault) = fault ≡ OutOfMemory
 RefusesManager config text now _ = ⊥
@@ -56,12 +58,18 @@ RefusesManager config text now _ = ⊥
 abbrev pub MakesManager : List ℕ → List ℕ → ℕ → Result ManagerHeld CallFault → Type 0
 MakesManager config text now (Ok made) =
     (users : List User) × (tables : Tables) × (clocks : Marks) × Loads config users tables × Saves now text clocks
-    × (made ≡ record { manager = record { users = users; clocks = clocks }; last = None; message = None; pending = None })
+    × (made ≡ record {
+      manager = record { users = users; clocks = clocks };
+      last = None;
+      message = None;
+      pending = None;
+    })
 MakesManager config text now (Err fault) = RefusesManager config text now fault
 
 -- Nothing is held any more. A refusal changes nothing.
 abbrev pub ClearsManager : {V : Type 0} → ManagerHeld → Result V CallFault → ManagerHeld → Type 0
-ClearsManager old (Ok done) new = new ≡ record { manager = held_by [] map.empty; last = None; message = None; pending = None }
+ClearsManager old (Ok done) new = new
+    ≡ record { manager = held_by [] map.empty; last = None; message = None; pending = None }
 ClearsManager old (Err fault) new = (fault ≡ Refused OutOfMemory) × (new ≡ old)
 
 -- ---- taking
@@ -69,9 +77,11 @@ ClearsManager old (Err fault) new = (fault ≡ Refused OutOfMemory) × (new ≡ 
 -- An accepted datagram is kept. The request that is waited for stays. Want of memory leaves the manager as it was.
 abbrev pub ManagerTakes : {V : Type 0} → ManagerHeld → ℕ → List ℕ → Result V CallFault → ManagerHeld → Type 0
 ManagerTakes old now w (Ok done) new =
-    (g : Given) × (new.last ≡ Some g) × (new.message ≡ None) × (new.pending ≡ old.pending) × manager.Takes old.manager now w (Some (Ok g)) new.manager
+    (g : Given) × (new.last ≡ Some g) × (new.message ≡ None) × (new.pending ≡ old.pending)
+    × manager.Takes old.manager now w (Some (Ok g)) new.manager
 ManagerTakes old now w (Err (Refused fault)) new =
-    (new.last ≡ None) × (new.message ≡ None) × (new.pending ≡ old.pending) × manager.Takes old.manager now w (refused (answer_number fault)) new.manager
+    (new.last ≡ None) × (new.message ≡ None) × (new.pending ≡ old.pending)
+    × manager.Takes old.manager now w (refused (answer_number fault)) new.manager
 ManagerTakes old now w (Err _) new = ⊥
 
 -- ---- the request that is waited for
@@ -111,19 +121,22 @@ asked held now ask level vs salt = record {
   pair = written_pair level held now;
   user = ask.user;
   salt = salt;
-  scoped = scoped_text ask.context_engine ask.context_name (pdu_text (pdu_with ask.tag (pos ask.request_id) (pos ask.second) (pos ask.third) vs));
+  scoped = scoped_text ask.context_engine ask.context_name
+      (pdu_text (pdu_with ask.tag (pos ask.request_id) (pos ask.second) (pos ask.third) vs));
 }
 
 -- the request with the bindings that these octets are, or its refusal
 abbrev pub AsksAt : Held → ℕ → Asking → Level → List ℕ → List ℕ → Result (List ℕ) ℕ → Type 0
 AsksAt held now ask level list salt answer =
-    (vs : List Variable) × AreBindings vs list × Seals held.users (asked (mark_at held.clocks ask.engine) now ask level vs salt) answer
+    (vs : List Variable) × AreBindings vs list
+    × Seals held.users (asked (mark_at held.clocks ask.engine) now ask level vs salt) answer
 
 -- a number or a length is out of its range
 abbrev pub IsOutOfRange : Asking → Type 0
 IsOutOfRange ask =
     (level_of ask.level ≡ None) ⊎ ((HasEngineLength ask.engine → ⊥) ⊎ ((IsPduTag ask.tag → ⊥) ⊎ ((32 < length ask.user)
-    ⊎ ((2147483647 < ask.id) ⊎ ((2147483647 < ask.request_id) ⊎ ((2147483647 < ask.second) ⊎ (2147483647 < ask.third)))))))
+    ⊎ ((2147483647 < ask.id)
+    ⊎ ((2147483647 < ask.request_id) ⊎ ((2147483647 < ask.second) ⊎ (2147483647 < ask.third)))))))
 
 -- Nothing can be sent for the user at this level; or it can, and the request is refused, or finds no memory.
 abbrev pub StopsRequest : Held → ℕ → Asking → Level → List ℕ → List ℕ → TakeFault → Type 0
@@ -132,26 +145,32 @@ StopsRequest held now ask level list salt fault =
     ⊎ (CanSend held.users ask.user level × IfSome (send_refusal fault) (AsksAt held now ask level list salt))
 
 abbrev pub RefusesRequest : ManagerHeld → ℕ → Asking → List ℕ → List ℕ → CallFault → Type 0
-RefusesRequest held now ask list salt (Refused fault) = (level : Level) × (level_of ask.level ≡ Some level) × StopsRequest held.manager now ask level list salt fault
+RefusesRequest held now ask list salt (Refused fault) = (level : Level) × (level_of ask.level ≡ Some level)
+    × StopsRequest held.manager now ask level list salt fault
 RefusesRequest held now ask list salt BadArgument = IsOutOfRange ask
 RefusesRequest held now ask list salt BadBindings =
-    (level : Level) × (level_of ask.level ≡ Some level) × CanSend held.manager.users ask.user level × ((vs : List Variable) → AreBindings vs list → ⊥)
+    (level : Level) × (level_of ask.level ≡ Some level) × CanSend held.manager.users ask.user level
+    × ((vs : List Variable) → AreBindings vs list → ⊥)
 RefusesRequest held now ask list salt _ = ⊥
 
 -- The message is to be sent, and its answer is waited for.
 abbrev pub Waits : ManagerHeld → List ℕ → Pending → ManagerHeld → Type 0
 Waits old text pending new = new ≡ record old { message = Some text; pending = Some pending }
 
-abbrev pub RequestsHeld : {V : Type 0} → ManagerHeld → ℕ → Asking → List ℕ → List ℕ → Result V CallFault → ManagerHeld → Type 0
+abbrev pub RequestsHeld : {V : Type 0} → ManagerHeld → ℕ → Asking → List ℕ → List ℕ → Result V CallFault
+    → ManagerHeld → Type 0
 RequestsHeld old now ask list salt (Ok done) new =
-    (level : Level) × (text : List ℕ) × (a : Pending) × (level_of ask.level ≡ Some level) × AsksAt old.manager now ask level list salt (Ok text)
-    × Remembers a ask.id ask.engine ask.user level ask.context_engine ask.context_name (pos ask.request_id) × Waits old text a new
+    (level : Level) × (text : List ℕ) × (a : Pending) × (level_of ask.level ≡ Some level)
+    × AsksAt old.manager now ask level list salt (Ok text)
+    × Remembers a ask.id ask.engine ask.user level ask.context_engine ask.context_name (pos ask.request_id)
+    × Waits old text a new
 RequestsHeld old now ask list salt (Err fault) new = RefusesRequest old now ask list salt fault × (new ≡ old)
 
 -- The discovery request is to be sent, and its answer is waited for.
 abbrev pub DiscoversHeld : {V : Type 0} → ManagerHeld → ℕ → Result V CallFault → ManagerHeld → Type 0
 DiscoversHeld old id (Ok done) new =
-    (text : List ℕ) × (a : Pending) × Seals old.manager.users (discovering id) (Ok text) × Remembers a id [] [] NoAuthNoPriv [] [] (pos id) × Waits old text a new
+    (text : List ℕ) × (a : Pending) × Seals old.manager.users (discovering id) (Ok text)
+    × Remembers a id [] [] NoAuthNoPriv [] [] (pos id) × Waits old text a new
 DiscoversHeld old id (Err BadArgument) new = (2147483647 < id) × (new ≡ old)
 DiscoversHeld old id (Err (Refused fault)) new = (fault ≡ OutOfMemory) × (new ≡ old)
 DiscoversHeld old id (Err _) new = ⊥

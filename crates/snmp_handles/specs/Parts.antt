@@ -1,5 +1,6 @@
 -- What a caller gets of what a handle keeps, into buffers of its own.
-use Rattle.std.specs.Prelude.{◌==◌, if◌then◌else◌, ◌≡◌, ◌<◌, ◌≤◌, ℕ, ℤ, pos, List, [], ◌∷◌, ◌++◌, length, drop, Option, Some, None, Result, Ok, Err}
+use Rattle.std.specs.Prelude.{◌==◌, if◌then◌else◌, ◌≡◌, ◌<◌, ◌≤◌, ℕ, ℤ, pos, List, [], ◌∷◌, ◌++◌, length, drop}
+use Rattle.std.specs.Prelude.{Option, Some, None, Result, Ok, Err}
 use Rattle.snmp_ber.specs.Level.{level_number}
 use Rattle.snmp_message.specs.Scoped.{Contexts, ScopedFront}
 use Rattle.snmp_msg.specs.Pdu.{PduParts, PduText}
@@ -11,16 +12,18 @@ use Rattle.snmp_handles.specs.declared.parts.Part.TheVariants.{Bindings, User, C
 
 -- ---- octets
 
--- The octets stand in the front of the buffer, which is else as it was; or it has no room for them, and is as it was. Either way
--- it is told how many they are.
+-- The octets stand in the front of the buffer, which is else as it was; or it has no room for them, and is as
+-- it was. Either way it is told how many they are.
 abbrev pub Copies : {V : Type 0} → List ℕ → List ℕ → List ℕ → ℕ → Result V CallFault → Type 0
-Copies octets old new written (Ok done) = (length octets ≤ length old) × (written ≡ length octets) × (new ≡ octets ++ drop (length octets) old)
+Copies octets old new written (Ok done) = (length octets ≤ length old) × (written ≡ length octets)
+    × (new ≡ octets ++ drop (length octets) old)
 Copies octets old new written (Err ShortBuffer) = (length old < length octets) × (written ≡ length octets) × (new ≡ old)
 Copies octets old new written (Err _) = ⊥
 
 -- the octets are this part of what was accepted
 abbrev pub IsPartOf : Given → Part → List ℕ → Type 0
-IsPartOf g Bindings octets = (c : Contexts) → ScopedFront g.text c → (p : PduParts) × PduText c.pdu p × (octets ≡ p.list)
+IsPartOf g Bindings octets = (c : Contexts) → ScopedFront g.text c
+    → (p : PduParts) × PduText c.pdu p × (octets ≡ p.list)
 IsPartOf g User octets = octets ≡ g.user
 IsPartOf g ContextEngine octets = (c : Contexts) → ScopedFront g.text c → octets ≡ c.engine
 IsPartOf g ContextName octets = (c : Contexts) → ScopedFront g.text c → octets ≡ c.name
@@ -29,14 +32,16 @@ IsPartOf g Engine octets = octets ≡ g.engine
 -- the part of a number
 abbrev pub part_of : ℕ → Option Part
 part_of n =
-    if n == 0 then Some Bindings else if n == 1 then Some User else if n == 2 then Some ContextEngine else if n == 3 then Some ContextName else
+    if n == 0 then Some Bindings else if n == 1 then Some User else if n == 2 then Some ContextEngine else if n == 3
+    then Some ContextName else
     if n == 4 then Some Engine else None
 
 -- A part of what is kept is copied.
 abbrev pub CopiesPart : {V : Type 0} → Option Given → Part → List ℕ → List ℕ → ℕ → Result V CallFault → Type 0
 CopiesPart None part old new written (Err NothingTaken) = new ≡ old
 CopiesPart None part old new written _ = ⊥
-CopiesPart (Some g) part old new written told = (octets : List ℕ) × IsPartOf g part octets × Copies octets old new written told
+CopiesPart (Some g) part old new written told = (octets : List ℕ) × IsPartOf g part octets
+    × Copies octets old new written told
 
 -- The message that is to be sent is copied.
 abbrev pub CopiesMessage : {V : Type 0} → Option (List ℕ) → List ℕ → List ℕ → ℕ → Result V CallFault → Type 0
@@ -51,7 +56,8 @@ abbrev pub numbers_of : Given → PduParts → List ℤ
 numbers_of g p = pos (level_number g.level) ∷ pos g.tag ∷ p.id ∷ p.second ∷ p.third ∷ pos g.id ∷ []
 
 abbrev pub AreNumbersOf : Given → List ℤ → Type 0
-AreNumbersOf g numbers = (c : Contexts) → ScopedFront g.text c → (p : PduParts) × PduText c.pdu p × (numbers ≡ numbers_of g p)
+AreNumbersOf g numbers = (c : Contexts) → ScopedFront g.text c
+    → (p : PduParts) × PduText c.pdu p × (numbers ≡ numbers_of g p)
 
 -- the sender's msgMaxSize, of what is kept
 abbrev pub TellsMaxSize : Option Given → Result ℕ CallFault → Type 0

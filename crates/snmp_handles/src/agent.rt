@@ -6,7 +6,8 @@ ghost use Rattle.snmp_message.specs.Scoped.{Contexts, ScopedFront};
 ghost use Rattle.snmp_incoming.specs.Outcome.{Given};
 ghost use Rattle.snmp_agent.specs.Decides.{question_of};
 ghost use Rattle.vacm_core.specs.Allowed.{Allowed};
-ghost use Rattle.snmp_handles.specs.Agents.{Clears, IsOwnEngine, MakesAgent, TakesHeld, TakesNoMemory, AllowsHeld, MaySee, Counts, RespondsHeld, NotifiesHeld};
+ghost use Rattle.snmp_handles.specs.Agents.{Clears, IsOwnEngine, MakesAgent, TakesHeld, TakesNoMemory, AllowsHeld};
+ghost use Rattle.snmp_handles.specs.Agents.{MaySee, Counts, RespondsHeld, NotifiesHeld};
 ghost use Rattle.snmp_handles.specs.Parts.{CopiesPart, CopiesMessage, AreNumbersOf};
 ghost use Rattle.snmp_handles.specs.Between.{AnswersResponse, AnswersNotice, notice_of};
 
@@ -67,10 +68,11 @@ fn is_all(octets: &[u8], octet: u8) -> bool
     octets.iter().all(|o| *o == octet)
 }
 
-/// The identifier that an engine has for its own: 5 to 32 octets, not all of them 0 and not all of them 255 (SnmpEngineID, RFC 3411,
-/// section 5).
+/// The identifier that an engine has for its own: 5 to 32 octets, not all of them 0 and not all of them 255
+/// (SnmpEngineID, RFC 3411, section 5).
 fn own_engine(octets: &[u8]) -> Option<EngineId>
-    ensures { MatchOption result (IsOwnEngine octets.now → ⊥) (λ engine. IsOwnEngine octets.now × (engine ≡ octets.now)) }
+    ensures { MatchOption result (IsOwnEngine octets.now → ⊥)
+        (λ engine. IsOwnEngine octets.now × (engine ≡ octets.now)) }
 {
     if is_all(octets, 0) || is_all(octets, 255) {
         return None;
@@ -80,7 +82,8 @@ fn own_engine(octets: &[u8]) -> Option<EngineId>
 
 /// Whether the sender of what was kept may see this variable.
 fn allowed(agent: &Agent, kept: &Kept, view: ViewType, variable: &Oid) -> Access
-    ensures { (c : Contexts) → ScopedFront kept.now.text c → Allowed agent.now.tables (question_of kept.now c) view variable.now result }
+    ensures { (c : Contexts) → ScopedFront kept.now.text c
+        → Allowed agent.now.tables (question_of kept.now c) view variable.now result }
 {
     let taken = kept.taken();
     agent.allows(&taken, view, variable)
@@ -94,7 +97,8 @@ fn response(
     kept: &Kept,
     reply: &Reply<'_>,
 ) -> Result<Vec<u8>, CallFault>
-    ensures answer { AnswersResponse agent.old now kept.now reply.now.status reply.now.index reply.now.list.now reply.now.salt result }
+    ensures answer { AnswersResponse agent.old now kept.now reply.now.status reply.now.index reply.now.list.now
+        reply.now.salt result }
     ensures same { agent.new ≡ agent.old }
 {
     can_answer(agent, now, kept)?;
@@ -139,10 +143,12 @@ fn notice(
 }
 
 impl AgentHandle {
-    /// An agent of this configuration, in TOML, with this engine ID and these boots, which started at the moment `started`.
+    /// An agent of this configuration, in TOML, with this engine ID and these boots, which started at the
+    /// moment `started`.
     ///
-    /// The errors are BadArgument, where the engine ID hasn't 5 to 32 octets, or all of them are 0 or all are 255 (SnmpEngineID, RFC 3411,
-    /// section 5), or boots are above 2147483647; then BadConfiguration, or want of memory.
+    /// The errors are BadArgument, where the engine ID hasn't 5 to 32 octets, or all of them are 0 or all are
+    /// 255 (SnmpEngineID, RFC 3411, section 5), or boots are above 2147483647; then BadConfiguration, or want
+    /// of memory.
     pub fn of(
         alloc: Global,
         config: &[u8],
@@ -170,8 +176,8 @@ impl AgentHandle {
         }
     }
 
-    /// Gives back the memory of all that is held: the users, the tables, and what is kept. The error is want of memory, and
-    /// changes nothing.
+    /// Gives back the memory of all that is held: the users, the tables, and what is kept. The error is want
+    /// of memory, and changes nothing.
     pub fn clear(&mut self) -> Result<(), CallFault>
         ensures { Clears self.old result self.new }
     {
@@ -197,13 +203,15 @@ impl AgentHandle {
         Ok(())
     }
 
-    /// Takes a datagram at the moment `now`, as `Agent::take` does. What is accepted is kept, for the calls below; of what is
-    /// refused the report is left to be sent, where there is one.
+    /// Takes a datagram at the moment `now`, as `Agent::take` does. What is accepted is kept, for the calls
+    /// below; of what is refused the report is left to be sent, where there is one.
     ///
-    /// The errors are the refusals of `Agent::take`, and want of memory for what is kept, which leaves the agent as it was.
+    /// The errors are the refusals of `Agent::take`, and want of memory for what is kept, which leaves the
+    /// agent as it was.
     pub fn take(&mut self, now: u64, datagram: &[u8]) -> Result<(), CallFault>
         ensures takes { TakesHeld self.old now datagram.now result self.new }
-        ensures no_memory { TakesNoMemory self.old.agent now datagram.now → result ≢ Err (CallFault.Refused TakeFault.OutOfMemory) }
+        ensures no_memory { TakesNoMemory self.old.agent now datagram.now
+            → result ≢ Err (CallFault.Refused TakeFault.OutOfMemory) }
     {
         self.last = None;
         self.message = None;
@@ -238,8 +246,9 @@ impl AgentHandle {
         }
     }
 
-    /// Whether this user at the level of this number may see the variable with these arcs in this context, by the view of this
-    /// number. The error is BadArgument, where no level or no view has the number, or there aren't 1 to 128 arcs.
+    /// Whether this user at the level of this number may see the variable with these arcs in this context, by
+    /// the view of this number. The error is BadArgument, where no level or no view has the number, or there
+    /// aren't 1 to 128 arcs.
     pub fn may(
         &self,
         user: &[u8],
@@ -272,12 +281,12 @@ impl AgentHandle {
         }
     }
 
-    /// Writes the Response to what is kept, with this error-status, error-index and the bindings that these octets are, as
-    /// `Agent::respond` does, and leaves it to be sent. On an error nothing changes.
+    /// Writes the Response to what is kept, with this error-status, error-index and the bindings that these
+    /// octets are, as `Agent::respond` does, and leaves it to be sent. On an error nothing changes.
     ///
-    /// The errors are, the first that applies: BadArgument, where status or index are above 2147483647; NothingTaken; NotAsked, where
-    /// the PDU isn't of the Confirmed Class; those of `Agent::supports`; then BadBindings, TooLarge (16), or want of memory, whichever
-    /// is met first.
+    /// The errors are, the first that applies: BadArgument, where status or index are above 2147483647;
+    /// NothingTaken; NotAsked, where the PDU isn't of the Confirmed Class; those of `Agent::supports`; then
+    /// BadBindings, TooLarge (16), or want of memory, whichever is met first.
     pub fn respond(
         &mut self,
         now: u64,
@@ -303,11 +312,12 @@ impl AgentHandle {
         }
     }
 
-    /// Writes an SNMPv2-Trap with the bindings that these octets are, as `Agent::notify` does, and leaves it to be sent. On an
-    /// error nothing changes.
+    /// Writes an SNMPv2-Trap with the bindings that these octets are, as `Agent::notify` does, and leaves it
+    /// to be sent. On an error nothing changes.
     ///
-    /// The errors are, the first that applies: BadArgument, where a number of `to` is out of its range or the name is longer than 32
-    /// octets; those of `Agent::supports`; then BadBindings, TooLarge (16), or want of memory, whichever is met first.
+    /// The errors are, the first that applies: BadArgument, where a number of `to` is out of its range or the
+    /// name is longer than 32 octets; those of `Agent::supports`; then BadBindings, TooLarge (16), or want of
+    /// memory, whichever is met first.
     pub fn notify(
         &mut self,
         now: u64,
@@ -338,7 +348,8 @@ impl AgentHandle {
         copied_part(&self.last, part, out, written)
     }
 
-    /// Copies the message that is to be sent in the same way: the report on what was taken last, or what was written since.
+    /// Copies the message that is to be sent in the same way: the report on what was taken last, or what was
+    /// written since.
     pub fn message(&self, out: &mut [u8], written: &mut usize) -> Result<(), CallFault>
         ensures { CopiesMessage self.now.message out.old out.new written.new result }
     {
@@ -347,7 +358,8 @@ impl AgentHandle {
 
     /// The level, the PDU's tag, request-id, second and third number, and msgID of what is kept.
     pub fn numbers(&self) -> Option<[i32; 6]>
-        ensures { MatchOption result (self.now.last ≡ None) (λ numbers. (g : Given) × (self.now.last ≡ Some g) × AreNumbersOf g numbers) }
+        ensures { MatchOption result (self.now.last ≡ None)
+            (λ numbers. (g : Given) × (self.now.last ≡ Some g) × AreNumbersOf g numbers) }
     {
         match &self.last {
             Some(kept) => Some(numbers_of(kept)),

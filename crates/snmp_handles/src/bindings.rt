@@ -31,8 +31,8 @@ fn outer_count(list: &[u8]) -> usize
     count
 }
 
-/// The bindings whose texts the octets are, one after another, with their names in these octets. The error is BadBindings, exactly where
-/// they aren't bindings, or want of memory, which is asked for once.
+/// The bindings whose texts the octets are, one after another, with their names in these octets. The error is
+/// BadBindings, exactly where they aren't bindings, or want of memory, which is asked for once.
 pub fn bindings_of(alloc: Global, list: &[u8]) -> Result<Vec<VariableBinding<'_>>, CallFault>
     ensures all { IfOk result (λ v. AreBindings (map bound_variable v.items) list.now) }
     ensures written { IfOk result (λ v. All (λ b. IsTag b.tag) v.items) }
@@ -64,11 +64,12 @@ pub fn bindings_of(alloc: Global, list: &[u8]) -> Result<Vec<VariableBinding<'_>
 /// How many numbers `read_binding_at` writes.
 const PLACES: usize = 5;
 
-/// Reads the binding that begins at the place `at` of a list: into the front of `arcs` its name, and into that of `numbers` how many
-/// arcs they are, the tag of the value, the place of its content, its length in octets, and the place after the binding.
+/// Reads the binding that begins at the place `at` of a list: into the front of `arcs` its name, and into
+/// that of `numbers` how many arcs they are, the tag of the value, the place of its content, its length in
+/// octets, and the place after the binding.
 ///
-/// The errors are BadArgument, where the place is behind the list; BadBindings, exactly where no binding begins there; and
-/// ShortBuffer. They leave the buffers as they were.
+/// The errors are BadArgument, where the place is behind the list; BadBindings, exactly where no binding
+/// begins there; and ShortBuffer. They leave the buffers as they were.
 pub fn read_binding_at(
     list: &[u8],
     at: usize,
@@ -108,7 +109,8 @@ fn binding_text(alloc: Global, name: &Oid, tag: u8, content: &[u8]) -> Result<Ve
     requires name { IsObjectId name.now }
     requires tag { IsTag tag }
     requires fits { length content.now ≤ LARGEST }
-    ensures { IfOk result (λ text. text.items ≡ variable_text (record { name = name.now; tag = tag; content = content.now })) }
+    ensures { IfOk result
+        (λ text. text.items ≡ variable_text (record { name = name.now; tag = tag; content = content.now })) }
 {
     let mut parts = Vec::new(alloc);
     put_oid(&mut parts, name)?;
@@ -118,12 +120,12 @@ fn binding_text(alloc: Global, name: &Oid, tag: u8, content: &[u8]) -> Result<Ve
     Ok(text)
 }
 
-/// Writes a binding of these arcs, with this tag and this content of its value, in its shortest spelling, to the front of the
-/// buffer, and tells how many octets it has.
+/// Writes a binding of these arcs, with this tag and this content of its value, in its shortest spelling, to
+/// the front of the buffer, and tells how many octets it has.
 ///
-/// The errors are BadArgument, where the arcs are no identifier's that can be spelled, the tag's low five bits are all ones
-/// or it is above 255, or the content has more than 65,507 octets; want of memory; and ShortBuffer, which tells the octets too.
-/// They leave the buffer as it was.
+/// The errors are BadArgument, where the arcs are no identifier's that can be spelled, the tag's low five
+/// bits are all ones or it is above 255, or the content has more than 65,507 octets; want of memory; and
+/// ShortBuffer, which tells the octets too. They leave the buffer as it was.
 pub fn write_binding(
     alloc: Global,
     arcs: &[u32],

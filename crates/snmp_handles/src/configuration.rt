@@ -1,7 +1,9 @@
 //! Why a configuration is refused, for callers in other languages.
 
 ghost use Rattle.std.specs.Prelude.{◌≡◌, IfOk};
-ghost use Rattle.snmp_handles.specs.Configurations.{TellsConfig, IsTold, numbers_of as numbers_by, row_numbers, table_number as table_by, key_number as key_by, wrong_number as wrong_by};
+ghost use Rattle.snmp_handles.specs.Configurations.{TellsConfig, IsTold, numbers_of as numbers_by, row_numbers};
+ghost use Rattle.snmp_handles.specs.Configurations.{table_number as table_by, key_number as key_by};
+ghost use Rattle.snmp_handles.specs.Configurations.{wrong_number as wrong_by};
 
 use crate::fault::CallFault;
 use crate::parts::copied;
@@ -12,17 +14,20 @@ use std::alloc::{AllocError, Global};
 /// How many numbers tell a fault.
 const NUMBERS: usize = 4;
 
-/// Tells why this text is refused as a configuration, as `snmpsec check-config` does: Ok where it isn't, and no octet is written then.
+/// Tells why this text is refused as a configuration, as `snmpsec check-config` does: Ok where it isn't, and
+/// no octet is written then.
 ///
-/// Where it is refused, the error is BadConfiguration. Then the first four of the numbers are the table (0 none, 1 user, 2 context, 3 group,
-/// 4 access, 5 family), the row's position in it from 0, the fault (1 no TOML, 2 a key at the top, 3 a key that the table doesn't list, 4
-/// a key that is missing, 5 a value that isn't what is wanted, 6 BadUser, 7 ShortPassword, 8 DuplicateUser, 9 BadRow, 10 Duplicate) and the
-/// key that is missing or has that value (0 none, 1 name, 2 auth, 3 auth-password, 4 priv-password, 5 model, 6 group, 7 prefix, 8
-/// level, 9 match, 10 read, 11 write, 12 notify, 13 view, 14 subtree, 15 include, 16 mask). The buffer has two lines: the refusal, and what
-/// is wrong and what is wanted.
+/// Where it is refused, the error is BadConfiguration. Then the first four of the numbers are the table (0
+/// none, 1 user, 2 context, 3 group, 4 access, 5 family), the row's position in it from 0, the fault (1 no
+/// TOML, 2 a key at the top, 3 a key that the table doesn't list, 4 a key that is missing, 5 a value that
+/// isn't what is wanted, 6 BadUser, 7 ShortPassword, 8 DuplicateUser, 9 BadRow, 10 Duplicate) and the key
+/// that is missing or has that value (0 none, 1 name, 2 auth, 3 auth-password, 4 priv-password, 5 model, 6
+/// group, 7 prefix, 8 level, 9 match, 10 read, 11 write, 12 notify, 13 view, 14 subtree, 15 include, 16
+/// mask). The buffer has two lines: the refusal, and what is wrong and what is wanted.
 ///
-/// The other errors are BadArgument, where there are fewer than four numbers; want of memory, which writes nothing; and ShortBuffer, where
-/// the text is longer than the buffer: then the numbers are told, and how many octets the text has.
+/// The other errors are BadArgument, where there are fewer than four numbers; want of memory, which writes
+/// nothing; and ShortBuffer, where the text is longer than the buffer: then the numbers are told, and how
+/// many octets the text has.
 pub fn tell_config(
     alloc: Global,
     config: &[u8],

@@ -1,5 +1,6 @@
-//! What an agent does with what it accepted, besides answering it: how long the answer may be, whether anything answers it at all,
-//! the report where nothing does, and the counters (RFC 3412, sections 4.2.2 and 7.1; RFC 3413, section 3.2; RFC 3416, section 4.2).
+//! What an agent does with what it accepted, besides answering it: how long the answer may be, whether
+//! anything answers it at all, the report where nothing does, and the counters (RFC 3412, sections 4.2.2 and
+//! 7.1; RFC 3413, section 3.2; RFC 3416, section 4.2).
 
 ghost use Rattle.std.specs.Prelude.{◌≡◌, IfErr, IfOk, OnErr, Some, true};
 ghost use Rattle.std.specs.Int.{to_be_bytes, w64};
@@ -9,7 +10,8 @@ ghost use Rattle.snmp_outgoing.specs.Classes.{is_confirmed};
 ghost use Rattle.snmp_outgoing.specs.declared.counter.Counter.TheVariants.{SilentDrops};
 ghost use Rattle.snmp_handles.specs.Between.{CannotAnswer};
 ghost use Rattle.snmp_handles.specs.Parts.{TellsMaxSize};
-ghost use Rattle.snmp_handles.specs.Dispatch.{RespondsHeldWithin, RespondsHeldFront, AnswersWithin, AnswersFront, AnswersReport, IsHandled, TellsUnhandled, ReportsHeld};
+ghost use Rattle.snmp_handles.specs.Dispatch.{RespondsHeldWithin, RespondsHeldFront, AnswersWithin, AnswersFront};
+ghost use Rattle.snmp_handles.specs.Dispatch.{AnswersReport, IsHandled, TellsUnhandled, ReportsHeld};
 
 use crate::agent::AgentHandle;
 use crate::bindings::bindings_of;
@@ -21,10 +23,11 @@ use snmp_incoming::Kept;
 use snmp_outgoing::{Counter, Fronted, is_confirmed};
 use std::alloc::Global;
 
-/// Whether what was kept can be answered at all. The errors are NotAsked, where its PDU isn't of the Confirmed Class (RFC 3411, section
-/// 2.8), and those of `Agent::supports` for its user and its level.
+/// Whether what was kept can be answered at all. The errors are NotAsked, where its PDU isn't of the
+/// Confirmed Class (RFC 3411, section 2.8), and those of `Agent::supports` for its user and its level.
 pub(crate) fn can_answer(agent: &Agent, now: u64, kept: &Kept) -> Result<(), CallFault>
-    ensures ok { IfOk result (λ _. (is_confirmed kept.now.tag ≡ true) × CanSendAt agent.now now kept.now.user kept.now.level) }
+    ensures ok { IfOk result
+        (λ _. (is_confirmed kept.now.tag ≡ true) × CanSendAt agent.now now kept.now.user kept.now.level) }
     ensures err { IfErr result (CannotAnswer agent.now now kept.now) }
 {
     let taken = kept.taken();
@@ -46,7 +49,8 @@ fn response_within(
     reply: &Reply<'_>,
     limit: u32,
 ) -> Result<Vec<u8>, CallFault>
-    ensures answer { AnswersWithin agent.old now kept.now reply.now.status reply.now.index reply.now.list.now reply.now.salt limit result }
+    ensures answer { AnswersWithin agent.old now kept.now reply.now.status reply.now.index reply.now.list.now
+        reply.now.salt limit result }
     ensures same { agent.new ≡ agent.old }
 {
     can_answer(agent, now, kept)?;
@@ -67,7 +71,8 @@ fn response_within(
     }
 }
 
-/// The Response to what was kept, which says this, with the longest front of its bindings that has room within `limit` octets.
+/// The Response to what was kept, which says this, with the longest front of its bindings that has room
+/// within `limit` octets.
 fn response_front(
     alloc: Global,
     agent: &mut Agent,
@@ -76,7 +81,8 @@ fn response_front(
     reply: &Reply<'_>,
     limit: u32,
 ) -> Result<Fronted, CallFault>
-    ensures answer { AnswersFront agent.old now kept.now reply.now.status reply.now.index reply.now.list.now reply.now.salt limit result }
+    ensures answer { AnswersFront agent.old now kept.now reply.now.status reply.now.index reply.now.list.now
+        reply.now.salt limit result }
     ensures same { agent.new ≡ agent.old }
 {
     can_answer(agent, now, kept)?;
@@ -117,15 +123,16 @@ fn refusal(
 }
 
 impl AgentHandle {
-    /// The sender's msgMaxSize, 484 to 2147483647: how long a Response to what is kept may be. The error is NothingTaken.
+    /// The sender's msgMaxSize, 484 to 2147483647: how long a Response to what is kept may be. The error is
+    /// NothingTaken.
     pub fn max_size(&self) -> Result<u32, CallFault>
         ensures { TellsMaxSize self.now.last result }
     {
         max_size_of(&self.last)
     }
 
-    /// What `respond` writes where that has at most `limit` octets, and else TooLarge (16), as `Agent::respond_within` does. On an
-    /// error nothing changes.
+    /// What `respond` writes where that has at most `limit` octets, and else TooLarge (16), as
+    /// `Agent::respond_within` does. On an error nothing changes.
     ///
     /// The errors are those of `respond`, in its order.
     pub fn respond_within(
@@ -154,11 +161,12 @@ impl AgentHandle {
         }
     }
 
-    /// Writes the Response with as many of the bindings, from the first on, as have room within `limit` octets, as
-    /// `Agent::respond_front` does, leaves it to be sent, and tells how many they are. One text is sealed, whatever is left out.
+    /// Writes the Response with as many of the bindings, from the first on, as have room within `limit`
+    /// octets, as `Agent::respond_front` does, leaves it to be sent, and tells how many they are. One text is
+    /// sealed, whatever is left out.
     ///
-    /// The errors are those of `respond`, in its order; TooLarge (16) means that there is no room even for a Response without bindings.
-    /// They leave all as it was.
+    /// The errors are those of `respond`, in its order; TooLarge (16) means that there is no room even for a
+    /// Response without bindings. They leave all as it was.
     pub fn respond_front(
         &mut self,
         now: u64,
@@ -185,8 +193,8 @@ impl AgentHandle {
         }
     }
 
-    /// Why no application of the agent answers what is kept, as `Agent::unhandled` has it, or None where it is to be answered. The
-    /// error is NothingTaken.
+    /// Why no application of the agent answers what is kept, as `Agent::unhandled` has it, or None where it
+    /// is to be answered. The error is NothingTaken.
     pub fn unhandled(&self) -> Result<Option<Unhandled>, CallFault>
         ensures { TellsUnhandled self.now result }
     {
@@ -196,8 +204,8 @@ impl AgentHandle {
         }
     }
 
-    /// Counts what is kept as one that isn't answered, and leaves the report on it to be sent, as `Agent::refuse` does; where there is
-    /// no report, nothing is to be sent.
+    /// Counts what is kept as one that isn't answered, and leaves the report on it to be sent, as
+    /// `Agent::refuse` does; where there is no report, nothing is to be sent.
     ///
     /// The errors are NothingTaken and those of `Agent::refuse`; nothing changes then.
     pub fn refuse(&mut self, now: u64, why: Unhandled, salt: u64) -> Result<(), CallFault>
@@ -225,7 +233,8 @@ impl AgentHandle {
 
     /// Counts what is kept in snmpSilentDrops: even its answer without bindings is too long (RFC 3416, section 4.2.1).
     pub fn silent_drop(&mut self)
-        ensures { self.new ≡ record self.old { agent = record self.old.agent { counts = one_more self.old.agent.counts (Some SilentDrops) } } }
+        ensures { self.new ≡ record self.old
+            { agent = record self.old.agent { counts = one_more self.old.agent.counts (Some SilentDrops) } } }
     {
         self.agent.silent_drop()
     }

@@ -1,7 +1,8 @@
 //! Why a call of a handle isn't done.
 
 ghost use Rattle.std.specs.Prelude.{◌≡◌};
-ghost use Rattle.snmp_handles.specs.Faults.{code, access_code, value_code, answer_code, fault_code, unhandled_code, IsStatusCode};
+ghost use Rattle.snmp_handles.specs.Faults.{code, access_code, value_code, answer_code, fault_code, unhandled_code};
+ghost use Rattle.snmp_handles.specs.Faults.{IsStatusCode};
 
 use crate::numbers::{access_of, unhandled_number};
 use snmp_agent::{Unhandled, status_of};
@@ -79,8 +80,8 @@ pub fn value_code_of(told: Result<u32, CallFault>) -> i64
     }
 }
 
-/// The number of what an accepted message is to a request: 0 its Response, 1 neither, 10 a Report that names no counter, and 11 to 16
-/// a Report of the counter 1 to 6; or the fault's.
+/// The number of what an accepted message is to a request: 0 its Response, 1 neither, 10 a Report that names
+/// no counter, and 11 to 16 a Report of the counter 1 to 6; or the fault's.
 pub fn answer_code_of(told: Result<Answer, CallFault>) -> i32
     ensures { result ≡ answer_code told }
 {
@@ -92,8 +93,8 @@ pub fn answer_code_of(told: Result<Answer, CallFault>) -> i32
     }
 }
 
-/// The number of why nothing answers what is kept: 0 where it is to be answered, 1 where no request waits for it, or the number of its
-/// counter: 7 snmpUnknownPDUHandlers, 9 snmpUnknownContexts; or the fault's.
+/// The number of why nothing answers what is kept: 0 where it is to be answered, 1 where no request waits for
+/// it, or the number of its counter: 7 snmpUnknownPDUHandlers, 9 snmpUnknownContexts; or the fault's.
 pub fn unhandled_code_of(told: Result<Option<Unhandled>, CallFault>) -> i32
     ensures { result ≡ unhandled_code told }
 {
@@ -103,8 +104,9 @@ pub fn unhandled_code_of(told: Result<Option<Unhandled>, CallFault>) -> i32
     }
 }
 
-/// The number of what becomes of a variable for which access was answered by this number, in a request whose PDU has this tag, as
-/// `Status::number` has it; or that of BadArgument, where no answer has the number or the tag is above 255.
+/// The number of what becomes of a variable for which access was answered by this number, in a request whose
+/// PDU has this tag, as `Status::number` has it; or that of BadArgument, where no answer has the number or
+/// the tag is above 255.
 pub fn status_code_of(access: u32, tag: u32) -> i32
     ensures { IsStatusCode access tag result }
 {

@@ -1,5 +1,6 @@
-//! An agent and a manager for callers in other languages. Each keeps the message that it accepted last and the message that it
-//! wrote last. Calls take plain numbers and octets, and write into the caller's buffers. A value out of range is a fault of the call.
+//! An agent and a manager for callers in other languages. Each keeps the message that it accepted last and
+//! the message that it wrote last. Calls take plain numbers and octets, and write into the caller's buffers.
+//! A value out of range is a fault of the call.
 //!
 //! ```
 //! use snmp_handles::AgentHandle;

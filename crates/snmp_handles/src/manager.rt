@@ -7,7 +7,8 @@ ghost use Rattle.snmp_msg.specs.Pdu.{PduParts, PduText};
 ghost use Rattle.snmp_incoming.specs.Outcome.{Given};
 ghost use Rattle.snmp_manager.specs.Replies.{IsAnswer};
 ghost use Rattle.snmp_manager.specs.Takes.{TakesNoMemory};
-ghost use Rattle.snmp_handles.specs.Managers.{MakesManager, ClearsManager, ManagerTakes, TellsAnswer, DiscoversHeld, RequestsHeld, AbsorbsHeld, SavesHeld, TellsPair};
+ghost use Rattle.snmp_handles.specs.Managers.{MakesManager, ClearsManager, ManagerTakes, TellsAnswer, DiscoversHeld};
+ghost use Rattle.snmp_handles.specs.Managers.{RequestsHeld, AbsorbsHeld, SavesHeld, TellsPair};
 ghost use Rattle.snmp_handles.specs.Parts.{CopiesPart, CopiesMessage, AreNumbersOf};
 ghost use Rattle.snmp_handles.specs.Asked.{AnswersRequest, asking_of};
 
@@ -44,7 +45,12 @@ impl Model for ManagerHandle {
 
     ghost coded = { Prim.hlevel (codes, marks_code) };
 
-    ghost view = { λ h. record { manager = h.manager; last = h.last; message = option_map (λ v. v.items) h.message; pending = h.pending } };
+    ghost view = { λ h. record {
+      manager = h.manager;
+      last = h.last;
+      message = option_map (λ v. v.items) h.message;
+      pending = h.pending;
+    } };
 }
 
 /// What a request asks, and of whom.
@@ -72,7 +78,8 @@ pub struct AskedOf<'a> {
 
 /// What the message that was kept is to the request.
 fn answer(kept: &Kept, pending: &Pending) -> Answer
-    ensures { (c : Contexts) (p : PduParts) → ScopedFront kept.now.text c → PduText c.pdu p → IsAnswer pending.now kept.now c p result }
+    ensures { (c : Contexts) (p : PduParts) → ScopedFront kept.now.text c → PduText c.pdu p
+        → IsAnswer pending.now kept.now c p result }
 {
     let taken = kept.taken();
     answer_of(pending, &taken)
@@ -111,8 +118,8 @@ fn request(
 }
 
 impl ManagerHandle {
-    /// A manager with the users of this configuration, in TOML, that begins with the clocks of this saved text, where the marks
-    /// of version 1 were seen at the moment `now`.
+    /// A manager with the users of this configuration, in TOML, that begins with the clocks of this saved
+    /// text, where the marks of version 1 were seen at the moment `now`.
     ///
     /// The errors are BadClocks, then BadConfiguration, or want of memory.
     pub fn of(
@@ -158,13 +165,15 @@ impl ManagerHandle {
         Ok(())
     }
 
-    /// Takes a datagram at the moment `now`, as `Manager::take` does, and keeps it where it is accepted. The request that is waited
-    /// for stays.
+    /// Takes a datagram at the moment `now`, as `Manager::take` does, and keeps it where it is accepted. The
+    /// request that is waited for stays.
     ///
-    /// The errors are the refusals of `Manager::take`, and want of memory, which leaves the manager as it was: nothing is learned.
+    /// The errors are the refusals of `Manager::take`, and want of memory, which leaves the manager as it
+    /// was: nothing is learned.
     pub fn take(&mut self, now: u64, datagram: &[u8]) -> Result<(), CallFault>
         ensures takes { ManagerTakes self.old now datagram.now result self.new }
-        ensures no_memory { TakesNoMemory self.old.manager now datagram.now → result ≢ Err (CallFault.Refused TakeFault.OutOfMemory) }
+        ensures no_memory { TakesNoMemory self.old.manager now datagram.now
+            → result ≢ Err (CallFault.Refused TakeFault.OutOfMemory) }
     {
         self.last = None;
         self.message = None;
@@ -177,8 +186,8 @@ impl ManagerHandle {
         }
     }
 
-    /// What the message that is kept is to the request that was written last (RFC 3412, section 7.2, steps 10 to 12). The error
-    /// is NothingTaken, where no message is kept or no request was written.
+    /// What the message that is kept is to the request that was written last (RFC 3412, section 7.2, steps 10
+    /// to 12). The error is NothingTaken, where no message is kept or no request was written.
     pub fn answer(&self) -> Result<Answer, CallFault>
         ensures { TellsAnswer self.now result }
     {
@@ -188,12 +197,12 @@ impl ManagerHandle {
         }
     }
 
-    /// Writes a request with the bindings that these octets are, as `Manager::request` does, leaves it to be sent and waits for
-    /// its answer. On an error nothing changes.
+    /// Writes a request with the bindings that these octets are, as `Manager::request` does, leaves it to be
+    /// sent and waits for its answer. On an error nothing changes.
     ///
-    /// The errors are, the first that applies: BadArgument, where a number of `of` is out of its range, the engine ID hasn't 5 to 32
-    /// octets or the name is longer than 32; those of `Manager::supports`; then BadBindings, TooLarge (16), or want of memory,
-    /// whichever is met first.
+    /// The errors are, the first that applies: BadArgument, where a number of `of` is out of its range, the
+    /// engine ID hasn't 5 to 32 octets or the name is longer than 32; those of `Manager::supports`; then
+    /// BadBindings, TooLarge (16), or want of memory, whichever is met first.
     pub fn request(
         &mut self,
         now: u64,
@@ -217,8 +226,9 @@ impl ManagerHandle {
         }
     }
 
-    /// Writes the request by which an engine is discovered (RFC 3414, section 4), leaves it to be sent and waits for its answer. On
-    /// an error nothing changes. The errors are BadArgument, where the msgID is above 2147483647, and want of memory.
+    /// Writes the request by which an engine is discovered (RFC 3414, section 4), leaves it to be sent and
+    /// waits for its answer. On an error nothing changes. The errors are BadArgument, where the msgID is
+    /// above 2147483647, and want of memory.
     pub fn discover(&mut self, id: u32) -> Result<(), CallFault>
         ensures { DiscoversHeld self.old id result self.new }
     {
@@ -235,8 +245,8 @@ impl ManagerHandle {
         }
     }
 
-    /// Joins in the clocks of this saved text, where the marks of version 1 were seen at the moment `now`. On an error nothing
-    /// changes. The errors are BadClocks and want of memory.
+    /// Joins in the clocks of this saved text, where the marks of version 1 were seen at the moment `now`. On
+    /// an error nothing changes. The errors are BadClocks and want of memory.
     pub fn absorb(&mut self, text: &[u8], now: u64) -> Result<(), CallFault>
         ensures { AbsorbsHeld self.old text.now now result self.new }
     {
@@ -296,7 +306,8 @@ impl ManagerHandle {
 
     /// The level, the PDU's tag, request-id, second and third number, and msgID of what is kept.
     pub fn numbers(&self) -> Option<[i32; 6]>
-        ensures { MatchOption result (self.now.last ≡ None) (λ numbers. (g : Given) × (self.now.last ≡ Some g) × AreNumbersOf g numbers) }
+        ensures { MatchOption result (self.now.last ≡ None)
+            (λ numbers. (g : Given) × (self.now.last ≡ Some g) × AreNumbersOf g numbers) }
     {
         match &self.last {
             Some(kept) => Some(numbers_of(kept)),

@@ -53,8 +53,9 @@ pub(crate) fn access_of(number: u32) -> Option<Access>
     }
 }
 
-/// The counter of this number, behind usmStats 1 to 6: 7 snmpUnknownPDUHandlers, 8 snmpUnavailableContexts, 9 snmpUnknownContexts, 10
-/// snmpInBadVersions, 11 snmpInASNParseErrs, 12 snmpUnknownSecurityModels, 13 snmpInvalidMsgs, 14 snmpSilentDrops.
+/// The counter of this number, behind usmStats 1 to 6: 7 snmpUnknownPDUHandlers, 8 snmpUnavailableContexts, 9
+/// snmpUnknownContexts, 10 snmpInBadVersions, 11 snmpInASNParseErrs, 12 snmpUnknownSecurityModels, 13
+/// snmpInvalidMsgs, 14 snmpSilentDrops.
 pub fn counter_of(number: u32) -> Option<Counter>
     ensures { result ≡ spec.counter_of number }
 {

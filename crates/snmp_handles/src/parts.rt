@@ -43,8 +43,8 @@ impl Part {
     }
 }
 
-/// Copies the octets to the front of the buffer, and tells how many they are. The error is ShortBuffer, which leaves the
-/// buffer as it was.
+/// Copies the octets to the front of the buffer, and tells how many they are. The error is ShortBuffer, which
+/// leaves the buffer as it was.
 pub(crate) fn copied(octets: &[u8], out: &mut [u8], written: &mut usize) -> Result<(), CallFault>
     ensures { Copies octets.now out.old out.new written.new result }
 {
@@ -72,8 +72,8 @@ fn copied_of(kept: &Kept, part: Part, out: &mut [u8], written: &mut usize) -> Re
     }
 }
 
-/// Copies a part of what is kept to the front of the buffer, and tells how many octets it has. The errors are NothingTaken, and
-/// ShortBuffer, which tells the octets too; either leaves the buffer as it was.
+/// Copies a part of what is kept to the front of the buffer, and tells how many octets it has. The errors are
+/// NothingTaken, and ShortBuffer, which tells the octets too; either leaves the buffer as it was.
 pub fn copied_part(
     last: &Option<Kept>,
     part: Part,
@@ -88,7 +88,8 @@ pub fn copied_part(
     }
 }
 
-/// Copies the message that is to be sent in the same way. The errors are NothingTaken, where there is none, and ShortBuffer.
+/// Copies the message that is to be sent in the same way. The errors are NothingTaken, where there is none,
+/// and ShortBuffer.
 pub fn copied_message(
     message: &Option<Vec<u8>>,
     out: &mut [u8],

@@ -14,7 +14,8 @@ use snmp_manager::{Answer, Pending, Report, report_of};
 
 /// What the message that was kept tells, where it is a Report on the request.
 fn report(kept: &Kept, pending: &Pending) -> Option<Report>
-    ensures { (c : Contexts) (p : PduParts) → ScopedFront kept.now.text c → PduText c.pdu p → IsReport pending.now kept.now p result }
+    ensures { (c : Contexts) (p : PduParts) → ScopedFront kept.now.text c → PduText c.pdu p
+        → IsReport pending.now kept.now p result }
 {
     let taken = kept.taken();
     report_of(pending, &taken)
@@ -28,8 +29,9 @@ impl ManagerHandle {
         max_size_of(&self.last)
     }
 
-    /// What the message that is kept is to the request that is waited for, as `answer` has it. Its Response isn't waited for any more:
-    /// the same message again is NothingTaken. The error is NothingTaken, where no message is kept or no request is waited for.
+    /// What the message that is kept is to the request that is waited for, as `answer` has it. Its Response
+    /// isn't waited for any more: the same message again is NothingTaken. The error is NothingTaken, where no
+    /// message is kept or no request is waited for.
     pub fn take_answer(&mut self) -> Result<Answer, CallFault>
         ensures { TakesAnswer self.old result self.new }
     {
@@ -44,8 +46,8 @@ impl ManagerHandle {
         }
     }
 
-    /// What the message that is kept tells, where it is a Report on the request that is waited for, as `report_of` has it. The error is
-    /// NothingTaken, where no message is kept or no request is waited for.
+    /// What the message that is kept tells, where it is a Report on the request that is waited for, as
+    /// `report_of` has it. The error is NothingTaken, where no message is kept or no request is waited for.
     pub fn report(&self) -> Result<Option<Report>, CallFault>
         ensures { TellsReport self.now result }
     {

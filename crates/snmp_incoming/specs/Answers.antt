@@ -9,7 +9,15 @@ use Rattle.snmp_incoming.specs.Texts.{text_of, FrontOf, PduOf}
 use Rattle.snmp_incoming.specs.Outcome.{Given, IsTextOf}
 
 abbrev pub given_of : Taken → Given
-given_of t = record { engine = t.engine; user = t.user.now; level = t.level; id = t.id; max_size = t.max_size; tag = t.tag; text = text_of t.text }
+given_of t = record {
+  engine = t.engine;
+  user = t.user.now;
+  level = t.level;
+  id = t.id;
+  max_size = t.max_size;
+  tag = t.tag;
+  text = text_of t.text;
+}
 
 abbrev pub refused : Option ℕ → Option (Result Given ℕ)
 refused None = None
@@ -34,7 +42,8 @@ IsOpening users w v (Some text) = (v.parts.header.privacy ≡ true → length v.
 -- The number is why the text has no PDU.
 abbrev pub RefusesNumber : List ℕ → Option ℕ → Type 0
 RefusesNumber text None = ⊥
-RefusesNumber text (Some n) = ((n ≡ 12) × (FrontOf text → ⊥)) ⊎ ((n ≡ 13) × ((s : FrontOf text) × (PduOf s.contexts.pdu → ⊥)))
+RefusesNumber text (Some n) = ((n ≡ 12) × (FrontOf text → ⊥))
+    ⊎ ((n ≡ 13) × ((s : FrontOf text) × (PduOf s.contexts.pdu → ⊥)))
 
 -- The fault is why the text has no PDU.
 abbrev pub RefusesText : List ℕ → TakeFault → Type 0

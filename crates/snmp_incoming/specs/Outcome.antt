@@ -1,5 +1,5 @@
--- What a datagram is answered: the table of refusals, each row a condition on the whole datagram, and the first that fails
--- answers (after RFC 3412, section 7.2, and RFC 3414, section 3.2).
+-- What a datagram is answered: the table of refusals, each row a condition on the whole datagram, and the
+-- first that fails answers (after RFC 3412, section 7.2, and RFC 3414, section 3.2).
 use Rattle.std.specs.Prelude.{◌≡◌, ◌≤◌, ◌-◌, ℕ, List, length, drop, true, Result, Some, MatchBool}
 use Rattle.snmp_ber.specs.declared.level.Level.{Level}
 use Rattle.snmp_message.specs.Level.{level_of}
@@ -23,11 +23,12 @@ pub record Given : Type 0 where
   pub max_size : ℕ
   -- the tag of the PDU
   pub tag : ℕ
-  -- The octets that begin with the ScopedPDU: the datagram from msgData on, or where priv is set what msgData is opened to.
+  -- The octets that begin with the ScopedPDU: the datagram from msgData on, or where priv is set what msgData
+  -- is opened to.
   pub text : List ℕ
 
--- Who takes the datagram: an agent with its engine, its boots and the moment of its start, or a manager with the marks that
--- it holds once the message's own has come in.
+-- Who takes the datagram: an agent with its engine, its boots and the moment of its start, or a manager with
+-- the marks that it holds once the message's own has come in.
 pub data Taker : Type 0 where
   as_agent : (engine : List ℕ) (boots started : ℕ) → Taker
   as_manager : (held : Marks) → Taker
@@ -51,7 +52,8 @@ pair_in v = record { boots = v.fields.boots; time = v.fields.time }
 
 -- the pair is in the window of the mark that is held of the engine
 abbrev pub IsFreshAt : Marks → List ℕ → BootsAndTime → ℕ → Type 0
-IsFreshAt held engine pair now = (mark : SeenPair) × (mark_at held engine ≡ Some mark) × InManagerWindow mark.pair (notion_at now mark) pair
+IsFreshAt held engine pair now = (mark : SeenPair) × (mark_at held engine ≡ Some mark)
+    × InManagerWindow mark.pair (notion_at now mark) pair
 
 -- the message is in the time window (RFC 3414, section 3.2, step 7)
 abbrev pub IsFresh : Taker → ℕ → Verified → Type 0
@@ -61,14 +63,23 @@ IsFresh (as_manager held) now v = IsFreshAt held v.fields.engine (pair_in v) now
 -- The text is what msgData is opened to where priv is set, or else the datagram from msgData on.
 abbrev pub IsTextOf : List User → List ℕ → Verified → List ℕ → Type 0
 IsTextOf users w v text =
-    MatchBool v.parts.header.privacy (IsPlaintext users v.fields v.parts.data_content text) (text ≡ drop v.parts.data_at w)
+    MatchBool v.parts.header.privacy (IsPlaintext users v.fields v.parts.data_content text)
+    (text ≡ drop v.parts.data_at w)
 
 -- the rows on the ScopedPDU that the text begins with
 unfoldable pub ReadsText : Verified → List ℕ → Result Given ℕ → Type 0
 ReadsText v text =
     Needs (FrontOf text) 12 (λ s.
     Needs (PduOf s.contexts.pdu) 13 (λ p.
-    Gives (record { engine = v.fields.engine; user = v.fields.user; level = level_of v.parts.header; id = v.parts.header.id; max_size = v.parts.header.max_size; tag = p.pdu.tag; text = text })))
+    Gives (record {
+      engine = v.fields.engine;
+      user = v.fields.user;
+      level = level_of v.parts.header;
+      id = v.parts.header.id;
+      max_size = v.parts.header.max_size;
+      tag = p.pdu.tag;
+      text = text;
+    })))
 
 -- the same of the text that the message has
 abbrev pub ReadsMessage : List User → List ℕ → Verified → Result Given ℕ → Type 0

@@ -6,7 +6,11 @@ use Rattle.snmp_message.specs.Numbers.{refusal_number, refusal_name}
 use Rattle.usm_core.specs.declared.fault.UsmFault.{UsmFault}
 use Rattle.usm_core.specs.Refusals as usm
 use Rattle.snmp_incoming.specs.declared.fault.TakeFault.{TakeFault}
-use Rattle.snmp_incoming.specs.declared.fault.TakeFault.TheVariants.{NotMessage, BadVersion, NotSecurity, NotScoped, UnknownEngine, UnknownUser, UnsupportedLevel, WrongDigest, NotInWindow, DecryptionError, BadScoped, BadPdu, OutOfMemory, ClockExhausted, TooLarge, UnknownModel, InvalidFlags}
+use Rattle.snmp_incoming.specs.declared.fault.TakeFault.TheVariants.{NotMessage, BadVersion, NotSecurity, NotScoped}
+use Rattle.snmp_incoming.specs.declared.fault.TakeFault.TheVariants.{UnknownEngine, UnknownUser, UnsupportedLevel}
+use Rattle.snmp_incoming.specs.declared.fault.TakeFault.TheVariants.{WrongDigest, NotInWindow, DecryptionError}
+use Rattle.snmp_incoming.specs.declared.fault.TakeFault.TheVariants.{BadScoped, BadPdu, OutOfMemory, ClockExhausted}
+use Rattle.snmp_incoming.specs.declared.fault.TakeFault.TheVariants.{TooLarge, UnknownModel, InvalidFlags}
 
 abbrev pub refusal_of : TakeFault → Refusal
 refusal_of (NotMessage at) = refusals.NotMessage

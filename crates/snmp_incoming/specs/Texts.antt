@@ -39,7 +39,13 @@ pdu_read text = option_and_then (λ (c : Contexts). pdu_in c.pdu) (scoped_front_
 
 -- a PDU with this tag, with these numbers and the list at this place
 abbrev pub pdu_placed : List ℕ → ℕ → PduPlace → PduParts
-pdu_placed text tag p = record { tag = tag; id = p.id; second = p.second; third = p.third; list = slice_range text p.list_at p.end }
+pdu_placed text tag p = record {
+  tag = tag;
+  id = p.id;
+  second = p.second;
+  third = p.third;
+  list = slice_range text p.list_at p.end;
+}
 
 -- The PDU of the text has this tag, and its numbers and its list are those of the place.
 abbrev pub StandsThere : List ℕ → ℕ → PduPlace → Type 0

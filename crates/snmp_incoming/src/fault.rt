@@ -9,8 +9,9 @@ use std::error::Error;
 use std::fmt;
 use usm_core::UsmFault;
 
-/// A refusal of a datagram, or of a message that was to go out. Each has a number and a name, which the whole engine shares.
-/// A place counts octets from 0 in the datagram, and for BadScoped and BadPdu of a sealed message in what was decrypted.
+/// A refusal of a datagram, or of a message that was to go out. Each has a number and a name, which the whole
+/// engine shares. A place counts octets from 0 in the datagram, and for BadScoped and BadPdu of a sealed
+/// message in what was decrypted.
 #[derive(Clone, Copy, Debug, PartialEq, Eq, Drop)]
 pub enum TakeFault {
     /// 1: the datagram is no SNMPv3Message (RFC 3412, section 6).

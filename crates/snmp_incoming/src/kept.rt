@@ -33,10 +33,20 @@ impl Model for Kept {
 
     ghost Value = { Given };
 
-    ghost view = { λ k. record { engine = k.engine; user = k.user.items; level = k.level; id = k.id; max_size = k.max_size; tag = k.tag; text = k.text.items } };
+    ghost view = { λ k. record {
+      engine = k.engine;
+      user = k.user.items;
+      level = k.level;
+      id = k.id;
+      max_size = k.max_size;
+      tag = k.tag;
+      text = k.text.items;
+    } };
 
-    ghost invariant = { λ k. (length k.user.items ≤ 32) × (k.id ≤ 2147483647) × (484 ≤ k.max_size) × (k.max_size ≤ 2147483647) × ∥ HasTag k.text.items k.tag ∥₁
-        × ContextsThere k.text.items k.contexts × StandsThere k.text.items k.tag k.pdu × (k.pdu.list_at ≤ k.pdu.end) × (k.pdu.end ≤ length k.text.items) };
+    ghost invariant = { λ k. (length k.user.items ≤ 32) × (k.id ≤ 2147483647) × (484 ≤ k.max_size)
+        × (k.max_size ≤ 2147483647) × ∥ HasTag k.text.items k.tag ∥₁
+        × ContextsThere k.text.items k.contexts × StandsThere k.text.items k.tag k.pdu × (k.pdu.list_at ≤ k.pdu.end)
+        × (k.pdu.end ≤ length k.text.items) };
 }
 
 impl Kept {

@@ -1,5 +1,5 @@
-//! What a datagram is answered: the table of refusals, from RFC 3412, section 7.2, and RFC 3414, section 3.2; and what is
-//! given on of a datagram that none of them refuses.
+//! What a datagram is answered: the table of refusals, from RFC 3412, section 7.2, and RFC 3414, section 3.2;
+//! and what is given on of a datagram that none of them refuses.
 //!
 //! ```
 //! use snmp_incoming::TakeFault;

@@ -7,8 +7,8 @@ ghost use Rattle.snmp_incoming.specs.Texts.{pdu_read, pdu_placed};
 
 use snmp_msg::Pdu;
 
-/// The numbers of a PDU (RFC 3416, section 3), and where its list stands in the octets that begin with its ScopedPDU. Once it was
-/// read, no octet of it is read again.
+/// The numbers of a PDU (RFC 3416, section 3), and where its list stands in the octets that begin with its
+/// ScopedPDU. Once it was read, no octet of it is read again.
 #[derive(Clone, Copy, Debug)]
 pub(crate) struct PduPlace {
     /// request-id.

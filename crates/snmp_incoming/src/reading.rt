@@ -21,8 +21,9 @@ use snmp_msg::{MsgFault, ScopedPlace, place_scoped_front, plain_from_data, read_
 use std::alloc::AllocError;
 use usm_core::{Checked, Users, UsmFault};
 
-/// The octets that begin with the ScopedPDU of a message that `open_auth` gave of this datagram, or None where they can't be
-/// decrypted, since msgPrivacyParameters don't have the 8 octets of a salt (RFC 3826, section 3.2.1).
+/// The octets that begin with the ScopedPDU of a message that `open_auth` gave of this datagram, or None
+/// where they can't be decrypted, since msgPrivacyParameters don't have the 8 octets of a salt (RFC 3826,
+/// section 3.2.1).
 ///
 /// Memory is taken at authPriv alone, to decrypt; the error is want of it.
 pub fn scoped_octets<'a>(
@@ -31,10 +32,13 @@ pub fn scoped_octets<'a>(
     checked: &Checked<'a>,
 ) -> Result<Option<Octets<'a>>, AllocError>
     requires read { IsReadAs datagram.now (verified_of checked.now) }
-    requires private { checked.now.level ≡ AuthPriv → HasUserAt users.old.users checked.now.security.user.now AuthPriv × (tag_of checked.now.message.body ≡ 4) }
+    requires private { checked.now.level ≡ AuthPriv
+        → HasUserAt users.old.users checked.now.security.user.now AuthPriv × (tag_of checked.now.message.body ≡ 4) }
     ensures users { users.new.users ≡ users.old.users }
     ensures no_memory { checked.now.message.header.privacy ≡ false → IsOk result }
-    ensures opened { IfOk result (λ opening. IsOpening users.old.users datagram.now (verified_of checked.now) (option_map text_of opening)) }
+    ensures opened { IfOk result
+        (λ opening. IsOpening users.old.users datagram.now (verified_of checked.now)
+        (option_map text_of opening)) }
 {
     plain_from_data();
     match checked.level {
@@ -54,8 +58,8 @@ fn place(fault: MsgFault, base: usize) -> usize {
 
 /// What is given on of the message that `open_auth` gave, whose octets `scoped_octets` gave.
 ///
-/// The error is BadScoped (12), exactly where the octets don't begin with a ScopedPDU, or BadPdu (13), exactly where its data
-/// is no PDU. It takes no memory.
+/// The error is BadScoped (12), exactly where the octets don't begin with a ScopedPDU, or BadPdu (13),
+/// exactly where its data is no PDU. It takes no memory.
 pub fn read_text<'a>(
     checked: &Checked<'a>,
     engine: EngineId,
@@ -83,8 +87,8 @@ pub fn read_text<'a>(
     })
 }
 
-/// The tag of the PDU of the ScopedPDU that the text begins with, and where the contexts and the PDU stand. Places of faults count
-/// from `base`.
+/// The tag of the PDU of the ScopedPDU that the text begins with, and where the contexts and the PDU stand.
+/// Places of faults count from `base`.
 fn read_place(text: &[u8], base: usize) -> Result<(u8, ScopedPlace, PduPlace), TakeFault>
     ensures tag { IfOk result (λ found. HasTag text.now found.0) }
     ensures contexts { IfOk result (λ found. ContextsThere text.now found.1) }

@@ -41,15 +41,16 @@ impl<'a> Taken<'a> {
     ghost use Rattle.snmp_message.specs.Scoped.{ScopedFront, Contexts, contexts_of};
     ghost use Rattle.snmp_msg.specs.Pdu.{PduText, pdu_of};
 
-    /// The ScopedPDU (RFC 3412, section 6.8), as it was read when the datagram was taken. The place of its data counts from its own
-    /// first octet. It takes no memory.
+    /// The ScopedPDU (RFC 3412, section 6.8), as it was read when the datagram was taken. The place of its
+    /// data counts from its own first octet. It takes no memory.
     pub fn scoped(&self) -> Scoped<'_>
         ensures { ScopedFront (text_of self.now.text) (contexts_of result) }
     {
         self.contexts.lent(self.text.as_slice())
     }
 
-    /// The PDU, the data of the ScopedPDU (RFC 3416, section 3), as it was read when the datagram was taken. It takes no memory.
+    /// The PDU, the data of the ScopedPDU (RFC 3416, section 3), as it was read when the datagram was taken.
+    /// It takes no memory.
     pub fn pdu(&self) -> Pdu<'_>
         ensures is_pdu { (c : Contexts) → ScopedFront (text_of self.now.text) c → PduText c.pdu (pdu_of result) }
         ensures tag { result.tag ≡ self.now.tag }

@@ -1,5 +1,6 @@
 -- Managers that share saved marks: what each may know, and what a step does.
-use Rattle.std.specs.Prelude.{◌↔◌, Contains, ◌≡◌, ◌≢◌, ◌≤◌, ◌⊎◌, ℕ, suc, List, [], ◌∷◌, ◌++◌, length, take, slice_get, slice_set, Some, Result, Ok, Err}
+use Rattle.std.specs.Prelude.{◌↔◌, Contains, ◌≡◌, ◌≢◌, ◌≤◌, ◌⊎◌, ℕ, suc, List, [], ◌∷◌, ◌++◌, length, take, slice_get}
+use Rattle.std.specs.Prelude.{slice_set, Some, Result, Ok, Err}
 use Rattle.engine_clock.specs.Pairs.{BootsAndTime, IsGreatestOf}
 use Rattle.engine_clock.specs.Marks.{SeenPair, Marks, mark_at, pair_at, IsGreatestMarkOf, IsMarkJoinOf}
 use Rattle.engine_clock.specs.Saved.{AreMarks, listing}
@@ -30,8 +31,10 @@ pub record Knowing : Type 1 where
 -- Each manager begins with its marks, and each file with those that it lists.
 abbrev pub at_first : WorldState → Knowing
 at_first world = record {
-  managers = λ i engine mark. (held : Held) × (slice_get world.managers i ≡ Some held) × (mark_at held.clocks engine ≡ Some mark);
-  files = λ f engine mark. (marks : Marks) × AreMarks marks × (slice_get world.files f ≡ Some (listing marks)) × (mark_at marks engine ≡ Some mark);
+  managers = λ i engine mark. (held : Held) × (slice_get world.managers i ≡ Some held)
+      × (mark_at held.clocks engine ≡ Some mark);
+  files = λ f engine mark. (marks : Marks) × AreMarks marks × (slice_get world.files f ≡ Some (listing marks))
+      × (mark_at marks engine ≡ Some mark);
   saved = length world.files;
 }
 
@@ -68,8 +71,10 @@ knows_after_all users (event ∷ events) k = knows_after_all users events (knows
 
 -- Each manager and each file has the greatest of what is known there.
 pub record HasGreatest (k : Knowing) (world : WorldState) : Type 0 where
-  pub managers : (i : ℕ) (held : Held) → slice_get world.managers i ≡ Some held → (engine : List ℕ) → IsGreatestMarkOf (k.managers i engine) (mark_at held.clocks engine)
-  pub files : (f : ℕ) (marks : Marks) → AreMarks marks → slice_get world.files f ≡ Some (listing marks) → (engine : List ℕ) → IsGreatestMarkOf (k.files f engine) (mark_at marks engine)
+  pub managers : (i : ℕ) (held : Held) → slice_get world.managers i ≡ Some held → (engine : List ℕ)
+      → IsGreatestMarkOf (k.managers i engine) (mark_at held.clocks engine)
+  pub files : (f : ℕ) (marks : Marks) → AreMarks marks → slice_get world.files f ≡ Some (listing marks)
+      → (engine : List ℕ) → IsGreatestMarkOf (k.files f engine) (mark_at marks engine)
   pub saved : k.saved ≡ length world.files
 
 abbrev pub HaveUsers : List User → WorldState → Type 0
@@ -98,12 +103,16 @@ pub record Writes (managers : List Held) (i : ℕ) (old new : List (List ℕ)) :
 
 abbrev pub Steps : WorldState → Event → WorldState → Type 0
 Steps old (Take i now w) new =
-    Changes i (λ before after. LearnsFrom before.users now w.items before.clocks after.clocks) old.managers new.managers × (new.files ≡ old.files)
+    Changes i (λ before after. LearnsFrom before.users now w.items before.clocks after.clocks) old.managers
+    new.managers × (new.files ≡ old.files)
 Steps old (Save i) new = (new.managers ≡ old.managers) × Writes old.managers i old.files new.files
 Steps old (Absorb i f now) new =
-    ((marks : Marks) × Reads old.files f marks × Changes i (λ before after. IsMarkJoinOf before.clocks marks after.clocks) old.managers new.managers) × (new.files ≡ old.files)
+    ((marks : Marks) × Reads old.files f marks
+    × Changes i (λ before after. IsMarkJoinOf before.clocks marks after.clocks) old.managers new.managers)
+    × (new.files ≡ old.files)
 Steps old (Restart i f now) new =
-    ((marks : Marks) × Reads old.files f marks × Changes i (λ before after. after.clocks ≡ marks) old.managers new.managers) × (new.files ≡ old.files)
+    ((marks : Marks) × Reads old.files f marks
+    × Changes i (λ before after. after.clocks ≡ marks) old.managers new.managers) × (new.files ≡ old.files)
 
 -- the event names a manager or a file that doesn't exist
 abbrev pub NamesMissing : Event → WorldState → Type 0
@@ -112,10 +121,11 @@ NamesMissing (Save i) world = length world.managers ≤ i
 NamesMissing (Absorb i f now) world = (length world.managers ≤ i) ⊎ (length world.files ≤ f)
 NamesMissing (Restart i f now) world = (length world.managers ≤ i) ⊎ (length world.files ≤ f)
 
--- A take for which no memory is asked for: by a manager that is there, of a datagram that isn't sealed where it passes its digest,
--- and whose engine is held where it is authentic.
+-- A take for which no memory is asked for: by a manager that is there, of a datagram that isn't sealed where
+-- it passes its digest, and whose engine is held where it is authentic.
 abbrev pub TakesNoMemory : Event → WorldState → Type 0
-TakesNoMemory (Take i now w) world = (held : Held) × (slice_get world.managers i ≡ Some held) × IsPlain manager held.users w.items × HoldsAuthentic held w.items
+TakesNoMemory (Take i now w) world = (held : Held) × (slice_get world.managers i ≡ Some held)
+    × IsPlain manager held.users w.items × HoldsAuthentic held w.items
 TakesNoMemory (Save i) world = ⊥
 TakesNoMemory (Absorb i f now) world = ⊥
 TakesNoMemory (Restart i f now) world = ⊥
@@ -151,7 +161,8 @@ PairsOf S pair = (mark : SeenPair) × S mark × (mark.pair ≡ pair)
 
 -- each manager has the greatest of the pairs that it knows
 abbrev pub HasGreatestPairs : Knowing → WorldState → Type 0
-HasGreatestPairs k world = (i : ℕ) (held : Held) → slice_get world.managers i ≡ Some held → (engine : List ℕ) → IsGreatestOf (PairsOf (k.managers i engine)) (pair_at held.clocks engine)
+HasGreatestPairs k world = (i : ℕ) (held : Held) → slice_get world.managers i ≡ Some held → (engine : List ℕ)
+    → IsGreatestOf (PairsOf (k.managers i engine)) (pair_at held.clocks engine)
 
 -- ---- for the laws
 

@@ -14,19 +14,21 @@ octets_of taken = map (λ t. t.1) taken
 abbrev pub datagrams_of : List (ℕ × Vec ℕ) → List (List ℕ)
 datagrams_of taken = map (λ t. t.1.items) taken
 
--- The pairs of the engine for which some datagram of the list is authentic, and the pair that was held at the beginning. It
--- is a set: it has neither an order nor a moment.
+-- The pairs of the engine for which some datagram of the list is authentic, and the pair that was held at the
+-- beginning. It is a set: it has neither an order nor a moment.
 abbrev pub Known : List User → Option BootsAndTime → List (List ℕ) → List ℕ → BootsAndTime → Type 0
-Known users begin datagrams engine pair = (begin ≡ Some pair) ⊎ ((w : List ℕ) × Contains datagrams w × Authentic users w engine pair)
+Known users begin datagrams engine pair = (begin ≡ Some pair)
+    ⊎ ((w : List ℕ) × Contains datagrams w × Authentic users w engine pair)
 
 -- the pair is the greatest that is known, or None where none is
 abbrev pub IsLatest : List User → Option BootsAndTime → List (List ℕ) → List ℕ → Option BootsAndTime → Type 0
 IsLatest users begin datagrams engine found = IsGreatestOf (Known users begin datagrams engine) found
 
--- The same with moments: the marks of the engine are the one that was held at the beginning, and the pair of each authentic datagram of
--- the list, seen at the datagram's moment.
+-- The same with moments: the marks of the engine are the one that was held at the beginning, and the pair of
+-- each authentic datagram of the list, seen at the datagram's moment.
 abbrev pub KnownMark : List User → Option SeenPair → List (ℕ × List ℕ) → List ℕ → SeenPair → Type 0
-KnownMark users begin taken engine mark = (begin ≡ Some mark) ⊎ ((w : List ℕ) × Contains taken (mark.seen, w) × Authentic users w engine mark.pair)
+KnownMark users begin taken engine mark = (begin ≡ Some mark)
+    ⊎ ((w : List ℕ) × Contains taken (mark.seen, w) × Authentic users w engine mark.pair)
 
 -- the mark is the greatest that is known, or None where none is: the greatest pair, seen at the earliest of its moments
 abbrev pub IsLatestMark : List User → Option SeenPair → List (ℕ × List ℕ) → List ℕ → Option SeenPair → Type 0
@@ -34,4 +36,5 @@ IsLatestMark users begin taken engine found = IsGreatestMarkOf (KnownMark users 
 
 -- two lists have the same authentic datagrams
 abbrev pub HaveSameAuthentic : List User → List (List ℕ) → List (List ℕ) → Type 0
-HaveSameAuthentic users xs ys = (w engine : List ℕ) (pair : BootsAndTime) → Authentic users w engine pair → (Contains xs w ↔ Contains ys w)
+HaveSameAuthentic users xs ys = (w engine : List ℕ) (pair : BootsAndTime) → Authentic users w engine pair
+    → (Contains xs w ↔ Contains ys w)

@@ -7,7 +7,8 @@ use Rattle.usm_core.specs.Authentic.{Authentic}
 use Rattle.usm_core.specs.Verified.{Verified}
 use Rattle.snmp_incoming.specs.Outcome.{pair_in}
 
--- A pair came in at the moment `now`: the engine's mark has joined with it, so its pair has too, and other engines keep theirs.
+-- A pair came in at the moment `now`: the engine's mark has joined with it, so its pair has too, and other
+-- engines keep theirs.
 pub record Learns (engine : List ℕ) (pair : BootsAndTime) (now : ℕ) (old new : Marks) : Type 0 where
   pub mark : JoinsMark engine (seen_at pair now) old new
   pub pair_joined : JoinsPair engine pair old new

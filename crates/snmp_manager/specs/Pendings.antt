@@ -7,7 +7,8 @@ use Rattle.snmp_outgoing.specs.declared.front.Front.{Front}
 use Rattle.snmp_outgoing.specs.Sends.{send_refusal}
 use Rattle.snmp_manager.specs.declared.pending.Pending.{Pending}
 
-pub record Remembers (a : Pending) (id : ℕ) (engine user : List ℕ) (level : Level) (context_engine context_name : List ℕ) (request_id : ℤ) : Type 0 where
+pub record Remembers (a : Pending) (id : ℕ) (engine user : List ℕ) (level : Level)
+    (context_engine context_name : List ℕ) (request_id : ℤ) : Type 0 where
   pub id_is : a.id ≡ id
   pub engine_is : a.engine.items ≡ engine
   pub user_is : a.user.items ≡ user
@@ -18,7 +19,8 @@ pub record Remembers (a : Pending) (id : ℕ) (engine user : List ℕ) (level : 
 
 -- the same of a message with this front
 abbrev pub IsPending : Pending → ℕ → List ℕ → List ℕ → Level → Front → Type 0
-IsPending a id engine user level front = Remembers a id engine user level front.context_engine.now front.context_name.now front.id
+IsPending a id engine user level front = Remembers a id engine user level front.context_engine.now
+    front.context_name.now front.id
 
 -- the text that was written, or the refusal; None for want of memory
 abbrev pub request_answer : Result (Vec ℕ × Pending) TakeFault → Option (Result (List ℕ) ℕ)

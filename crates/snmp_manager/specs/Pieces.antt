@@ -12,8 +12,8 @@ Piece = List (ℕ × List ℕ)
 abbrev pub InPieces : List Piece → ℕ × List ℕ → Type 0
 InPieces pieces t = (piece : Piece) × Contains pieces piece × Contains piece t
 
--- A datagram stands in the list, with its moment, exactly where it stands so in one of the pieces. Nothing more is said of how the list
--- was cut: pieces come in any order, may overlap, and may come again.
+-- A datagram stands in the list, with its moment, exactly where it stands so in one of the pieces. Nothing
+-- more is said of how the list was cut: pieces come in any order, may overlap, and may come again.
 abbrev pub ArePiecesOf : Piece → List Piece → Type 0
 ArePiecesOf taken pieces = (t : ℕ × List ℕ) → Contains taken t ↔ InPieces pieces t
 

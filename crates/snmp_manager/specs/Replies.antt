@@ -7,7 +7,8 @@ use Rattle.snmp_msg.specs.Variables.{Variable, AreBindings}
 use Rattle.snmp_msg.specs.Pdu.{PduParts}
 use Rattle.snmp_incoming.specs.Outcome.{Given}
 use Rattle.snmp_outgoing.specs.Counters.{counter_name, name_of}
-use Rattle.snmp_outgoing.specs.declared.counter.Counter.TheVariants.{UnknownPduHandlers, UnavailableContexts, UnknownContexts}
+use Rattle.snmp_outgoing.specs.declared.counter.Counter.TheVariants.{UnknownPduHandlers, UnavailableContexts}
+use Rattle.snmp_outgoing.specs.declared.counter.Counter.TheVariants.{UnknownContexts}
 use Rattle.snmp_manager.specs.declared.pending.Pending.{Pending}
 use Rattle.snmp_manager.specs.declared.replies.Report.{Report as Told}
 use Rattle.snmp_manager.specs.declared.pending.Answer.{Answer}
@@ -44,16 +45,18 @@ IsAnswer a g c p NotForIt = (IsResponseTo a g c p → ⊥) × (IsReportTo a g p 
 
 -- the name is that of counter n, or n is 0 and it is that of none
 abbrev pub IsNameOf : List ℕ → ℕ → Type 0
-IsNameOf name n = ((1 ≤ n) × (n ≤ 6) × (name ≡ counter_name n)) ⊎ (((k : ℕ) → 1 ≤ k → k ≤ 6 → name ≡ counter_name k → ⊥) × (n ≡ 0))
+IsNameOf name n = ((1 ≤ n) × (n ≤ 6) × (name ≡ counter_name n))
+    ⊎ (((k : ℕ) → 1 ≤ k → k ≤ 6 → name ≡ counter_name k → ⊥) × (n ≡ 0))
 
 -- ---- what a Report tells
 
--- the name is that of counter n: usmStats 1 to 6, and 7 to 9 those of messages that nothing handles (RFC 3412, section 5; RFC 3413,
--- section 4.1.2)
+-- the name is that of counter n: usmStats 1 to 6, and 7 to 9 those of messages that nothing handles (RFC
+-- 3412, section 5; RFC 3413, section 4.1.2)
 abbrev pub NamesTold : List ℕ → ℕ → Type 0
 NamesTold name n =
     ((1 ≤ n) × (n ≤ 6) × (name ≡ counter_name n))
-    ⊎ (((n ≡ 7) × (name ≡ name_of UnknownPduHandlers)) ⊎ (((n ≡ 8) × (name ≡ name_of UnavailableContexts)) ⊎ ((n ≡ 9) × (name ≡ name_of UnknownContexts))))
+    ⊎ (((n ≡ 7) × (name ≡ name_of UnknownPduHandlers))
+    ⊎ (((n ≡ 8) × (name ≡ name_of UnavailableContexts)) ⊎ ((n ≡ 9) × (name ≡ name_of UnknownContexts))))
 
 -- the same, or n is 0 and it is that of none
 abbrev pub IsToldName : List ℕ → ℕ → Type 0
@@ -70,7 +73,8 @@ TellsCounter vs n value =
     ((v : Variable) × (vs ≡ v ∷ []) × IsToldName v.name n × IsCount v value)
     ⊎ (((v : Variable) → vs ≡ v ∷ [] → ⊥) × (n ≡ 0) × (value ≡ None))
 
--- what the message tells, where it is a Report on the request; it was authenticated exactly where its level has authentication
+-- what the message tells, where it is a Report on the request; it was authenticated exactly where its level
+-- has authentication
 abbrev pub IsReport : Pending → Given → PduParts → Option Told → Type 0
 IsReport a g p None = IsReportTo a g p → ⊥
 IsReport a g p (Some told) =

@@ -23,14 +23,16 @@ TakesOne old now w outcome new = (answer : Result Given ℕ) × Tells outcome an
 -- the outcomes of datagrams taken one after another
 abbrev pub Runs : Held → List (ℕ × Vec ℕ) → List Outcome → Held → Type 0
 Runs old [] [] new = new ≡ old
-Runs old (t ∷ ts) (outcome ∷ outcomes) new = (mid : Held) × TakesOne old t.0 t.1.items outcome mid × Runs mid ts outcomes new
+Runs old (t ∷ ts) (outcome ∷ outcomes) new = (mid : Held) × TakesOne old t.0 t.1.items outcome mid
+    × Runs mid ts outcomes new
 Runs old [] (outcome ∷ outcomes) new = ⊥
 Runs old (t ∷ ts) [] new = ⊥
 
 -- Datagrams were taken one after another, each at its moment, whatever they were answered.
 abbrev pub HasTaken : Held → List (ℕ × List ℕ) → Held → Type 0
 HasTaken old [] new = new ≡ old
-HasTaken old (t ∷ ts) new = (mid : Held) × ((answer : Result Given ℕ) × Takes old t.0 t.1 (Some answer) mid) × HasTaken mid ts new
+HasTaken old (t ∷ ts) new = (mid : Held) × ((answer : Result Given ℕ) × Takes old t.0 t.1 (Some answer) mid)
+    × HasTaken mid ts new
 
 -- moments and datagrams, as contracts see them
 abbrev pub moments_of : List (ℕ × Vec ℕ) → List (ℕ × List ℕ)

@@ -11,18 +11,20 @@ use Rattle.snmp_incoming.specs.Outcome.{Given, Outcome, as_manager}
 use Rattle.snmp_manager.specs.Views.{Held}
 use Rattle.snmp_manager.specs.Learning.{LearnsFrom}
 
--- The answer is the table's, by the window of what is held after learning, and nothing but marks has changed. For want of
--- memory there is no answer, and all is as before.
+-- The answer is the table's, by the window of what is held after learning, and nothing but marks has changed.
+-- For want of memory there is no answer, and all is as before.
 abbrev pub Takes : Held → ℕ → List ℕ → Option (Result Given ℕ) → Held → Type 0
 Takes old now w None new = new ≡ old
-Takes old now w (Some answer) new = (new.users ≡ old.users) × LearnsFrom old.users now w old.clocks new.clocks × Outcome (as_manager new.clocks) old.users now w answer
+Takes old now w (Some answer) new = (new.users ≡ old.users) × LearnsFrom old.users now w old.clocks new.clocks
+    × Outcome (as_manager new.clocks) old.users now w answer
 
 -- The engine of the datagram is held, if it is authentic, so that no memory is needed to learn its pair.
 abbrev pub HoldsAuthentic : Held → List ℕ → Type 0
-HoldsAuthentic held w = (engine : List ℕ) (pair : BootsAndTime) → Authentic held.users w engine pair → IsSome (mark_at held.clocks engine)
+HoldsAuthentic held w = (engine : List ℕ) (pair : BootsAndTime) → Authentic held.users w engine pair
+    → IsSome (mark_at held.clocks engine)
 
--- The datagram isn't sealed where it passes its digest, its engine is held where it is authentic, and it is refused: so no memory is
--- wanted to take it and to keep what is accepted.
+-- The datagram isn't sealed where it passes its digest, its engine is held where it is authentic, and it is
+-- refused: so no memory is wanted to take it and to keep what is accepted.
 pub record TakesNoMemory (held : Held) (now : ℕ) (w : List ℕ) : Type 0 where
   pub plain : IsPlain manager held.users w
   pub holds : HoldsAuthentic held w

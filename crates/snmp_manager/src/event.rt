@@ -15,7 +15,8 @@ pub enum Event {
     Save {
         manager: usize,
     },
-    /// The manager joins in the marks of a file. The moment changes nothing, since a file of a world has one for each mark.
+    /// The manager joins in the marks of a file. The moment changes nothing, since a file of a world has one
+    /// for each mark.
     Absorb {
         manager: usize,
         file: usize,

@@ -14,42 +14,55 @@ ghost use Rattle.snmp_manager.specs.Pieces.{Piece, ArePiecesOf, SavesText, SaveE
 ghost use Rattle.snmp_manager.specs.Takes.{Takes};
 ghost use Rattle.snmp_manager.specs.Runs.{TakesOne, Runs, HasTaken, moments_of};
 
-/// Lists with the same authentic datagrams, in any order, with any repeats and anything else between, have the same latest
-/// pair of each engine.
+/// Lists with the same authentic datagrams, in any order, with any repeats and anything else between, have
+/// the same latest pair of each engine.
 pub fn same_authentic_same_latest()
-    ensures { (users : List User) (begin : Option BootsAndTime) (xs ys : List (List ℕ)) (engine : List ℕ) (p q : Option BootsAndTime)
+    ensures { (users : List User) (begin : Option BootsAndTime) (xs ys : List (List ℕ)) (engine : List ℕ)
+        (p q : Option BootsAndTime)
         → HaveSameAuthentic users xs ys → IsLatest users begin xs engine p → IsLatest users begin ys engine q → p ≡ q }
 {}
 
-/// Two managers that begin with the same users and the same pairs, and take lists with the same authentic datagrams, in any
-/// order, at any moments, with any repeats and any other octets between, hold the same pair of each engine. A datagram is taken by
-/// `take`, `take_one` or `run` wherever the answer isn't want of memory.
+/// Two managers that begin with the same users and the same pairs, and take lists with the same authentic
+/// datagrams, in any order, at any moments, with any repeats and any other octets between, hold the same pair
+/// of each engine. A datagram is taken by `take`, `take_one` or `run` wherever the answer isn't want of
+/// memory.
 pub fn same_authentic_same_pairs()
-    ensures { (a b a_after b_after : Held) (xs ys : List (ℕ × List ℕ)) → BeginAlike a b → HaveSameAuthentic a.users (octets_of xs) (octets_of ys)
+    ensures { (a b a_after b_after : Held) (xs ys : List (ℕ × List ℕ)) → BeginAlike a b
+        → HaveSameAuthentic a.users (octets_of xs) (octets_of ys)
         → HasTaken a xs a_after → HasTaken b ys b_after → HoldSamePairs a_after b_after }
 {}
 
-/// What each call that takes says comes to datagrams taken: one call of `take` or `take_one`, what was taken before and after it, and
-/// so the laws are of all that a manager took.
+/// What each call that takes says comes to datagrams taken: one call of `take` or `take_one`, what was taken
+/// before and after it, and so the laws are of all that a manager took.
 pub fn takes_are_joined()
-    ensures take { (a b : Held) (now : ℕ) (w : List ℕ) (answer : Result Given ℕ) → Takes a now w (Some answer) b → HasTaken a ((now, w) ∷ []) b }
-    ensures take_one { (a b : Held) (now : ℕ) (w : List ℕ) (outcome : Answered) → TakesOne a now w outcome b → HasTaken a ((now, w) ∷ []) b }
-    ensures run { (a b : Held) (ts : List (ℕ × Vec ℕ)) (outcomes : List Answered) → Runs a ts outcomes b → HasTaken a (moments_of ts) b }
-    ensures joined { (a b c : Held) (xs ys : List (ℕ × List ℕ)) → HasTaken a xs b → HasTaken b ys c → HasTaken a (xs ++ ys) c }
+    ensures take { (a b : Held) (now : ℕ) (w : List ℕ) (answer : Result Given ℕ) → Takes a now w (Some answer) b
+        → HasTaken a ((now, w) ∷ []) b }
+    ensures take_one { (a b : Held) (now : ℕ) (w : List ℕ) (outcome : Answered) → TakesOne a now w outcome b
+        → HasTaken a ((now, w) ∷ []) b }
+    ensures run { (a b : Held) (ts : List (ℕ × Vec ℕ)) (outcomes : List Answered) → Runs a ts outcomes b
+        → HasTaken a (moments_of ts) b }
+    ensures joined { (a b c : Held) (xs ys : List (ℕ × List ℕ)) → HasTaken a xs b → HasTaken b ys c
+        → HasTaken a (xs ++ ys) c }
 {}
 
-/// After datagrams were taken each engine's pair is the greatest that was authenticated in them, or was held before; the users stay.
-/// So its mark is that pair with the earliest moment at which it came, or was seen before.
+/// After datagrams were taken each engine's pair is the greatest that was authenticated in them, or was held
+/// before; the users stay. So its mark is that pair with the earliest moment at which it came, or was seen
+/// before.
 pub fn taken_holds_the_latest()
-    ensures latest { (a b : Held) (ts : List (ℕ × List ℕ)) (engine : List ℕ) → HasTaken a ts b → IsLatest a.users (pair_at a.clocks engine) (octets_of ts) engine (pair_at b.clocks engine) }
-    ensures marks { (a b : Held) (ts : List (ℕ × List ℕ)) (engine : List ℕ) → HasTaken a ts b → IsLatestMark a.users (mark_at a.clocks engine) ts engine (mark_at b.clocks engine) }
+    ensures latest { (a b : Held) (ts : List (ℕ × List ℕ)) (engine : List ℕ) → HasTaken a ts b
+        → IsLatest a.users (pair_at a.clocks engine) (octets_of ts) engine (pair_at b.clocks engine) }
+    ensures marks { (a b : Held) (ts : List (ℕ × List ℕ)) (engine : List ℕ) → HasTaken a ts b
+        → IsLatestMark a.users (mark_at a.clocks engine) ts engine (mark_at b.clocks engine) }
     ensures users { (a b : Held) (ts : List (ℕ × List ℕ)) → HasTaken a ts b → b.users ≡ a.users }
 {}
 
-/// What was taken may be taken in pieces. Managers that all begin alike take a piece each, and save their texts: the merged text of these,
-/// octet for octet, is what one manager saves that began so and took all of it. The pieces may be cut anywhere between datagrams, come in any order,
-/// overlap and come again; there is at least one. The merged text is that of `merge-clocks`, and `now` the moment of texts without moments.
+/// What was taken may be taken in pieces. Managers that all begin alike take a piece each, and save their
+/// texts: the merged text of these, octet for octet, is what one manager saves that began so and took all of
+/// it. The pieces may be cut anywhere between datagrams, come in any order, overlap and come again; there is
+/// at least one. The merged text is that of `merge-clocks`, and `now` the moment of texts without moments.
 pub fn pieces_are_joined()
-    ensures { (now : ℕ) (begin : Held) (taken : Piece) (pieces : List Piece) (saved merged : List ℕ) (texts : List (List ℕ))
-        → ArePiecesOf taken pieces → 0 < length pieces → SavesText begin taken saved → SaveEach begin pieces texts → IsMergeOf now texts merged → merged ≡ saved }
+    ensures { (now : ℕ) (begin : Held) (taken : Piece) (pieces : List Piece) (saved merged : List ℕ)
+        (texts : List (List ℕ))
+        → ArePiecesOf taken pieces → 0 < length pieces → SavesText begin taken saved → SaveEach begin pieces texts
+        → IsMergeOf now texts merged → merged ≡ saved }
 {}

@@ -30,10 +30,11 @@ fn pair_of(checked: &Checked<'_>) -> Pair
     pair
 }
 
-/// Learns the pair of an authenticated message. A message without authentication teaches nothing. Where its engine is held
-/// already, this takes no memory and succeeds.
+/// Learns the pair of an authenticated message. A message without authentication teaches nothing. Where its
+/// engine is held already, this takes no memory and succeeds.
 pub(crate) fn learn(clocks: &mut Clocks, checked: &Checked<'_>, now: u64) -> Result<(), AllocError>
-    ensures no_memory { (checked.now.message.header.auth ≡ true → IsSome (mark_at clocks.old checked.now.security.engine.now)) → IsOk result }
+    ensures no_memory { (checked.now.message.header.auth ≡ true
+        → IsSome (mark_at clocks.old checked.now.security.engine.now)) → IsOk result }
     ensures learned { OnOk result (LearnsChecked (verified_of checked.now) now clocks.old clocks.new) }
     ensures err { OnErr result (clocks.new ≡ clocks.old) }
 {
@@ -44,11 +45,12 @@ pub(crate) fn learn(clocks: &mut Clocks, checked: &Checked<'_>, now: u64) -> Res
     clocks.learn(engine_of(checked), pair, now)
 }
 
-/// Whether a message is in the time window once its pair is learned, which isn't done yet (RFC 3414, section 3.2, step 7). One without
-/// authentication has no window.
+/// Whether a message is in the time window once its pair is learned, which isn't done yet (RFC 3414, section
+/// 3.2, step 7). One without authentication has no window.
 pub(crate) fn is_fresh_once_learned(clocks: &Clocks, checked: &Checked<'_>, now: u64) -> bool
     ensures { (learned : Marks) → LearnsChecked (verified_of checked.now) now clocks.now learned
-        → (IsTrue result ↔ (checked.now.message.header.auth ≡ true → IsFresh (as_manager learned) now (verified_of checked.now))) }
+        → (IsTrue result ↔ (checked.now.message.header.auth ≡ true
+        → IsFresh (as_manager learned) now (verified_of checked.now))) }
 {
     if !checked.message.header.auth {
         return true;

@@ -1,5 +1,6 @@
-//! The manager: an SNMPv3 engine that isn't authoritative (RFC 3414, section 1.5.1). It accepts datagrams, keeps for each engine the
-//! greatest pair of boots and time that it authenticated, and writes requests. A `World` is managers that share saved clocks.
+//! The manager: an SNMPv3 engine that isn't authoritative (RFC 3414, section 1.5.1). It accepts datagrams,
+//! keeps for each engine the greatest pair of boots and time that it authenticated, and writes requests. A
+//! `World` is managers that share saved clocks.
 //!
 //! ```
 //! use engine_clock::Clocks;

@@ -1,6 +1,7 @@
 //! The manager.
 
-ghost use Rattle.std.specs.Prelude.{◌≡◌, ◌<◌, ◌≤◌, ℕ, pos, List, [], All, length, map, Ok, IfOk, IfErr, IfSome, IsErrOf, IsOk, IsSome, MatchResult, OnErr, OnOk, Some};
+ghost use Rattle.std.specs.Prelude.{◌≡◌, ◌<◌, ◌≤◌, ℕ, pos, List, [], All, length, map, Ok, IfOk, IfErr, IfSome};
+ghost use Rattle.std.specs.Prelude.{IsErrOf, IsOk, IsSome, MatchResult, OnErr, OnOk, Some};
 ghost use Rattle.std.specs.Option.{option_map};
 ghost use Rattle.engine_clock.specs.Pairs.{IsPair};
 ghost use Rattle.engine_clock.specs.Marks.{HoldsAll, SeenPair, mark_at, pair_at, IsMarkJoinOf, IsJoinOf};
@@ -33,7 +34,8 @@ use std::alloc::{AllocError, Global};
 use std::marker::Model;
 use usm_core::{Role, Users};
 
-/// Users, and what is known of the clocks of engines. All moments are in seconds from one beginning, which the caller keeps.
+/// Users, and what is known of the clocks of engines. All moments are in seconds from one beginning, which
+/// the caller keeps.
 #[derive(Drop)]
 pub struct Manager {
     alloc: Global,
@@ -117,15 +119,18 @@ impl Manager {
         self.clocks.save()
     }
 
-    /// Takes a datagram at the moment `now`: reads and authenticates it (RFC 3412, section 7.2, and RFC 3414, section 3.2),
-    /// learns its pair, and then looks at the time window, opens the message and reads its ScopedPDU.
+    /// Takes a datagram at the moment `now`: reads and authenticates it (RFC 3412, section 7.2, and RFC 3414,
+    /// section 3.2), learns its pair, and then looks at the time window, opens the message and reads its
+    /// ScopedPDU.
     ///
-    /// The errors are, the first that applies: those of `Users::open_auth`, which teach nothing; OutOfMemory (14), which
-    /// leaves all as before; and NotInWindow (10), DecryptionError (11), BadScoped (12) and BadPdu (13), of messages whose pair
-    /// is learned all the same, where they have authentication. Memory is taken to decrypt, and for an engine that isn't held.
+    /// The errors are, the first that applies: those of `Users::open_auth`, which teach nothing; OutOfMemory
+    /// (14), which leaves all as before; and NotInWindow (10), DecryptionError (11), BadScoped (12) and
+    /// BadPdu (13), of messages whose pair is learned all the same, where they have authentication. Memory is
+    /// taken to decrypt, and for an engine that isn't held.
     pub fn take<'a>(&mut self, now: u64, datagram: &'a [u8]) -> Result<Taken<'a>, TakeFault>
         ensures takes { Takes self.old now datagram.now (answer_of result) self.new }
-        ensures no_memory { IsPlain manager self.old.users datagram.now → HoldsAuthentic self.old datagram.now → IsSome (answer_of result) }
+        ensures no_memory { IsPlain manager self.old.users datagram.now → HoldsAuthentic self.old datagram.now
+            → IsSome (answer_of result) }
     {
         let checked = match self.users.open_auth(Role::Manager, datagram) {
             Ok(checked) => checked,
@@ -140,8 +145,9 @@ impl Manager {
         answer
     }
 
-    /// Takes a datagram at the moment `now` as `take` does, and copies what is accepted, for a caller that answers it once the datagram
-    /// is gone. The copy is made before anything is learned, so that OutOfMemory (14) leaves all as before here too.
+    /// Takes a datagram at the moment `now` as `take` does, and copies what is accepted, for a caller that
+    /// answers it once the datagram is gone. The copy is made before anything is learned, so that OutOfMemory
+    /// (14) leaves all as before here too.
     ///
     /// The errors are those of `take`. Memory is taken where `take` does, and for the copy.
     pub fn take_kept(&mut self, now: u64, datagram: &[u8]) -> Result<Kept, TakeFault>
@@ -168,12 +174,13 @@ impl Manager {
         kept
     }
 
-    /// Takes a datagram at the moment `now`, and tells what it was answered. On an error, which is want of memory, all is as
-    /// before. It takes memory where `take` does.
+    /// Takes a datagram at the moment `now`, and tells what it was answered. On an error, which is want of
+    /// memory, all is as before. It takes memory where `take` does.
     pub fn take_one(&mut self, now: u64, datagram: &[u8]) -> Result<Outcome, AllocError>
         ensures outcome { IfOk result (λ outcome. TakesOne self.old now datagram.now outcome self.new) }
         ensures err { OnErr result (self.new ≡ self.old) }
-        ensures no_memory { IsPlain manager self.old.users datagram.now → HoldsAuthentic self.old datagram.now → IsOk result }
+        ensures no_memory { IsPlain manager self.old.users datagram.now → HoldsAuthentic self.old datagram.now
+            → IsOk result }
     {
         match self.take(now, datagram) {
             Ok(taken) => Ok(Outcome::Accepted {
@@ -192,11 +199,13 @@ impl Manager {
     /// Takes datagrams one after another, each at its moment. Then the pair of each engine is the greatest that was
     /// authenticated in what was taken, or that was held before. The memory for the outcomes is asked for first.
     ///
-    /// The error says how many of the datagrams were taken before there was want of memory: never all, so that a run over no
-    /// datagram succeeds.
+    /// The error says how many of the datagrams were taken before there was want of memory: never all, so
+    /// that a run over no datagram succeeds.
     pub fn run(&mut self, datagrams: &[(u64, Vec<u8>)]) -> Result<Vec<Outcome>, Stopped>
         ensures outcomes { IfOk result (λ outcomes. Runs self.old datagrams.now outcomes.items self.new) }
-        ensures latest { (engine : List ℕ) → IsLatest self.old.users (pair_at self.old.clocks engine) (datagrams_of (taken_of result datagrams.now)) engine (pair_at self.new.clocks engine) }
+        ensures latest { (engine : List ℕ)
+            → IsLatest self.old.users (pair_at self.old.clocks engine)
+            (datagrams_of (taken_of result datagrams.now)) engine (pair_at self.new.clocks engine) }
         ensures users { self.new.users ≡ self.old.users }
         ensures stopped { IfErr result (λ stopped. stopped.taken < length datagrams.now) }
         ensures ran { HasTaken self.old (moments_of (taken_of result datagrams.now)) self.new }
@@ -215,22 +224,25 @@ impl Manager {
         Ok(outcomes)
     }
 
-    /// Whether a request for this user at this level can be sent (RFC 3414, section 3.1): at levels with authentication there is a
-    /// user of this name that supports the level. The errors are UnknownUser (7), and where there is such a user UnsupportedLevel (8).
-    /// It takes no memory.
+    /// Whether a request for this user at this level can be sent (RFC 3414, section 3.1): at levels with
+    /// authentication there is a user of this name that supports the level. The errors are UnknownUser (7),
+    /// and where there is such a user UnsupportedLevel (8). It takes no memory.
     pub fn supports(&self, user: &[u8], level: Level) -> Result<(), TakeFault>
-        ensures { MatchResult result (λ _. CanSend self.now.users user.now level) (RefusesSender self.now.users user.now level) }
+        ensures { MatchResult result (λ _. CanSend self.now.users user.now level)
+            (RefusesSender self.now.users user.now level) }
     {
         supports(&self.users, user, level)
     }
 
-    /// A request to the engine at the moment `now`, and what is to be remembered of it (RFC 3414, section 3.1): with this msgID,
-    /// for this user at this level, and at authPriv with this salt, which is to be another one for each message. At levels with
-    /// authentication it has the held boots and the notion of the time, or 0 and 0 where no pair is held. It asks for reports where
-    /// the PDU is of the Confirmed Class.
+    /// A request to the engine at the moment `now`, and what is to be remembered of it (RFC 3414, section
+    /// 3.1): with this msgID, for this user at this level, and at authPriv with this salt, which is to be
+    /// another one for each message. At levels with authentication it has the held boots and the notion of
+    /// the time, or 0 and 0 where no pair is held. It asks for reports where the PDU is of the Confirmed
+    /// Class.
     ///
-    /// The errors are, at levels with authentication, UnknownUser (7) and UnsupportedLevel (8); then TooLarge (16), only where the
-    /// text would be longer than 65,507 octets, or OutOfMemory (14), whichever is met first.
+    /// The errors are, at levels with authentication, UnknownUser (7) and UnsupportedLevel (8); then TooLarge
+    /// (16), only where the text would be longer than 65,507 octets, or OutOfMemory (14), whichever is met
+    /// first.
     pub fn request(
         &mut self,
         now: u64,
@@ -244,9 +256,14 @@ impl Manager {
         requires id { id ≤ 2147483647 }
         requires user { length user.now ≤ 32 }
         requires body { BodyFits body.now }
-        ensures text { IfSome (request_answer result) (Seals self.old.users (requesting (mark_at self.old.clocks engine.now) now id engine.now user.now level (front_in body.now) (variables_in body.now) salt)) }
+        ensures text { IfSome (request_answer result)
+            (Seals self.old.users
+            (requesting (mark_at self.old.clocks engine.now) now id engine.now user.now level (front_in body.now)
+            (variables_in body.now) salt)) }
         ensures memory { IsErrOf result TakeFault.OutOfMemory
-            → IsSealable self.old.users (requesting (mark_at self.old.clocks engine.now) now id engine.now user.now level (front_in body.now) (variables_in body.now) salt) }
+            → IsSealable self.old.users
+            (requesting (mark_at self.old.clocks engine.now) now id engine.now user.now level (front_in body.now)
+            (variables_in body.now) salt) }
         ensures pending { IfOk result (λ sent. IsPending sent.1 id engine.now user.now level (front_in body.now)) }
 
         // With these the law that a request is accepted can be used of it.
@@ -266,8 +283,8 @@ impl Manager {
         )
     }
 
-    /// The same request, with this front and bindings in any form that can be written: `VariableBinding` is the quick one, with its
-    /// name's octets, of which only the tags are asked.
+    /// The same request, with this front and bindings in any form that can be written: `VariableBinding` is
+    /// the quick one, with its name's octets, of which only the tags are asked.
     ///
     /// The errors are those of `request`, in its order.
     pub fn request_of<B: Spelled>(
@@ -285,9 +302,14 @@ impl Manager {
         requires user { length user.now ≤ 32 }
         requires tag { IsPduTag front.now.tag }
         requires fit { All (λ b. B.fits b) bindings.now }
-        ensures text { IfSome (request_answer result) (Seals self.old.users (requesting (mark_at self.old.clocks engine.now) now id engine.now user.now level front.now (map B.says bindings.now) salt)) }
+        ensures text { IfSome (request_answer result)
+            (Seals self.old.users
+            (requesting (mark_at self.old.clocks engine.now) now id engine.now user.now level front.now
+            (map B.says bindings.now) salt)) }
         ensures memory { IsErrOf result TakeFault.OutOfMemory
-            → IsSealable self.old.users (requesting (mark_at self.old.clocks engine.now) now id engine.now user.now level front.now (map B.says bindings.now) salt) }
+            → IsSealable self.old.users
+            (requesting (mark_at self.old.clocks engine.now) now id engine.now user.now level front.now
+            (map B.says bindings.now) salt) }
         ensures pending { IfOk result (λ sent. IsPending sent.1 id engine.now user.now level front.now) }
         ensures pair { (mark : SeenPair) → mark_at self.old.clocks engine.now ≡ Some mark → IsPair mark.pair }
         ensures spelled { IfOk result (λ _. IsSpelled (pdu_after front.now (map B.says bindings.now))) }
@@ -309,9 +331,9 @@ impl Manager {
         }
     }
 
-    /// The request by which an engine is discovered (RFC 3414, section 4), and what is to be remembered of it: a GetRequest of
-    /// nothing with this msgID and request-id, for no engine and no user. An agent answers with a Report that has its engine ID.
-    /// The error is want of memory.
+    /// The request by which an engine is discovered (RFC 3414, section 4), and what is to be remembered of
+    /// it: a GetRequest of nothing with this msgID and request-id, for no engine and no user. An agent
+    /// answers with a Report that has its engine ID. The error is want of memory.
     pub fn discover(&self, id: u32) -> Result<(Vec<u8>, Pending), AllocError>
         requires { id ≤ 2147483647 }
         ensures text { IfOk result (λ sent. Seals self.now.users (discovering id) (Ok sent.0.items)) }

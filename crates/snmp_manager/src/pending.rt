@@ -27,7 +27,8 @@ pub struct Pending {
 pub enum Answer {
     /// The Response to it.
     Response,
-    /// A Report on it: of the counter with this number, 1 to 6, or 0 where its bindings aren't one that names a counter.
+    /// A Report on it: of the counter with this number, 1 to 6, or 0 where its bindings aren't one that names
+    /// a counter.
     Report(u8),
     /// Neither.
     NotForIt,
@@ -40,7 +41,9 @@ impl Pending {
         envelope: &Envelope<'_>,
         front: &Front<'_>,
     ) -> Result<Pending, AllocError>
-        ensures { IfOk result (λ pending. IsPending pending envelope.now.id envelope.now.engine.now envelope.now.user.now envelope.now.level front.now) }
+        ensures { IfOk result
+            (λ pending. IsPending pending envelope.now.id envelope.now.engine.now envelope.now.user.now
+            envelope.now.level front.now) }
     {
         Ok(Pending {
             id: envelope.id,

@@ -6,7 +6,8 @@ ghost use Rattle.snmp_msg.specs.Pdu.{PduParts, PduText, pdu_of};
 ghost use Rattle.snmp_msg.specs.Variables.{Variable, AreBindings, variable_of};
 ghost use Rattle.snmp_incoming.specs.Texts.{text_of};
 ghost use Rattle.snmp_incoming.specs.Answers.{given_of};
-ghost use Rattle.snmp_manager.specs.Replies.{IsResponseTo, IsCounterOf, IsNameOf, IsAnswer, IsToldName, IsCount, TellsCounter, IsReport, still_waiting};
+ghost use Rattle.snmp_manager.specs.Replies.{IsResponseTo, IsCounterOf, IsNameOf, IsAnswer, IsToldName, IsCount};
+ghost use Rattle.snmp_manager.specs.Replies.{TellsCounter, IsReport, still_waiting};
 
 use crate::pending::{Answer, Pending};
 use snmp_ber::{Level, read_unsigned};
@@ -54,7 +55,9 @@ fn counter_in(pdu: &Pdu<'_>) -> u8
 
 /// Whether a message is the Response to a request.
 fn is_response(pending: &Pending, taken: &Taken<'_>, scoped: &Scoped<'_>, pdu: &Pdu<'_>) -> bool
-    ensures { MatchBool result (IsResponseTo pending.now (given_of taken.now) (contexts_of scoped.now) (pdu_of pdu.now)) (IsResponseTo pending.now (given_of taken.now) (contexts_of scoped.now) (pdu_of pdu.now) → ⊥) }
+    ensures { MatchBool result
+        (IsResponseTo pending.now (given_of taken.now) (contexts_of scoped.now) (pdu_of pdu.now))
+        (IsResponseTo pending.now (given_of taken.now) (contexts_of scoped.now) (pdu_of pdu.now) → ⊥) }
 {
     if taken.id != pending.id {
         return false;
@@ -83,12 +86,14 @@ fn is_response(pending: &Pending, taken: &Taken<'_>, scoped: &Scoped<'_>, pdu: &
     true
 }
 
-/// What an accepted message is to a request (RFC 3412, section 7.2, steps 10 to 12): its Response, where msgID, engine, user,
-/// level, contexts and request-id are those of the request; a Report on it, where msgID is; or neither. It takes no memory.
+/// What an accepted message is to a request (RFC 3412, section 7.2, steps 10 to 12): its Response, where
+/// msgID, engine, user, level, contexts and request-id are those of the request; a Report on it, where msgID
+/// is; or neither. It takes no memory.
 ///
 /// A Report without authentication can be anyone's. It is for discovery, and for hints: nothing is learned of it.
 pub fn answer_of(pending: &Pending, taken: &Taken<'_>) -> Answer
-    ensures { (c : Contexts) (p : PduParts) → ScopedFront (text_of taken.now.text) c → PduText c.pdu p → IsAnswer pending.now (given_of taken.now) c p result }
+    ensures { (c : Contexts) (p : PduParts) → ScopedFront (text_of taken.now.text) c → PduText c.pdu p
+        → IsAnswer pending.now (given_of taken.now) c p result }
 {
     one_content();
     one_pdu();
@@ -146,10 +151,11 @@ fn told_in(pdu: &Pdu<'_>) -> (u8, Option<u32>)
     (told_name(binding.name.as_slice()), count_in(&binding))
 }
 
-/// What an accepted message tells, where it is a Report on a request, which is where it has its msgID (RFC 3412, section 7.2, step 11).
-/// It takes no memory.
+/// What an accepted message tells, where it is a Report on a request, which is where it has its msgID (RFC
+/// 3412, section 7.2, step 11). It takes no memory.
 pub fn report_of(pending: &Pending, taken: &Taken<'_>) -> Option<Report>
-    ensures { (c : Contexts) (p : PduParts) → ScopedFront (text_of taken.now.text) c → PduText c.pdu p → IsReport pending.now (given_of taken.now) p result }
+    ensures { (c : Contexts) (p : PduParts) → ScopedFront (text_of taken.now.text) c → PduText c.pdu p
+        → IsReport pending.now (given_of taken.now) p result }
 {
     one_pdu();
     let pdu = taken.pdu();
@@ -167,10 +173,11 @@ pub fn report_of(pending: &Pending, taken: &Taken<'_>) -> Option<Report>
     })
 }
 
-/// What an accepted message is to a request, as `answer_of` has it, and the request where it still waits: only its Response ends
-/// that, since a Report can be anybody's.
+/// What an accepted message is to a request, as `answer_of` has it, and the request where it still waits:
+/// only its Response ends that, since a Report can be anybody's.
 pub fn take_answer(pending: Pending, taken: &Taken<'_>) -> (Answer, Option<Pending>)
-    ensures answer { (c : Contexts) (p : PduParts) → ScopedFront (text_of taken.now.text) c → PduText c.pdu p → IsAnswer pending (given_of taken.now) c p result.0 }
+    ensures answer { (c : Contexts) (p : PduParts) → ScopedFront (text_of taken.now.text) c → PduText c.pdu p
+        → IsAnswer pending (given_of taken.now) c p result.0 }
     ensures waits { result.1 ≡ still_waiting result.0 pending }
 {
     let answer = answer_of(&pending, taken);

@@ -16,8 +16,8 @@ pub(crate) fn no_pair() -> Pair
     Pair { boots: 0, time: 0 }
 }
 
-/// Boots and time of a request to the engine at the moment `now`: at levels with authentication the held boots and the notion of
-/// the time.
+/// Boots and time of a request to the engine at the moment `now`: at levels with authentication the held
+/// boots and the notion of the time.
 pub(crate) fn written_pair(clocks: &Clocks, engine: &EngineId, level: Level, now: u64) -> Pair
     ensures pair { result ≡ written_pair level (mark_at clocks.now engine.now) now }
     ensures is_pair { (mark : SeenPair) → mark_at clocks.now engine.now ≡ Some mark → IsPair mark.pair }

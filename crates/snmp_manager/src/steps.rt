@@ -21,10 +21,13 @@ pub(crate) fn take(
     now: u64,
     datagram: &[u8],
 ) -> Result<(), WorldFault>
-    ensures ok { OnOk result (Changes number (λ before after. LearnsFrom before.users now datagram.now before.clocks after.clocks) managers.old.items managers.new.items) }
+    ensures ok { OnOk result
+        (Changes number (λ before after. LearnsFrom before.users now datagram.now before.clocks after.clocks)
+        managers.old.items managers.new.items) }
     ensures err { OnErr result (managers.new.items ≡ managers.old.items) }
     ensures no_such { (result ≡ Err WorldFault.NoSuch) ↔ (length managers.old.items ≤ number) }
-    ensures no_memory { (held : Held) → slice_get managers.old.items number ≡ Some held → IsPlain manager held.users datagram.now → HoldsAuthentic held datagram.now → IsOk result }
+    ensures no_memory { (held : Held) → slice_get managers.old.items number ≡ Some held
+        → IsPlain manager held.users datagram.now → HoldsAuthentic held datagram.now → IsOk result }
 {
     if number >= managers.len() {
         return Err(WorldFault::NoSuch);
@@ -65,7 +68,9 @@ pub(crate) fn absorb(
     clocks: &Clocks,
 ) -> Result<(), WorldFault>
     requires { number < length managers.old.items }
-    ensures ok { OnOk result (Changes number (λ before after. IsMarkJoinOf before.clocks clocks.now after.clocks) managers.old.items managers.new.items) }
+    ensures ok { OnOk result
+        (Changes number (λ before after. IsMarkJoinOf before.clocks clocks.now after.clocks) managers.old.items
+        managers.new.items) }
     ensures err { OnErr result (managers.new.items ≡ managers.old.items) }
     ensures found { result ≢ Err WorldFault.NoSuch }
 {

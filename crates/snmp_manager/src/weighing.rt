@@ -18,9 +18,9 @@ use snmp_incoming::{Kept, TakeFault, Taken, read_text, scoped_octets};
 use std::alloc::{AllocError, Global};
 use usm_core::{Checked, Users};
 
-/// What the message that `open_auth` gave of this datagram is answered once its pair is learned, which isn't done yet: the rows of
-/// the table from the time window on (RFC 3414, section 3.2, steps 7 and 8). The error is want of memory, which is taken at authPriv alone,
-/// to decrypt.
+/// What the message that `open_auth` gave of this datagram is answered once its pair is learned, which isn't
+/// done yet: the rows of the table from the time window on (RFC 3414, section 3.2, steps 7 and 8). The error
+/// is want of memory, which is taken at authPriv alone, to decrypt.
 pub(crate) fn weigh<'a>(
     users: &mut Users,
     clocks: &Clocks,
@@ -29,11 +29,14 @@ pub(crate) fn weigh<'a>(
     checked: &Checked<'a>,
 ) -> Result<Result<Taken<'a>, TakeFault>, AllocError>
     requires read { IsReadAs datagram.now (verified_of checked.now) }
-    requires private { checked.now.level ≡ AuthPriv → HasUserAt users.old.users checked.now.security.user.now AuthPriv × (tag_of checked.now.message.body ≡ 4) }
+    requires private { checked.now.level ≡ AuthPriv
+        → HasUserAt users.old.users checked.now.security.user.now AuthPriv × (tag_of checked.now.message.body ≡ 4) }
     ensures users { users.new.users ≡ users.old.users }
     ensures no_memory { checked.now.message.header.privacy ≡ false → IsOk result }
-    ensures weighs { IfOk result (λ answer. (learned : Marks) → LearnsChecked (verified_of checked.now) now clocks.now learned
-        → IsSomeAnd (answer_of answer) (Weighs (as_manager learned) users.old.users now datagram.now (verified_of checked.now))) }
+    ensures weighs { IfOk result
+        (λ answer. (learned : Marks) → LearnsChecked (verified_of checked.now) now clocks.now learned
+        → IsSomeAnd (answer_of answer)
+        (Weighs (as_manager learned) users.old.users now datagram.now (verified_of checked.now))) }
 {
     let opening = scoped_octets(users, datagram, checked)?;
     if !is_fresh_once_learned(clocks, checked, now) {
@@ -55,12 +58,17 @@ pub(crate) fn weigh_kept(
     checked: &Checked<'_>,
 ) -> Result<Result<Kept, TakeFault>, AllocError>
     requires read { IsReadAs datagram.now (verified_of checked.now) }
-    requires private { checked.now.level ≡ AuthPriv → HasUserAt users.old.users checked.now.security.user.now AuthPriv × (tag_of checked.now.message.body ≡ 4) }
+    requires private { checked.now.level ≡ AuthPriv
+        → HasUserAt users.old.users checked.now.security.user.now AuthPriv × (tag_of checked.now.message.body ≡ 4) }
     ensures users { users.new.users ≡ users.old.users }
-    ensures no_memory { checked.now.message.header.privacy ≡ false → (learned : Marks) → LearnsChecked (verified_of checked.now) now clocks.now learned
-        → ((g : Given) → Weighs (as_manager learned) users.old.users now datagram.now (verified_of checked.now) (Ok g) → ⊥) → IsOk result }
-    ensures weighs { IfOk result (λ answer. (learned : Marks) → LearnsChecked (verified_of checked.now) now clocks.now learned
-        → IsSomeAnd (kept_answer answer) (Weighs (as_manager learned) users.old.users now datagram.now (verified_of checked.now))) }
+    ensures no_memory { checked.now.message.header.privacy ≡ false → (learned : Marks)
+        → LearnsChecked (verified_of checked.now) now clocks.now learned
+        → ((g : Given) → Weighs (as_manager learned) users.old.users now datagram.now (verified_of checked.now) (Ok g)
+        → ⊥) → IsOk result }
+    ensures weighs { IfOk result
+        (λ answer. (learned : Marks) → LearnsChecked (verified_of checked.now) now clocks.now learned
+        → IsSomeAnd (kept_answer answer)
+        (Weighs (as_manager learned) users.old.users now datagram.now (verified_of checked.now))) }
 {
     match weigh(users, clocks, now, datagram, checked)? {
         Ok(taken) => Ok(Ok(Kept::of(alloc, &taken)?)),

@@ -5,7 +5,8 @@ ghost use Rattle.std.specs.Option.{option_and_then, option_copied};
 ghost use Rattle.engine_clock.specs.Marks.{pair_at};
 ghost use Rattle.usm_users.specs.User.{User};
 ghost use Rattle.snmp_manager.specs.Views.{held_by};
-ghost use Rattle.snmp_manager.specs.Knowledge.{HasGreatest, HasGreatestPairs, HaveUsers, NamesMissing, Steps, StepsAll, StopsAt, TakesNoMemory, at_first, counted, knows_after_all};
+ghost use Rattle.snmp_manager.specs.Knowledge.{HasGreatest, HasGreatestPairs, HaveUsers, NamesMissing, Steps};
+ghost use Rattle.snmp_manager.specs.Knowledge.{StepsAll, StopsAt, TakesNoMemory, at_first, counted, knows_after_all};
 
 use crate::event::{Event, WorldFault, WorldStopped};
 use crate::file::{File, read};
@@ -39,8 +40,8 @@ impl Model for World {
 }
 
 impl World {
-    /// A manager for each of the clocks, in their order, with its marks and these users, and no file. The error is want of
-    /// memory.
+    /// A manager for each of the clocks, in their order, with its marks and these users, and no file. The
+    /// error is want of memory.
     pub fn new(alloc: Global, users: &Users, clocks: &[Clocks]) -> Result<World, AllocError>
         ensures managers { IfOk result (λ world. world.managers ≡ map (held_by users.now.users) clocks.now) }
         ensures files { IfOk result (λ world. world.files ≡ []) }
@@ -59,8 +60,9 @@ impl World {
 
     /// Does one event. A datagram that is refused is an event all the same.
     ///
-    /// The errors are NoSuch, exactly where the event names a manager or a file that isn't there, and OutOfMemory. Each leaves
-    /// all as before. No memory is wanted to take a datagram that isn't sealed, of an engine that is held, or that no digest passes.
+    /// The errors are NoSuch, exactly where the event names a manager or a file that isn't there, and
+    /// OutOfMemory. Each leaves all as before. No memory is wanted to take a datagram that isn't sealed, of
+    /// an engine that is held, or that no digest passes.
     pub fn step(&mut self, event: &Event) -> Result<(), WorldFault>
         ensures ok { OnOk result (Steps self.old event.now self.new) }
         ensures err { OnErr result (self.new ≡ self.old) }
@@ -92,16 +94,18 @@ impl World {
         }
     }
 
-    /// Does events one after another, up to the first that is refused. Then each manager holds of each engine the greatest
-    /// mark, and so the greatest pair, of what it knows: what it began with, what it authenticated, and what the files that it
-    /// absorbed were saved from, in whatever order they came.
+    /// Does events one after another, up to the first that is refused. Then each manager holds of each engine
+    /// the greatest mark, and so the greatest pair, of what it knows: what it began with, what it
+    /// authenticated, and what the files that it absorbed were saved from, in whatever order they came.
     ///
     /// The error tells how many events were done before the refused one, and why that was refused, as `step` does.
     pub fn run(&mut self, events: &[Event]) -> Result<(), WorldStopped>
-        ensures greatest { (users : List User) → HaveUsers users self.old → HasGreatest (knows_after_all users (counted result events.now) (at_first self.old)) self.new }
+        ensures greatest { (users : List User) → HaveUsers users self.old
+            → HasGreatest (knows_after_all users (counted result events.now) (at_first self.old)) self.new }
 
         // So it is the greatest pair of its knowledge too.
-        ensures pairs { (users : List User) → HaveUsers users self.old → HasGreatestPairs (knows_after_all users (counted result events.now) (at_first self.old)) self.new }
+        ensures pairs { (users : List User) → HaveUsers users self.old
+            → HasGreatestPairs (knows_after_all users (counted result events.now) (at_first self.old)) self.new }
 
         // The events that counted happened one after another; the next one is refused by what they left.
         ensures steps { StepsAll self.old (counted result events.now) self.new }
@@ -117,7 +121,8 @@ impl World {
 
     /// The pair that the manager of this number holds of an engine; None also where there is no such manager.
     pub fn pair(&self, manager: usize, engine: &EngineId) -> Option<Pair>
-        ensures { result ≡ option_and_then (λ held. pair_at held.clocks engine.now) (slice_get self.now.managers manager) }
+        ensures { result ≡ option_and_then (λ held. pair_at held.clocks engine.now)
+            (slice_get self.now.managers manager) }
     {
         self.managers.get(manager)?.pair(engine)
     }

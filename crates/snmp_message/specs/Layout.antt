@@ -1,5 +1,6 @@
 -- The layouts of a message, as relations on whole texts (RFC 3412, section 6).
-use Rattle.std.specs.Prelude.{◌≡◌, ◌≢◌, ◌⊎◌, ℕ, ℤ, pos, ◌+◌, ◌≤◌, Bool, not, nat_eq, List, [], ◌∷◌, ◌++◌, length, bit_and}
+use Rattle.std.specs.Prelude.{◌≡◌, ◌≢◌, ◌⊎◌, ℕ, ℤ, pos, ◌+◌, ◌≤◌, Bool, not, nat_eq, List, [], ◌∷◌, ◌++◌, length}
+use Rattle.std.specs.Prelude.{bit_and}
 use Rattle.snmp_ber.specs.Number.{IsInteger32}
 use Rattle.snmp_ber.specs.Element.{IsHead, IsElement, Begins}
 use Rattle.snmp_message.specs.declared.header.Header.{Header}
@@ -47,7 +48,8 @@ pub record Parts : Type 0 where
   pub security_at : ℕ
   pub data_at : ℕ
 
--- The text is an SNMPv3Message of version 3 with these parts: an element whose content is the texts of its four elements joined.
+-- The text is an SNMPv3Message of version 3 with these parts: an element whose content is the texts of its
+-- four elements joined.
 pub record Outer (w : List ℕ) (m : Parts) : Type 0 where
   pub version : List ℕ
   pub is_version : IsNumber 0 3 version

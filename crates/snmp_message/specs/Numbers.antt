@@ -1,7 +1,12 @@
 -- The refusals' numbers, names and words, which the whole engine shares.
 use Rattle.std.specs.Prelude.{ℕ, List, ◌++◌, codes, decimal, Option, Some, None}
 use Rattle.snmp_message.specs.declared.refusal.Refusal.{Refusal}
-use Rattle.snmp_message.specs.declared.refusal.Refusal.TheVariants.{NotMessage, BadVersion, NotSecurity, NotScoped, NotPdu, UnknownEngine, UnknownUser, UnsupportedLevel, WrongDigest, NotInWindow, DecryptionError, BadScoped, BadPdu, OutOfMemory, ClockExhausted, TooLarge, UnknownModel, InvalidFlags}
+use Rattle.snmp_message.specs.declared.refusal.Refusal.TheVariants.{NotMessage, BadVersion, NotSecurity, NotScoped}
+use Rattle.snmp_message.specs.declared.refusal.Refusal.TheVariants.{NotPdu, UnknownEngine, UnknownUser}
+use Rattle.snmp_message.specs.declared.refusal.Refusal.TheVariants.{UnsupportedLevel, WrongDigest, NotInWindow}
+use Rattle.snmp_message.specs.declared.refusal.Refusal.TheVariants.{DecryptionError, BadScoped, BadPdu, OutOfMemory}
+use Rattle.snmp_message.specs.declared.refusal.Refusal.TheVariants.{ClockExhausted, TooLarge, UnknownModel}
+use Rattle.snmp_message.specs.declared.refusal.Refusal.TheVariants.{InvalidFlags}
 
 abbrev pub refusal_number : Refusal → ℕ
 refusal_number NotMessage = 1

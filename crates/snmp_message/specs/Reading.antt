@@ -1,5 +1,6 @@
 -- The one reading of a message, from left to right.
-use Rattle.std.specs.Prelude.{ℕ, ℤ, pos, negsuc, ◌+◌, ◌-◌, ◌||◌, nat_lt, ◌==◌, if◌then◌else◌, List, [], ◌∷◌, length, Option, Some, None}
+use Rattle.std.specs.Prelude.{ℕ, ℤ, pos, negsuc, ◌+◌, ◌-◌, ◌||◌, nat_lt, ◌==◌, if◌then◌else◌, List, [], ◌∷◌, length}
+use Rattle.std.specs.Prelude.{Option, Some, None}
 use Rattle.snmp_ber.specs.Reading.{Front, front_of, integer32_of}
 use Rattle.snmp_message.specs.Steps.{◌>>=◌}
 use Rattle.snmp_message.specs.Layout.{Parts, has_bit}

@@ -1,5 +1,6 @@
 -- The layout of a ScopedPDU (RFC 3412, section 6.8).
-use Rattle.std.specs.Prelude.{◌≡◌, ℕ, ◌+◌, ◌-◌, ◌≤◌, nat_lt, slice_range, if◌then◌else◌, List, ◌++◌, length, Option, Some, None, true, false}
+use Rattle.std.specs.Prelude.{◌≡◌, ℕ, ◌+◌, ◌-◌, ◌≤◌, nat_lt, slice_range, if◌then◌else◌, List, ◌++◌, length, Option}
+use Rattle.std.specs.Prelude.{Some, None, true, false}
 use Rattle.snmp_ber.specs.Element.{IsHead, IsElement}
 use Rattle.snmp_ber.specs.Reading.{Front, front_of}
 use Rattle.snmp_ber.specs.Spelling.{head_size, element}
@@ -39,7 +40,8 @@ pub record ScopedText (at : ℕ) (z : List ℕ) (s : Contexts) : Type 0 where
 
 -- Priv is clear, and msgData is a ScopedPDU.
 abbrev pub HasScoped : List ℕ → Parts → Contexts → Type 0
-HasScoped w m s = (m.header.privacy ≡ false) × (m.data_tag ≡ 48) × ScopedContent (length w - length m.data_content) m.data_content s
+HasScoped w m s = (m.header.privacy ≡ false) × (m.data_tag ≡ 48)
+    × ScopedContent (length w - length m.data_content) m.data_content s
 
 -- Priv is set, and msgData is an OCTET STRING.
 abbrev pub HasSealed : Parts → Type 0
@@ -85,7 +87,8 @@ contexts_of s = record {
 
 -- The parts follow each other, and end within so many octets.
 abbrev pub StandsWithin : ℕ → ScopedPlace → Type 0
-StandsWithin size p = (p.engine_at ≤ p.engine_end) × (p.engine_end ≤ p.name_at) × (p.name_at ≤ p.data_at) × (p.data_at ≤ p.end) × (p.end ≤ size)
+StandsWithin size p = (p.engine_at ≤ p.engine_end) × (p.engine_end ≤ p.name_at) × (p.name_at ≤ p.data_at)
+    × (p.data_at ≤ p.end) × (p.end ≤ size)
 
 -- what stands at these places of the octets
 abbrev pub contexts_there : List ℕ → ScopedPlace → Contexts
@@ -107,7 +110,8 @@ contexts_text engine name pdu = element 4 engine ++ (element 4 name ++ pdu)
 
 -- how many octets that is, where the parts have these sizes
 abbrev pub contexts_size : ℕ → ℕ → ℕ → ℕ
-contexts_size engine_size name_size pdu_size = (head_size engine_size + engine_size) + (head_size name_size + name_size) + pdu_size
+contexts_size engine_size name_size pdu_size = (head_size engine_size + engine_size)
+    + (head_size name_size + name_size) + pdu_size
 
 unfoldable pub scoped_text : List ℕ → List ℕ → List ℕ → List ℕ
 scoped_text engine name pdu = element 48 (contexts_text engine name pdu)

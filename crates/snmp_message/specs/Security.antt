@@ -21,8 +21,8 @@ pub record Fields : Type 0 where
   -- the place of the content of msgAuthenticationParameters in the datagram
   pub auth_at : ℕ
 
--- The content of a UsmSecurityParameters with these fields, which stands at this place of a datagram: the texts of its six
--- elements joined.
+-- The content of a UsmSecurityParameters with these fields, which stands at this place of a datagram: the
+-- texts of its six elements joined.
 pub record SecContent (at : ℕ) (content : List ℕ) (s : Fields) : Type 0 where
   pub engine : List ℕ
   pub is_engine : IsElement 4 s.engine engine
@@ -115,7 +115,8 @@ pub record IsShort (s : Fields) : Type 0 where
   pub salt : length s.salt ≤ LARGEST
 
 unfoldable pub fields_text : Fields → List ℕ
-fields_text s = element 4 s.engine ++ (number s.boots ++ (number s.time ++ (element 4 s.user ++ (element 4 s.auth ++ element 4 s.salt))))
+fields_text s = element 4 s.engine
+    ++ (number s.boots ++ (number s.time ++ (element 4 s.user ++ (element 4 s.auth ++ element 4 s.salt))))
 
 -- the text of msgSecurityParameters; the place is not looked at
 unfoldable pub security_text : Fields → List ℕ
@@ -124,7 +125,10 @@ security_text s = element 48 (fields_text s)
 -- the same fields, in a text that was written at this place
 abbrev pub placed : ℕ → Fields → Fields
 placed at s = record s {
-  auth_at = at + (length (head_of 48 (length (fields_text s))) + (length (element 4 s.engine) + (length (number s.boots) + (length (number s.time) + (length (element 4 s.user) + length (head_of 4 (length s.auth)))))));
+  auth_at = at + (length (head_of 48 (length (fields_text s)))
+      + (length (element 4 s.engine)
+      + (length (number s.boots)
+      + (length (number s.time) + (length (element 4 s.user) + length (head_of 4 (length s.auth)))))));
 }
 
 -- the same fields with another msgAuthenticationParameters

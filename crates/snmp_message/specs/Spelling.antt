@@ -28,7 +28,8 @@ header_text h = number h.id ++ (number h.max_size ++ (element 4 (flags_of h ∷ 
 
 -- the content of a message
 unfoldable pub content_text : Header → List ℕ → ℕ → List ℕ → List ℕ
-content_text h security tag content = number 3 ++ (element 48 (header_text h) ++ (element 4 security ++ element tag content))
+content_text h security tag content = number 3
+    ++ (element 48 (header_text h) ++ (element 4 security ++ element tag content))
 
 unfoldable pub message_text : Header → List ℕ → ℕ → List ℕ → List ℕ
 message_text h security tag content = element 48 (content_text h security tag content)
@@ -37,17 +38,20 @@ message_text h security tag content = element 48 (content_text h security tag co
 abbrev pub content_size : Header → ℕ → ℕ → ℕ
 content_size h security_size data_size =
     let header_size = length (header_text h) in
-    3 + (head_size header_size + header_size) + (head_size security_size + security_size) + (head_size data_size + data_size)
+    3 + (head_size header_size + header_size) + (head_size security_size + security_size)
+    + (head_size data_size + data_size)
 
 -- what stands in a message before the content of msgSecurityParameters
 unfoldable pub front_text : Header → ℕ → ℕ → List ℕ
-front_text h size security_size = head_of 48 size ++ (number 3 ++ (element 48 (header_text h) ++ head_of 4 security_size))
+front_text h size security_size = head_of 48 size
+    ++ (number 3 ++ (element 48 (header_text h) ++ head_of 4 security_size))
 
 -- the parts of a message that was written
 abbrev pub written : Header → List ℕ → ℕ → List ℕ → Parts
 written h security tag content =
     let head = head_of 48 (length (content_text h security tag content)) in
-    let front = length head + (length (number 3) + (length (element 48 (header_text h)) + length (head_of 4 (length security)))) in
+    let front = length head
+    + (length (number 3) + (length (element 48 (header_text h)) + length (head_of 4 (length security)))) in
     record {
       header = h;
       security = security;

@@ -10,8 +10,8 @@ use std::alloc::AllocError;
 use std::error::Error;
 use std::fmt;
 
-/// The layout that octets don't have. `at` is the place of the first fault, counted from 0 in the octets that were read:
-/// elements are read depth first, from left to right.
+/// The layout that octets don't have. `at` is the place of the first fault, counted from 0 in the octets that
+/// were read: elements are read depth first, from left to right.
 #[derive(Clone, Copy, Debug, PartialEq, Eq, Drop)]
 pub enum MsgFault {
     /// 1: not an SNMPv3Message (RFC 3412, section 6).

@@ -24,9 +24,11 @@ pub const SEQUENCE: u8 = 0x30;
 pub fn read_element(bytes: &[u8], at: usize, end: usize, tag: u8) -> Result<Tlv<'_>, BerFault>
     requires start { at ≤ end }
     requires within { end ≤ length bytes.now }
-    ensures value { option_map (front_at bytes.now end) (result_ok result) ≡ element_in tag (slice_range bytes.now at end) }
+    ensures value { option_map (front_at bytes.now end) (result_ok result)
+        ≡ element_in tag (slice_range bytes.now at end) }
     ensures content { IfOk result (λ t. t.content.now ≡ slice_range bytes.now t.body t.end) }
-    ensures ordered { IfOk result (λ t. (t.start ≡ at) × (at < t.body) × (t.body + length t.content.now ≡ t.end) × (t.end ≤ end)) }
+    ensures ordered { IfOk result
+        (λ t. (t.start ≡ at) × (at < t.body) × (t.body + length t.content.now ≡ t.end) × (t.end ≤ end)) }
 {
     let tlv = read_tlv(bytes, at, end)?;
     if tlv.tag != tag {
@@ -45,7 +47,8 @@ pub fn read_number(
 ) -> Result<(u32, usize), BerFault>
     requires start { at ≤ end }
     requires within { end ≤ length bytes.now }
-    ensures value { option_map (λ x. (x.0, slice_range bytes.now x.1 end)) (result_ok result) ≡ number_in least (slice_range bytes.now at end) }
+    ensures value { option_map (λ x. (x.0, slice_range bytes.now x.1 end)) (result_ok result)
+        ≡ number_in least (slice_range bytes.now at end) }
     ensures ordered { IfOk result (λ x. (at < x.1) × (x.1 ≤ end)) }
     ensures range { IfOk result (λ x. (least ≤ x.0) × (x.0 ≤ 2147483647)) }
 {
@@ -61,7 +64,8 @@ pub fn read_number(
 pub fn read_signed(bytes: &[u8], at: usize, end: usize) -> Result<(i32, usize), BerFault>
     requires start { at ≤ end }
     requires within { end ≤ length bytes.now }
-    ensures value { option_map (λ x. (x.0, slice_range bytes.now x.1 end)) (result_ok result) ≡ signed_in (slice_range bytes.now at end) }
+    ensures value { option_map (λ x. (x.0, slice_range bytes.now x.1 end)) (result_ok result)
+        ≡ signed_in (slice_range bytes.now at end) }
     ensures ordered { IfOk result (λ x. (at < x.1) × (x.1 ≤ end)) }
 {
     let tlv = read_element(bytes, at, end, INTEGER)?;

@@ -1,6 +1,7 @@
 //! msgGlobalData (RFC 3412, section 6).
 
-ghost use Rattle.std.specs.Prelude.{◌≡◌, ◌+◌, ◌<◌, ◌≤◌, ◌++◌, length, slice_range, IfOk, OnOk, MatchOption, true, false};
+ghost use Rattle.std.specs.Prelude.{◌≡◌, ◌+◌, ◌<◌, ◌≤◌, ◌++◌, length, slice_range, IfOk, OnOk, MatchOption, true};
+ghost use Rattle.std.specs.Prelude.{false};
 ghost use Rattle.std.specs.Result.{result_ok};
 ghost use Rattle.snmp_message.specs.Reading.{header_of};
 ghost use Rattle.snmp_message.specs.Spelling.{HeaderFits, header_text};
@@ -33,8 +34,10 @@ pub struct Header {
 impl Header {
     /// The security level that the flags say (RFC 3412, section 6.4), and None for priv without auth.
     pub fn level(&self) -> Option<Level>
-        ensures level { MatchOption result ((self.now.privacy ≡ true) × (self.now.auth ≡ false)) (λ level. level ≡ level_of self.now) }
-        ensures allowed { MatchOption result (self.now.privacy ≡ true) (λ _. self.now.privacy ≡ true → self.now.auth ≡ true) }
+        ensures level { MatchOption result ((self.now.privacy ≡ true) × (self.now.auth ≡ false))
+            (λ level. level ≡ level_of self.now) }
+        ensures allowed { MatchOption result (self.now.privacy ≡ true)
+            (λ _. self.now.privacy ≡ true → self.now.auth ≡ true) }
     {
         match (self.auth, self.privacy) {
             (false, false) => Some(Level::NoAuthNoPriv),

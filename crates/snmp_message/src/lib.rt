@@ -1,8 +1,8 @@
-//! The outer layers of SNMPv3 messages: the message, its security parameters and its ScopedPDU (RFC 3412, section 6; RFC 3414,
-//! section 2.4), read and written.
+//! The outer layers of SNMPv3 messages: the message, its security parameters and its ScopedPDU (RFC 3412,
+//! section 6; RFC 3414, section 2.4), read and written.
 //!
-//! Each layer is read from slices of the datagram, without memory, and written in its canonical spelling, in which every length
-//! is the shortest.
+//! Each layer is read from slices of the datagram, without memory, and written in its canonical spelling, in
+//! which every length is the shortest.
 //!
 //! ```
 //! use snmp_message::{read_message, read_security};

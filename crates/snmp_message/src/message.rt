@@ -1,6 +1,7 @@
 //! The outer layout of an SNMPv3Message (RFC 3412, section 6).
 
-ghost use Rattle.std.specs.Prelude.{◌≡◌, ◌+◌, ◌*◌, ◌<◌, ◌≤◌, ◌++◌, length, slice_range, option_map, IfOk, OnOk, OnErr, IsErrOf, MatchResult};
+ghost use Rattle.std.specs.Prelude.{◌≡◌, ◌+◌, ◌*◌, ◌<◌, ◌≤◌, ◌++◌, length, slice_range, option_map, IfOk, OnOk};
+ghost use Rattle.std.specs.Prelude.{OnErr, IsErrOf, MatchResult};
 ghost use Rattle.std.specs.Result.{result_ok};
 ghost use Rattle.snmp_ber.specs.Spelling.{head_size};
 ghost use Rattle.snmp_message.specs.Layout.{Parts, Outer};
@@ -65,7 +66,9 @@ pub struct Message<'a> {
 /// The version, the place after it, and the end of the message.
 #[tactic(auto, unfolding(crate::specs::Reading::version_in))]
 fn read_version(datagram: &[u8]) -> Result<(i32, usize, usize), BerFault>
-    ensures value { option_map (λ v. (v.0, slice_range datagram.now v.1 v.2, slice_range datagram.now v.2 (length datagram.now))) (result_ok result) ≡ version_in datagram.now }
+    ensures value { option_map
+        (λ v. (v.0, slice_range datagram.now v.1 v.2, slice_range datagram.now v.2 (length datagram.now)))
+        (result_ok result) ≡ version_in datagram.now }
     ensures ordered { IfOk result (λ v. (v.1 ≤ v.2) × (v.2 ≤ length datagram.now)) }
 {
     let whole = read_element(datagram, 0, datagram.len(), SEQUENCE)?;
@@ -108,8 +111,9 @@ fn read_after_version(datagram: &[u8], at: usize, end: usize) -> Result<Message<
 /// The message that the datagram is, in its outer layout: msgSecurityParameters are one OCTET STRING and msgData is one
 /// SEQUENCE or OCTET STRING, and neither is looked into.
 ///
-/// BadVersion comes exactly where the datagram begins with a SEQUENCE whose content begins with an INTEGER other than 3.
-/// NotMessage comes exactly where it doesn't, and isn't an SNMPv3Message of version 3. No memory is taken.
+/// BadVersion comes exactly where the datagram begins with a SEQUENCE whose content begins with an INTEGER
+/// other than 3. NotMessage comes exactly where it doesn't, and isn't an SNMPv3Message of version 3. No
+/// memory is taken.
 pub fn read_message(datagram: &[u8]) -> Result<Message<'_>, MsgFault>
     ensures exact { MatchResult result (λ m. Outer datagram.now (parts m)) (RefusesOuter datagram.now) }
     ensures none { OnErr result ((m : Parts) → Outer datagram.now m → ⊥) }
@@ -147,8 +151,8 @@ fn content_len(header: &Header, security_len: usize, data_len: usize) -> usize
         + element_len(data_len)
 }
 
-/// How many octets a message has (RFC 3412, section 6) whose msgSecurityParameters and msgData have contents of these sizes in octets, each
-/// at most 65,507.
+/// How many octets a message has (RFC 3412, section 6) whose msgSecurityParameters and msgData have contents
+/// of these sizes in octets, each at most 65,507.
 pub fn message_len(header: &Header, security_len: usize, data_len: usize) -> usize
     requires header { HeaderFits header.now }
     requires security { security_len ≤ LARGEST }
@@ -159,7 +163,8 @@ pub fn message_len(header: &Header, security_len: usize, data_len: usize) -> usi
     element_len(content_len(header, security_len, data_len))
 }
 
-/// Appends what stands in a message before the content of msgSecurityParameters (RFC 3412, section 6), the sizes as for `message_len`.
+/// Appends what stands in a message before the content of msgSecurityParameters (RFC 3412, section 6), the
+/// sizes as for `message_len`.
 ///
 /// The error is want of memory, and a front of this may have been appended.
 #[tactic(auto, unfolding(crate::specs::Spelling::front_text))]
@@ -172,7 +177,9 @@ pub fn put_front(
     requires header { HeaderFits header.now }
     requires security { security_len ≤ LARGEST }
     requires within { data_len ≤ LARGEST }
-    ensures ok { OnOk result (out.new.items ≡ out.old.items ++ front_text header.now (content_size header.now security_len data_len) security_len) }
+    ensures ok { OnOk result
+        (out.new.items ≡ out.old.items
+        ++ front_text header.now (content_size header.now security_len data_len) security_len) }
 {
     put_head(out, SEQUENCE, content_len(header, security_len, data_len))?;
     put_int(out, 3)?;
@@ -192,7 +199,8 @@ fn spell_message(
     requires header { HeaderFits header.now }
     requires security { length security.now ≤ LARGEST }
     requires within { length (content_of body.now) ≤ LARGEST }
-    ensures { IfOk result (λ v. v.items ≡ message_text header.now security.now (tag_of body.now) (content_of body.now)) }
+    ensures { IfOk result
+        (λ v. v.items ≡ message_text header.now security.now (tag_of body.now) (content_of body.now)) }
 {
     let content = body.content();
     let mut out = Vec::with_capacity(alloc, size)?;
@@ -213,11 +221,15 @@ pub fn write_message(
     body: &Data<'_>,
 ) -> Result<Vec<u8>, WriteFault>
     requires { HeaderFits header.now }
-    ensures ok { IfOk result (λ v. v.items ≡ message_text header.now security.now (tag_of body.now) (content_of body.now)) }
+    ensures ok { IfOk result
+        (λ v. v.items ≡ message_text header.now security.now (tag_of body.now) (content_of body.now)) }
     ensures size { IfOk result (λ v. length v.items ≤ LARGEST) }
-    ensures spelled { IfOk result (λ v. Outer v.items (written header.now security.now (tag_of body.now) (content_of body.now))) }
-    ensures too_large { IsErrOf result WriteFault.TooLarge → LARGEST < length (message_text header.now security.now (tag_of body.now) (content_of body.now)) }
-    ensures memory { IsErrOf result WriteFault.OutOfMemory → length (message_text header.now security.now (tag_of body.now) (content_of body.now)) ≤ LARGEST }
+    ensures spelled { IfOk result
+        (λ v. Outer v.items (written header.now security.now (tag_of body.now) (content_of body.now))) }
+    ensures too_large { IsErrOf result WriteFault.TooLarge
+        → LARGEST < length (message_text header.now security.now (tag_of body.now) (content_of body.now)) }
+    ensures memory { IsErrOf result WriteFault.OutOfMemory
+        → length (message_text header.now security.now (tag_of body.now) (content_of body.now)) ≤ LARGEST }
 {
     let content = body.content();
     if security.len().max(content.len()) > LARGEST {

@@ -1,12 +1,15 @@
 //! ScopedPDU (RFC 3412, section 6.8).
 
-ghost use Rattle.std.specs.Prelude.{◌≡◌, ℕ, List, ◌+◌, ◌*◌, ◌<◌, ◌≤◌, ◌++◌, length, slice_range, option_map, IfOk, IfSome, OnOk, OnErr, IsErrOf, MatchOption, MatchResult};
+ghost use Rattle.std.specs.Prelude.{◌≡◌, ℕ, List, ◌+◌, ◌*◌, ◌<◌, ◌≤◌, ◌++◌, length, slice_range, option_map, IfOk};
+ghost use Rattle.std.specs.Prelude.{IfSome, OnOk, OnErr, IsErrOf, MatchOption, MatchResult};
 ghost use Rattle.std.specs.Result.{result_ok};
 ghost use Rattle.snmp_ber.specs.Element.{IsElement};
 ghost use Rattle.snmp_ber.specs.Spelling.{element, head_size};
 ghost use Rattle.snmp_message.specs.Layout.{Outer};
 ghost use Rattle.snmp_message.specs.Message.{parts};
-ghost use Rattle.snmp_message.specs.Scoped.{Contexts, ScopedText, HasScoped, HasSealed, ScopedFront, contexts_in, contexts_of, contexts_there, scoped_front_in, StandsWithin, IsOneElement, contexts_size, contexts_text, scoped_text, contexts_placed};
+ghost use Rattle.snmp_message.specs.Scoped.{Contexts, ScopedText, HasScoped, HasSealed, ScopedFront, contexts_in};
+ghost use Rattle.snmp_message.specs.Scoped.{contexts_of, contexts_there, scoped_front_in, StandsWithin, IsOneElement};
+ghost use Rattle.snmp_message.specs.Scoped.{contexts_size, contexts_text, scoped_text, contexts_placed};
 ghost use Rattle.snmp_message.specs.Refusals.{RefusesScoped, RefusesFront};
 
 use crate::fault::{MsgFault, WriteFault};
@@ -28,8 +31,8 @@ pub struct Scoped<'a> {
     pub data_at: usize,
 }
 
-/// Where the parts of a ScopedPDU stand in the octets that it was read in, counted from 0. Once it was read, no octet of its heads
-/// is read again.
+/// Where the parts of a ScopedPDU stand in the octets that it was read in, counted from 0. Once it was read,
+/// no octet of its heads is read again.
 #[derive(Clone, Copy, Debug, PartialEq, Eq)]
 pub struct ScopedPlace {
     /// The place of contextEngineID's first octet.
@@ -68,7 +71,8 @@ impl ScopedPlace {
 fn place_contexts(octets: &[u8], at: usize, end: usize) -> Result<ScopedPlace, BerFault>
     requires start { at ≤ end }
     requires within { end ≤ length octets.now }
-    ensures value { option_map (contexts_there octets.now) (result_ok result) ≡ contexts_in end (slice_range octets.now at end) }
+    ensures value { option_map (contexts_there octets.now) (result_ok result)
+        ≡ contexts_in end (slice_range octets.now at end) }
     ensures stands { IfOk result (λ p. StandsWithin (length octets.now) p) }
     ensures ends { IfOk result (λ p. p.end ≡ end) }
 {
@@ -99,22 +103,26 @@ fn read_contexts(octets: &[u8], at: usize, end: usize) -> Result<Scoped<'_>, Ber
     Ok(place.lent(octets))
 }
 
-/// The ScopedPDU of a message whose priv flag is clear, and None for the sealed octets of one whose priv flag is set. The
-/// message is `read_message`'s of this datagram.
+/// The ScopedPDU of a message whose priv flag is clear, and None for the sealed octets of one whose priv flag
+/// is set. The message is `read_message`'s of this datagram.
 ///
-/// The error is NotScoped, exactly where msgData isn't an OCTET STRING though priv is set, isn't a SEQUENCE though priv is
-/// clear, or is a SEQUENCE that isn't one ScopedPDU. No memory is taken.
+/// The error is NotScoped, exactly where msgData isn't an OCTET STRING though priv is set, isn't a SEQUENCE
+/// though priv is clear, or is a SEQUENCE that isn't one ScopedPDU. No memory is taken.
 pub fn read_scoped<'a>(
     datagram: &'a [u8],
     message: &Message<'_>,
 ) -> Result<Option<Scoped<'a>>, MsgFault>
     requires { Outer datagram.now (parts message.now) }
     ensures exact { MatchResult result
-        (λ found. MatchOption found (HasSealed (parts message.now)) (λ s. HasScoped datagram.now (parts message.now) (contexts_of s)))
+        (λ found. MatchOption found (HasSealed (parts message.now))
+        (λ s. HasScoped datagram.now (parts message.now) (contexts_of s)))
         (RefusesScoped datagram.now (parts message.now)) }
-    ensures none { OnErr result ((HasSealed (parts message.now) → ⊥) × ((s : Contexts) → HasScoped datagram.now (parts message.now) s → ⊥)) }
+    ensures none { OnErr result
+        ((HasSealed (parts message.now) → ⊥)
+        × ((s : Contexts) → HasScoped datagram.now (parts message.now) s → ⊥)) }
     ensures within { IfOk result (λ found. IfSome found (λ s. s.data_at + length s.pdu.now ≡ length datagram.now)) }
-    ensures place { IfOk result (λ found. IfSome found (λ s. s.pdu.now ≡ slice_range datagram.now s.data_at (length datagram.now))) }
+    ensures place { IfOk result
+        (λ found. IfSome found (λ s. s.pdu.now ≡ slice_range datagram.now s.data_at (length datagram.now))) }
     ensures element { IfOk result (λ found. IfSome found (λ s. IsOneElement s.pdu.now)) }
 {
     match (message.header.privacy, message.body) {
@@ -141,12 +149,14 @@ fn place_front(plaintext: &[u8]) -> Result<ScopedPlace, BerFault>
     place_contexts(plaintext, whole.body, whole.end)
 }
 
-/// Where the parts of the ScopedPDU stand that decrypted octets begin with. What follows it is padding, and isn't looked at.
+/// Where the parts of the ScopedPDU stand that decrypted octets begin with. What follows it is padding, and
+/// isn't looked at.
 ///
 /// The error is NotScoped, exactly where no front of the octets is a ScopedPDU; its place counts in the plaintext. No
 /// memory is taken.
 pub fn place_scoped_front(plaintext: &[u8]) -> Result<ScopedPlace, MsgFault>
-    ensures exact { MatchResult result (λ p. ScopedFront plaintext.now (contexts_there plaintext.now p)) (RefusesFront plaintext.now) }
+    ensures exact { MatchResult result (λ p. ScopedFront plaintext.now (contexts_there plaintext.now p))
+        (RefusesFront plaintext.now) }
     ensures none { OnErr result ((s : Contexts) → ScopedFront plaintext.now s → ⊥) }
     ensures stands { IfOk result (λ p. StandsWithin (length plaintext.now) p) }
     ensures element { IfOk result (λ p. IsOneElement (slice_range plaintext.now p.data_at p.end)) }
@@ -216,8 +226,8 @@ fn spell_scoped(
 
 /// A ScopedPDU, in the shortest spelling, around its data, which is one whole element.
 ///
-/// The error TooLarge (16) comes exactly where the text would be longer than 65,507 octets, unless there is want of memory,
-/// which is the other error.
+/// The error TooLarge (16) comes exactly where the text would be longer than 65,507 octets, unless there is
+/// want of memory, which is the other error.
 pub fn write_scoped(
     alloc: Global,
     engine: &[u8],
@@ -228,9 +238,14 @@ pub fn write_scoped(
     ensures ok { IfOk result (λ v. v.items ≡ scoped_text engine.now name.now pdu.now) }
     ensures size { IfOk result (λ v. length v.items ≤ LARGEST) }
     ensures element { IfOk result (λ v. (content : List ℕ) × IsElement 48 content v.items) }
-    ensures spelled { IfOk result (λ v. ScopedText 0 v.items (contexts_placed (head_size (length (contexts_text engine.now name.now pdu.now))) engine.now name.now pdu.now)) }
-    ensures too_large { IsErrOf result WriteFault.TooLarge → LARGEST < length (scoped_text engine.now name.now pdu.now) }
-    ensures memory { IsErrOf result WriteFault.OutOfMemory → length (scoped_text engine.now name.now pdu.now) ≤ LARGEST }
+    ensures spelled { IfOk result
+        (λ v. ScopedText 0 v.items
+        (contexts_placed (head_size (length (contexts_text engine.now name.now pdu.now))) engine.now
+        name.now pdu.now)) }
+    ensures too_large { IsErrOf result WriteFault.TooLarge
+        → LARGEST < length (scoped_text engine.now name.now pdu.now) }
+    ensures memory { IsErrOf result WriteFault.OutOfMemory
+        → length (scoped_text engine.now name.now pdu.now) ≤ LARGEST }
 {
     if engine.len().max(name.len()).max(pdu.len()) > LARGEST {
         return Err(WriteFault::TooLarge);

@@ -1,10 +1,12 @@
 //! msgSecurityParameters of the user-based security model (RFC 3414, section 2.4).
 
-ghost use Rattle.std.specs.Prelude.{◌≡◌, ℕ, ◌+◌, ◌*◌, ◌<◌, ◌≤◌, ◌++◌, length, slice_range, take, drop, option_map, IfOk, OnOk, OnErr, IsErrOf, MatchResult, IsTrue, ◌↔◌};
+ghost use Rattle.std.specs.Prelude.{◌≡◌, ℕ, ◌+◌, ◌*◌, ◌<◌, ◌≤◌, ◌++◌, length, slice_range, take, drop, option_map};
+ghost use Rattle.std.specs.Prelude.{IfOk, OnOk, OnErr, IsErrOf, MatchResult, IsTrue, ◌↔◌};
 ghost use Rattle.std.specs.Result.{result_ok};
 ghost use Rattle.snmp_message.specs.Layout.{Parts, Outer};
 ghost use Rattle.snmp_message.specs.Message.{parts};
-ghost use Rattle.snmp_message.specs.Security.{Fields, SecText, IsCut, fields_in, security_in, fields_of, FieldsFit, IsShort, fields_text, security_text, placed};
+ghost use Rattle.snmp_message.specs.Security.{Fields, SecText, IsCut, fields_in, security_in, fields_of, FieldsFit};
+ghost use Rattle.snmp_message.specs.Security.{IsShort, fields_text, security_text, placed};
 ghost use Rattle.snmp_message.specs.Refusals.{RefusesSecurity};
 
 use crate::fault::{MsgFault, WriteFault};
@@ -89,7 +91,8 @@ pub fn read_security<'a>(
     ensures exact { MatchResult result
         (λ s. SecText message.now.security_at message.now.security.now (fields_of s))
         (RefusesSecurity (parts message.now)) }
-    ensures none { OnErr result ((m : Parts) (s : Fields) → Outer datagram.now m → SecText m.security_at m.security s → ⊥) }
+    ensures none { OnErr result
+        ((m : Parts) (s : Fields) → Outer datagram.now m → SecText m.security_at m.security s → ⊥) }
 
     // The places are those of the cut.
     ensures cut { IfOk result (λ s. IsCut datagram.now (parts message.now) (fields_of s)
@@ -166,8 +169,8 @@ pub fn security_len(security: &Security<'_>) -> usize
     element_len(fields_len(security))
 }
 
-/// Appends the fields as UsmSecurityParameters (RFC 3414, section 2.4), in the shortest spelling. The error is want of memory, and a front
-/// of these may have been appended.
+/// Appends the fields as UsmSecurityParameters (RFC 3414, section 2.4), in the shortest spelling. The error
+/// is want of memory, and a front of these may have been appended.
 #[tactic(auto, unfolding(crate::specs::Security::security_text))]
 pub fn put_security(out: &mut Vec<u8>, security: &Security<'_>) -> Result<(), AllocError>
     requires fits { FieldsFit (fields_of security.now) }
@@ -195,8 +198,9 @@ fn spell_security(
 
 /// The fields, in the shortest spelling. Their `auth_at` isn't looked at.
 ///
-/// Boots and time are at most 2,147,483,647 and the user name has at most 32 octets. The error TooLarge (16) comes exactly
-/// where the text would be longer than 65,507 octets, unless there is want of memory, which is the other error.
+/// Boots and time are at most 2,147,483,647 and the user name has at most 32 octets. The error TooLarge (16)
+/// comes exactly where the text would be longer than 65,507 octets, unless there is want of memory, which is
+/// the other error.
 pub fn write_security(alloc: Global, security: &Security<'_>) -> Result<Vec<u8>, WriteFault>
     requires { FieldsFit (fields_of security.now) }
     ensures ok { IfOk result (λ v. v.items ≡ security_text (fields_of security.now)) }

@@ -29,7 +29,8 @@ pub record Whole : Type 0 where
 -- The msgData of the message says this, and is sealed where the priv flag is set.
 abbrev pub SaysData : List ℕ → Parts → DataParts → Type 0
 SaysData w m (sealed octets) = HasSealed m × (octets ≡ m.data_content)
-SaysData w m (plain engine name p) = (s : Contexts) × HasScoped w m s × SaysPdu s.pdu p × (engine ≡ s.engine) × (name ≡ s.name)
+SaysData w m (plain engine name p) = (s : Contexts) × HasScoped w m s × SaysPdu s.pdu p × (engine ≡ s.engine)
+    × (name ≡ s.name)
 
 -- The text is a message with these layers (RFC 3412, section 6; RFC 3414, section 2.4; RFC 3416, section 3).
 pub record Says (w : List ℕ) (m : Whole) : Type 0 where
@@ -91,7 +92,8 @@ abbrev pub IsReadLayer : Layer → Type 0
 IsReadLayer (layers.Sealed octets) = Unit {0}
 IsReadLayer (layers.Plain scoped p) = after_variables p.list.now ≡ []
 
--- what is to be written, and that it was measured: it can stand in a datagram, and the size is that of the bindings' canonical spelling
+-- what is to be written, and that it was measured: it can stand in a datagram, and the size is that of the
+-- bindings' canonical spelling
 abbrev pub measured_parts : Measured → DataParts
 measured_parts (measures.Sealed octets) = sealed octets.now
 measured_parts (measures.Plain scoped p size) = plain scoped.engine.now scoped.name.now (respelled (pdu_of p))
@@ -104,4 +106,5 @@ pub record IsListSize (p : Pdu) (size : ℕ) : Type 0 where
 
 abbrev pub IsMeasured : Measured → Type 0
 IsMeasured (measures.Sealed octets) = length octets.now ≤ LARGEST
-IsMeasured (measures.Plain scoped p size) = (length scoped.engine.now ≤ LARGEST) × (length scoped.name.now ≤ LARGEST) × IsListSize p size
+IsMeasured (measures.Plain scoped p size) = (length scoped.engine.now ≤ LARGEST) × (length scoped.name.now ≤ LARGEST)
+    × IsListSize p size

@@ -1,5 +1,6 @@
 -- The layout of a PDU (RFC 3416, section 3).
-use Rattle.std.specs.Prelude.{◌≡◌, ◌≢◌, ℕ, ℤ, pos, negsuc, ◌+◌, ◌≤◌, ◌≤ℤ◌, ◌&&◌, not, nat_le, nat_lt, ◌==◌, if◌then◌else◌, List, ◌++◌, length, Option, Some, None}
+use Rattle.std.specs.Prelude.{◌≡◌, ◌≢◌, ℕ, ℤ, pos, negsuc, ◌+◌, ◌≤◌, ◌≤ℤ◌, ◌&&◌, not, nat_le, nat_lt, ◌==◌}
+use Rattle.std.specs.Prelude.{if◌then◌else◌, List, ◌++◌, length, Option, Some, None}
 use Rattle.snmp_ber.specs.Number.{IsInteger32}
 use Rattle.snmp_ber.specs.Element.{IsElement}
 use Rattle.snmp_ber.specs.Reading.{Front, front_of}
@@ -39,7 +40,8 @@ pub record PduParts : Type 0 where
   -- the content of variable-bindings
   pub list : List ℕ
 
--- The content of a PDU with these parts: the texts of its four elements joined. The last of them is a SEQUENCE of bindings.
+-- The content of a PDU with these parts: the texts of its four elements joined. The last of them is a
+-- SEQUENCE of bindings.
 pub record PduContent (content : List ℕ) (p : PduParts) : Type 0 where
   pub id : List ℕ
   pub is_id : IsSigned p.id id
@@ -119,7 +121,13 @@ pdu_text p = element p.tag (pdu_content_text p)
 
 -- a PDU with these bindings, in their canonical spelling
 abbrev pub pdu_with : ℕ → ℤ → ℤ → ℤ → List Variable → PduParts
-pdu_with tag id second third vs = record { tag = tag; id = id; second = second; third = third; list = variables_text vs }
+pdu_with tag id second third vs = record {
+  tag = tag;
+  id = id;
+  second = second;
+  third = third;
+  list = variables_text vs;
+}
 
 -- the same PDU with these bindings, in their canonical spelling
 abbrev pub with_variables : PduParts → List Variable → PduParts
@@ -145,8 +153,10 @@ respelled p = with_variables p (variables_of p.list)
 
 -- how many octets the content of a PDU has whose list has so many
 abbrev pub pdu_content_size : PduParts → ℕ → ℕ
-pdu_content_size p list_size = length (signed p.id) + length (signed p.second) + length (signed p.third) + (head_size list_size + list_size)
+pdu_content_size p list_size = length (signed p.id) + length (signed p.second) + length (signed p.third)
+    + (head_size list_size + list_size)
 
 -- what stands in a PDU before the content of its list, which has so many octets
 unfoldable pub pdu_front_text : PduParts → ℕ → List ℕ
-pdu_front_text p list_size = head_of p.tag (pdu_content_size p list_size) ++ (signed p.id ++ (signed p.second ++ (signed p.third ++ head_of 48 list_size)))
+pdu_front_text p list_size = head_of p.tag (pdu_content_size p list_size)
+    ++ (signed p.id ++ (signed p.second ++ (signed p.third ++ head_of 48 list_size)))

@@ -25,9 +25,12 @@ RefusesPdu z _ = ⊥
 abbrev pub RefusesWhole : List ℕ → MsgFault → Type 0
 RefusesWhole w faults.BadVersion = WrongVersion w
 RefusesWhole w (faults.NotMessage at) = (WrongVersion w → ⊥) × ((m : Parts) → Outer w m → ⊥)
-RefusesWhole w (faults.NotScoped at) = (m : Parts) × Outer w m × (HasSealed m → ⊥) × ((s : Contexts) → HasScoped w m s → ⊥)
-RefusesWhole w (faults.NotSecurity at) = (m : Parts) × Outer w m × AgreesWithPriv w m × ((s : Fields) → SecText m.security_at m.security s → ⊥)
-RefusesWhole w (faults.NotPdu at) = (m : Parts) × (f : Fields) × (s : Contexts) × Outer w m × SecText m.security_at m.security f × HasScoped w m s × ((p : PduParts) → PduText s.pdu p → ⊥)
+RefusesWhole w (faults.NotScoped at) = (m : Parts) × Outer w m × (HasSealed m → ⊥)
+    × ((s : Contexts) → HasScoped w m s → ⊥)
+RefusesWhole w (faults.NotSecurity at) = (m : Parts) × Outer w m × AgreesWithPriv w m
+    × ((s : Fields) → SecText m.security_at m.security s → ⊥)
+RefusesWhole w (faults.NotPdu at) = (m : Parts) × (f : Fields) × (s : Contexts) × Outer w m
+    × SecText m.security_at m.security f × HasScoped w m s × ((p : PduParts) → PduText s.pdu p → ⊥)
 
 -- The fault is why there is no canonical spelling: want of memory comes only where there is one that fits a datagram.
 abbrev pub RefusesCanonical : List ℕ → CanonFault → Type 0

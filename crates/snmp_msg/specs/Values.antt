@@ -3,7 +3,9 @@ use Rattle.std.specs.Prelude.{◌==◌, if◌then◌else◌, ◌≡◌, ◌≤�
 use Rattle.snmp_ber.specs.Number.{IsInteger32, IsUnsigned}
 use Rattle.snmp_ber.specs.Oid.{IsIdentifier}
 use Rattle.snmp_msg.specs.declared.value.Syntax.{Syntax}
-use Rattle.snmp_msg.specs.declared.value.Syntax.TheVariants.{Integer32, OctetString, Null, ObjectIdentifier, IpAddress, Counter32, Unsigned32, TimeTicks, Opaque, Counter64, NoSuchObject, NoSuchInstance, EndOfMibView}
+use Rattle.snmp_msg.specs.declared.value.Syntax.TheVariants.{Integer32, OctetString, Null, ObjectIdentifier}
+use Rattle.snmp_msg.specs.declared.value.Syntax.TheVariants.{IpAddress, Counter32, Unsigned32, TimeTicks, Opaque}
+use Rattle.snmp_msg.specs.declared.value.Syntax.TheVariants.{Counter64, NoSuchObject, NoSuchInstance, EndOfMibView}
 
 -- the syntax of a tag
 abbrev pub syntax_of : ℕ → Option Syntax

@@ -19,8 +19,8 @@ pub record Variable : Type 0 where
   pub tag : ℕ
   pub content : List ℕ
 
--- The text is exactly one VarBind: a SEQUENCE whose content is the texts of an OBJECT IDENTIFIER and of one element of any
--- tag, joined.
+-- The text is exactly one VarBind: a SEQUENCE whose content is the texts of an OBJECT IDENTIFIER and of one
+-- element of any tag, joined.
 pub record IsBinding (text : List ℕ) (v : Variable) : Type 0 where
   pub name : List ℕ
   pub name_content : List ℕ
@@ -35,7 +35,8 @@ pub record IsBinding (text : List ℕ) (v : Variable) : Type 0 where
 -- The octets are the texts of these bindings, joined.
 abbrev pub AreBindings : List Variable → List ℕ → Type 0
 AreBindings [] octets = octets ≡ []
-AreBindings (v ∷ vs) octets = (text : List ℕ) × (rest : List ℕ) × IsBinding text v × (octets ≡ text ++ rest) × AreBindings vs rest
+AreBindings (v ∷ vs) octets = (text : List ℕ) × (rest : List ℕ) × IsBinding text v × (octets ≡ text ++ rest)
+    × AreBindings vs rest
 
 -- ---- the one reading
 
@@ -53,7 +54,8 @@ binding_in octets = do
   f ← front_of name.rest
   with_value arcs whole.rest f
 
-abbrev pub with_binding : (List ℕ → List Variable × List ℕ) → List ℕ → Option (Variable × List ℕ) → List Variable × List ℕ
+abbrev pub with_binding : (List ℕ → List Variable × List ℕ) → List ℕ → Option (Variable × List ℕ)
+    → List Variable × List ℕ
 with_binding taken octets None = ([], octets)
 with_binding taken octets (Some x) = (x.0 ∷ (taken x.1).0, (taken x.1).1)
 

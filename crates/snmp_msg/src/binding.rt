@@ -1,11 +1,13 @@
 //! Variable bindings (RFC 3416, section 3).
 
-ghost use Rattle.std.specs.Prelude.{◌≡◌, ℕ, List, [], ◌<◌, ◌≤◌, ◌++◌, length, slice_range, option_map, is_some, true, IfOk, OnOk, OnErr};
+ghost use Rattle.std.specs.Prelude.{◌≡◌, ℕ, List, [], ◌<◌, ◌≤◌, ◌++◌, length, slice_range, option_map, is_some, true};
+ghost use Rattle.std.specs.Prelude.{IfOk, OnOk, OnErr};
 ghost use Rattle.std.specs.Result.{result_ok};
 ghost use Rattle.std.specs.Iterator.{YieldsFirstBy, item_count};
 ghost use Rattle.snmp_ber.specs.Oid.{identifier_in};
 ghost use Rattle.snmp_ber.specs.Element.{StandsAt};
-ghost use Rattle.snmp_msg.specs.Variables.{Variable, IsBinding, IsReadBinding, variable_with, binding_in, variables_of, after_variables, variable_of, bindings_left};
+ghost use Rattle.snmp_msg.specs.Variables.{Variable, IsBinding, IsReadBinding, variable_with, binding_in};
+ghost use Rattle.snmp_msg.specs.Variables.{variables_of, after_variables, variable_of, bindings_left};
 
 use crate::variable::VariableBindings;
 use snmp_ber::{BerFault, Oid, Tlv, is_oid, read_tlv};
@@ -38,11 +40,15 @@ pub struct VarBind<'a> {
 pub(crate) fn read_places(bytes: &[u8], at: usize, end: usize) -> Result<VarBind<'_>, BerFault>
     requires start { at ≤ end }
     requires within { end ≤ length bytes.now }
-    ensures after { option_map (λ b. slice_range bytes.now b.end end) (result_ok result) ≡ option_map (λ x. x.1) (binding_in (slice_range bytes.now at end)) }
-    ensures says { IfOk result (λ b. option_map (variable_with b (slice_range bytes.now b.end end)) (identifier_in b.name.content.now) ≡ binding_in (slice_range bytes.now at end)) }
+    ensures after { option_map (λ b. slice_range bytes.now b.end end) (result_ok result)
+        ≡ option_map (λ x. x.1) (binding_in (slice_range bytes.now at end)) }
+    ensures says { IfOk result
+        (λ b. option_map (variable_with b (slice_range bytes.now b.end end)) (identifier_in b.name.content.now)
+        ≡ binding_in (slice_range bytes.now at end)) }
     ensures named { IfOk result (λ b. is_some (identifier_in b.name.content.now) ≡ true) }
     ensures name { IfOk result (λ b. b.name.content.now ≡ slice_range bytes.now b.name.body b.name.end) }
-    ensures value { IfOk result (λ b. StandsAt bytes.now b.value.start b.value.body b.value.end b.value.tag b.value.content.now) }
+    ensures value { IfOk result
+        (λ b. StandsAt bytes.now b.value.start b.value.body b.value.end b.value.tag b.value.content.now) }
     ensures ordered { IfOk result (λ b. (at < b.end) × (b.value.end ≡ b.end) × (b.end ≤ end)) }
 {
     let whole = read_element(bytes, at, end, SEQUENCE)?;
@@ -67,10 +73,14 @@ pub(crate) fn read_places(bytes: &[u8], at: usize, end: usize) -> Result<VarBind
 pub fn read_binding(bytes: &[u8], at: usize, end: usize) -> Result<VarBind<'_>, BerFault>
     requires start { at ≤ end }
     requires within { end ≤ length bytes.now }
-    ensures found { IfOk result (λ b. IsReadBinding (slice_range bytes.now at end) (slice_range bytes.now b.end end) b) }
-    ensures none { OnErr result ((v : Variable) (text rest : List ℕ) → IsBinding text v → slice_range bytes.now at end ≡ text ++ rest → ⊥) }
+    ensures found { IfOk result
+        (λ b. IsReadBinding (slice_range bytes.now at end) (slice_range bytes.now b.end end) b) }
+    ensures none { OnErr result
+        ((v : Variable) (text rest : List ℕ) → IsBinding text v
+        → slice_range bytes.now at end ≡ text ++ rest → ⊥) }
     ensures name { IfOk result (λ b. b.name.content.now ≡ slice_range bytes.now b.name.body b.name.end) }
-    ensures value { IfOk result (λ b. StandsAt bytes.now b.value.start b.value.body b.value.end b.value.tag b.value.content.now) }
+    ensures value { IfOk result
+        (λ b. StandsAt bytes.now b.value.start b.value.body b.value.end b.value.tag b.value.content.now) }
     ensures ordered { IfOk result (λ b. (at < b.end) × (b.value.end ≡ b.end) × (b.end ≤ end)) }
 {
     let binding = read_places(bytes, at, end)?;
@@ -92,8 +102,8 @@ pub(crate) fn check_bindings(bytes: &[u8], at: usize, end: usize) -> Result<(), 
     Ok(())
 }
 
-/// The bindings of a list that are still to come, from left to right, each with the arcs of its name. It ends at the first
-/// octets that are no binding.
+/// The bindings of a list that are still to come, from left to right, each with the arcs of its name. It ends
+/// at the first octets that are no binding.
 #[derive(Clone, Copy, Debug)]
 pub struct Bindings<'a> {
     variables: VariableBindings<'a>,

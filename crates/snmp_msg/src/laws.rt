@@ -1,4 +1,5 @@
-//! Laws of PDUs and of whole messages, for callers that reason about datagrams. Each function does nothing: its contract is the law.
+//! Laws of PDUs and of whole messages, for callers that reason about datagrams. Each function does nothing:
+//! its contract is the law.
 
 ghost use Rattle.std.specs.Prelude.{◌≡◌, ◌≤◌, ℕ, List, length};
 ghost use Rattle.snmp_message.specs.declared.message.TheConstants.{LARGEST};
@@ -17,10 +18,12 @@ pub fn one_whole()
     ensures { (w : List ℕ) (m n : Whole) → Says w m → Says w n → m ≡ n }
 {}
 
-/// A PDU that is written is read again, and so is a list of bindings: each that fits has the layout that it is written in.
+/// A PDU that is written is read again, and so is a list of bindings: each that fits has the layout that it
+/// is written in.
 pub fn pdu_written_again()
     ensures pdu { (p : PduParts) → PduFits p → length (pdu_text p) ≤ LARGEST → PduText (pdu_text p) p }
-    ensures list { (vs : List Variable) → AllFit vs → length (variables_text vs) ≤ LARGEST → AreBindings vs (variables_text vs) }
+    ensures list { (vs : List Variable) → AllFit vs → length (variables_text vs) ≤ LARGEST
+        → AreBindings vs (variables_text vs) }
 {}
 
 /// A message has one canonical spelling, which is its own: spelling it again changes nothing.

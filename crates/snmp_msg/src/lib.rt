@@ -1,8 +1,9 @@
-//! SNMPv3 messages (RFC 3412, section 6; RFC 3414, section 2.4; RFC 3416, section 3), read and written: PDUs and their variable
-//! bindings, and messages with all their layers.
+//! SNMPv3 messages (RFC 3412, section 6; RFC 3414, section 2.4; RFC 3416, section 3), read and written: PDUs
+//! and their variable bindings, and messages with all their layers.
 //!
-//! Each layer of a message is read from slices of the datagram, without memory, and written in its canonical spelling, in
-//! which every length is the shortest. The outer layers stand in `snmp_message`, and are to be had here under the same names.
+//! Each layer of a message is read from slices of the datagram, without memory, and written in its canonical
+//! spelling, in which every length is the shortest. The outer layers stand in `snmp_message`, and are to be
+//! had here under the same names.
 //!
 //! ```
 //! use snmp_msg::{GET_REQUEST, read_pdu};

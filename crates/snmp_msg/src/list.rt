@@ -4,7 +4,9 @@ ghost use Rattle.std.specs.Prelude.{◌≡◌, [], ◌*◌, ◌<◌, ◌≤◌, 
 ghost use Rattle.snmp_ber.specs.Element.{IsTag};
 ghost use Rattle.snmp_ber.specs.Oid.{identifier};
 ghost use Rattle.snmp_ber.specs.Spelling.{element};
-ghost use Rattle.snmp_msg.specs.Variables.{Variable, CanBeWritten, VariableFits, AllFit, variables_of, after_variables, variable_of, bound_variable, variable_content, variable_text, variables_text};
+ghost use Rattle.snmp_msg.specs.Variables.{Variable, CanBeWritten, VariableFits, AllFit, variables_of};
+ghost use Rattle.snmp_msg.specs.Variables.{after_variables, variable_of, bound_variable, variable_content};
+ghost use Rattle.snmp_msg.specs.Variables.{variable_text, variables_text};
 
 use crate::binding::Binding;
 use crate::variable::{VariableBinding, VariableBindings};
@@ -98,7 +100,8 @@ fn binding_content_len<B: Spelled>(binding: &B) -> usize
     binding.name_len() + element_len(binding.content().len())
 }
 
-/// How many octets a VarBind is written in (RFC 3416, section 3), or None where they are more than a datagram can have, 65,507.
+/// How many octets a VarBind is written in (RFC 3416, section 3), or None where they are more than a datagram
+/// can have, 65,507.
 #[tactic(auto, unfolding(crate::specs::Variables::variable_text))]
 pub fn binding_len<B: Spelled>(binding: &B) -> Option<usize>
     requires { B.fits binding.now }
@@ -129,8 +132,8 @@ fn put_binding<B: Spelled>(out: &mut Vec<u8>, binding: &B) -> Result<(), AllocEr
     put_tlv(out, binding.tag(), binding.content())
 }
 
-/// How many octets the content of a list of these bindings is written in (RFC 3416, section 3), or None where they are more than a datagram
-/// can have, 65,507.
+/// How many octets the content of a list of these bindings is written in (RFC 3416, section 3), or None where
+/// they are more than a datagram can have, 65,507.
 pub fn bindings_len<B: Spelled>(bindings: &[B]) -> Option<usize>
     requires { All (λ b. B.fits b) bindings.now }
     ensures some { IfSome result (λ size. size ≡ length (variables_text (map B.says bindings.now))) }

@@ -1,10 +1,13 @@
 //! PDUs (RFC 3416, section 3).
 
-ghost use Rattle.std.specs.Prelude.{◌≡◌, ℕ, List, [], ◌+◌, ◌*◌, ◌<◌, ◌≤◌, ◌++◌, length, slice_range, option_map, IfOk, OnOk, OnErr, IsErrOf, MatchResult, All, map};
+ghost use Rattle.std.specs.Prelude.{◌≡◌, ℕ, List, [], ◌+◌, ◌*◌, ◌<◌, ◌≤◌, ◌++◌, length, slice_range, option_map};
+ghost use Rattle.std.specs.Prelude.{IfOk, OnOk, OnErr, IsErrOf, MatchResult, All, map};
 ghost use Rattle.std.specs.Result.{result_ok};
 ghost use Rattle.snmp_ber.specs.Spelling.{head_size};
-ghost use Rattle.snmp_msg.specs.Pdu.{IsPduTag, PduParts, PduText, PduFits, pdu_in, pdu_content_in, pdu_of, pdu_with, with_variables, pdu_content_size, pdu_front_text, pdu_text};
-ghost use Rattle.snmp_msg.specs.Variables.{Variable, AreBindings, CanBeWritten, variable_of, variables_of, bindings_left, variables_left, variables_text};
+ghost use Rattle.snmp_msg.specs.Pdu.{IsPduTag, PduParts, PduText, PduFits, pdu_in, pdu_content_in, pdu_of, pdu_with};
+ghost use Rattle.snmp_msg.specs.Pdu.{with_variables, pdu_content_size, pdu_front_text, pdu_text};
+ghost use Rattle.snmp_msg.specs.Variables.{Variable, AreBindings, CanBeWritten, variable_of, variables_of};
+ghost use Rattle.snmp_msg.specs.Variables.{bindings_left, variables_left, variables_text};
 ghost use Rattle.snmp_message.specs.Scoped.{IsOneElement};
 ghost use Rattle.snmp_msg.specs.Refusals.{RefusesPdu};
 
@@ -34,8 +37,8 @@ pub struct Pdu<'a> {
 }
 
 impl<'a> Pdu<'a> {
-    /// The bindings of the list, in order, each with the arcs of its name. They are all of it where the PDU is `read_pdu`'s; of
-    /// other octets they are those that it begins with. No memory is taken.
+    /// The bindings of the list, in order, each with the arcs of its name. They are all of it where the PDU
+    /// is `read_pdu`'s; of other octets they are those that it begins with. No memory is taken.
     pub fn bindings(&self) -> Bindings<'a>
         ensures first { bindings_left result ≡ variables_of self.now.list.now }
         ensures all { (vs : List Variable) → AreBindings vs self.now.list.now → bindings_left result ≡ vs }
@@ -43,8 +46,8 @@ impl<'a> Pdu<'a> {
         Bindings::of(self.list)
     }
 
-    /// The same bindings, in the same order, each with its name in the octets of the list: no arcs are read, which takes a
-    /// fourth of the time.
+    /// The same bindings, in the same order, each with its name in the octets of the list: no arcs are read,
+    /// which takes a fourth of the time.
     pub fn variable_bindings(&self) -> VariableBindings<'a>
         ensures first { variables_left result ≡ variables_of self.now.list.now }
         ensures all { (vs : List Variable) → AreBindings vs self.now.list.now → variables_left result ≡ vs }
@@ -101,7 +104,8 @@ fn read_whole_pdu(bytes: &[u8], at: usize, end: usize) -> Result<Pdu<'_>, BerFau
 pub fn read_pdu(bytes: &[u8], at: usize, end: usize) -> Result<Pdu<'_>, MsgFault>
     requires start { at ≤ end }
     requires within { end ≤ length bytes.now }
-    ensures exact { MatchResult result (λ p. PduText (slice_range bytes.now at end) (pdu_of p)) (RefusesPdu (slice_range bytes.now at end)) }
+    ensures exact { MatchResult result (λ p. PduText (slice_range bytes.now at end) (pdu_of p))
+        (RefusesPdu (slice_range bytes.now at end)) }
     ensures none { OnErr result ((p : PduParts) → PduText (slice_range bytes.now at end) p → ⊥) }
     ensures fits { IfOk result (λ p. PduFits (pdu_of p)) }
 {
@@ -129,11 +133,12 @@ pub(crate) fn pdu_len(pdu: &Pdu<'_>, list_len: usize) -> usize
     element_len(pdu_content_len(pdu, list_len))
 }
 
-/// How many octets a PDU with these numbers is written in, in the shortest spelling, whose list of bindings has `list_len` octets, at most
-/// 65,507.
+/// How many octets a PDU with these numbers is written in, in the shortest spelling, whose list of bindings
+/// has `list_len` octets, at most 65,507.
 pub fn written_pdu_len(id: i32, second: i32, third: i32, list_len: usize) -> usize
     requires { list_len ≤ LARGEST }
-    ensures size { (tag : ℕ) (list : List ℕ) → length list ≡ list_len → result ≡ length (pdu_text (record { tag = tag; id = id; second = second; third = third; list = list })) }
+    ensures size { (tag : ℕ) (list : List ℕ) → length list ≡ list_len
+        → result ≡ length (pdu_text (record { tag = tag; id = id; second = second; third = third; list = list })) }
     ensures most { result ≤ 3 * LARGEST }
 {
     pdu_len(&numbered(GET_REQUEST, id, second, third), list_len)
@@ -157,7 +162,8 @@ pub(crate) fn put_pdu_front(
     Ok(())
 }
 
-/// Appends a PDU with the tag and the numbers of `front` and with these bindings, whose list has `list_len` octets then.
+/// Appends a PDU with the tag and the numbers of `front` and with these bindings, whose list has `list_len`
+/// octets then.
 fn put_spelled<B: Spelled>(
     out: &mut Vec<u8>,
     front: &Pdu<'_>,
@@ -167,15 +173,17 @@ fn put_spelled<B: Spelled>(
     requires fit { All (λ b. B.fits b) bindings.now }
     requires list { list_len ≡ length (variables_text (map B.says bindings.now)) }
     requires within { list_len ≤ LARGEST }
-    ensures ok { OnOk result (out.new.items ≡ out.old.items ++ pdu_text (with_variables (pdu_of front.now) (map B.says bindings.now))) }
+    ensures ok { OnOk result
+        (out.new.items ≡ out.old.items
+        ++ pdu_text (with_variables (pdu_of front.now) (map B.says bindings.now))) }
 {
     put_pdu_front(out, front, list_len)?;
     put_bindings(out, bindings)?;
     Ok(())
 }
 
-/// Appends a PDU with these numbers and bindings, in the shortest spelling. The content of its list has `list_len` octets, as
-/// `bindings_len` tells.
+/// Appends a PDU with these numbers and bindings, in the shortest spelling. The content of its list has
+/// `list_len` octets, as `bindings_len` tells.
 ///
 /// The error is want of memory, and a front of the PDU may have been appended.
 pub fn put_pdu_of<B: Spelled>(
@@ -190,7 +198,8 @@ pub fn put_pdu_of<B: Spelled>(
     requires fit { All (λ b. B.fits b) bindings.now }
     requires list { list_len ≡ length (variables_text (map B.says bindings.now)) }
     requires within { list_len ≤ LARGEST }
-    ensures ok { OnOk result (out.new.items ≡ out.old.items ++ pdu_text (pdu_with tag id second third (map B.says bindings.now))) }
+    ensures ok { OnOk result
+        (out.new.items ≡ out.old.items ++ pdu_text (pdu_with tag id second third (map B.says bindings.now))) }
 {
     put_spelled(out, &numbered(tag, id, second, third), bindings, list_len)
 }
@@ -224,9 +233,12 @@ fn write_spelled<B: Spelled>(
     ensures ok { IfOk result (λ v. v.items ≡ pdu_text (with_variables (pdu_of front.now) (map B.says bindings.now))) }
     ensures size { IfOk result (λ v. length v.items ≤ LARGEST) }
     ensures spelled { IfOk result (λ v. PduText v.items (with_variables (pdu_of front.now) (map B.says bindings.now))) }
-    ensures bindings { IfOk result (λ _. AreBindings (map B.says bindings.now) (variables_text (map B.says bindings.now))) }
-    ensures too_large { IsErrOf result WriteFault.TooLarge → LARGEST < length (pdu_text (with_variables (pdu_of front.now) (map B.says bindings.now))) }
-    ensures memory { IsErrOf result WriteFault.OutOfMemory → length (pdu_text (with_variables (pdu_of front.now) (map B.says bindings.now))) ≤ LARGEST }
+    ensures bindings { IfOk result
+        (λ _. AreBindings (map B.says bindings.now) (variables_text (map B.says bindings.now))) }
+    ensures too_large { IsErrOf result WriteFault.TooLarge
+        → LARGEST < length (pdu_text (with_variables (pdu_of front.now) (map B.says bindings.now))) }
+    ensures memory { IsErrOf result WriteFault.OutOfMemory
+        → length (pdu_text (with_variables (pdu_of front.now) (map B.says bindings.now))) ≤ LARGEST }
 {
     let _numbers = (front.id, front.second, front.third);
     let Some(list_len) = bindings_len(bindings) else {
@@ -253,11 +265,11 @@ fn numbered(tag: u8, id: i32, second: i32, third: i32) -> Pdu<'static>
     }
 }
 
-/// A PDU with these bindings, in the shortest spelling. Its tag is one of those that `Pdu` lists, each name is an identifier
-/// with `is_object_id`, and no value's tag has low five bits that are all ones.
+/// A PDU with these bindings, in the shortest spelling. Its tag is one of those that `Pdu` lists, each name
+/// is an identifier with `is_object_id`, and no value's tag has low five bits that are all ones.
 ///
-/// The error TooLarge (16) comes exactly where the text would be longer than 65,507 octets, unless there is want of memory,
-/// which is the other error.
+/// The error TooLarge (16) comes exactly where the text would be longer than 65,507 octets, unless there is
+/// want of memory, which is the other error.
 pub fn write_pdu(
     alloc: Global,
     tag: u8,
@@ -271,16 +283,19 @@ pub fn write_pdu(
     ensures ok { IfOk result (λ v. v.items ≡ pdu_text (pdu_with tag id second third (map variable_of bindings.now))) }
     ensures size { IfOk result (λ v. length v.items ≤ LARGEST) }
     ensures spelled { IfOk result (λ v. PduText v.items (pdu_with tag id second third (map variable_of bindings.now))) }
-    ensures bindings { IfOk result (λ _. AreBindings (map variable_of bindings.now) (variables_text (map variable_of bindings.now))) }
+    ensures bindings { IfOk result
+        (λ _. AreBindings (map variable_of bindings.now) (variables_text (map variable_of bindings.now))) }
     ensures element { IfOk result (λ v. IsOneElement v.items) }
-    ensures too_large { IsErrOf result WriteFault.TooLarge → LARGEST < length (pdu_text (pdu_with tag id second third (map variable_of bindings.now))) }
-    ensures memory { IsErrOf result WriteFault.OutOfMemory → length (pdu_text (pdu_with tag id second third (map variable_of bindings.now))) ≤ LARGEST }
+    ensures too_large { IsErrOf result WriteFault.TooLarge
+        → LARGEST < length (pdu_text (pdu_with tag id second third (map variable_of bindings.now))) }
+    ensures memory { IsErrOf result WriteFault.OutOfMemory
+        → length (pdu_text (pdu_with tag id second third (map variable_of bindings.now))) ≤ LARGEST }
 {
     write_pdu_of(alloc, tag, id, second, third, bindings)
 }
 
-/// The same PDU, of bindings in any form that can be written. Of each `VariableBinding` only the tag is asked, and it takes a third of
-/// the time of a `Binding`.
+/// The same PDU, of bindings in any form that can be written. Of each `VariableBinding` only the tag is
+/// asked, and it takes a third of the time of a `Binding`.
 ///
 /// The errors are those of `write_pdu`.
 pub fn write_pdu_of<B: Spelled>(
@@ -296,10 +311,13 @@ pub fn write_pdu_of<B: Spelled>(
     ensures ok { IfOk result (λ v. v.items ≡ pdu_text (pdu_with tag id second third (map B.says bindings.now))) }
     ensures size { IfOk result (λ v. length v.items ≤ LARGEST) }
     ensures spelled { IfOk result (λ v. PduText v.items (pdu_with tag id second third (map B.says bindings.now))) }
-    ensures bindings { IfOk result (λ _. AreBindings (map B.says bindings.now) (variables_text (map B.says bindings.now))) }
+    ensures bindings { IfOk result
+        (λ _. AreBindings (map B.says bindings.now) (variables_text (map B.says bindings.now))) }
     ensures element { IfOk result (λ v. IsOneElement v.items) }
-    ensures too_large { IsErrOf result WriteFault.TooLarge → LARGEST < length (pdu_text (pdu_with tag id second third (map B.says bindings.now))) }
-    ensures memory { IsErrOf result WriteFault.OutOfMemory → length (pdu_text (pdu_with tag id second third (map B.says bindings.now))) ≤ LARGEST }
+    ensures too_large { IsErrOf result WriteFault.TooLarge
+        → LARGEST < length (pdu_text (pdu_with tag id second third (map B.says bindings.now))) }
+    ensures memory { IsErrOf result WriteFault.OutOfMemory
+        → length (pdu_text (pdu_with tag id second third (map B.says bindings.now))) ≤ LARGEST }
 {
     write_spelled(alloc, &numbered(tag, id, second, third), bindings)
 }

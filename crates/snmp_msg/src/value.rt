@@ -80,8 +80,8 @@ impl Syntax {
         }
     }
 
-    /// Whether the content is of a value of this syntax: numbers are in two's complement in the fewest octets, and NULL and the
-    /// exceptions have no octets.
+    /// Whether the content is of a value of this syntax: numbers are in two's complement in the fewest
+    /// octets, and NULL and the exceptions have no octets.
     pub fn is_spelled(self, content: &[u8]) -> bool
         ensures { IsTrue result ↔ IsSpelledAs self content.now }
     {

@@ -27,7 +27,8 @@ fn read_variable(
 ) -> Result<(VariableBinding<'_>, usize), BerFault>
     requires start { at ≤ end }
     requires within { end ≤ length bytes.now }
-    ensures value { option_map (λ x. (bound_variable x.0, slice_range bytes.now x.1 end)) (result_ok result) ≡ binding_in (slice_range bytes.now at end) }
+    ensures value { option_map (λ x. (bound_variable x.0, slice_range bytes.now x.1 end)) (result_ok result)
+        ≡ binding_in (slice_range bytes.now at end) }
     ensures ordered { IfOk result (λ x. (at < x.1) × (x.1 ≤ end)) }
 {
     let places = read_places(bytes, at, end)?;
@@ -39,8 +40,8 @@ fn read_variable(
     Ok((binding, places.end))
 }
 
-/// The bindings of a list that are still to come, from left to right, with their names in the list's octets. It ends at the
-/// first octets that are no binding.
+/// The bindings of a list that are still to come, from left to right, with their names in the list's octets.
+/// It ends at the first octets that are no binding.
 #[derive(Clone, Copy, Debug)]
 pub struct VariableBindings<'a> {
     rest: &'a [u8],

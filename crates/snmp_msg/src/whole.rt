@@ -1,11 +1,14 @@
 //! A message with all its layers, and its canonical spelling.
 
-ghost use Rattle.std.specs.Prelude.{◌≡◌, [], ◌+◌, ◌*◌, ◌<◌, ◌≤◌, ◌++◌, length, IfOk, IfSome, IfNone, OnOk, IsErrOf, MatchResult};
+ghost use Rattle.std.specs.Prelude.{◌≡◌, [], ◌+◌, ◌*◌, ◌<◌, ◌≤◌, ◌++◌, length, IfOk, IfSome, IfNone, OnOk, IsErrOf};
+ghost use Rattle.std.specs.Prelude.{MatchResult};
 ghost use Rattle.snmp_ber.specs.Spelling.{element};
 ghost use Rattle.snmp_message.specs.Layout.{Outer};
 ghost use Rattle.snmp_message.specs.Message.{parts};
 ghost use Rattle.snmp_message.specs.Security.{IsShort, fields_of};
-ghost use Rattle.snmp_msg.specs.Canonical.{Says, IsCanonical, WholeFits, IsReadLayer, IsMeasured, whole_of, whole_text, message_with, data_parts, measured_parts, data_tag_of, data_content_of};
+ghost use Rattle.snmp_msg.specs.Canonical.{Says, IsCanonical, WholeFits, IsReadLayer, IsMeasured, whole_of};
+ghost use Rattle.snmp_msg.specs.Canonical.{whole_text, message_with, data_parts, measured_parts, data_tag_of};
+ghost use Rattle.snmp_msg.specs.Canonical.{data_content_of};
 ghost use Rattle.snmp_msg.specs.Variables.{variables_of, after_variables, variables_text};
 ghost use Rattle.snmp_msg.specs.Pdu.{pdu_of, pdu_text, respelled};
 ghost use Rattle.snmp_msg.specs.Refusals.{RefusesWhole, RefusesCanonical};
@@ -48,8 +51,9 @@ pub(crate) enum Measured<'a> {
 
 /// All layers of the message, which is `read_message`'s of this datagram.
 ///
-/// They are read in the order msgData, msgSecurityParameters and, where the priv flag is clear, PDU. The error is that of the
-/// first that refuses, and comes exactly where one does: NotScoped, NotSecurity or NotPdu. No memory is taken.
+/// They are read in the order msgData, msgSecurityParameters and, where the priv flag is clear, PDU. The
+/// error is that of the first that refuses, and comes exactly where one does: NotScoped, NotSecurity or
+/// NotPdu. No memory is taken.
 pub fn read_layers<'a>(datagram: &'a [u8], message: &Message<'a>) -> Result<Layers<'a>, MsgFault>
     requires { Outer datagram.now (parts message.now) }
     ensures exact { MatchResult result (λ m. Says datagram.now (whole_of m)) (RefusesWhole datagram.now) }
@@ -129,7 +133,9 @@ fn put_pdu(out: &mut Vec<u8>, pdu: &Pdu<'_>, list_len: usize) -> Result<(), Allo
 /// Appends msgData.
 fn put_data(out: &mut Vec<u8>, contents: &Measured<'_>) -> Result<(), AllocError>
     requires { IsMeasured contents.now }
-    ensures ok { OnOk result (out.new.items ≡ out.old.items ++ element (data_tag_of (measured_parts contents.now)) (data_content_of (measured_parts contents.now))) }
+    ensures ok { OnOk result
+        (out.new.items ≡ out.old.items
+        ++ element (data_tag_of (measured_parts contents.now)) (data_content_of (measured_parts contents.now))) }
 {
     let size = data_len(contents);
     match contents {
@@ -155,8 +161,11 @@ fn spell_layers(
     requires fits { WholeFits (message_with header.now (fields_of security.now) (measured_parts contents.now)) }
     requires short { IsShort (fields_of security.now) }
     requires measured { IsMeasured contents.now }
-    requires within { length (whole_text (message_with header.now (fields_of security.now) (measured_parts contents.now))) ≤ LARGEST }
-    ensures { IfOk result (λ v. v.items ≡ whole_text (message_with header.now (fields_of security.now) (measured_parts contents.now))) }
+    requires within { length
+        (whole_text (message_with header.now (fields_of security.now) (measured_parts contents.now))) ≤ LARGEST }
+    ensures { IfOk result
+        (λ v. v.items ≡ whole_text
+        (message_with header.now (fields_of security.now) (measured_parts contents.now))) }
 {
     let security_len = security_len(security);
     let data_len = data_len(contents);
@@ -167,11 +176,11 @@ fn spell_layers(
     Ok(out)
 }
 
-/// The message with these layers, in its canonical spelling: every length is the shortest, the ignored bits of msgFlags are 0,
-/// and all other fields are as read. The MAC isn't computed again.
+/// The message with these layers, in its canonical spelling: every length is the shortest, the ignored bits
+/// of msgFlags are 0, and all other fields are as read. The MAC isn't computed again.
 ///
-/// The layers are `read_layers`'s. The error TooLarge (16) comes exactly where the spelling is longer than 65,507 octets, and
-/// OutOfMemory only where it isn't.
+/// The layers are `read_layers`'s. The error TooLarge (16) comes exactly where the spelling is longer than
+/// 65,507 octets, and OutOfMemory only where it isn't.
 pub fn write_layers(alloc: Global, layers: &Layers<'_>) -> Result<Vec<u8>, WriteFault>
     requires fits { WholeFits (whole_of layers.now) }
     requires read { IsReadLayer layers.now.contents }
@@ -199,13 +208,13 @@ pub fn write_layers(alloc: Global, layers: &Layers<'_>) -> Result<Vec<u8>, Write
     Ok(out)
 }
 
-/// The canonical spelling of the message that the datagram is: every length is the shortest, the ignored bits of msgFlags
-/// are 0, and all other fields are as read. The MAC isn't computed again.
+/// The canonical spelling of the message that the datagram is: every length is the shortest, the ignored bits
+/// of msgFlags are 0, and all other fields are as read. The MAC isn't computed again.
 ///
-/// The layers are read in the order message, msgData, msgSecurityParameters and, where the priv flag is clear, PDU. The
-/// error Msg is that of the first that refuses, and comes exactly where one does. TooLarge (16) comes exactly where the
-/// spelling is longer than 65,507 octets, and OutOfMemory only where there is a spelling that isn't. Neither the security model
-/// nor priv without auth is looked at.
+/// The layers are read in the order message, msgData, msgSecurityParameters and, where the priv flag is
+/// clear, PDU. The error Msg is that of the first that refuses, and comes exactly where one does. TooLarge
+/// (16) comes exactly where the spelling is longer than 65,507 octets, and OutOfMemory only where there is a
+/// spelling that isn't. Neither the security model nor priv without auth is looked at.
 pub fn canonical(alloc: Global, datagram: &[u8]) -> Result<Vec<u8>, CanonFault>
     ensures exact { MatchResult result (λ v. IsCanonical datagram.now v.items) (RefusesCanonical datagram.now) }
     ensures size { IfOk result (λ v. length v.items ≤ LARGEST) }

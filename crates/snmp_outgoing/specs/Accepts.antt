@@ -12,8 +12,8 @@ use Rattle.usm_core.specs.Verified.{AllowsEngine, AllowsUser}
 use Rattle.usm_core.specs.Sealed.{Sending, SendingFits}
 use Rattle.snmp_incoming.specs.Outcome.{Given, Taker, as_agent, as_manager, side_at, own_pair, IsFreshAt, Outcome}
 
--- The message is for who takes it with these users: its engine and its user are allowed there, the user has the level, where
--- auth is set it is the same user as the sender's, and the message has a PDU.
+-- The message is for who takes it with these users: its engine and its user are allowed there, the user has
+-- the level, where auth is set it is the same user as the sender's, and the message has a PDU.
 pub record IsFor (taker : Taker) (senders users : List User) (m : Sending) (c : Contexts) (p : PduParts) : Type 0 where
   pub fits : SendingFits m
   pub model : m.header.model ≡ 3
@@ -52,13 +52,15 @@ abbrev pub IsAccepted : Taker → List User → ℕ → List ℕ → Sending →
 IsAccepted taker users now w m c p = (g : Given) × Outcome taker users now w (Ok g) × GivesBack m c p g
 
 -- The answer to the message: what was sent where it is in time, and else NotInWindow.
-pub record IsAnsweredInTime (taker : Taker) (now : ℕ) (m : Sending) (c : Contexts) (p : PduParts) (answer : Result Given ℕ) : Type 0 where
+pub record IsAnsweredInTime (taker : Taker) (now : ℕ) (m : Sending) (c : Contexts) (p : PduParts)
+    (answer : Result Given ℕ) : Type 0 where
   pub in_time : IsInTime taker now m → (g : Given) × (answer ≡ Ok g) × GivesBack m c p g
   pub late : (IsInTime taker now m → ⊥) → answer ≡ Err 10
 
--- What comes of the message where it is taken: it is accepted where it is in time, and else refused as NotInWindow, and there is
--- no other answer.
-pub record IsTakenInTime (taker : Taker) (users : List User) (now : ℕ) (w : List ℕ) (m : Sending) (c : Contexts) (p : PduParts) : Type 0 where
+-- What comes of the message where it is taken: it is accepted where it is in time, and else refused as
+-- NotInWindow, and there is no other answer.
+pub record IsTakenInTime (taker : Taker) (users : List User) (now : ℕ) (w : List ℕ) (m : Sending) (c : Contexts)
+    (p : PduParts) : Type 0 where
   pub accepted : IsInTime taker now m → IsAccepted taker users now w m c p
   pub late : (IsInTime taker now m → ⊥) → Outcome taker users now w (Err 10)
   pub only : (answer : Result Given ℕ) → Outcome taker users now w answer → IsAnsweredInTime taker now m c p answer

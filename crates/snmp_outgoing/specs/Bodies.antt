@@ -21,10 +21,17 @@ has_privacy NoAuthNoPriv = false
 has_privacy AuthNoPriv = false
 has_privacy AuthPriv = true
 
--- the header of what is sent at a level: msgMaxSize is the most that a datagram over UDP and IPv4 can have, and the security
--- model is the user-based one (RFC 3412, section 6)
+-- the header of what is sent at a level: msgMaxSize is the most that a datagram over UDP and IPv4 can have,
+-- and the security model is the user-based one (RFC 3412, section 6)
 abbrev pub header_at : Level → ℕ → Bool → Header
-header_at level id reportable = record { id = id; max_size = 65507; auth = has_auth level; privacy = has_privacy level; reportable = reportable; model = 3 }
+header_at level id reportable = record {
+  id = id;
+  max_size = 65507;
+  auth = has_auth level;
+  privacy = has_privacy level;
+  reportable = reportable;
+  model = 3;
+}
 
 -- ---- the body
 
@@ -38,7 +45,14 @@ scoped_of b = scoped_text b.context_engine.now b.context_name.now (pdu_text (pdu
 
 -- what it says besides its bindings, and these
 abbrev pub front_in : Body → Front
-front_in b = record { context_engine = b.context_engine; context_name = b.context_name; tag = b.tag; id = b.id; second = b.second; third = b.third }
+front_in b = record {
+  context_engine = b.context_engine;
+  context_name = b.context_name;
+  tag = b.tag;
+  id = b.id;
+  second = b.second;
+  third = b.third;
+}
 
 abbrev pub variables_in : Body → List Variable
 variables_in b = map variable_of b.bindings.now

@@ -1,8 +1,10 @@
--- The counters of an engine, by name: those of refused messages (usmStats, RFC 3414, section 5), and the others (RFC 3412, section 5;
--- RFC 3413, section 4.1.2; RFC 3418).
+-- The counters of an engine, by name: those of refused messages (usmStats, RFC 3414, section 5), and the
+-- others (RFC 3412, section 5; RFC 3413, section 4.1.2; RFC 3418).
 use Rattle.std.specs.Prelude.{ℕ, List, [], ◌∷◌}
 use Rattle.snmp_outgoing.specs.declared.counter.Counter.{Counter}
-use Rattle.snmp_outgoing.specs.declared.counter.Counter.TheVariants.{UnknownPduHandlers, UnavailableContexts, UnknownContexts, InBadVersions, InAsnParseErrs, UnknownSecurityModels, InvalidMsgs, SilentDrops}
+use Rattle.snmp_outgoing.specs.declared.counter.Counter.TheVariants.{UnknownPduHandlers, UnavailableContexts}
+use Rattle.snmp_outgoing.specs.declared.counter.Counter.TheVariants.{UnknownContexts, InBadVersions, InAsnParseErrs}
+use Rattle.snmp_outgoing.specs.declared.counter.Counter.TheVariants.{UnknownSecurityModels, InvalidMsgs, SilentDrops}
 
 -- the name of counter n: 1.3.6.1.6.3.15.1.1.n.0
 abbrev pub counter_name : ℕ → List ℕ

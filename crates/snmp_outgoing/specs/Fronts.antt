@@ -1,5 +1,6 @@
 -- The bindings at the front of a list that a message has room for.
-use Rattle.std.specs.Prelude.{◌≡◌, ◌⊎◌, ◌+◌, ◌<◌, ◌≤◌, ℕ, nat_le, if◌then◌else◌, List, [], length, take, Option, Some, option_map, Result, Ok, Err}
+use Rattle.std.specs.Prelude.{◌≡◌, ◌⊎◌, ◌+◌, ◌<◌, ◌≤◌, ℕ, nat_le, if◌then◌else◌, List, [], length, take, Option, Some}
+use Rattle.std.specs.Prelude.{option_map, Result, Ok, Err}
 use Rattle.snmp_msg.specs.Variables.{Variable}
 use Rattle.usm_users.specs.User.{User}
 use Rattle.usm_core.specs.Sealed.{Sending, SealedText, Seals, IsSealable}
@@ -15,9 +16,10 @@ IsWithin users limit m = (text : List ℕ) → SealedText users m text → lengt
 abbrev pub IsBeyond : List User → ℕ → Sending → Type 0
 IsBeyond users limit m = (text : List ℕ) → SealedText users m text → limit < length text
 
--- So many of the variables, from the first on, and no more: with these the message is within the limit, and with one more it is
--- beyond that.
-pub record IsLongestFront (users : List User) (limit : ℕ) (message : List Variable → Sending) (vs : List Variable) (count : ℕ) : Type 0 where
+-- So many of the variables, from the first on, and no more: with these the message is within the limit, and
+-- with one more it is beyond that.
+pub record IsLongestFront (users : List User) (limit : ℕ) (message : List Variable → Sending) (vs : List Variable)
+    (count : ℕ) : Type 0 where
   pub most : count ≤ length vs
   pub fits : IsWithin users limit (message (take count vs))
   pub longest : count < length vs → IsBeyond users limit (message (take (count + 1) vs))
@@ -31,11 +33,13 @@ pub record FrontText : Type 0 where
   pub text : List ℕ
   pub count : ℕ
 
--- The text of the message with the longest front that has room, and how many variables that has; or a refusal: those before the text, and
--- 16 where there is no room even for the message without variables.
+-- The text of the message with the longest front that has room, and how many variables that has; or a
+-- refusal: those before the text, and 16 where there is no room even for the message without variables.
 abbrev pub SealsFront : List User → ℕ → (List Variable → Sending) → List Variable → Result FrontText ℕ → Type 0
-SealsFront users limit message vs (Ok f) = Seals users (message (take f.count vs)) (Ok f.text) × (length f.text ≤ limit) × IsLongestFront users (room limit) message vs f.count
-SealsFront users limit message vs (Err n) = Seals users (message []) (Err n) ⊎ ((n ≡ 16) × IsSealable users (message []) × IsBeyond users (room limit) (message []))
+SealsFront users limit message vs (Ok f) = Seals users (message (take f.count vs)) (Ok f.text)
+    × (length f.text ≤ limit) × IsLongestFront users (room limit) message vs f.count
+SealsFront users limit message vs (Err n) = Seals users (message []) (Err n)
+    ⊎ ((n ≡ 16) × IsSealable users (message []) × IsBeyond users (room limit) (message []))
 
 -- what the call answers; None for want of memory
 abbrev pub front_answer : Result Fronted TakeFault → Option (Result FrontText ℕ)

@@ -54,7 +54,8 @@ request held now id engine user level f vs salt = record {
 }
 
 -- The request's numbers, names, bindings and held pair are in their ranges.
-pub record RequestFits (held : Option SeenPair) (number : ℕ) (identifier name octets : List ℕ) (f : Front) (vs : List Variable) : Type 0 where
+pub record RequestFits (held : Option SeenPair) (number : ℕ) (identifier name octets : List ℕ) (f : Front)
+    (vs : List Variable) : Type 0 where
   pub id : number ≤ 2147483647
   pub pair : (mark : SeenPair) → held ≡ Some mark → IsPair mark.pair
   pub engine : HasEngineLength identifier

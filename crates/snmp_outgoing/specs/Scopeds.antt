@@ -14,4 +14,5 @@ pub record IsMeasured {B : Type 0} (fits : B → Type 0) (says : B → Variable)
   pub within : m.list_len ≤ 65507
   pub content : m.content_len ≡ length (contexts_after m.front (map says m.bindings.now))
   pub most : m.content_len ≤ 6 * 65507
-  pub element : IsElement 48 (contexts_after m.front (map says m.bindings.now)) (scoped_after m.front (map says m.bindings.now))
+  pub element : IsElement 48 (contexts_after m.front (map says m.bindings.now))
+      (scoped_after m.front (map says m.bindings.now))

@@ -31,12 +31,14 @@ send_answer (Err fault) = send_refusal fault
 
 -- ---- whose messages go out
 
--- Messages of this user at this level can go out: at levels with authentication there is a user of this name that supports it.
+-- Messages of this user at this level can go out: at levels with authentication there is a user of this name
+-- that supports it.
 abbrev pub CanSend : List User → List ℕ → Level → Type 0
 CanSend users name level = has_auth level ≡ true → HasUserAt users name level
 
 -- why none of them can, whatever it says (RFC 3414, section 3.1, steps 1 and 2)
 abbrev pub RefusesSender : List User → List ℕ → Level → TakeFault → Type 0
 RefusesSender users name level UnknownUser = (has_auth level ≡ true) × ¬ HasUser users name
-RefusesSender users name level UnsupportedLevel = (has_auth level ≡ true) × HasUser users name × ¬ HasUserAt users name level
+RefusesSender users name level UnsupportedLevel = (has_auth level ≡ true) × HasUser users name
+    × ¬ HasUserAt users name level
 RefusesSender users name level _ = ⊥

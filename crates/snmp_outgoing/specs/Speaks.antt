@@ -39,7 +39,9 @@ spoken s = record {
 
 -- the contexts and the PDU of its ScopedPDU
 abbrev pub spoken_contexts : Speech → Contexts
-spoken_contexts s = contexts_placed (head_size (length (contexts_text s.context_engine s.context_name (pdu_text s.pdu)))) s.context_engine s.context_name (pdu_text s.pdu)
+spoken_contexts s = contexts_placed
+    (head_size (length (contexts_text s.context_engine s.context_name (pdu_text s.pdu)))) s.context_engine
+    s.context_name (pdu_text s.pdu)
 
 -- Its numbers and lengths are in their ranges, and its PDU has bindings that fit.
 pub record SpeechFits (s : Speech) : Type 0 where

@@ -1,7 +1,8 @@
 -- Texts that have to fit: a local constraint, or the maximum message size of the originator (RFC 3416, section 4.2).
 use Rattle.std.specs.Prelude.{ℕ, ◌<◌, ◌≤◌, List, length, Result, Ok, Err}
 
--- A table that answers with texts, cut at a limit: where its text has more octets, the answer is refusal 16, and else the table's.
+-- A table that answers with texts, cut at a limit: where its text has more octets, the answer is refusal 16,
+-- and else the table's.
 pub data UpTo (limit : ℕ) (table : Result (List ℕ) ℕ → Type 0) : Result (List ℕ) ℕ → Type 0 where
   fits : (text : List ℕ) → table (Ok text) → length text ≤ limit → UpTo limit table (Ok text)
   longer : (text : List ℕ) → table (Ok text) → limit < length text → UpTo limit table (Err 16)

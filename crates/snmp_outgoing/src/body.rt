@@ -9,8 +9,8 @@ use snmp_msg::Binding;
 
 /// What a message says: a ScopedPDU (RFC 3412, section 6.8) with a PDU (RFC 3416, section 3).
 ///
-/// It can be written where its tag is a PDU's, each name is an identifier with `is_object_id`, and no value's tag has low five
-/// bits that are all ones.
+/// It can be written where its tag is a PDU's, each name is an identifier with `is_object_id`, and no value's
+/// tag has low five bits that are all ones.
 #[derive(Clone, Copy)]
 pub struct Body<'a> {
     /// contextEngineID, of any length.

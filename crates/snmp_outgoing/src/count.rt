@@ -1,6 +1,7 @@
 //! How many bindings a message has room for.
 
-ghost use Rattle.std.specs.Prelude.{◌≡◌, ◌+◌, ◌*◌, ◌<◌, ◌≤◌, false, List, [], All, length, map, take, IfNone, IfSome, IsTrue};
+ghost use Rattle.std.specs.Prelude.{◌≡◌, ◌+◌, ◌*◌, ◌<◌, ◌≤◌, false, List, [], All, length, map, take, IfNone, IfSome};
+ghost use Rattle.std.specs.Prelude.{IsTrue};
 ghost use Rattle.snmp_msg.specs.Variables.{Variable, variables_text};
 ghost use Rattle.usm_core.specs.Sizes.{data_size};
 ghost use Rattle.snmp_outgoing.specs.Bodies.{scoped_after};
@@ -28,7 +29,8 @@ impl<'a> Outline<'a> {
     fn data_len(&self, list_len: usize) -> usize
         requires fits { OutlineFits self.now }
         requires list { list_len ≤ LARGEST }
-        ensures size { (vs : List Variable) → length (variables_text vs) ≡ list_len → result ≡ data_size self.now.header.privacy (content_size self.now vs) }
+        ensures size { (vs : List Variable) → length (variables_text vs) ≡ list_len
+            → result ≡ data_size self.now.header.privacy (content_size self.now vs) }
     {
         let content_len = self.front.content_len(list_len);
         if self.header.privacy {
@@ -42,8 +44,10 @@ impl<'a> Outline<'a> {
     fn is_within(&self, list_len: usize, limit: usize) -> bool
         requires fits { OutlineFits self.now }
         requires list { list_len ≤ LARGEST }
-        ensures yes { IsTrue result → (vs : List Variable) → length (variables_text vs) ≡ list_len → HasAtMost self.now limit vs }
-        ensures no { result ≡ false → (vs : List Variable) → length (variables_text vs) ≡ list_len → HasAtMost self.now limit vs → ⊥ }
+        ensures yes { IsTrue result → (vs : List Variable) → length (variables_text vs) ≡ list_len
+            → HasAtMost self.now limit vs }
+        ensures no { result ≡ false → (vs : List Variable) → length (variables_text vs) ≡ list_len
+            → HasAtMost self.now limit vs → ⊥ }
     {
         let data_len = self.data_len(list_len);
         if data_len > LARGEST {
@@ -60,7 +64,8 @@ impl<'a> Outline<'a> {
         requires none { HasAtMost self.now limit [] }
         ensures most { result ≤ length bindings.now }
         ensures fits { HasAtMost self.now limit (map B.says (take result bindings.now)) }
-        ensures longest { result < length bindings.now → HasAtMost self.now limit (map B.says (take (result + 1) bindings.now)) → ⊥ }
+        ensures longest { result < length bindings.now
+            → HasAtMost self.now limit (map B.says (take (result + 1) bindings.now)) → ⊥ }
     {
         let mut count = 0;
         let mut list_len = 0;
@@ -81,10 +86,12 @@ impl<'a> Outline<'a> {
     }
 }
 
-/// How many of the bindings, from the first on, a message of this envelope and this front has room for within `limit` octets, at most
-/// 65,507; None where it is longer without any. Nothing is written, and it takes no memory.
+/// How many of the bindings, from the first on, a message of this envelope and this front has room for within
+/// `limit` octets, at most 65,507; None where it is longer without any. Nothing is written, and it takes no
+/// memory.
 ///
-/// At levels with authentication it counts with the user's protocol, and where there is no such user there is no text to be counted.
+/// At levels with authentication it counts with the user's protocol, and where there is no such user there is
+/// no text to be counted.
 pub fn count_within<B: Spelled>(
     users: &Users,
     envelope: &Envelope<'_>,
@@ -95,10 +102,13 @@ pub fn count_within<B: Spelled>(
     requires engine { length envelope.now.engine.now ≤ 32 }
     requires fit { All (λ b. B.fits b) bindings.now }
     requires limit { limit ≤ LARGEST }
-    ensures some { IfSome result (IsLongestFront users.now.users limit (λ vs. sent_with envelope.now (scoped_after front.now vs)) (map B.says bindings.now)) }
+    ensures some { IfSome result
+        (IsLongestFront users.now.users limit (λ vs. sent_with envelope.now (scoped_after front.now vs))
+        (map B.says bindings.now)) }
 
     // It can be written.
-    ensures scoped { IfSome result (λ count. length (scoped_after front.now (map B.says (take count bindings.now))) ≤ 2 * LARGEST) }
+    ensures scoped { IfSome result
+        (λ count. length (scoped_after front.now (map B.says (take count bindings.now))) ≤ 2 * LARGEST) }
     ensures none { IfNone result (IsBeyond users.now.users limit (sent_with envelope.now (scoped_after front.now []))) }
 {
     sealed_size();

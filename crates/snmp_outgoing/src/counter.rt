@@ -12,8 +12,8 @@ pub fn counter_name(n: u8) -> [u32; 11]
     [1, 3, 6, 1, 6, 3, 15, 1, 1, u32::from(n), 0]
 }
 
-/// A counter of messages that were refused without a report, that no application handled, or that had no answer short enough.
-/// Each is a Counter32: it goes from 4294967295 to 0.
+/// A counter of messages that were refused without a report, that no application handled, or that had no
+/// answer short enough. Each is a Counter32: it goes from 4294967295 to 0.
 #[derive(Clone, Copy, Debug, PartialEq, Eq)]
 pub enum Counter {
     /// snmpUnknownPDUHandlers (RFC 3412, section 5): no application is registered for the PDU at its contextEngineID.

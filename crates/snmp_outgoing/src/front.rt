@@ -7,8 +7,8 @@ ghost use Rattle.snmp_outgoing.specs.Bodies.{contexts_after};
 use snmp_message::contexts_len;
 use snmp_msg::{LARGEST, written_pdu_len};
 
-/// The contexts of a ScopedPDU (RFC 3412, section 6.8), and the tag and the numbers of its PDU (RFC 3416, section 3). `send_of` takes the
-/// bindings beside it, in any form.
+/// The contexts of a ScopedPDU (RFC 3412, section 6.8), and the tag and the numbers of its PDU (RFC 3416,
+/// section 3). `send_of` takes the bindings beside it, in any form.
 #[derive(Clone, Copy)]
 pub struct Front<'a> {
     /// contextEngineID, of any length.
@@ -31,7 +31,8 @@ impl<'a> Front<'a> {
         requires engine { length self.now.context_engine.now ≤ LARGEST }
         requires name { length self.now.context_name.now ≤ LARGEST }
         requires list { list_len ≤ LARGEST }
-        ensures size { (vs : List Variable) → length (variables_text vs) ≡ list_len → result ≡ length (contexts_after self.now vs) }
+        ensures size { (vs : List Variable) → length (variables_text vs) ≡ list_len
+            → result ≡ length (contexts_after self.now vs) }
         ensures most { result ≤ 6 * LARGEST }
     {
         let pdu_len = written_pdu_len(self.id, self.second, self.third, list_len);

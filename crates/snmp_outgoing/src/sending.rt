@@ -1,6 +1,7 @@
 //! Messages that go out.
 
-ghost use Rattle.std.specs.Prelude.{◌≡◌, ◌+◌, ◌<◌, ◌≤◌, All, [], length, map, take, IfOk, IfSome, MatchResult, OnOk, OnErr, IsErrOf, true};
+ghost use Rattle.std.specs.Prelude.{◌≡◌, ◌+◌, ◌<◌, ◌≤◌, All, [], length, map, take, IfOk, IfSome, MatchResult, OnOk};
+ghost use Rattle.std.specs.Prelude.{OnErr, IsErrOf, true};
 ghost use Rattle.snmp_ber.specs.declared.level.Level.TheVariants.{NoAuthNoPriv};
 ghost use Rattle.engine_clock.specs.Pairs.{IsPair};
 ghost use Rattle.usm_users.specs.Users.{HasUserAt};
@@ -34,12 +35,14 @@ fn has_user(users: &Users, user: &[u8], level: Level) -> Result<(), UsmFault>
     users.supports(user, level)
 }
 
-/// Whether messages of this user at this level can go out (RFC 3414, section 3.1): at levels with authentication there is a user of
-/// this name that supports the level. At noAuthNoPriv no user is looked for.
+/// Whether messages of this user at this level can go out (RFC 3414, section 3.1): at levels with
+/// authentication there is a user of this name that supports the level. At noAuthNoPriv no user is looked
+/// for.
 ///
 /// The errors are UnknownUser (7), and where there is such a user UnsupportedLevel (8). It takes no memory.
 pub fn supports(users: &Users, user: &[u8], level: Level) -> Result<(), TakeFault>
-    ensures { MatchResult result (λ _. CanSend users.now.users user.now level) (RefusesSender users.now.users user.now level) }
+    ensures { MatchResult result (λ _. CanSend users.now.users user.now level)
+        (RefusesSender users.now.users user.now level) }
 {
     match has_user(users, user, level) {
         Ok(()) => Ok(()),
@@ -58,10 +61,14 @@ fn seal_body<B: Spelled>(
 ) -> Result<Vec<u8>, UsmFault>
     requires tag { IsPduTag front.now.tag }
     requires fit { All (λ b. B.fits b) bindings.now }
-    ensures rows { IfSome (seal_answer result) (Seals users.old.users (sent_with envelope.now (scoped_after front.now (map B.says bindings.now)))) }
-    ensures memory { IsErrOf result UsmFault.OutOfMemory → IsSealable users.old.users (sent_with envelope.now (scoped_after front.now (map B.says bindings.now))) }
+    ensures rows { IfSome (seal_answer result)
+        (Seals users.old.users (sent_with envelope.now (scoped_after front.now (map B.says bindings.now)))) }
+    ensures memory { IsErrOf result UsmFault.OutOfMemory
+        → IsSealable users.old.users (sent_with envelope.now (scoped_after front.now (map B.says bindings.now))) }
     ensures spelled { IfOk result (λ _. IsSpelled (pdu_after front.now (map B.says bindings.now))) }
-    ensures short { IsErrOf result UsmFault.TooLarge → LARGEST < 150 + length envelope.now.engine.now + length envelope.now.user.now + length (scoped_after front.now (map B.says bindings.now)) }
+    ensures short { IsErrOf result UsmFault.TooLarge
+        → LARGEST < 150 + length envelope.now.engine.now + length envelope.now.user.now
+        + length (scoped_after front.now (map B.says bindings.now)) }
     ensures users { users.new.users ≡ users.old.users }
 {
     sealed_size();
@@ -81,9 +88,9 @@ fn seal_body<B: Spelled>(
 
 /// The text of the message with this envelope and this body (RFC 3414, section 3.1).
 ///
-/// The errors are, at levels with authentication, UnknownUser (7) and UnsupportedLevel (8), which are looked for before the
-/// body is written; then TooLarge (16), only where the text would be longer than 65,507 octets, or OutOfMemory, whichever is
-/// met first.
+/// The errors are, at levels with authentication, UnknownUser (7) and UnsupportedLevel (8), which are looked
+/// for before the body is written; then TooLarge (16), only where the text would be longer than 65,507
+/// octets, or OutOfMemory, whichever is met first.
 pub fn send(
     users: &mut Users,
     envelope: &Envelope<'_>,
@@ -97,13 +104,16 @@ pub fn send(
 
     // What was written has bindings that are read again.
     ensures spelled { IfOk result (λ _. IsSpelled (pdu_in body.now)) }
-    ensures short { IsErrOf result TakeFault.TooLarge → LARGEST < 150 + length envelope.now.engine.now + length envelope.now.user.now + length (scoped_of body.now) }
+    ensures short { IsErrOf result TakeFault.TooLarge
+        → LARGEST < 150 + length envelope.now.engine.now + length envelope.now.user.now
+        + length (scoped_of body.now) }
     ensures users { users.new.users ≡ users.old.users }
 {
     send_of(users, envelope, &body.front(), body.bindings)
 }
 
-/// The same, of bindings in any form that can be written: `VariableBinding` is the quick one, of which only the tags are asked.
+/// The same, of bindings in any form that can be written: `VariableBinding` is the quick one, of which only
+/// the tags are asked.
 ///
 /// The errors are those of `send`, in its order.
 pub fn send_of<B: Spelled>(
@@ -114,10 +124,14 @@ pub fn send_of<B: Spelled>(
 ) -> Result<Vec<u8>, TakeFault>
     requires tag { IsPduTag front.now.tag }
     requires fit { All (λ b. B.fits b) bindings.now }
-    ensures rows { IfSome (send_answer result) (Seals users.old.users (sent_with envelope.now (scoped_after front.now (map B.says bindings.now)))) }
-    ensures memory { IsErrOf result TakeFault.OutOfMemory → IsSealable users.old.users (sent_with envelope.now (scoped_after front.now (map B.says bindings.now))) }
+    ensures rows { IfSome (send_answer result)
+        (Seals users.old.users (sent_with envelope.now (scoped_after front.now (map B.says bindings.now)))) }
+    ensures memory { IsErrOf result TakeFault.OutOfMemory
+        → IsSealable users.old.users (sent_with envelope.now (scoped_after front.now (map B.says bindings.now))) }
     ensures spelled { IfOk result (λ _. IsSpelled (pdu_after front.now (map B.says bindings.now))) }
-    ensures short { IsErrOf result TakeFault.TooLarge → LARGEST < 150 + length envelope.now.engine.now + length envelope.now.user.now + length (scoped_after front.now (map B.says bindings.now)) }
+    ensures short { IsErrOf result TakeFault.TooLarge
+        → LARGEST < 150 + length envelope.now.engine.now + length envelope.now.user.now
+        + length (scoped_after front.now (map B.says bindings.now)) }
     ensures users { users.new.users ≡ users.old.users }
 {
     match seal_body(users, envelope, front, bindings) {
@@ -135,11 +149,11 @@ fn room(limit: usize) -> usize
     limit.min(LARGEST)
 }
 
-/// The text of the message with the longest front of the bindings that has at most `limit` octets, and how many bindings that has. One text is
-/// sealed.
+/// The text of the message with the longest front of the bindings that has at most `limit` octets, and how
+/// many bindings that has. One text is sealed.
 ///
-/// The errors are those of `send` before the text; then TooLarge (16), exactly where even the text without bindings has more octets than
-/// `limit`, or than 65,507; and OutOfMemory.
+/// The errors are those of `send` before the text; then TooLarge (16), exactly where even the text without
+/// bindings has more octets than `limit`, or than 65,507; and OutOfMemory.
 pub fn send_front<B: Spelled>(
     users: &mut Users,
     envelope: &Envelope<'_>,
@@ -151,8 +165,11 @@ pub fn send_front<B: Spelled>(
     requires pair { IsPair envelope.now.pair }
     requires tag { IsPduTag front.now.tag }
     requires fit { All (λ b. B.fits b) bindings.now }
-    ensures rows { IfSome (front_answer result) (SealsFront users.old.users limit (λ vs. sent_with envelope.now (scoped_after front.now vs)) (map B.says bindings.now)) }
-    ensures memory { IsErrOf result TakeFault.OutOfMemory → IsSealable users.old.users (sent_with envelope.now (scoped_after front.now [])) }
+    ensures rows { IfSome (front_answer result)
+        (SealsFront users.old.users limit (λ vs. sent_with envelope.now (scoped_after front.now vs))
+        (map B.says bindings.now)) }
+    ensures memory { IsErrOf result TakeFault.OutOfMemory
+        → IsSealable users.old.users (sent_with envelope.now (scoped_after front.now [])) }
     ensures spelled { IfOk result (λ f. IsSpelled (pdu_after front.now (take f.count (map B.says bindings.now)))) }
     ensures users { users.new.users ≡ users.old.users }
 {
@@ -174,7 +191,9 @@ fn seal_plain(users: &Users, envelope: &Envelope<'_>, body: &Body<'_>) -> Result
     requires level { envelope.now.level ≡ NoAuthNoPriv }
     requires body { BodyFits body.now }
     ensures rows { IfSome (seal_answer result) (Seals users.now.users (sent envelope.now body.now)) }
-    ensures short { IsErrOf result UsmFault.TooLarge → LARGEST < 150 + length envelope.now.engine.now + length envelope.now.user.now + length (scoped_of body.now) }
+    ensures short { IsErrOf result UsmFault.TooLarge
+        → LARGEST < 150 + length envelope.now.engine.now + length envelope.now.user.now
+        + length (scoped_of body.now) }
 {
     sealed_size();
     let Some(scoped) = Measured::of(&body.front(), body.bindings) else {
@@ -200,7 +219,9 @@ pub fn send_plain(
     requires level { envelope.now.level ≡ NoAuthNoPriv }
     requires body { BodyFits body.now }
     ensures rows { IfSome (send_answer result) (Seals users.now.users (sent envelope.now body.now)) }
-    ensures short { IsErrOf result TakeFault.TooLarge → LARGEST < 150 + length envelope.now.engine.now + length envelope.now.user.now + length (scoped_of body.now) }
+    ensures short { IsErrOf result TakeFault.TooLarge
+        → LARGEST < 150 + length envelope.now.engine.now + length envelope.now.user.now
+        + length (scoped_of body.now) }
 {
     match seal_plain(users, envelope, body) {
         Ok(text) => Ok(text),

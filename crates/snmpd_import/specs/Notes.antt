@@ -25,7 +25,8 @@ use Rattle.snmpd_tables.specs.declared.items.Item.{Item}
 use Rattle.snmpd_tables.specs.declared.sets.Change.{Change}
 use Rattle.snmpd_tables.specs.declared.comparison.Difference.{Difference}
 use Rattle.snmpd_import.specs.declared.notes.Kind.{Kind}
-use Rattle.snmpd_import.specs.declared.notes.Kind.TheVariants.{Other, Ignored, LeftOut, Refused, Undefined, Differs, Order}
+use Rattle.snmpd_import.specs.declared.notes.Kind.TheVariants.{Other, Ignored, LeftOut, Refused, Undefined, Differs}
+use Rattle.snmpd_import.specs.declared.notes.Kind.TheVariants.{Order}
 use Rattle.snmpd_import.specs.declared.notes.Told.{Told}
 use Rattle.snmpd_import.specs.Users.{lacks_auth, lacks_privacy, is_defaulted}
 
@@ -75,12 +76,14 @@ simple_kind simple = if simple.types.unknown then Some Refused else who_kind sim
 
 -- snmpd refuses a word among the types that is for none; views of the last three types are asked for by snmptrapd alone
 abbrev pub set_kind : Types → Option Kind
-set_kind types = if types.unknown then Some Refused else (if types.log || types.execute || types.net then Some LeftOut else None)
+set_kind types = if types.unknown then Some Refused
+    else (if types.log || types.execute || types.net then Some LeftOut else None)
 
 -- what has no counterpart is left out, the user or the privacy; or another hash is taken than is named
 abbrev pub user_kind : Created → Option Kind
 user_kind created =
-    if is_bad_name created.name.items || lacks_auth created.protection.authentication || lacks_privacy created.protection.privacy then Some LeftOut
+    if is_bad_name created.name.items || lacks_auth created.protection.authentication || lacks_privacy
+    created.protection.privacy then Some LeftOut
     else (if is_defaulted created.protection.authentication then Some Differs else None)
 
 abbrev pub entry_kind : Entry → Option Kind
@@ -90,7 +93,8 @@ entry_kind (entries.Set setting) = set_kind setting.types
 entry_kind (entries.User created) = user_kind created
 entry_kind _ = None
 
--- of what kind the note on a line is; none is on a row, on a simple line whose lines say all, on an empty line, and on one that begins a section
+-- of what kind the note on a line is; none is on a row, on a simple line whose lines say all, on an empty
+-- line, and on one that begins a section
 abbrev pub kind_of : Made → Option Kind
 kind_of (made.Entry entry) = entry_kind entry
 kind_of made.NotText = Some LeftOut

@@ -35,7 +35,8 @@ pub record AreTablesOf (kept : Kept) (rows : Tables) : Type 0 where
 
 -- The text is a configuration, and stands for exactly these users and rows.
 abbrev pub Prints : Kept → List ℕ → Type 0
-Prints kept text = (users : List UserRow) × (rows : Tables) × SaysSound text users rows × AreUsersOf kept.users.items users × AreTablesOf kept rows
+Prints kept text = (users : List UserRow) × (rows : Tables) × SaysSound text users rows
+    × AreUsersOf kept.users.items users × AreTablesOf kept rows
 
 -- The lines come to these users, and of what snmpd holds after them these rows count.
 pub record AreKept (lines : List Item) (held : HeldTables) (kept : Kept) : Type 0 where
@@ -46,19 +47,28 @@ pub record AreKept (lines : List Item) (held : HeldTables) (kept : Kept) : Type 
 
 -- the contexts and groups of what is kept, and the access rows that snmpd holds and those that are kept
 abbrev pub compared : HeldTables → Kept → Sides
-compared held kept = record { contexts = kept.contexts.items; groups = kept.groups.items; held = held.access; kept = kept.access.items }
+compared held kept = record {
+  contexts = kept.contexts.items;
+  groups = kept.groups.items;
+  held = held.access;
+  kept = kept.access.items;
+}
 
--- What is told, in this order: of each of the lines that makes no row; of each that changed a row of another index than its own; of rows beside which
--- others count; and of each row that snmpd chooses for messages for which RFC 3415 comes to other views, over the rows that are kept.
+-- What is told, in this order: of each of the lines that makes no row; of each that changed a row of another
+-- index than its own; of rows beside which others count; and of each row that snmpd chooses for messages for
+-- which RFC 3415 comes to other views, over the rows that are kept.
 pub record TellsAll (lines : List Item) (held : HeldTables) (kept : Kept) (told : List (Place × Kind)) : Type 0 where
   pub second : List (Place × Kind)
   pub seconds : TellsSeconds lines held kept second
   pub differences : List Difference
   pub differ : TellsDifferences (compared held kept) differences
-  pub tells : told ≡ flat_map tells_of lines ++ map change_told held.changes ++ second ++ map difference_told differences
+  pub tells : told ≡ flat_map tells_of lines ++ map change_told held.changes ++ second
+      ++ map difference_told differences
 
--- The lines come to the text, and this is told of them: the rows that count after what they mean, with these contexts, are what the text says.
-pub record ComesTo (items : List Item) (contexts : List ContextRow) (text : List ℕ) (told : List (Place × Kind)) : Type 0 where
+-- The lines come to the text, and this is told of them: the rows that count after what they mean, with these
+-- contexts, are what the text says.
+pub record ComesTo (items : List Item) (contexts : List ContextRow) (text : List ℕ)
+    (told : List (Place × Kind)) : Type 0 where
   pub meant : List Item
   pub held : HeldTables
   pub kept : Kept

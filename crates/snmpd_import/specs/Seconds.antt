@@ -1,4 +1,5 @@
--- What is told of rows beside which others count. Of each index one row counts; snmpd holds the others too, and each of them has its note.
+-- What is told of rows beside which others count. Of each index one row counts; snmpd holds the others too,
+-- and each of them has its note.
 use Rattle.std.specs.Prelude.{◌≡◌, ◌≢◌, ◌⊎◌, ℕ, ◌≤◌, List, [], ◌∷◌, ◌++◌, get_or, Contains, Option, Some, MatchOption}
 use Rattle.std.specs.Option.{option_map}
 use Rattle.std.specs.declared.cmp.Ordering.{Ordering}
@@ -40,7 +41,8 @@ IsSecondUser item later kind =
 abbrev pub AreUsersTold : List Item → List (Place × Kind) → Type 0
 AreUsersTold [] told = told ≡ []
 AreUsersTold (item ∷ later) told =
-    (found : Option Kind) × (others : List (Place × Kind)) × MatchOption found ((kind : Kind) → IsSecondUser item later kind → ⊥) (IsSecondUser item later)
+    (found : Option Kind) × (others : List (Place × Kind))
+    × MatchOption found ((kind : Kind) → IsSecondUser item later kind → ⊥) (IsSecondUser item later)
     × (told ≡ tells_kind item.place found ++ others) × AreUsersTold later others
 
 -- ---- groups
@@ -55,11 +57,13 @@ place_of_group held = held.place
 
 -- a row of another line counts for the name and model: snmpd takes the first that it finds, and so never this one
 abbrev pub IsSecondGroup : List HeldGroup → HeldGroup → Kind → Type 0
-IsSecondGroup kept row kind = (first : HeldGroup) × Contains kept first × IsFor row.row first.row × (first.place ≢ row.place) × (kind ≡ Ignored)
+IsSecondGroup kept row kind = (first : HeldGroup) × Contains kept first × IsFor row.row first.row
+    × (first.place ≢ row.place) × (kind ≡ Ignored)
 
 -- ---- access rows
 
--- where the one that counts compares the whole of a context and this one a prefix, snmpd takes this one for contexts that go on behind it; else never
+-- where the one that counts compares the whole of a context and this one a prefix, snmpd takes this one for
+-- contexts that go on behind it; else never
 abbrev pub access_kind : Matching → Matching → Kind
 access_kind Exact Prefix = Differs
 access_kind _ _ = Ignored
@@ -69,7 +73,8 @@ place_of_access held = held.place
 
 abbrev pub IsSecondAccess : List HeldAccess → HeldAccess → Kind → Type 0
 IsSecondAccess kept row kind =
-    (at : ℕ) × IsBeside order_of_access place_of_access kept row (λ first. kind ≡ access_kind first.row.matching row.row.matching) at
+    (at : ℕ) × IsBeside order_of_access place_of_access kept row
+    (λ first. kind ≡ access_kind first.row.matching row.row.matching) at
 
 -- ---- views
 
@@ -77,7 +82,8 @@ IsSecondAccess kept row kind =
 abbrev pub Covers : FamilyRow → FamilyRow → Type 0
 Covers first row = (variable : List ℕ) → FitsVariable row.view variable row → FitsVariable first.view variable first
 
--- where the one that counts has all variables of this one, it decides on them; else snmpd takes this one for those that it hasn't
+-- where the one that counts has all variables of this one, it decides on them; else snmpd takes this one for
+-- those that it hasn't
 abbrev pub IsFamilyKind : FamilyRow → FamilyRow → Kind → Type 0
 IsFamilyKind first row Ignored = Covers first row
 IsFamilyKind first row Differs = Covers first row → ⊥
@@ -89,7 +95,9 @@ place_of_family held = held.place
 -- a row of a line; those that snmpd has from the start have no notes
 abbrev pub IsSecondFamily : List HeldFamily → HeldFamily → Kind → Type 0
 IsSecondFamily kept row kind =
-    (row.place ≢ BuiltIn) × ((at : ℕ) × IsBeside order_of_families place_of_family kept row (λ first. IsFamilyKind first.row row.row kind) at)
+    (row.place ≢ BuiltIn)
+    × ((at : ℕ) × IsBeside order_of_families place_of_family kept row
+    (λ first. IsFamilyKind first.row row.row kind) at)
 
 -- ---- all of them
 
@@ -97,12 +105,14 @@ IsSecondFamily kept row kind =
 abbrev pub AreTold : {R : Type 0} → (R → Kind → Type 0) → (R → Place) → List R → List (Place × Kind) → Type 0
 AreTold IsOf place_of [] told = told ≡ []
 AreTold IsOf place_of (row ∷ rows) told =
-    (found : Option Kind) × (others : List (Place × Kind)) × MatchOption found ((kind : Kind) → IsOf row kind → ⊥) (IsOf row)
+    (found : Option Kind) × (others : List (Place × Kind))
+    × MatchOption found ((kind : Kind) → IsOf row kind → ⊥) (IsOf row)
     × (told ≡ tells_kind (place_of row) found ++ others) × AreTold IsOf place_of rows others
 
--- The second rows of what snmpd holds after the lines have these notes: first those of users, in the order of their lines, then of groups, access rows and
--- views, each in snmpd's order.
-pub record TellsSeconds (lines : List Item) (held : HeldTables) (kept : Kept) (told : List (Place × Kind)) : Type 0 where
+-- The second rows of what snmpd holds after the lines have these notes: first those of users, in the order of
+-- their lines, then of groups, access rows and views, each in snmpd's order.
+pub record TellsSeconds (lines : List Item) (held : HeldTables) (kept : Kept)
+    (told : List (Place × Kind)) : Type 0 where
   pub users : List (Place × Kind)
   pub groups : List (Place × Kind)
   pub access : List (Place × Kind)

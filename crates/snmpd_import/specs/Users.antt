@@ -1,5 +1,6 @@
 -- The users of lines, as a configuration has them.
-use Rattle.std.specs.Prelude.{◌≡◌, ◌≢◌, ℕ, ◌<◌, Bool, true, false, List, [], ◌∷◌, ◌++◌, length, get_or, Contains, Option, Some, None, MatchOption}
+use Rattle.std.specs.Prelude.{◌≡◌, ◌≢◌, ℕ, ◌<◌, Bool, true, false, List, [], ◌∷◌, ◌++◌, length, get_or, Contains}
+use Rattle.std.specs.Prelude.{Option, Some, None, MatchOption}
 use Rattle.std.specs.Option.{option_map}
 use Rattle.std.specs.Global.{Vec}
 use Rattle.usm_keys.specs.declared.auth.Auth.{Auth}
@@ -48,7 +49,8 @@ said_with_place held = (held.place, said_of held.row)
 -- one by one these are the users that are kept
 pub record AreUsersOf (kept : List HeldUser) (users : List UserRow) : Type 0 where
   pub count : length users ≡ length kept
-  pub each : (k : ℕ) (held : HeldUser) (row : UserRow) → k < length kept → said_of (get_or users k row) ≡ said_in (get_or kept k held)
+  pub each : (k : ℕ) (held : HeldUser) (row : UserRow) → k < length kept
+      → said_of (get_or users k row) ≡ said_in (get_or kept k held)
 
 -- ---- counterparts
 
@@ -84,7 +86,8 @@ abbrev pub HasAuth : Option Authentication → Option (Auth × List ℕ) → Typ
 HasAuth None auth = auth ≡ None
 HasAuth (Some authentication) auth = (auth ≡ auth_for authentication) × (auth ≢ None)
 
--- The user is this one in a configuration: of a name of 1 to 32 octets, and without privacy where the cipher has no counterpart.
+-- The user is this one in a configuration: of a name of 1 to 32 octets, and without privacy where the cipher
+-- has no counterpart.
 pub record IsSaid (created : Created) (said : Said) : Type 0 where
   pub named : is_bad_name created.name.items ≡ false
   pub name : said.name ≡ created.name.items
@@ -123,13 +126,15 @@ with_place place (Some said) = (place, said) ∷ []
 abbrev pub AreUsers : List Item → List (Place × Said) → Type 0
 AreUsers [] users = users ≡ []
 AreUsers (item ∷ later) users =
-    (found : Option Said) × (others : List (Place × Said)) × MatchOption found ((said : Said) → IsUser item later said → ⊥) (IsUser item later)
+    (found : Option Said) × (others : List (Place × Said))
+    × MatchOption found ((said : Said) → IsUser item later said → ⊥) (IsUser item later)
     × (users ≡ with_place item.place found ++ others) × AreUsers later others
 
 -- the users after a line, before these lines
 abbrev pub TakesUser : Item → List Item → List (Place × Said) → List (Place × Said) → Type 0
 TakesUser item later before after =
-    (found : Option Said) × MatchOption found ((said : Said) → IsUser item later said → ⊥) (IsUser item later) × (after ≡ before ++ with_place item.place found)
+    (found : Option Said) × MatchOption found ((said : Said) → IsUser item later said → ⊥) (IsUser item later)
+    × (after ≡ before ++ with_place item.place found)
 
 -- ---- what has no counterpart
 

@@ -21,11 +21,13 @@ pub struct Imported {
     pub notes: Vec<Told>,
 }
 
-/// The configuration that these lines come to, with these contexts, given the names of the files that the lines are from.
+/// The configuration that these lines come to, with these contexts, given the names of the files that the
+/// lines are from.
 ///
-/// Each line is in its rows, or is told: first those that make no row, in their order; then those that changed a row of another index than their own;
-/// then the rows beside which another one counts; and at last for which messages snmpd and RFC 3415 choose rows with other views. The fault is want of
-/// memory, or `NotReadBack`.
+/// Each line is in its rows, or is told: first those that make no row, in their order; then those that
+/// changed a row of another index than their own; then the rows beside which another one counts; and at last
+/// for which messages snmpd and RFC 3415 choose rows with other views. The fault is want of memory, or
+/// `NotReadBack`.
 pub fn import(
     alloc: Global,
     files: &[String],

@@ -258,7 +258,8 @@ fn leave(alloc: Global, sources: Sources, followed: Followed) -> Result<Sources,
     Ok(Sources { names, items: told })
 }
 
-/// Reads the files that lines name, in the places of those lines, and those that their lines name, up to the depth at which snmpd stops.
+/// Reads the files that lines name, in the places of those lines, and those that their lines name, up to the
+/// depth at which snmpd stops.
 ///
 /// Without includes, or past that depth, no file is read any more, and the lines tell so. The error is want of memory.
 pub fn follow<R: Files + AllocGlobal>(

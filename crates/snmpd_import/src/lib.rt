@@ -1,4 +1,5 @@
-//! The configuration that files of snmpd.conf make, with the files that their lines include, and notes of what isn't in it.
+//! The configuration that files of snmpd.conf make, with the files that their lines include, and notes of
+//! what isn't in it.
 //!
 //! ```
 //! use snmpd_import::import;

@@ -76,7 +76,9 @@ impl Written for HeldGroup {
 
 /// The indexes of the rows are equal, and how contexts are compared.
 fn is_condition(a: &AccessRow, b: &AccessRow) -> bool
-    ensures { IsTrue result → (a.now.group ≡ b.now.group) × (a.now.prefix ≡ b.now.prefix) × (a.now.model ≡ b.now.model) × (a.now.level ≡ b.now.level)
+    ensures { IsTrue result
+        → (a.now.group ≡ b.now.group) × (a.now.prefix ≡ b.now.prefix) × (a.now.model ≡ b.now.model)
+        × (a.now.level ≡ b.now.level)
         × (a.now.matching ≡ b.now.matching) }
 {
     a.group == b.group
@@ -117,7 +119,8 @@ impl Written for HeldFamily {
 /// What was read is what is kept, one by one.
 fn are_read<W: Written>(rows: &[W::Read], kept: &[W]) -> bool
     ensures count { IsTrue result → length rows.now ≡ length kept.now }
-    ensures each { IsTrue result → (k : ℕ) (held : W) (row : W.Read) → k < length kept.now → W.is_read (get_or kept.now k held) (get_or rows.now k row) }
+    ensures each { IsTrue result → (k : ℕ) (held : W) (row : W.Read) → k < length kept.now
+        → W.is_read (get_or kept.now k held) (get_or rows.now k row) }
 {
     if rows.len() != kept.len() {
         return false;
@@ -156,8 +159,8 @@ fn check(alloc: Global, text: &[u8], kept: &Kept) -> Result<(), TextFault>
     }
 }
 
-/// The text of a configuration with these users and rows, given the names of the files that they are from. It is accepted, and stands for exactly
-/// these.
+/// The text of a configuration with these users and rows, given the names of the files that they are from. It
+/// is accepted, and stands for exactly these.
 ///
 /// The fault is want of memory, or `NotReadBack` where the text doesn't do so: then there is none.
 pub fn configuration(alloc: Global, files: &[String], kept: &Kept) -> Result<Vec<u8>, TextFault>

@@ -6,7 +6,9 @@ ghost use Rattle.snmpd_tables.specs.declared.rows.Place.{Place as APlace};
 ghost use Rattle.snmpd_import.specs.declared.notes.Kind.{Kind as AKind};
 ghost use Rattle.snmpd_import.specs.Notes.{told_of, tells_kind};
 ghost use Rattle.snmpd_import.specs.Seconds as spec;
-ghost use Rattle.snmpd_import.specs.Seconds.{IsFor, IsSecondUser, AreUsersTold, IsSecondGroup, IsSecondAccess, IsSecondFamily, Covers, IsFamilyKind, AreTold, TellsSeconds, kind_in, place_of_group, place_of_access, place_of_family};
+ghost use Rattle.snmpd_import.specs.Seconds.{IsFor, IsSecondUser, AreUsersTold, IsSecondGroup, IsSecondAccess};
+ghost use Rattle.snmpd_import.specs.Seconds.{IsSecondFamily, Covers, IsFamilyKind, AreTold, TellsSeconds, kind_in};
+ghost use Rattle.snmpd_import.specs.Seconds.{place_of_group, place_of_access, place_of_family};
 
 use crate::notes::{Kind, Told, Why};
 use crate::rows::Kept;
@@ -34,12 +36,14 @@ trait Beside: Sized {
 
     /// What it is, where one of another line counts in its place.
     fn second(&self, kept: &[Self]) -> Option<Second>
-        ensures { MatchOption result ((kind : AKind) → is_second kept.now self.now kind → ⊥) (λ second. is_second kept.now self.now second.kind) };
+        ensures { MatchOption result ((kind : AKind) → is_second kept.now self.now kind → ⊥)
+            (λ second. is_second kept.now self.now second.kind) };
 }
 
 /// What the user of a line is, where a later line makes one of the same name.
 fn second_user(item: &Item, later: &[Item]) -> Option<Second>
-    ensures { MatchOption result ((kind : AKind) → IsSecondUser item.now later.now kind → ⊥) (λ second. IsSecondUser item.now later.now second.kind) }
+    ensures { MatchOption result ((kind : AKind) → IsSecondUser item.now later.now kind → ⊥)
+        (λ second. IsSecondUser item.now later.now second.kind) }
 {
     let Some(created) = created_in(&item.made) else {
         return None;
@@ -115,9 +119,11 @@ impl Beside for HeldAccess {
     }
 }
 
-/// Each arc that the first row compares the second compares too, so that the second has no variable that the first hasn't.
+/// Each arc that the first row compares the second compares too, so that the second has no variable that the
+/// first hasn't.
 fn covers(first: &FamilyRow, second: &FamilyRow) -> bool
-    ensures { first.now.view ≡ second.now.view → first.now.subtree ≡ second.now.subtree → IsTrue result ↔ Covers first.now second.now }
+    ensures { first.now.view ≡ second.now.view → first.now.subtree ≡ second.now.subtree → IsTrue result
+        ↔ Covers first.now second.now }
 {
     for k in 0..second.subtree.as_slice().len() {
         if first.mask.compares(k) && !second.mask.compares(k) {
@@ -129,7 +135,8 @@ fn covers(first: &FamilyRow, second: &FamilyRow) -> bool
 
 /// What the second of two rows of one view and subtree is.
 fn family_kind(first: &FamilyRow, second: &FamilyRow) -> Kind
-    ensures { first.now.view ≡ second.now.view → first.now.subtree ≡ second.now.subtree → IsFamilyKind first.now second.now result }
+    ensures { first.now.view ≡ second.now.view → first.now.subtree ≡ second.now.subtree
+        → IsFamilyKind first.now second.now result }
 {
     if covers(first, second) {
         Kind::Ignored
@@ -171,7 +178,8 @@ fn put_second(
     word: &[u8],
     second: Option<Second>,
 ) -> Result<(), AllocError>
-    ensures { OnOk result (map told_of notes.new.items ≡ map told_of notes.old.items ++ tells_kind place (kind_in second)) }
+    ensures { OnOk result
+        (map told_of notes.new.items ≡ map told_of notes.old.items ++ tells_kind place (kind_in second)) }
 {
     let Some(second) = second else {
         return Ok(());
@@ -213,8 +221,8 @@ fn row_notes<R: Beside>(
     Ok(notes)
 }
 
-/// The notes on the users of lines, and on the rows that snmpd holds, which don't count, since of each name or index one does: one on each of them, and
-/// no other.
+/// The notes on the users of lines, and on the rows that snmpd holds, which don't count, since of each name
+/// or index one does: one on each of them, and no other.
 ///
 /// The error is want of memory.
 pub fn second_notes(

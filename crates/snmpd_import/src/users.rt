@@ -4,7 +4,10 @@ ghost use Rattle.std.specs.Prelude.{◌≡◌, ◌↔◌, false, map, IsTrue, If
 ghost use Rattle.std.specs.Option.{option_map};
 ghost use Rattle.usm_users.specs.Rows.{is_bad_name};
 ghost use Rattle.snmpd_import.specs.Users as spec;
-ghost use Rattle.snmpd_import.specs.Users.{Said, said_of, said_auth, said_privacy, said_with_place, passphrase_in, auth_for, passphrase_for, privacy_for, HasAuth, IsSaid, MakesUser, MakeUser, IsUser, TakesUser, AreUsers, lacks_auth, lacks_cipher, lacks_privacy, is_defaulted};
+ghost use Rattle.snmpd_import.specs.Users.{Said, said_of, said_auth, said_privacy, said_with_place, passphrase_in};
+ghost use Rattle.snmpd_import.specs.Users.{auth_for, passphrase_for, privacy_for, HasAuth, IsSaid, MakesUser};
+ghost use Rattle.snmpd_import.specs.Users.{MakeUser, IsUser, TakesUser, AreUsers, lacks_auth, lacks_cipher};
+ghost use Rattle.snmpd_import.specs.Users.{lacks_privacy, is_defaulted};
 
 use snmpd_lines::{Authentication, Cipher, Created, Hash, Privacy, Secret};
 use snmpd_rows::Entry;
@@ -113,7 +116,9 @@ fn user_with(
 
 /// The user of a configuration that a line makes, where there is one.
 fn user_of(alloc: Global, created: &Created) -> Result<Option<UserRow>, AllocError>
-    ensures { IfOk result (λ row. MatchOption row ((said : Said) → IsSaid created.now said → ⊥) (λ row. IsSaid created.now (said_of row))) }
+    ensures { IfOk result
+        (λ row. MatchOption row ((said : Said) → IsSaid created.now said → ⊥)
+        (λ row. IsSaid created.now (said_of row))) }
 {
     if is_bad_name(&created.name) {
         return Ok(None);
@@ -168,7 +173,9 @@ pub(crate) fn user_at(items: &[Item], name: &[u8]) -> Option<Place>
 
 /// The user that a line comes to, before these lines.
 fn user_in(alloc: Global, item: &Item, later: &[Item]) -> Result<Option<UserRow>, AllocError>
-    ensures { IfOk result (λ row. MatchOption row ((said : Said) → IsUser item.now later.now said → ⊥) (λ row. IsUser item.now later.now (said_of row))) }
+    ensures { IfOk result
+        (λ row. MatchOption row ((said : Said) → IsUser item.now later.now said → ⊥)
+        (λ row. IsUser item.now later.now (said_of row))) }
 {
     let Some(created) = created_in(&item.made) else {
         return Ok(None);
@@ -186,7 +193,9 @@ fn put_user(
     item: &Item,
     later: &[Item],
 ) -> Result<(), AllocError>
-    ensures { OnOk result (TakesUser item.now later.now (map said_with_place users.old.items) (map said_with_place users.new.items)) }
+    ensures { OnOk result
+        (TakesUser item.now later.now (map said_with_place users.old.items)
+        (map said_with_place users.new.items)) }
 {
     if let Some(row) = user_in(alloc, item, later)? {
         users.push(HeldUser {

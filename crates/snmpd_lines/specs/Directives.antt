@@ -2,7 +2,10 @@
 use Rattle.std.specs.Prelude.{◌≡◌, ◌⊎◌, ℕ, List, [], ◌∷◌, codes, map}
 use Rattle.std.specs.Char.{to_ascii_lowercase}
 use Rattle.snmpd_lines.specs.declared.directives.Directive.{Directive}
-use Rattle.snmpd_lines.specs.declared.directives.Directive.TheVariants.{Group, Access, SetAccess, View, ReadUser, WriteUser, AuthUser, AuthGroup, AuthAccess, CreateUser, ReadCommunity, WriteCommunity, AuthCommunity, Mapping, Saved, Other}
+use Rattle.snmpd_lines.specs.declared.directives.Directive.TheVariants.{Group, Access, SetAccess, View, ReadUser}
+use Rattle.snmpd_lines.specs.declared.directives.Directive.TheVariants.{WriteUser, AuthUser, AuthGroup, AuthAccess}
+use Rattle.snmpd_lines.specs.declared.directives.Directive.TheVariants.{CreateUser, ReadCommunity, WriteCommunity}
+use Rattle.snmpd_lines.specs.declared.directives.Directive.TheVariants.{AuthCommunity, Mapping, Saved, Other}
 
 -- the words for a directive, in lower case
 abbrev pub directive_words : Directive → List (List ℕ)
@@ -20,7 +23,8 @@ directive_words ReadCommunity = codes "rocommunity" ∷ codes "rocommunity6" ∷
 directive_words WriteCommunity = codes "rwcommunity" ∷ codes "rwcommunity6" ∷ []
 directive_words AuthCommunity = codes "authcommunity" ∷ []
 directive_words Mapping = codes "com2sec" ∷ codes "com2sec6" ∷ codes "com2secunix" ∷ []
-directive_words Saved = codes "usmuser" ∷ codes "vacmview" ∷ codes "vacmgroup" ∷ codes "vacmaccess" ∷ codes "vacmauthaccess" ∷ []
+directive_words Saved = codes "usmuser" ∷ codes "vacmview" ∷ codes "vacmgroup" ∷ codes "vacmaccess"
+    ∷ codes "vacmauthaccess" ∷ []
 directive_words Other = []
 
 abbrev pub IsOneOf : List ℕ → List (List ℕ) → Type 0

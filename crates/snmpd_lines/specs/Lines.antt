@@ -1,4 +1,5 @@
--- What a line of snmpd.conf is: nothing, the beginning of a section, or a directive with the text behind it (net-snmp 5.9.3).
+-- What a line of snmpd.conf is: nothing, the beginning of a section, or a directive with the text behind it
+-- (net-snmp 5.9.3).
 use Rattle.std.specs.Prelude.{◌≡◌, ◌⊎◌, ℕ, List, [], ◌∷◌, ◌++◌, codes, Option, Some, None, option_map}
 use Rattle.snmp_ber.specs.Splits.{Lacks, IsSplit}
 use Rattle.snmpd_lines.specs.Words.{GoesOn, TakesWord}
@@ -44,13 +45,17 @@ IsNoSection name = (section : Section) → name ≡ section_name section → ⊥
 abbrev pub HasDirective : Section → List ℕ → Section → List ℕ → Option (List ℕ) → Type 0
 HasDirective force text section word later =
     (BeginsWith text word later × (IsBracketed word → ⊥) × (section ≡ force))
-    ⊎ ((rest : List ℕ) × BeginsWith text (in_brackets (section_name section)) (Some rest) × TakesWord 1023 rest word later)
+    ⊎ ((rest : List ℕ) × BeginsWith text (in_brackets (section_name section)) (Some rest)
+    × TakesWord 1023 rest word later)
 
 -- What the line is, where this section is in force.
 abbrev pub IsLine : Section → List ℕ → Line → Type 0
 IsLine force text Nothing = IsEmpty text
 IsLine force text (Begins section) = BeginsWith text (in_brackets (section_name section)) None
 IsLine force text Unclosed =
-    (word : List ℕ) × (later : Option (List ℕ)) × BeginsWith text word later × IsBracketed word × ((name : List ℕ) → word ≡ in_brackets name → ⊥)
-IsLine force text NoSection = (name : List ℕ) × (later : Option (List ℕ)) × BeginsWith text (in_brackets name) later × IsNoSection name
-IsLine force text (Directive section word later) = HasDirective force text section word.items (option_map (λ rest. rest.now) later)
+    (word : List ℕ) × (later : Option (List ℕ)) × BeginsWith text word later × IsBracketed word
+    × ((name : List ℕ) → word ≡ in_brackets name → ⊥)
+IsLine force text NoSection = (name : List ℕ) × (later : Option (List ℕ)) × BeginsWith text (in_brackets name) later
+    × IsNoSection name
+IsLine force text (Directive section word later) = HasDirective force text section word.items
+    (option_map (λ rest. rest.now) later)

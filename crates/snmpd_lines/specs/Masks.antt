@@ -13,7 +13,8 @@ abbrev pub BeginsHex : List ℕ → Type 0
 BeginsHex [] = ⊥
 BeginsHex (octet ∷ text) = (value : ℕ) × IsDigit octet value
 
--- The text begins with hex digits, at least one and as many as there are; the octet is the number that they write, modulo 256.
+-- The text begins with hex digits, at least one and as many as there are; the octet is the number that they
+-- write, modulo 256.
 pub record IsHexFront (text : List ℕ) (octet : ℕ) : Type 0 where
   pub digits : List ℕ
   pub rest : List ℕ
@@ -36,7 +37,8 @@ IsBehindPrefix text rest = HasPrefix text rest ⊎ ((rest ≡ text) × ((later :
 abbrev pub IsBehindSign : List ℕ → Bool → List ℕ → Type 0
 IsBehindSign text true rest = text ≡ 45 ∷ rest
 IsBehindSign text false rest =
-    (text ≡ 43 ∷ rest) ⊎ ((text ≡ rest) × ((later : List ℕ) → text ≡ 45 ∷ later → ⊥) × ((later : List ℕ) → text ≡ 43 ∷ later → ⊥))
+    (text ≡ 43 ∷ rest) ⊎ ((text ≡ rest) × ((later : List ℕ) → text ≡ 45 ∷ later → ⊥)
+    × ((later : List ℕ) → text ≡ 43 ∷ later → ⊥))
 
 -- the token has its digits here, behind blanks, a sign and a prefix
 pub record HasDigitsAt (token : List ℕ) (is_negative : Bool) (text : List ℕ) : Type 0 where
@@ -68,7 +70,8 @@ IsNoMaskOctet token = (is_negative : Bool) × (text : List ℕ) × HasDigitsAt t
 abbrev pub BeginsOctets : List ℕ → List ℕ → List ℕ → Type 0
 BeginsOctets text [] rest = text ≡ rest
 BeginsOctets text (octet ∷ octets) rest =
-    (token : List ℕ) × (later : List ℕ) × TakesPart AtMark text token later × IsMaskOctet token octet × BeginsOctets later octets rest
+    (token : List ℕ) × (later : List ℕ) × TakesPart AtMark text token later × IsMaskOctet token octet
+    × BeginsOctets later octets rest
 
 abbrev pub IsEndOfMask : List ℕ → Type 0
 IsEndOfMask text = AllByRecursion (IsCut AtMark) text

@@ -1,5 +1,7 @@
--- Object identifiers in numbers, as snmpd.conf has them: a number with 0 in front is octal, and with 0x in front hex (net-snmp 5.9.3).
-use Rattle.std.specs.Prelude.{◌≡◌, ◌≢◌, ◌⊎◌, ⊤, ℕ, ◌+◌, ◌*◌, ◌^◌, ◌<◌, ◌≤◌, ◌==◌, if◌then◌else◌, List, [], ◌∷◌, ◌++◌, length, fold}
+-- Object identifiers in numbers, as snmpd.conf has them: a number with 0 in front is octal, and with 0x in
+-- front hex (net-snmp 5.9.3).
+use Rattle.std.specs.Prelude.{◌≡◌, ◌≢◌, ◌⊎◌, ⊤, ℕ, ◌+◌, ◌*◌, ◌^◌, ◌<◌, ◌≤◌, ◌==◌, if◌then◌else◌, List, [], ◌∷◌, ◌++◌}
+use Rattle.std.specs.Prelude.{length, fold}
 use Rattle.std.specs.List.{AllByRecursion}
 use Rattle.snmpd_lines.specs.declared.subtrees.Subtree.{Subtree}
 use Rattle.snmpd_lines.specs.declared.subtrees.Subtree.TheVariants.{Numbers, OutOfReach, NotInNumbers}
@@ -7,7 +9,8 @@ use Rattle.snmpd_lines.specs.declared.subtrees.Subtree.TheVariants.{Numbers, Out
 -- the octet is the digit of this value, a letter in either case
 abbrev pub IsDigit : ℕ → ℕ → Type 0
 IsDigit octet value =
-    ((octet ≡ 48 + value) × (value < 10)) ⊎ ((octet ≡ 55 + value) × (10 ≤ value) × (value < 16)) ⊎ ((octet ≡ 87 + value) × (10 ≤ value) × (value < 16))
+    ((octet ≡ 48 + value) × (value < 10)) ⊎ ((octet ≡ 55 + value) × (10 ≤ value) × (value < 16))
+    ⊎ ((octet ≡ 87 + value) × (10 ≤ value) × (value < 16))
 
 -- the text is digits of the base with these values
 abbrev pub AreDigits : ℕ → List ℕ → List ℕ → Type 0
@@ -36,13 +39,15 @@ abbrev pub IsNumber : List ℕ → ℕ → Type 0
 IsNumber [] n = ⊥
 IsNumber (d ∷ []) n = IsInBase 10 (d ∷ []) n
 IsNumber (d ∷ e ∷ text) n =
-    ((d ≢ 48) × IsInBase 10 (d ∷ e ∷ text) n) ⊎ ((d ≡ 48) × IsX e × IsInBase 16 text n) ⊎ ((d ≡ 48) × (IsX e → ⊥) × IsInBase 8 (e ∷ text) n)
+    ((d ≢ 48) × IsInBase 10 (d ∷ e ∷ text) n) ⊎ ((d ≡ 48) × IsX e × IsInBase 16 text n)
+    ⊎ ((d ≡ 48) × (IsX e → ⊥) × IsInBase 8 (e ∷ text) n)
 
 -- the text is numbers with a dot between each two
 abbrev pub AreNumbers : List ℕ → List ℕ → Type 0
 AreNumbers text [] = ⊥
 AreNumbers text (n ∷ []) = IsNumber text n
-AreNumbers text (n ∷ m ∷ others) = (part : List ℕ) × (rest : List ℕ) × (text ≡ part ++ 46 ∷ rest) × IsNumber part n × AreNumbers rest (m ∷ others)
+AreNumbers text (n ∷ m ∷ others) = (part : List ℕ) × (rest : List ℕ) × (text ≡ part ++ 46 ∷ rest) × IsNumber part n
+    × AreNumbers rest (m ∷ others)
 
 -- the text without a dot in front
 abbrev pub behind_dot : List ℕ → List ℕ

@@ -22,7 +22,15 @@ view_word Execute = codes "execute"
 view_word Net = codes "net"
 
 abbrev pub none : Types
-none = record { read = false; write = false; notify = false; log = false; execute = false; net = false; unknown = false }
+none = record {
+  read = false;
+  write = false;
+  notify = false;
+  log = false;
+  execute = false;
+  net = false;
+  unknown = false;
+}
 
 -- this one type
 abbrev pub only : ViewWord → Types

@@ -1,5 +1,6 @@
 -- What a line `createUser [-M] [-e ENGINEID] NAME [HASH PASSPHRASE [CIPHER [PASSPHRASE]]]` says (net-snmp 5.9.3).
-use Rattle.std.specs.Prelude.{◌≡◌, ◌≢◌, ◌⊎◌, ⊤, ℕ, ◌<◌, ◌≤◌, Bool, true, false, List, ◌++◌, length, codes, Option, Some, None}
+use Rattle.std.specs.Prelude.{◌≡◌, ◌≢◌, ◌⊎◌, ⊤, ℕ, ◌<◌, ◌≤◌, Bool, true, false, List, ◌++◌, length, codes, Option}
+use Rattle.std.specs.Prelude.{Some, None}
 use Rattle.snmpd_lines.specs.Words.{TakesWord, TakesOr, EndsBehindWord}
 use Rattle.snmpd_lines.specs.Protocols.{IsHash, IsCipher, hash_octets, cipher_octets}
 use Rattle.snmpd_lines.specs.declared.protocols.Hash.{Hash}
@@ -7,7 +8,9 @@ use Rattle.snmpd_lines.specs.declared.protocols.Hash.TheVariants.{NoAuth, Md5}
 use Rattle.snmpd_lines.specs.declared.protocols.Cipher.{Cipher}
 use Rattle.snmpd_lines.specs.declared.protocols.Cipher.TheVariants.{Des}
 use Rattle.snmpd_lines.specs.declared.users.UserFault.{UserFault}
-use Rattle.snmpd_lines.specs.declared.users.UserFault.TheVariants.{MissingPassphrase, UnknownHash, NoAuthKey, UnknownCipher, NoPrivKey, ShortKey, OneEngine, OutOfMemory}
+use Rattle.snmpd_lines.specs.declared.users.UserFault.TheVariants.{MissingPassphrase, UnknownHash, NoAuthKey}
+use Rattle.snmpd_lines.specs.declared.users.UserFault.TheVariants.{UnknownCipher, NoPrivKey, ShortKey, OneEngine}
+use Rattle.snmpd_lines.specs.declared.users.UserFault.TheVariants.{OutOfMemory}
 use Rattle.snmpd_lines.specs.declared.users.Secret.{Secret}
 use Rattle.snmpd_lines.specs.declared.users.Secret.TheVariants.{Passphrase, Key}
 use Rattle.snmpd_lines.specs.declared.users.Authentication.{Authentication}
@@ -21,7 +24,8 @@ use Rattle.snmpd_lines.specs.declared.users.Created.{Created}
 abbrev pub HasName : List ℕ → Option (List ℕ) → Bool → List ℕ → Option (List ℕ) → Type 0
 HasName word behind false name later = (word ≢ codes "-e") × (name ≡ word) × (later ≡ behind)
 HasName word behind true name later =
-    (word ≡ codes "-e") × ((engine : List ℕ) × (rest : Option (List ℕ)) × TakesOr 1023 (codes "-e") behind engine rest × TakesOr 1023 engine rest name later)
+    (word ≡ codes "-e") × ((engine : List ℕ) × (rest : Option (List ℕ)) × TakesOr 1023 (codes "-e") behind engine rest
+    × TakesOr 1023 engine rest name later)
 
 -- the same behind the option `-M`, which says nothing, where it is there
 abbrev pub HasUserName : List ℕ → Bool → List ℕ → Option (List ℕ) → Type 0
@@ -29,7 +33,8 @@ HasUserName text is_of_engine name later =
     (first : List ℕ) × (behind : Option (List ℕ)) × TakesWord 1023 text first behind
     × (((first ≢ codes "-M") × HasName first behind is_of_engine name later)
     ⊎ ((first ≡ codes "-M")
-    × ((word : List ℕ) × (rest : Option (List ℕ)) × TakesOr 1023 (codes "-M") behind word rest × HasName word rest is_of_engine name later)))
+    × ((word : List ℕ) × (rest : Option (List ℕ)) × TakesOr 1023 (codes "-M") behind word rest
+    × HasName word rest is_of_engine name later)))
 
 -- ---- protocols and what keys are made of
 
@@ -49,7 +54,8 @@ abbrev pub IsKeyOption : List ℕ → Type 0
 IsKeyOption word = (word ≡ codes "-l") ⊎ (word ≡ codes "-m")
 
 abbrev pub TakesSecret : List ℕ → Secret → Option (List ℕ) → Type 0
-TakesSecret text (Passphrase passphrase) later = TakesWord 1023 text passphrase.items later × (IsKeyOption passphrase.items → ⊥)
+TakesSecret text (Passphrase passphrase) later = TakesWord 1023 text passphrase.items later
+    × (IsKeyOption passphrase.items → ⊥)
 TakesSecret text Key later = (word : List ℕ) × TakesWord 1023 text word later × IsKeyOption word
 
 -- a passphrase of fewer than 8 octets (RFC 3414, section 11.2)
@@ -87,11 +93,13 @@ pub record HasAuthentication (text : List ℕ) (authentication : Authentication)
 
 -- ---- privacy
 
--- what the key for the cipher is made of: what stands there; or the same as for authentication, whose key then has enough octets
+-- what the key for the cipher is made of: what stands there; or the same as for authentication, whose key
+-- then has enough octets
 abbrev pub HasOwnSecret : Authentication → Cipher → Option (List ℕ) → Secret → Type 0
 HasOwnSecret authentication cipher None secret =
     IsCopy authentication.secret secret × (cipher_octets cipher ≤ hash_octets authentication.hash)
-HasOwnSecret authentication cipher (Some text) secret = ((later : Option (List ℕ)) × TakesSecret text secret later) × (IsShort secret → ⊥)
+HasOwnSecret authentication cipher (Some text) secret = ((later : Option (List ℕ)) × TakesSecret text secret later)
+    × (IsShort secret → ⊥)
 
 -- `CIPHER [PASSPHRASE]`
 pub record HasPrivacy (authentication : Authentication) (text : List ℕ) (privacy : Privacy) : Type 0 where
@@ -105,7 +113,8 @@ pub record HasPrivacy (authentication : Authentication) (text : List ℕ) (priva
 
 -- behind a key that is given nothing is looked at
 abbrev pub HasPrivacyBehind : Authentication → Secret → Option (List ℕ) → Option Privacy → Type 0
-HasPrivacyBehind authentication (Passphrase passphrase) (Some text) (Some privacy) = HasPrivacy authentication text privacy
+HasPrivacyBehind authentication (Passphrase passphrase) (Some text)
+    (Some privacy) = HasPrivacy authentication text privacy
 HasPrivacyBehind authentication (Passphrase passphrase) (Some text) None = ⊥
 HasPrivacyBehind authentication (Passphrase passphrase) None privacy = privacy ≡ None
 HasPrivacyBehind authentication Key text privacy = privacy ≡ None
@@ -114,7 +123,8 @@ HasPrivacyBehind authentication Key text privacy = privacy ≡ None
 abbrev pub HasProtection : Option (List ℕ) → Protection → Type 0
 HasProtection None protection = (protection.authentication ≡ None) × (protection.privacy ≡ None)
 HasProtection (Some text) protection =
-    (authentication : Authentication) × (later : Option (List ℕ)) × (protection.authentication ≡ Some authentication) × HasAuthentication text authentication later
+    (authentication : Authentication) × (later : Option (List ℕ)) × (protection.authentication ≡ Some authentication)
+    × HasAuthentication text authentication later
     × HasPrivacyBehind authentication authentication.secret later protection.privacy
 
 -- The line makes the user.
@@ -126,19 +136,22 @@ SaysUser text created =
 
 abbrev pub TellsNoHash : List ℕ → UserFault → Type 0
 TellsNoHash text MissingPassphrase = EndsBehindWord 1023 text
-TellsNoHash text UnknownHash = (word : List ℕ) × (rest : List ℕ) × TakesWord 1023 text word (Some rest) × TakesHash word rest None
+TellsNoHash text UnknownHash = (word : List ℕ) × (rest : List ℕ) × TakesWord 1023 text word (Some rest)
+    × TakesHash word rest None
 TellsNoHash text OutOfMemory = ⊤
 TellsNoHash text _ = ⊥
 
 abbrev pub TellsNoAuthentication : List ℕ → UserFault → Type 0
 TellsNoAuthentication text NoAuthKey =
-    (hash : Hash) × (behind : List ℕ) × (secret : Secret) × (later : Option (List ℕ)) × HasHash text hash behind × TakesSecret behind secret later
+    (hash : Hash) × (behind : List ℕ) × (secret : Secret) × (later : Option (List ℕ)) × HasHash text hash behind
+    × TakesSecret behind secret later
     × MakesNoKey hash secret
 TellsNoAuthentication text fault = TellsNoHash text fault
 
 abbrev pub TellsNoOwnSecret : Authentication → Cipher → Option (List ℕ) → UserFault → Type 0
 TellsNoOwnSecret authentication cipher None ShortKey = hash_octets authentication.hash < cipher_octets cipher
-TellsNoOwnSecret authentication cipher (Some text) NoPrivKey = (secret : Secret) × (later : Option (List ℕ)) × TakesSecret text secret later × IsShort secret
+TellsNoOwnSecret authentication cipher (Some text) NoPrivKey = (secret : Secret) × (later : Option (List ℕ))
+    × TakesSecret text secret later × IsShort secret
 TellsNoOwnSecret authentication cipher text OutOfMemory = ⊤
 TellsNoOwnSecret authentication cipher text _ = ⊥
 
@@ -147,13 +160,15 @@ TellsNoPrivacy authentication text UnknownCipher =
     (word : List ℕ) × (behind : Option (List ℕ)) × TakesWord 1023 text word behind × TakesCipher word None
 TellsNoPrivacy authentication text OutOfMemory = ⊤
 TellsNoPrivacy authentication text fault =
-    (word : List ℕ) × (behind : Option (List ℕ)) × (cipher : Cipher) × TakesWord 1023 text word behind × TakesCipher word (Some cipher)
+    (word : List ℕ) × (behind : Option (List ℕ)) × (cipher : Cipher) × TakesWord 1023 text word behind
+    × TakesCipher word (Some cipher)
     × TellsNoOwnSecret authentication cipher behind fault
 
 -- the words for authentication are sound, and behind them this is wrong
 abbrev pub TellsBehind : List ℕ → UserFault → Type 0
 TellsBehind text fault =
-    (authentication : Authentication) × (later : List ℕ) × HasAuthentication text authentication (Some later) × TellsNoPrivacy authentication later fault
+    (authentication : Authentication) × (later : List ℕ) × HasAuthentication text authentication (Some later)
+    × TellsNoPrivacy authentication later fault
 
 abbrev pub TellsNoProtectionIn : List ℕ → UserFault → Type 0
 TellsNoProtectionIn text UnknownCipher = TellsBehind text UnknownCipher
@@ -169,6 +184,8 @@ TellsNoProtection (Some text) fault = TellsNoProtectionIn text fault
 abbrev pub TellsNoUser : List ℕ → UserFault → Type 0
 TellsNoUser text OutOfMemory = ⊤
 TellsNoUser text OneEngine =
-    (name : List ℕ) × (later : Option (List ℕ)) × (protection : Protection) × HasUserName text true name later × HasProtection later protection
+    (name : List ℕ) × (later : Option (List ℕ)) × (protection : Protection) × HasUserName text true name later
+    × HasProtection later protection
 TellsNoUser text fault =
-    (is_of_engine : Bool) × (name : List ℕ) × (later : Option (List ℕ)) × HasUserName text is_of_engine name later × TellsNoProtection later fault
+    (is_of_engine : Bool) × (name : List ℕ) × (later : Option (List ℕ)) × HasUserName text is_of_engine name later
+    × TellsNoProtection later fault

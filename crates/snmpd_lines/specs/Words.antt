@@ -1,4 +1,5 @@
--- Lines of snmpd.conf, and how they are cut: into words, which quotes hold together, and into tokens, which they don't (net-snmp 5.9.3).
+-- Lines of snmpd.conf, and how they are cut: into words, which quotes hold together, and into tokens, which
+-- they don't (net-snmp 5.9.3).
 use Rattle.std.specs.Prelude.{◌≡◌, ◌≢◌, ◌⊎◌, ⊤, ℕ, ◌≤◌, List, [], ◌∷◌, ◌++◌, take, Option, Some, None}
 use Rattle.std.specs.List.{AllByRecursion}
 use Rattle.snmpd_lines.specs.declared.words.Separator.{Separator}
@@ -44,7 +45,8 @@ abbrev pub IsEnded : Ends → List ℕ → Type 0
 IsEnded ends [] = ⊤
 IsEnded ends (octet ∷ rest) = IsEnd ends octet
 
--- the octet is written as it is, where it neither ends the word nor is a backslash with something behind it; or behind a backslash
+-- the octet is written as it is, where it neither ends the word nor is a backslash with something behind it;
+-- or behind a backslash
 abbrev pub WritesOctet : Ends → ℕ → List ℕ → List ℕ → Type 0
 WritesOctet ends octet text later =
     ((text ≡ octet ∷ later) × (IsEnd ends octet → ⊥) × (octet ≡ 92 → later ≡ [])) ⊎ (text ≡ 92 ∷ octet ∷ later)
@@ -52,7 +54,8 @@ WritesOctet ends octet text later =
 -- the text writes the octets of the word, up to where it ends, and is then this rest
 abbrev pub Writes : Ends → List ℕ → List ℕ → List ℕ → Type 0
 Writes ends [] text rest = (text ≡ rest) × IsEnded ends rest
-Writes ends (octet ∷ word) text rest = (later : List ℕ) × WritesOctet ends octet text later × Writes ends word later rest
+Writes ends (octet ∷ word) text rest = (later : List ℕ) × WritesOctet ends octet text later
+    × Writes ends word later rest
 
 -- a double or a single quote
 abbrev pub IsQuote : ℕ → Type 0
@@ -63,8 +66,8 @@ abbrev pub behind_first : List ℕ → List ℕ
 behind_first [] = []
 behind_first (octet ∷ rest) = rest
 
--- the text begins with the word, and is then this rest: a word that begins with a quote goes to the same quote, which isn't left, and each other
--- one to a blank
+-- the text begins with the word, and is then this rest: a word that begins with a quote goes to the same
+-- quote, which isn't left, and each other one to a blank
 abbrev pub IsWord : List ℕ → List ℕ → List ℕ → Type 0
 IsWord [] word rest = (word ≡ []) × (rest ≡ [])
 IsWord (octet ∷ text) word rest =
@@ -81,8 +84,8 @@ pub record TakesWord (most : ℕ) (text word : List ℕ) (later : Option (List �
 
 -- ---- tokens, and other parts without quotes
 
--- Where a text is cut: tokens at a space, a tab or a line feed; the octets of a mask at a space, a dot or a colon; types of views at a comma, a bar or
--- a colon.
+-- Where a text is cut: tokens at a space, a tab or a line feed; the octets of a mask at a space, a dot or a
+-- colon; types of views at a comma, a bar or a colon.
 abbrev pub IsCut : Separator → ℕ → Type 0
 IsCut AtGap octet = (octet ≡ 32) ⊎ (octet ≡ 9) ⊎ (octet ≡ 10)
 IsCut AtMark octet = (octet ≡ 32) ⊎ (octet ≡ 46) ⊎ (octet ≡ 58)
@@ -96,7 +99,8 @@ abbrev pub IsBehindCut : Separator → List ℕ → List ℕ → Type 0
 IsBehindCut cut [] rest = rest ≡ []
 IsBehindCut cut (octet ∷ later) rest = IsCut cut octet × (later ≡ rest)
 
--- behind octets that cut the text has the part, and then one of them and the rest; or it ends with the part, and the rest is nothing
+-- behind octets that cut the text has the part, and then one of them and the rest; or it ends with the part,
+-- and the rest is nothing
 pub record TakesPart (cut : Separator) (text part rest : List ℕ) : Type 0 where
   pub cuts : List ℕ
   pub later : List ℕ

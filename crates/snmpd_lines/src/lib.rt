@@ -1,4 +1,5 @@
-//! Lines of snmpd.conf, as net-snmp 5.9.3 reads them: directives and arguments, and the users that `createUser` creates.
+//! Lines of snmpd.conf, as net-snmp 5.9.3 reads them: directives and arguments, and the users that
+//! `createUser` creates.
 //!
 //! ```
 //! use snmp_ber::Level;

@@ -3,7 +3,8 @@
 ghost use Rattle.std.specs.Prelude.{◌≡◌, ◌↔◌, List, ℕ, IsTrue, IfOk, IfSome, IfNone, Some};
 ghost use Rattle.std.specs.Option.{option_map};
 ghost use Rattle.snmpd_lines.specs.declared.lines.Section.{Section as ASection};
-ghost use Rattle.snmpd_lines.specs.Lines.{IsBeforeNul, BeginsWith, IsBracketed, in_brackets, section_name, IsNoSection, IsLine};
+ghost use Rattle.snmpd_lines.specs.Lines.{IsBeforeNul, BeginsWith, IsBracketed, in_brackets, section_name};
+ghost use Rattle.snmpd_lines.specs.Lines.{IsNoSection, IsLine};
 
 use crate::words::{Word, go_on, take_word};
 use snmp_ber::split_once;
@@ -86,7 +87,9 @@ fn section_line<'a>(
     name: &[u8],
     rest: Option<&'a [u8]>,
 ) -> Result<Line<'a>, AllocError>
-    ensures { (force : ASection) (text : List ℕ) → BeginsWith text (in_brackets name.now) (option_map (λ r. r.now) rest.entry) → IfOk result (IsLine force text) }
+    ensures { (force : ASection) (text : List ℕ)
+        → BeginsWith text (in_brackets name.now) (option_map (λ r. r.now) rest.entry)
+        → IfOk result (IsLine force text) }
 {
     let Some(section) = section_of(name) else {
         return Ok(Line::NoSection);

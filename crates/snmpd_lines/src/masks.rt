@@ -1,7 +1,8 @@
 //! Masks of views: octets in hex, cut at spaces, dots and colons.
 
 ghost use Rattle.std.specs.Prelude.{◌≡◌, ◌↔◌, ◌+◌, ◌*◌, ◌%◌, ◌<◌, IsTrue, IfSome, IfNone, IfOk, IfErr};
-ghost use Rattle.snmpd_lines.specs.Masks.{BeginsHex, IsHexFront, IsBehindPrefix, IsBehindSign, IsSigned, IsMaskOctet, IsNoMaskOctet, AreMaskOctets, TellsNoMask};
+ghost use Rattle.snmpd_lines.specs.Masks.{BeginsHex, IsHexFront, IsBehindPrefix, IsBehindSign, IsSigned, IsMaskOctet};
+ghost use Rattle.snmpd_lines.specs.Masks.{IsNoMaskOctet, AreMaskOctets, TellsNoMask};
 
 use crate::fault::{LineFault, Refusal};
 use crate::subtrees::{digit_of, is_x};

@@ -3,7 +3,8 @@
 ghost use Rattle.std.specs.Prelude.{◌≡◌, ◌↔◌, ◌+◌, ◌*◌, ◌^◌, ◌<◌, ◌≤◌, ℕ, List, length, IsTrue, IfSome, IfNone, Some};
 ghost use Rattle.std.specs.List.{AllByRecursion};
 ghost use Rattle.snmpd_lines.specs.Subtrees as spec;
-ghost use Rattle.snmpd_lines.specs.Subtrees.{IsDigit, IsInBase, IsX, IsNumber, AreNumbers, HasTooLarge, SaysSubtree, IsCapped, AreCapped};
+ghost use Rattle.snmpd_lines.specs.Subtrees.{IsDigit, IsInBase, IsX, IsNumber, AreNumbers, HasTooLarge, SaysSubtree};
+ghost use Rattle.snmpd_lines.specs.Subtrees.{IsCapped, AreCapped};
 
 use arrayvec::ArrayVec;
 use snmp_ber::{Oid, split_once};
@@ -94,7 +95,8 @@ fn number_of(text: &[u8]) -> Option<u64>
 
 /// The numbers of a text that has a dot between each two, at most 128; `TOO_LARGE` for each that is too large.
 fn numbers_of(text: &[u8]) -> Option<ArrayVec<u64, 128>>
-    ensures found { IfSome result (λ numbers. (ns : List ℕ) × AreNumbers text.now ns × (length ns ≤ 128) × AreCapped ns numbers.items) }
+    ensures found { IfSome result
+        (λ numbers. (ns : List ℕ) × AreNumbers text.now ns × (length ns ≤ 128) × AreCapped ns numbers.items) }
     ensures none { IfNone result ((ns : List ℕ) → AreNumbers text.now ns → length ns ≤ 128 → ⊥) }
 {
     let mut numbers = ArrayVec::new();
@@ -142,8 +144,8 @@ fn arcs_of(numbers: &[u64]) -> Option<Oid>
     Oid::of(arcs.as_slice())
 }
 
-/// What a text says of a subtree: at most 128 numbers with a dot between each two, in front of which one may stand. A number is in decimal, or
-/// behind a 0 in octal, or behind a 0 and an x in hex.
+/// What a text says of a subtree: at most 128 numbers with a dot between each two, in front of which one may
+/// stand. A number is in decimal, or behind a 0 in octal, or behind a 0 and an x in hex.
 pub fn subtree_of(text: &[u8]) -> Subtree
     ensures { SaysSubtree text.now result }
 {

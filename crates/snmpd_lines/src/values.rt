@@ -1,4 +1,5 @@
-//! What single words of snmpd.conf stand for: security models, levels, how contexts match, views, and object identifiers.
+//! What single words of snmpd.conf stand for: security models, levels, how contexts match, views, and object
+//! identifiers.
 
 ghost use Rattle.std.specs.Prelude.{◌≡◌, ℕ, IfSome, Some};
 ghost use Rattle.snmp_ber.specs.declared.level.Level.{Level as ALevel};
@@ -8,7 +9,8 @@ ghost use Rattle.snmpd_lines.specs.Values.{IsModel, IsLevel, IsMatching};
 use snmp_ber::Level;
 use vacm_core::Matching;
 
-/// The security model that a word names (RFC 3411, SnmpSecurityModel; RFC 5591): `any` is 0, `v1` 1 and `v2c` 2, in either case; `usm` is 3 and `tsm` 4.
+/// The security model that a word names (RFC 3411, SnmpSecurityModel; RFC 5591): `any` is 0, `v1` 1 and `v2c`
+/// 2, in either case; `usm` is 3 and `tsm` 4.
 pub fn model_of(word: &[u8]) -> Option<u32>
     ensures found { IfSome result (λ model. IsModel word.now model) }
     ensures all { (model : ℕ) → IsModel word.now model → result ≡ Some model }

@@ -4,7 +4,8 @@ ghost use Rattle.std.specs.Prelude.{◌≡◌, ◌↔◌, ℕ, ◌<◌, ◌≤�
 ghost use Rattle.std.specs.Option.{option_map};
 ghost use Rattle.std.specs.List.{AllByRecursion};
 ghost use Rattle.snmpd_lines.specs.Words as spec;
-ghost use Rattle.snmpd_lines.specs.Words.{IsBlank, IsBehindBlanks, GoesOn, IsEnd, Writes, IsQuote, IsWord, TakesWord, IsCut, IsNoCut, TakesPart, IsGap, TakesToken, TakesOr};
+ghost use Rattle.snmpd_lines.specs.Words.{IsBlank, IsBehindBlanks, GoesOn, IsEnd, Writes, IsQuote, IsWord, TakesWord};
+ghost use Rattle.snmpd_lines.specs.Words.{IsCut, IsNoCut, TakesPart, IsGap, TakesToken, TakesOr};
 
 use std::alloc::{AllocError, Global};
 
@@ -124,12 +125,14 @@ fn read_word(alloc: Global, text: &[u8]) -> Result<(Vec<u8>, &[u8]), AllocError>
     Ok((word, behind_first(left)))
 }
 
-/// The word that a text begins with: to the next blank, or to the same quote where it begins with `"` or `'`, an octet behind a backslash as it
-/// is. At most `most` of its octets are held, as snmpd has room for no more. Behind it blanks are skipped, and a comment ends the line.
+/// The word that a text begins with: to the next blank, or to the same quote where it begins with `"` or `'`,
+/// an octet behind a backslash as it is. At most `most` of its octets are held, as snmpd has room for no
+/// more. Behind it blanks are skipped, and a comment ends the line.
 ///
 /// The error is want of memory.
 pub fn take_word(alloc: Global, text: &[u8], most: usize) -> Result<Word<'_>, AllocError>
-    ensures { IfOk result (λ word. TakesWord most text.now word.octets.items (option_map (λ rest. rest.now) word.rest)) }
+    ensures { IfOk result
+        (λ word. TakesWord most text.now word.octets.items (option_map (λ rest. rest.now) word.rest)) }
 {
     let (mut octets, rest) = read_word(alloc, text)?;
     octets.truncate(most);
@@ -193,7 +196,8 @@ pub(crate) fn take_part(text: &[u8], cut: Separator) -> Option<(&[u8], &[u8])>
     None
 }
 
-/// The first token of a text, which spaces, tabs and line feeds cut, and what stands behind the one that ends it; `None` where there is none.
+/// The first token of a text, which spaces, tabs and line feeds cut, and what stands behind the one that ends
+/// it; `None` where there is none.
 pub fn take_token(text: &[u8]) -> Option<(&[u8], &[u8])>
     ensures found { IfSome result (λ r. TakesToken text.now r.0.now r.1.now) }
     ensures none { IfNone result (AllByRecursion IsGap text.now) }
@@ -215,7 +219,9 @@ pub fn take_or<'a>(
     text: Option<&'a [u8]>,
     other: &[u8],
 ) -> Result<Word<'a>, AllocError>
-    ensures { IfOk result (λ word. TakesOr most other.now (option_map (λ rest. rest.now) text.entry) word.octets.items (option_map (λ rest. rest.now) word.rest)) }
+    ensures { IfOk result
+        (λ word. TakesOr most other.now (option_map (λ rest. rest.now) text.entry) word.octets.items
+        (option_map (λ rest. rest.now) word.rest)) }
 {
     match text {
         Some(text) => take_word(alloc, text, most),

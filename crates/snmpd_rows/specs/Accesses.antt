@@ -1,4 +1,5 @@
--- What a line `access GROUP CONTEXT MODEL LEVEL MATCH READ WRITE NOTIFY` makes: a row of vacmAccessTable (net-snmp 5.9.3).
+-- What a line `access GROUP CONTEXT MODEL LEVEL MATCH READ WRITE NOTIFY` makes: a row of vacmAccessTable
+-- (net-snmp 5.9.3).
 use Rattle.std.specs.Prelude.{◌≡◌, ◌⊎◌, ℕ, zero, suc, ◌<◌, ◌≤◌, List, [], ◌∷◌, length, codes}
 use Rattle.std.specs.List.{AllByRecursion}
 use Rattle.snmp_ber.specs.declared.level.Level.{Level}
@@ -19,7 +20,8 @@ AreTokens text (token ∷ tokens) rest = (later : List ℕ) × TakesToken text t
 -- the text has fewer tokens
 abbrev pub HasFewer : ℕ → List ℕ → Type 0
 HasFewer zero text = ⊥
-HasFewer (suc n) text = AllByRecursion IsGap text ⊎ ((token : List ℕ) × (later : List ℕ) × TakesToken text token later × HasFewer n later)
+HasFewer (suc n) text = AllByRecursion IsGap text
+    ⊎ ((token : List ℕ) × (later : List ℕ) × TakesToken text token later × HasFewer n later)
 
 -- two quotes are the context without a name
 abbrev pub IsNoName : List ℕ → Type 0
@@ -60,9 +62,11 @@ HasWords text P =
 abbrev pub TellsNoConditions : List ℕ → LineFault → Type 0
 TellsNoConditions text (Refused refusals.MissingWord) = HasFewer 5 text
 TellsNoConditions text (Refused refusals.BadModel) = HasWords text (λ model level matching. IsNoModel model)
-TellsNoConditions text (Refused refusals.BadLevel) = HasWords text (λ model level matching. ((number : ℕ) × IsModel model number) × IsNoLevel level)
+TellsNoConditions text (Refused refusals.BadLevel) = HasWords text
+    (λ model level matching. ((number : ℕ) × IsModel model number) × IsNoLevel level)
 TellsNoConditions text (Refused refusals.BadMatching) =
-    HasWords text (λ model level matching. ((number : ℕ) × IsModel model number) × ((named : Level) × IsLevel level named) × IsNoMatching matching)
+    HasWords text (λ model level matching. ((number : ℕ) × IsModel model number)
+    × ((named : Level) × IsLevel level named) × IsNoMatching matching)
 TellsNoConditions text _ = ⊥
 
 -- the name of a view: one of 33 octets, which snmpd has room for, is none that a view can have
@@ -95,9 +99,11 @@ IsLong most name = most < length name
 
 -- the name of a view, or else one of the index, is too long for snmpd
 abbrev pub TellsTooLong : Conditions → List ℕ → List ℕ → List ℕ → LineFault → Type 0
-TellsTooLong conditions read write notify (Refused refusals.LongView) = IsLong 33 read ⊎ IsLong 33 write ⊎ IsLong 33 notify
+TellsTooLong conditions read write notify (Refused refusals.LongView) = IsLong 33 read ⊎ IsLong 33 write
+    ⊎ IsLong 33 notify
 TellsTooLong conditions read write notify (Refused refusals.LongIndex) =
-    (length read ≤ 33) × (length write ≤ 33) × (length notify ≤ 33) × (IsLong 32 conditions.group.now ⊎ IsLong 32 conditions.context.now)
+    (length read ≤ 33) × (length write ≤ 33) × (length notify ≤ 33)
+    × (IsLong 32 conditions.group.now ⊎ IsLong 32 conditions.context.now)
 TellsTooLong conditions read write notify _ = ⊥
 
 -- The line makes the row.
@@ -113,6 +119,8 @@ pub record SaysAccess (text : List ℕ) (row : AccessRow) : Type 0 where
 abbrev pub TellsNoAccess : List ℕ → LineFault → Type 0
 TellsNoAccess text fault =
     TellsNoConditions text fault
-    ⊎ ((fault ≡ Refused refusals.MissingView) × ((conditions : Conditions) × (behind : List ℕ) × SaysConditions text conditions behind × HasFewer 3 behind))
-    ⊎ ((conditions : Conditions) × (read : List ℕ) × (write : List ℕ) × (notify : List ℕ) × HasViews text conditions read write notify
+    ⊎ ((fault ≡ Refused refusals.MissingView)
+    × ((conditions : Conditions) × (behind : List ℕ) × SaysConditions text conditions behind × HasFewer 3 behind))
+    ⊎ ((conditions : Conditions) × (read : List ℕ) × (write : List ℕ) × (notify : List ℕ)
+    × HasViews text conditions read write notify
     × TellsTooLong conditions read write notify fault)

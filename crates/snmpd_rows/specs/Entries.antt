@@ -21,7 +21,8 @@ use Rattle.snmpd_lines.specs.declared.directives.Directive.TheVariants as direct
 use Rattle.snmpd_lines.specs.declared.fault.LineFault.{LineFault}
 use Rattle.snmpd_lines.specs.declared.fault.LineFault.TheVariants as faults
 use Rattle.snmpd_rows.specs.declared.entries.Entry.{Entry}
-use Rattle.snmpd_rows.specs.declared.entries.Entry.TheVariants.{Nothing, Begins, Group, Access, Family, Simple, Set, User, Told}
+use Rattle.snmpd_rows.specs.declared.entries.Entry.TheVariants.{Nothing, Begins, Group, Access, Family, Simple, Set}
+use Rattle.snmpd_rows.specs.declared.entries.Entry.TheVariants.{User, Told}
 use Rattle.snmpd_rows.specs.declared.entries.Note.{Note}
 use Rattle.snmpd_rows.specs.declared.entries.Note.TheVariants.{Unclosed, NoSection, Bare, Other, LeftOut, Fault, NoUser}
 
@@ -47,8 +48,10 @@ pub record HasText (force : Section) (line : List ℕ) (directive : Directive) (
 -- a directive whose lines aren't read: there is a note, and no row
 abbrev pub IsUnread : Directive → Type 0
 IsUnread directive =
-    (directive ≢ directives.Group) × (directive ≢ directives.Access) × (directive ≢ directives.SetAccess) × (directive ≢ directives.AuthAccess)
-    × (directive ≢ directives.View) × (directive ≢ directives.CreateUser) × (directive ≢ directives.Other) × (simple_of directive ≡ None)
+    (directive ≢ directives.Group) × (directive ≢ directives.Access) × (directive ≢ directives.SetAccess)
+    × (directive ≢ directives.AuthAccess)
+    × (directive ≢ directives.View) × (directive ≢ directives.CreateUser) × (directive ≢ directives.Other)
+    × (simple_of directive ≡ None)
 
 -- what a line of the directive sets
 abbrev pub SaysSet : Directive → List ℕ → Setting → Type 0
@@ -71,12 +74,15 @@ IsNote force line Unclosed = IsLine force line lines.Unclosed
 IsNote force line NoSection = IsLine force line lines.NoSection
 IsNote force line Bare = (section : Section) × (word : List ℕ) × HasDirective force line section word None
 IsNote force line Other =
-    ((section : Section) × (word : List ℕ) × (rest : List ℕ) × HasDirective force line section word (Some rest) × (section ≡ Snmpd → ⊥))
+    ((section : Section) × (word : List ℕ) × (rest : List ℕ) × HasDirective force line section word (Some rest)
+    × (section ≡ Snmpd → ⊥))
     ⊎ ((text : List ℕ) × HasText force line directives.Other text)
 IsNote force line (LeftOut directive) = (text : List ℕ) × HasText force line directive text × IsUnread directive
-IsNote force line (Fault directive fault) = (text : List ℕ) × HasText force line directive text × TellsNoRow directive text fault × (fault ≡ faults.OutOfMemory → ⊥)
+IsNote force line (Fault directive fault) = (text : List ℕ) × HasText force line directive text
+    × TellsNoRow directive text fault × (fault ≡ faults.OutOfMemory → ⊥)
 IsNote force line (NoUser fault) =
-    (text : List ℕ) × HasText force line directives.CreateUser text × TellsNoUser text fault × (fault ≡ user_faults.OutOfMemory → ⊥)
+    (text : List ℕ) × HasText force line directives.CreateUser text × TellsNoUser text fault
+    × (fault ≡ user_faults.OutOfMemory → ⊥)
 
 -- What the line makes, where this section is in force.
 abbrev pub IsEntry : Section → List ℕ → Entry → Type 0
@@ -85,9 +91,12 @@ IsEntry force line (Begins section) = IsLine force line (lines.Begins section)
 IsEntry force line (Group row) = (text : List ℕ) × HasText force line directives.Group text × SaysGroup text row
 IsEntry force line (Access row) = (text : List ℕ) × HasText force line directives.Access text × SaysAccess text row
 IsEntry force line (Family row) = (text : List ℕ) × HasText force line directives.View text × SaysFamily text row
-IsEntry force line (Set setting) = (directive : Directive) × (text : List ℕ) × HasText force line directive text × SaysSet directive text setting
-IsEntry force line (User created) = (text : List ℕ) × HasText force line directives.CreateUser text × SaysUser text created
-IsEntry force line (Simple simple) = (directive : Directive) × (text : List ℕ) × HasText force line directive text × SaysSimpleLine directive text simple
+IsEntry force line (Set setting) = (directive : Directive) × (text : List ℕ) × HasText force line directive text
+    × SaysSet directive text setting
+IsEntry force line (User created) = (text : List ℕ) × HasText force line directives.CreateUser text
+    × SaysUser text created
+IsEntry force line (Simple simple) = (directive : Directive) × (text : List ℕ) × HasText force line directive text
+    × SaysSimpleLine directive text simple
 IsEntry force line (Told note) = IsNote force line note
 
 -- What stands behind a directive makes this.
@@ -100,6 +109,8 @@ IsMade directive text (User created) = (directive ≡ directives.CreateUser) × 
 IsMade directive text (Simple simple) = SaysSimpleLine directive text simple
 IsMade directive text (Told Other) = directive ≡ directives.Other
 IsMade directive text (Told (LeftOut other)) = (other ≡ directive) × IsUnread directive
-IsMade directive text (Told (Fault other fault)) = (other ≡ directive) × TellsNoRow directive text fault × (fault ≡ faults.OutOfMemory → ⊥)
-IsMade directive text (Told (NoUser fault)) = (directive ≡ directives.CreateUser) × TellsNoUser text fault × (fault ≡ user_faults.OutOfMemory → ⊥)
+IsMade directive text (Told (Fault other fault)) = (other ≡ directive) × TellsNoRow directive text fault
+    × (fault ≡ faults.OutOfMemory → ⊥)
+IsMade directive text (Told (NoUser fault)) = (directive ≡ directives.CreateUser) × TellsNoUser text fault
+    × (fault ≡ user_faults.OutOfMemory → ⊥)
 IsMade directive text _ = ⊥

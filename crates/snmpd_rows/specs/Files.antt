@@ -19,4 +19,5 @@ section_behind force _ = force
 abbrev pub AreEntries : Section → List ℕ → List Entry → Type 0
 AreEntries force text [] = text ≡ []
 AreEntries force text (entry ∷ entries) =
-    (line : List ℕ) × (rest : List ℕ) × IsFirstLine text line rest × IsEntry force line entry × AreEntries (section_behind force entry) rest entries
+    (line : List ℕ) × (rest : List ℕ) × IsFirstLine text line rest × IsEntry force line entry
+    × AreEntries (section_behind force entry) rest entries

@@ -1,5 +1,6 @@
--- What a line `authaccess TYPES GROUP [-s MODEL] VIEW [LEVEL [CONTEXT]]` sets: the views of these types, of the row that snmpd would choose for a
--- message of GROUP, CONTEXT, MODEL and LEVEL, or of a new row where it would choose none (net-snmp 5.9.3).
+-- What a line `authaccess TYPES GROUP [-s MODEL] VIEW [LEVEL [CONTEXT]]` sets: the views of these types, of
+-- the row that snmpd would choose for a message of GROUP, CONTEXT, MODEL and LEVEL, or of a new row where it
+-- would choose none (net-snmp 5.9.3).
 use Rattle.std.specs.Prelude.{◌≡◌, ◌⊎◌, ◌<◌, ◌==◌, ◌||◌, if◌then◌else◌, List, [], ◌∷◌, ℕ, length, codes, None}
 use Rattle.snmp_ber.specs.declared.level.Level.{Level}
 use Rattle.snmp_ber.specs.declared.level.Level.TheVariants.{NoAuthNoPriv, AuthNoPriv}
@@ -26,7 +27,8 @@ HasModelAndView text model view rest = (word : List ℕ) × AreTokens text (word
 
 abbrev pub TellsNoModelAndView : List ℕ → LineFault → Type 0
 TellsNoModelAndView text (Refused refusals.MissingWord) = HasFewer 1 text
-TellsNoModelAndView text (Refused refusals.BadModel) = (word : List ℕ) × (rest : List ℕ) × TakesToken text word rest × IsNoModel word
+TellsNoModelAndView text (Refused refusals.BadModel) = (word : List ℕ) × (rest : List ℕ) × TakesToken text word rest
+    × IsNoModel word
 TellsNoModelAndView text (Refused refusals.MissingView) =
     (word : List ℕ) × (rest : List ℕ) × TakesToken text word rest × ((model : ℕ) × IsModel word model) × HasFewer 1 rest
 TellsNoModelAndView text _ = ⊥
@@ -35,12 +37,14 @@ TellsNoModelAndView text _ = ⊥
 abbrev pub HasGroupAndView : List ℕ → List ℕ → ℕ → List ℕ → List ℕ → Type 0
 HasGroupAndView text group model view rest =
     (AreTokens text (group ∷ view ∷ []) rest × (IsOption view → ⊥) × (model ≡ 0))
-    ⊎ ((option : List ℕ) × (behind : List ℕ) × AreTokens text (group ∷ option ∷ []) behind × IsOption option × HasModelAndView behind model view rest)
+    ⊎ ((option : List ℕ) × (behind : List ℕ) × AreTokens text (group ∷ option ∷ []) behind × IsOption option
+    × HasModelAndView behind model view rest)
 
 abbrev pub TellsNoGroupAndView : List ℕ → LineFault → Type 0
 TellsNoGroupAndView text fault =
     ((fault ≡ Refused refusals.MissingWord) × HasFewer 2 text)
-    ⊎ ((group : List ℕ) × (option : List ℕ) × (behind : List ℕ) × AreTokens text (group ∷ option ∷ []) behind × IsOption option × TellsNoModelAndView behind fault)
+    ⊎ ((group : List ℕ) × (option : List ℕ) × (behind : List ℕ) × AreTokens text (group ∷ option ∷ []) behind
+    × IsOption option × TellsNoModelAndView behind fault)
 
 -- the level where the line names none: the models 1 and 2 have no other
 abbrev pub level_for : ℕ → Level
@@ -48,20 +52,24 @@ level_for model = if (model == 1) || (model == 2) then NoAuthNoPriv else AuthNoP
 
 abbrev pub HasLevel : ℕ → List ℕ → Level → List ℕ → Type 0
 HasLevel model text level rest =
-    (HasFewer 1 text × (level ≡ level_for model) × (rest ≡ text)) ⊎ ((word : List ℕ) × TakesToken text word rest × IsLevel word level)
+    (HasFewer 1 text × (level ≡ level_for model) × (rest ≡ text))
+    ⊎ ((word : List ℕ) × TakesToken text word rest × IsLevel word level)
 
 abbrev pub TellsNoLevel : List ℕ → LineFault → Type 0
-TellsNoLevel text (Refused refusals.BadLevel) = (word : List ℕ) × (rest : List ℕ) × TakesToken text word rest × IsNoLevel word
+TellsNoLevel text (Refused refusals.BadLevel) = (word : List ℕ) × (rest : List ℕ) × TakesToken text word rest
+    × IsNoLevel word
 TellsNoLevel text _ = ⊥
 
 -- the contexts that the next token names, or the one without a name
 abbrev pub HasContexts : List ℕ → List ℕ → Matching → Type 0
 HasContexts text context matching =
-    (HasFewer 1 text × (context ≡ []) × (matching ≡ Exact)) ⊎ ((word : List ℕ) × (rest : List ℕ) × TakesToken text word rest × IsContextOf word context matching)
+    (HasFewer 1 text × (context ≡ []) × (matching ≡ Exact))
+    ⊎ ((word : List ℕ) × (rest : List ℕ) × TakesToken text word rest × IsContextOf word context matching)
 
 -- a level and contexts
 abbrev pub HasIndex : ℕ → List ℕ → Level → List ℕ → Matching → Type 0
-HasIndex model text level context matching = (behind : List ℕ) × HasLevel model text level behind × HasContexts behind context matching
+HasIndex model text level context matching = (behind : List ℕ) × HasLevel model text level behind
+    × HasContexts behind context matching
 
 -- a name of the index is too long
 abbrev pub HasLongNames : List ℕ → List ℕ → Type 0
@@ -78,23 +86,28 @@ pub record SaysGroupViews (types : Types) (text : List ℕ) (setting : Setting) 
 
 -- the group and the view of a line, of which this is so, with what stands behind them
 abbrev pub HasViewed : List ℕ → (List ℕ → ℕ → List ℕ → List ℕ → Type 0) → Type 0
-HasViewed text P = (group : List ℕ) × (model : ℕ) × (view : List ℕ) × (rest : List ℕ) × HasGroupAndView text group model view rest × P group model view rest
+HasViewed text P = (group : List ℕ) × (model : ℕ) × (view : List ℕ) × (rest : List ℕ)
+    × HasGroupAndView text group model view rest × P group model view rest
 
 -- why what stands behind the types sets nothing, where it has a group and a view
 abbrev pub TellsNoIndex : List ℕ → ℕ → List ℕ → List ℕ → LineFault → Type 0
 TellsNoIndex group model view rest (Refused refusals.LongView) = 33 < length view
 TellsNoIndex group model view rest (Refused refusals.LongIndex) =
-    HasRoom view × ((level : Level) × (context : List ℕ) × (matching : Matching) × HasIndex model rest level context matching × HasLongNames group context)
+    HasRoom view × ((level : Level) × (context : List ℕ) × (matching : Matching)
+    × HasIndex model rest level context matching × HasLongNames group context)
 TellsNoIndex group model view rest fault = HasRoom view × TellsNoLevel rest fault
 
 abbrev pub TellsNoGroupViews : List ℕ → LineFault → Type 0
-TellsNoGroupViews text fault = TellsNoGroupAndView text fault ⊎ HasViewed text (λ group model view rest. TellsNoIndex group model view rest fault)
+TellsNoGroupViews text fault = TellsNoGroupAndView text fault
+    ⊎ HasViewed text (λ group model view rest. TellsNoIndex group model view rest fault)
 
 -- The line sets this.
 abbrev pub SaysAuthAccess : List ℕ → Setting → Type 0
-SaysAuthAccess text setting = (types : Types) × (behind : List ℕ) × HasTypes None text types behind × SaysGroupViews types behind setting
+SaysAuthAccess text setting = (types : Types) × (behind : List ℕ) × HasTypes None text types behind
+    × SaysGroupViews types behind setting
 
 -- Why the line sets nothing: the first cause.
 abbrev pub TellsNoAuthAccess : List ℕ → LineFault → Type 0
 TellsNoAuthAccess text fault =
-    TellsNoTypes None text fault ⊎ ((types : Types) × (behind : List ℕ) × HasTypes None text types behind × TellsNoGroupViews behind fault)
+    TellsNoTypes None text fault
+    ⊎ ((types : Types) × (behind : List ℕ) × HasTypes None text types behind × TellsNoGroupViews behind fault)

@@ -18,7 +18,8 @@ pub record AreGroupWords (text group model name : List ℕ) : Type 0 where
 
 -- the line ends behind its first or its second word
 abbrev pub EndsEarly : List ℕ → Type 0
-EndsEarly text = EndsBehindWord 32 text ⊎ ((word : List ℕ) × (rest : List ℕ) × TakesWord 32 text word (Some rest) × EndsBehindWord 32 rest)
+EndsEarly text = EndsBehindWord 32 text
+    ⊎ ((word : List ℕ) × (rest : List ℕ) × TakesWord 32 text word (Some rest) × EndsBehindWord 32 rest)
 
 -- no word is empty
 abbrev pub AreSome : List ℕ → List ℕ → List ℕ → Type 0
@@ -34,9 +35,11 @@ pub record SaysGroup (text : List ℕ) (row : GroupRow) : Type 0 where
 -- Why the line makes no row.
 abbrev pub TellsNoGroup : List ℕ → LineFault → Type 0
 TellsNoGroup text (Refused refusals.MissingWord) =
-    (group : List ℕ) × (model : List ℕ) × (name : List ℕ) × AreGroupWords text group model name × ((group ≡ []) ⊎ (model ≡ []) ⊎ (name ≡ []))
+    (group : List ℕ) × (model : List ℕ) × (name : List ℕ) × AreGroupWords text group model name
+    × ((group ≡ []) ⊎ (model ≡ []) ⊎ (name ≡ []))
 TellsNoGroup text (Refused refusals.BadModel) =
-    (group : List ℕ) × (model : List ℕ) × (name : List ℕ) × AreGroupWords text group model name × AreSome group model name
+    (group : List ℕ) × (model : List ℕ) × (name : List ℕ) × AreGroupWords text group model name
+    × AreSome group model name
     × ((number : ℕ) → IsModel model number → ⊥)
 TellsNoGroup text Undefined = EndsEarly text
 TellsNoGroup text OutOfMemory = ⊤

@@ -4,7 +4,8 @@ use Rattle.snmpd_rows.specs.declared.simple.Who.{Who}
 use Rattle.snmpd_rows.specs.declared.simple.Who.TheVariants.{User, Group, Community}
 
 abbrev pub is_plain : ℕ → Bool
-is_plain octet = (nat_le 48 octet && nat_le octet 57) || (nat_le 65 octet && nat_le octet 90) || (nat_le 97 octet && nat_le octet 122)
+is_plain octet = (nat_le 48 octet && nat_le octet 57) || (nat_le 65 octet && nat_le octet 90) ||
+    (nat_le 97 octet && nat_le octet 122)
 
 -- a letter or a digit, and a low line for each other octet
 abbrev pub plain : ℕ → ℕ

@@ -24,7 +24,8 @@ matching_word Prefix = codes "prefix"
 -- CONTEXT MODEL LEVEL MATCH
 abbrev pub conditions_of : Simple → List (List ℕ)
 conditions_of simple =
-    context_word simple.reach.context.items ∷ simple.named.model.items ∷ simple.named.level.items ∷ matching_word simple.reach.matching ∷ []
+    context_word simple.reach.context.items ∷ simple.named.model.items ∷ simple.named.level.items
+    ∷ matching_word simple.reach.matching ∷ []
 
 -- the same of words
 abbrev pub conditions : Words → List (List ℕ)
@@ -32,11 +33,19 @@ conditions words = words.context.now ∷ words.model.now ∷ words.level.now ∷
 
 -- `access GROUP CONTEXT MODEL LEVEL MATCH READ WRITE NOTIFY`
 abbrev pub access_line : Simple → List ℕ → List ℕ → List ℕ → Directive × List ℕ
-access_line simple group view other = (directives.Access, joined group (conditions_of simple ++ view ∷ other ∷ other ∷ []))
+access_line simple group view other = (
+  directives.Access,
+  joined group
+      (conditions_of simple ++ view ∷ other ∷ other ∷ []),
+)
 
 -- `setaccess GROUP CONTEXT MODEL LEVEL MATCH TYPE VIEW`
 abbrev pub set_line : Simple → List ℕ → List ℕ → ViewWord → Directive × List ℕ
-set_line simple group view word = (directives.SetAccess, joined group (conditions_of simple ++ view_word word ∷ view ∷ []))
+set_line simple group view word = (
+  directives.SetAccess,
+  joined group
+      (conditions_of simple ++ view_word word ∷ view ∷ []),
+)
 
 abbrev pub has : Types → ViewWord → Bool
 has types Read = types.read

@@ -1,5 +1,6 @@
--- What a line `setaccess GROUP CONTEXT MODEL LEVEL MATCH TYPE VIEW` sets: the view of one type, of the row that snmpd would choose for a message of GROUP,
--- CONTEXT, MODEL and LEVEL, or of a new row where it would choose none (net-snmp 5.9.3).
+-- What a line `setaccess GROUP CONTEXT MODEL LEVEL MATCH TYPE VIEW` sets: the view of one type, of the row
+-- that snmpd would choose for a message of GROUP, CONTEXT, MODEL and LEVEL, or of a new row where it would
+-- choose none (net-snmp 5.9.3).
 use Rattle.std.specs.Prelude.{◌≡◌, ◌⊎◌, ◌<◌, List, [], ◌∷◌, ℕ, length}
 use Rattle.snmpd_rows.specs.Accesses.{AreTokens, HasFewer, SaysConditions, TellsNoConditions, IsViewName}
 use Rattle.snmpd_lines.specs.Types.{view_word, only, IsNoType}
@@ -37,7 +38,8 @@ pub record SaysSetAccess (text : List ℕ) (setting : Setting) : Type 0 where
 
 -- the words of a line, of which this is so
 abbrev pub HasSettingWords : List ℕ → (Conditions → List ℕ → List ℕ → Type 0) → Type 0
-HasSettingWords text P = (conditions : Conditions) × (type : List ℕ) × (view : List ℕ) × HasTypeAndView text conditions type view × P conditions type view
+HasSettingWords text P = (conditions : Conditions) × (type : List ℕ) × (view : List ℕ)
+    × HasTypeAndView text conditions type view × P conditions type view
 
 -- snmpd has room for the name of the view
 abbrev pub HasRoom : List ℕ → Type 0
@@ -49,9 +51,13 @@ HasLongIndex conditions = (32 < length conditions.group.now) ⊎ (32 < length co
 
 -- Why the line sets nothing: the first cause.
 abbrev pub TellsNoSetAccess : List ℕ → LineFault → Type 0
-TellsNoSetAccess text (Refused refusals.MissingView) = (conditions : Conditions) × (behind : List ℕ) × SaysConditions text conditions behind × HasFewer 2 behind
+TellsNoSetAccess text (Refused refusals.MissingView) = (conditions : Conditions) × (behind : List ℕ)
+    × SaysConditions text conditions behind × HasFewer 2 behind
 TellsNoSetAccess text (Refused refusals.LongView) = HasSettingWords text (λ conditions type view. 33 < length view)
-TellsNoSetAccess text (Refused refusals.BadViewType) = HasSettingWords text (λ conditions type view. HasRoom view × IsNoType type)
+TellsNoSetAccess text (Refused refusals.BadViewType) = HasSettingWords text
+    (λ conditions type view. HasRoom view × IsNoType type)
 TellsNoSetAccess text (Refused refusals.LongIndex) =
-    HasSettingWords text (λ conditions type view. HasRoom view × ((word : ViewWord) × (type ≡ view_word word)) × HasLongIndex conditions)
+    HasSettingWords text
+    (λ conditions type view. HasRoom view × ((word : ViewWord) × (type ≡ view_word word))
+    × HasLongIndex conditions)
 TellsNoSetAccess text fault = TellsNoConditions text fault

@@ -1,5 +1,6 @@
--- What a line `rouser [-s MODEL] NAME [LEVEL [OID | -V VIEW [CONTEXT]]]` says, and its like: `rwuser`, `authuser TYPES ..`, `authgroup TYPES ..`, and of
--- communities `rocommunity [-v VERSION] NAME [SOURCE [OID | -V VIEW [CONTEXT]]]`, `rwcommunity` and `authcommunity TYPES ..` (net-snmp 5.9.3).
+-- What a line `rouser [-s MODEL] NAME [LEVEL [OID | -V VIEW [CONTEXT]]]` says, and its like: `rwuser`,
+-- `authuser TYPES ..`, `authgroup TYPES ..`, and of communities `rocommunity [-v VERSION] NAME [SOURCE [OID |
+-- -V VIEW [CONTEXT]]]`, `rwcommunity` and `authcommunity TYPES ..` (net-snmp 5.9.3).
 use Rattle.std.specs.Prelude.{◌≡◌, ◌≢◌, ◌⊎◌, ⊤, ℕ, true, false, List, [], ◌∷◌, ◌++◌, codes, Option, Some, None}
 use Rattle.vacm_core.specs.declared.rows.Matching.{Matching}
 use Rattle.vacm_core.specs.declared.rows.Matching.TheVariants.{Exact, Prefix}
@@ -27,10 +28,26 @@ use Rattle.snmpd_rows.specs.declared.simple.SimpleKind.TheVariants as kinds
 -- ---- the directives
 
 abbrev pub just_read : Types
-just_read = record { read = true; write = false; notify = false; log = false; execute = false; net = false; unknown = false }
+just_read = record {
+  read = true;
+  write = false;
+  notify = false;
+  log = false;
+  execute = false;
+  net = false;
+  unknown = false;
+}
 
 abbrev pub read_write : Types
-read_write = record { read = true; write = true; notify = false; log = false; execute = false; net = false; unknown = false }
+read_write = record {
+  read = true;
+  write = true;
+  notify = false;
+  log = false;
+  execute = false;
+  net = false;
+  unknown = false;
+}
 
 -- what lines of the directive are for, and the types of views that it gives, where its lines don't name them
 abbrev pub simple_of : Directive → Option (SimpleKind × Option Types)
@@ -59,7 +76,8 @@ LacksName None text = EndsBehindWord 1023 text
 
 -- a model, and the name behind it
 abbrev pub HasModelBehind : List ℕ → List ℕ → List ℕ → Option (List ℕ) → Type 0
-HasModelBehind text model name later = (rest : List ℕ) × TakesWord 2559 text model (Some rest) × TakesWord 255 rest name later
+HasModelBehind text model name later = (rest : List ℕ) × TakesWord 2559 text model (Some rest)
+    × TakesWord 255 rest name later
 
 -- the name, and the model: this one, or the word behind the option
 abbrev pub HasModel : List ℕ → List ℕ → List ℕ → List ℕ → List ℕ → Option (List ℕ) → Type 0
@@ -70,7 +88,8 @@ HasModel option other text model name later =
 -- the text ends behind the option, or behind the model
 abbrev pub EndsInOption : List ℕ → List ℕ → Type 0
 EndsInOption option text =
-    TakesWord 255 text option None ⊎ ((behind : List ℕ) × TakesWord 255 text option (Some behind) × EndsBehindWord 2559 behind)
+    TakesWord 255 text option None
+    ⊎ ((behind : List ℕ) × TakesWord 255 text option (Some behind) × EndsBehindWord 2559 behind)
 
 -- the word for the model of a version: `1` and `2c` name versions too
 abbrev pub IsVersionWord : List ℕ → List ℕ → Type 0
@@ -94,8 +113,10 @@ HasUser text named later =
 -- a line for a community, behind which its source stands
 abbrev pub HasCommunity : List ℕ → Named → Versions → Option (List ℕ) → Type 0
 HasCommunity text named given later =
-    (word : List ℕ) × (source : List ℕ) × (behind : Option (List ℕ)) × HasModel (codes "-v") (codes "any") text word named.name.items behind
-    × IsVersionWord word named.model.items × AreVersions named.model.items given × (named.level.items ≡ codes "noauth") × TakesOr 2559 (codes "default") behind source later
+    (word : List ℕ) × (source : List ℕ) × (behind : Option (List ℕ))
+    × HasModel (codes "-v") (codes "any") text word named.name.items behind
+    × IsVersionWord word named.model.items × AreVersions named.model.items given
+    × (named.level.items ≡ codes "noauth") × TakesOr 2559 (codes "default") behind source later
 
 abbrev pub HasNamedAs : Who → SimpleKind → List ℕ → Named → Option (List ℕ) → Type 0
 HasNamedAs whom.User kinds.User text named later = HasUser text named later
@@ -118,8 +139,10 @@ abbrev pub HasView : Option (List ℕ) → View → Option (List ℕ) → Type 0
 HasView None (views.Named name) later = (name.items ≡ codes "_all_") × (later ≡ None)
 HasView None (views.Below oid) later = ⊥
 HasView (Some text) (views.Named name) later =
-    (rest : List ℕ) × (behind : List ℕ) × (text ≡ codes "-V " ++ rest) × GoesOn rest (Some behind) × TakesWord 2559 behind name.items later
-HasView (Some text) (views.Below oid) later = ((rest : List ℕ) → text ≡ codes "-V " ++ rest → ⊥) × TakesWord 2559 text oid.items later
+    (rest : List ℕ) × (behind : List ℕ) × (text ≡ codes "-V " ++ rest) × GoesOn rest (Some behind)
+    × TakesWord 2559 behind name.items later
+HasView (Some text) (views.Below oid) later = ((rest : List ℕ) → text ≡ codes "-V " ++ rest → ⊥)
+    × TakesWord 2559 text oid.items later
 
 -- no name stands behind the option
 abbrev pub LacksView : Option (List ℕ) → Type 0
@@ -135,10 +158,12 @@ IsContextOf word context Exact = (word ≡ context) × ((front : List ℕ) → w
 abbrev pub HasContext : Option (List ℕ) → List ℕ → Matching → Type 0
 HasContext None context Prefix = context ≡ []
 HasContext None context Exact = ⊥
-HasContext (Some text) context matching = (word : List ℕ) × (later : Option (List ℕ)) × TakesWord 2559 text word later × IsContextOf word context matching
+HasContext (Some text) context matching = (word : List ℕ) × (later : Option (List ℕ)) × TakesWord 2559 text word later
+    × IsContextOf word context matching
 
 abbrev pub HasReach : Option (List ℕ) → Reach → Type 0
-HasReach text reach = (behind : Option (List ℕ)) × HasView text reach.view behind × HasContext behind reach.context.items reach.matching
+HasReach text reach = (behind : Option (List ℕ)) × HasView text reach.view behind
+    × HasContext behind reach.context.items reach.matching
 
 -- ---- the line
 
@@ -163,7 +188,8 @@ pub record LacksViewBehind (kind : SimpleKind) (given : Option Types) (text : Li
 -- the line ends before its name
 abbrev pub EndsBeforeName : SimpleKind → Option Types → List ℕ → Type 0
 EndsBeforeName kind given text =
-    LacksName given text ⊎ ((types : Types) × (behind : List ℕ) × HasTypes given text types behind × EndsInOption (option_of kind) behind)
+    LacksName given text
+    ⊎ ((types : Types) × (behind : List ℕ) × HasTypes given text types behind × EndsInOption (option_of kind) behind)
 
 -- Why the line says nothing.
 abbrev pub TellsNoSimple : SimpleKind → Option Types → List ℕ → LineFault → Type 0
@@ -177,7 +203,8 @@ IsSimple directive kind given = simple_of directive ≡ Some (kind, given)
 
 -- the line of this directive says this
 abbrev pub SaysSimpleLine : Directive → List ℕ → Simple → Type 0
-SaysSimpleLine directive text simple = (kind : SimpleKind) × (given : Option Types) × IsSimple directive kind given × SaysSimple kind given text simple
+SaysSimpleLine directive text simple = (kind : SimpleKind) × (given : Option Types) × IsSimple directive kind given
+    × SaysSimple kind given text simple
 
 -- why a line of this directive says nothing
 abbrev pub TellsNoSimpleLine : Directive → List ℕ → LineFault → Type 0

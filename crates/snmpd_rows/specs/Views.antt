@@ -1,5 +1,6 @@
 -- What a line `view VIEW TYPE SUBTREE [MASK]` makes: a row of vacmViewTreeFamilyTable (net-snmp 5.9.3).
-use Rattle.std.specs.Prelude.{◌≡◌, ◌⊎◌, ℕ, ◌+◌, ◌/◌, ◌<◌, ◌≤◌, Bool, true, false, List, [], ◌∷◌, ◌++◌, take, length, codes}
+use Rattle.std.specs.Prelude.{◌≡◌, ◌⊎◌, ℕ, ◌+◌, ◌/◌, ◌<◌, ◌≤◌, Bool, true, false, List, [], ◌∷◌, ◌++◌, take, length}
+use Rattle.std.specs.Prelude.{codes}
 use Rattle.vacm_core.specs.declared.rows.FamilyRow.{FamilyRow}
 use Rattle.snmpd_rows.specs.Accesses.{AreTokens, HasFewer}
 use Rattle.snmpd_lines.specs.Subtrees.{SaysSubtree}
@@ -17,7 +18,8 @@ IsType word false = word ≡ codes "excluded"
 
 -- the text without a dot behind it
 abbrev pub IsWithoutDot : List ℕ → List ℕ → Type 0
-IsWithoutDot text front = (text ≡ front ++ 46 ∷ []) ⊎ ((front ≡ text) × ((other : List ℕ) → text ≡ other ++ 46 ∷ [] → ⊥))
+IsWithoutDot text front = (text ≡ front ++ 46 ∷ [])
+    ⊎ ((front ≡ text) × ((other : List ℕ) → text ≡ other ++ 46 ∷ [] → ⊥))
 
 -- what the word for the subtree says
 abbrev pub IsSubtree : List ℕ → Subtree → Type 0
@@ -52,7 +54,8 @@ pub record AreSound (type subtree : List ℕ) (said : Subtree) : Type 0 where
 
 -- the words of the line, of which this is so
 abbrev pub HasViewWords : List ℕ → (List ℕ → List ℕ → List ℕ → List ℕ → Type 0) → Type 0
-HasViewWords text P = (view : List ℕ) × (type : List ℕ) × (subtree : List ℕ) × (mask : List ℕ) × AreViewWords text view type subtree mask × P view type subtree mask
+HasViewWords text P = (view : List ℕ) × (type : List ℕ) × (subtree : List ℕ) × (mask : List ℕ)
+    × AreViewWords text view type subtree mask × P view type subtree mask
 
 -- sound words, and a mask
 abbrev pub HasMask : List ℕ → List ℕ → List ℕ → Subtree → Type 0
@@ -61,10 +64,15 @@ HasMask type subtree mask said = AreSound type subtree said × ((octets : List �
 -- Why the line makes no row: the first cause.
 abbrev pub TellsNoFamily : List ℕ → LineFault → Type 0
 TellsNoFamily text (Refused refusals.MissingWord) = HasFewer 3 text
-TellsNoFamily text (Refused refusals.BadType) = HasViewWords text (λ view type subtree mask. (include : Bool) → IsType type include → ⊥)
+TellsNoFamily text (Refused refusals.BadType) = HasViewWords text
+    (λ view type subtree mask. (include : Bool) → IsType type include → ⊥)
 TellsNoFamily text (Refused refusals.LongIndex) =
-    HasViewWords text (λ view type subtree mask. ((said : Subtree) × HasMask type subtree mask said) × (32 < length view))
+    HasViewWords text (λ view type subtree mask. ((said : Subtree) × HasMask type subtree mask said)
+    × (32 < length view))
 TellsNoFamily text NotInNumbers =
-    HasViewWords text (λ view type subtree mask. ((include : Bool) × IsType type include) × IsSubtree subtree subtrees.NotInNumbers)
-TellsNoFamily text OutOfReach = HasViewWords text (λ view type subtree mask. HasMask type subtree mask subtrees.OutOfReach × (length view ≤ 32))
-TellsNoFamily text fault = HasViewWords text (λ view type subtree mask. ((said : Subtree) × AreSound type subtree said) × TellsNoMask mask fault)
+    HasViewWords text (λ view type subtree mask. ((include : Bool) × IsType type include)
+    × IsSubtree subtree subtrees.NotInNumbers)
+TellsNoFamily text OutOfReach = HasViewWords text
+    (λ view type subtree mask. HasMask type subtree mask subtrees.OutOfReach × (length view ≤ 32))
+TellsNoFamily text fault = HasViewWords text
+    (λ view type subtree mask. ((said : Subtree) × AreSound type subtree said) × TellsNoMask mask fault)

@@ -1,7 +1,9 @@
 //! Lines `access`.
 
 ghost use Rattle.std.specs.Prelude.{◌<◌, length, [], ◌∷◌, IfOk, IfErr, IfSome, IfNone};
-ghost use Rattle.snmpd_rows.specs.Accesses.{AreTokens, HasFewer, IsContext, SaysConditions, TellsNoConditions, HasViewTokens, IsViewName, IsAccess, TellsTooLong, SaysAccess, TellsNoAccess};
+ghost use Rattle.snmpd_rows.specs.Accesses.{AreTokens, HasFewer, IsContext, SaysConditions, TellsNoConditions};
+ghost use Rattle.snmpd_rows.specs.Accesses.{HasViewTokens, IsViewName, IsAccess, TellsTooLong, SaysAccess};
+ghost use Rattle.snmpd_rows.specs.Accesses.{TellsNoAccess};
 
 use snmp_ber::Level;
 use snmpd_lines::{LineFault, Refusal, level_of, matching_of, model_of, take_token};
@@ -32,7 +34,9 @@ struct ConditionTokens<'a> {
 
 /// The first five tokens, and what stands behind them.
 fn take_conditions(text: &[u8]) -> Option<(ConditionTokens<'_>, &[u8])>
-    ensures found { IfSome result (λ r. AreTokens text.now (r.0.group.now ∷ r.0.context.now ∷ r.0.model.now ∷ r.0.level.now ∷ r.0.matching.now ∷ []) r.1.now) }
+    ensures found { IfSome result
+        (λ r. AreTokens text.now
+        (r.0.group.now ∷ r.0.context.now ∷ r.0.model.now ∷ r.0.level.now ∷ r.0.matching.now ∷ []) r.1.now) }
     ensures none { IfNone result (HasFewer 5 text.now) }
 {
     let (group, rest) = take_token(text)?;
@@ -110,7 +114,8 @@ fn take_views(text: &[u8]) -> Option<ViewTokens<'_>>
     })
 }
 
-/// The name of a view, or `None` where snmpd has no room for it. One of 33 octets is no name that a view can have: it is left empty.
+/// The name of a view, or `None` where snmpd has no room for it. One of 33 octets is no name that a view can
+/// have: it is left empty.
 pub(crate) fn view_name(token: &[u8]) -> Option<Name>
     ensures found { IfSome result (λ name. IsViewName token.now name) }
     ensures none { IfNone result (33 < length token.now) }
@@ -124,9 +129,11 @@ pub(crate) fn view_name(token: &[u8]) -> Option<Name>
     }
 }
 
-/// The row of a line `access GROUP CONTEXT MODEL LEVEL MATCH READ WRITE NOTIFY`, given what stands behind the directive.
+/// The row of a line `access GROUP CONTEXT MODEL LEVEL MATCH READ WRITE NOTIFY`, given what stands behind the
+/// directive.
 ///
-/// The fault is the first of `MissingWord`, `BadModel`, `BadLevel` and `BadMatching`, or else of `MissingView`, `LongView` and `LongIndex`.
+/// The fault is the first of `MissingWord`, `BadModel`, `BadLevel` and `BadMatching`, or else of
+/// `MissingView`, `LongView` and `LongIndex`.
 pub fn access_row(text: &[u8]) -> Result<AccessRow, LineFault>
     ensures row { IfOk result (SaysAccess text.now) }
     ensures fault { IfErr result (TellsNoAccess text.now) }
@@ -140,8 +147,10 @@ pub fn access_row(text: &[u8]) -> Result<AccessRow, LineFault>
 
 /// The row with these views.
 fn row_of(conditions: Conditions<'_>, views: ViewTokens<'_>) -> Result<AccessRow, LineFault>
-    ensures row { IfOk result (IsAccess conditions.entry views.entry.read.now views.entry.write.now views.entry.notify.now) }
-    ensures fault { IfErr result (TellsTooLong conditions.entry views.entry.read.now views.entry.write.now views.entry.notify.now) }
+    ensures row { IfOk result
+        (IsAccess conditions.entry views.entry.read.now views.entry.write.now views.entry.notify.now) }
+    ensures fault { IfErr result
+        (TellsTooLong conditions.entry views.entry.read.now views.entry.write.now views.entry.notify.now) }
 {
     let (Some(read), Some(write), Some(notify)) = (
         view_name(views.read),

@@ -148,7 +148,8 @@ pub fn entry_of(alloc: Global, directive: Directive, text: &[u8]) -> Result<Entr
     }
 }
 
-/// What a line makes, without its line feed, where this section is in force: each line that isn't empty and begins no section makes a row or a note.
+/// What a line makes, without its line feed, where this section is in force: each line that isn't empty and
+/// begins no section makes a row or a note.
 ///
 /// The error is want of memory.
 pub fn read_entry(alloc: Global, line: &[u8], section: Section) -> Result<Entry, AllocError>
@@ -174,7 +175,9 @@ fn directive_entry(
     word: &[u8],
     text: Option<&[u8]>,
 ) -> Result<Entry, AllocError>
-    ensures { (force : ASection) (line : List ℕ) → HasDirective force line section word.now (option_map (λ r. r.now) text.entry) → IfOk result (IsEntry force line) }
+    ensures { (force : ASection) (line : List ℕ)
+        → HasDirective force line section word.now (option_map (λ r. r.now) text.entry)
+        → IfOk result (IsEntry force line) }
 {
     let Some(text) = text else {
         return Ok(Entry::Told(Note::Bare));

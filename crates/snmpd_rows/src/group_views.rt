@@ -3,7 +3,9 @@
 ghost use Rattle.std.specs.Prelude.{◌≡◌, ◌∷◌, [], ◌↔◌, IsTrue, IfOk, IfErr, IfSome, IfNone};
 ghost use Rattle.snmpd_rows.specs.Accesses.{AreTokens, HasFewer};
 ghost use Rattle.snmpd_rows.specs.GroupViews as spec;
-ghost use Rattle.snmpd_rows.specs.GroupViews.{IsOption, HasModelAndView, TellsNoModelAndView, HasGroupAndView, TellsNoGroupAndView, HasLevel, TellsNoLevel, HasContexts, HasLongNames, SaysGroupViews, TellsNoGroupViews, SaysAuthAccess, TellsNoAuthAccess};
+ghost use Rattle.snmpd_rows.specs.GroupViews.{IsOption, HasModelAndView, TellsNoModelAndView, HasGroupAndView};
+ghost use Rattle.snmpd_rows.specs.GroupViews.{TellsNoGroupAndView, HasLevel, TellsNoLevel, HasContexts, HasLongNames};
+ghost use Rattle.snmpd_rows.specs.GroupViews.{SaysGroupViews, TellsNoGroupViews, SaysAuthAccess, TellsNoAuthAccess};
 
 use crate::accesses::view_name;
 use crate::settings::Setting;
@@ -154,8 +156,8 @@ fn group_views(types: Types, text: &[u8]) -> Result<Setting, LineFault>
 
 /// What a line `authaccess TYPES GROUP [-s MODEL] VIEW [LEVEL [CONTEXT]]` sets, given what stands behind the directive.
 ///
-/// The fault is `MissingWord` where the types, the group or the word behind `-s` is the last word, or else the first of `BadModel`, `MissingView`,
-/// `LongView`, `BadLevel` and `LongIndex`.
+/// The fault is `MissingWord` where the types, the group or the word behind `-s` is the last word, or else
+/// the first of `BadModel`, `MissingView`, `LongView`, `BadLevel` and `LongIndex`.
 pub fn auth_access(alloc: Global, text: &[u8]) -> Result<Setting, LineFault>
     ensures says { IfOk result (SaysAuthAccess text.now) }
     ensures fault { IfErr result (TellsNoAuthAccess text.now) }

@@ -34,9 +34,11 @@ fn take_inner_name(alloc: Global, text: &[u8]) -> Result<(Name, &[u8]), LineFaul
     }
 }
 
-/// The row of a line `group GROUP MODEL NAME`, given what stands behind the directive. Its model is 0 where MODEL is `any`.
+/// The row of a line `group GROUP MODEL NAME`, given what stands behind the directive. Its model is 0 where
+/// MODEL is `any`.
 ///
-/// The fault is `Undefined` where a word is missing behind which snmpd looks for another, `MissingWord` where a word is empty, or else `BadModel`.
+/// The fault is `Undefined` where a word is missing behind which snmpd looks for another, `MissingWord` where
+/// a word is empty, or else `BadModel`.
 pub fn group_row(alloc: Global, text: &[u8]) -> Result<GroupRow, LineFault>
     ensures row { IfOk result (SaysGroup text.now) }
     ensures fault { IfErr result (TellsNoGroup text.now) }

@@ -1,5 +1,5 @@
-//! The groups, access rows and views that lines of snmpd.conf create, as net-snmp 5.9.3 reads them; and the lines that snmpd makes of a
-//! simple line, `rouser` and its like.
+//! The groups, access rows and views that lines of snmpd.conf create, as net-snmp 5.9.3 reads them; and the
+//! lines that snmpd makes of a simple line, `rouser` and its like.
 //!
 //! ```
 //! use snmpd_rows::group_row;

@@ -3,7 +3,8 @@
 ghost use Rattle.std.specs.Prelude.{◌≡◌, ◌++◌, [], ◌∷◌, OnOk, map};
 ghost use Rattle.std.specs.List.{flat_map};
 ghost use Rattle.snmpd_rows.specs.Line.{line_of, joined};
-ghost use Rattle.snmpd_rows.specs.Rights.{context_word, matching_word, has, is_access, conditions, set_lines, right_lines};
+ghost use Rattle.snmpd_rows.specs.Rights.{context_word, matching_word, has, is_access, conditions, set_lines};
+ghost use Rattle.snmpd_rows.specs.Rights.{right_lines};
 ghost use Rattle.snmpd_lines.specs.declared.directives.Directive.TheVariants as directives;
 
 use crate::line::{MadeLine, put_line};
@@ -76,7 +77,11 @@ fn put_access<'x>(
     other: &'x [u8],
 ) -> Result<(), AllocError>
     ensures { OnOk result (map line_of lines.new.items ≡ map line_of lines.old.items
-        ++ (directives.Access, joined group.now (conditions words.entry ++ view.now ∷ other.now ∷ other.now ∷ [])) ∷ []) }
+        ++ (
+          directives.Access,
+          joined group.now
+              (conditions words.entry ++ view.now ∷ other.now ∷ other.now ∷ []),
+        ) ∷ []) }
 {
     let (context, model, level, matching) = (
         words.context,
@@ -150,7 +155,9 @@ fn put_type(
     view: &[u8],
     word: ViewWord,
 ) -> Result<(), AllocError>
-    ensures { OnOk result (map line_of lines.new.items ≡ map line_of lines.old.items ++ set_lines simple.now group.now view.now word) }
+    ensures { OnOk result
+        (map line_of lines.new.items
+        ≡ map line_of lines.old.items ++ set_lines simple.now group.now view.now word) }
 {
     if has_type(simple.types, word) {
         return put_set(alloc, lines, group, words_of(simple), word.word(), view);
@@ -166,7 +173,9 @@ fn put_types(
     group: &[u8],
     view: &[u8],
 ) -> Result<(), AllocError>
-    ensures { OnOk result (map line_of lines.new.items ≡ map line_of lines.old.items ++ flat_map (set_lines simple.now group.now view.now) WORDS) }
+    ensures { OnOk result
+        (map line_of lines.new.items
+        ≡ map line_of lines.old.items ++ flat_map (set_lines simple.now group.now view.now) WORDS) }
 {
     for word in WORDS.iter() {
         put_type(alloc, lines, simple, group, view, *word)?;
@@ -182,7 +191,8 @@ pub(crate) fn put_rights(
     group: &[u8],
     view: &[u8],
 ) -> Result<(), AllocError>
-    ensures { OnOk result (map line_of lines.new.items ≡ map line_of lines.old.items ++ right_lines simple.now group.now view.now) }
+    ensures { OnOk result
+        (map line_of lines.new.items ≡ map line_of lines.old.items ++ right_lines simple.now group.now view.now) }
 {
     if !is_access_line(simple.types) {
         return put_types(alloc, lines, simple, group, view);

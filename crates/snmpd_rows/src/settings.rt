@@ -46,7 +46,8 @@ fn index_of(conditions: Conditions<'_>) -> Option<(Name, Name)>
 
 /// What a line `setaccess GROUP CONTEXT MODEL LEVEL MATCH TYPE VIEW` sets, given what stands behind the directive.
 ///
-/// The fault is the first of `MissingWord`, `BadModel`, `BadLevel` and `BadMatching`, or else of `MissingView`, `LongView`, `BadViewType` and `LongIndex`.
+/// The fault is the first of `MissingWord`, `BadModel`, `BadLevel` and `BadMatching`, or else of
+/// `MissingView`, `LongView`, `BadViewType` and `LongIndex`.
 pub fn set_access(text: &[u8]) -> Result<Setting, LineFault>
     ensures says { IfOk result (SaysSetAccess text.now) }
     ensures fault { IfErr result (TellsNoSetAccess text.now) }

@@ -4,7 +4,10 @@ ghost use Rattle.std.specs.Prelude.{◌≡◌, Some, None, codes, IfOk, IfErr, L
 ghost use Rattle.std.specs.Option.{option_map};
 ghost use Rattle.snmpd_lines.specs.Words.{GoesOn, TakesWord};
 ghost use Rattle.snmpd_rows.specs.Simple as spec;
-ghost use Rattle.snmpd_rows.specs.Simple.{HasTypes, HasModelBehind, TellsNoModelBehind, HasModel, IsContextOf, TellsNoViewName, IsVersionWord, AreVersions, HasUser, HasNamed, HasView, HasContext, HasReach, SaysSimple, TellsNoTypes, TellsNoModel, TellsNoView, TellsNoSimple, option_of};
+ghost use Rattle.snmpd_rows.specs.Simple.{HasTypes, HasModelBehind, TellsNoModelBehind, HasModel, IsContextOf};
+ghost use Rattle.snmpd_rows.specs.Simple.{TellsNoViewName, IsVersionWord, AreVersions, HasUser, HasNamed, HasView};
+ghost use Rattle.snmpd_rows.specs.Simple.{HasContext, HasReach, SaysSimple, TellsNoTypes, TellsNoModel, TellsNoView};
+ghost use Rattle.snmpd_rows.specs.Simple.{TellsNoSimple, option_of};
 ghost use Rattle.snmpd_rows.specs.declared.simple.SimpleKind.TheVariants as kinds;
 
 use snmpd_lines::{
@@ -144,7 +147,8 @@ struct Modeled<'a> {
 
 /// The name behind a model.
 fn take_model_behind(alloc: Global, text: &[u8]) -> Result<Modeled<'_>, LineFault>
-    ensures modeled { IfOk result (λ m. HasModelBehind text.now m.model.items m.name.items (option_map (λ rest. rest.now) m.rest)) }
+    ensures modeled { IfOk result
+        (λ m. HasModelBehind text.now m.model.items m.name.items (option_map (λ rest. rest.now) m.rest)) }
     ensures fault { IfErr result (TellsNoModelBehind text.now) }
 {
     let model = take_word(alloc, text, WORD_MAX)?;
@@ -166,7 +170,9 @@ fn take_model<'a>(
     option: &[u8],
     other: &[u8],
 ) -> Result<Modeled<'a>, LineFault>
-    ensures modeled { IfOk result (λ m. HasModel option.now other.now text.now m.model.items m.name.items (option_map (λ rest. rest.now) m.rest)) }
+    ensures modeled { IfOk result
+        (λ m. HasModel option.now other.now text.now m.model.items m.name.items
+        (option_map (λ rest. rest.now) m.rest)) }
     ensures fault { IfErr result (TellsNoModel option.now text.now) }
 {
     let word = take_word(alloc, text, NAME_MAX)?;
@@ -265,7 +271,9 @@ fn take_named(
 
 /// The view that a line names behind its option.
 fn take_view_name(alloc: Global, text: &[u8]) -> Result<Word<'_>, LineFault>
-    ensures view { IfOk result (λ word. (behind : List ℕ) × GoesOn text.now (Some behind) × TakesWord 2559 behind word.octets.items (option_map (λ rest. rest.now) word.rest)) }
+    ensures view { IfOk result
+        (λ word. (behind : List ℕ) × GoesOn text.now (Some behind)
+        × TakesWord 2559 behind word.octets.items (option_map (λ rest. rest.now) word.rest)) }
     ensures fault { IfErr result (TellsNoViewName text.now) }
 {
     match go_on(text) {
@@ -276,7 +284,8 @@ fn take_view_name(alloc: Global, text: &[u8]) -> Result<Word<'_>, LineFault>
 
 /// The view, and what the line goes on with.
 fn take_view(alloc: Global, text: Option<&[u8]>) -> Result<(View, Option<&[u8]>), LineFault>
-    ensures view { IfOk result (λ r. HasView (option_map (λ t. t.now) text.entry) r.0 (option_map (λ rest. rest.now) r.1)) }
+    ensures view { IfOk result
+        (λ r. HasView (option_map (λ t. t.now) text.entry) r.0 (option_map (λ rest. rest.now) r.1)) }
     ensures fault { IfErr result (TellsNoView (option_map (λ t. t.now) text.entry)) }
 {
     let Some(text) = text else {
@@ -326,7 +335,8 @@ fn take_reach(alloc: Global, text: Option<&[u8]>) -> Result<Reach, LineFault>
     })
 }
 
-/// What a simple line says, given what stands behind its directive, and the types of views where the directive gives them.
+/// What a simple line says, given what stands behind its directive, and the types of views where the
+/// directive gives them.
 ///
 /// The fault is `MissingWord` where the line ends before its name, or `Undefined` where no view stands behind `-V`.
 pub fn simple_line(

@@ -45,7 +45,9 @@ fn put_group(
     model: &[u8],
     name: &[u8],
 ) -> Result<(), AllocError>
-    ensures { OnOk result (map line_of lines.new.items ≡ map line_of lines.old.items ++ group_line group.now model.now name.now ∷ []) }
+    ensures { OnOk result
+        (map line_of lines.new.items
+        ≡ map line_of lines.old.items ++ group_line group.now model.now name.now ∷ []) }
 {
     put_line(alloc, lines, Directive::Group, group, &[model, name])
 }
@@ -58,7 +60,8 @@ fn put_versions(
     group: &[u8],
     name: &[u8],
 ) -> Result<(), AllocError>
-    ensures { OnOk result (map line_of lines.new.items ≡ map line_of lines.old.items ++ version_lines versions group.now name.now) }
+    ensures { OnOk result
+        (map line_of lines.new.items ≡ map line_of lines.old.items ++ version_lines versions group.now name.now) }
 {
     match versions {
         Versions::First => put_group(alloc, lines, group, b"v1", name),
@@ -104,7 +107,8 @@ fn put_groups(
     }
 }
 
-/// The lines that snmpd makes of the simple line of this number, from 1: of its view, of its group, and of what it gives.
+/// The lines that snmpd makes of the simple line of this number, from 1: of its view, of its group, and of
+/// what it gives.
 ///
 /// The error is want of memory.
 pub fn lines_of(alloc: Global, simple: &Simple, number: u64) -> Result<Vec<MadeLine>, AllocError>

@@ -72,7 +72,8 @@ fn mask_of(octets: &[u8], subtree: &Oid) -> Mask
 
 /// The row of a line `view VIEW included|excluded SUBTREE [MASK]`, given what stands behind the directive.
 ///
-/// The fault is the first of `MissingWord`, `BadType`, `NotInNumbers`, `BadMask` or `LongMask`, `LongIndex` and `OutOfReach`.
+/// The fault is the first of `MissingWord`, `BadType`, `NotInNumbers`, `BadMask` or `LongMask`, `LongIndex`
+/// and `OutOfReach`.
 pub fn family_row(text: &[u8]) -> Result<FamilyRow, LineFault>
     ensures row { IfOk result (SaysFamily text.now) }
     ensures fault { IfErr result (TellsNoFamily text.now) }

@@ -25,7 +25,8 @@ sides_of c = record { contexts = c.contexts.now; groups = c.groups.now; held = c
 
 -- a row of the group has the prefix
 abbrev pub HasPrefix : List HeldAccess → List ℕ → List ℕ → Type 0
-HasPrefix rows group prefix = (held : HeldAccess) × Contains rows held × (held.row.group ≡ group) × (held.row.prefix ≡ prefix)
+HasPrefix rows group prefix = (held : HeldAccess) × Contains rows held × (held.row.group ≡ group)
+    × (held.row.prefix ≡ prefix)
 
 -- the contexts that are tried for a group: each that there is, that of each prefix of its rows, and those beyond it
 abbrev pub IsTried : Sides → List ℕ → Contexts → Type 0
@@ -34,7 +35,8 @@ IsTried s group (Beyond name) = HasPrefix s.held group name
 
 -- a name has the group under the model
 abbrev pub HasPair : List HeldGroup → List ℕ → ℕ → Type 0
-HasPair groups group model = (held : HeldGroup) × Contains groups held × (held.row.group ≡ group) × (held.row.model ≡ model)
+HasPair groups group model = (held : HeldGroup) × Contains groups held × (held.row.group ≡ group)
+    × (held.row.model ≡ model)
 
 -- Messages are asked for that are of a group and model which a name has, at any level, in contexts that are tried.
 pub record IsAsked (s : Sides) (question : Question) : Type 0 where
@@ -43,11 +45,13 @@ pub record IsAsked (s : Sides) (question : Question) : Type 0 where
 
 -- What is told is exactly for which of these messages the two choices come to other views.
 pub record TellsDifferences (s : Sides) (found : List Difference) : Type 0 where
-  pub each : (difference : Difference) → Contains found difference → IsAsked s difference.question × IsDifference s.held s.kept difference
+  pub each : (difference : Difference) → Contains found difference
+      → IsAsked s difference.question × IsDifference s.held s.kept difference
   pub all : (question : Question) → IsAsked s question → Differs s.held s.kept question
       → (difference : Difference) × Contains found difference × (difference.question ≡ question)
 
--- Some of the contexts that are tried for the group are those that this context is one of; or no row of the group is for it.
+-- Some of the contexts that are tried for the group are those that this context is one of; or no row of the
+-- group is for it.
 abbrev pub IsCovered : Sides → List ℕ → List ℕ → Type 0
 IsCovered s group context =
     ((contexts : Contexts) × IsTried s group contexts × IsAbout s.held group contexts context)
@@ -70,21 +74,26 @@ pub record IsLike (group : List ℕ) (model : ℕ) (contexts : Contexts) (questi
   pub same_contexts : question.contexts ≡ contexts
 
 abbrev pub IsOfPrefix : List ℕ → ℕ → List ℕ → Question → Type 0
-IsOfPrefix group model prefix question = IsLike group model (Named prefix) question ⊎ IsLike group model (Beyond prefix) question
+IsOfPrefix group model prefix question = IsLike group model (Named prefix) question
+    ⊎ IsLike group model (Beyond prefix) question
 
 abbrev pub IsOfPrefixes : List HeldAccess → List ℕ → ℕ → Question → Type 0
-IsOfPrefixes rows group model question = (prefix : List ℕ) × HasPrefix rows group prefix × IsOfPrefix group model prefix question
+IsOfPrefixes rows group model question = (prefix : List ℕ) × HasPrefix rows group prefix
+    × IsOfPrefix group model prefix question
 
 abbrev pub IsOfContexts : List ContextRow → List ℕ → ℕ → Question → Type 0
-IsOfContexts contexts group model question = (name : List ℕ) × HasContext contexts name × IsLike group model (Named name) question
+IsOfContexts contexts group model question = (name : List ℕ) × HasContext contexts name
+    × IsLike group model (Named name) question
 
 -- those of the prefixes, and those of these contexts
 abbrev pub IsOfEither : List HeldAccess → List ContextRow → List ℕ → ℕ → Question → Type 0
-IsOfEither rows contexts group model question = IsOfPrefixes rows group model question ⊎ IsOfContexts contexts group model question
+IsOfEither rows contexts group model question = IsOfPrefixes rows group model question
+    ⊎ IsOfContexts contexts group model question
 
 -- of the groups and models of these rows
 abbrev pub IsOfPairs : Compared → List HeldGroup → Question → Type 0
-IsOfPairs c groups question = HasPair groups question.group question.model × IsTried (sides_of c) question.group question.contexts
+IsOfPairs c groups question = HasPair groups question.group question.model
+    × IsTried (sides_of c) question.group question.contexts
 
 -- Where those of P were told, those of Q are told then.
 abbrev pub GoesOn : Chosen → (Question → Type 0) → (Question → Type 0) → List Difference → List Difference → Type 0

@@ -22,13 +22,16 @@ pub record HaveSameViews (a b : AccessRow) : Type 0 where
   pub write : a.write ≡ b.write
   pub notify : a.notify ≡ b.notify
 
--- Over these rows RFC 3415 chooses none for such messages, or one with other views than this one, and that one is from this place.
+-- Over these rows RFC 3415 chooses none for such messages, or one with other views than this one, and that
+-- one is from this place.
 abbrev pub ChoosesOther : List HeldAccess → Question → AccessRow → Option Place → Type 0
 ChoosesOther kept question row None = NoneFits kept (FitsHeld question)
 ChoosesOther kept question row (Some place) =
-    (best : HeldAccess) × IsBestOf kept (FitsHeld question) held_order best × (HaveSameViews row best.row → ⊥) × (place ≡ best.place)
+    (best : HeldAccess) × IsBestOf kept (FitsHeld question) held_order best × (HaveSameViews row best.row → ⊥)
+    × (place ≡ best.place)
 
--- Over all that it holds snmpd chooses a row for such messages, and over the rows that are kept RFC 3415 chooses none, or one with other views.
+-- Over all that it holds snmpd chooses a row for such messages, and over the rows that are kept RFC 3415
+-- chooses none, or one with other views.
 pub record IsDifference (held kept : List HeldAccess) (difference : Difference) : Type 0 where
   pub at : ℕ
   pub chosen : ChoosesAt (FitsQuestion difference.question) held (Some at)
@@ -37,4 +40,5 @@ pub record IsDifference (held kept : List HeldAccess) (difference : Difference) 
 
 -- the two choices for such messages come to other views
 abbrev pub Differs : List HeldAccess → List HeldAccess → Question → Type 0
-Differs held kept question = (difference : Difference) × (difference.question ≡ question) × IsDifference held kept difference
+Differs held kept question = (difference : Difference) × (difference.question ≡ question)
+    × IsDifference held kept difference

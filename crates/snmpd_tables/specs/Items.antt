@@ -34,7 +34,8 @@ IsIncludeWord word wanted = BeginsSmall word × AreAlike word wanted
 -- the word is one of those that name other files
 abbrev pub NamesFiles : List ℕ → Type 0
 NamesFiles word =
-    IsIncludeWord word (codes "include") ⊎ IsIncludeWord word (codes "includesearch") ⊎ IsIncludeWord word (codes "includefile")
+    IsIncludeWord word (codes "include") ⊎ IsIncludeWord word (codes "includesearch")
+    ⊎ IsIncludeWord word (codes "includefile")
     ⊎ IsIncludeWord word (codes "includedir")
 
 -- What a line with such a word asks for. snmpd refuses `include`, and each where nothing is behind it.
@@ -68,7 +69,8 @@ IsTextPrivacy (Some privacy) = IsTextSecret privacy.secret
 
 -- the name and the passphrases of the user are UTF-8
 abbrev pub IsTextUser : Created → Type 0
-IsTextUser created = IsUtf8 created.name.items × IsTextAuthentication created.protection.authentication × IsTextPrivacy created.protection.privacy
+IsTextUser created = IsUtf8 created.name.items × IsTextAuthentication created.protection.authentication
+    × IsTextPrivacy created.protection.privacy
 
 -- The names of the entry's row are UTF-8, which a configuration is.
 abbrev pub IsText : Entry → Type 0
@@ -81,8 +83,10 @@ IsText _ = ⊤
 
 abbrev pub IsMade : Section → List ℕ → Line → Made → Type 0
 IsMade force line parsed (made.Include include) = IsInclude (word_of parsed) (text_of parsed) include
-IsMade force line parsed (made.Entry entry) = (NamesFiles (word_of parsed) → ⊥) × IsEntry force line entry × IsText entry
-IsMade force line parsed made.NotText = (NamesFiles (word_of parsed) → ⊥) × ((entry : Entry) × IsEntry force line entry × (IsText entry → ⊥))
+IsMade force line parsed (made.Entry entry) = (NamesFiles (word_of parsed) → ⊥) × IsEntry force line entry
+    × IsText entry
+IsMade force line parsed made.NotText = (NamesFiles (word_of parsed) → ⊥)
+    × ((entry : Entry) × IsEntry force line entry × (IsText entry → ⊥))
 IsMade force line parsed (made.Followed followed) = ⊥
 
 -- What this line of this file makes, where this section is in force.

@@ -1,5 +1,6 @@
 -- Of the rows that snmpd holds those that count, one of each index.
-use Rattle.std.specs.Prelude.{◌≡◌, ◌≢◌, ◌⊎◌, ℕ, ◌<◌, ◌==◌, if◌then◌else◌, List, [], ◌∷◌, ◌++◌, length, get_or, set, Contains}
+use Rattle.std.specs.Prelude.{◌≡◌, ◌≢◌, ◌⊎◌, ℕ, ◌<◌, ◌==◌, if◌then◌else◌, List, [], ◌∷◌, ◌++◌, length, get_or, set}
+use Rattle.std.specs.Prelude.{Contains}
 use Rattle.std.specs.List.{flat_map}
 use Rattle.std.specs.declared.cmp.Ordering.{Ordering}
 use Rattle.std.specs.declared.cmp.Ordering.TheVariants.{Equal}
@@ -26,12 +27,14 @@ pub record IsFirstLike {R : Type 0} (order : R → R → Ordering) (rows : List 
 -- a row of a new index is kept, another isn't
 abbrev pub Keeps : {R : Type 0} → (R → R → Ordering) → List R → R → List R → Type 0
 Keeps order kept row after =
-    (IsNew order kept row × (after ≡ kept ++ row ∷ [])) ⊎ (((place : ℕ) × IsFirstLike order kept row place) × (after ≡ kept))
+    (IsNew order kept row × (after ≡ kept ++ row ∷ []))
+    ⊎ (((place : ℕ) × IsFirstLike order kept row place) × (after ≡ kept))
 
 -- behind those that are kept already these rows are gone through in their order
 abbrev pub KeepsAfter : {R : Type 0} → (R → R → Ordering) → List R → List R → List R → Type 0
 KeepsAfter order kept [] after = kept ≡ after
-KeepsAfter {R} order kept (row ∷ rows) after = (next : List R) × Keeps order kept row next × KeepsAfter order next rows after
+KeepsAfter {R} order kept (row ∷ rows) after = (next : List R) × Keeps order kept row next
+    × KeepsAfter order next rows after
 
 abbrev pub AreFirsts : {R : Type 0} → (R → R → Ordering) → List R → List R → Type 0
 AreFirsts order rows kept = KeepsAfter order [] rows kept
@@ -39,11 +42,15 @@ AreFirsts order rows kept = KeepsAfter order [] rows kept
 -- ---- groups
 
 abbrev pub with_model : HeldGroup → ℕ → HeldGroup
-with_model held model = record { place = held.place; row = record { model = model; name = held.row.name; group = held.row.group } }
+with_model held model = record {
+  place = held.place;
+  row = record { model = model; name = held.row.name; group = held.row.group };
+}
 
 -- a row for any model, which no row of RFC 3415 is, stands for one of each of the models 1 to 3
 abbrev pub stands_for : HeldGroup → List HeldGroup
-stands_for held = if held.row.model == 0 then with_model held 1 ∷ with_model held 2 ∷ with_model held 3 ∷ [] else held ∷ []
+stands_for held = if held.row.model == 0 then with_model held 1 ∷ with_model held 2 ∷ with_model held 3
+    ∷ [] else held ∷ []
 
 -- ---- access rows: of those of one index the one counts that snmpd's choice comes to
 
@@ -61,14 +68,16 @@ SettlesAfter kept (held ∷ rows) after = (next : List HeldAccess) × Settles ke
 -- of each index there is one row
 abbrev pub HasOneEach : List HeldAccess → Type 0
 HasOneEach kept =
-    (x y : HeldAccess) → Contains kept x → Contains kept y → x.row.group ≡ y.row.group → x.row.prefix ≡ y.row.prefix → x.row.model ≡ y.row.model
+    (x y : HeldAccess) → Contains kept x → Contains kept y → x.row.group ≡ y.row.group → x.row.prefix ≡ y.row.prefix
+    → x.row.model ≡ y.row.model
     → level_number x.row.level ≡ level_number y.row.level → x.row ≡ y.row
 
 -- ---- views
 
 -- an access row names the view
 abbrev pub IsNamed : List HeldAccess → List ℕ → Type 0
-IsNamed access view = (held : HeldAccess) × Contains access held × ((held.row.read ≡ view) ⊎ (held.row.write ≡ view) ⊎ (held.row.notify ≡ view))
+IsNamed access view = (held : HeldAccess) × Contains access held
+    × ((held.row.read ≡ view) ⊎ (held.row.write ≡ view) ⊎ (held.row.notify ≡ view))
 
 -- the row is of a line, or an access row names its view
 abbrev pub IsWanted : List HeldAccess → HeldFamily → Type 0
@@ -90,4 +99,5 @@ abbrev pub AreAccessKept : List HeldAccess → List HeldAccess → Type 0
 AreAccessKept held kept = SettlesAfter [] held kept
 
 abbrev pub AreFamiliesKept : List HeldAccess → List HeldFamily → List HeldFamily → Type 0
-AreFamiliesKept access held kept = (rows : List HeldFamily) × AreWanted access held rows × AreFirsts order_of_families rows kept
+AreFamiliesKept access held kept = (rows : List HeldFamily) × AreWanted access held rows
+    × AreFirsts order_of_families rows kept

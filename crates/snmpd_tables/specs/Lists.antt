@@ -23,18 +23,27 @@ pub record Tables : Type 0 where
   pub changes : List Change
 
 abbrev pub tables_of : Lists → Tables
-tables_of lists = record { groups = lists.groups.items; access = lists.access.items; families = lists.families.items; changes = lists.changes.items }
+tables_of lists = record {
+  groups = lists.groups.items;
+  access = lists.access.items;
+  families = lists.families.items;
+  changes = lists.changes.items;
+}
 
 -- ---- what snmpd has from the start
 
 abbrev pub built_in_row : List ℕ → ℕ → Bool → HeldFamily
-built_in_row view arc include = record { place = BuiltIn; row = record { view = view; subtree = arc ∷ []; mask = []; include = include } }
+built_in_row view arc include = record {
+  place = BuiltIn;
+  row = record { view = view; subtree = arc ∷ []; mask = []; include = include };
+}
 
 -- the views `_all_` and `_none_`, which include and exclude all there is
 abbrev pub built_in : List HeldFamily
 built_in =
     built_in_row (codes "_all_") 0 true ∷ built_in_row (codes "_all_") 1 true ∷ built_in_row (codes "_all_") 2 true
-    ∷ built_in_row (codes "_none_") 0 false ∷ built_in_row (codes "_none_") 1 false ∷ built_in_row (codes "_none_") 2 false ∷ []
+    ∷ built_in_row (codes "_none_") 0 false ∷ built_in_row (codes "_none_") 1 false
+    ∷ built_in_row (codes "_none_") 2 false ∷ []
 
 abbrev pub at_start : Tables
 at_start = record { groups = []; access = []; families = built_in; changes = [] }
@@ -44,16 +53,20 @@ at_start = record { groups = []; access = []; families = built_in; changes = [] 
 -- A row goes into its table, or views of one are set, and no other table changes.
 abbrev pub TakesEntry : Place → Entry → Tables → Tables → Type 0
 TakesEntry place (Group row) before after =
-    Adds order_of_groups before.groups (record { place = place; row = row }) after.groups × (after.access ≡ before.access) × (after.families ≡ before.families)
+    Adds order_of_groups before.groups (record { place = place; row = row }) after.groups
+    × (after.access ≡ before.access) × (after.families ≡ before.families)
     × (after.changes ≡ before.changes)
 TakesEntry place (Access row) before after =
-    Adds order_of_access before.access (record { place = place; row = row }) after.access × (after.groups ≡ before.groups) × (after.families ≡ before.families)
+    Adds order_of_access before.access (record { place = place; row = row }) after.access
+    × (after.groups ≡ before.groups) × (after.families ≡ before.families)
     × (after.changes ≡ before.changes)
 TakesEntry place (Family row) before after =
-    Adds order_of_families before.families (record { place = place; row = row }) after.families × (after.groups ≡ before.groups) × (after.access ≡ before.access)
+    Adds order_of_families before.families (record { place = place; row = row }) after.families
+    × (after.groups ≡ before.groups) × (after.access ≡ before.access)
     × (after.changes ≡ before.changes)
 TakesEntry place (Set setting) before after =
-    SetsAccess place setting before.access before.changes after.access after.changes × (after.groups ≡ before.groups) × (after.families ≡ before.families)
+    SetsAccess place setting before.access before.changes after.access after.changes × (after.groups ≡ before.groups)
+    × (after.families ≡ before.families)
 TakesEntry place _ before after = after ≡ before
 
 abbrev pub TakesMade : Place → Made → Tables → Tables → Type 0

@@ -27,7 +27,8 @@ pub record IsOwn (item : Item) (line : Directive × List ℕ) (own : Item) : Typ
 -- each line makes its item, and there is no other
 abbrev pub AreOwn : Item → List (Directive × List ℕ) → List Item → Type 0
 AreOwn item [] owns = owns ≡ []
-AreOwn item (line ∷ lines) owns = (own : Item) × (others : List Item) × (owns ≡ own ∷ others) × IsOwn item line own × AreOwn item lines others
+AreOwn item (line ∷ lines) owns = (own : Item) × (others : List Item) × (owns ≡ own ∷ others) × IsOwn item line own
+    × AreOwn item lines others
 
 -- how many simple lines there were, and the items so far
 pub record Meant : Type 0 where
@@ -49,7 +50,8 @@ simple_in _ = None
 -- Behind a simple line stand the items of the lines that it stands for, and each other one stands for itself.
 abbrev pub Means : Item → Meant → Meant → Type 0
 Means item before after =
-    ((simple : Simple) × (owns : List Item) × (simple_in item.made ≡ Some simple) × AreOwn item (lines_of (before.count + 1) simple) owns
+    ((simple : Simple) × (owns : List Item) × (simple_in item.made ≡ Some simple)
+    × AreOwn item (lines_of (before.count + 1) simple) owns
     × (after.count ≡ before.count + 1) × (after.items ≡ before.items ++ item ∷ owns))
     ⊎ ((simple_in item.made ≡ None) × (after.count ≡ before.count) × (after.items ≡ before.items ++ item ∷ []))
 
@@ -68,5 +70,6 @@ AreMeant items meant = (after : Meant) × MeansAfter at_first items after × (af
 
 -- the items of the lines that the line stands for, where it is a simple one
 abbrev pub StandsFor : Item → ℕ → Option (List Item) → Type 0
-StandsFor item number (Some owns) = (simple : Simple) × (simple_in item.made ≡ Some simple) × AreOwn item (lines_of number simple) owns
+StandsFor item number (Some owns) = (simple : Simple) × (simple_in item.made ≡ Some simple)
+    × AreOwn item (lines_of number simple) owns
 StandsFor item number None = simple_in item.made ≡ None

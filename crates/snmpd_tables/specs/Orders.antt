@@ -1,4 +1,5 @@
--- The order in which snmpd holds rows: by their indexes, in which a name and an identifier stand behind their length (RFC 2578, section 7.7).
+-- The order in which snmpd holds rows: by their indexes, in which a name and an identifier stand behind their
+-- length (RFC 2578, section 7.7).
 use Rattle.std.specs.Prelude.{◌≡◌, ◌≢◌, ℕ, ◌<◌, ◌≤◌, List, length, get_or}
 use Rattle.std.specs.List.{insert}
 use Rattle.std.specs.Ordering.{nat_cmp, ordering_then}

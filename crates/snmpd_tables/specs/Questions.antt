@@ -1,5 +1,5 @@
--- Which access row snmpd chooses for messages of a group (net-snmp 5.9.3). The rows that fit are RFC 3415's (section 3.2); which of them counts is
--- snmpd's own.
+-- Which access row snmpd chooses for messages of a group (net-snmp 5.9.3). The rows that fit are RFC 3415's
+-- (section 3.2); which of them counts is snmpd's own.
 use Rattle.std.specs.Prelude.{◌≡◌, ◌≢◌, ◌⊎◌, ⊤, ℕ, zero, suc, ◌<◌, List, length, get_or, Option, Some, None, Contains}
 use Rattle.snmp_ber.specs.declared.level.Level.{Level}
 use Rattle.vacm_core.specs.Allowed.{FitsMessage, IsPrefixOf}
@@ -14,13 +14,14 @@ use Rattle.snmpd_tables.specs.declared.questions.Question.{Question}
 
 -- ---- what is asked
 
--- The contexts that are asked about, beside these rows of the group: the one of the name; or each other one that begins with the name, and with no
--- longer prefix of the rows.
+-- The contexts that are asked about, beside these rows of the group: the one of the name; or each other one
+-- that begins with the name, and with no longer prefix of the rows.
 abbrev pub IsAbout : List HeldAccess → List ℕ → Contexts → List ℕ → Type 0
 IsAbout rows group (Named name) context = context ≡ name
 IsAbout rows group (Beyond name) context =
     IsPrefixOf name context × (context ≢ name)
-    × ((held : HeldAccess) → Contains rows held → held.row.group ≡ group → length name < length held.row.prefix → IsPrefixOf held.row.prefix context → ⊥)
+    × ((held : HeldAccess) → Contains rows held → held.row.group ≡ group → length name < length held.row.prefix
+    → IsPrefixOf held.row.prefix context → ⊥)
 
 -- the row is for messages of the group: beyond a name those fit that compare a prefix
 abbrev pub FitsContexts : List ℕ → ℕ → Level → Contexts → AccessRow → Type 0
@@ -32,7 +33,12 @@ FitsQuestion question row = FitsContexts question.group question.model question.
 
 -- the messages that a line sets views for
 abbrev pub question_of : Setting → Question
-question_of setting = record { group = setting.group; model = setting.model; level = setting.level; contexts = Named setting.context }
+question_of setting = record {
+  group = setting.group;
+  model = setting.model;
+  level = setting.level;
+  contexts = Named setting.context;
+}
 
 -- ---- the place of the row that snmpd chooses
 
@@ -43,7 +49,8 @@ IsBetterAt rows (Some k) row = (d : HeldAccess) → IsTaken (get_or rows k d).ro
 
 -- the row at the place fits, and snmpd takes it
 abbrev pub IsNextAt : (AccessRow → Type 0) → List HeldAccess → Option ℕ → ℕ → Type 0
-IsNextAt Fits rows best place = (d : HeldAccess) → Fits (get_or rows place d).row × IsBetterAt rows best (get_or rows place d).row
+IsNextAt Fits rows best place = (d : HeldAccess)
+    → Fits (get_or rows place d).row × IsBetterAt rows best (get_or rows place d).row
 
 -- of so many of the rows the best is at this place
 abbrev pub BestOf : (AccessRow → Type 0) → List HeldAccess → ℕ → Option ℕ → Type 0

@@ -27,7 +27,8 @@ bare_row setting = record {
   notify = [];
 }
 
--- the view of each type is set, and how contexts match; the index stays as it is. A row has no views of the types that snmptrapd alone asks for
+-- the view of each type is set, and how contexts match; the index stays as it is. A row has no views of the
+-- types that snmptrapd alone asks for
 abbrev pub set_row : Setting → AccessRow → AccessRow
 set_row setting row = record row {
   matching = setting.matching;
@@ -59,11 +60,14 @@ ChoosesFor setting rows at = ChoosesAt (FitsQuestion (question_of setting)) rows
 abbrev pub ChoosesNone : Setting → List HeldAccess → Type 0
 ChoosesNone setting rows = ChoosesAt (FitsQuestion (question_of setting)) rows None
 
--- The row that snmpd would choose is changed, whatever its index, and that is told where it isn't the line's own; or where it would choose none, a new
--- row goes in.
+-- The row that snmpd would choose is changed, whatever its index, and that is told where it isn't the line's
+-- own; or where it would choose none, a new row goes in.
 abbrev pub SetsAccess : Place → Setting → List HeldAccess → List Change → List HeldAccess → List Change → Type 0
 SetsAccess place setting rows told after changes =
     ((at : ℕ) × ChoosesFor setting rows at
-    × ((d : HeldAccess) → (after ≡ set rows at (record { place = (get_or rows at d).place; row = set_row setting (get_or rows at d).row }))
+    × ((d : HeldAccess) → (after
+    ≡ set rows at (record { place = (get_or rows at d).place; row = set_row setting (get_or rows at d).row }))
     × TellsChange place setting (get_or rows at d) told changes))
-    ⊎ (ChoosesNone setting rows × Adds order_of_access rows (record { place = place; row = set_row setting (bare_row setting) }) after × (changes ≡ told))
+    ⊎ (ChoosesNone setting rows
+    × Adds order_of_access rows (record { place = place; row = set_row setting (bare_row setting) }) after
+    × (changes ≡ told))

@@ -40,7 +40,8 @@ fn is_better(best: Option<(usize, &HeldAccess)>, held: &HeldAccess) -> bool
 
 /// The row that RFC 3415 chooses for such messages, and its place.
 pub fn best_row<'a>(rows: &'a [HeldAccess], question: &Question) -> Option<(usize, &'a HeldAccess)>
-    ensures { MatchOption result (NoneFits rows.now (FitsHeld question.now)) (λ found. IsBestAt rows.now (FitsHeld question.now) held_order found.0 found.1.now) }
+    ensures { MatchOption result (NoneFits rows.now (FitsHeld question.now))
+        (λ found. IsBestAt rows.now (FitsHeld question.now) held_order found.0 found.1.now) }
 {
     let mut best: Option<(usize, &HeldAccess)> = None;
     for (place, held) in rows.iter().enumerate() {

@@ -1,8 +1,10 @@
-//! The messages that are asked for: of each group and model that a name has, at each level, in each context that rows tell apart.
+//! The messages that are asked for: of each group and model that a name has, at each level, in each context
+//! that rows tell apart.
 
 ghost use Rattle.std.specs.Prelude.{◌≡◌, ◌↔◌, ◌+◌, ◌<◌, IsTrue, OnOk, IfOk, length, take};
 ghost use Rattle.snmpd_tables.specs.Kept.{HasOneEach};
-ghost use Rattle.snmpd_tables.specs.Compared.{sides_of, IsLike, HasPrefix, HasPair, IsOfPrefix, IsOfPrefixes, IsOfEither, IsOfPairs, Tells, GoesOn, TellsDifferences};
+ghost use Rattle.snmpd_tables.specs.Compared.{sides_of, IsLike, HasPrefix, HasPair, IsOfPrefix, IsOfPrefixes};
+ghost use Rattle.snmpd_tables.specs.Compared.{IsOfEither, IsOfPairs, Tells, GoesOn, TellsDifferences};
 
 use crate::comparison::{Chosen, Difference, difference_of};
 use crate::copies::copy_name;
@@ -46,7 +48,9 @@ fn put_level(
     contexts: &Contexts,
 ) -> Result<(), AllocError>
     requires { HasOneEach rows.now.kept.now }
-    ensures { OnOk result (Tells rows.now (λ q. IsLike asking.now.group.now asking.now.model contexts.now q × (q.level ≡ level)) found.old.items found.new.items) }
+    ensures { OnOk result
+        (Tells rows.now (λ q. IsLike asking.now.group.now asking.now.model contexts.now q
+        × (q.level ≡ level)) found.old.items found.new.items) }
 {
     let question = Question {
         group: copy_name(asking.group),
@@ -68,7 +72,9 @@ fn put_levels(
     contexts: &Contexts,
 ) -> Result<(), AllocError>
     requires { HasOneEach rows.now.kept.now }
-    ensures { OnOk result (Tells rows.now (IsLike asking.now.group.now asking.now.model contexts.now) found.old.items found.new.items) }
+    ensures { OnOk result
+        (Tells rows.now (IsLike asking.now.group.now asking.now.model contexts.now) found.old.items
+        found.new.items) }
 {
     put_level(found, rows, asking, Level::NoAuthNoPriv, contexts)?;
     put_level(found, rows, asking, Level::AuthNoPriv, contexts)?;
@@ -83,7 +89,9 @@ fn put_prefix(
     prefix: &Name,
 ) -> Result<(), AllocError>
     requires { HasOneEach rows.now.kept.now }
-    ensures { OnOk result (Tells rows.now (IsOfPrefix asking.now.group.now asking.now.model prefix.now) found.old.items found.new.items) }
+    ensures { OnOk result
+        (Tells rows.now (IsOfPrefix asking.now.group.now asking.now.model prefix.now) found.old.items
+        found.new.items) }
 {
     put_levels(found, rows, asking, &Contexts::Named(copy_name(prefix)))?;
     put_levels(found, rows, asking, &Contexts::Beyond(copy_name(prefix)))
@@ -113,7 +121,8 @@ fn put_next_prefix(
     requires one_each { HasOneEach rows.now.kept.now }
     requires within { place < length rows.now.held.now }
     ensures { let group = asking.now.group.now in let model = asking.now.model in
-        OnOk result (GoesOn rows.now (IsOfPrefixes (take place rows.now.held.now) group model) (IsOfPrefixes (take (place + 1) rows.now.held.now) group model)
+        OnOk result (GoesOn rows.now (IsOfPrefixes (take place rows.now.held.now) group model)
+        (IsOfPrefixes (take (place + 1) rows.now.held.now) group model)
         found.old.items found.new.items) }
 {
     let row = &rows.held[place].row;
@@ -133,7 +142,9 @@ fn put_prefixes(
     asking: &Asking<'_>,
 ) -> Result<(), AllocError>
     requires { HasOneEach rows.now.kept.now }
-    ensures { OnOk result (Tells rows.now (IsOfPrefixes rows.now.held.now asking.now.group.now asking.now.model) found.old.items found.new.items) }
+    ensures { OnOk result
+        (Tells rows.now (IsOfPrefixes rows.now.held.now asking.now.group.now asking.now.model) found.old.items
+        found.new.items) }
 {
     for place in 0..rows.held.len() {
         put_next_prefix(found, rows, asking, place)?;
@@ -150,7 +161,8 @@ fn put_next_context(
 ) -> Result<(), AllocError>
     requires one_each { HasOneEach compared.now.rows.kept.now }
     requires within { place < length compared.now.contexts.now }
-    ensures { let group = asking.now.group.now in let model = asking.now.model in let held = compared.now.rows.held.now in
+    ensures { let group = asking.now.group.now in let model = asking.now.model
+        in let held = compared.now.rows.held.now in
         OnOk result (GoesOn compared.now.rows (IsOfEither held (take place compared.now.contexts.now) group model)
         (IsOfEither held (take (place + 1) compared.now.contexts.now) group model) found.old.items found.new.items) }
 {
@@ -173,7 +185,9 @@ fn put_group(
     asking: &Asking<'_>,
 ) -> Result<(), AllocError>
     requires { HasOneEach compared.now.rows.kept.now }
-    ensures { OnOk result (Tells compared.now.rows (IsOfEither compared.now.rows.held.now compared.now.contexts.now asking.now.group.now asking.now.model)
+    ensures { OnOk result
+        (Tells compared.now.rows
+        (IsOfEither compared.now.rows.held.now compared.now.contexts.now asking.now.group.now asking.now.model)
         found.old.items found.new.items) }
 {
     put_prefixes(found, &compared.rows, asking)?;
@@ -201,7 +215,8 @@ fn put_next_group(
     requires one_each { HasOneEach compared.now.rows.kept.now }
     requires within { place < length compared.now.groups.now }
     ensures { let groups = compared.now.groups.now in
-        OnOk result (GoesOn compared.now.rows (IsOfPairs compared.now (take place groups)) (IsOfPairs compared.now (take (place + 1) groups)) found.old.items found.new.items) }
+        OnOk result (GoesOn compared.now.rows (IsOfPairs compared.now (take place groups))
+        (IsOfPairs compared.now (take (place + 1) groups)) found.old.items found.new.items) }
 {
     let row = &compared.groups[place].row;
     if has_pair(&compared.groups[..place], &row.group, row.model) {
@@ -214,8 +229,9 @@ fn put_next_group(
     put_group(found, compared, &asking)
 }
 
-/// The messages for which snmpd and RFC 3415 choose access rows with other views: each group and model of a group row is asked for, at each level, in each
-/// of the contexts, in that of each prefix of the group's rows, and in those beyond it.
+/// The messages for which snmpd and RFC 3415 choose access rows with other views: each group and model of a
+/// group row is asked for, at each level, in each of the contexts, in that of each prefix of the group's
+/// rows, and in those beyond it.
 ///
 /// The error is want of memory.
 pub fn differences(alloc: Global, compared: &Compared<'_>) -> Result<Vec<Difference>, AllocError>

@@ -6,7 +6,9 @@ ghost use Rattle.std.specs.Str.{IsUtf8};
 ghost use Rattle.snmpd_lines.specs.declared.lines.Section.TheVariants as sections;
 ghost use Rattle.snmpd_lines.specs.declared.lines.Line.{Line as ALine};
 ghost use Rattle.snmpd_tables.specs.Items as spec;
-ghost use Rattle.snmpd_tables.specs.Items.{BeginsSmall, IsIncludeWord, NamesFiles, IsInclude, IsTextSecret, IsTextAuthentication, IsTextPrivacy, IsTextUser, IsText, IsMade, IsItem, AreItems, word_of};
+ghost use Rattle.snmpd_tables.specs.Items.{BeginsSmall, IsIncludeWord, NamesFiles, IsInclude, IsTextSecret};
+ghost use Rattle.snmpd_tables.specs.Items.{IsTextAuthentication, IsTextPrivacy, IsTextUser, IsText, IsMade, IsItem};
+ghost use Rattle.snmpd_tables.specs.Items.{AreItems, word_of};
 
 use crate::rows::Place;
 use snmpd_lines::{Authentication, Created, Line, Privacy, Secret, Section, read_line};
@@ -117,7 +119,9 @@ fn is_text(name: &Name) -> bool
 
 /// The names of the row are UTF-8.
 fn is_text_access(row: &AccessRow) -> bool
-    ensures { IsTrue result ↔ (IsUtf8 row.now.group × IsUtf8 row.now.prefix × IsUtf8 row.now.read × IsUtf8 row.now.write × IsUtf8 row.now.notify) }
+    ensures { IsTrue result
+        ↔ (IsUtf8 row.now.group × IsUtf8 row.now.prefix × IsUtf8 row.now.read × IsUtf8 row.now.write
+        × IsUtf8 row.now.notify) }
 {
     is_text(&row.group)
         && is_text(&row.prefix)
@@ -206,7 +210,8 @@ fn directive_made(
     word: &[u8],
     text: Option<&[u8]>,
 ) -> Result<Made, AllocError>
-    ensures { (parsed : ALine) → word_of parsed ≡ word.now → spec.text_of parsed ≡ option_map (λ t. t.now) text.entry → IfOk result (IsMade section line.now parsed) }
+    ensures { (parsed : ALine) → word_of parsed ≡ word.now → spec.text_of parsed ≡ option_map (λ t. t.now) text.entry
+        → IfOk result (IsMade section line.now parsed) }
 {
     if names_files(word) {
         return Ok(Made::Include(include_of(alloc, word, text)?));

@@ -3,7 +3,8 @@
 ghost use Rattle.std.specs.Prelude.{◌≡◌, ◌↔◌, ◌++◌, IsTrue, IfOk, OnOk, MatchOption};
 ghost use Rattle.std.specs.List.{flat_map};
 ghost use Rattle.snmpd_tables.specs.Kept as spec;
-ghost use Rattle.snmpd_tables.specs.Kept.{IsNew, IsFirstLike, Keeps, AreFirsts, stands_for, IsNamed, IsWanted, AreWanted, AreGroupsKept, AreFamiliesKept};
+ghost use Rattle.snmpd_tables.specs.Kept.{IsNew, IsFirstLike, Keeps, AreFirsts, stands_for, IsNamed, IsWanted};
+ghost use Rattle.snmpd_tables.specs.Kept.{AreWanted, AreGroupsKept, AreFamiliesKept};
 
 use crate::copies::copy_name;
 use crate::rows::{Held, HeldAccess, HeldFamily, HeldGroup, Place};
@@ -85,7 +86,8 @@ fn meant(alloc: Global, held: &[HeldGroup]) -> Result<Vec<HeldGroup>, AllocError
     Ok(rows)
 }
 
-/// The group rows that count: the first of each index, where a row for any model stands for one of each of the models 1 to 3.
+/// The group rows that count: the first of each index, where a row for any model stands for one of each of
+/// the models 1 to 3.
 ///
 /// The error is want of memory.
 pub fn groups_kept(alloc: Global, held: &[HeldGroup]) -> Result<Vec<HeldGroup>, AllocError>
@@ -128,8 +130,8 @@ fn wanted(
     Ok(rows)
 }
 
-/// The family rows that count beside these access rows: of those of lines, and of the built-in views that access rows name, the first of each
-/// index.
+/// The family rows that count beside these access rows: of those of lines, and of the built-in views that
+/// access rows name, the first of each index.
 ///
 /// The error is want of memory.
 pub fn families_kept(

@@ -100,7 +100,8 @@ impl Meaning {
     }
 }
 
-/// The items, in which behind each simple line stand those of the lines that it stands for. They are numbered in their order.
+/// The items, in which behind each simple line stand those of the lines that it stands for. They are numbered
+/// in their order.
 ///
 /// The error is want of memory, also for the number of a line above 18,446,744,073,709,551,615.
 pub fn meant(alloc: Global, items: Vec<Item>) -> Result<Vec<Item>, AllocError>

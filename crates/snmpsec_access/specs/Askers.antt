@@ -33,13 +33,14 @@ of_group contexts view group = flat_map (λ level. map (asker view group level) 
 abbrev pub of_view : Tables → ViewType → List Asker
 of_view t view = flat_map (of_group t.contexts view) t.groups
 
--- The product of views, group rows, levels and context rows, in this order, the rows by their positions. Any other name is in
--- no group, and any other context isn't there.
+-- The product of views, group rows, levels and context rows, in this order, the rows by their positions. Any
+-- other name is in no group, and any other context isn't there.
 abbrev pub askers : Tables → List ViewType → List Asker
 askers t views = flat_map (of_view t) views
 
 -- the line `MODEL NAME LEVEL VIEW CONTEXT`
 abbrev pub asker_line : Asker → List ℕ
 asker_line a =
-    decimal a.message.model ++ (codes " " ++ (name_word a.message.name ++ (codes " " ++ (level_word a.message.level ++ (codes " "
+    decimal a.message.model
+    ++ (codes " " ++ (name_word a.message.name ++ (codes " " ++ (level_word a.message.level ++ (codes " "
     ++ (view_word a.view ++ (codes " " ++ (context_word a.message.context ++ codes "\n"))))))))

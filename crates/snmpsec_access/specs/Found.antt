@@ -17,4 +17,5 @@ line_in of tables.Family position = slice_get of.families.items position
 
 -- They are those of this text, which has these rows.
 abbrev pub AreRowLines : List ℕ → List UserRow → Tables → RowLines → Type 0
-AreRowLines text users rows of = (table : ConfigTable) → (position : ℕ) → line_in of table position ≡ row_line text users rows table position
+AreRowLines text users rows of = (table : ConfigTable) → (position : ℕ)
+    → line_in of table position ≡ row_line text users rows table position

@@ -26,10 +26,11 @@ numbers_of begin n [] = []
 numbers_of begin n (line ∷ later) =
     cond (starts_with (◌==◌) line begin) (n ∷ numbers_of begin (n + 1) later) (numbers_of begin (n + 1) later)
 
--- The lines of the headings of a table that has so many rows, from 1, or none where they are not one for each row: then some row is written
--- otherwise, or such a line is part of a text.
+-- The lines of the headings of a table that has so many rows, from 1, or none where they are not one for each
+-- row: then some row is written otherwise, or such a line is part of a text.
 abbrev pub row_lines : List ℕ → ConfigTable → ℕ → List ℕ
-row_lines text of rows = let numbers = numbers_of (heading of) 1 (lines text) in cond (length numbers == rows) numbers []
+row_lines text of rows = let numbers = numbers_of (heading of) 1 (lines text) in cond
+    (length numbers == rows) numbers []
 
 -- how many rows a table has
 abbrev pub row_count : List UserRow → Tables → ConfigTable → ℕ

@@ -15,7 +15,10 @@ use Rattle.vacm_core.specs.Tables.{Tables}
 use Rattle.snmpsec_access.specs.Names.{is_user, is_user_based, is_grouped, is_group, has_access, has_family, is_named}
 use Rattle.snmpsec_access.specs.declared.hint.Hint.{Hint}
 use Rattle.snmpsec_access.specs.declared.hint.Oddity.{Oddity}
-use Rattle.snmpsec_access.specs.declared.hint.Oddity.TheVariants.{UserWithoutGroup, GroupWithoutAccess, NameWithoutUser, GroupWithoutName, ViewWithoutFamily, WriteWithoutAuth, ViewWithoutAccess}
+use Rattle.snmpsec_access.specs.declared.hint.Oddity.TheVariants.{UserWithoutGroup, GroupWithoutAccess}
+use Rattle.snmpsec_access.specs.declared.hint.Oddity.TheVariants.{NameWithoutUser, GroupWithoutName}
+use Rattle.snmpsec_access.specs.declared.hint.Oddity.TheVariants.{ViewWithoutFamily, WriteWithoutAuth}
+use Rattle.snmpsec_access.specs.declared.hint.Oddity.TheVariants.{ViewWithoutAccess}
 
 -- ---- of one row
 
@@ -27,7 +30,8 @@ is_user_without_group t row = not (is_grouped t.groups row.name.items)
 abbrev pub is_group_without_access : Tables → GroupRow → Bool
 is_group_without_access t row = not (has_access t.access row.group)
 
--- A group row of the user-based model whose name is no user's. (The names of other models are communities and the like.)
+-- A group row of the user-based model whose name is no user's. (The names of other models are communities and
+-- the like.)
 abbrev pub is_name_without_user : List UserRow → GroupRow → Bool
 is_name_without_user users row = is_user_based row && not (is_user users row.name)
 
@@ -37,7 +41,8 @@ is_group_without_name t row = not (is_group t.groups row.group)
 
 -- An access row that names a view, and no family row has it. (No name is no view, and is meant.)
 abbrev pub is_view_without_family : Tables → ViewType → AccessRow → Bool
-is_view_without_family t view row = not (is_empty (view_name view row)) && not (has_family t.families (view_name view row))
+is_view_without_family t view row = not (is_empty (view_name view row)) && not
+    (has_family t.families (view_name view row))
 
 abbrev pub is_no_auth : Level → Bool
 is_no_auth NoAuthNoPriv = true
@@ -70,7 +75,8 @@ user_hints t p = if_so (is_user_without_group t p.1) UserWithoutGroup p.0 p.1.na
 
 abbrev pub group_hints : List UserRow → Tables → ℕ × GroupRow → List Told
 group_hints users t p =
-    if_so (is_group_without_access t p.1) GroupWithoutAccess p.0 p.1.group ++ if_so (is_name_without_user users p.1) NameWithoutUser p.0 p.1.name
+    if_so (is_group_without_access t p.1) GroupWithoutAccess p.0 p.1.group
+    ++ if_so (is_name_without_user users p.1) NameWithoutUser p.0 p.1.name
 
 abbrev pub view_hint : Tables → ViewType → ℕ × AccessRow → List Told
 view_hint t view p = if_so (is_view_without_family t view p.1) (ViewWithoutFamily view) p.0 (view_name view p.1)
@@ -90,10 +96,13 @@ family_hints t p = if_so (is_view_without_access t p.1) ViewWithoutAccess p.0 p.
 abbrev pub of_each : {R : Type 0} → (ℕ × R → List Told) → List R → List Told
 of_each of_row rows = flat_map of_row (enumerate_from 0 rows)
 
--- The hints of a configuration: those that hold, in the order of the tables, and in a table by the positions of its rows.
+-- The hints of a configuration: those that hold, in the order of the tables, and in a table by the positions
+-- of its rows.
 abbrev pub hints_of : List UserRow → Tables → List Told
 hints_of users t =
-    of_each (user_hints t) users ++ (of_each (group_hints users t) t.groups ++ (of_each (access_hints t) t.access ++ of_each (family_hints t) t.families))
+    of_each (user_hints t) users
+    ++ (of_each (group_hints users t) t.groups
+    ++ (of_each (access_hints t) t.access ++ of_each (family_hints t) t.families))
 
 -- ---- what the values of the code say
 

@@ -1,4 +1,5 @@
--- A hint as a line of standard error: the row's table and position, the line in which it begins, what is odd, and the name that it is about.
+-- A hint as a line of standard error: the row's table and position, the line in which it begins, what is odd,
+-- and the name that it is about.
 use Rattle.std.specs.Prelude.{ℕ, List, [], ◌++◌, codes, decimal, Option, Some, None}
 use Rattle.std.specs.List.{flat_map}
 use Rattle.vacm_core.specs.declared.access.ViewType.TheVariants.{Read, Write, Notify}
@@ -11,7 +12,10 @@ use Rattle.snmpsec_config.specs.declared.table.ConfigTable.TheVariants as tables
 use Rattle.snmpsec_access.specs.Headings.{row_line}
 use Rattle.snmpsec_access.specs.Hints.{Told}
 use Rattle.snmpsec_access.specs.declared.hint.Oddity.{Oddity}
-use Rattle.snmpsec_access.specs.declared.hint.Oddity.TheVariants.{UserWithoutGroup, GroupWithoutAccess, NameWithoutUser, GroupWithoutName, ViewWithoutFamily, WriteWithoutAuth, ViewWithoutAccess}
+use Rattle.snmpsec_access.specs.declared.hint.Oddity.TheVariants.{UserWithoutGroup, GroupWithoutAccess}
+use Rattle.snmpsec_access.specs.declared.hint.Oddity.TheVariants.{NameWithoutUser, GroupWithoutName}
+use Rattle.snmpsec_access.specs.declared.hint.Oddity.TheVariants.{ViewWithoutFamily, WriteWithoutAuth}
+use Rattle.snmpsec_access.specs.declared.hint.Oddity.TheVariants.{ViewWithoutAccess}
 
 -- the table of the row
 abbrev pub table_of : Oddity → ConfigTable
@@ -43,7 +47,8 @@ line_words (Some line) = codes ", line " ++ decimal line
 -- `snmpsec: TABLE POSITION, line LINE: WORDS `
 abbrev pub front : Option ℕ → Told → List ℕ
 front line it =
-    codes "snmpsec: " ++ (table_name (table_of it.what) ++ (codes " " ++ (decimal it.position ++ (line_words line ++ (codes ": " ++ odd_words it.what)))))
+    codes "snmpsec: " ++ (table_name (table_of it.what)
+    ++ (codes " " ++ (decimal it.position ++ (line_words line ++ (codes ": " ++ odd_words it.what)))))
 
 -- and behind it `"NAME"`
 abbrev pub hint_line : Option ℕ → Told → List ℕ
@@ -51,4 +56,5 @@ hint_line line it = front line it ++ (quoted it.name ++ codes "\n")
 
 -- The lines of hints on the rows that a text stands for.
 abbrev pub lines_of : List ℕ → List UserRow → Tables → List Told → List ℕ
-lines_of text users rows its = flat_map (λ it. hint_line (row_line text users rows (table_of it.what) it.position) it) its
+lines_of text users rows its = flat_map
+    (λ it. hint_line (row_line text users rows (table_of it.what) it.position) it) its

@@ -33,4 +33,5 @@ has_family families view = list_any (λ row. bytes_eq view row.view) families
 
 -- Some access row names the view, for reads, writes or notifications.
 abbrev pub is_named : List AccessRow → List ℕ → Bool
-is_named access view = list_any (λ row. bytes_eq view row.read || bytes_eq view row.write || bytes_eq view row.notify) access
+is_named access view = list_any
+    (λ row. bytes_eq view row.read || bytes_eq view row.write || bytes_eq view row.notify) access

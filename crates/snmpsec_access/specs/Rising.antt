@@ -1,5 +1,6 @@
 -- The rows of a view from the least up, those of them that are needed, and what the values of the code say of them.
-use Rattle.std.specs.Prelude.{◌≡◌, ◌≢◌, ◌⊎◌, ℕ, ◌<◌, ◌||◌, Bool, List, [], ◌∷◌, ◌++◌, length, get_or, remove, Contains, map}
+use Rattle.std.specs.Prelude.{◌≡◌, ◌≢◌, ◌⊎◌, ℕ, ◌<◌, ◌||◌, Bool, List, [], ◌∷◌, ◌++◌, length, get_or, remove}
+use Rattle.std.specs.Prelude.{Contains, map}
 use Rattle.std.specs.Borrow.{Bor}
 use Rattle.std.specs.List.{flat_map}
 use Rattle.std.specs.List.Sorted.{IsSorted, IsPermutation}
@@ -13,7 +14,8 @@ use Rattle.snmpsec_access.specs.declared.told.Told.{Told}
 use Rattle.snmpsec_access.specs.declared.told.Told.TheVariants.{Refusal, Rows}
 use Rattle.snmpsec_access.specs.declared.seeing.Seen.{Seen}
 use Rattle.snmpsec_access.specs.Askers.{Asker}
-use Rattle.snmpsec_access.specs.Seen.{Decision, refusal, by_lines, Decided, IsDecided, IsRefusal, AreLinesOf, answer_of, is_included, line_of, rows_of, decided_text, any_includes}
+use Rattle.snmpsec_access.specs.Seen.{Decision, refusal, by_lines, Decided, IsDecided, IsRefusal, AreLinesOf}
+use Rattle.snmpsec_access.specs.Seen.{answer_of, is_included, line_of, rows_of, decided_text, any_includes}
 
 -- what references point to
 abbrev pub rows_at : List (Bor FamilyRow) → List FamilyRow
@@ -31,15 +33,18 @@ saying rows variable = is_included (map line_of rows) variable
 -- The row is kept behind the others where they don't say the same of its subtree.
 abbrev pub IsNext : List FamilyRow → FamilyRow → List FamilyRow → Type 0
 IsNext kept row next =
-    ((saying kept row.subtree ≡ row.include) × (next ≡ kept)) ⊎ ((saying kept row.subtree ≢ row.include) × (next ≡ kept ++ row ∷ []))
+    ((saying kept row.subtree ≡ row.include) × (next ≡ kept))
+    ⊎ ((saying kept row.subtree ≢ row.include) × (next ≡ kept ++ row ∷ []))
 
--- Those that are kept say the same of each variable, and none of them can be left out: without it its own subtree is decided otherwise.
+-- Those that are kept say the same of each variable, and none of them can be left out: without it its own
+-- subtree is decided otherwise.
 pub record AreLeft (seen kept : List FamilyRow) : Type 0 where
   pub same : (variable : List ℕ) → saying kept variable ≡ saying seen variable
   pub among : (row : FamilyRow) → Contains kept row → Contains seen row
   pub rising : IsSorted family_order kept
   pub own : (row : FamilyRow) → Contains kept row → saying kept row.subtree ≡ row.include
-  pub needed : (k : ℕ) (d : FamilyRow) → k < length kept → saying (remove kept k) (get_or kept k d).subtree ≢ saying kept (get_or kept k d).subtree
+  pub needed : (k : ℕ) (d : FamilyRow) → k < length kept
+      → saying (remove kept k) (get_or kept k d).subtree ≢ saying kept (get_or kept k d).subtree
 
 -- Those that are kept of rows that rise: where none has a wildcard those that are needed, else all.
 abbrev pub AreKept : List FamilyRow → List FamilyRow → Type 0
@@ -53,9 +58,11 @@ decision_of (Rows rows) = by_lines (map line_of (rows_at rows.items))
 
 -- So each variable is answered where the view is known.
 abbrev pub IsOfView : List FamilyRow → List ℕ → Decision → Type 0
-IsOfView families view (refusal answer) = IsRefusal answer × ((variable : List ℕ) → AnswersView families view variable answer)
+IsOfView families view (refusal answer) = IsRefusal answer
+    × ((variable : List ℕ) → AnswersView families view variable answer)
 IsOfView families view (by_lines lines) =
-    ((variable : List ℕ) → AnswersView families view variable (answer_of (is_included lines variable))) × AreLinesOf families view lines
+    ((variable : List ℕ) → AnswersView families view variable (answer_of (is_included lines variable)))
+    × AreLinesOf families view lines
 
 abbrev pub asker_of : Asking → Asker
 asker_of asking = record { message = requester_of asking; view = asking.view }

@@ -1,5 +1,7 @@
--- What a name may see, for each view, at each level and in each context: lines of which the last that fits a variable decides on it.
-use Rattle.std.specs.Prelude.{◌≡◌, ◌≢◌, ◌⊎◌, ⊤, ℕ, ◌+◌, ◌<◌, ◌==◌, ◌&&◌, Bool, true, false, if◌then◌else◌, List, [], ◌∷◌, ◌++◌, length, map, fold, remove, Contains, codes, decimal, Option, Some, None}
+-- What a name may see, for each view, at each level and in each context: lines of which the last that fits a
+-- variable decides on it.
+use Rattle.std.specs.Prelude.{◌≡◌, ◌≢◌, ◌⊎◌, ⊤, ℕ, ◌+◌, ◌<◌, ◌==◌, ◌&&◌, Bool, true, false, if◌then◌else◌, List, []}
+use Rattle.std.specs.Prelude.{◌∷◌, ◌++◌, length, map, fold, remove, Contains, codes, decimal, Option, Some, None}
 use Rattle.std.specs.List.{flat_map, filter, join_with_byte, list_any}
 use Rattle.std.specs.List.Sorted.{IsSorted, IsPermutation}
 use Rattle.std.specs.Str.{bytes_eq}
@@ -7,7 +9,8 @@ use Rattle.snmp_ber.specs.declared.level.Level.{Level}
 use Rattle.vacm_core.specs.declared.access.ViewType.{ViewType}
 use Rattle.vacm_core.specs.declared.access.ViewType.TheVariants.{Read, Write, Notify}
 use Rattle.vacm_core.specs.declared.access.Access.{Access}
-use Rattle.vacm_core.specs.declared.access.Access.TheVariants.{NoSuchContext, NoGroupName, NoAccessEntry, NoSuchView, NotInView, AccessAllowed}
+use Rattle.vacm_core.specs.declared.access.Access.TheVariants.{NoSuchContext, NoGroupName, NoAccessEntry, NoSuchView}
+use Rattle.vacm_core.specs.declared.access.Access.TheVariants.{NotInView, AccessAllowed}
 use Rattle.vacm_core.specs.declared.rows.ContextRow.{ContextRow}
 use Rattle.vacm_core.specs.declared.rows.FamilyRow.{FamilyRow}
 use Rattle.vacm_core.specs.Allowed.{Requester, Allowed, ByView, mask_bit, family_order}
@@ -33,7 +36,8 @@ fits (Some a ∷ arcs) (v ∷ vs) = (a == v) && fits arcs vs
 
 -- The last line that fits the variable says whether it is included; it isn't where none fits.
 abbrev pub is_included : List Line → List ℕ → Bool
-is_included lines variable = fold (λ before line. if fits line.pattern variable then line.include else before) false lines
+is_included lines variable = fold
+    (λ before line. if fits line.pattern variable then line.include else before) false lines
 
 abbrev pub answer_of : Bool → Access
 answer_of true = AccessAllowed
@@ -41,7 +45,8 @@ answer_of false = NotInView
 
 -- Without any one of the lines some variable would be decided otherwise.
 abbrev pub AreNeeded : List Line → Type 0
-AreNeeded lines = (k : ℕ) → k < length lines → (variable : List ℕ) × (is_included (remove lines k) variable ≢ is_included lines variable)
+AreNeeded lines = (k : ℕ) → k < length lines
+    → (variable : List ℕ) × (is_included (remove lines k) variable ≢ is_included lines variable)
 
 -- ---- the lines of rows
 
@@ -57,14 +62,15 @@ line_of row = record { include = row.include; pattern = pattern_from 0 row.mask 
 abbrev pub rows_of : List FamilyRow → List ℕ → List FamilyRow
 rows_of families view = filter (λ row. bytes_eq row.view view) families
 
--- The lines for a view are those of rows of it, from the least up. Where none of its rows has a wildcard, no line is too many;
--- else each row has its line.
+-- The lines for a view are those of rows of it, from the least up. Where none of its rows has a wildcard, no
+-- line is too many; else each row has its line.
 pub record AreLinesOf (families : List FamilyRow) (view : List ℕ) (lines : List Line) : Type 0 where
   pub rows : List FamilyRow
   pub lines_of : lines ≡ map line_of rows
   pub among : (row : FamilyRow) → Contains rows row → Contains (rows_of families view) row
   pub rising : IsSorted family_order rows
-  pub kept : (AreExact (rows_of families view) × AreNeeded lines) ⊎ ((¬ AreExact (rows_of families view)) × IsPermutation (rows_of families view) rows)
+  pub kept : (AreExact (rows_of families view) × AreNeeded lines)
+      ⊎ ((¬ AreExact (rows_of families view)) × IsPermutation (rows_of families view) rows)
 
 -- ---- what is told of a question
 
@@ -100,7 +106,11 @@ views = Read ∷ Write ∷ Notify ∷ []
 
 -- the question of a name for a view, at a level and in a context that there is
 abbrev pub viewer : ℕ → List ℕ → Level → ViewType → ContextRow → Asker
-viewer model name level view context = record { message = record { model = model; name = name; level = level; context = context.name }; view = view }
+viewer model name level view
+    context = record {
+      message = record { model = model; name = name; level = level; context = context.name };
+      view = view;
+    }
 
 abbrev pub of_level : List ContextRow → ℕ → List ℕ → Level → List Asker
 of_level contexts model name level = flat_map (λ view. map (viewer model name level view) contexts) views
@@ -133,7 +143,8 @@ sign false = codes "- "
 
 -- `LEVEL VIEW CONTEXT `
 abbrev pub head : Asker → List ℕ
-head a = level_word a.message.level ++ (codes " " ++ (view_word a.view ++ (codes " " ++ (context_word a.message.context ++ codes " "))))
+head a = level_word a.message.level
+    ++ (codes " " ++ (view_word a.view ++ (codes " " ++ (context_word a.message.context ++ codes " "))))
 
 abbrev pub seen_line : Asker → Line → List ℕ
 seen_line a line = head a ++ (sign line.include ++ (pattern_text line.pattern ++ codes "\n"))

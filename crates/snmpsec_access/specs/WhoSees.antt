@@ -17,7 +17,8 @@ use Rattle.snmpsec_access.specs.Askers.{Asker, askers, asker_line}
 -- those of these of which P holds, in their order
 abbrev pub AreThose : {A : Type 0} → (A → Type 0) → List A → List A → Type 0
 AreThose P [] kept = kept ≡ []
-AreThose {A} P (x ∷ xs) kept = (P x × ((rest : List A) × (kept ≡ x ∷ rest) × AreThose P xs rest)) ⊎ (¬ P x × AreThose P xs kept)
+AreThose {A} P (x ∷ xs) kept = (P x × ((rest : List A) × (kept ≡ x ∷ rest) × AreThose P xs rest))
+    ⊎ (¬ P x × AreThose P xs kept)
 
 -- ---- which are wanted
 
@@ -38,7 +39,8 @@ pub record Sees (t : Tables) (only : Bool) (users : List UserRow) (variable : Li
 -- ---- the text
 
 -- There is a line for each that sees the variable, and no other.
-pub record TellsWho (t : Tables) (views : List ViewType) (only : Bool) (users : List UserRow) (variable text : List ℕ) : Type 0 where
+pub record TellsWho (t : Tables) (views : List ViewType) (only : Bool) (users : List UserRow)
+    (variable text : List ℕ) : Type 0 where
   pub seeing : List Asker
   pub those : AreThose (Sees t only users variable) (askers t views) seeing
   pub lines : text ≡ flat_map asker_line seeing

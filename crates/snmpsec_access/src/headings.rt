@@ -10,8 +10,8 @@ use snmp_ber::split_once;
 use snmpsec_config::{ConfigRows, ConfigTable};
 use std::alloc::{AllocError, Global};
 
-/// The lines in which the rows of each table begin, from 1; none of a table where not each row has a heading `[[TABLE]]` at the beginning of a
-/// line.
+/// The lines in which the rows of each table begin, from 1; none of a table where not each row has a heading
+/// `[[TABLE]]` at the beginning of a line.
 #[derive(Drop)]
 pub(crate) struct RowLines {
     users: Vec<usize>,

@@ -1,5 +1,6 @@
-//! Who may see what, over all questions that a configuration can answer (RFC 3415, section 3), and what in a configuration is
-//! probably a mistake: a name of one table that no row of another has, or a write view without authentication.
+//! Who may see what, over all questions that a configuration can answer (RFC 3415, section 3), and what in a
+//! configuration is probably a mistake: a name of one table that no row of another has, or a write view
+//! without authentication.
 //!
 //! ```
 //! use snmpsec_access::{access_word, put_quoted, view_word};

@@ -5,7 +5,8 @@ ghost use Rattle.std.specs.List.{flat_map, list_any};
 ghost use Rattle.vacm_core.specs.Tables.{tables_of, HaveSameRows};
 ghost use Rattle.vacm_core.specs.Distinct.{HasOneRowEach};
 ghost use Rattle.snmpsec_access.specs.Seen as spec;
-ghost use Rattle.snmpsec_access.specs.Seen.{by_lines, line_of, pattern_text, head, seen_line, answer_line, decision_text, includes, viewer, of_level, TellsSeen};
+ghost use Rattle.snmpsec_access.specs.Seen.{by_lines, line_of, pattern_text, head, seen_line, answer_line};
+ghost use Rattle.snmpsec_access.specs.Seen.{decision_text, includes, viewer, of_level, TellsSeen};
 ghost use Rattle.snmpsec_access.specs.Rising.{rows_at, asker_of, decision_of, SeesOn};
 
 use crate::told::{Told, told_of};
@@ -122,7 +123,9 @@ fn put_rows(
     asking: &Asking<'_>,
     rows: &[&FamilyRow],
 ) -> Result<(), AllocError>
-    ensures { OnOk result (out.new.items ≡ out.old.items ++ flat_map (seen_line (asker_of asking.now)) (map line_of (rows_at rows.now))) }
+    ensures { OnOk result
+        (out.new.items ≡ out.old.items
+        ++ flat_map (seen_line (asker_of asking.now)) (map line_of (rows_at rows.now))) }
 {
     for row in rows {
         put_row(alloc, out, asking, row)?;
@@ -137,7 +140,9 @@ fn put_decided(
     asking: &Asking<'_>,
     rows: &[&FamilyRow],
 ) -> Result<(), AllocError>
-    ensures { OnOk result (out.new.items ≡ out.old.items ++ decision_text (asker_of asking.now) (by_lines (map line_of (rows_at rows.now)))) }
+    ensures { OnOk result
+        (out.new.items ≡ out.old.items
+        ++ decision_text (asker_of asking.now) (by_lines (map line_of (rows_at rows.now)))) }
 {
     if rows.is_empty() {
         return put_answer(alloc, out, asking, Access::NotInView);
@@ -159,7 +164,8 @@ fn put_told(
     asking: &Asking<'_>,
     told: &Told<'_>,
 ) -> Result<(), AllocError>
-    ensures { OnOk result (out.new.items ≡ out.old.items ++ decision_text (asker_of asking.now) (decision_of told.now)) }
+    ensures { OnOk result
+        (out.new.items ≡ out.old.items ++ decision_text (asker_of asking.now) (decision_of told.now)) }
 {
     match told {
         Told::Refusal(answer) => put_answer(alloc, out, asking, *answer),
@@ -204,7 +210,10 @@ fn put_view(
 ) -> Result<(), AllocError>
     requires one_each { HasOneRowEach (tables_of who.now.rows.now) }
     requires same_rows { HaveSameRows (tables_of who.now.rows.now) who.now.access.now }
-    ensures { OnOk result (SeesOn (tables_of who.now.rows.now) (map (viewer who.now.model who.now.name.now level view) who.now.rows.now.contexts.items) out.old out.new) }
+    ensures { OnOk result
+        (SeesOn (tables_of who.now.rows.now)
+        (map (viewer who.now.model who.now.name.now level view) who.now.rows.now.contexts.items)
+        out.old out.new) }
 {
     'contexts: for context in &who.rows.contexts {
         let asking = Asking {
@@ -229,22 +238,27 @@ fn put_level(
 ) -> Result<(), AllocError>
     requires one_each { HasOneRowEach (tables_of who.now.rows.now) }
     requires same_rows { HaveSameRows (tables_of who.now.rows.now) who.now.access.now }
-    ensures { OnOk result (SeesOn (tables_of who.now.rows.now) (of_level who.now.rows.now.contexts.items who.now.model who.now.name.now level) out.old out.new) }
+    ensures { OnOk result
+        (SeesOn (tables_of who.now.rows.now)
+        (of_level who.now.rows.now.contexts.items who.now.model who.now.name.now level) out.old out.new) }
 {
     put_view(alloc, out, who, level, ViewType::Read)?;
     put_view(alloc, out, who, level, ViewType::Write)?;
     put_view(alloc, out, who, level, ViewType::Notify)
 }
 
-/// What the security name may see under the model over tables that are made of the rows, by the level, then the view, then the context row.
+/// What the security name may see under the model over tables that are made of the rows, by the level, then
+/// the view, then the context row.
 ///
-/// For each of them stands either a line `LEVEL VIEW CONTEXT ANSWER`, where each variable gets that answer, or lines
-/// `LEVEL VIEW CONTEXT + SUBTREE` and `LEVEL VIEW CONTEXT - SUBTREE`, an arc that may be any as `*`: the last that fits a variable says
-/// whether isAccessAllowed answers accessAllowed (`+`) or notInView (`-`), and notInView where none fits (RFC 3415, section 3). They
-/// are the rows of the view from the least up, by the number of arcs and then by the arcs, without those that change no answer; of
-/// a view with a wildcard they are all. The error is want of memory.
+/// For each of them stands either a line `LEVEL VIEW CONTEXT ANSWER`, where each variable gets that answer,
+/// or lines `LEVEL VIEW CONTEXT + SUBTREE` and `LEVEL VIEW CONTEXT - SUBTREE`, an arc that may be any as `*`:
+/// the last that fits a variable says whether isAccessAllowed answers accessAllowed (`+`) or notInView (`-`),
+/// and notInView where none fits (RFC 3415, section 3). They are the rows of the view from the least up, by
+/// the number of arcs and then by the arcs, without those that change no answer; of a view with a wildcard
+/// they are all. The error is want of memory.
 ///
-/// For c contexts 9c questions are asked. Each goes over the tables once, and over the lines of its view for each row of it.
+/// For c contexts 9c questions are asked. Each goes over the tables once, and over the lines of its view for
+/// each row of it.
 pub fn sees(
     alloc: Global,
     access: &Vacm,

@@ -94,7 +94,8 @@ fn needed_of_exact<'a>(
 ) -> Result<Vec<&'a FamilyRow>, AllocError>
     requires exact { AreExact (rows_at rows.now) }
     requires rising { IsSorted spec_order (rows_at rows.now) }
-    requires one_each { (x y : ARow) → Contains (rows_at rows.now) x → Contains (rows_at rows.now) y → x.subtree ≡ y.subtree → x ≡ y }
+    requires one_each { (x y : ARow) → Contains (rows_at rows.now) x → Contains (rows_at rows.now) y
+        → x.subtree ≡ y.subtree → x ≡ y }
     ensures { IfOk result (λ kept. AreLeft (rows_at rows.now) (rows_at kept.items)) }
 {
     let mut kept = Vec::new(alloc);
@@ -110,7 +111,8 @@ pub(crate) fn needed_rows<'a>(
     rows: Vec<&'a FamilyRow>,
 ) -> Result<Vec<&'a FamilyRow>, AllocError>
     requires rising { IsSorted spec_order (rows_at rows.items) }
-    requires one_each { (x y : ARow) → Contains (rows_at rows.items) x → Contains (rows_at rows.items) y → x.subtree ≡ y.subtree → x ≡ y }
+    requires one_each { (x y : ARow) → Contains (rows_at rows.items) x → Contains (rows_at rows.items) y
+        → x.subtree ≡ y.subtree → x ≡ y }
     ensures { IfOk result (λ kept. AreKept (rows_at rows.entry.items) (rows_at kept.items)) }
 {
     if !are_exact(&rows) {

@@ -27,7 +27,8 @@ fn told_of_view<'a>(
     view: &[u8],
 ) -> Result<Told<'a>, AllocError>
     requires named { view.now ≢ [] }
-    requires one_each { (x y : ARow) → Contains rows.now x → Contains rows.now y → x.view ≡ y.view → x.subtree ≡ y.subtree → x ≡ y }
+    requires one_each { (x y : ARow) → Contains rows.now x → Contains rows.now y → x.view ≡ y.view
+        → x.subtree ≡ y.subtree → x ≡ y }
     ensures { IfOk result (λ told. IsOfView rows.now view.now (decision_of told)) }
 {
     let rising = rising_rows(alloc, rows, view)?;
@@ -38,7 +39,8 @@ fn told_of_view<'a>(
     Ok(Told::Rows(needed))
 }
 
-/// What is told of a question: the first answer that applies, or the rows of its view that decide. The variable isn't looked at.
+/// What is told of a question: the first answer that applies, or the rows of its view that decide. The
+/// variable isn't looked at.
 pub(crate) fn told_of<'a>(
     alloc: Global,
     access: &Vacm,

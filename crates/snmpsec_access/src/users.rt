@@ -29,7 +29,8 @@ fn row_of<'a>(users: &'a [UserRow], name: &[u8]) -> Option<&'a UserRow>
 
 /// There is a user of this name that supports the level.
 pub(crate) fn has_user_at(users: &[UserRow], name: &[u8], level: Level) -> bool
-    ensures { MatchBool result (HasUserAt (map user_of users.now) name.now level) (¬ HasUserAt (map user_of users.now) name.now level) }
+    ensures { MatchBool result (HasUserAt (map user_of users.now) name.now level)
+        (¬ HasUserAt (map user_of users.now) name.now level) }
 {
     match row_of(users, name) {
         Some(row) => supports(row, level),

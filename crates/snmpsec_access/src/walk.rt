@@ -3,7 +3,8 @@
 ghost use Rattle.std.specs.Prelude.{◌≡◌, ◌++◌, IfOk, OnOk};
 ghost use Rattle.vacm_core.specs.Allowed.{view_name};
 ghost use Rattle.vacm_core.specs.Tables.{tables_of};
-ghost use Rattle.snmpsec_access.specs.Hints.{all_told, if_so, is_write_without_auth, user_hints, group_hints, view_hint, view_hints, access_hints, family_hints, of_each, hints_of};
+ghost use Rattle.snmpsec_access.specs.Hints.{all_told, if_so, is_write_without_auth, user_hints, group_hints};
+ghost use Rattle.snmpsec_access.specs.Hints.{view_hint, view_hints, access_hints, family_hints, of_each, hints_of};
 ghost use Rattle.snmpsec_access.specs.Known.{IsKnown, users_of, rows_of};
 
 use crate::hint::{Hint, Oddity};
@@ -43,7 +44,9 @@ fn put_user<'a>(
     row: &'a UserRow,
 ) -> Result<(), AllocError>
     requires { IsKnown known.now }
-    ensures { OnOk result (all_told hints.new.items ≡ all_told hints.old.items ++ user_hints (rows_of known.now) (position, row.now)) }
+    ensures { OnOk result
+        (all_told hints.new.items
+        ≡ all_told hints.old.items ++ user_hints (rows_of known.now) (position, row.now)) }
 {
     let name = row.name.as_slice();
     let is_odd = !known.grouped.has(name);
@@ -58,7 +61,9 @@ fn put_group<'a>(
     row: &'a GroupRow,
 ) -> Result<(), AllocError>
     requires { IsKnown known.now }
-    ensures { OnOk result (all_told hints.new.items ≡ all_told hints.old.items ++ group_hints (users_of known.now) (rows_of known.now) (position, row.now)) }
+    ensures { OnOk result
+        (all_told hints.new.items
+        ≡ all_told hints.old.items ++ group_hints (users_of known.now) (rows_of known.now) (position, row.now)) }
 {
     let (group, name) = (row.group.as_slice(), row.name.as_slice());
     let is_idle = !known.with_access.has(group);
@@ -87,7 +92,9 @@ fn put_view<'a>(
     row: &'a AccessRow,
 ) -> Result<(), AllocError>
     requires { IsKnown known.now }
-    ensures { OnOk result (all_told hints.new.items ≡ all_told hints.old.items ++ view_hint (rows_of known.now) view (position, row.now)) }
+    ensures { OnOk result
+        (all_told hints.new.items
+        ≡ all_told hints.old.items ++ view_hint (rows_of known.now) view (position, row.now)) }
 {
     let name = view_of(row, view).as_slice();
     let is_odd = !name.is_empty() && !known.with_family.has(name);
@@ -108,7 +115,9 @@ fn put_views<'a>(
     row: &'a AccessRow,
 ) -> Result<(), AllocError>
     requires { IsKnown known.now }
-    ensures { OnOk result (all_told hints.new.items ≡ all_told hints.old.items ++ view_hints (rows_of known.now) (position, row.now)) }
+    ensures { OnOk result
+        (all_told hints.new.items
+        ≡ all_told hints.old.items ++ view_hints (rows_of known.now) (position, row.now)) }
 {
     put_view(hints, known, ViewType::Read, position, row)?;
     put_view(hints, known, ViewType::Write, position, row)?;
@@ -130,7 +139,9 @@ fn put_access<'a>(
     row: &'a AccessRow,
 ) -> Result<(), AllocError>
     requires { IsKnown known.now }
-    ensures { OnOk result (all_told hints.new.items ≡ all_told hints.old.items ++ access_hints (rows_of known.now) (position, row.now)) }
+    ensures { OnOk result
+        (all_told hints.new.items
+        ≡ all_told hints.old.items ++ access_hints (rows_of known.now) (position, row.now)) }
 {
     let (group, write) = (row.group.as_slice(), row.write.as_slice());
     let is_nobody = !known.groups.has(group);
@@ -148,7 +159,9 @@ fn put_family<'a>(
     row: &'a FamilyRow,
 ) -> Result<(), AllocError>
     requires { IsKnown known.now }
-    ensures { OnOk result (all_told hints.new.items ≡ all_told hints.old.items ++ family_hints (rows_of known.now) (position, row.now)) }
+    ensures { OnOk result
+        (all_told hints.new.items
+        ≡ all_told hints.old.items ++ family_hints (rows_of known.now) (position, row.now)) }
 {
     let view = row.view.as_slice();
     let is_odd = !known.named.has(view);
@@ -158,7 +171,9 @@ fn put_family<'a>(
 /// Adds the hints of the users.
 fn put_users<'a>(hints: &mut Vec<Hint<'a>>, known: &Known<'a>) -> Result<(), AllocError>
     requires { IsKnown known.now }
-    ensures { OnOk result (all_told hints.new.items ≡ all_told hints.old.items ++ of_each (user_hints (rows_of known.now)) (users_of known.now)) }
+    ensures { OnOk result
+        (all_told hints.new.items
+        ≡ all_told hints.old.items ++ of_each (user_hints (rows_of known.now)) (users_of known.now)) }
 {
     for (position, row) in known.rows.users.iter().enumerate() {
         put_user(hints, known, position, row)?;
@@ -169,7 +184,10 @@ fn put_users<'a>(hints: &mut Vec<Hint<'a>>, known: &Known<'a>) -> Result<(), All
 /// Adds the hints of the group rows.
 fn put_groups<'a>(hints: &mut Vec<Hint<'a>>, known: &Known<'a>) -> Result<(), AllocError>
     requires { IsKnown known.now }
-    ensures { OnOk result (all_told hints.new.items ≡ all_told hints.old.items ++ of_each (group_hints (users_of known.now) (rows_of known.now)) (rows_of known.now).groups) }
+    ensures { OnOk result
+        (all_told hints.new.items
+        ≡ all_told hints.old.items
+        ++ of_each (group_hints (users_of known.now) (rows_of known.now)) (rows_of known.now).groups) }
 {
     for (position, row) in known.rows.access.groups.iter().enumerate() {
         put_group(hints, known, position, row)?;
@@ -180,7 +198,9 @@ fn put_groups<'a>(hints: &mut Vec<Hint<'a>>, known: &Known<'a>) -> Result<(), Al
 /// Adds the hints of the access rows.
 fn put_accesses<'a>(hints: &mut Vec<Hint<'a>>, known: &Known<'a>) -> Result<(), AllocError>
     requires { IsKnown known.now }
-    ensures { OnOk result (all_told hints.new.items ≡ all_told hints.old.items ++ of_each (access_hints (rows_of known.now)) (rows_of known.now).access) }
+    ensures { OnOk result
+        (all_told hints.new.items
+        ≡ all_told hints.old.items ++ of_each (access_hints (rows_of known.now)) (rows_of known.now).access) }
 {
     for (position, row) in known.rows.access.access.iter().enumerate() {
         put_access(hints, known, position, row)?;
@@ -191,7 +211,9 @@ fn put_accesses<'a>(hints: &mut Vec<Hint<'a>>, known: &Known<'a>) -> Result<(), 
 /// Adds the hints of the family rows.
 fn put_families<'a>(hints: &mut Vec<Hint<'a>>, known: &Known<'a>) -> Result<(), AllocError>
     requires { IsKnown known.now }
-    ensures { OnOk result (all_told hints.new.items ≡ all_told hints.old.items ++ of_each (family_hints (rows_of known.now)) (rows_of known.now).families) }
+    ensures { OnOk result
+        (all_told hints.new.items
+        ≡ all_told hints.old.items ++ of_each (family_hints (rows_of known.now)) (rows_of known.now).families) }
 {
     for (position, row) in known.rows.access.families.iter().enumerate() {
         put_family(hints, known, position, row)?;
@@ -199,8 +221,8 @@ fn put_families<'a>(hints: &mut Vec<Hint<'a>>, known: &Known<'a>) -> Result<(), 
     Ok(())
 }
 
-/// What is no fault in the rows and hardly meant: the tables in their order, the rows of each from 0, and of one row in the order of
-/// `Oddity`. Each name is looked up once. The error is want of memory.
+/// What is no fault in the rows and hardly meant: the tables in their order, the rows of each from 0, and of
+/// one row in the order of `Oddity`. Each name is looked up once. The error is want of memory.
 pub fn hints<'a>(alloc: Global, rows: &'a ConfigRows) -> Result<Vec<Hint<'a>>, AllocError>
     ensures { IfOk result (λ made. all_told made.items ≡ hints_of rows.now.users.items (tables_of rows.now.access)) }
 {

@@ -30,7 +30,8 @@ pub struct Wanted<'a> {
 
 /// The name of the group row is wanted at this level.
 fn is_wanted(wanted: &Wanted<'_>, group: &GroupRow, level: Level) -> bool
-    ensures { let is_wanted = IsWanted wanted.now.only_users wanted.now.users.now group.now.model group.now.name level in MatchBool result is_wanted (¬ is_wanted) }
+    ensures { let is_wanted = IsWanted wanted.now.only_users wanted.now.users.now group.now.model group.now.name level
+        in MatchBool result is_wanted (¬ is_wanted) }
 {
     if !wanted.only_users {
         return true;
@@ -47,7 +48,8 @@ fn is_allowed(
     context: &ContextRow,
 ) -> bool
     requires { IsReady wanted.now }
-    ensures { let allowed = Allowed (tables_of wanted.now.rows.now) (asker view group.now level context.now).message view wanted.now.variable.now AccessAllowed in
+    ensures { let allowed = Allowed (tables_of wanted.now.rows.now)
+        (asker view group.now level context.now).message view wanted.now.variable.now AccessAllowed in
         MatchBool result allowed (¬ allowed) }
 {
     let answer = wanted.access.is_access_allowed(
@@ -95,7 +97,8 @@ fn put_allowed(
 ) -> Result<(), AllocError>
     requires ready { IsReady wanted.now }
     requires wanted { IsWanted wanted.now.only_users wanted.now.users.now group.now.model group.now.name level }
-    ensures { OnOk result (GoesOn (SeesIt wanted.now) (asker view group.now level context.now ∷ []) out.old.items out.new.items) }
+    ensures { OnOk result
+        (GoesOn (SeesIt wanted.now) (asker view group.now level context.now ∷ []) out.old.items out.new.items) }
 {
     if is_allowed(wanted, view, group, level, context) {
         return put_line(alloc, out, view, group, level, context);
@@ -113,7 +116,9 @@ fn put_level(
     level: Level,
 ) -> Result<(), AllocError>
     requires { IsReady wanted.now }
-    ensures { OnOk result (GoesOn (SeesIt wanted.now) (map (asker view group.now level) wanted.now.rows.now.contexts.items) out.old.items out.new.items) }
+    ensures { OnOk result
+        (GoesOn (SeesIt wanted.now)
+        (map (asker view group.now level) wanted.now.rows.now.contexts.items) out.old.items out.new.items) }
 {
     if !is_wanted(wanted, group, level) {
         return Ok(());
@@ -133,7 +138,9 @@ fn put_group(
     group: &GroupRow,
 ) -> Result<(), AllocError>
     requires { IsReady wanted.now }
-    ensures { OnOk result (GoesOn (SeesIt wanted.now) (of_group wanted.now.rows.now.contexts.items view group.now) out.old.items out.new.items) }
+    ensures { OnOk result
+        (GoesOn (SeesIt wanted.now)
+        (of_group wanted.now.rows.now.contexts.items view group.now) out.old.items out.new.items) }
 {
     put_level(alloc, out, wanted, view, group, Level::NoAuthNoPriv)?;
     put_level(alloc, out, wanted, view, group, Level::AuthNoPriv)?;
@@ -148,7 +155,8 @@ fn put_view(
     view: ViewType,
 ) -> Result<(), AllocError>
     requires { IsReady wanted.now }
-    ensures { OnOk result (GoesOn (SeesIt wanted.now) (of_view (tables_of wanted.now.rows.now) view) out.old.items out.new.items) }
+    ensures { OnOk result
+        (GoesOn (SeesIt wanted.now) (of_view (tables_of wanted.now.rows.now) view) out.old.items out.new.items) }
 {
     'groups: for group in &wanted.rows.groups {
         put_group(alloc, out, wanted, view, group)?;
@@ -156,18 +164,22 @@ fn put_view(
     Ok(())
 }
 
-/// Who may see the variable: a line `MODEL NAME LEVEL VIEW CONTEXT` for each question of it that is answered accessAllowed, by
-/// the view, then the group row, then the level, then the context row, rows by their positions.
+/// Who may see the variable: a line `MODEL NAME LEVEL VIEW CONTEXT` for each question of it that is answered
+/// accessAllowed, by the view, then the group row, then the level, then the context row, rows by their
+/// positions.
 ///
-/// There is no line but of the names that group rows have, in the contexts that there are, since each other question is answered
-/// noGroupName or noSuchContext. For v views, g group rows and c contexts 3vgc questions are asked. The error is want of memory.
+/// There is no line but of the names that group rows have, in the contexts that there are, since each other
+/// question is answered noGroupName or noSuchContext. For v views, g group rows and c contexts 3vgc questions
+/// are asked. The error is want of memory.
 pub fn who_sees(
     alloc: Global,
     wanted: &Wanted<'_>,
     views: &[ViewType],
 ) -> Result<Vec<u8>, AllocError>
     requires { IsReady wanted.now }
-    ensures { IfOk result (λ text. TellsWho (tables_of wanted.now.rows.now) views.now wanted.now.only_users wanted.now.users.now wanted.now.variable.now text.items) }
+    ensures { IfOk result
+        (λ text. TellsWho (tables_of wanted.now.rows.now) views.now wanted.now.only_users wanted.now.users.now
+        wanted.now.variable.now text.items) }
 {
     let mut out = Vec::new(alloc);
     'views: for view in views {

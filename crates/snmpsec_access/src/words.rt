@@ -3,7 +3,8 @@
 ghost use Rattle.std.specs.Prelude.{◌≡◌, ◌<◌, ◌++◌, OnOk};
 ghost use Rattle.std.specs.List.{list_all};
 ghost use Rattle.snmpsec_access.specs.Words as spec;
-ghost use Rattle.snmpsec_access.specs.Words.{is_plain, is_own_word, digit, quoted_octet, quoted, name_word, context_word};
+ghost use Rattle.snmpsec_access.specs.Words.{is_plain, is_own_word, digit, quoted_octet, quoted, name_word};
+ghost use Rattle.snmpsec_access.specs.Words.{context_word};
 
 use std::alloc::AllocError;
 use vacm_core::{Access, ViewType};

@@ -76,6 +76,8 @@ RefusalStopsBy h s faults.CannotRead = ⊥
 RefusalStopsBy h s faults.CannotWrite = (line : List ℕ) × Refuses h line × WritesFront s.held s.written line
 RefusalStopsBy h s faults.OutOfMemory = s.written ≡ s.held
 
--- What is done where it stops with a fault: the replay of the manager that the two texts give stops, or nothing is read of the log.
+-- What is done where it stops with a fault: the replay of the manager that the two texts give stops, or
+-- nothing is read of the log.
 abbrev pub ReplayStopsBy : Printing → Handed → Streams → ReplayFault → Type 0
-ReplayStopsBy p h s fault = ((begin : Held) × Begins h begin × StopsBy p begin s fault) ⊎ ((s.left ≡ s.unread) × RefusalStopsBy h s fault)
+ReplayStopsBy p h s fault = ((begin : Held) × Begins h begin × StopsBy p begin s fault)
+    ⊎ ((s.left ≡ s.unread) × RefusalStopsBy h s fault)

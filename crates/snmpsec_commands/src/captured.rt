@@ -37,7 +37,8 @@ enum Unwanted {
     OutOfMemory,
 }
 
-/// The form of the file, where its octets aren't to tell. That of dumps of packets goes with no other word than that of dumps.
+/// The form of the file, where its octets aren't to tell. That of dumps of packets goes with no other word
+/// than that of dumps.
 fn form_asked(words: &DatagramsWords<'_>) -> Result<Option<Form>, Unwanted> {
     let form = match words.form {
         None => None,
@@ -114,8 +115,8 @@ pub(crate) fn show_file<R: Files + Input + AllocGlobal, O: Write, E: Write>(
     }
 }
 
-/// Looks at the words, reads the configuration whole and opens the file, before it looks at what they say; and then writes what `open`
-/// prints of each datagram.
+/// Looks at the words, reads the configuration whole and opens the file, before it looks at what they say;
+/// and then writes what `open` prints of each datagram.
 pub(crate) fn open_file<R: Files + Input + AllocGlobal, O: Write, E: Write>(
     rt: &R,
     config: &str,

@@ -1,4 +1,5 @@
-//! `snmpsec check-clocks` and `snmpsec check-log`: whether a file is what it is to be, and what is wrong where it isn't.
+//! `snmpsec check-clocks` and `snmpsec check-log`: whether a file is what it is to be, and what is wrong
+//! where it isn't.
 
 use crate::run::unread;
 use crate::why_files::look_at_saved;
@@ -10,8 +11,8 @@ use snmpsec_replay::{CheckedLog, ReplayFault, check_log};
 use std::alloc::{AllocError, Global};
 use std::rt::Files;
 
-/// A line `clocks FILE engine N` for each file, with the number of its engines. The first that isn't read or is refused ends it, with
-/// no line for those before.
+/// A line `clocks FILE engine N` for each file, with the number of its engines. The first that isn't read or
+/// is refused ends it, with no line for those before.
 pub(crate) fn check_clocks_files<R: Files + AllocGlobal>(
     rt: &R,
     names: &[&str],
@@ -52,7 +53,8 @@ fn explained_clocks(
     }
 }
 
-/// A line `line N` with the number of the log's lines, or the first that is at fault, and on standard error what is wrong with it.
+/// A line `line N` with the number of the log's lines, or the first that is at fault, and on standard error
+/// what is wrong with it.
 pub(crate) fn check_log_file<R: Files + AllocGlobal>(
     rt: &R,
     name: &str,

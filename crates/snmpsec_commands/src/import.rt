@@ -26,8 +26,8 @@ fn contexts_of(alloc: Global, names: &[&str]) -> Result<Option<Vec<ContextRow>>,
     Ok(Some(contexts))
 }
 
-/// Looks at the names of contexts before it opens a file, reads the files in their order and those that they name, and then prints the
-/// configuration. The first file that isn't read ends it.
+/// Looks at the names of contexts before it opens a file, reads the files in their order and those that they
+/// name, and then prints the configuration. The first file that isn't read ends it.
 pub(crate) fn import_snmpd<R: Files + AllocGlobal>(
     rt: &R,
     words: &ImportWords<'_>,

@@ -1,4 +1,5 @@
-//! `snmpsec replay`: a log of datagrams, taken by a manager that has a configuration's users and begins with saved clocks.
+//! `snmpsec replay`: a log of datagrams, taken by a manager that has a configuration's users and begins with
+//! saved clocks.
 
 ghost use Rattle.std.specs.Prelude.{◌≡◌, ◌≤◌, ℕ, decimal, IfErr, IfOk, IfSome, Some};
 ghost use Rattle.snmpsec_replay.specs.Replay.{from_line_1};
@@ -53,8 +54,9 @@ pub fn first_line_of(word: &str) -> Option<u64>
 /// configuration, which begins with the clocks that the clocks file saves, and status 0. The marks of a clocks file of
 /// version 1 were seen at `moment`, in seconds.
 ///
-/// The configuration is looked at first, then the clocks file, then the log. One of the first two that is refused is told on
-/// the writer by one line, with status 1, and nothing is read of the log. The errors are those of `replay_log`.
+/// The configuration is looked at first, then the clocks file, then the log. One of the first two that is
+/// refused is told on the writer by one line, with status 1, and nothing is read of the log. The errors are
+/// those of `replay_log`.
 pub fn replay<R: BufRead, W: Write>(
     alloc: Global,
     moment: u64,
@@ -64,14 +66,24 @@ pub fn replay<R: BufRead, W: Write>(
     reader: &mut R,
     writer: &mut W,
 ) -> Result<u8, ReplayFault>
-    ensures ok { let handed : Handed = record { moment = moment; config = config.now; name = clocks_name.now; clocks = clocks.now } in
+    ensures ok { let handed : Handed = record {
+      moment = moment;
+      config = config.now;
+      name = clocks_name.now;
+      clocks = clocks.now;
+    } in
         IfOk result (ReplayAnswers from_line_1 handed record {
           unread = R.remaining reader.old;
           left = R.remaining reader.new;
           held = W.contents writer.old;
           written = W.contents writer.new;
         }) }
-    ensures err { let handed : Handed = record { moment = moment; config = config.now; name = clocks_name.now; clocks = clocks.now } in
+    ensures err { let handed : Handed = record {
+      moment = moment;
+      config = config.now;
+      name = clocks_name.now;
+      clocks = clocks.now;
+    } in
         IfErr result (ReplayStopsBy from_line_1 handed record {
           unread = R.remaining reader.old;
           left = R.remaining reader.new;
@@ -95,7 +107,8 @@ pub fn replay<R: BufRead, W: Write>(
     )
 }
 
-/// The same with lines numbered from `printing.first`, at most 10^15; and where no lines are wanted, with the saved text alone.
+/// The same with lines numbered from `printing.first`, at most 10^15; and where no lines are wanted, with the
+/// saved text alone.
 pub fn replay_as<R: BufRead, W: Write>(
     alloc: Global,
     moment: u64,
@@ -107,14 +120,24 @@ pub fn replay_as<R: BufRead, W: Write>(
     writer: &mut W,
 ) -> Result<u8, ReplayFault>
     requires { printing.first ≤ 1000000000000000 }
-    ensures ok { let handed : Handed = record { moment = moment; config = config.now; name = clocks_name.now; clocks = clocks.now } in
+    ensures ok { let handed : Handed = record {
+      moment = moment;
+      config = config.now;
+      name = clocks_name.now;
+      clocks = clocks.now;
+    } in
         IfOk result (ReplayAnswers printing handed record {
           unread = R.remaining reader.old;
           left = R.remaining reader.new;
           held = W.contents writer.old;
           written = W.contents writer.new;
         }) }
-    ensures err { let handed : Handed = record { moment = moment; config = config.now; name = clocks_name.now; clocks = clocks.now } in
+    ensures err { let handed : Handed = record {
+      moment = moment;
+      config = config.now;
+      name = clocks_name.now;
+      clocks = clocks.now;
+    } in
         IfErr result (ReplayStopsBy printing handed record {
           unread = R.remaining reader.old;
           left = R.remaining reader.new;
@@ -143,9 +166,19 @@ fn manager_of(
     clocks_name: &str,
     clocks: &[u8],
 ) -> Result<Manager, NoManager>
-    ensures begins { let handed : Handed = record { moment = moment; config = config.now; name = clocks_name.now; clocks = clocks.now } in
+    ensures begins { let handed : Handed = record {
+      moment = moment;
+      config = config.now;
+      name = clocks_name.now;
+      clocks = clocks.now;
+    } in
         IfOk result (λ manager. Begins handed manager) }
-    ensures refused { let handed : Handed = record { moment = moment; config = config.now; name = clocks_name.now; clocks = clocks.now } in
+    ensures refused { let handed : Handed = record {
+      moment = moment;
+      config = config.now;
+      name = clocks_name.now;
+      clocks = clocks.now;
+    } in
         IfErr result (TellsNoManager handed) }
 {
     let config = match Config::read(alloc, config) {

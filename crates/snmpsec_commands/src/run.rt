@@ -56,7 +56,8 @@ fn print<O: Write, E: Write>(output: &Output, out: &mut O, err: &mut E) -> u8 {
     output.status
 }
 
-/// What the program prints, beside what a command wrote as it went. A person at a terminal is told what is wrong without asking.
+/// What the program prints, beside what a command wrote as it went. A person at a terminal is told what is
+/// wrong without asking.
 fn answer<R: Files + Env + Input + AllocGlobal, O: Write, E: Write + IsTerminal>(
     rt: &R,
     out: &mut O,
@@ -152,7 +153,8 @@ fn usage(alloc: Global, fault: &clap::Error) -> Result<Output, AllocError> {
     })
 }
 
-/// What the command that was given prints. That of replay, and of a file of datagrams, is written as it goes, but for a fault.
+/// What the command that was given prints. That of replay, and of a file of datagrams, is written as it goes,
+/// but for a fault.
 pub fn command<R: Files + Input + AllocGlobal, O: Write, E: Write>(
     rt: &R,
     command: &Command<'_>,
@@ -180,7 +182,8 @@ pub fn command<R: Files + Input + AllocGlobal, O: Write, E: Write>(
     }
 }
 
-/// What the parser's help says of a command, or of all, on standard output. A command that isn't there is told as the parser's text.
+/// What the parser's help says of a command, or of all, on standard output. A command that isn't there is
+/// told as the parser's text.
 fn manual(alloc: Global, command: Option<&str>) -> Result<Output, AllocError> {
     match manual_text(alloc, command) {
         Ok(text) => Ok(Output::out(alloc, text.into_bytes(), 0)),
@@ -194,7 +197,8 @@ fn version(alloc: Global) -> Result<Output, AllocError> {
     Ok(Output::out(alloc, text.into_bytes(), 0))
 }
 
-/// Reads the configuration whole, before it looks at another word, and then asks it, for what decides too where that is wanted.
+/// Reads the configuration whole, before it looks at another word, and then asks it, for what decides too
+/// where that is wanted.
 fn answer_on_access<R: Files + AllocGlobal>(
     rt: &R,
     words: &AccessWords<'_>,

@@ -13,8 +13,9 @@ use snmpsec_notes::cut_message;
 use std::alloc::{AllocError, Global};
 use std::rt::Files;
 
-/// The line that says what is wrong and what is wanted, of a command that was refused: of the first that is at fault, in the order in
-/// which the command looks at its words and files. None where that was told already, or where it can't be found out any more.
+/// The line that says what is wrong and what is wanted, of a command that was refused: of the first that is
+/// at fault, in the order in which the command looks at its words and files. None where that was told
+/// already, or where it can't be found out any more.
 pub(crate) fn why<R: Files + AllocGlobal>(
     rt: &R,
     command: &Command<'_>,

@@ -18,7 +18,8 @@ use Rattle.vacm_core.specs.declared.fault.VacmFault.TheVariants as vacm_faults
 use Rattle.snmpsec_config.specs.declared.table.ConfigTable.{ConfigTable}
 use Rattle.snmpsec_config.specs.declared.table.ConfigTable.TheVariants.{User, Context, Group, Access, Family}
 use Rattle.snmpsec_config.specs.declared.fault.LoadFault.{LoadFault}
-use Rattle.snmpsec_config.specs.declared.fault.LoadFault.TheVariants.{BadUser, ShortPassword, DuplicateUser, BadRow, Duplicate}
+use Rattle.snmpsec_config.specs.declared.fault.LoadFault.TheVariants.{BadUser, ShortPassword, DuplicateUser, BadRow}
+use Rattle.snmpsec_config.specs.declared.fault.LoadFault.TheVariants.{Duplicate}
 use Rattle.snmpsec_config.specs.declared.fault.KeyFault.{KeyFault}
 use Rattle.snmpsec_config.specs.declared.fault.KeyFault.TheVariants.{Unlisted, Missing, Value}
 use Rattle.snmpsec_config.specs.declared.fault.ConfigFault.{ConfigFault}
@@ -54,8 +55,9 @@ pub record Loads (text : List ℕ) (loaded : List AUser) (tables : Tables) : Typ
   pub same_users : loaded ≡ map user_rows.user_of users
   pub same_rows : HaveSameRows rows tables
 
--- What is said of a row's keys, the first that is at fault: one that isn't listed, in the order of the keys; or else a listed
--- one that is missing, or whose value isn't what is wanted there, in the order in which the table lists them.
+-- What is said of a row's keys, the first that is at fault: one that isn't listed, in the order of the keys;
+-- or else a listed one that is missing, or whose value isn't what is wanted there, in the order in which the
+-- table lists them.
 abbrev pub TellsKey : ConfigTable → Members → KeyFault → Type 0
 TellsKey of row (Unlisted key) = IsFirstUnlisted of row (string_bytes key)
 TellsKey of row (Missing key) = HasOnlyListed of row × IsFirstWrong of row key × (at row key ≡ None)
@@ -89,14 +91,17 @@ TellsRow users rows Family position wrong = TellsLoaded users rows vacm_tables.F
 
 -- The key at fault stands in the table at this position.
 abbrev pub TellsKeyAt : Members → ConfigTable → ℕ → KeyFault → Type 0
-TellsKeyAt document of position fault = (row : Members) × (get_item position (values_of document of) ≡ Some (table row)) × TellsKey of row fault
+TellsKeyAt document of position fault = (row : Members)
+    × (get_item position (values_of document of) ≡ Some (table row)) × TellsKey of row fault
 
 -- What a refusal says of the document, in the order of looking.
 abbrev pub RefusesDocument : Members → ConfigFault → Type 0
 RefusesDocument document (faults.Toml line) = ⊥
 RefusesDocument document (faults.Top key) = IsBadTop document (string_bytes key)
-RefusesDocument document (faults.BadKey of position fault) = IsBadKeyAt document of position × TellsKeyAt document of position fault
-RefusesDocument document (faults.Row of position wrong) = (users : List UserRow) × (rows : Tables) × StandsFor document users rows × TellsRow users rows of position wrong
+RefusesDocument document (faults.BadKey of position fault) = IsBadKeyAt document of position
+    × TellsKeyAt document of position fault
+RefusesDocument document (faults.Row of position wrong) = (users : List UserRow) × (rows : Tables)
+    × StandsFor document users rows × TellsRow users rows of position wrong
 RefusesDocument document faults.OutOfMemory = ⊤
 
 -- What a refusal says of the text: the first cause, or that memory ran out.
@@ -163,8 +168,10 @@ wrong_name Duplicate = codes "Duplicate"
 abbrev pub refusal_line : ConfigFault → List ℕ
 refusal_line (faults.Toml fault) = codes "refused config toml"
 refusal_line (faults.Top key) = codes "refused config top"
-refusal_line (faults.BadKey of position fault) = codes "refused config " ++ (table_name of ++ (codes " " ++ (decimal position ++ codes " BadKey")))
-refusal_line (faults.Row of position wrong) = codes "refused config " ++ (table_name of ++ (codes " " ++ (decimal position ++ (codes " " ++ wrong_name wrong))))
+refusal_line (faults.BadKey of position fault) = codes "refused config "
+    ++ (table_name of ++ (codes " " ++ (decimal position ++ codes " BadKey")))
+refusal_line (faults.Row of position wrong) = codes "refused config "
+    ++ (table_name of ++ (codes " " ++ (decimal position ++ (codes " " ++ wrong_name wrong))))
 refusal_line faults.OutOfMemory = codes "out of memory"
 
 -- This is a refusal of the text, and not want of memory.

@@ -6,7 +6,8 @@ use Rattle.snmpsec_config.specs.declared.table.ConfigKey.{ConfigKey}
 use Rattle.snmpsec_config.specs.declared.wanted.Wanted.{Wanted}
 use Rattle.snmpsec_config.specs.declared.wanted.Wanted.TheVariants as wanted
 use Rattle.snmpsec_config.specs.declared.fault.LoadFault.{LoadFault}
-use Rattle.snmpsec_config.specs.declared.fault.LoadFault.TheVariants.{BadUser, ShortPassword, DuplicateUser, BadRow, Duplicate}
+use Rattle.snmpsec_config.specs.declared.fault.LoadFault.TheVariants.{BadUser, ShortPassword, DuplicateUser, BadRow}
+use Rattle.snmpsec_config.specs.declared.fault.LoadFault.TheVariants.{Duplicate}
 use Rattle.snmpsec_config.specs.declared.fault.KeyFault.{KeyFault}
 use Rattle.snmpsec_config.specs.declared.fault.KeyFault.TheVariants.{Unlisted, Missing, Value}
 use Rattle.snmpsec_config.specs.declared.fault.ConfigFault.{ConfigFault}
@@ -42,7 +43,8 @@ index_words tables.Access = codes "an earlier row has this group, prefix, model 
 index_words tables.Family = codes "an earlier row has this view and subtree"
 
 abbrev pub wrong_words : ConfigTable → LoadFault → List ℕ
-wrong_words of BadUser = codes "a name of 1 to 32 octets is wanted, and a priv-password only beside auth and auth-password"
+wrong_words of BadUser = codes
+    "a name of 1 to 32 octets is wanted, and a priv-password only beside auth and auth-password"
 wrong_words of ShortPassword = codes "passwords of at least 8 octets are wanted"
 wrong_words of DuplicateUser = codes "an earlier user has this name"
 wrong_words of BadRow = bad_words of
@@ -60,7 +62,8 @@ near_words (Some key) = codes ", the nearest is " ++ key_name key
 -- what is told of a key
 abbrev pub IsKeyWords : ConfigTable → KeyFault → List ℕ → Type 0
 IsKeyWords of (Unlisted key) text =
-    (near : Option ConfigKey) × IfSome near (Contains (listed of)) × (text ≡ string_bytes key ++ (codes ": not a key of this table" ++ near_words near))
+    (near : Option ConfigKey) × IfSome near (Contains (listed of))
+    × (text ≡ string_bytes key ++ (codes ": not a key of this table" ++ near_words near))
 IsKeyWords of (Missing key) text = text ≡ key_name key ++ (codes ": missing, " ++ wanted_words (wanted_at of key))
 IsKeyWords of (Value key) text = text ≡ key_name key ++ (codes ": " ++ wanted_words (wanted_at of key))
 
@@ -68,7 +71,9 @@ IsKeyWords of (Value key) text = text ≡ key_name key ++ (codes ": " ++ wanted_
 abbrev pub IsWhy : ConfigFault → List ℕ → Type 0
 IsWhy (faults.Toml fault) text = ⊤
 IsWhy (faults.Top key) text =
-    text ≡ string_bytes key ++ codes ": at the top stand the arrays of tables user, context, group, access and family, and nothing else"
-IsWhy (faults.BadKey of position fault) text = (words : List ℕ) × IsKeyWords of fault words × (text ≡ row_words of position words)
+    text ≡ string_bytes key
+    ++ codes ": at the top stand the arrays of tables user, context, group, access and family, and nothing else"
+IsWhy (faults.BadKey of position fault) text = (words : List ℕ) × IsKeyWords of fault words
+    × (text ≡ row_words of position words)
 IsWhy (faults.Row of position wrong) text = text ≡ row_words of position (wrong_words of wrong)
 IsWhy faults.OutOfMemory text = text ≡ codes "out of memory"

@@ -1,5 +1,6 @@
 -- Which values are allowed at a key, and what they stand for. None is for an absent key.
-use Rattle.std.specs.Prelude.{◌≡◌, ⊤, ◌⊎◌, ℕ, pos, ◌≤◌, Bool, List, [], ◌∷◌, length, Option, Some, None, is_none, Ok, option_map}
+use Rattle.std.specs.Prelude.{◌≡◌, ⊤, ◌⊎◌, ℕ, pos, ◌≤◌, Bool, List, [], ◌∷◌, length, Option, Some, None, is_none, Ok}
+use Rattle.std.specs.Prelude.{option_map}
 use Rattle.hex.specs.Hex.{decode_of}
 use Rattle.toml.specs.Data.{Data, Members, string, integer, boolean}
 use Rattle.snmpsec_config.specs.Keys.{at, listed, FirstKey}
@@ -100,8 +101,8 @@ Allows wanted.Mask value = (mask : List ℕ) × IsMask value mask
 Allows wanted.Flag value = (flag : Bool) × IsFlag value flag
 Allows wanted.Auth value = (auth : Auth) × IsText value (auth_word auth)
 
--- The row may leave the key out. A user's protocol and password are both left out, or neither. (A mask that is left out is the
--- empty one, and so is what is wanted.)
+-- The row may leave the key out. A user's protocol and password are both left out, or neither. (A mask that
+-- is left out is the empty one, and so is what is wanted.)
 abbrev pub MayMiss : Members → ConfigKey → Type 0
 MayMiss row keys.Auth = at row keys.AuthPassword ≡ None
 MayMiss row keys.AuthPassword = at row keys.Auth ≡ None

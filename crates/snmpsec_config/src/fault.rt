@@ -1,6 +1,7 @@
 //! Why a configuration is refused, and how that is printed.
 
-ghost use Rattle.std.specs.Prelude.{◌≡◌, ◌≢◌, ◌++◌, codes, Option, Some, IfOk, IfSome, Contains, MatchBool, string_bytes};
+ghost use Rattle.std.specs.Prelude.{◌≡◌, ◌≢◌, ◌++◌, codes, Option, Some, IfOk, IfSome, Contains, MatchBool};
+ghost use Rattle.std.specs.Prelude.{string_bytes};
 ghost use Rattle.snmpsec_config.specs.Keys.{listed};
 ghost use Rattle.snmpsec_config.specs.Refusals.{user_refusal, vacm_refusal, wrong_name, refusal_line};
 ghost use Rattle.snmpsec_config.specs.Told.{wrong_words, near_words, IsKeyWords, IsWhy};
@@ -44,7 +45,9 @@ impl KeyFault {
 
 /// What is told of a key that the table doesn't list.
 fn unlisted_words(alloc: Global, table: ConfigTable, key: &str) -> Result<String, AllocError>
-    ensures { IfOk result (λ words. (near : Option AKey) × IfSome near (Contains (listed table)) × (string_bytes words ≡ key.now ++ (codes ": not a key of this table" ++ near_words near))) }
+    ensures { IfOk result
+        (λ words. (near : Option AKey) × IfSome near (Contains (listed table))
+        × (string_bytes words ≡ key.now ++ (codes ": not a key of this table" ++ near_words near))) }
 {
     match nearest(table, key) {
         Some(near) => format!(in alloc; "{key}: not a key of this table, the nearest is {near}"),
@@ -139,8 +142,8 @@ impl ConfigFault {
         matches!(self, ConfigFault::OutOfMemory)
     }
 
-    /// What is wrong with the text and what is wanted, in words, for who wrote it. Of a text that isn't TOML it is where in the
-    /// text, counted from 1, and the TOML reader's own words.
+    /// What is wrong with the text and what is wanted, in words, for who wrote it. Of a text that isn't TOML
+    /// it is where in the text, counted from 1, and the TOML reader's own words.
     pub fn why(&self, alloc: Global) -> Result<String, AllocError>
         ensures { IfOk result (λ words. IsWhy self.now (string_bytes words)) }
     {

@@ -1,12 +1,15 @@
 //! The values at the keys of a row.
 
-ghost use Rattle.std.specs.Prelude.{◌≡◌, ◌≤◌, ℕ, List, length, Ok, Bool, IfOk, IfErr, Option, MatchOption, option_map, is_some};
+ghost use Rattle.std.specs.Prelude.{◌≡◌, ◌≤◌, ℕ, List, length, Ok, Bool, IfOk, IfErr, Option, MatchOption};
+ghost use Rattle.std.specs.Prelude.{option_map, is_some};
 ghost use Rattle.hex.specs.Hex.{decode_of};
 ghost use Rattle.snmp_ber.specs.declared.level.Level.{Level as ALevel};
 ghost use Rattle.vacm_core.specs.declared.rows.Matching.{Matching as AMatching};
 ghost use Rattle.toml.specs.View.{view, table_view};
 ghost use Rattle.snmpsec_config.specs.Keys.{at};
-ghost use Rattle.snmpsec_config.specs.Values.{IsText, IsTextIfAny, IsTextOrEmpty, IsName, IsNameOrEmpty, IsModel, IsLevel, IsMatching, IsOid, IsMask, IsFlag, AreAuth, IsAuthFault, value_fault};
+ghost use Rattle.snmpsec_config.specs.Values.{IsText, IsTextIfAny, IsTextOrEmpty, IsName, IsNameOrEmpty, IsModel};
+ghost use Rattle.snmpsec_config.specs.Values.{IsLevel, IsMatching, IsOid, IsMask, IsFlag, AreAuth, IsAuthFault};
+ghost use Rattle.snmpsec_config.specs.Values.{value_fault};
 ghost use Rattle.snmpsec_config.specs.declared.table.ConfigKey.TheVariants as keys;
 ghost use Rattle.snmpsec_config.specs.Words.{auth_word};
 ghost use Rattle.usm_keys.specs.declared.auth.Auth.{Auth as AnAuth};
@@ -49,7 +52,9 @@ pub(crate) fn optional_text<'a>(
     key: ConfigKey,
 ) -> Result<Option<&'a str>, ValueFault>
     ensures ok { IfOk result (λ text. IsTextIfAny (at (table_view row.now) key) (option_map (λ t. t.now) text)) }
-    ensures fault { IfErr result (λ f. (f ≡ value_fault (at (table_view row.now) key) key) × ((text : Option (List ℕ)) → ¬ IsTextIfAny (at (table_view row.now) key) text)) }
+    ensures fault { IfErr result
+        (λ f. (f ≡ value_fault (at (table_view row.now) key) key)
+        × ((text : Option (List ℕ)) → ¬ IsTextIfAny (at (table_view row.now) key) text)) }
 {
     match value(row, key) {
         None => Ok(None),
@@ -62,14 +67,16 @@ pub(crate) fn optional_text<'a>(
 
 /// The text at a key.
 fn text<'a>(row: &'a Table, key: ConfigKey) -> Option<&'a str>
-    ensures { MatchOption result ((text : List ℕ) → ¬ IsText (at (table_view row.now) key) text) (λ text. IsText (at (table_view row.now) key) text.now) }
+    ensures { MatchOption result ((text : List ℕ) → ¬ IsText (at (table_view row.now) key) text)
+        (λ text. IsText (at (table_view row.now) key) text.now) }
 {
     value(row, key)?.as_str()
 }
 
 /// The text at a key, or the empty one where the key is absent.
 fn text_or_empty<'a>(row: &'a Table, key: ConfigKey) -> Option<&'a str>
-    ensures { MatchOption result ((text : List ℕ) → ¬ IsTextOrEmpty (at (table_view row.now) key) text) (λ text. IsTextOrEmpty (at (table_view row.now) key) text.now) }
+    ensures { MatchOption result ((text : List ℕ) → ¬ IsTextOrEmpty (at (table_view row.now) key) text)
+        (λ text. IsTextOrEmpty (at (table_view row.now) key) text.now) }
 {
     match value(row, key) {
         None => Some(""),
@@ -80,7 +87,9 @@ fn text_or_empty<'a>(row: &'a Table, key: ConfigKey) -> Option<&'a str>
 /// The text at a key.
 pub(crate) fn required_text<'a>(row: &'a Table, key: ConfigKey) -> Result<&'a str, ValueFault>
     ensures ok { IfOk result (λ text. IsText (at (table_view row.now) key) text.now) }
-    ensures fault { IfErr result (λ f. (f ≡ value_fault (at (table_view row.now) key) key) × ((text : List ℕ) → ¬ IsText (at (table_view row.now) key) text)) }
+    ensures fault { IfErr result
+        (λ f. (f ≡ value_fault (at (table_view row.now) key) key)
+        × ((text : List ℕ) → ¬ IsText (at (table_view row.now) key) text)) }
 {
     match text(row, key) {
         Some(text) => Ok(text),
@@ -91,7 +100,9 @@ pub(crate) fn required_text<'a>(row: &'a Table, key: ConfigKey) -> Result<&'a st
 /// The name at a key, of at most 32 octets.
 pub(crate) fn name(row: &Table, key: ConfigKey) -> Result<Name, ValueFault>
     ensures ok { IfOk result (λ name. IsName (at (table_view row.now) key) name) }
-    ensures fault { IfErr result (λ f. (f ≡ value_fault (at (table_view row.now) key) key) × ((name : List ℕ) → ¬ IsName (at (table_view row.now) key) name)) }
+    ensures fault { IfErr result
+        (λ f. (f ≡ value_fault (at (table_view row.now) key) key)
+        × ((name : List ℕ) → ¬ IsName (at (table_view row.now) key) name)) }
 {
     let Some(text) = text(row, key) else {
         return Err(fault(row, key));
@@ -105,7 +116,9 @@ pub(crate) fn name(row: &Table, key: ConfigKey) -> Result<Name, ValueFault>
 /// The name at a key, empty where the key is absent.
 pub(crate) fn name_or_empty(row: &Table, key: ConfigKey) -> Result<Name, ValueFault>
     ensures ok { IfOk result (λ name. IsNameOrEmpty (at (table_view row.now) key) name) }
-    ensures fault { IfErr result (λ f. (f ≡ value_fault (at (table_view row.now) key) key) × ((name : List ℕ) → ¬ IsNameOrEmpty (at (table_view row.now) key) name)) }
+    ensures fault { IfErr result
+        (λ f. (f ≡ value_fault (at (table_view row.now) key) key)
+        × ((name : List ℕ) → ¬ IsNameOrEmpty (at (table_view row.now) key) name)) }
 {
     let Some(text) = text_or_empty(row, key) else {
         return Err(fault(row, key));
@@ -119,7 +132,9 @@ pub(crate) fn name_or_empty(row: &Table, key: ConfigKey) -> Result<Name, ValueFa
 /// The number of a security model, or 0.
 pub(crate) fn model(row: &Table, key: ConfigKey) -> Result<u32, ValueFault>
     ensures ok { IfOk result (λ model. IsModel (at (table_view row.now) key) model) }
-    ensures fault { IfErr result (λ f. (f ≡ value_fault (at (table_view row.now) key) key) × ((model : ℕ) → ¬ IsModel (at (table_view row.now) key) model)) }
+    ensures fault { IfErr result
+        (λ f. (f ≡ value_fault (at (table_view row.now) key) key)
+        × ((model : ℕ) → ¬ IsModel (at (table_view row.now) key) model)) }
 {
     match number(row, key) {
         Some(model) => Ok(model),
@@ -129,7 +144,8 @@ pub(crate) fn model(row: &Table, key: ConfigKey) -> Result<u32, ValueFault>
 
 /// The number of a security model, or 0.
 fn number(row: &Table, key: ConfigKey) -> Option<u32>
-    ensures { MatchOption result ((model : ℕ) → ¬ IsModel (at (table_view row.now) key) model) (IsModel (at (table_view row.now) key)) }
+    ensures { MatchOption result ((model : ℕ) → ¬ IsModel (at (table_view row.now) key) model)
+        (IsModel (at (table_view row.now) key)) }
 {
     let number = value(row, key)?.as_integer()?;
     let model = u32::try_from(number).ok()?;
@@ -142,7 +158,9 @@ fn number(row: &Table, key: ConfigKey) -> Option<u32>
 /// The security level whose name stands at a key.
 pub(crate) fn level(row: &Table, key: ConfigKey) -> Result<Level, ValueFault>
     ensures ok { IfOk result (IsLevel (at (table_view row.now) key)) }
-    ensures fault { IfErr result (λ f. (f ≡ value_fault (at (table_view row.now) key) key) × ((level : ALevel) → ¬ IsLevel (at (table_view row.now) key) level)) }
+    ensures fault { IfErr result
+        (λ f. (f ≡ value_fault (at (table_view row.now) key) key)
+        × ((level : ALevel) → ¬ IsLevel (at (table_view row.now) key) level)) }
 {
     let Some(text) = text(row, key) else {
         return Err(fault(row, key));
@@ -156,7 +174,9 @@ pub(crate) fn level(row: &Table, key: ConfigKey) -> Result<Level, ValueFault>
 /// How a context prefix is compared.
 pub(crate) fn matching(row: &Table, key: ConfigKey) -> Result<Matching, ValueFault>
     ensures ok { IfOk result (IsMatching (at (table_view row.now) key)) }
-    ensures fault { IfErr result (λ f. (f ≡ value_fault (at (table_view row.now) key) key) × ((matching : AMatching) → ¬ IsMatching (at (table_view row.now) key) matching)) }
+    ensures fault { IfErr result
+        (λ f. (f ≡ value_fault (at (table_view row.now) key) key)
+        × ((matching : AMatching) → ¬ IsMatching (at (table_view row.now) key) matching)) }
 {
     let Some(text) = text(row, key) else {
         return Err(fault(row, key));
@@ -170,7 +190,9 @@ pub(crate) fn matching(row: &Table, key: ConfigKey) -> Result<Matching, ValueFau
 /// The identifier whose dotted text stands at a key.
 pub(crate) fn oid(row: &Table, key: ConfigKey) -> Result<Oid, ValueFault>
     ensures ok { IfOk result (λ oid. IsOid (at (table_view row.now) key) oid) }
-    ensures fault { IfErr result (λ f. (f ≡ value_fault (at (table_view row.now) key) key) × ((arcs : List ℕ) → ¬ IsOid (at (table_view row.now) key) arcs)) }
+    ensures fault { IfErr result
+        (λ f. (f ≡ value_fault (at (table_view row.now) key) key)
+        × ((arcs : List ℕ) → ¬ IsOid (at (table_view row.now) key) arcs)) }
 {
     let Some(text) = text(row, key) else {
         return Err(fault(row, key));
@@ -184,7 +206,9 @@ pub(crate) fn oid(row: &Table, key: ConfigKey) -> Result<Oid, ValueFault>
 /// The truth value at a key.
 pub(crate) fn flag(row: &Table, key: ConfigKey) -> Result<bool, ValueFault>
     ensures ok { IfOk result (IsFlag (at (table_view row.now) key)) }
-    ensures fault { IfErr result (λ f. (f ≡ value_fault (at (table_view row.now) key) key) × ((flag : Bool) → ¬ IsFlag (at (table_view row.now) key) flag)) }
+    ensures fault { IfErr result
+        (λ f. (f ≡ value_fault (at (table_view row.now) key) key)
+        × ((flag : Bool) → ¬ IsFlag (at (table_view row.now) key) flag)) }
 {
     let Some(value) = value(row, key) else {
         return Err(fault(row, key));
@@ -197,7 +221,8 @@ pub(crate) fn flag(row: &Table, key: ConfigKey) -> Result<bool, ValueFault>
 
 /// The mask that these digits spell, in hex of either case.
 fn mask_of(digits: &str) -> Option<Mask>
-    ensures { MatchOption result ((mask : List ℕ) → decode_of digits.now ≡ Ok mask → length mask ≤ 16 → ⊥) (λ mask. (decode_of digits.now ≡ Ok mask) × (length mask ≤ 16)) }
+    ensures { MatchOption result ((mask : List ℕ) → decode_of digits.now ≡ Ok mask → length mask ≤ 16 → ⊥)
+        (λ mask. (decode_of digits.now ≡ Ok mask) × (length mask ≤ 16)) }
 {
     let count = digits.len() / 2;
     if count > MASK_MAX {
@@ -212,7 +237,9 @@ fn mask_of(digits: &str) -> Option<Mask>
 /// The mask at a key, empty where the key is absent.
 pub(crate) fn mask(row: &Table, key: ConfigKey) -> Result<Mask, ValueFault>
     ensures ok { IfOk result (λ mask. IsMask (at (table_view row.now) key) mask) }
-    ensures fault { IfErr result (λ f. (f ≡ value_fault (at (table_view row.now) key) key) × ((mask : List ℕ) → ¬ IsMask (at (table_view row.now) key) mask)) }
+    ensures fault { IfErr result
+        (λ f. (f ≡ value_fault (at (table_view row.now) key) key)
+        × ((mask : List ℕ) → ¬ IsMask (at (table_view row.now) key) mask)) }
 {
     let Some(digits) = text_or_empty(row, key) else {
         return Err(fault(row, key));
@@ -226,7 +253,9 @@ pub(crate) fn mask(row: &Table, key: ConfigKey) -> Result<Mask, ValueFault>
 /// The protocol whose name stands at a key.
 fn protocol(row: &Table, key: ConfigKey) -> Result<Auth, ValueFault>
     ensures ok { IfOk result (λ auth. IsText (at (table_view row.now) key) (auth_word auth)) }
-    ensures fault { IfErr result (λ f. (f ≡ value_fault (at (table_view row.now) key) key) × ((auth : AnAuth) → ¬ IsText (at (table_view row.now) key) (auth_word auth))) }
+    ensures fault { IfErr result
+        (λ f. (f ≡ value_fault (at (table_view row.now) key) key)
+        × ((auth : AnAuth) → ¬ IsText (at (table_view row.now) key) (auth_word auth))) }
 {
     let Some(text) = text(row, key) else {
         return Err(fault(row, key));
@@ -246,7 +275,9 @@ fn has(row: &Table, key: ConfigKey) -> bool
 
 /// A user's protocol and password for authentication: both or neither.
 pub(crate) fn auth<'a>(row: &'a Table) -> Result<Option<(Auth, &'a str)>, ValueFault>
-    ensures ok { IfOk result (λ own. AreAuth (at (table_view row.now) keys.Auth) (at (table_view row.now) keys.AuthPassword) (option_map (λ o. (o.0, o.1.now)) own)) }
+    ensures ok { IfOk result
+        (λ own. AreAuth (at (table_view row.now) keys.Auth) (at (table_view row.now) keys.AuthPassword)
+        (option_map (λ o. (o.0, o.1.now)) own)) }
     ensures fault { IfErr result (IsAuthFault (table_view row.now)) }
 {
     if !has(row, ConfigKey::Auth) {

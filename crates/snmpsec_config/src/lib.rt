@@ -1,7 +1,8 @@
 //! The configuration: users, contexts, groups, access rows and view families, as arrays of tables in TOML.
 //!
-//! `Config::read` promises which rows a text stands for, and why a text is refused. A fault of a key says which key and what is
-//! wanted there. `AccessConfig::read` does the same without the keys of the users' passwords.
+//! `Config::read` promises which rows a text stands for, and why a text is refused. A fault of a key says
+//! which key and what is wanted there. `AccessConfig::read` does the same without the keys of the users'
+//! passwords.
 //!
 //! ```
 //! use snmpsec_config::Config;

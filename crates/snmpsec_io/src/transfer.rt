@@ -32,14 +32,16 @@ pub fn read_some<R: Read>(reader: &mut R, buf: &mut [u8]) -> Result<usize, Faile
     Err(Failed)
 }
 
-/// Fills the buffer as far as the reader goes, and returns how many octets it read. They are fewer than the buffer has room for
-/// only at the end.
+/// Fills the buffer as far as the reader goes, and returns how many octets it read. They are fewer than the
+/// buffer has room for only at the end.
 pub fn read_full<R: Read>(reader: &mut R, buf: &mut [u8]) -> Result<usize, Failed>
     ensures room { length buf.new ≡ length buf.old }
     ensures bound { IfOk result (λ n. n ≤ length buf.new) }
     ensures ok { IfOk result (λ n. Consumes (R.remaining reader.old) (R.remaining reader.new) (take n buf.new)) }
     ensures end { IfOk result (λ n. n < length buf.new → IsAtEnd (R.remaining reader.new)) }
-    ensures err { OnErr result ((n : ℕ) × (n < length buf.new) × Consumes (R.remaining reader.old) (R.remaining reader.new) (take n buf.new)) }
+    ensures err { OnErr result
+        ((n : ℕ) × (n < length buf.new)
+        × Consumes (R.remaining reader.old) (R.remaining reader.new) (take n buf.new)) }
 {
     let mut count = 0;
     while count < buf.len() {

@@ -25,7 +25,8 @@ pub enum FileFault {
 
 /// Reads all that is left, at most `limit` octets.
 ///
-/// The errors are CannotRead, where a read fails, or is interrupted 1,000 times in a row, or more is left than that; and OutOfMemory.
+/// The errors are CannotRead, where a read fails, or is interrupted 1,000 times in a row, or more is left
+/// than that; and OutOfMemory.
 pub fn read_whole<R: Read>(
     alloc: Global,
     reader: &mut R,
@@ -48,7 +49,8 @@ pub fn read_whole_behind<R: Read>(
     requires { length front.now ≤ limit }
     ensures bound { IfOk result (λ bytes. length bytes.items ≤ limit) }
     ensures all { (unread : Option (List ℕ)) → Consumes unread (R.remaining reader.old) front.now
-        → IfOk result (λ bytes. Consumes unread (R.remaining reader.new) bytes.items × IsAtEnd (R.remaining reader.new)) }
+        → IfOk result (λ bytes. Consumes unread (R.remaining reader.new) bytes.items
+        × IsAtEnd (R.remaining reader.new)) }
 {
     let Ok(mut bytes) = Vec::from_slice(alloc, front) else {
         return Err(FileFault::OutOfMemory);

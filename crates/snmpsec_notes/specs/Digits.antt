@@ -14,7 +14,8 @@ pub record ArePairs (word : List ℕ) : Type 0 where
   pub even : length word % 2 ≡ 0
   pub digits : AreDigits word (length word)
 
--- The character of this number, from 1, is the first that is no hex digit. Those before it are digits, so its octets begin at their number.
+-- The character of this number, from 1, is the first that is no hex digit. Those before it are digits, so its
+-- octets begin at their number.
 pub record BeginsOtherwise (word : List ℕ) (at : ℕ) : Type 0 where
   pub place : ℕ
   pub number : at ≡ suc place

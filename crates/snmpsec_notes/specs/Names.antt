@@ -20,8 +20,8 @@ lines_text ls = flat_map (λ l. l.0 ++ 10 ∷ []) ls
 abbrev pub named_text : List NamedLine → List ℕ
 named_text ls = flat_map (λ l. l.0 ++ (l.1 ++ 10 ∷ [])) ls
 
--- Each line of the text stands there as it is, with a note behind it and then its line feed, and what is behind the last line feed stands
--- at the end.
+-- Each line of the text stands there as it is, with a note behind it and then its line feed, and what is
+-- behind the last line feed stands at the end.
 pub record AddsNames (text named : List ℕ) : Type 0 where
   pub lines : List NamedLine
   pub rest : List ℕ

@@ -20,14 +20,16 @@ parts word = slice_split (λ octet. octet == 46) word
 
 -- ---- one part, whose number from 1 is given
 
--- It is no number, and this is why: nothing is there; or it has something else than digits; or digits alone, so that the number is too
--- great or has a 0 in front.
+-- It is no number, and this is why: nothing is there; or it has something else than digits; or digits alone,
+-- so that the number is too great or has a 0 in front.
 abbrev pub TellsNumber : ℕ → List ℕ → VariableFault → Type 0
 TellsNumber at part faults.Empty = ⊥
 TellsNumber at part (faults.DotInFront rest) = ⊥
 TellsNumber at part (faults.Missing place) = (place ≡ at) × (part ≡ [])
-TellsNumber at part (faults.NoNumber place word) = (place ≡ at) × (word.now ≡ part) × (IsNumber part → ⊥) × (list_all is_ascii_digit part ≡ false)
-TellsNumber at part (faults.OutOfRange place word) = (place ≡ at) × (word.now ≡ part) × (IsNumber part → ⊥) × (list_all is_ascii_digit part ≡ true)
+TellsNumber at part (faults.NoNumber place word) = (place ≡ at) × (word.now ≡ part) × (IsNumber part → ⊥)
+    × (list_all is_ascii_digit part ≡ false)
+TellsNumber at part (faults.OutOfRange place word) = (place ≡ at) × (word.now ≡ part) × (IsNumber part → ⊥)
+    × (list_all is_ascii_digit part ≡ true)
 TellsNumber at part (faults.TooMany count) = ⊥
 
 -- ---- the word
@@ -40,11 +42,13 @@ pub record TellsPart (word : List ℕ) (fault : VariableFault) : Type 0 where
   pub before : AllByRecursion IsNumber (take place (parts word))
   pub told : TellsNumber (suc place) part fault
 
--- The fault is the word's: it is empty; it begins with a dot; a part of it is the first that is no number; or all are, and there are over 128.
+-- The fault is the word's: it is empty; it begins with a dot; a part of it is the first that is no number; or
+-- all are, and there are over 128.
 abbrev pub TellsVariable : List ℕ → VariableFault → Type 0
 TellsVariable word faults.Empty = word ≡ []
 TellsVariable word (faults.DotInFront rest) = word ≡ 46 ∷ rest.now
 TellsVariable word (faults.Missing at) = TellsPart word (faults.Missing at)
 TellsVariable word (faults.NoNumber at part) = TellsPart word (faults.NoNumber at part)
 TellsVariable word (faults.OutOfRange at part) = TellsPart word (faults.OutOfRange at part)
-TellsVariable word (faults.TooMany count) = (count ≡ length (parts word)) × (128 < count) × AllByRecursion IsNumber (parts word)
+TellsVariable word (faults.TooMany count) = (count ≡ length (parts word)) × (128 < count)
+    × AllByRecursion IsNumber (parts word)

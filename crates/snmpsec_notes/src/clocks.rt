@@ -1,5 +1,5 @@
-//! Whether a text is saved clocks, and what is wrong with its line where it isn't: the heading, or `ENGINE BOOTS TIME` and, behind the
-//! heading `snmp-clocks 2`, the moment `SEEN`.
+//! Whether a text is saved clocks, and what is wrong with its line where it isn't: the heading, or `ENGINE
+//! BOOTS TIME` and, behind the heading `snmp-clocks 2`, the moment `SEEN`.
 
 ghost use Rattle.std.specs.Prelude.{IfOk};
 ghost use Rattle.snmpsec_notes.specs.Clocks.{TellsClocks};
@@ -24,8 +24,8 @@ const GREATEST: u64 = 2_147_483_647;
 pub enum CheckedClocks {
     /// Saved clocks.
     Whole,
-    /// The line of this number, from 1, is the first that is out of its form, or whose engine isn't above that of the line before; and
-    /// what is wrong with it.
+    /// The line of this number, from 1, is the first that is out of its form, or whose engine isn't above
+    /// that of the line before; and what is wrong with it.
     Faulty { number: usize, why: String },
 }
 
@@ -46,7 +46,8 @@ enum ClocksFault<'a> {
     NoLineFeed,
 }
 
-/// Whether octets are saved clocks, and which line is the first that isn't as it has to be, and why. The error is want of memory.
+/// Whether octets are saved clocks, and which line is the first that isn't as it has to be, and why. The
+/// error is want of memory.
 pub fn check_clocks(alloc: Global, octets: &[u8]) -> Result<CheckedClocks, AllocError>
     ensures { IfOk result (TellsClocks octets.now) }
 {
@@ -68,7 +69,8 @@ fn why_line(alloc: Global, text: &str, number: usize) -> Result<String, AllocErr
     }
 }
 
-/// What is wrong with the line of this number, from 1, of a text of saved clocks. None where it is in its form, or there is no such line.
+/// What is wrong with the line of this number, from 1, of a text of saved clocks. None where it is in its
+/// form, or there is no such line.
 fn clocks_fault(text: &str, number: usize) -> Option<ClocksFault<'_>> {
     let heading = text.split('\n').next()?;
     let line = text.split('\n').nth(number.checked_sub(1)?)?;

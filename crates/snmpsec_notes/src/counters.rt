@@ -5,7 +5,8 @@ use std::alloc::{AllocError, Global};
 /// The tag of a Counter32, in two hex digits.
 const COUNTER: &str = "41";
 
-/// The counters of RFC 3411, section 5 (snmpMPDMIB of RFC 3412), of targets (RFC 3413, section 4.1.2) and of the user-based security model (RFC 3414, section 5).
+/// The counters of RFC 3411, section 5 (snmpMPDMIB of RFC 3412), of targets (RFC 3413, section 4.1.2) and of
+/// the user-based security model (RFC 3414, section 5).
 static COUNTERS: [(&str, &str); 11] = [
     ("1.3.6.1.6.3.15.1.1.1.0", "usmStatsUnsupportedSecLevels"),
     ("1.3.6.1.6.3.15.1.1.2.0", "usmStatsNotInTimeWindows"),
@@ -20,8 +21,8 @@ static COUNTERS: [(&str, &str); 11] = [
     ("1.3.6.1.6.3.12.1.5.0", "snmpUnknownContexts"),
 ];
 
-/// The name of the counter that a binding tells, given as its name, its tag and its content, with its value where it is a Counter32; or
-/// nothing.
+/// The name of the counter that a binding tells, given as its name, its tag and its content, with its value
+/// where it is a Counter32; or nothing.
 pub(crate) fn counter_name(alloc: Global, binding: &str) -> Result<String, AllocError> {
     let none = String::new(alloc);
     let Some((variable, value)) = binding.split_once(' ') else {

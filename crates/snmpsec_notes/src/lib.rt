@@ -1,5 +1,5 @@
-//! What is told beside what the commands print: what is wrong with a word, with a line of saved clocks or with a datagram, and the names
-//! of what is shown.
+//! What is told beside what the commands print: what is wrong with a word, with a line of saved clocks or
+//! with a datagram, and the names of what is shown.
 //!
 //! ```
 //! use snmpsec_notes::{cut_message, nearest};

@@ -12,9 +12,9 @@ use std::fmt;
 
 /// The text with the name behind each line that has one: ` # NAME`. Each line stands as it was.
 ///
-/// The line of a PDU has the name of its type (RFC 3416, section 3), and that of a binding the name of the counter that a report tells (RFC
-/// 3412 and RFC 3414, section 5), with its value. Those of a user and of a context have the octets as text between quotes, where they
-/// are UTF-8.
+/// The line of a PDU has the name of its type (RFC 3416, section 3), and that of a binding the name of the
+/// counter that a report tells (RFC 3412 and RFC 3414, section 5), with its value. Those of a user and of a
+/// context have the octets as text between quotes, where they are UTF-8.
 pub fn with_names(alloc: Global, text: &[u8]) -> Result<Vec<u8>, AllocError>
     ensures { IfOk result (λ named. AddsNames text.now named.items) }
 {

@@ -28,8 +28,8 @@ pub enum VariableFault<'a> {
     TooMany { count: usize },
 }
 
-/// What is wrong with a word that has to be 1 to 128 numbers of 32 bits with dots between, in decimal without sign or leading zeros. None
-/// where it is.
+/// What is wrong with a word that has to be 1 to 128 numbers of 32 bits with dots between, in decimal without
+/// sign or leading zeros. None where it is.
 pub fn variable_fault(word: &str) -> Option<VariableFault<'_>>
     ensures exact { MatchOption result (IsDotted word.now) (TellsVariable word.now) }
 {

@@ -42,7 +42,8 @@ ChecksConfig config printed = Counts config printed ⊎ Explains config printed
 
 -- ---- where hints are wanted
 
--- The numbers of the rows that the configuration stands for are printed, and on standard error a line for each hint of these rows.
+-- The numbers of the rows that the configuration stands for are printed, and on standard error a line for
+-- each hint of these rows.
 pub record CountsHinted (config : List ℕ) (printed : Printed) : Type 0 where
   pub users : List UserRow
   pub rows : Tables

@@ -29,18 +29,22 @@ has_no_flag h = not h.auth && not h.privacy && not h.reportable
 -- the names of the flags that are set, or `-`
 abbrev pub flags_line : Header → List ℕ
 flags_line h =
-    codes "flags" ++ (flag_text h.auth (codes " auth") ++ (flag_text h.privacy (codes " priv") ++ (flag_text h.reportable (codes " reportable")
+    codes "flags" ++ (flag_text h.auth (codes " auth")
+    ++ (flag_text h.privacy (codes " priv") ++ (flag_text h.reportable (codes " reportable")
     ++ (flag_text (has_no_flag h) (codes " -") ++ codes "\n"))))
 
 abbrev pub header_lines : Header → List ℕ
-header_lines h = codes "id " ++ (decimal h.id ++ (codes "\nmax-size " ++ (decimal h.max_size ++ (codes "\n" ++ flags_line h))))
+header_lines h = codes "id "
+    ++ (decimal h.id ++ (codes "\nmax-size " ++ (decimal h.max_size ++ (codes "\n" ++ flags_line h))))
 
 -- ---- msgSecurityParameters
 
 abbrev pub security_lines : Fields → List ℕ
 security_lines s =
-    octets_line (codes "engine") s.engine ++ (codes "boots " ++ (decimal s.boots ++ (codes "\ntime " ++ (decimal s.time ++ (codes "\n"
-    ++ (octets_line (codes "user") s.user ++ (octets_line (codes "auth") s.auth ++ octets_line (codes "privacy") s.salt)))))))
+    octets_line (codes "engine") s.engine
+    ++ (codes "boots " ++ (decimal s.boots ++ (codes "\ntime " ++ (decimal s.time ++ (codes "\n"
+    ++ (octets_line (codes "user") s.user
+    ++ (octets_line (codes "auth") s.auth ++ octets_line (codes "privacy") s.salt)))))))
 
 abbrev pub message_lines : Header → Fields → List ℕ
 message_lines h s = header_lines h ++ security_lines s
@@ -50,15 +54,18 @@ message_lines h s = header_lines h ++ security_lines s
 -- the name of a variable, and the tag and the content of its value
 abbrev pub binding_line : Variable → List ℕ
 binding_line v =
-    codes "binding " ++ (dotted v.name ++ (codes " " ++ (encode_lower (v.tag ∷ []) ++ (codes " " ++ (octets_text v.content ++ codes "\n")))))
+    codes "binding " ++ (dotted v.name
+    ++ (codes " " ++ (encode_lower (v.tag ∷ []) ++ (codes " " ++ (octets_text v.content ++ codes "\n")))))
 
 -- the tag of a PDU, and its three numbers
 abbrev pub pdu_line : PduParts → List ℕ
 pdu_line p =
-    codes "pdu " ++ (encode_lower (p.tag ∷ []) ++ (codes " " ++ (signed_decimal p.id ++ (codes " " ++ (signed_decimal p.second
+    codes "pdu " ++ (encode_lower (p.tag ∷ [])
+    ++ (codes " " ++ (signed_decimal p.id ++ (codes " " ++ (signed_decimal p.second
     ++ (codes " " ++ (signed_decimal p.third ++ codes "\n")))))))
 
 -- the contexts, the PDU, and each of its bindings
 abbrev pub scoped_lines : List ℕ → List ℕ → PduParts → List ℕ
 scoped_lines engine name p =
-    octets_line (codes "context-engine") engine ++ (octets_line (codes "context") name ++ (pdu_line p ++ flat_map binding_line (variables_of p.list)))
+    octets_line (codes "context-engine") engine
+    ++ (octets_line (codes "context") name ++ (pdu_line p ++ flat_map binding_line (variables_of p.list)))

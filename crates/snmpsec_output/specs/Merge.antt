@@ -20,11 +20,12 @@ refused_line name n = codes "refused clocks " ++ (name ++ (codes " line " ++ (de
 
 -- what is printed for a fault; for want of memory nothing is
 abbrev pub TellsFault : List ℕ → ClockFault → Printed → Type 0
-TellsFault name (clock_faults.Line n) printed = (printed.out ≡ refused_line name n) × (printed.err ≡ []) × (printed.status ≡ 1)
+TellsFault name (clock_faults.Line n) printed = (printed.out ≡ refused_line name n) × (printed.err ≡ [])
+    × (printed.status ≡ 1)
 TellsFault name clock_faults.OutOfMemory printed = ⊥
 
--- Each file is saved clocks, and the text of the join of their maps is printed. The marks of a file of version 1 were seen at the
--- moment.
+-- Each file is saved clocks, and the text of the join of their maps is printed. The marks of a file of
+-- version 1 were seen at the moment.
 pub record Merges (moment : ℕ) (files : List NamedText) (printed : Printed) : Type 0 where
   pub out : IsMergeOf moment (texts_of files) printed.out
   pub err : printed.err ≡ []

@@ -30,7 +30,8 @@ OpensBy users w printed = Opened users w printed ⊎ RefusesOpening users w prin
 
 -- by the users of the configuration, with the keys of their passwords
 abbrev pub OpensFrom : List ℕ → List ℕ → Printed → Type 0
-OpensFrom config w printed = (users : List User) × (tables : Tables) × Loads config users tables × OpensBy users w printed
+OpensFrom config w printed = (users : List User) × (tables : Tables) × Loads config users tables
+    × OpensBy users w printed
 
 -- The datagram of the word is opened, or the configuration is refused.
 pub record OpensWord (config digits : List ℕ) (printed : Printed) : Type 0 where

@@ -1,5 +1,6 @@
 -- What a message says that is opened by the keys of users.
-use Rattle.std.specs.Prelude.{◌≡◌, ℕ, List, ◌++◌, codes, length, true, Option, Some, None, Result, Ok, Err, String, string_bytes}
+use Rattle.std.specs.Prelude.{◌≡◌, ℕ, List, ◌++◌, codes, length, true, Option, Some, None, Result, Ok, Err, String}
+use Rattle.std.specs.Prelude.{string_bytes}
 use Rattle.snmp_message.specs.Level.{level_of}
 use Rattle.snmp_message.specs.Scoped.{Contexts}
 use Rattle.snmp_msg.specs.Pdu.{PduParts}
@@ -16,7 +17,8 @@ use Rattle.snmpsec_output.specs.Lines.{message_lines, scoped_lines}
 -- the lines of the message, of its level, and of the ScopedPDU in it
 abbrev pub opened_lines : Verified → Contexts → PduParts → List ℕ
 opened_lines v s p =
-    message_lines v.parts.header v.fields ++ (codes "level " ++ (level_word (level_of v.parts.header) ++ (codes "\n" ++ scoped_lines s.engine s.name p)))
+    message_lines v.parts.header v.fields
+    ++ (codes "level " ++ (level_word (level_of v.parts.header) ++ (codes "\n" ++ scoped_lines s.engine s.name p)))
 
 -- The lines are those of the message and of the ScopedPDU that the text begins with.
 abbrev pub TellsText : Verified → List ℕ → List ℕ → Type 0
@@ -27,9 +29,9 @@ abbrev pub Tells : Verified → List ℕ → Result (List ℕ) ℕ → Type 0
 Tells v text (Ok lines) = TellsText v text lines
 Tells v text (Err n) = ⊥
 
--- The table of a manager without its time window (RFC 3412, section 7.2, and RFC 3414, section 3.2): the refusals down to the
--- digest, the row on the salt, and those on the ScopedPDU that the message was opened to. Where none of them refuses the
--- message, its lines are given.
+-- The table of a manager without its time window (RFC 3412, section 7.2, and RFC 3414, section 3.2): the
+-- refusals down to the digest, the row on the salt, and those on the ScopedPDU that the message was opened
+-- to. Where none of them refuses the message, its lines are given.
 unfoldable pub Opens : List User → List ℕ → Result (List ℕ) ℕ → Type 0
 Opens users w =
     Then (Verifies manager users w) (λ v.

@@ -70,7 +70,8 @@ abbrev pub IsFirstWrong : List (List ℕ) → Argument → Type 0
 IsFirstWrong words Model = IsNoModel (word_at words 0)
 IsFirstWrong words LevelWord = ((model : ℕ) × IsModelWord (word_at words 0) model) × IsNoLevel (word_at words 2)
 IsFirstWrong words View =
-    ((model : ℕ) × IsModelWord (word_at words 0) model) × ((level : Level) × (word_at words 2 ≡ level_word level)) × IsNoView (word_at words 3)
+    ((model : ℕ) × IsModelWord (word_at words 0) model) × ((level : Level) × (word_at words 2 ≡ level_word level))
+    × IsNoView (word_at words 3)
 IsFirstWrong words Oid =
     ((model : ℕ) × IsModelWord (word_at words 0) model) × ((level : Level) × (word_at words 2 ≡ level_word level))
     × ((view : ViewType) × (word_at words 3 ≡ view_word view)) × IsNoOid (word_at words 5)
@@ -113,15 +114,17 @@ pub record TellsRefused (config : List ℕ) (printed : Printed) : Type 0 where
   pub err : printed.err ≡ []
   pub status : printed.status ≡ 1
 
--- The question is answered over the rows that the configuration stands for. None of them is at fault, so that of each index
--- there is one.
+-- The question is answered over the rows that the configuration stands for. None of them is at fault, so that
+-- of each index there is one.
 abbrev pub AnswersFrom : (Tables → Asked → Printed → Type 0) → List ℕ → Asked → Printed → Type 0
-AnswersFrom Tells config asked printed = (users : List UserRow) × (rows : Tables) × SaysSound config users rows × Tells rows asked printed
+AnswersFrom Tells config asked printed = (users : List UserRow) × (rows : Tables) × SaysSound config users rows
+    × Tells rows asked printed
 
 -- A word out of its form is told first, then a configuration that is refused, and else the question is answered.
 abbrev pub AnswersAs : (Tables → Asked → Printed → Type 0) → List ℕ → List (List ℕ) → Printed → Type 0
 AnswersAs Tells config words printed =
-    TellsWord words printed ⊎ ((asked : Asked) × Asks words asked × (TellsRefused config printed ⊎ AnswersFrom Tells config asked printed))
+    TellsWord words printed
+    ⊎ ((asked : Asked) × Asks words asked × (TellsRefused config printed ⊎ AnswersFrom Tells config asked printed))
 
 abbrev pub ChecksAccess : List ℕ → List (List ℕ) → Printed → Type 0
 ChecksAccess config words printed = AnswersAs Answers config words printed

@@ -25,7 +25,8 @@ place_text None = codes ""
 
 -- the line of a refusal, without its line feed: its number and name, and its place where it has one
 abbrev pub refused_text : RefusedAt → List ℕ
-refused_text r = codes "refused " ++ (decimal (refusal_number r.refusal) ++ (codes " " ++ (refusal_name r.refusal ++ place_text r.at)))
+refused_text r = codes "refused "
+    ++ (decimal (refusal_number r.refusal) ++ (codes " " ++ (refusal_name r.refusal ++ place_text r.at)))
 
 abbrev pub refused_line : RefusedAt → List ℕ
 refused_line r = refused_text r ++ codes "\n"

@@ -14,7 +14,8 @@ pub record TellsModel (word : List ℕ) (printed : Printed) : Type 0 where
   pub err : printed.err ≡ codes "snmpsec: bad word MODEL\n"
   pub status : printed.status ≡ 2
 
--- What the name sees is printed, over the rows that the configuration stands for; the status is 0 where a line includes something.
+-- What the name sees is printed, over the rows that the configuration stands for; the status is 0 where a
+-- line includes something.
 pub record ListsSeen (config : List ℕ) (model : ℕ) (name : List ℕ) (printed : Printed) : Type 0 where
   pub users : List UserRow
   pub rows : Tables
@@ -24,7 +25,9 @@ pub record ListsSeen (config : List ℕ) (model : ℕ) (name : List ℕ) (printe
   pub err : printed.err ≡ []
   pub status : printed.status ≡ (if included then 0 else 1)
 
--- A word out of its form is told first, then a configuration that is refused and what is wrong with it, and else what the name sees.
+-- A word out of its form is told first, then a configuration that is refused and what is wrong with it, and
+-- else what the name sees.
 abbrev pub PrintsSeen : List ℕ → List ℕ → List ℕ → Printed → Type 0
 PrintsSeen config word name printed =
-    TellsModel word printed ⊎ ((model : ℕ) × IsModelWord word model × (Explains config printed ⊎ ListsSeen config model name printed))
+    TellsModel word printed
+    ⊎ ((model : ℕ) × IsModelWord word model × (Explains config printed ⊎ ListsSeen config model name printed))

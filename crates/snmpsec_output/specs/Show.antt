@@ -34,7 +34,8 @@ contents_lines (layers.Plain scoped p) = scoped_lines scoped.engine.now scoped.n
 -- the lines of all layers, and of the canonical spelling
 abbrev pub shown_text : Layers → List ℕ
 shown_text m =
-    message_lines m.header (fields_of m.security) ++ (contents_lines m.contents ++ (codes "canonical " ++ (encode_lower (whole_text (whole_of m)) ++ codes "\n")))
+    message_lines m.header (fields_of m.security)
+    ++ (contents_lines m.contents ++ (codes "canonical " ++ (encode_lower (whole_text (whole_of m)) ++ codes "\n")))
 
 -- The datagram is such a message, and the text is the lines of what it says and of its canonical spelling.
 pub record Shows (datagram text : List ℕ) : Type 0 where

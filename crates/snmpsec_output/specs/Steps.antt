@@ -19,7 +19,8 @@ access_lines (Some step) = codes "access " ++ (decimal step.position ++ (codes "
 
 abbrev pub group_lines : Option GroupStep → List ℕ
 group_lines None = []
-group_lines (Some step) = codes "group " ++ (decimal step.position ++ (codes " " ++ (step.name ++ (codes "\n" ++ access_lines step.access))))
+group_lines (Some step) = codes "group "
+    ++ (decimal step.position ++ (codes " " ++ (step.name ++ (codes "\n" ++ access_lines step.access))))
 
 abbrev pub context_lines : Option ContextStep → List ℕ
 context_lines None = []

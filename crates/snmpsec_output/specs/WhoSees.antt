@@ -39,7 +39,8 @@ pub record AsksWho (words : WhoWords) (variable : List ℕ) (view : Option ViewT
 -- The word of this argument is the first out of its form.
 abbrev pub IsFirstWrong : WhoWords → Argument → Type 0
 IsFirstWrong words Oid = IsNoOid words.variable
-IsFirstWrong words View = ((arcs : List ℕ) × AreArcs arcs × (words.variable ≡ dotted arcs)) × IsSomeAnd words.view IsNoView
+IsFirstWrong words View = ((arcs : List ℕ) × AreArcs arcs × (words.variable ≡ dotted arcs))
+    × IsSomeAnd words.view IsNoView
 IsFirstWrong words Model = ⊥
 IsFirstWrong words LevelWord = ⊥
 
@@ -57,7 +58,8 @@ line_status [] = 1
 line_status (c ∷ cs) = 0
 
 -- Who sees the variable is printed, over the rows that the configuration stands for.
-pub record Lists (config : List ℕ) (only_users : Bool) (variable : List ℕ) (view : Option ViewType) (printed : Printed) : Type 0 where
+pub record Lists (config : List ℕ) (only_users : Bool) (variable : List ℕ) (view : Option ViewType)
+    (printed : Printed) : Type 0 where
   pub users : List UserRow
   pub rows : Tables
   pub says : SaysSound config users rows
@@ -65,8 +67,10 @@ pub record Lists (config : List ℕ) (only_users : Bool) (variable : List ℕ) (
   pub err : printed.err ≡ []
   pub status : printed.status ≡ line_status printed.out
 
--- A word out of its form is told first, then a configuration that is refused and what is wrong with it, and else who sees the variable.
+-- A word out of its form is told first, then a configuration that is refused and what is wrong with it, and
+-- else who sees the variable.
 abbrev pub PrintsWho : List ℕ → WhoWords → Bool → Printed → Type 0
 PrintsWho config words only_users printed =
     TellsWord words printed
-    ⊎ ((variable : List ℕ) × (view : Option ViewType) × AsksWho words variable view × (Explains config printed ⊎ Lists config only_users variable view printed))
+    ⊎ ((variable : List ℕ) × (view : Option ViewType) × AsksWho words variable view
+    × (Explains config printed ⊎ Lists config only_users variable view printed))

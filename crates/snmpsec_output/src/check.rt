@@ -4,7 +4,8 @@ ghost use Rattle.std.specs.Prelude.{◌≡◌, ◌++◌, [], IfOk, IfErr, codes,
 ghost use Rattle.std.specs.Str.{IsUtf8};
 ghost use Rattle.toml.specs.Parse.{parse_document};
 ghost use Rattle.vacm_core.specs.Allowed.{Requester, Allowed};
-ghost use Rattle.snmpsec_output.specs.Questions.{argument_name, Asked, Asks, IsContextWord, IsFirstWrong, ChecksAccess, Printed};
+ghost use Rattle.snmpsec_output.specs.Questions.{argument_name, Asked, Asks, IsContextWord, IsFirstWrong};
+ghost use Rattle.snmpsec_output.specs.Questions.{ChecksAccess, Printed};
 ghost use Rattle.snmpsec_access.specs.Words.{access_word};
 ghost use Rattle.snmpsec_output.specs.Words.{access_status};
 
@@ -50,17 +51,24 @@ impl Argument {
     }
 }
 
-/// What `snmpsec check-access` prints for a configuration and the words MODEL, NAME, LEVEL, VIEW, CONTEXT and OID: the name of
-/// the answer, with status 0 for accessAllowed and 1 for another.
+/// What `snmpsec check-access` prints for a configuration and the words MODEL, NAME, LEVEL, VIEW, CONTEXT and
+/// OID: the name of the answer, with status 0 for accessAllowed and 1 for another.
 ///
-/// The first word out of its form is told on standard error, with status 2. Then a configuration that isn't read is told by
-/// one line, with status 1. The word `@` for CONTEXT is the empty name.
+/// The first word out of its form is told on standard error, with status 2. Then a configuration that isn't
+/// read is told by one line, with status 1. The word `@` for CONTEXT is the empty name.
 pub fn check_text(alloc: Global, config: &[u8], words: &[&str; 6]) -> Result<Output, AllocError>
-    ensures checks { IfOk result (λ output. let printed : Printed = record { out = output.out.items; err = output.err.items; status = output.status } in
+    ensures checks { IfOk result
+        (λ output. let printed : Printed = record {
+          out = output.out.items;
+          err = output.err.items;
+          status = output.status;
+        } in
         ChecksAccess config.now (map (λ word. word.now) words.now) printed) }
 
     // A configuration is called no TOML only where it is none.
-    ensures toml { IfOk result (λ output. output.out.items ≡ codes "refused config toml\n" → IsUtf8 config.now → parse_document config.now ≡ None) }
+    ensures toml { IfOk result
+        (λ output. output.out.items ≡ codes "refused config toml\n" → IsUtf8 config.now
+        → parse_document config.now ≡ None) }
 {
     let question = match question_of(words) {
         Ok(question) => question,
@@ -75,7 +83,13 @@ pub fn check_text(alloc: Global, config: &[u8], words: &[&str; 6]) -> Result<Out
 
 /// Reads the words of a question. The error is the first argument whose word is out of its form.
 pub(crate) fn question_of<'a>(words: &[&'a str; 6]) -> Result<Question<'a>, Argument>
-    ensures asks { IfOk result (λ q. let message : Requester = record { model = q.model; name = q.name.now; level = q.level; context = q.context.now } in
+    ensures asks { IfOk result
+        (λ q. let message : Requester = record {
+          model = q.model;
+          name = q.name.now;
+          level = q.level;
+          context = q.context.now;
+        } in
         let asked : Asked = record { message = message; view = q.view; arcs = q.variable } in
         Asks (map (λ word. word.now) words.now) asked) }
     ensures wrong { IfErr result (IsFirstWrong (map (λ word. word.now) words.now)) }
@@ -113,7 +127,9 @@ fn context_of(word: &str) -> &str
 /// The complaint of a word that is out of its form.
 pub(crate) fn bad_word(alloc: Global, argument: Argument) -> Result<Output, AllocError>
     ensures out { IfOk result (λ output. output.out.items ≡ []) }
-    ensures err { IfOk result (λ output. output.err.items ≡ codes "snmpsec: " ++ ((codes "bad word " ++ argument_name argument) ++ codes "\n")) }
+    ensures err { IfOk result
+        (λ output. output.err.items
+        ≡ codes "snmpsec: " ++ ((codes "bad word " ++ argument_name argument) ++ codes "\n")) }
     ensures status { IfOk result (λ output. output.status ≡ 2) }
 {
     let name = argument.name();

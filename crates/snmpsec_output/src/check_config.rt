@@ -16,10 +16,15 @@ use std::alloc::{AllocError, Global};
 
 /// What `snmpsec check-config` prints: a line for each table with the number of its rows, and status 0.
 ///
-/// A configuration that is refused is told by its one line on standard output, with status 1, and on standard error by what is
-/// wrong and what is wanted. No key is made of a password.
+/// A configuration that is refused is told by its one line on standard output, with status 1, and on standard
+/// error by what is wrong and what is wanted. No key is made of a password.
 pub fn check_config_text(alloc: Global, config: &[u8]) -> Result<Output, AllocError>
-    ensures { IfOk result (λ output. let printed : Printed = record { out = output.out.items; err = output.err.items; status = output.status } in
+    ensures { IfOk result
+        (λ output. let printed : Printed = record {
+          out = output.out.items;
+          err = output.err.items;
+          status = output.status;
+        } in
         ChecksConfig config.now printed) }
 {
     match AccessConfig::read(alloc, config) {
@@ -29,10 +34,15 @@ pub fn check_config_text(alloc: Global, config: &[u8]) -> Result<Output, AllocEr
     }
 }
 
-/// What `snmpsec check-config` prints where hints are wanted: the same, and beside the numbers of rows a line on standard error for each
-/// hint, as `snmpsec_access::hints` finds them.
+/// What `snmpsec check-config` prints where hints are wanted: the same, and beside the numbers of rows a line
+/// on standard error for each hint, as `snmpsec_access::hints` finds them.
 pub fn check_config_hinted(alloc: Global, config: &[u8]) -> Result<Output, AllocError>
-    ensures { IfOk result (λ output. let printed : Printed = record { out = output.out.items; err = output.err.items; status = output.status } in
+    ensures { IfOk result
+        (λ output. let printed : Printed = record {
+          out = output.out.items;
+          err = output.err.items;
+          status = output.status;
+        } in
         ChecksHinted config.now printed) }
 {
     match AccessConfig::read(alloc, config) {
@@ -44,8 +54,10 @@ pub fn check_config_hinted(alloc: Global, config: &[u8]) -> Result<Output, Alloc
 
 /// The lines of the numbers of rows, and beside them the hints.
 fn hinted(alloc: Global, text: &[u8], rows: &ConfigRows) -> Result<Output, AllocError>
-    ensures out { IfOk result (λ output. output.out.items ≡ counts_text rows.now.users.items (tables_of rows.now.access)) }
-    ensures err { IfOk result (λ output. output.err.items ≡ lines_of text.now rows.now.users.items (tables_of rows.now.access)
+    ensures out { IfOk result
+        (λ output. output.out.items ≡ counts_text rows.now.users.items (tables_of rows.now.access)) }
+    ensures err { IfOk result
+        (λ output. output.err.items ≡ lines_of text.now rows.now.users.items (tables_of rows.now.access)
         (hints_of rows.now.users.items (tables_of rows.now.access))) }
     ensures status { IfOk result (λ output. output.status ≡ 0) }
 {
@@ -60,7 +72,8 @@ fn hinted(alloc: Global, text: &[u8], rows: &ConfigRows) -> Result<Output, Alloc
 
 /// The lines of the numbers of rows.
 fn counted(alloc: Global, rows: &ConfigRows) -> Result<Output, AllocError>
-    ensures out { IfOk result (λ output. output.out.items ≡ counts_text rows.now.users.items (tables_of rows.now.access)) }
+    ensures out { IfOk result
+        (λ output. output.out.items ≡ counts_text rows.now.users.items (tables_of rows.now.access)) }
     ensures err { IfOk result (λ output. output.err.items ≡ []) }
     ensures status { IfOk result (λ output. output.status ≡ 0) }
 {
@@ -79,7 +92,9 @@ fn counted(alloc: Global, rows: &ConfigRows) -> Result<Output, AllocError>
 /// The line of a refusal, and what is wrong beside it.
 pub(crate) fn explained(alloc: Global, fault: &ConfigFault) -> Result<Output, AllocError>
     ensures out { IfOk result (λ output. output.out.items ≡ refusal_line fault.now ++ codes "\n") }
-    ensures err { IfOk result (λ output. (why : List ℕ) × IsWhy fault.now why × (output.err.items ≡ codes "snmpsec: " ++ (why ++ codes "\n"))) }
+    ensures err { IfOk result
+        (λ output. (why : List ℕ) × IsWhy fault.now why
+        × (output.err.items ≡ codes "snmpsec: " ++ (why ++ codes "\n"))) }
     ensures status { IfOk result (λ output. output.status ≡ 1) }
 {
     let why = fault.why(alloc)?;

@@ -18,13 +18,18 @@ use snmpsec_config::AccessConfig;
 use std::alloc::{AllocError, Global};
 use vacm_core::{Asking, Explained, Rows, Vacm};
 
-/// What `snmpsec explain-access` prints for a configuration and the words of `check_text`: its answer, with the same status, and
-/// then a line for each row that decided, as far as it came.
+/// What `snmpsec explain-access` prints for a configuration and the words of `check_text`: its answer, with
+/// the same status, and then a line for each row that decided, as far as it came.
 ///
 /// Positions are those of the configuration's tables, and count from 0. What isn't asked or isn't read is told as by
 /// `check_text`. No key is made of a password.
 pub fn explain_text(alloc: Global, config: &[u8], words: &[&str; 6]) -> Result<Output, AllocError>
-    ensures { IfOk result (λ output. let printed : Printed = record { out = output.out.items; err = output.err.items; status = output.status } in
+    ensures { IfOk result
+        (λ output. let printed : Printed = record {
+          out = output.out.items;
+          err = output.err.items;
+          status = output.status;
+        } in
         ExplainsAccess config.now (map (λ word. word.now) words.now) printed) }
 {
     let question = match question_of(words) {
@@ -44,8 +49,10 @@ pub fn explain_text(alloc: Global, config: &[u8], words: &[&str; 6]) -> Result<O
 /// What decides on the question over these tables, which are made of the rows.
 fn decided(access: &Vacm, rows: &Rows, question: &Question<'_>) -> Explained
     requires { HaveSameRows (tables_of rows.now) access.now }
-    ensures answer { let asked = asked_of question.now in Allowed access.now asked.message asked.view asked.arcs result.answer }
-    ensures steps { let asked = asked_of question.now in TellsContext (tables_of rows.now) asked.message asked.view asked.arcs result.context }
+    ensures answer { let asked = asked_of question.now in Allowed access.now asked.message asked.view asked.arcs
+        result.answer }
+    ensures steps { let asked = asked_of question.now in TellsContext
+        (tables_of rows.now) asked.message asked.view asked.arcs result.context }
 {
     let asking = Asking {
         model: question.model,
@@ -60,7 +67,9 @@ fn decided(access: &Vacm, rows: &Rows, question: &Question<'_>) -> Explained
 
 /// The line for an answer, and those of the rows that decided.
 fn told(alloc: Global, explained: &Explained) -> Result<Output, AllocError>
-    ensures out { IfOk result (λ output. output.out.items ≡ (access_word explained.now.answer ++ codes "\n") ++ context_lines explained.now.context) }
+    ensures out { IfOk result
+        (λ output. output.out.items
+        ≡ (access_word explained.now.answer ++ codes "\n") ++ context_lines explained.now.context) }
     ensures err { IfOk result (λ output. output.err.items ≡ []) }
     ensures status { IfOk result (λ output. output.status ≡ access_status explained.now.answer) }
 {

@@ -1,5 +1,5 @@
-//! What the commands of `snmpsec` print of a message, of an answer on access, of a configuration and of saved clocks, and their
-//! status. `open` uses the keys of users.
+//! What the commands of `snmpsec` print of a message, of an answer on access, of a configuration and of saved
+//! clocks, and their status. `open` uses the keys of users.
 //!
 //! ```
 //! use snmpsec_output::show_text;

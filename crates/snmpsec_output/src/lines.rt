@@ -6,7 +6,8 @@ ghost use Rattle.snmp_message.specs.Security.{fields_of};
 ghost use Rattle.snmp_msg.specs.Variables.{variable_of, variables_of};
 ghost use Rattle.snmp_msg.specs.Pdu.{pdu_of};
 ghost use Rattle.snmpsec_output.specs.Lines as spec;
-ghost use Rattle.snmpsec_output.specs.Lines.{octets_text, flag_text, flags_line, header_lines, security_lines, binding_line, pdu_line};
+ghost use Rattle.snmpsec_output.specs.Lines.{octets_text, flag_text, flags_line, header_lines, security_lines};
+ghost use Rattle.snmpsec_output.specs.Lines.{binding_line, pdu_line};
 
 use snmp_msg::{Binding, Header, Pdu, Scoped, Security};
 use std::alloc::{AllocError, Global};
@@ -69,8 +70,8 @@ fn security_lines(alloc: Global, security: &Security<'_>) -> Result<String, Allo
     format!(in alloc; "{engine}boots {boots}\ntime {time}\n{user}{auth}{privacy}")
 }
 
-/// The lines of msgGlobalData and msgSecurityParameters: `id`, `max-size`, `flags`, `engine`, `boots`, `time`, `user`, `auth`
-/// and `privacy`. The error is want of memory.
+/// The lines of msgGlobalData and msgSecurityParameters: `id`, `max-size`, `flags`, `engine`, `boots`,
+/// `time`, `user`, `auth` and `privacy`. The error is want of memory.
 pub fn message_lines(
     alloc: Global,
     header: &Header,
@@ -114,10 +115,12 @@ fn binding_lines(alloc: Global, pdu: &Pdu<'_>) -> Result<String, AllocError>
     Ok(text)
 }
 
-/// The lines of a ScopedPDU (RFC 3412, section 6.8) and of the PDU in it: `context-engine`, `context`, `pdu`, and `binding` for
-/// each variable binding. The error is want of memory.
+/// The lines of a ScopedPDU (RFC 3412, section 6.8) and of the PDU in it: `context-engine`, `context`, `pdu`,
+/// and `binding` for each variable binding. The error is want of memory.
 pub fn scoped_lines(alloc: Global, scoped: &Scoped<'_>, pdu: &Pdu<'_>) -> Result<String, AllocError>
-    ensures { IfOk result (λ text. string_bytes text ≡ spec.scoped_lines scoped.now.engine.now scoped.now.name.now (pdu_of pdu.now)) }
+    ensures { IfOk result
+        (λ text. string_bytes text
+        ≡ spec.scoped_lines scoped.now.engine.now scoped.now.name.now (pdu_of pdu.now)) }
 {
     let engine = octets_line(alloc, "context-engine", scoped.engine)?;
     let name = octets_line(alloc, "context", scoped.name)?;

@@ -9,16 +9,21 @@ use engine_clock::laws::absorbing_each_text_merges;
 use engine_clock::{ClockFault, Clocks};
 use std::alloc::{AllocError, Global};
 
-/// What `snmpsec merge-clocks` prints for files, each with its name: the saved text of the join of their clocks, whatever
-/// their order and repeats, with status 0. A file that isn't a saved text is told by its name and the number of its first
-/// faulty line, the first such file alone, with status 1. The marks of a file of version 1 were seen at `moment`, in
-/// seconds.
+/// What `snmpsec merge-clocks` prints for files, each with its name: the saved text of the join of their
+/// clocks, whatever their order and repeats, with status 0. A file that isn't a saved text is told by its
+/// name and the number of its first faulty line, the first such file alone, with status 1. The marks of a
+/// file of version 1 were seen at `moment`, in seconds.
 pub fn merge_text(
     alloc: Global,
     moment: u64,
     files: &[(String, Vec<u8>)],
 ) -> Result<Output, AllocError>
-    ensures { IfOk result (λ output. let printed : Printed = record { out = output.out.items; err = output.err.items; status = output.status } in
+    ensures { IfOk result
+        (λ output. let printed : Printed = record {
+          out = output.out.items;
+          err = output.err.items;
+          status = output.status;
+        } in
         MergeAnswers moment (map (λ file. (string_bytes file.0, file.1.items)) files.now) printed) }
 {
     absorbing_each_text_merges();
@@ -35,7 +40,12 @@ pub fn merge_text(
 
 /// The line for a file that isn't a saved text, on standard output, and status 1.
 pub fn refused_clocks(alloc: Global, name: &str, fault: ClockFault) -> Result<Output, AllocError>
-    ensures { IfOk result (λ output. let printed : Printed = record { out = output.out.items; err = output.err.items; status = output.status } in
+    ensures { IfOk result
+        (λ output. let printed : Printed = record {
+          out = output.out.items;
+          err = output.err.items;
+          status = output.status;
+        } in
         TellsFault name.now fault printed) }
 {
     match fault {

@@ -12,14 +12,19 @@ use snmpsec_config::Config;
 use std::alloc::{AllocError, Global};
 use usm_core::Users;
 
-/// What `snmpsec open CONFIG HEX` prints: the lines of the message, opened by the keys of the configuration's users, as a
-/// manager does that has no clocks, with status 0.
+/// What `snmpsec open CONFIG HEX` prints: the lines of the message, opened by the keys of the configuration's
+/// users, as a manager does that has no clocks, with status 0.
 ///
-/// A word that isn't one or more pairs of hex digits is told on standard error, with status 2. Then a configuration that isn't
-/// read is told by one line, with status 1. A refusal of the message is a line with status 1 too; `opened_lines` says in which
-/// order they come.
+/// A word that isn't one or more pairs of hex digits is told on standard error, with status 2. Then a
+/// configuration that isn't read is told by one line, with status 1. A refusal of the message is a line with
+/// status 1 too; `opened_lines` says in which order they come.
 pub fn open_text(alloc: Global, config: &[u8], digits: &str) -> Result<Output, AllocError>
-    ensures { IfOk result (λ output. let printed : Printed = record { out = output.out.items; err = output.err.items; status = output.status } in
+    ensures { IfOk result
+        (λ output. let printed : Printed = record {
+          out = output.out.items;
+          err = output.err.items;
+          status = output.status;
+        } in
         OpensText config.now digits.now printed) }
 {
     let Some(datagram) = datagram_of(alloc, digits)? else {
@@ -34,7 +39,12 @@ pub fn open_text(alloc: Global, config: &[u8], digits: &str) -> Result<Output, A
 
 /// The lines of the message, or its refusal.
 pub fn opened(alloc: Global, users: &mut Users, datagram: &[u8]) -> Result<Output, AllocError>
-    ensures opens { IfOk result (λ output. let printed : Printed = record { out = output.out.items; err = output.err.items; status = output.status } in
+    ensures opens { IfOk result
+        (λ output. let printed : Printed = record {
+          out = output.out.items;
+          err = output.err.items;
+          status = output.status;
+        } in
         OpensBy users.old.users datagram.now printed) }
     ensures users { users.new.users ≡ users.old.users }
 {

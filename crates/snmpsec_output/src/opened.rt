@@ -15,8 +15,9 @@ use usm_core::{Checked, Role, Users};
 /// The lines of a message that is opened by the keys of these users, as a manager does that has no clocks: those of
 /// `message_lines`, a line `level`, and those of `scoped_lines`.
 ///
-/// The errors are, the first that applies: those of `Users::open_auth`, then OutOfMemory (14), DecryptionError (11), BadScoped
-/// (12) and BadPdu (13). The time window isn't looked at. OutOfMemory comes too where the lines find no memory.
+/// The errors are, the first that applies: those of `Users::open_auth`, then OutOfMemory (14),
+/// DecryptionError (11), BadScoped (12) and BadPdu (13). The time window isn't looked at. OutOfMemory comes
+/// too where the lines find no memory.
 pub fn opened_lines(alloc: Global, users: &mut Users, datagram: &[u8]) -> Result<String, TakeFault>
     ensures opens { IfSome (lines_answer result) (Opens users.old.users datagram.now) }
     ensures users { users.new.users ≡ users.old.users }

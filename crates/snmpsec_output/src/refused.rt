@@ -11,8 +11,8 @@ use std::alloc::AllocError;
 use std::error::Error;
 use std::fmt;
 
-/// Why a message can't be shown or opened. The text is what the program prints: the number and the name of the refusal, and its place
-/// where it has one, in octets from 0.
+/// Why a message can't be shown or opened. The text is what the program prints: the number and the name of
+/// the refusal, and its place where it has one, in octets from 0.
 #[derive(Clone, Copy, Debug, PartialEq, Eq, Drop)]
 pub struct RefusedAt {
     pub refusal: Refusal,

@@ -15,19 +15,25 @@ use snmpsec_access::sees;
 use snmpsec_config::AccessConfig;
 use std::alloc::{AllocError, Global};
 
-/// What `snmpsec sees` prints for a configuration and the words MODEL and NAME: for each level, view and context an answer of
-/// `check-access` that each variable gets, or lines with `+` or `-` and a subtree, of which the last that fits a variable says
-/// whether it may be seen. The status is 0 where a line has `+`, and else 1.
+/// What `snmpsec sees` prints for a configuration and the words MODEL and NAME: for each level, view and
+/// context an answer of `check-access` that each variable gets, or lines with `+` or `-` and a subtree, of
+/// which the last that fits a variable says whether it may be seen. The status is 0 where a line has `+`, and
+/// else 1.
 ///
-/// A MODEL out of its form is told on standard error, with status 2; then a configuration that is refused, with what is wrong on
-/// standard error, and status 1. No key is made of a password.
+/// A MODEL out of its form is told on standard error, with status 2; then a configuration that is refused,
+/// with what is wrong on standard error, and status 1. No key is made of a password.
 pub fn sees_text(
     alloc: Global,
     config: &[u8],
     model: &str,
     name: &str,
 ) -> Result<Output, AllocError>
-    ensures { IfOk result (λ output. let printed : Printed = record { out = output.out.items; err = output.err.items; status = output.status } in
+    ensures { IfOk result
+        (λ output. let printed : Printed = record {
+          out = output.out.items;
+          err = output.err.items;
+          status = output.status;
+        } in
         PrintsSeen config.now model.now name.now printed) }
 {
     let Some(model) = model_of(model) else {
@@ -49,7 +55,10 @@ fn listed(
 ) -> Result<Output, AllocError>
     requires one_each { HasOneRowEach (tables_of config.now.rows.access) }
     requires same_rows { HaveSameRows (tables_of config.now.rows.access) config.now.access }
-    ensures out { IfOk result (λ output. (included : Bool) × TellsSeen (tables_of config.now.rows.access) model name.now output.out.items included × (output.status ≡ (if included then 0 else 1))) }
+    ensures out { IfOk result
+        (λ output. (included : Bool)
+        × TellsSeen (tables_of config.now.rows.access) model name.now output.out.items included
+        × (output.status ≡ (if included then 0 else 1))) }
     ensures err { IfOk result (λ output. output.err.items ≡ []) }
 {
     let seen = sees(alloc, &config.access, &config.rows.access, model, name)?;

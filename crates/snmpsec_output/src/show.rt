@@ -5,7 +5,8 @@ ghost use Rattle.hex.specs.Hex.{decode_of};
 ghost use Rattle.snmp_msg.specs.Canonical.{Says, WholeFits, IsReadLayer, whole_of};
 ghost use Rattle.snmp_message.specs.declared.refusal.Refusal.TheVariants as refusals;
 ghost use Rattle.hex.specs.declared.FromHexError.TheVariants as hex_faults;
-ghost use Rattle.snmpsec_output.specs.Show.{IsUsmMessage, Shows, RefusesShow, IsNoHex, ShowsDatagram, ShowsText, contents_lines};
+ghost use Rattle.snmpsec_output.specs.Show.{IsUsmMessage, Shows, RefusesShow, IsNoHex, ShowsDatagram, ShowsText};
+ghost use Rattle.snmpsec_output.specs.Show.{contents_lines};
 ghost use Rattle.snmpsec_output.specs.Questions.{Printed};
 ghost use Rattle.snmpsec_output.specs.Refusals.{refused_line};
 
@@ -28,7 +29,8 @@ fn contents_lines(alloc: Global, contents: &Layer<'_>) -> Result<String, AllocEr
 
 /// What a message says in all its layers, or why it isn't shown.
 fn read_shown(datagram: &[u8]) -> Result<Layers<'_>, RefusedAt>
-    ensures exact { MatchResult result (λ m. IsUsmMessage datagram.now × Says datagram.now (whole_of m)) (λ refused. RefusesShow datagram.now refused.refusal) }
+    ensures exact { MatchResult result (λ m. IsUsmMessage datagram.now × Says datagram.now (whole_of m))
+        (λ refused. RefusesShow datagram.now refused.refusal) }
     ensures fits { IfOk result (λ m. WholeFits (whole_of m)) }
     ensures list { IfOk result (λ m. IsReadLayer m.contents) }
 {
@@ -46,7 +48,8 @@ fn read_shown(datagram: &[u8]) -> Result<Layers<'_>, RefusedAt>
 
 /// The lines of what the datagram says, and of its canonical spelling.
 fn message_text(alloc: Global, datagram: &[u8]) -> Result<String, RefusedAt>
-    ensures { MatchResult result (λ text. Shows datagram.now (string_bytes text)) (λ refused. RefusesShow datagram.now refused.refusal) }
+    ensures { MatchResult result (λ text. Shows datagram.now (string_bytes text))
+        (λ refused. RefusesShow datagram.now refused.refusal) }
 {
     let layers = read_shown(datagram)?;
     let message = message_lines(alloc, &layers.header, &layers.security)?;
@@ -59,7 +62,8 @@ fn message_text(alloc: Global, datagram: &[u8]) -> Result<String, RefusedAt>
 
 /// The octets that one or more pairs of hex digits write, in either case.
 pub(crate) fn datagram_of(alloc: Global, digits: &str) -> Result<Option<Vec<u8>>, AllocError>
-    ensures { IfOk result (λ found. MatchOption found (IsNoHex digits.now) (λ octets. decode_of digits.now ≡ Ok octets.items)) }
+    ensures { IfOk result
+        (λ found. MatchOption found (IsNoHex digits.now) (λ octets. decode_of digits.now ≡ Ok octets.items)) }
 {
     if digits.is_empty() {
         return Ok(None);
@@ -83,12 +87,17 @@ fn no_octets(fault: FromHexError) -> Result<Option<Vec<u8>>, AllocError>
 
 /// What `snmpsec show HEX` prints.
 ///
-/// A message is refused in this order: its outer layout (1, 2), a security model other than the user-based one (17), priv
-/// without auth (18), msgData (4), msgSecurityParameters (3), the PDU (5), and a canonical spelling of over 65,507 octets
-/// (16). A refusal is a line on standard output, with status 1. A word that isn't one or more pairs of hex digits is told on
-/// standard error, with status 2.
+/// A message is refused in this order: its outer layout (1, 2), a security model other than the user-based
+/// one (17), priv without auth (18), msgData (4), msgSecurityParameters (3), the PDU (5), and a canonical
+/// spelling of over 65,507 octets (16). A refusal is a line on standard output, with status 1. A word that
+/// isn't one or more pairs of hex digits is told on standard error, with status 2.
 pub fn show_text(alloc: Global, digits: &str) -> Result<Output, AllocError>
-    ensures { IfOk result (λ output. let printed : Printed = record { out = output.out.items; err = output.err.items; status = output.status } in
+    ensures { IfOk result
+        (λ output. let printed : Printed = record {
+          out = output.out.items;
+          err = output.err.items;
+          status = output.status;
+        } in
         ShowsText digits.now printed) }
 {
     let Some(datagram) = datagram_of(alloc, digits)? else {
@@ -99,7 +108,12 @@ pub fn show_text(alloc: Global, digits: &str) -> Result<Output, AllocError>
 
 /// What `snmpsec show` prints of a datagram: its lines with status 0, or the line of its refusal with status 1.
 pub fn shown(alloc: Global, datagram: &[u8]) -> Result<Output, AllocError>
-    ensures { IfOk result (λ output. let printed : Printed = record { out = output.out.items; err = output.err.items; status = output.status } in
+    ensures { IfOk result
+        (λ output. let printed : Printed = record {
+          out = output.out.items;
+          err = output.err.items;
+          status = output.status;
+        } in
         ShowsDatagram datagram.now printed) }
 {
     match message_text(alloc, datagram) {

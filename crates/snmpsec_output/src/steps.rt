@@ -63,8 +63,9 @@ fn put_group(alloc: Global, out: &mut Vec<u8>, group: &Option<GroupStep>) -> Res
     put_access(alloc, out, &step.access)
 }
 
-/// Appends what decides, as far as it comes: the lines `context POSITION`, `group POSITION NAME`, `access POSITION`, `view NAME`
-/// and `family POSITION`. A name is written as its octets stand. The error is want of memory.
+/// Appends what decides, as far as it comes: the lines `context POSITION`, `group POSITION NAME`, `access
+/// POSITION`, `view NAME` and `family POSITION`. A name is written as its octets stand. The error is want of
+/// memory.
 pub(crate) fn put_steps(
     alloc: Global,
     out: &mut Vec<u8>,

@@ -17,12 +17,14 @@ use snmpsec_config::AccessConfig;
 use std::alloc::{AllocError, Global};
 use vacm_core::ViewType;
 
-/// What `snmpsec who-sees` prints for a configuration and the words OID and VIEW: a line `MODEL NAME LEVEL VIEW CONTEXT` for each
-/// question of the variable that `check-access` answers by accessAllowed, with status 0, or with status 1 where there is none.
+/// What `snmpsec who-sees` prints for a configuration and the words OID and VIEW: a line `MODEL NAME LEVEL
+/// VIEW CONTEXT` for each question of the variable that `check-access` answers by accessAllowed, with status
+/// 0, or with status 1 where there is none.
 ///
-/// Without VIEW each view is asked for. With `only_users` there are the lines of names alone that are users' and support the
-/// level. The first word out of its form is told on standard error, with status 2; then a configuration that is refused, with
-/// what is wrong on standard error, and status 1. No key is made of a password.
+/// Without VIEW each view is asked for. With `only_users` there are the lines of names alone that are users'
+/// and support the level. The first word out of its form is told on standard error, with status 2; then a
+/// configuration that is refused, with what is wrong on standard error, and status 1. No key is made of a
+/// password.
 pub fn who_text(
     alloc: Global,
     config: &[u8],
@@ -30,7 +32,12 @@ pub fn who_text(
     view: Option<&str>,
     only_users: bool,
 ) -> Result<Output, AllocError>
-    ensures { IfOk result (λ output. let printed : Printed = record { out = output.out.items; err = output.err.items; status = output.status } in
+    ensures { IfOk result
+        (λ output. let printed : Printed = record {
+          out = output.out.items;
+          err = output.err.items;
+          status = output.status;
+        } in
         let words : WhoWords = record { variable = variable.now; view = option_map (λ word. word.now) view.entry } in
         PrintsWho config.now words only_users printed) }
 {
@@ -54,9 +61,15 @@ struct Asked {
 
 /// Reads the words. The error is the first argument whose word is out of its form.
 fn asked_of(variable: &str, view: Option<&str>) -> Result<Asked, Argument>
-    ensures asks { let words : WhoWords = record { variable = variable.now; view = option_map (λ word. word.now) view.entry } in
+    ensures asks { let words : WhoWords = record {
+      variable = variable.now;
+      view = option_map (λ word. word.now) view.entry;
+    } in
         IfOk result (λ asked. AsksWho words asked.variable asked.view) }
-    ensures wrong { let words : WhoWords = record { variable = variable.now; view = option_map (λ word. word.now) view.entry } in
+    ensures wrong { let words : WhoWords = record {
+      variable = variable.now;
+      view = option_map (λ word. word.now) view.entry;
+    } in
         IfErr result (IsFirstWrong words) }
 {
     let Some(variable) = Oid::from_text(variable) else {
@@ -85,7 +98,9 @@ fn lines_of(
     only_users: bool,
 ) -> Result<Vec<u8>, AllocError>
     requires { AnswerFor config.now.access (tables_of config.now.rows.access) }
-    ensures { IfOk result (λ text. TellsWho (tables_of config.now.rows.access) (views_of asked.now.view) only_users config.now.rows.users.items asked.now.variable text.items) }
+    ensures { IfOk result
+        (λ text. TellsWho (tables_of config.now.rows.access)
+        (views_of asked.now.view) only_users config.now.rows.users.items asked.now.variable text.items) }
 {
     let wanted = Wanted {
         access: &config.access,
@@ -112,7 +127,9 @@ fn listed(
     only_users: bool,
 ) -> Result<Output, AllocError>
     requires { AnswerFor config.now.access (tables_of config.now.rows.access) }
-    ensures out { IfOk result (λ output. TellsWho (tables_of config.now.rows.access) (views_of asked.now.view) only_users config.now.rows.users.items asked.now.variable output.out.items) }
+    ensures out { IfOk result
+        (λ output. TellsWho (tables_of config.now.rows.access)
+        (views_of asked.now.view) only_users config.now.rows.users.items asked.now.variable output.out.items) }
     ensures err { IfOk result (λ output. output.err.items ≡ []) }
     ensures status { IfOk result (λ output. output.status ≡ line_status output.out.items) }
 {

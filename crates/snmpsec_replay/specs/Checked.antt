@@ -26,8 +26,8 @@ abbrev pub TellsLog : Option (List ℕ) → Option (List ℕ) → CheckedLog →
 TellsLog unread left (logs.Whole n) = ReadsLog unread left (λ es part. IsEnd left es part × (n ≡ length es))
 TellsLog unread left (logs.Faulty n why) = ReadsLog unread left (IsBad from_line_1 left n)
 
--- It isn't told where a read fails: behind lines of a log, and behind a part of what is next, so that nothing that is no line was passed over; or where a
--- growth of memory was refused.
+-- It isn't told where a read fails: behind lines of a log, and behind a part of what is next, so that nothing
+-- that is no line was passed over; or where a growth of memory was refused.
 abbrev pub StopsLog : Option (List ℕ) → Option (List ℕ) → ReplayFault → Type 0
 StopsLog unread left faults.CannotRead = ReadsLog unread left (λ es part. Lacks 10 part)
 StopsLog unread left faults.OutOfMemory = ⊤
@@ -55,4 +55,5 @@ TellsLine unread left lines.Sound =
     (line : List ℕ) × (e : LogEntry) × IsLine line e × (length line ≤ 131072) × Consumes unread left (line ++ 10 ∷ [])
 TellsLine unread left lines.End = Consumes unread left [] × IsAtEnd left
 TellsLine unread left (lines.Faulty why) =
-    (part : List ℕ) × Consumes unread left part × ((es : List LogEntry) (k : ℕ) → k ≡ length es → IsBad from_line_1 left (1 + k) es part)
+    (part : List ℕ) × Consumes unread left part
+    × ((es : List LogEntry) (k : ℕ) → k ≡ length es → IsBad from_line_1 left (1 + k) es part)

@@ -8,7 +8,8 @@ use Rattle.snmpsec_replay.specs.Replay.{Replays}
 -- the logs are replayed one after another, each by what the log before it left
 abbrev pub InTurn : Held → List (List ℕ) → Held → Type 0
 InTurn begin [] after = after ≡ begin
-InTurn begin (log ∷ logs) after = (p : Printing) × (mid : Held) × (answers : List ℕ) × Replays p begin log answers mid × InTurn mid logs after
+InTurn begin (log ∷ logs) after = (p : Printing) × (mid : Held) × (answers : List ℕ) × Replays p begin log answers mid
+    × InTurn mid logs after
 
 -- the log is replayed whole, whatever is printed of its lines, and this is the saved text
 pub record ReplaySaves (begin : Held) (log saved : List ℕ) : Type 0 where

@@ -1,5 +1,6 @@
 -- What a replay writes for a log, and what it has written where it stops.
-use Rattle.std.specs.Prelude.{◌≡◌, ◌⊎◌, if◌then◌else◌, Bool, true, ℕ, ◌+◌, ◌<◌, List, [], ◌∷◌, ◌++◌, length, codes, Option, Some, decimal}
+use Rattle.std.specs.Prelude.{◌≡◌, ◌⊎◌, if◌then◌else◌, Bool, true, ℕ, ◌+◌, ◌<◌, List, [], ◌∷◌, ◌++◌, length, codes}
+use Rattle.std.specs.Prelude.{Option, Some, decimal}
 use Rattle.std.specs.Io.KnownBytes.{Appends, Consumes, IsAtEnd, Keeps}
 use Rattle.hex.specs.Hex.{encode_lower}
 use Rattle.snmp_ber.specs.Splits.{Lacks}
@@ -28,7 +29,8 @@ outcome_text (Refused why) = codes "refused " ++ (decimal (number_of why) ++ (co
 
 -- the line for the datagram of line n
 unfoldable pub answer_line : ℕ → ℕ → Outcome → List ℕ
-answer_line n moment outcome = decimal n ++ (codes " " ++ (decimal moment ++ (codes " " ++ (outcome_text outcome ++ codes "\n"))))
+answer_line n moment outcome = decimal n
+    ++ (codes " " ++ (decimal moment ++ (codes " " ++ (outcome_text outcome ++ codes "\n"))))
 
 -- what is printed for the datagram of line n: its line, or nothing where no lines are wanted
 abbrev pub printed_line : Bool → ℕ → ℕ → Outcome → List ℕ
@@ -40,8 +42,8 @@ from_line_1 = record { first = 1; lines = true }
 
 -- ---- the text
 
--- The manager `old` takes the entries of a log from line n on, `text` has a line for each, and then it is `new`. Where no lines are wanted
--- the text is empty.
+-- The manager `old` takes the entries of a log from line n on, `text` has a line for each, and then it is
+-- `new`. Where no lines are wanted the text is empty.
 abbrev pub Answers : Bool → Held → ℕ → List LogEntry → List ℕ → Held → Type 0
 Answers lines old n [] text new = (text ≡ []) × (new ≡ old)
 Answers lines old n (e ∷ es) text new =
@@ -75,7 +77,8 @@ abbrev pub streams : Option (List ℕ) → Option (List ℕ) → Option (List �
 streams unread left held written = record { unread = unread; left = left; held = held; written = written }
 
 -- `read` is whole lines, a part was read after it, and `text` answers the lines
-pub record Reads (p : Printing) (begin : Held) (s : Streams) (IsPart : List LogEntry → List ℕ → Type 0) (text : List ℕ) (after : Held) : Type 0 where
+pub record Reads (p : Printing) (begin : Held) (s : Streams) (IsPart : List LogEntry → List ℕ → Type 0)
+    (text : List ℕ) (after : Held) : Type 0 where
   pub read : List ℕ
   pub part : List ℕ
   pub replays : Replays p begin read text after
@@ -83,7 +86,8 @@ pub record Reads (p : Printing) (begin : Held) (s : Streams) (IsPart : List LogE
   pub is_part : IsPart replays.entries part
 
 -- and the text is written
-pub record Stands (p : Printing) (begin : Held) (s : Streams) (IsPart : List LogEntry → List ℕ → Type 0) (after : Held) : Type 0 where
+pub record Stands (p : Printing) (begin : Held) (s : Streams) (IsPart : List LogEntry → List ℕ → Type 0)
+    (after : Held) : Type 0 where
   pub text : List ℕ
   pub reads : Reads p begin s IsPart text after
   pub wrote : Appends s.held s.written text
@@ -103,7 +107,8 @@ pub record IsBad (p : Printing) (left : Option (List ℕ)) (n : ℕ) (es : List 
   pub more : 0 < length part
   pub none : (rest : List ℕ) → left ≡ Some rest → HasNoLine (length es + 1) (part ++ rest)
 
--- A write failed: what is written is a front of what answers the lines that were read, or of the whole text, and not all of it.
+-- A write failed: what is written is a front of what answers the lines that were read, or of the whole text,
+-- and not all of it.
 pub record WriteFails (p : Printing) (begin : Held) (s : Streams) : Type 0 where
   pub text : List ℕ
   pub after : Held
@@ -112,7 +117,8 @@ pub record WriteFails (p : Printing) (begin : Held) (s : Streams) : Type 0 where
 
 -- memory may be wanted before anything is read, behind a whole line, and at the end
 abbrev pub MayWant : Option (List ℕ) → List LogEntry → List ℕ → Type 0
-MayWant left es part = ((part ≡ []) × ((es ≡ []) ⊎ IsAtEnd left)) ⊎ ((line : List ℕ) × Lacks 10 line × (part ≡ line ++ 10 ∷ []))
+MayWant left es part = ((part ≡ []) × ((es ≡ []) ⊎ IsAtEnd left))
+    ⊎ ((line : List ℕ) × Lacks 10 line × (part ≡ line ++ 10 ∷ []))
 
 -- what a replay by the manager `begin` has done where it stops with a fault
 abbrev pub StopsBy : Printing → Held → Streams → ReplayFault → Type 0
@@ -124,7 +130,8 @@ StopsBy p begin s fault.OutOfMemory = (after : Held) × Stands p begin s (MayWan
 -- ---- between the functions
 
 -- a front of the text is written, and the rest waits
-pub record Waits (p : Printing) (begin : Held) (s : Streams) (waiting : List ℕ) (IsPart : List LogEntry → List ℕ → Type 0) (after : Held) : Type 0 where
+pub record Waits (p : Printing) (begin : Held) (s : Streams) (waiting : List ℕ)
+    (IsPart : List LogEntry → List ℕ → Type 0) (after : Held) : Type 0 where
   pub text : List ℕ
   pub reads : Reads p begin s IsPart text after
   pub done : List ℕ
@@ -138,7 +145,8 @@ Ends p begin now s waiting (ending.LogLine n) = (after : Held) × Waits p begin 
 Ends p begin now s waiting ending.CannotRead = (after : Held) × Waits p begin s waiting (λ es part. Lacks 10 part) after
 Ends p begin now s waiting ending.OutOfMemory = (after : Held) × Waits p begin s waiting (MayWant s.left) after
 
--- How a log ends behind the last line that is taken: nothing stands there, or one octet more, which is a part of line n.
+-- How a log ends behind the last line that is taken: nothing stands there, or one octet more, which is a part
+-- of line n.
 abbrev pub EndsBehind : ℕ → Option (List ℕ) → Option (List ℕ) → Ending → Type 0
 EndsBehind n unread left ending.Whole = Consumes unread left [] × IsAtEnd left
 EndsBehind n unread left (ending.LogLine m) = (x : ℕ) × (m ≡ n) × Consumes unread left (x ∷ [])
@@ -148,7 +156,8 @@ EndsBehind n unread left ending.OutOfMemory = ⊥
 -- what one line does to the manager and to what is not yet written
 abbrev pub AnswersLine : Bool → Held → ℕ → List ℕ → List ℕ → Held → List ℕ → Step → Type 0
 AnswersLine lines old n line waited new waits step.Answered =
-    (e : LogEntry) × (outcome : Outcome) × IsLine line e × TakesOne old e.moment e.datagram outcome new × (waits ≡ waited ++ printed_line lines n e.moment outcome)
+    (e : LogEntry) × (outcome : Outcome) × IsLine line e × TakesOne old e.moment e.datagram outcome new
+    × (waits ≡ waited ++ printed_line lines n e.moment outcome)
 AnswersLine lines old n line waited new waits step.OutOfForm = ((e : LogEntry) → IsLine line e → ⊥) × (waits ≡ waited)
 AnswersLine lines old n line waited new waits step.OutOfMemory = waits ≡ waited
 

@@ -32,10 +32,11 @@ pub(crate) enum CheckedLine {
     Faulty(String),
 }
 
-/// Reads a log line by line as `replay_log` does, and takes nothing of it: how many lines it has, or which is the first that is out of
-/// its form or past the limits, and why. One line is held at a time.
+/// Reads a log line by line as `replay_log` does, and takes nothing of it: how many lines it has, or which is
+/// the first that is out of its form or past the limits, and why. One line is held at a time.
 ///
-/// The errors are CannotRead, where a read fails or is interrupted 1,000 times in a row, before which nothing stood that is no line, and OutOfMemory.
+/// The errors are CannotRead, where a read fails or is interrupted 1,000 times in a row, before which nothing
+/// stood that is no line, and OutOfMemory.
 pub fn check_log<R: BufRead>(alloc: Global, reader: &mut R) -> Result<CheckedLog, ReplayFault>
     ensures ok { IfOk result (TellsLog (R.remaining reader.old) (R.remaining reader.new)) }
     ensures err { IfErr result (StopsLog (R.remaining reader.old) (R.remaining reader.new)) }

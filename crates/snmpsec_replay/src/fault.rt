@@ -5,7 +5,8 @@ use thiserror::Error;
 /// Why a replay stops before its end.
 #[derive(Clone, Copy, Debug, PartialEq, Eq, Drop, Error)]
 pub enum ReplayFault {
-    /// The line of this number is the first out of its form, or past the limits. Lines are numbered from 1, or from the number that was asked for.
+    /// The line of this number is the first out of its form, or past the limits. Lines are numbered from 1,
+    /// or from the number that was asked for.
     #[error("log line {0}")]
     LogLine(u64),
     /// A read failed.

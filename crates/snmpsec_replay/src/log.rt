@@ -130,12 +130,15 @@ fn cut_ahead(octets: &[u8], room: usize) -> CutAhead
     }
 }
 
-/// Looks once at what is read ahead, and moves to `line` what the line has of it. `None` is for a read that was interrupted.
+/// Looks once at what is read ahead, and moves to `line` what the line has of it. `None` is for a read that
+/// was interrupted.
 fn look<R: BufRead>(reader: &mut R, line: &mut Vec<u8>) -> Result<Option<Ahead>, Failed>
     requires short { vec_len line.old ≤ 131072 }
     requires capacity { 131072 ≤ vec_capacity line.old }
-    ensures ok { IfOk result (λ ahead. Looks line.old.items line.new.items (R.remaining reader.old) (R.remaining reader.new) ahead) }
-    ensures err { OnErr result ((line.new.items ≡ line.old.items) × Keeps (R.remaining reader.old) (R.remaining reader.new)) }
+    ensures ok { IfOk result
+        (λ ahead. Looks line.old.items line.new.items (R.remaining reader.old) (R.remaining reader.new) ahead) }
+    ensures err { OnErr result
+        ((line.new.items ≡ line.old.items) × Keeps (R.remaining reader.old) (R.remaining reader.new)) }
     ensures short { vec_len line.new ≤ 131072 }
     ensures capacity { 131072 ≤ vec_capacity line.new }
 {
@@ -159,8 +162,10 @@ fn look<R: BufRead>(reader: &mut R, line: &mut Vec<u8>) -> Result<Option<Ahead>,
 fn look_on<R: BufRead>(reader: &mut R, line: &mut Vec<u8>) -> Result<Ahead, Failed>
     requires short { vec_len line.old ≤ 131072 }
     requires capacity { 131072 ≤ vec_capacity line.old }
-    ensures ok { IfOk result (LooksAhead line.old.items line.new.items (R.remaining reader.old) (R.remaining reader.new)) }
-    ensures err { OnErr result ((line.new.items ≡ line.old.items) × Keeps (R.remaining reader.old) (R.remaining reader.new)) }
+    ensures ok { IfOk result
+        (LooksAhead line.old.items line.new.items (R.remaining reader.old) (R.remaining reader.new)) }
+    ensures err { OnErr result
+        ((line.new.items ≡ line.old.items) × Keeps (R.remaining reader.old) (R.remaining reader.new)) }
     ensures short { vec_len line.new ≤ 131072 }
     ensures capacity { 131072 ≤ vec_capacity line.new }
 {
@@ -176,9 +181,11 @@ fn look_on<R: BufRead>(reader: &mut R, line: &mut Vec<u8>) -> Result<Ahead, Fail
 fn take_octet<R: Read>(reader: &mut R, line: &mut Vec<u8>) -> Result<Ahead, Failed>
     requires short { vec_len line.old ≤ 131072 }
     requires capacity { 131072 ≤ vec_capacity line.old }
-    ensures ok { IfOk result (LooksAhead line.old.items line.new.items (R.remaining reader.old) (R.remaining reader.new)) }
+    ensures ok { IfOk result
+        (LooksAhead line.old.items line.new.items (R.remaining reader.old) (R.remaining reader.new)) }
     ensures end { result ≡ Ok Ahead.End → IsAtEnd (R.remaining reader.new) }
-    ensures err { OnErr result ((line.new.items ≡ line.old.items) × Keeps (R.remaining reader.old) (R.remaining reader.new)) }
+    ensures err { OnErr result
+        ((line.new.items ≡ line.old.items) × Keeps (R.remaining reader.old) (R.remaining reader.new)) }
     ensures short { vec_len line.new ≤ 131072 }
     ensures capacity { 131072 ≤ vec_capacity line.new }
 {
@@ -195,13 +202,16 @@ fn take_octet<R: Read>(reader: &mut R, line: &mut Vec<u8>) -> Result<Ahead, Fail
     Ok(Ahead::More)
 }
 
-/// Moves some octets more to `line`, up to its line feed. Where none is read ahead, it is the reader who says that it is at its end.
+/// Moves some octets more to `line`, up to its line feed. Where none is read ahead, it is the reader who says
+/// that it is at its end.
 fn take_more<R: BufRead>(reader: &mut R, line: &mut Vec<u8>) -> Result<Ahead, Failed>
     requires short { vec_len line.old ≤ 131072 }
     requires capacity { 131072 ≤ vec_capacity line.old }
-    ensures ok { IfOk result (LooksAhead line.old.items line.new.items (R.remaining reader.old) (R.remaining reader.new)) }
+    ensures ok { IfOk result
+        (LooksAhead line.old.items line.new.items (R.remaining reader.old) (R.remaining reader.new)) }
     ensures end { result ≡ Ok Ahead.End → IsAtEnd (R.remaining reader.new) }
-    ensures err { OnErr result ((line.new.items ≡ line.old.items) × Consumes (R.remaining reader.old) (R.remaining reader.new) []) }
+    ensures err { OnErr result
+        ((line.new.items ≡ line.old.items) × Consumes (R.remaining reader.old) (R.remaining reader.new) []) }
     ensures short { vec_len line.new ≤ 131072 }
     ensures capacity { 131072 ≤ vec_capacity line.new }
 {

@@ -3,7 +3,9 @@ ghost use Rattle.std.specs.Prelude.{◌≡◌, ◌≤◌, ◌++◌, [], IfOk, On
 ghost use Rattle.std.specs.Io.KnownBytes.{Appends};
 ghost use Rattle.engine_clock.specs.Saved.{AreMarks, listing};
 ghost use Rattle.snmpsec_io.specs.Transfer.{WritesFront};
-ghost use Rattle.snmpsec_replay.specs.Replay.{AnswersLine, Ends, EndsBehind, ReplayText, SavesUnless, StopsBy, WriteFails, WritesSome, answer_line, from_line_1, outcome_text, printed_line, streams};
+ghost use Rattle.snmpsec_replay.specs.Replay.{AnswersLine, Ends, EndsBehind, ReplayText, SavesUnless, StopsBy};
+ghost use Rattle.snmpsec_replay.specs.Replay.{WriteFails, WritesSome, answer_line, from_line_1, outcome_text};
+ghost use Rattle.snmpsec_replay.specs.Replay.{printed_line, streams};
 
 use crate::fault::ReplayFault;
 use crate::log::{LINE_LIMIT, LINES_LIMIT, NextLine, read_entry, read_line};
@@ -121,7 +123,8 @@ fn answer(
 
 /// Writes what waits, where it is a piece.
 fn write_piece<W: Write>(writer: &mut W, waiting: &mut Vec<u8>) -> Result<(), Failed>
-    ensures ok { OnOk result (WritesSome (W.contents writer.old) (W.contents writer.new) waiting.old.items waiting.new.items) }
+    ensures ok { OnOk result
+        (WritesSome (W.contents writer.old) (W.contents writer.new) waiting.old.items waiting.new.items) }
     ensures err { OnErr result (WritesFront (W.contents writer.old) (W.contents writer.new) waiting.old.items) }
 {
     if waiting.len() < PIECE {
@@ -156,8 +159,14 @@ fn answer_lines<R: BufRead, W: Write>(
 ) -> Result<Ending, Failed>
     requires none { waiting.old.items ≡ [] }
     requires first { printing.first ≤ 1000000000000000 }
-    ensures ok { IfOk result (Ends printing manager.old manager.new (streams (R.remaining reader.old) (R.remaining reader.new) (W.contents writer.old) (W.contents writer.new)) waiting.new.items) }
-    ensures err { OnErr result (WriteFails printing manager.old (streams (R.remaining reader.old) (R.remaining reader.new) (W.contents writer.old) (W.contents writer.new))) }
+    ensures ok { IfOk result
+        (Ends printing manager.old manager.new
+        (streams (R.remaining reader.old) (R.remaining reader.new) (W.contents writer.old)
+        (W.contents writer.new)) waiting.new.items) }
+    ensures err { OnErr result
+        (WriteFails printing manager.old
+        (streams (R.remaining reader.old) (R.remaining reader.new) (W.contents writer.old)
+        (W.contents writer.new))) }
 {
     let Ok(mut line) = Vec::with_capacity(alloc, LINE_LIMIT) else {
         return Ok(Ending::OutOfMemory);
@@ -189,7 +198,8 @@ fn answer_lines<R: BufRead, W: Write>(
 fn save<W: Write>(manager: &Manager, writer: &mut W) -> Result<(), ReplayFault>
     ensures fits { AreMarks manager.now.clocks }
     ensures ok { OnOk result (Appends (W.contents writer.old) (W.contents writer.new) (listing manager.now.clocks)) }
-    ensures err { IfErr result (SavesUnless (listing manager.now.clocks) (W.contents writer.old) (W.contents writer.new)) }
+    ensures err { IfErr result
+        (SavesUnless (listing manager.now.clocks) (W.contents writer.old) (W.contents writer.new)) }
 {
     let Ok(text) = manager.save() else {
         return Err(ReplayFault::OutOfMemory);
@@ -200,20 +210,22 @@ fn save<W: Write>(manager: &Manager, writer: &mut W) -> Result<(), ReplayFault>
     }
 }
 
-/// Takes the datagrams of a log, one a line, and writes a line for each, and at the end the saved text of what the manager holds.
-/// It holds one line at a time, of at most 131,072 octets, and reads at most 1,000,000. A reader that doesn't read ahead is
-/// given in a `BufReader`.
+/// Takes the datagrams of a log, one a line, and writes a line for each, and at the end the saved text of
+/// what the manager holds. It holds one line at a time, of at most 131,072 octets, and reads at most
+/// 1,000,000. A reader that doesn't read ahead is given in a `BufReader`.
 ///
-/// The errors are LogLine(n), where line n is the first that is out of its form or past these limits; CannotRead and CannotWrite,
-/// where a read or a write fails, or is interrupted 1,000 times in a row; and OutOfMemory. Before each of them but CannotWrite
-/// the lines of all datagrams that were taken are written, and no saved text.
+/// The errors are LogLine(n), where line n is the first that is out of its form or past these limits;
+/// CannotRead and CannotWrite, where a read or a write fails, or is interrupted 1,000 times in a row; and
+/// OutOfMemory. Before each of them but CannotWrite the lines of all datagrams that were taken are written,
+/// and no saved text.
 pub fn replay_log<R: BufRead, W: Write>(
     alloc: Global,
     manager: Manager,
     reader: &mut R,
     writer: &mut W,
 ) -> Result<(), ReplayFault>
-    ensures ok { OnOk result (IfSome (R.remaining reader.old) (λ log. (text : List ℕ) × ReplayText from_line_1 manager log text
+    ensures ok { OnOk result
+        (IfSome (R.remaining reader.old) (λ log. (text : List ℕ) × ReplayText from_line_1 manager log text
         × Appends (W.contents writer.old) (W.contents writer.new) text)) }
     ensures err { IfErr result (StopsBy from_line_1 manager record {
       unread = R.remaining reader.old;
@@ -229,8 +241,9 @@ pub fn replay_log<R: BufRead, W: Write>(
     replay_as(alloc, manager, printing, reader, writer)
 }
 
-/// The same with lines numbered from `printing.first`, at most 10^15, in what is written and in LogLine(n); and where no lines are wanted, with
-/// the saved text alone. So a log of more lines can be replayed in pieces, whose lines go on in number.
+/// The same with lines numbered from `printing.first`, at most 10^15, in what is written and in LogLine(n);
+/// and where no lines are wanted, with the saved text alone. So a log of more lines can be replayed in
+/// pieces, whose lines go on in number.
 pub fn replay_as<R: BufRead, W: Write>(
     alloc: Global,
     mut manager: Manager,
@@ -239,7 +252,8 @@ pub fn replay_as<R: BufRead, W: Write>(
     writer: &mut W,
 ) -> Result<(), ReplayFault>
     requires { printing.first ≤ 1000000000000000 }
-    ensures ok { OnOk result (IfSome (R.remaining reader.old) (λ log. (text : List ℕ) × ReplayText printing manager log text
+    ensures ok { OnOk result
+        (IfSome (R.remaining reader.old) (λ log. (text : List ℕ) × ReplayText printing manager log text
         × Appends (W.contents writer.old) (W.contents writer.new) text)) }
     ensures err { IfErr result (StopsBy printing manager record {
       unread = R.remaining reader.old;

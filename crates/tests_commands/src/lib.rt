@@ -1,5 +1,5 @@
-//! Tests of the program's libraries that can't be transcripts in `tests/cli`: memory that is refused, readers and writers
-//! that fail, what no command reaches, and an example of each library.
+//! Tests of the program's libraries that can't be transcripts in `tests/cli`: memory that is refused, readers
+//! and writers that fail, what no command reaches, and an example of each library.
 #![tactic(auto)]
 
 #[cfg(test)]

@@ -1,4 +1,5 @@
-//! What a refused growth of memory leaves, in each library, an example of each library, and ten thousand texts sealed and opened.
+//! What a refused growth of memory leaves, in each library, an example of each library, and ten thousand
+//! texts sealed and opened.
 #![tactic(auto)]
 
 #[cfg(test)]

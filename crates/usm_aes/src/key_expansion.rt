@@ -1,6 +1,7 @@
 //! The key expansion.
 ghost use Rattle.std.specs.Prelude.{◌≡◌, ◌<◌, ◌≤◌};
-ghost use Rattle.usm_aes.specs.Aes.{expanded_word, rot_word as rot_word_of, round_constant as round_constant_of, schedule, sub_word as sub_word_of, xor_words as xor_words_of};
+ghost use Rattle.usm_aes.specs.Aes.{expanded_word, rot_word as rot_word_of, round_constant as round_constant_of};
+ghost use Rattle.usm_aes.specs.Aes.{schedule, sub_word as sub_word_of, xor_words as xor_words_of};
 ghost use Rattle.usm_aes.specs.Lanes.{AreLaneKeys, IsLaneKey, round_key as round_key_of};
 
 use crate::lanes::{lane_key, substitute_lanes, to_tower};

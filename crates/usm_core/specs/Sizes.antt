@@ -4,8 +4,8 @@ use Rattle.snmp_ber.specs.Spelling.{head_size}
 use Rattle.snmp_message.specs.declared.header.Header.{Header}
 use Rattle.snmp_message.specs.Spelling.{content_size}
 
--- the content of msgData, by the size of the content of its ScopedPDU, which is in its shortest spelling: where priv is set the ciphertext
--- of the whole ScopedPDU, and else that content itself
+-- the content of msgData, by the size of the content of its ScopedPDU, which is in its shortest spelling:
+-- where priv is set the ciphertext of the whole ScopedPDU, and else that content itself
 abbrev pub data_size : Bool → ℕ → ℕ
 data_size privacy size = if privacy then head_size size + size else size
 

@@ -1,5 +1,5 @@
-//! The user-based security model for SNMPv3 (RFC 3414): what users with the keys of their passwords make of a message that comes
-//! in or goes out.
+//! The user-based security model for SNMPv3 (RFC 3414): what users with the keys of their passwords make of a
+//! message that comes in or goes out.
 //!
 //! ```
 //! use usm_core::{Role, Users, UsmFault};

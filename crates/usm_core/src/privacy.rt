@@ -23,8 +23,8 @@ use usm_aes::{Schedule, cfb_open, cfb_seal, iv};
 use usm_keys::{Key, localise};
 use usm_users::{CachedKey, KeyCache, Purpose, UserTable};
 
-/// The first 16 octets of the key localised to the engine, expanded, of a user's privacy key. The localised key is the kept
-/// one, which becomes the last used, or one that is made and kept.
+/// The first 16 octets of the key localised to the engine, expanded, of a user's privacy key. The localised
+/// key is the kept one, which becomes the last used, or one that is made and kept.
 pub(crate) fn schedule_under(
     users: &UserTable,
     cache: &mut KeyCache,
@@ -52,7 +52,8 @@ pub(crate) fn schedule_under(
 fn user_schedule(users: &UserTable, cache: &mut KeyCache, name: &[u8], engine: &[u8]) -> Schedule
     requires level { HasUserAt users.now name.now AuthPriv }
     requires cache { AreCached users.now cache.old }
-    ensures schedule { UserKey users.now name.now (λ user. user.privacy) (λ key. result ≡ schedule (take 16 (kul (hash_of key.auth) key.octets engine.now))) }
+    ensures schedule { UserKey users.now name.now (λ user. user.privacy)
+        (λ key. result ≡ schedule (take 16 (kul (hash_of key.auth) key.octets engine.now))) }
     ensures cache { AreCached users.now cache.new }
 {
     let Some(user) = users.user_named(name) else {
@@ -73,7 +74,8 @@ pub(crate) fn seal_end<S: ScopedPdu>(
     requires fits { S.fits outgoing.now.scoped.now }
     requires end { (front : List ℕ) × (text.old.items ≡ front ++ S.octets outgoing.now.scoped.now) }
     ensures sealed { (front octets : List ℕ) → text.old.items ≡ front ++ S.octets outgoing.now.scoped.now
-        → IsSealed (enciphered schedule.now) (iv_of outgoing.now.boots outgoing.now.time outgoing.now.salt) (S.octets outgoing.now.scoped.now) octets
+        → IsSealed (enciphered schedule.now) (iv_of outgoing.now.boots outgoing.now.time outgoing.now.salt)
+        (S.octets outgoing.now.scoped.now) octets
         → text.new.items ≡ front ++ octets }
     ensures length { length text.new.items ≡ length text.old.items }
 {
@@ -90,7 +92,9 @@ fn open_octets(
     salt: &[u8; 8],
     octets: &[u8],
 ) -> Result<Vec<u8>, AllocError>
-    ensures { IfOk result (λ v. v.items ≡ opened (enciphered schedule.now) (iv_of security.now.boots security.now.time salt.now) octets.now) }
+    ensures { IfOk result
+        (λ v. v.items ≡ opened (enciphered schedule.now)
+        (iv_of security.now.boots security.now.time salt.now) octets.now) }
 {
     let mut text = octets.to_vec(alloc)?;
     cfb_open(schedule, iv(security.boots, security.time, salt), &mut text);
@@ -107,7 +111,9 @@ pub(crate) fn open_for(
     requires level { HasUserAt users.now checked.now.security.user.now AuthPriv }
     requires sealed { tag_of checked.now.message.body ≡ 4 }
     requires cache { AreCached users.now cache.old }
-    ensures opened { IfOk result (λ v. IsPlaintext users.now (fields_of checked.now.security) (content_of checked.now.message.body) v.items) }
+    ensures opened { IfOk result
+        (λ v. IsPlaintext users.now (fields_of checked.now.security)
+        (content_of checked.now.message.body) v.items) }
     ensures salt { IsErrOf result UsmFault.DecryptionError → length checked.now.security.salt.now ≢ 8 }
     ensures salt_length { IfOk result (λ _. length checked.now.security.salt.now ≡ 8) }
     ensures memory { IsErrOf result UsmFault.OutOfMemory → length checked.now.security.salt.now ≡ 8 }

@@ -19,8 +19,9 @@ use snmp_message::{Header, Security, longer_whole, message_size, security_len};
 use usm_users::UserTable;
 
 impl Users {
-    /// How many octets the content of msgSecurityParameters has in a message that is sealed for this user (RFC 3414, section 2.4): the
-    /// code and the salt are those of the header's flags. The engine ID and the name have at most 32 octets each.
+    /// How many octets the content of msgSecurityParameters has in a message that is sealed for this user
+    /// (RFC 3414, section 2.4): the code and the salt are those of the header's flags. The engine ID and the
+    /// name have at most 32 octets each.
     ///
     /// With it the length of each text of such a message is known before it is written. It takes no memory.
     pub fn security_len(&self, header: &Header, engine: &[u8], pair: Pair, user: &[u8]) -> usize
@@ -47,10 +48,11 @@ impl Users {
     }
 }
 
-/// How many octets the code of a message has (RFC 3414, sections 6.3.1 and 7.3.1; RFC 7860, section 4.2.1): of the user's protocol
-/// where auth is set, and else none.
+/// How many octets the code of a message has (RFC 3414, sections 6.3.1 and 7.3.1; RFC 7860, section 4.2.1):
+/// of the user's protocol where auth is set, and else none.
 fn code_octets(users: &UserTable, header: &Header, name: &[u8]) -> usize
-    ensures code { header.now.auth ≡ true → (user : UserOf) (key : AuthKey) → user_named users.now name.now ≡ Some user → user.auth ≡ Some key → result ≡ mac_octets key.auth }
+    ensures code { header.now.auth ≡ true → (user : UserOf) (key : AuthKey)
+        → user_named users.now name.now ≡ Some user → user.auth ≡ Some key → result ≡ mac_octets key.auth }
     ensures none { header.now.auth ≡ false → result ≡ 0 }
     ensures most { result ≤ 24 }
 {
@@ -66,7 +68,8 @@ fn code_octets(users: &UserTable, header: &Header, name: &[u8]) -> usize
     }
 }
 
-/// How many octets msgPrivacyParameters have (RFC 3826, section 3.1.1.2): those of a salt where priv is set, and else none.
+/// How many octets msgPrivacyParameters have (RFC 3826, section 3.1.1.2): those of a salt where priv is set,
+/// and else none.
 pub(crate) fn salt_octets(header: &Header) -> usize
     ensures size { result ≡ (if header.now.privacy then 8 else 0) }
     ensures most { result ≤ 24 }

@@ -1,6 +1,7 @@
 //! The users of an engine.
 
-ghost use Rattle.std.specs.Prelude.{◌+◌, ◌<◌, ◌≤◌, false, replicate, ◌≡◌, ◌≢◌, ◌↔◌, ◌⊎◌, ℕ, List, [], map, length, IfOk, IfErr, IfSome, OnOk, OnErr, IsErrOf};
+ghost use Rattle.std.specs.Prelude.{◌+◌, ◌<◌, ◌≤◌, false, replicate, ◌≡◌, ◌≢◌, ◌↔◌, ◌⊎◌, ℕ, List, [], map, length};
+ghost use Rattle.std.specs.Prelude.{IfOk, IfErr, IfSome, OnOk, OnErr, IsErrOf};
 ghost use Rattle.snmp_ber.specs.declared.level.Level.TheVariants.{AuthPriv};
 ghost use Rattle.snmp_message.specs.declared.message.TheConstants.{LARGEST};
 ghost use Rattle.snmp_message.specs.Message.{tag_of, content_of};
@@ -55,11 +56,11 @@ impl Model for Users {
 }
 
 impl Users {
-    /// The users of these rows, in their order, with no localised key kept. Each password is hashed once, at length (RFC 3414,
-    /// section A.2).
+    /// The users of these rows, in their order, with no localised key kept. Each password is hashed once, at
+    /// length (RFC 3414, section A.2).
     ///
-    /// The error is what is wrong with the first row at fault, or OutOfMemory where none is: of one row's faults BadUser
-    /// comes first, then ShortPassword, then DuplicateUser, which is told of the later row.
+    /// The error is what is wrong with the first row at fault, or OutOfMemory where none is: of one row's
+    /// faults BadUser comes first, then ShortPassword, then DuplicateUser, which is told of the later row.
     pub fn load(alloc: Global, rows: &[UserRow]) -> Result<Users, UserFault>
         ensures sound { OnOk result (AreSound rows.now) }
         ensures users { IfOk result (λ made. made.users ≡ map user_of rows.now) }
@@ -88,8 +89,8 @@ impl Users {
         Ok(())
     }
 
-    /// The number of localised keys that are kept for the next message: at most 64. Each is the key of one of the users, for
-    /// authentication or for privacy, localised to an engine.
+    /// The number of localised keys that are kept for the next message: at most 64. Each is the key of one of
+    /// the users, for authentication or for privacy, localised to an engine.
     pub fn cached(&self) -> usize
         ensures count { result ≡ length self.now.cache }
         ensures most { result ≤ 64 }
@@ -110,8 +111,9 @@ impl Users {
         })
     }
 
-    /// Whether there is a user of this name with the keys that the level needs. The error is UnknownUser (7) where there is
-    /// no user of the name, the empty one among them, and else UnsupportedLevel (8). It takes no memory.
+    /// Whether there is a user of this name with the keys that the level needs. The error is UnknownUser (7)
+    /// where there is no user of the name, the empty one among them, and else UnsupportedLevel (8). It takes
+    /// no memory.
     pub fn supports(&self, user: &[u8], level: Level) -> Result<(), UsmFault>
         ensures answer { Supports self.now.users user.now level result }
         ensures empty { user.now ≡ [] → result ≡ Err UnknownUser }
@@ -128,10 +130,11 @@ impl Users {
 
     /// The message that the datagram is, where auth is clear or its digest is right (RFC 3414, section 3.2).
     ///
-    /// The errors are, the first that applies: NotMessage (1) and BadVersion (2), UnknownModel (17), InvalidFlags (18),
-    /// NotScoped (4), NotSecurity (3), UnknownEngine (6), UnknownUser (7), UnsupportedLevel (8), WrongDigest (9). Neither
-    /// the time window nor the sealed text is looked at. It copies no octet of the datagram. Only keeping the localised key takes
-    /// memory, and where that is refused the answer is the same.
+    /// The errors are, the first that applies: NotMessage (1) and BadVersion (2), UnknownModel (17),
+    /// InvalidFlags (18), NotScoped (4), NotSecurity (3), UnknownEngine (6), UnknownUser (7),
+    /// UnsupportedLevel (8), WrongDigest (9). Neither the time window nor the sealed text is looked at. It
+    /// copies no octet of the datagram. Only keeping the localised key takes memory, and where that is
+    /// refused the answer is the same.
     pub fn open_auth<'a>(
         &mut self,
         role: Role<'_>,
@@ -139,9 +142,11 @@ impl Users {
     ) -> Result<Checked<'a>, UsmFault>
         ensures rows { Verifies (side_of role.entry) self.old.users datagram.now (checked_answer result) }
 
-        // A message with auth is accepted exactly where the datagram is authentic, and at an agent is of its own engine.
+        // A message with auth is accepted exactly where the datagram is authentic, and at an agent is of its
+        // own engine.
         ensures authentic { (engine : List ℕ) (pair : BootsAndTime) →
-            (Authentic self.old.users datagram.now engine pair × AllowsEngine (side_of role.entry) engine) ↔ IsAuthenticatedAs (checked_answer result) engine pair }
+            (Authentic self.old.users datagram.now engine pair × AllowsEngine (side_of role.entry) engine)
+            ↔ IsAuthenticatedAs (checked_answer result) engine pair }
         ensures level { IfOk result (λ c. c.level ≡ level_of c.message.header) }
 
         // Want of memory is never the error.
@@ -152,7 +157,9 @@ impl Users {
         ensures judged { IfOk result (λ c. IsJudged (side_of role.entry) self.old.users datagram.now (verified_of c)) }
 
         // This is what `open_priv` asks.
-        ensures private { IfOk result (λ c. c.level ≡ AuthPriv → HasUserAt self.old.users c.security.user.now AuthPriv × (tag_of c.message.body ≡ 4)) }
+        ensures private { IfOk result
+            (λ c. c.level ≡ AuthPriv
+            → HasUserAt self.old.users c.security.user.now AuthPriv × (tag_of c.message.body ≡ 4)) }
         ensures users { self.new.users ≡ self.old.users }
 
         // A refused datagram leaves the keys that are kept, and their order.
@@ -171,13 +178,16 @@ impl Users {
         Ok(checked)
     }
 
-    /// The plaintext of a message at authPriv that `open_auth` gave (RFC 3826, section 3.1.4). Its memory is asked for once.
+    /// The plaintext of a message at authPriv that `open_auth` gave (RFC 3826, section 3.1.4). Its memory is
+    /// asked for once.
     ///
     /// The error is DecryptionError (11), exactly where msgPrivacyParameters don't have 8 octets, or OutOfMemory.
     pub fn open_priv(&mut self, checked: &Checked<'_>) -> Result<Vec<u8>, UsmFault>
         requires level { HasUserAt self.old.users checked.now.security.user.now AuthPriv }
         requires sealed { tag_of checked.now.message.body ≡ 4 }
-        ensures opened { IfOk result (λ v. IsPlaintext self.old.users (fields_of checked.now.security) (content_of checked.now.message.body) v.items) }
+        ensures opened { IfOk result
+            (λ v. IsPlaintext self.old.users (fields_of checked.now.security)
+            (content_of checked.now.message.body) v.items) }
         ensures salt { IsErrOf result UsmFault.DecryptionError → length checked.now.security.salt.now ≢ 8 }
         ensures salt_length { IfOk result (λ _. length checked.now.security.salt.now ≡ 8) }
         ensures memory { IsErrOf result UsmFault.OutOfMemory → length checked.now.security.salt.now ≡ 8 }
@@ -187,13 +197,14 @@ impl Users {
         open_for(self.alloc, &self.table, &mut self.cache, checked)
     }
 
-    /// The text of an outgoing message (RFC 3414, section 3.1): every length the shortest, fields that its level doesn't use
-    /// empty, and the code last, in its place. `scoped` is one whole ScopedPDU element. The engine ID is of any length,
-    /// since a discovery has an empty one.
+    /// The text of an outgoing message (RFC 3414, section 3.1): every length the shortest, fields that its
+    /// level doesn't use empty, and the code last, in its place. `scoped` is one whole ScopedPDU element. The
+    /// engine ID is of any length, since a discovery has an empty one.
     ///
-    /// The errors are InvalidFlags (18), then at levels with authentication UnknownUser (7) and UnsupportedLevel (8), and
-    /// then TooLarge (16), only where the text would be longer than 65,507 octets, or OutOfMemory, whichever is met first.
-    /// A text is at most 150 octets longer than the engine ID, the user name and the scoped PDU together.
+    /// The errors are InvalidFlags (18), then at levels with authentication UnknownUser (7) and
+    /// UnsupportedLevel (8), and then TooLarge (16), only where the text would be longer than 65,507 octets,
+    /// or OutOfMemory, whichever is met first. A text is at most 150 octets longer than the engine ID, the
+    /// user name and the scoped PDU together.
     pub fn seal(
         &mut self,
         header: &Header,
@@ -204,18 +215,21 @@ impl Users {
         scoped: &[u8],
     ) -> Result<Vec<u8>, UsmFault>
         requires { IsSendable header.now user.now scoped.now }
-        ensures rows { IfSome (seal_answer result) (Seals self.old.users (sending header.now engine.now pair user.now salt scoped.now)) }
+        ensures rows { IfSome (seal_answer result)
+            (Seals self.old.users (sending header.now engine.now pair user.now salt scoped.now)) }
 
         // The refusals before the text come before want of memory.
-        ensures memory { IsErrOf result UsmFault.OutOfMemory → IsSealable self.old.users (sending header.now engine.now pair user.now salt scoped.now) }
-        ensures short { IsErrOf result UsmFault.TooLarge → LARGEST < 150 + length engine.now + length user.now + length scoped.now }
+        ensures memory { IsErrOf result UsmFault.OutOfMemory
+            → IsSealable self.old.users (sending header.now engine.now pair user.now salt scoped.now) }
+        ensures short { IsErrOf result UsmFault.TooLarge
+            → LARGEST < 150 + length engine.now + length user.now + length scoped.now }
         ensures users { self.new.users ≡ self.old.users }
     {
         self.seal_of(header, engine, pair, user, salt, &ScopedOctets::of(scoped))
     }
 
-    /// The same, of a ScopedPDU that is written where it stands in the message. The memory of the text is asked for once, and no octet
-    /// of it is copied from another text.
+    /// The same, of a ScopedPDU that is written where it stands in the message. The memory of the text is
+    /// asked for once, and no octet of it is copied from another text.
     ///
     /// The errors are those of `seal`, in its order.
     pub fn seal_of<S: ScopedPdu>(
@@ -230,9 +244,12 @@ impl Users {
         requires header { HeaderFits header.now }
         requires user { length user.now ≤ 32 }
         requires scoped { S.fits scoped.now }
-        ensures rows { IfSome (seal_answer result) (Seals self.old.users (sending header.now engine.now pair user.now salt (S.octets scoped.now))) }
-        ensures memory { IsErrOf result UsmFault.OutOfMemory → IsSealable self.old.users (sending header.now engine.now pair user.now salt (S.octets scoped.now)) }
-        ensures short { IsErrOf result UsmFault.TooLarge → LARGEST < 150 + length engine.now + length user.now + length (S.octets scoped.now) }
+        ensures rows { IfSome (seal_answer result)
+            (Seals self.old.users (sending header.now engine.now pair user.now salt (S.octets scoped.now))) }
+        ensures memory { IsErrOf result UsmFault.OutOfMemory
+            → IsSealable self.old.users (sending header.now engine.now pair user.now salt (S.octets scoped.now)) }
+        ensures short { IsErrOf result UsmFault.TooLarge
+            → LARGEST < 150 + length engine.now + length user.now + length (S.octets scoped.now) }
         ensures users { self.new.users ≡ self.old.users }
     {
         some_sealed();
@@ -265,9 +282,12 @@ impl Users {
         requires scoped { S.fits scoped.now }
         requires auth { header.now.auth ≡ false }
         requires privacy { header.now.privacy ≡ false }
-        ensures rows { IfSome (seal_answer result) (Seals self.now.users (sending header.now engine.now pair user.now (replicate 8 0) (S.octets scoped.now))) }
+        ensures rows { IfSome (seal_answer result)
+            (Seals self.now.users
+            (sending header.now engine.now pair user.now (replicate 8 0) (S.octets scoped.now))) }
         ensures fault { IfErr result IsWriteFault }
-        ensures short { IsErrOf result UsmFault.TooLarge → LARGEST < 150 + length engine.now + length user.now + length (S.octets scoped.now) }
+        ensures short { IsErrOf result UsmFault.TooLarge
+            → LARGEST < 150 + length engine.now + length user.now + length (S.octets scoped.now) }
     {
         some_sealed();
         sealed_size();

@@ -37,8 +37,8 @@ fn allows_no_user(role: Role<'_>, name: &[u8], level: Level) -> bool
     }
 }
 
-/// The message that the datagram is, where its digest is right or it has none. `made` is the localised key where the cache has
-/// none.
+/// The message that the datagram is, where its digest is right or it has none. `made` is the localised key
+/// where the cache has none.
 pub(crate) fn verify<'a>(
     users: &UserTable,
     cache: &KeyCache,
@@ -49,7 +49,9 @@ pub(crate) fn verify<'a>(
     requires cache { AreCached users.now cache.now }
     requires none { made.old ≡ None }
     ensures rows { Verifies (side_of role.entry) users.now datagram.now (checked_answer result) }
-    ensures made { IfOk result (λ c. IfSome made.new (IsCachedAt users.now (key_id c.security.user.now c.security.engine.now Authentication))) }
+    ensures made { IfOk result
+        (λ c. IfSome made.new
+        (IsCachedAt users.now (key_id c.security.user.now c.security.engine.now Authentication))) }
 {
     let layout = read_layout(datagram)?;
     let (message, security, level) = (layout.message, layout.security, layout.level);

@@ -8,8 +8,8 @@ use crate::pads::Pads;
 use arrayvec::ArrayVec;
 use std::marker::Model;
 
-/// A key that is kept for several messages. One that authenticates them keeps its two padded blocks hashed too (RFC 2104,
-/// section 4), so that each code takes two blocks of the hash fewer.
+/// A key that is kept for several messages. One that authenticates them keeps its two padded blocks hashed
+/// too (RFC 2104, section 4), so that each code takes two blocks of the hash fewer.
 #[derive(Drop)]
 pub struct KeptKey {
     key: Key,

@@ -28,7 +28,8 @@ key_for Privacy user = user.privacy
 
 -- The key is that of the user, for the purpose, localised to the engine.
 abbrev pub IsCachedAt : List User → KeyId → AuthKey → Type 0
-IsCachedAt users id local = IsSomeAnd (user_named users id.user) (λ user. IsSomeAnd (key_for id.purpose user) (λ key. local ≡ localised_to id.engine key))
+IsCachedAt users id local = IsSomeAnd (user_named users id.user)
+    (λ user. IsSomeAnd (key_for id.purpose user) (λ key. local ≡ localised_to id.engine key))
 
 -- Each of them is what its user, engine and purpose say.
 abbrev pub AreCached : List User → List (KeyId × AuthKey) → Type 0

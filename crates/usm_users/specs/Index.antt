@@ -8,6 +8,7 @@ use Rattle.usm_users.specs.Users.{user_named}
 
 -- The entries give the place of each name that a user has, and of no other.
 pub record IsIndex (users : List User) (entries : List (List ℕ × ℕ)) : Type 0 where
-  pub finds : (name : List ℕ) → option_and_then (slice_get users) (lookup (pointwise nat_eq name) entries) ≡ user_named users name
+  pub finds : (name : List ℕ)
+      → option_and_then (slice_get users) (lookup (pointwise nat_eq name) entries) ≡ user_named users name
   pub within : (name : List ℕ) (place : ℕ) → lookup (pointwise nat_eq name) entries ≡ Some place → place < length users
   pub short : (name : List ℕ) (user : User) → user_named users name ≡ Some user → length name ≤ 32

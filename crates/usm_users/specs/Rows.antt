@@ -1,5 +1,6 @@
 -- Rows of users: which of them is refused, and which users the others make.
-use Rattle.std.specs.Prelude.{◌≡◌, ℕ, ◌<◌, ◌||◌, ◌&&◌, ◌==◌, nat_lt, nat_eq, if◌then◌else◌, Bool, false, List, length, take, slice_get, Option, Some, None, is_some, is_none}
+use Rattle.std.specs.Prelude.{◌≡◌, ℕ, ◌<◌, ◌||◌, ◌&&◌, ◌==◌, nat_lt, nat_eq, if◌then◌else◌, Bool, false, List, length}
+use Rattle.std.specs.Prelude.{take, slice_get, Option, Some, None, is_some, is_none}
 use Rattle.std.specs.List.{list_any}
 use Rattle.std.specs.Option.{option_map, option_map_or, option_and_then}
 use Rattle.std.specs.Cmp.Lexicographic.{pointwise}
@@ -28,13 +29,14 @@ is_short_password password = nat_lt (length password) 8
 
 abbrev pub has_short_password : UserRow → Bool
 has_short_password row =
-    option_map_or (λ own. is_short_password own.1.items) row.auth false || option_map_or (λ password. is_short_password password.items) row.privacy false
+    option_map_or (λ own. is_short_password own.1.items) row.auth false || option_map_or
+    (λ password. is_short_password password.items) row.privacy false
 
 abbrev pub has_name : List ℕ → UserRow → Bool
 has_name name row = pointwise nat_eq row.name.items name
 
--- What is wrong with the row at this place, where these are the rows before it: of several faults the first in the order
--- BadUser, ShortPassword, DuplicateUser.
+-- What is wrong with the row at this place, where these are the rows before it: of several faults the first
+-- in the order BadUser, ShortPassword, DuplicateUser.
 unfoldable pub row_fault : List UserRow → ℕ → UserRow → Option UserFault
 row_fault earlier position row =
     if is_bad_user row then Some (BadUser position)

@@ -1,5 +1,6 @@
 -- Users, with the keys of their passwords, not yet localised to an engine (RFC 3414, sections 2.1 and 2.6).
-use Rattle.std.specs.Prelude.{◌≡◌, ℕ, ◌≤◌, ◌&&◌, List, length, slice_get, Contains, find, nat_eq, Bool, true, Option, Some, IsSomeAnd, is_some}
+use Rattle.std.specs.Prelude.{◌≡◌, ℕ, ◌≤◌, ◌&&◌, List, length, slice_get, Contains, find, nat_eq, Bool, true, Option}
+use Rattle.std.specs.Prelude.{Some, IsSomeAnd, is_some}
 use Rattle.std.specs.Option.{option_map}
 use Rattle.std.specs.Cmp.Lexicographic.{pointwise}
 use Rattle.snmp_ber.specs.declared.level.Level.{Level}
@@ -34,4 +35,5 @@ pub record IsUser (user : User) : Type 0 where
 -- Each of them is a user, and no two have one name.
 pub record AreUsers (users : List User) : Type 0 where
   pub each : (user : User) → Contains users user → IsUser user
-  pub distinct : (i j : ℕ) (x y : User) → slice_get users i ≡ Some x → slice_get users j ≡ Some y → x.name ≡ y.name → i ≡ j
+  pub distinct : (i j : ℕ) (x y : User) → slice_get users i ≡ Some x → slice_get users j ≡ Some y
+      → x.name ≡ y.name → i ≡ j

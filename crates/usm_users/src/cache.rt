@@ -69,8 +69,8 @@ impl Model for KeyCache {
     ghost invariant = { λ cache. cache.keys.cap ≡ 64 };
 }
 
-/// Whether a made key is to be entered among so many: each while there is room, and of the others each fifth. With more engines
-/// in turn than fit, each key would else push out another before it is found again.
+/// Whether a made key is to be entered among so many: each while there is room, and of the others each fifth.
+/// With more engines in turn than fit, each key would else push out another before it is found again.
 fn has_turn(passed_over: &mut u8, count: usize) -> bool {
     if count < MOST_KEYS || *passed_over >= PASSED_OVER {
         *passed_over = 0;
@@ -104,14 +104,17 @@ impl KeyCache {
 
     /// The key that is kept under this. The order stays as it is, and no memory is taken.
     pub fn find(&self, name: &[u8], engine: &[u8], purpose: Purpose) -> Option<&CachedKey>
-        ensures found { IfSome (option_copied result) (λ local. Contains self.now (key_id name.now engine.now purpose, local)) }
-        ensures cached { (users : List User) → AreCached users self.now → IfSome (option_copied result) (IsCachedAt users (key_id name.now engine.now purpose)) }
+        ensures found { IfSome (option_copied result)
+            (λ local. Contains self.now (key_id name.now engine.now purpose, local)) }
+        ensures cached { (users : List User) → AreCached users self.now
+            → IfSome (option_copied result) (IsCachedAt users (key_id name.now engine.now purpose)) }
     {
         self.keys.peek(&KeyId::of(name, engine, purpose)?)
     }
 
-    /// Notes that a key was used: one that was made is entered, where it has its turn, and a kept one moved to the front, but for
-    /// one of the last two. Where there is no memory, and for engine IDs of other lengths than 5 to 32 octets, all stays as it was.
+    /// Notes that a key was used: one that was made is entered, where it has its turn, and a kept one moved
+    /// to the front, but for one of the last two. Where there is no memory, and for engine IDs of other
+    /// lengths than 5 to 32 octets, all stays as it was.
     pub fn note_use(
         &mut self,
         name: &[u8],
@@ -119,8 +122,10 @@ impl KeyCache {
         purpose: Purpose,
         made: Option<CachedKey>,
     )
-        ensures kept { (e : IdOf × AuthKey) → Contains self.new e → Contains self.old e ⊎ IsSomeAnd made (λ local. e ≡ (key_id name.now engine.now purpose, local)) }
-        ensures cached { (users : List User) → AreCached users self.old → IfSome made (IsCachedAt users (key_id name.now engine.now purpose)) → AreCached users self.new }
+        ensures kept { (e : IdOf × AuthKey) → Contains self.new e
+            → Contains self.old e ⊎ IsSomeAnd made (λ local. e ≡ (key_id name.now engine.now purpose, local)) }
+        ensures cached { (users : List User) → AreCached users self.old
+            → IfSome made (IsCachedAt users (key_id name.now engine.now purpose)) → AreCached users self.new }
     {
         let Some(id) = KeyId::of(name, engine, purpose) else {
             return;

@@ -7,8 +7,8 @@ use std::marker::Model;
 use usm_aes::{Schedule, expand};
 use usm_keys::{KeptKey, Key};
 
-/// A localised key that is kept: with its padded blocks hashed where it is for authentication (RFC 2104, section 4), and with its
-/// first 16 octets expanded where it is for privacy (RFC 3826, section 3.1.2.1).
+/// A localised key that is kept: with its padded blocks hashed where it is for authentication (RFC 2104,
+/// section 4), and with its first 16 octets expanded where it is for privacy (RFC 3826, section 3.1.2.1).
 #[derive(Drop)]
 pub struct CachedKey {
     key: KeptKey,

@@ -6,8 +6,8 @@ ghost use Rattle.usm_users.specs.Credentials.{auth_of, privacy_of};
 
 use usm_keys::Key;
 
-/// The keys that a user's passwords were hashed to, not yet localised to an engine (RFC 3414, section 2.6). A key for privacy
-/// comes only with one for authentication.
+/// The keys that a user's passwords were hashed to, not yet localised to an engine (RFC 3414, section 2.6). A
+/// key for privacy comes only with one for authentication.
 #[derive(Drop)]
 pub enum Credentials {
     /// For noAuthNoPriv alone.

@@ -1,5 +1,5 @@
-//! Users of the User-based Security Model (RFC 3414, sections 2.1 and 2.6): the rows that define them, a table that finds a user by
-//! name, and localised keys that are kept for the next message.
+//! Users of the User-based Security Model (RFC 3414, sections 2.1 and 2.6): the rows that define them, a
+//! table that finds a user by name, and localised keys that are kept for the next message.
 //!
 //! ```
 //! use snmp_ber::Level;

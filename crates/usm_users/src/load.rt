@@ -74,7 +74,8 @@ fn is_named(rows: &[UserRow], name: &[u8]) -> bool
 /// What is wrong with the row at this place, of whose name it is told whether an earlier row has it.
 #[tactic(auto, unfolding(crate::specs::Rows::row_fault))]
 fn row_fault(position: usize, row: &UserRow, is_twice: bool) -> Option<UserFault>
-    ensures { (earlier : List ARow) → is_twice ≡ list_any (has_name row.now.name.items) earlier → result ≡ spec.row_fault earlier position row.now }
+    ensures { (earlier : List ARow) → is_twice ≡ list_any (has_name row.now.name.items) earlier
+        → result ≡ spec.row_fault earlier position row.now }
 {
     if is_bad(row) {
         Some(UserFault::BadUser { position })
@@ -156,7 +157,8 @@ pub fn places_of(alloc: Global, rows: &[UserRow]) -> Result<HashMap<UserName, us
 
 /// Whether a name stands somewhere.
 fn is_known(places: &HashMap<UserName, usize>, name: &[u8]) -> bool
-    ensures { (rows : List ARow) → IsIndex (map spec.user_of rows) places.now.entries → result ≡ list_any (has_name name.now) rows }
+    ensures { (rows : List ARow) → IsIndex (map spec.user_of rows) places.now.entries
+        → result ≡ list_any (has_name name.now) rows }
 {
     match UserName::of(name) {
         Some(name) => places.contains_key(&name),

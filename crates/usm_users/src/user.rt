@@ -81,7 +81,11 @@ impl Model for User {
 
     ghost Value = { AUser };
 
-    ghost view = { λ user. record { name = user.name; auth = auth_of user.credentials; privacy = privacy_of user.credentials } };
+    ghost view = { λ user. record {
+      name = user.name;
+      auth = auth_of user.credentials;
+      privacy = privacy_of user.credentials;
+    } };
 }
 
 impl User {

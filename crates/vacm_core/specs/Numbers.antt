@@ -1,7 +1,8 @@
 -- The numbers of answers.
 use Rattle.std.specs.Prelude.{ℕ}
 use Rattle.vacm_core.specs.declared.access.Access.{Access}
-use Rattle.vacm_core.specs.declared.access.Access.TheVariants.{NoSuchContext, NoGroupName, NoAccessEntry, NoSuchView, NotInView, AccessAllowed}
+use Rattle.vacm_core.specs.declared.access.Access.TheVariants.{NoSuchContext, NoGroupName, NoAccessEntry, NoSuchView}
+use Rattle.vacm_core.specs.declared.access.Access.TheVariants.{NotInView, AccessAllowed}
 
 abbrev pub access_number : Access → ℕ
 access_number AccessAllowed = 0

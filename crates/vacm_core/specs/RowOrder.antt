@@ -26,7 +26,8 @@ abbrev pub HasRowOf : {R : Type 0} → (R → List ℕ) → List ℕ → List R 
 HasRowOf {R} name wanted rows = (row : R) × Contains rows row × (name row ≡ wanted)
 
 -- the rows of a name, from the best down
-pub record IsRunOf {R : Type 0} (name : R → List ℕ) (rank : R → R → Ordering) (wanted : List ℕ) (rows run : List R) : Type 0 where
+pub record IsRunOf {R : Type 0} (name : R → List ℕ) (rank : R → R → Ordering) (wanted : List ℕ)
+    (rows run : List R) : Type 0 where
   pub named : (row : R) → Contains run row → name row ≡ wanted
   pub among : (row : R) → Contains run row → Contains rows row
   pub whole : (row : R) → Contains rows row → name row ≡ wanted → Contains run row
@@ -38,8 +39,12 @@ pub record IsFirstPlace {R : Type 0} (name : R → List ℕ) (rows : List R) (wa
   pub none_before : (k : ℕ) (row : R) → k < place → name (get_or rows k row) ≢ wanted
 
 -- the entries give the run of each name that one of so many rows has, and of no other name
-pub record AreRuns {R : Type 0} (name : R → List ℕ) (rank : R → R → Ordering) (rows : List R) (many : ℕ) (entries : List (List ℕ × Run)) : Type 0 where
-  pub within : (wanted : List ℕ) (run : Run) → lookup (pointwise nat_eq wanted) entries ≡ Some run → (run.first ≤ run.end) × (run.end ≤ length rows)
-  pub is_run : (wanted : List ℕ) (run : Run) → lookup (pointwise nat_eq wanted) entries ≡ Some run → IsRunOf name rank wanted rows (slice_range rows run.first run.end)
-  pub missing : (wanted : List ℕ) → lookup (pointwise nat_eq wanted) entries ≡ None → (k : ℕ) (row : R) → k < many → name (get_or rows k row) ≢ wanted
+pub record AreRuns {R : Type 0} (name : R → List ℕ) (rank : R → R → Ordering) (rows : List R) (many : ℕ)
+    (entries : List (List ℕ × Run)) : Type 0 where
+  pub within : (wanted : List ℕ) (run : Run) → lookup (pointwise nat_eq wanted) entries ≡ Some run
+      → (run.first ≤ run.end) × (run.end ≤ length rows)
+  pub is_run : (wanted : List ℕ) (run : Run) → lookup (pointwise nat_eq wanted) entries ≡ Some run
+      → IsRunOf name rank wanted rows (slice_range rows run.first run.end)
+  pub missing : (wanted : List ℕ) → lookup (pointwise nat_eq wanted) entries ≡ None → (k : ℕ) (row : R) → k < many
+      → name (get_or rows k row) ≢ wanted
   pub short : (k : ℕ) (row : R) → k < many → length (name (get_or rows k row)) ≤ 32

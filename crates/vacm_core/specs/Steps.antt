@@ -3,7 +3,8 @@ use Rattle.std.specs.Prelude.{◌≡◌, ◌≢◌, ℕ, List, [], Option, Some,
 use Rattle.std.specs.Borrow.{Bor}
 use Rattle.std.specs.declared.cmp.Ordering.{Ordering}
 use Rattle.vacm_core.specs.Tables.{Tables}
-use Rattle.vacm_core.specs.Allowed.{Requester, IsBestOf, NoneFits, HasContext, IsGroupRow, IsInGroup, FitsMessage, FitsVariable, access_order, family_order, view_name}
+use Rattle.vacm_core.specs.Allowed.{Requester, IsBestOf, NoneFits, HasContext, IsGroupRow, IsInGroup, FitsMessage}
+use Rattle.vacm_core.specs.Allowed.{FitsVariable, access_order, family_order, view_name}
 use Rattle.vacm_core.specs.declared.access.ViewType.{ViewType}
 use Rattle.vacm_core.specs.declared.rows.ContextRow.{ContextRow}
 use Rattle.vacm_core.specs.declared.rows.GroupRow.{GroupRow}
@@ -17,7 +18,8 @@ use Rattle.vacm_core.specs.declared.steps.AccessStep.{AccessStep}
 use Rattle.vacm_core.specs.declared.steps.ViewStep.{ViewStep}
 
 -- The row stands at this position, and it is the best of those that fit.
-pub record IsBestAt {R : Type 0} (rows : List R) (Fits : R → Type 0) (order : R → R → Ordering) (position : ℕ) (row : R) : Type 0 where
+pub record IsBestAt {R : Type 0} (rows : List R) (Fits : R → Type 0) (order : R → R → Ordering) (position : ℕ)
+    (row : R) : Type 0 where
   pub stands : slice_get rows position ≡ Some row
   pub best : IsBestOf rows Fits order row
 
@@ -41,7 +43,8 @@ HasNoGroup rows model name = (group : List ℕ) → ¬ IsInGroup rows model name
 -- the family row of the view that decides on the variable, where one has it
 abbrev pub DecidesFamily : List FamilyRow → List ℕ → List ℕ → Option (Bor FamilyRow) → Type 0
 DecidesFamily rows view variable family =
-    MatchOption family (NoneFits rows (FitsVariable view variable)) (λ row. IsBestOf rows (FitsVariable view variable) family_order row.now)
+    MatchOption family (NoneFits rows (FitsVariable view variable))
+    (λ row. IsBestOf rows (FitsVariable view variable) family_order row.now)
 
 -- of the view of this name; the empty name is no view
 abbrev pub DecidesView : List FamilyRow → List ℕ → List ℕ → Option (Bor FamilyRow) → Type 0
@@ -51,13 +54,15 @@ DecidesView rows name variable family = name ≢ [] → DecidesFamily rows name 
 abbrev pub DecidesAccess : Tables → Requester → ViewType → List ℕ → List ℕ → Deciding → Type 0
 DecidesAccess t q view variable group d =
     MatchOption d.access (NoneFits t.access (FitsMessage group q.model q.level q.context))
-    (λ row. IsBestOf t.access (FitsMessage group q.model q.level q.context) access_order row.now × DecidesView t.families (view_name view row.now) variable d.family)
+    (λ row. IsBestOf t.access (FitsMessage group q.model q.level q.context) access_order row.now
+    × DecidesView t.families (view_name view row.now) variable d.family)
 
 -- the row of the security name's group, where it has one
 abbrev pub DecidesGroup : Tables → Requester → ViewType → List ℕ → Deciding → Type 0
 DecidesGroup t q view variable d =
     MatchOption d.group (HasNoGroup t.groups q.model q.name)
-    (λ row. Contains t.groups row.now × IsGroupRow q.model q.name row.now × DecidesAccess t q view variable row.now.group d)
+    (λ row. Contains t.groups row.now × IsGroupRow q.model q.name row.now
+    × DecidesAccess t q view variable row.now.group d)
 
 -- the row of the context, where there is one
 abbrev pub DecidesContext : Tables → Requester → ViewType → List ℕ → Deciding → Type 0
@@ -70,7 +75,8 @@ DecidesContext t q view variable d =
 -- the family row of the view that decides on the variable, where one has it
 abbrev pub TellsFamily : List FamilyRow → List ℕ → List ℕ → Option ℕ → Type 0
 TellsFamily rows view variable None = NoneFits rows (FitsVariable view variable)
-TellsFamily rows view variable (Some position) = (row : FamilyRow) × IsBestAt rows (FitsVariable view variable) family_order position row
+TellsFamily rows view variable (Some position) = (row : FamilyRow)
+    × IsBestAt rows (FitsVariable view variable) family_order position row
 
 -- the view of this name; the empty name is no view
 abbrev pub TellsView : List FamilyRow → List ℕ → List ℕ → Option ViewStep → Type 0
@@ -88,12 +94,14 @@ TellsAccess t q view variable group (Some step) =
 abbrev pub TellsGroup : Tables → Requester → ViewType → List ℕ → Option GroupStep → Type 0
 TellsGroup t q view variable None = HasNoGroup t.groups q.model q.name
 TellsGroup t q view variable (Some step) =
-    (row : GroupRow) × IsGroupAt t.groups q.model q.name step.position row × (step.name ≡ row.group) × TellsAccess t q view variable row.group step.access
+    (row : GroupRow) × IsGroupAt t.groups q.model q.name step.position row × (step.name ≡ row.group)
+    × TellsAccess t q view variable row.group step.access
 
 -- the context, where there is one
 abbrev pub TellsContext : Tables → Requester → ViewType → List ℕ → Option ContextStep → Type 0
 TellsContext t q view variable None = ¬ HasContext t.contexts q.context
-TellsContext t q view variable (Some step) = IsContextAt t.contexts q.context step.position × TellsGroup t q view variable step.group
+TellsContext t q view variable (Some step) = IsContextAt t.contexts q.context step.position
+    × TellsGroup t q view variable step.group
 
 -- ---- what the values of the code say
 

@@ -1,7 +1,8 @@
 -- What the rows of one view say of a variable.
 use Rattle.std.specs.Prelude.{◌≡◌, ℕ, ◌<◌, ◌≤◌, List, length, slice_index, Contains}
 use Rattle.vacm_core.specs.declared.access.Access.{Access}
-use Rattle.vacm_core.specs.declared.access.Access.TheVariants.{NoSuchContext, NoGroupName, NoAccessEntry, NoSuchView, NotInView, AccessAllowed}
+use Rattle.vacm_core.specs.declared.access.Access.TheVariants.{NoSuchContext, NoGroupName, NoAccessEntry, NoSuchView}
+use Rattle.vacm_core.specs.declared.access.Access.TheVariants.{NotInView, AccessAllowed}
 use Rattle.vacm_core.specs.declared.rows.FamilyRow.{FamilyRow}
 use Rattle.vacm_core.specs.Allowed.{HasView, IsInView, IsOutOfView, mask_bit}
 
@@ -15,7 +16,8 @@ AreExact rows = (row : FamilyRow) → Contains rows row → IsExact row
 -- the subtree has the variable, whatever the row's view
 pub record HasArcs (variable : List ℕ) (row : FamilyRow) : Type 0 where
   pub long : length row.subtree ≤ length variable
-  pub arcs : (k : ℕ) → k < length row.subtree → mask_bit row.mask k ≡ 1 → slice_index row.subtree k ≡ slice_index variable k
+  pub arcs : (k : ℕ) → k < length row.subtree → mask_bit row.mask k ≡ 1
+      → slice_index row.subtree k ≡ slice_index variable k
 
 -- the answer where a view is known
 abbrev pub AnswersView : List FamilyRow → List ℕ → List ℕ → Access → Type 0

@@ -2,7 +2,8 @@
 ghost use Rattle.std.specs.Prelude.{◌≡◌, ◌++◌, MatchOption, Contains};
 ghost use Rattle.vacm_core.specs.Tables.{four_tables};
 ghost use Rattle.vacm_core.specs.View.{AreExact};
-ghost use Rattle.vacm_core.specs.Allowed.{Allowed, HasContext, IsGroupRow, IsBestOf, NoneFits, FitsMessage, access_order};
+ghost use Rattle.vacm_core.specs.Allowed.{Allowed, HasContext, IsGroupRow, IsBestOf, NoneFits, FitsMessage};
+ghost use Rattle.vacm_core.specs.Allowed.{access_order};
 ghost use Rattle.vacm_core.specs.Steps.{HasNoGroup, DecidesContext, requester_of};
 
 use crate::Access;
@@ -17,7 +18,8 @@ pub(crate) fn context_row<'a>(
     rows: &'a OrderedTable<ContextRow>,
     context: &[u8],
 ) -> Option<&'a ContextRow>
-    ensures { MatchOption result (¬ HasContext rows.now context.now) (λ row. Contains rows.now row.now × (row.now.name ≡ context.now)) }
+    ensures { MatchOption result (¬ HasContext rows.now context.now)
+        (λ row. Contains rows.now row.now × (row.now.name ≡ context.now)) }
 {
     rows.rows_of(context).first()
 }
@@ -76,8 +78,10 @@ pub(crate) fn decided<'a>(
     asking: &Asking<'_>,
 ) -> Deciding<'a>
     requires { AreExact exact.now }
-    ensures answer { Allowed (four_tables contexts.now groups.now access.now (exact.now ++ others.now)) (requester_of asking.now) asking.now.view asking.now.variable.now result.answer }
-    ensures rows { DecidesContext (four_tables contexts.now groups.now access.now (exact.now ++ others.now)) (requester_of asking.now) asking.now.view asking.now.variable.now result }
+    ensures answer { Allowed (four_tables contexts.now groups.now access.now (exact.now ++ others.now))
+        (requester_of asking.now) asking.now.view asking.now.variable.now result.answer }
+    ensures rows { DecidesContext (four_tables contexts.now groups.now access.now (exact.now ++ others.now))
+        (requester_of asking.now) asking.now.view asking.now.variable.now result }
 {
     let mut found = Deciding {
         answer: Access::NoSuchContext,

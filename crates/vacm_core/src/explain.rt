@@ -3,7 +3,8 @@ ghost use Rattle.std.specs.Prelude.{◌≡◌, true, Some, Contains, slice_get};
 ghost use Rattle.vacm_core.specs.declared.rows.FamilyRow.{FamilyRow as Family};
 ghost use Rattle.vacm_core.specs.Tables.{tables_of};
 ghost use Rattle.vacm_core.specs.Distinct.{HasOneRowEach};
-ghost use Rattle.vacm_core.specs.Steps.{DecidesFamily, DecidesView, DecidesAccess, DecidesGroup, DecidesContext, TellsFamily, TellsView, TellsAccess, TellsGroup, TellsContext, requester_of};
+ghost use Rattle.vacm_core.specs.Steps.{DecidesFamily, DecidesView, DecidesAccess, DecidesGroup, DecidesContext};
+ghost use Rattle.vacm_core.specs.Steps.{TellsFamily, TellsView, TellsAccess, TellsGroup, TellsContext, requester_of};
 
 use crate::Name;
 use crate::ask::Deciding;
@@ -31,7 +32,8 @@ fn family_position(
     variable: &[u32],
     family: Option<&FamilyRow>,
 ) -> Option<usize>
-    requires one_each { (x y : Family) → Contains rows.now x → Contains rows.now y → x.view ≡ y.view → x.subtree ≡ y.subtree → x ≡ y }
+    requires one_each { (x y : Family) → Contains rows.now x → Contains rows.now y → x.view ≡ y.view
+        → x.subtree ≡ y.subtree → x ≡ y }
     requires decides { DecidesFamily rows.now view.now variable.now family }
     ensures { TellsFamily rows.now view.now variable.now result }
 {
@@ -46,7 +48,8 @@ fn view_step(
     variable: &[u32],
     family: Option<&FamilyRow>,
 ) -> Option<ViewStep>
-    requires one_each { (x y : Family) → Contains rows.now x → Contains rows.now y → x.view ≡ y.view → x.subtree ≡ y.subtree → x ≡ y }
+    requires one_each { (x y : Family) → Contains rows.now x → Contains rows.now y → x.view ≡ y.view
+        → x.subtree ≡ y.subtree → x ≡ y }
     requires decides { DecidesView rows.now name.now variable.now family }
     ensures { TellsView rows.now name.now variable.now result }
 {
@@ -68,8 +71,10 @@ fn access_step(
     decided: &Deciding<'_>,
 ) -> Option<AccessStep>
     requires one_each { HasOneRowEach (tables_of rows.now) }
-    requires decides { DecidesAccess (tables_of rows.now) (requester_of asking.now) asking.now.view asking.now.variable.now group.now decided.now }
-    ensures { TellsAccess (tables_of rows.now) (requester_of asking.now) asking.now.view asking.now.variable.now group.now result }
+    requires decides { DecidesAccess (tables_of rows.now)
+        (requester_of asking.now) asking.now.view asking.now.variable.now group.now decided.now }
+    ensures { TellsAccess (tables_of rows.now)
+        (requester_of asking.now) asking.now.view asking.now.variable.now group.now result }
 {
     let row = decided.access?;
     let name = row.view(asking.view);
@@ -82,7 +87,8 @@ fn access_step(
 /// The group, and what comes after it.
 fn group_step(rows: &Rows, asking: &Asking<'_>, decided: &Deciding<'_>) -> Option<GroupStep>
     requires one_each { HasOneRowEach (tables_of rows.now) }
-    requires decides { DecidesGroup (tables_of rows.now) (requester_of asking.now) asking.now.view asking.now.variable.now decided.now }
+    requires decides { DecidesGroup (tables_of rows.now)
+        (requester_of asking.now) asking.now.view asking.now.variable.now decided.now }
     ensures { TellsGroup (tables_of rows.now) (requester_of asking.now) asking.now.view asking.now.variable.now result }
 {
     let row = decided.group?;
@@ -100,8 +106,10 @@ pub(crate) fn context_step(
     decided: &Deciding<'_>,
 ) -> Option<ContextStep>
     requires one_each { HasOneRowEach (tables_of rows.now) }
-    requires decides { DecidesContext (tables_of rows.now) (requester_of asking.now) asking.now.view asking.now.variable.now decided.now }
-    ensures { TellsContext (tables_of rows.now) (requester_of asking.now) asking.now.view asking.now.variable.now result }
+    requires decides { DecidesContext (tables_of rows.now)
+        (requester_of asking.now) asking.now.view asking.now.variable.now decided.now }
+    ensures { TellsContext (tables_of rows.now)
+        (requester_of asking.now) asking.now.view asking.now.variable.now result }
 {
     let row = decided.context?;
     Some(ContextStep {

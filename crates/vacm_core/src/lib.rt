@@ -1,5 +1,5 @@
-//! View-based access control (RFC 3415): contexts, groups, access rows and view tree families, and the decision whether a message
-//! may see a variable. Tables keep rows in order, and find them by name.
+//! View-based access control (RFC 3415): contexts, groups, access rows and view tree families, and the
+//! decision whether a message may see a variable. Tables keep rows in order, and find them by name.
 //!
 //! ```
 //! use snmp_ber::{Level, Oid};

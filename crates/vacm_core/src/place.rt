@@ -29,7 +29,8 @@ fn is_upto<R: NamedRow>(row: &R, wanted: &[u8]) -> bool
 fn count_upto<R: NamedRow>(rows: &[R], wanted: &[u8]) -> usize
     requires { IsPartitionedBy (λ row. nat_lt (side_of R.name_of wanted.now row) 2) rows.now }
     ensures bound { result ≤ length rows.now }
-    ensures parted { IsPartitionPoint (λ row. nat_lt (side_of R.name_of wanted.now row) 2 ≡ true) (λ row. nat_lt (side_of R.name_of wanted.now row) 2 ≡ false) rows.now result }
+    ensures parted { IsPartitionPoint (λ row. nat_lt (side_of R.name_of wanted.now row) 2 ≡ true)
+        (λ row. nat_lt (side_of R.name_of wanted.now row) 2 ≡ false) rows.now result }
 {
     rows.partition_point(|row| is_upto(row, wanted))
 }
@@ -37,7 +38,8 @@ fn count_upto<R: NamedRow>(rows: &[R], wanted: &[u8]) -> usize
 /// There is a row at the place, and it is not past the name.
 fn goes_on<R: NamedRow>(rows: &[R], place: usize, wanted: &[u8]) -> bool
     ensures { MatchBool result (place < length rows.now)
-        ((d : R) → place < length rows.now → nat_lt (side_of R.name_of wanted.now (get_or rows.now place d)) 2 ≡ false) }
+        ((d : R) → place < length rows.now
+        → nat_lt (side_of R.name_of wanted.now (get_or rows.now place d)) 2 ≡ false) }
 {
     match rows.get(place) {
         Some(row) => is_upto(row, wanted),
@@ -49,7 +51,8 @@ fn goes_on<R: NamedRow>(rows: &[R], place: usize, wanted: &[u8]) -> bool
 pub(crate) fn count_near<R: NamedRow>(rows: &[R], wanted: &[u8]) -> usize
     requires { IsPartitionedBy (λ row. nat_lt (side_of R.name_of wanted.now row) 2) rows.now }
     ensures bound { result ≤ length rows.now }
-    ensures parted { IsPartitionPoint (λ row. nat_lt (side_of R.name_of wanted.now row) 2 ≡ true) (λ row. nat_lt (side_of R.name_of wanted.now row) 2 ≡ false) rows.now result }
+    ensures parted { IsPartitionPoint (λ row. nat_lt (side_of R.name_of wanted.now row) 2 ≡ true)
+        (λ row. nat_lt (side_of R.name_of wanted.now row) 2 ≡ false) rows.now result }
 {
     let mut near = 1;
     while goes_on(rows, near, wanted) {

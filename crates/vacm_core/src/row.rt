@@ -2,10 +2,13 @@
 ghost use Rattle.std.specs.Prelude.{◌≡◌, Bool, true};
 ghost use Rattle.std.specs.Ordering.{is_eq};
 ghost use Rattle.snmp_ber.specs.Level.{level_number};
-ghost use Rattle.vacm_core.specs.Faults.{is_bad_context, is_bad_group, is_bad_access, is_bad_family, is_same_context, is_same_group, is_same_access, is_same_family};
+ghost use Rattle.vacm_core.specs.Faults.{is_bad_context, is_bad_group, is_bad_access, is_bad_family, is_same_context};
+ghost use Rattle.vacm_core.specs.Faults.{is_same_group, is_same_access, is_same_family};
 ghost use Rattle.vacm_core.specs.Allowed.{access_order, family_order};
 ghost use Rattle.vacm_core.specs.Place.{context_name, group_name, access_name, family_name, context_rank, group_rank};
-ghost use Rattle.vacm_core.specs.Laws.{equal_total, access_order-total, family_order-total, same_context, same_group, same_access, same_family, context_itself, group_itself, access_itself, family_itself};
+ghost use Rattle.vacm_core.specs.Laws.{equal_total, access_order-total, family_order-total, same_context, same_group};
+ghost use Rattle.vacm_core.specs.Laws.{same_access, same_family, context_itself, group_itself, access_itself};
+ghost use Rattle.vacm_core.specs.Laws.{family_itself};
 ghost use Rattle.std.proofs.lemmas.Cmp.{nat_cmp_total, on_total};
 ghost use Rattle.vacm_core.specs.declared.rows.GroupRow.{GroupRow as Group};
 
@@ -39,7 +42,8 @@ pub(crate) trait TableRow: Drop {
     fn has_index_of(&self, other: &Self) -> bool
         ensures { result ≡ is_same self.now other.now };
 
-    ghost same_index: { (row other : Self) → is_same row other ≡ is_eq (Self.Index.cmp (index_of other) (index_of row)) };
+    ghost same_index: { (row other : Self)
+        → is_same row other ≡ is_eq (Self.Index.cmp (index_of other) (index_of row)) };
 
     ghost same_itself: { (row : Self) → is_same row row ≡ true };
 }

@@ -90,7 +90,8 @@ impl AccessRow {
         }
     }
 
-    /// The row matches a message of its group with this security model and level, in the context of this name (RFC 3415, section 3.2).
+    /// The row matches a message of its group with this security model and level, in the context of this name
+    /// (RFC 3415, section 3.2).
     pub fn fits_message(&self, model: u32, level: Level, context: &[u8]) -> bool
         ensures { IsTrue result ↔ FitsMessage self.now.group model level context.now self.now }
     {

@@ -18,7 +18,8 @@ pub struct Asking<'a> {
     pub variable: &'a [u32],
 }
 
-/// The answer to a question, and what decided on it, as far as it comes. A position counts from 0 in its table of `Rows`.
+/// The answer to a question, and what decided on it, as far as it comes. A position counts from 0 in its
+/// table of `Rows`.
 #[derive(Debug, PartialEq, Eq, Drop)]
 pub struct Explained {
     pub answer: Access,

@@ -1,5 +1,6 @@
 //! A table whose rows stand by name, and where the rows of each name are.
-ghost use Rattle.std.specs.Prelude.{◌≡◌, ◌≢◌, ℕ, ◌<◌, ◌≤◌, ◌-◌, length, get_or, slice_range, MatchBool, MatchOption, IfOk};
+ghost use Rattle.std.specs.Prelude.{◌≡◌, ◌≢◌, ℕ, ◌<◌, ◌≤◌, ◌-◌, length, get_or, slice_range, MatchBool, MatchOption};
+ghost use Rattle.std.specs.Prelude.{IfOk};
 ghost use Rattle.std.specs.List.Sorted.{IsPermutation};
 ghost use Rattle.vacm_core.specs.RowOrder.{AreInPlace, AreRuns, IsRunOf};
 
@@ -39,7 +40,8 @@ impl<R: NamedRow> Model for OrderedTable<R> {
 fn is_first<R: NamedRow>(rows: &[R], place: usize) -> bool
     requires in_place { AreInPlace R.name_of R.rank rows.now }
     requires within { place < length rows.now }
-    ensures { MatchBool result ((k : ℕ) (d : R) → k < place → R.name_of (get_or rows.now k d) ≢ R.name_of (get_or rows.now place d))
+    ensures { MatchBool result
+        ((k : ℕ) (d : R) → k < place → R.name_of (get_or rows.now k d) ≢ R.name_of (get_or rows.now place d))
         ((0 < place) × ((d : R) → R.name_of (get_or rows.now (place - 1) d) ≡ R.name_of (get_or rows.now place d))) }
 {
     place == 0 || rows[place - 1].name() != rows[place].name()
@@ -49,9 +51,12 @@ fn is_first<R: NamedRow>(rows: &[R], place: usize) -> bool
 fn run_at<R: NamedRow>(rows: &[R], first: usize) -> Run
     requires in_place { AreInPlace R.name_of R.rank rows.now }
     requires within { first < length rows.now }
-    requires first { (k : ℕ) (d : R) → k < first → R.name_of (get_or rows.now k d) ≢ R.name_of (get_or rows.now first d) }
+    requires first { (k : ℕ) (d : R) → k < first
+        → R.name_of (get_or rows.now k d) ≢ R.name_of (get_or rows.now first d) }
     ensures within { (result.first ≤ result.end) × (result.end ≤ length rows.now) }
-    ensures run { (d : R) → IsRunOf R.name_of R.rank (R.name_of (get_or rows.now first d)) rows.now (slice_range rows.now result.first result.end) }
+    ensures run { (d : R)
+        → IsRunOf R.name_of R.rank (R.name_of (get_or rows.now first d)) rows.now
+        (slice_range rows.now result.first result.end) }
 {
     let wanted = rows[first].name().as_slice();
     let count = count_near(&rows[first..], wanted);
@@ -94,8 +99,10 @@ impl<R: NamedRow> OrderedTable<R> {
 
     /// The run of this name.
     fn run_of(&self, wanted: &[u8]) -> Option<Run>
-        ensures { MatchOption result ((k : ℕ) (d : R) → k < length self.now → R.name_of (get_or self.now k d) ≢ wanted.now)
-            (λ run. (run.first ≤ run.end) × (run.end ≤ length self.now) × IsRunOf R.name_of R.rank wanted.now self.now (slice_range self.now run.first run.end)) }
+        ensures { MatchOption result
+            ((k : ℕ) (d : R) → k < length self.now → R.name_of (get_or self.now k d) ≢ wanted.now)
+            (λ run. (run.first ≤ run.end) × (run.end ≤ length self.now)
+            × IsRunOf R.name_of R.rank wanted.now self.now (slice_range self.now run.first run.end)) }
     {
         let runs = &self.runs;
         let name = Name::of(wanted)?;

@@ -25,9 +25,10 @@ use std::marker::Model;
 
 /// The four tables, each without two rows of one index.
 ///
-/// The rows of each stand by a name: contexts by their own, groups by the security name, access rows by the group and family
-/// rows by the view. The rows of one name stand from the best down, so that the first that fits decides. Family rows whose
-/// masks compare each arc stand apart: they are found by the beginnings of a variable.
+/// The rows of each stand by a name: contexts by their own, groups by the security name, access rows by the
+/// group and family rows by the view. The rows of one name stand from the best down, so that the first that
+/// fits decides. Family rows whose masks compare each arc stand apart: they are found by the beginnings of a
+/// variable.
 #[derive(Drop)]
 pub struct Vacm {
     contexts: OrderedTable<ContextRow>,
@@ -43,27 +44,36 @@ impl Model for Vacm {
 
     ghost Value = { Tables };
 
-    ghost view = { λ v. record { contexts = v.contexts; groups = v.groups; access = v.access; families = v.exact ++ v.others } };
+    ghost view = { λ v. record {
+      contexts = v.contexts;
+      groups = v.groups;
+      access = v.access;
+      families = v.exact ++ v.others;
+    } };
 
     ghost use Rattle.vacm_core.specs.Distinct.{HasOneRowEach};
     ghost use Rattle.vacm_core.specs.View.{AreExact};
 
-    ghost invariant = { λ v. HasOneRowEach (record { contexts = v.contexts; groups = v.groups; access = v.access; families = v.exact ++ v.others })
+    ghost invariant = { λ v. HasOneRowEach
+        (record { contexts = v.contexts; groups = v.groups; access = v.access; families = v.exact ++ v.others })
         × AreExact v.exact };
 }
 
 impl Vacm {
     /// Makes the tables of these rows.
     ///
-    /// A fault is told for the first row at fault, exactly there: see `VacmFault`. Want of memory leaves nothing behind, and may
-    /// be told in the place of a fault. For n rows it takes O(n log n) comparisons, whatever the rows and their order.
+    /// A fault is told for the first row at fault, exactly there: see `VacmFault`. Want of memory leaves
+    /// nothing behind, and may be told in the place of a fault. For n rows it takes O(n log n) comparisons,
+    /// whatever the rows and their order.
     pub fn load(alloc: Global, rows: &Rows) -> Result<Vacm, VacmFault>
         ensures sound { OnOk result (AreSound (tables_of rows.now)) }
         ensures same_rows { IfOk result (λ vacm. HaveSameRows (tables_of rows.now) vacm) }
 
         // So each question has the answer that it has over the rows.
-        ensures decides { IfOk result (λ vacm. (requester : spec.Requester) (view : Asked) (variable : List ℕ) (answer : Answer)
-            → Allowed vacm requester view variable answer → Allowed (tables_of rows.now) requester view variable answer) }
+        ensures decides { IfOk result
+            (λ vacm. (requester : spec.Requester) (view : Asked) (variable : List ℕ) (answer : Answer)
+            → Allowed vacm requester view variable answer
+            → Allowed (tables_of rows.now) requester view variable answer) }
         ensures told { IfErr result (IsTold (tables_of rows.now)) }
     {
         match find_fault(alloc, rows) {
@@ -97,9 +107,10 @@ impl Vacm {
 
     /// Whether a message may see the variable (isAccessAllowed). It takes no memory.
     ///
-    /// The message has this security model, security name and level, and asks in the context of this name. Of the access rows
-    /// that match it the best decides which view it has: a specific model is before any, then the longer prefix, then the higher
-    /// level. Of the view's subtrees that have the variable the longest decides, and of equally long ones the greatest.
+    /// The message has this security model, security name and level, and asks in the context of this name. Of
+    /// the access rows that match it the best decides which view it has: a specific model is before any, then
+    /// the longer prefix, then the higher level. Of the view's subtrees that have the variable the longest
+    /// decides, and of equally long ones the greatest.
     pub fn is_access_allowed(
         &self,
         model: u32,
@@ -109,7 +120,12 @@ impl Vacm {
         context: &[u8],
         variable: &Oid,
     ) -> Access
-        ensures answer { let requester : spec.Requester = record { model = model; name = name.now; level = level; context = context.now } in
+        ensures answer { let requester : spec.Requester = record {
+          model = model;
+          name = name.now;
+          level = level;
+          context = context.now;
+        } in
             Allowed self.now requester view variable.now result }
         ensures one_row_each { HasOneRowEach self.now }
     {
@@ -126,12 +142,14 @@ impl Vacm {
 
     /// What decides on the question: its answer, and the rows that decide, by their positions. It takes no memory.
     ///
-    /// The answer is that of `is_access_allowed`. The rows are those that the tables were made of, and each of their tables is gone
-    /// over once at most.
+    /// The answer is that of `is_access_allowed`. The rows are those that the tables were made of, and each
+    /// of their tables is gone over once at most.
     pub fn explain(&self, rows: &Rows, asking: &Asking<'_>) -> Explained
         requires { HaveSameRows (tables_of rows.now) self.now }
-        ensures answer { Allowed self.now (requester_of asking.now) asking.now.view asking.now.variable.now result.answer }
-        ensures steps { TellsContext (tables_of rows.now) (requester_of asking.now) asking.now.view asking.now.variable.now result.context }
+        ensures answer { Allowed self.now
+            (requester_of asking.now) asking.now.view asking.now.variable.now result.answer }
+        ensures steps { TellsContext (tables_of rows.now)
+            (requester_of asking.now) asking.now.view asking.now.variable.now result.context }
     {
         let decided = self.decided(asking);
         Explained {
@@ -142,8 +160,10 @@ impl Vacm {
 
     /// The answer to the question, and the rows that decide.
     fn decided(&self, asking: &Asking<'_>) -> Deciding<'_>
-        ensures answer { Allowed self.now (requester_of asking.now) asking.now.view asking.now.variable.now result.answer }
-        ensures rows { DecidesContext self.now (requester_of asking.now) asking.now.view asking.now.variable.now result }
+        ensures answer { Allowed self.now
+            (requester_of asking.now) asking.now.view asking.now.variable.now result.answer }
+        ensures rows { DecidesContext self.now
+            (requester_of asking.now) asking.now.view asking.now.variable.now result }
         ensures one_row_each { HasOneRowEach self.now }
     {
         decided(

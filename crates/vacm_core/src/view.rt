@@ -1,5 +1,6 @@
 //! The rows of one view, and the one of them that decides on a variable.
-ghost use Rattle.std.specs.Prelude.{◌≡◌, ◌≢◌, ◌⊎◌, [], ◌++◌, ℕ, ◌<◌, ◌≤◌, ◌↔◌, length, IsTrue, MatchOption, MatchResult, slice_index, get_or};
+ghost use Rattle.std.specs.Prelude.{◌≡◌, ◌≢◌, ◌⊎◌, [], ◌++◌, ℕ, ◌<◌, ◌≤◌, ◌↔◌, length, IsTrue, MatchOption};
+ghost use Rattle.std.specs.Prelude.{MatchResult, slice_index, get_or};
 ghost use Rattle.std.specs.declared.cmp.Ordering.TheVariants.{Less, Greater};
 ghost use Rattle.vacm_core.specs.RowOrder.{AreFalling};
 ghost use Rattle.vacm_core.specs.Place.{arcs_order};
@@ -16,7 +17,9 @@ use crate::{Access, Mask};
 /// The arcs that the mask compares are equal.
 fn agrees(subtree: &[u32], mask: &Mask, variable: &[u32]) -> bool
     requires { length subtree.now ≤ length variable.now }
-    ensures { IsTrue result ↔ ((k : ℕ) → k < length subtree.now → mask_bit mask.now k ≡ 1 → slice_index subtree.now k ≡ slice_index variable.now k) }
+    ensures { IsTrue result
+        ↔ ((k : ℕ) → k < length subtree.now → mask_bit mask.now k ≡ 1
+        → slice_index subtree.now k ≡ slice_index variable.now k) }
 {
     for (k, arc) in subtree.iter().enumerate() {
         if mask.compares(k) && *arc != variable[k] {
@@ -71,8 +74,8 @@ fn arcs_from(rows: &[FamilyRow], place: usize) -> usize
     }
 }
 
-/// Of rows whose masks compare each arc, the one whose subtree is the longest beginning of the variable. Only those beginnings
-/// are looked up that are as long as a row.
+/// Of rows whose masks compare each arc, the one whose subtree is the longest beginning of the variable. Only
+/// those beginnings are looked up that are as long as a row.
 fn best_of_exact<'a>(rows: &'a [FamilyRow], variable: &[u32]) -> Option<&'a FamilyRow>
     requires falling { AreFalling family_order rows.now }
     requires exact { AreExact rows.now }
