@@ -9,15 +9,15 @@ ghost use Rattle.snmp_agent.specs.Report.{AgentReports, OffersOnAnswer, report_o
 
 use crate::answers::{answers, view_for};
 use crate::counter::{drop_counter_of, one_more};
-use crate::counting::counted;
+use crate::counting::count_refusal;
 use crate::decision::Decision;
 use crate::engine::Engine;
 use crate::judge::judge;
 use crate::laws::notification_is_accepted;
-use crate::notification::{Recipient, send_notification};
+use crate::notification::{Recipient, write_notification};
 use crate::refused::Refused;
 use crate::report::report;
-use crate::response::{Response, send_response};
+use crate::response::{Response, write_response};
 use crate::response_laws::response_is_accepted;
 use engine_clock::EngineId;
 use snmp_ber::{Level, Oid};
@@ -150,7 +150,7 @@ impl Agent {
         if why.is_memory() {
             return Err(none);
         }
-        let counters = counted(self.counters, why);
+        let counters = count_refusal(self.counters, why);
         let counts = one_more(self.counts, drop_counter_of(why));
         match report(&mut self.users, &self.engine, now, &counters, why, datagram) {
             Ok(report) => {
@@ -307,7 +307,7 @@ impl Agent {
             index,
             salt,
         };
-        send_response(
+        write_response(
             &mut self.users,
             &self.engine.id,
             own,
@@ -390,6 +390,6 @@ impl Agent {
             level,
             salt,
         };
-        send_notification(&mut self.users, &self.engine.id, own, &to, front, bindings)
+        write_notification(&mut self.users, &self.engine.id, own, &to, front, bindings)
     }
 }

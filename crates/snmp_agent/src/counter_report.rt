@@ -10,13 +10,13 @@ use engine_clock::EngineId;
 use snmp_ber::{Oid, int_content};
 use snmp_incoming::TakeFault;
 use snmp_msg::{Binding, COUNTER32, LARGEST, REPORT};
-use snmp_outgoing::{Body, Envelope, send};
+use snmp_outgoing::{Body, Envelope, write_body};
 use usm_core::Users;
 
 /// The report of the counter of this name with its value, in this envelope, in the default context of the engine.
 ///
 /// The errors are those of `send`, in its order.
-pub fn send_counter(
+pub fn write_counter_report(
     users: &mut Users,
     envelope: &Envelope<'_>,
     engine: &EngineId,
@@ -49,5 +49,5 @@ pub fn send_counter(
         third: 0,
         bindings: &bindings,
     };
-    send(users, envelope, &body)
+    write_body(users, envelope, &body)
 }

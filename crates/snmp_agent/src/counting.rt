@@ -23,7 +23,7 @@ pub(crate) fn counter_of(why: TakeFault) -> Option<u8>
 }
 
 /// The counters after a refusal. Each is of 32 bits, and goes from its greatest value to 0.
-pub(crate) fn counted(counters: [u32; 6], why: TakeFault) -> [u32; 6]
+pub(crate) fn count_refusal(counters: [u32; 6], why: TakeFault) -> [u32; 6]
     ensures { result ≡ counted counters (counter_of (number_of why)) }
 {
     let mut counters = counters;

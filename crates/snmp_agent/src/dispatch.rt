@@ -20,8 +20,8 @@ ghost use Rattle.snmp_outgoing.specs.declared.counter.Counter.TheVariants.{Silen
 use crate::agent::Agent;
 use crate::commands::{is_answer, is_command};
 use crate::counter::one_more;
-use crate::refusal::{Counted, send_refusal};
-use crate::response::{Response, send_response_front};
+use crate::refusal::{Counted, write_refusal_report};
+use crate::response::{Response, write_response_front};
 use crate::response_laws::response_is_accepted;
 use crate::unhandled::Unhandled;
 use snmp_incoming::{TakeFault, Taken};
@@ -138,7 +138,7 @@ impl Agent {
             value: counts[counter.place()],
             salt,
         };
-        match send_refusal(&mut self.users, &self.engine.id, own, taken, pdu, counted) {
+        match write_refusal_report(&mut self.users, &self.engine.id, own, taken, pdu, counted) {
             Ok(text) => {
                 self.counts = counts;
                 Ok(Some(text))
@@ -264,7 +264,7 @@ impl Agent {
             index,
             salt,
         };
-        send_response_front(
+        write_response_front(
             &mut self.users,
             &self.engine.id,
             own,

@@ -58,12 +58,12 @@ mod status;
 mod unhandled;
 
 pub use agent::Agent;
-pub use counter_report::send_counter;
+pub use counter_report::write_counter_report;
 pub use decision::Decision;
 pub use laws::{agents_decide_alike, notification_is_accepted};
-pub use refusal::{Counted, send_refusal};
+pub use refusal::{Counted, write_refusal_report};
 pub use refused::Refused;
-pub use response::{Response, send_response, send_response_front};
+pub use response::{Response, write_response, write_response_front};
 pub use response_laws::{
     refusal_is_short, report_is_short, response_is_accepted, too_big_is_short,
 };

@@ -12,7 +12,7 @@ use engine_clock::{EngineId, Pair};
 use snmp_ber::Level;
 use snmp_incoming::TakeFault;
 use snmp_msg::Spelled;
-use snmp_outgoing::{Envelope, Front, send_of};
+use snmp_outgoing::{Envelope, Front, write_body_of};
 use usm_core::Users;
 
 /// To whom a notification goes.
@@ -29,7 +29,7 @@ pub(crate) struct Recipient<'a> {
 }
 
 /// A message of this engine that isn't answered, with its own boots and time.
-pub(crate) fn send_notification<B: Spelled>(
+pub(crate) fn write_notification<B: Spelled>(
     users: &mut Users,
     engine: &EngineId,
     own: Pair,
@@ -62,5 +62,5 @@ pub(crate) fn send_notification<B: Spelled>(
         user: to.user,
         salt: to.salt,
     };
-    send_of(users, &envelope, front, bindings)
+    write_body_of(users, &envelope, front, bindings)
 }

@@ -7,7 +7,7 @@ ghost use Rattle.snmp_incoming.specs.Answers.{given_of};
 ghost use Rattle.snmp_outgoing.specs.Sends.{send_answer};
 ghost use Rattle.snmp_agent.specs.CounterReports.{refusing};
 
-use crate::counter_report::send_counter;
+use crate::counter_report::write_counter_report;
 use engine_clock::{EngineId, Pair};
 use snmp_ber::Oid;
 use snmp_incoming::{TakeFault, Taken};
@@ -29,7 +29,7 @@ pub struct Counted {
 /// The report on what was taken and has this PDU, at its level, from this engine with its own boots and time.
 ///
 /// The errors are those of `send`, in its order.
-pub fn send_refusal<'a>(
+pub fn write_refusal_report<'a>(
     users: &mut Users,
     engine: &'a EngineId,
     own: Pair,
@@ -60,5 +60,5 @@ pub fn send_refusal<'a>(
         user: taken.user,
         salt,
     };
-    send_counter(users, &envelope, engine, pdu.id, name, counted.value)
+    write_counter_report(users, &envelope, engine, pdu.id, name, counted.value)
 }

@@ -14,7 +14,7 @@ ghost use Rattle.snmp_agent.specs.Report.{Offers, IsReport, reporting_of, report
 
 use crate::asked::asking;
 use crate::asking::ReportedMessage;
-use crate::counter_report::send_counter;
+use crate::counter_report::write_counter_report;
 use crate::counting::counter_of;
 use crate::engine::Engine;
 use engine_clock::{EngineId, Pair};
@@ -58,7 +58,7 @@ pub(crate) fn report(
         unreachable!();
     };
     let value = counters[usize::from(n) - 1];
-    let text = send_report(users, &engine.id, own, n, value, &asking)?;
+    let text = write_report(users, &engine.id, own, n, value, &asking)?;
     Ok(Some(text))
 }
 
@@ -75,7 +75,7 @@ fn report_level(n: u8) -> Level
 
 /// The report of counter n. A report is short, and at a level with authentication its user has been
 /// authenticated; so the error is want of memory.
-fn send_report(
+fn write_report(
     users: &mut Users,
     engine: &EngineId,
     own: Pair,
@@ -100,7 +100,7 @@ fn send_report(
         user: asking.user,
         salt: [0; 8],
     };
-    match send_counter(users, &envelope, engine, asking.request_id, name, value) {
+    match write_counter_report(users, &envelope, engine, asking.request_id, name, value) {
         Ok(text) => Ok(text),
         Err(fault) => {
             if !fault.is_memory() {

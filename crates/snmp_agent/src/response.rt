@@ -18,7 +18,7 @@ ghost use Rattle.snmp_agent.specs.Responses.{response as speech, responding};
 use engine_clock::{EngineId, Pair};
 use snmp_incoming::{TakeFault, Taken};
 use snmp_msg::{RESPONSE, Spelled, one_content, one_pdu};
-use snmp_outgoing::{Envelope, Front, Fronted, send_front, send_of};
+use snmp_outgoing::{Envelope, Front, Fronted, write_body_of, write_front};
 use usm_core::Users;
 
 /// What a Response says besides what it copies and its bindings.
@@ -90,7 +90,7 @@ fn front<'a>(taken: &'a Taken<'_>, response: &Response) -> Front<'a>
 /// most 2147483647.
 ///
 /// The errors are those of `send_of`, in its order.
-pub fn send_response<B: Spelled>(
+pub fn write_response<B: Spelled>(
     users: &mut Users,
     engine: &EngineId,
     own: Pair,
@@ -118,14 +118,14 @@ pub fn send_response<B: Spelled>(
 {
     let envelope = envelope(engine, own, taken, response);
     let front = front(taken, response);
-    send_of(users, &envelope, &front, bindings)
+    write_body_of(users, &envelope, &front, bindings)
 }
 
 /// The Response to what was taken, with the longest front of these bindings whose text has at most `limit`
 /// octets, and how many bindings that has.
 ///
 /// The errors are those of `send_front`, in its order.
-pub fn send_response_front<B: Spelled>(
+pub fn write_response_front<B: Spelled>(
     users: &mut Users,
     engine: &EngineId,
     own: Pair,
@@ -155,5 +155,5 @@ pub fn send_response_front<B: Spelled>(
 {
     let envelope = envelope(engine, own, taken, response);
     let front = front(taken, response);
-    send_front(users, &envelope, &front, bindings, limit)
+    write_front(users, &envelope, &front, bindings, limit)
 }

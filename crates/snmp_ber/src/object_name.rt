@@ -41,7 +41,7 @@ impl<'a> ObjectName<'a> {
     }
 
     /// The identifier with this content, which is one's.
-    pub fn known(content: &'a [u8]) -> ObjectName<'a>
+    pub fn of_content(content: &'a [u8]) -> ObjectName<'a>
         requires { is_some (identifier_in content.now) ≡ true }
         ensures identifier { IsIdentifier result content.now }
         ensures exact { Some result ≡ identifier_in content.now }

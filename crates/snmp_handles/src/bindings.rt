@@ -49,7 +49,7 @@ pub fn bindings_of(alloc: Global, list: &[u8]) -> Result<Vec<VariableBinding<'_>
             return Err(CallFault::BadBindings);
         };
         let binding = VariableBinding {
-            name: ObjectName::known(found.name.content),
+            name: ObjectName::of_content(found.name.content),
             tag: found.value.tag,
             content: found.value.content,
         };

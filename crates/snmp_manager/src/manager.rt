@@ -29,7 +29,7 @@ use engine_clock::{Clocks, EngineId, Mark, Pair};
 use snmp_ber::Level;
 use snmp_incoming::{Kept, TakeFault, Taken};
 use snmp_msg::{GET_REQUEST, Spelled};
-use snmp_outgoing::{Body, Envelope, Front, is_confirmed, send_of, send_plain, supports};
+use snmp_outgoing::{Body, Envelope, Front, is_confirmed, supports, write_body_of, write_plain};
 use std::alloc::{AllocError, Global};
 use std::marker::Model;
 use usm_core::{Role, Users};
@@ -324,7 +324,7 @@ impl Manager {
             user,
             salt,
         };
-        let text = send_of(&mut self.users, &envelope, front, bindings)?;
+        let text = write_body_of(&mut self.users, &envelope, front, bindings)?;
         match Pending::of(self.alloc, &envelope, front) {
             Ok(pending) => Ok((text, pending)),
             Err(_) => Err(TakeFault::OutOfMemory),
@@ -357,7 +357,7 @@ impl Manager {
             user: &[],
             salt: [0; 8],
         };
-        let text = match send_plain(&self.users, &envelope, &body) {
+        let text = match write_plain(&self.users, &envelope, &body) {
             Ok(text) => text,
             Err(TakeFault::TooLarge) => unreachable!(),
             Err(_) => return Err(AllocError),

@@ -33,7 +33,7 @@ fn read_variable(
 {
     let places = read_places(bytes, at, end)?;
     let binding = VariableBinding {
-        name: ObjectName::known(places.name.content),
+        name: ObjectName::of_content(places.name.content),
         tag: places.value.tag,
         content: places.value.content,
     };

@@ -27,4 +27,4 @@ pub use counter::{Counter, counter_name};
 pub use envelope::Envelope;
 pub use front::{Front, Fronted};
 pub use laws::{request_is_accepted, sealed_is_accepted, spoken_is_accepted};
-pub use sending::{send, send_front, send_of, send_plain, supports};
+pub use sending::{supports, write_body, write_body_of, write_front, write_plain};

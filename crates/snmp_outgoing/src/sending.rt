@@ -91,7 +91,7 @@ fn seal_body<B: Spelled>(
 /// The errors are, at levels with authentication, UnknownUser (7) and UnsupportedLevel (8), which are looked
 /// for before the body is written; then TooLarge (16), only where the text would be longer than 65,507
 /// octets, or OutOfMemory, whichever is met first.
-pub fn send(
+pub fn write_body(
     users: &mut Users,
     envelope: &Envelope<'_>,
     body: &Body<'_>,
@@ -109,14 +109,14 @@ pub fn send(
         + length (scoped_of body.now) }
     ensures users { users.new.users ≡ users.old.users }
 {
-    send_of(users, envelope, &body.front(), body.bindings)
+    write_body_of(users, envelope, &body.front(), body.bindings)
 }
 
 /// The same, of bindings in any form that can be written: `VariableBinding` is the quick one, of which only
 /// the tags are asked.
 ///
 /// The errors are those of `send`, in its order.
-pub fn send_of<B: Spelled>(
+pub fn write_body_of<B: Spelled>(
     users: &mut Users,
     envelope: &Envelope<'_>,
     front: &Front<'_>,
@@ -154,7 +154,7 @@ fn room(limit: usize) -> usize
 ///
 /// The errors are those of `send` before the text; then TooLarge (16), exactly where even the text without
 /// bindings has more octets than `limit`, or than 65,507; and OutOfMemory.
-pub fn send_front<B: Spelled>(
+pub fn write_front<B: Spelled>(
     users: &mut Users,
     envelope: &Envelope<'_>,
     front: &Front<'_>,
@@ -180,7 +180,7 @@ pub fn send_front<B: Spelled>(
     let Some(count) = count_within(users, envelope, front, bindings, room(limit)) else {
         return Err(TakeFault::TooLarge);
     };
-    match send_of(users, envelope, front, &bindings[..count]) {
+    match write_body_of(users, envelope, front, &bindings[..count]) {
         Ok(text) => Ok(Fronted { text, count }),
         Err(fault) => Err(fault),
     }
@@ -211,7 +211,7 @@ fn seal_plain(users: &Users, envelope: &Envelope<'_>, body: &Body<'_>) -> Result
 /// The text of a message at noAuthNoPriv, for which no key is looked up: what `send` gives.
 ///
 /// The errors are TooLarge (16), only where the text would be longer than 65,507 octets, and OutOfMemory.
-pub fn send_plain(
+pub fn write_plain(
     users: &Users,
     envelope: &Envelope<'_>,
     body: &Body<'_>,

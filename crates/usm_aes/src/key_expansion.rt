@@ -52,7 +52,7 @@ impl Schedule {
         requires { round < 11 }
         ensures { result ≡ round_key_of self.now round }
     {
-        joined(&self.words, round)
+        join_words(&self.words, round)
     }
 
     // The same for lanes in the basis whose rows are still to be shifted once for each round.
@@ -83,13 +83,13 @@ fn fill_lane_keys(words: &[[u8; 4]; WORDS], keys: &mut [[u8; 16]; LANE_KEYS])
     ensures { AreLaneKeys words.now keys.new }
 {
     for round in 0..LANE_KEYS {
-        keys[round] = lane_key(joined(words, round), round);
+        keys[round] = lane_key(join_words(words, round), round);
     }
 }
 
 // The words of a round, joined.
 #[inline(always)]
-fn joined(words: &[[u8; 4]; WORDS], round: usize) -> [u8; 16]
+fn join_words(words: &[[u8; 4]; WORDS], round: usize) -> [u8; 16]
     requires { round < 11 }
     ensures { result ≡ round_key_of words.now round }
 {

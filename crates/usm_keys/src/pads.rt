@@ -75,8 +75,8 @@ impl Pads {
         ensures { ArePads auth key.now result }
     {
         let block = padded_key(key);
-        let inner = masked(block, INNER_PAD);
-        let outer = masked(block, OUTER_PAD);
+        let inner = xor_pad(block, INNER_PAD);
+        let outer = xor_pad(block, OUTER_PAD);
         match auth {
             Auth::Md5 => Pads::Md5(HashedPads::of(&inner, &outer)),
             Auth::Sha1 => Pads::Sha1(HashedPads::of(&inner, &outer)),
@@ -110,7 +110,7 @@ fn padded_key(key: &[u8]) -> [u8; 64]
 }
 
 // Each octet of the block xor the pad.
-fn masked(mut block: [u8; 64], pad: u8) -> [u8; 64]
+fn xor_pad(mut block: [u8; 64], pad: u8) -> [u8; 64]
     ensures { result ≡ xor_each pad block }
 {
     for octet in block.iter_mut() {

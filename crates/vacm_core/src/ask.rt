@@ -10,7 +10,7 @@ use crate::Access;
 use crate::rows::{AccessRow, ContextRow, FamilyRow, GroupRow};
 use crate::steps::Asking;
 use crate::table::OrderedTable;
-use crate::view::viewed;
+use crate::view::ask_view;
 use snmp_ber::Level;
 
 /// The row of the context of this name.
@@ -69,7 +69,7 @@ pub(crate) struct Deciding<'a> {
 }
 
 /// What decides over the tables.
-pub(crate) fn decided<'a>(
+pub(crate) fn decide_over<'a>(
     contexts: &'a OrderedTable<ContextRow>,
     groups: &'a OrderedTable<GroupRow>,
     access: &'a OrderedTable<AccessRow>,
@@ -106,7 +106,7 @@ pub(crate) fn decided<'a>(
     };
     found.access = Some(row);
     let view = row.view(asking.view).as_slice();
-    let viewed = viewed(exact, others, view, asking.variable);
+    let viewed = ask_view(exact, others, view, asking.variable);
     found.answer = viewed.answer;
     found.family = viewed.row;
     found

@@ -11,7 +11,7 @@ ghost use Rattle.vacm_core.specs.Allowed.{Allowed, HasContext};
 ghost use Rattle.vacm_core.specs.View.{AreExact};
 ghost use Rattle.vacm_core.specs.Steps.{DecidesContext, TellsContext, requester_of};
 
-use crate::ask::{Deciding, context_row, decided};
+use crate::ask::{Deciding, context_row, decide_over};
 use crate::explain::context_step;
 use crate::fault::find_fault;
 use crate::named_row::NamedRow;
@@ -137,7 +137,7 @@ impl Vacm {
             view,
             variable: variable.as_slice(),
         };
-        self.decided(&asking).answer
+        self.decide(&asking).answer
     }
 
     /// What decides on the question: its answer, and the rows that decide, by their positions. It takes no memory.
@@ -151,7 +151,7 @@ impl Vacm {
         ensures steps { TellsContext (tables_of rows.now)
             (requester_of asking.now) asking.now.view asking.now.variable.now result.context }
     {
-        let decided = self.decided(asking);
+        let decided = self.decide(asking);
         Explained {
             answer: decided.answer,
             context: context_step(rows, asking, &decided),
@@ -159,14 +159,14 @@ impl Vacm {
     }
 
     /// The answer to the question, and the rows that decide.
-    fn decided(&self, asking: &Asking<'_>) -> Deciding<'_>
+    fn decide(&self, asking: &Asking<'_>) -> Deciding<'_>
         ensures answer { Allowed self.now
             (requester_of asking.now) asking.now.view asking.now.variable.now result.answer }
         ensures rows { DecidesContext self.now
             (requester_of asking.now) asking.now.view asking.now.variable.now result }
         ensures one_row_each { HasOneRowEach self.now }
     {
-        decided(
+        decide_over(
             &self.contexts,
             &self.groups,
             &self.access,

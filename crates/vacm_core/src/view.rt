@@ -134,7 +134,7 @@ pub(crate) struct ViewAnswer<'a> {
 }
 
 /// What the view of this name says of the variable.
-pub(crate) fn viewed<'a>(
+pub(crate) fn ask_view<'a>(
     exact: &'a OrderedTable<FamilyRow>,
     others: &'a OrderedTable<FamilyRow>,
     view: &[u8],

@@ -20,8 +20,8 @@ unreachable-requires c =
     let past = c.in_default-pair.ensures in
     omega (arith, runs, past)
 
-pub send_report-requires : goal.send_report-requires
-send_report-requires c = record {
+pub write_report-requires : goal.write_report-requires
+write_report-requires c = record {
   known = λ two.
       let taker = taker_at c.args.engine.now in
       let rows = answer_counted c.args.why c.in-Some.n (Outcome taker c.args.users.now.users c.args.now c.args.datagram.now) c.requires.rows c.in-Some.ensures.value in

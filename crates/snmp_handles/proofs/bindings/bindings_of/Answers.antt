@@ -64,8 +64,8 @@ loop-place-preserved c =
     let here = slice_range w c.loop-place.place (length w) in
     let after = slice_range w c.in-Ok-read_binding.found.end (length w) in
     let read : IsReadBinding here after c.in-Ok-read_binding.found = c.in-Ok-read_binding.ensures.found in
-    let name : c.known.result ≡ read.says.name = ap the_name (c.known.ensures.exact ∙ identifier_in-again read.says.name c.in-Ok-read_binding.found.name.content.now read.name) in
-    let b : VariableBinding = record { name = c.known.result; tag = c.in-Ok-read_binding.found.value.tag; content = c.in-Ok-read_binding.found.value.content } in
+    let name : c.of_content.result ≡ read.says.name = ap the_name (c.of_content.ensures.exact ∙ identifier_in-again read.says.name c.in-Ok-read_binding.found.name.content.now read.name) in
+    let b : VariableBinding = record { name = c.of_content.result; tag = c.in-Ok-read_binding.found.value.tag; content = c.in-Ok-read_binding.found.value.content } in
     let items : c.push.new.self.items ≡ c.loop-place.bindings.items ++ b ∷ [] = search rules in
     let says : read.says ≡ bound_variable b = same_variable read.says b (sym name) read.tag read.content in
     let is : IsBinding read.text (bound_variable b) = subst (λ (v : Variable). IsBinding read.text v) says read.is_binding in
@@ -91,8 +91,8 @@ returns-clause-all c =
     let all : AreBindings (map bound_variable c.loop-place.bindings.items ++ []) w = c.loop-place.invariant.joined [] none in
     search rules
 
-pub known-requires : goal.known-requires
-known-requires c =
+pub of_content-requires : goal.of_content-requires
+of_content-requires c =
     let w = c.args.list.now in
     let read : IsReadBinding (slice_range w c.loop-place.place (length w)) (slice_range w c.in-Ok-read_binding.found.end (length w)) c.in-Ok-read_binding.found = c.in-Ok-read_binding.ensures.found in
     ap is_some (identifier_in-again read.says.name c.in-Ok-read_binding.found.name.content.now read.name)

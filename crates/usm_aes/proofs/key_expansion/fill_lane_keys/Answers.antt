@@ -22,7 +22,7 @@ loop-round-preserved c =
           (λ past.
           let at : round ≡ k = omega arith in
           subst (λ (n : ℕ). IsLaneKey c.args.words.now n (get_or (set keys round key) n [])) at
-          (subst (IsLaneKey c.args.words.now round) (sym (get_or-set_same keys round key [] within)) (c.lane_key.ensures ∙ c.joined.ensures)))
+          (subst (IsLaneKey c.args.words.now round) (sym (get_or-set_same keys round key [] within)) (c.lane_key.ensures ∙ c.join_words.ensures)))
           (cases_lt k round),
     )
 

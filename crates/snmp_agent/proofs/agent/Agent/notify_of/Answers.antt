@@ -19,14 +19,14 @@ pub returns-clause-answer : goal.returns-clause-answer
 returns-clause-answer g c =
     let vs = map g.B.Spelled.says c.args.bindings.now in
     let agent : AgentState = record { engine = c.self.inside.engine.id; boots = c.self.inside.engine.boots; started = c.self.inside.engine.started; users = c.self.inside.users.users; tables = c.self.inside.vacm; counters = c.self.inside.counters; counts = c.self.inside.counts } in
-    subst (λ (a : AgentState). IfSome (send_answer c.send_notification.result) (Sends a c.args.now (λ own. notifying a.engine own c.args.id c.args.user.now c.args.level c.args.front.now vs c.args.salt))) c.self.view_is
-    (sends agent c.args.now (λ own. notifying c.self.inside.engine.id own c.args.id c.args.user.now c.args.level c.args.front.now vs c.args.salt) c.in-Some.own c.in-Some.ensures.0 c.in-Some.ensures.1 (send_answer c.send_notification.result) c.send_notification.ensures.rows)
+    subst (λ (a : AgentState). IfSome (send_answer c.write_notification.result) (Sends a c.args.now (λ own. notifying a.engine own c.args.id c.args.user.now c.args.level c.args.front.now vs c.args.salt))) c.self.view_is
+    (sends agent c.args.now (λ own. notifying c.self.inside.engine.id own c.args.id c.args.user.now c.args.level c.args.front.now vs c.args.salt) c.in-Some.own c.in-Some.ensures.0 c.in-Some.ensures.1 (send_answer c.write_notification.result) c.write_notification.ensures.rows)
 
 pub returns-clause-memory : goal.returns-clause-memory
 returns-clause-memory g c is =
     let vs = map g.B.Spelled.says c.args.bindings.now in
     subst (λ (a : AgentState). CanBeSent a c.args.now (λ own. notifying a.engine own c.args.id c.args.user.now c.args.level c.args.front.now vs c.args.salt)) c.self.view_is
-    (can_be_sent _ c.args.now (λ own. notifying c.self.inside.engine.id own c.args.id c.args.user.now c.args.level c.args.front.now vs c.args.salt) c.in-Some.own c.in-Some.ensures.0 c.in-Some.ensures.1 (c.send_notification.ensures.memory is))
+    (can_be_sent _ c.args.now (λ own. notifying c.self.inside.engine.id own c.args.id c.args.user.now c.args.level c.args.front.now vs c.args.salt) c.in-Some.own c.in-Some.ensures.0 c.in-Some.ensures.1 (c.write_notification.ensures.memory is))
 
 pub returns-clause-accepted : goal.returns-clause-accepted
 returns-clause-accepted g c =
@@ -35,6 +35,6 @@ returns-clause-accepted g c =
     let users = c.self.inside.users.users in
     let of = λ (own : BootsAndTime). notification engine own c.args.id c.args.user.now c.args.level c.args.front.now vs c.args.salt in
     let law : AreAccepted users (of c.in-Some.own) = λ others held now text fits same seals. c.notification_is_accepted.ensures users others held now engine c.in-Some.own c.args.id c.args.user.now c.args.level c.args.front.now vs c.args.salt text fits same seals in
-    let told = accepted c.send_notification.result users (of c.in-Some.own) law c.send_notification.ensures.fits c.send_notification.ensures.rows in
-    subst (λ (a : AgentState). IfOk c.send_notification.result (λ text. IsAcceptedByManagers a.users (notification a.engine (own_pair a.boots a.started c.args.now) c.args.id c.args.user.now c.args.level c.args.front.now vs c.args.salt) text.items)) c.self.view_is
-    (subst (λ (q : BootsAndTime). IfOk c.send_notification.result (λ text. IsAcceptedByManagers users (of q) text.items)) c.in-Some.ensures.1 told)
+    let told = accepted c.write_notification.result users (of c.in-Some.own) law c.write_notification.ensures.fits c.write_notification.ensures.rows in
+    subst (λ (a : AgentState). IfOk c.write_notification.result (λ text. IsAcceptedByManagers a.users (notification a.engine (own_pair a.boots a.started c.args.now) c.args.id c.args.user.now c.args.level c.args.front.now vs c.args.salt) text.items)) c.self.view_is
+    (subst (λ (q : BootsAndTime). IfOk c.write_notification.result (λ text. IsAcceptedByManagers users (of q) text.items)) c.in-Some.ensures.1 told)

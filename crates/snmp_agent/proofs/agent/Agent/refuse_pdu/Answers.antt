@@ -38,8 +38,8 @@ returns-in-Ok-clause-answer c =
     (sends agent c.args.now (λ own. refusing agent.engine own (given_of c.args.taken.now) (pdu_of c.args.pdu.now) c.in-Some.counter (count_after agent.counts c.in-Some.counter) c.args.salt) c.in-Some-pair.own c.in-Some-pair.ensures.0 c.in-Some-pair.ensures.1 (Some (Ok c.in-Ok.text.items)) rows) in
     let of = λ (users : List User) (counts : List ℕ). record agent { users = users; counts = counts } in
     let counts : c.one_more-counts.result ≡ one_more agent.counts (counter_of c.args.why) = c.one_more-counts.ensures ∙ ap (λ (o : Option Counter). one_more agent.counts o) (sym counted) in
-    let is : of c.send_refusal.new.users.users c.one_more-counts.result ≡ agent_counted agent c.args.why = ap (λ (us : List User). of us c.one_more-counts.result) c.send_refusal.ensures.users ∙ ap (λ (cs : List ℕ). of agent.users cs) counts in
-    ((c.in-Some.counter, reported, sent), subst (λ (a : AgentState). of c.send_refusal.new.users.users c.one_more-counts.result ≡ agent_counted a c.args.why) c.self.view_is is)
+    let is : of c.write_refusal_report.new.users.users c.one_more-counts.result ≡ agent_counted agent c.args.why = ap (λ (us : List User). of us c.one_more-counts.result) c.write_refusal_report.ensures.users ∙ ap (λ (cs : List ℕ). of agent.users cs) counts in
+    ((c.in-Some.counter, reported, sent), subst (λ (a : AgentState). of c.write_refusal_report.new.users.users c.one_more-counts.result ≡ agent_counted a c.args.why) c.self.view_is is)
 
 pub returns-in-Err-clause-answer : goal.returns-in-Err-clause-answer
 returns-in-Err-clause-answer c =

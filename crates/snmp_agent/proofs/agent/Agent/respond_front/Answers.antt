@@ -25,16 +25,16 @@ returns-clause-answer g c s p front is_pdu =
     let fits_status : SFits w32 c.args.status = search rules in
     let fits_index : SFits w32 c.args.index = search rules in
     let vs = map g.B.Spelled.says c.args.bindings.now in
-    let rows = rw (to_z-of_z w32 c.args.status fits_status, to_z-of_z w32 c.args.index fits_index) at (c.send_response_front.ensures.rows s p front is_pdu) in
+    let rows = rw (to_z-of_z w32 c.args.status fits_status, to_z-of_z w32 c.args.index fits_index) at (c.write_response_front.ensures.rows s p front is_pdu) in
     let agent : AgentState = record { engine = c.self.inside.engine.id; boots = c.self.inside.engine.boots; started = c.self.inside.engine.started; users = c.self.inside.users.users; tables = c.self.inside.vacm; counters = c.self.inside.counters; counts = c.self.inside.counts } in
-    subst (λ (a : AgentState). IfSome (front_answer c.send_response_front.result) (SendsFront a c.args.now c.args.limit (λ own ws. responding a.engine own (given_of c.args.taken.now) s p c.args.status c.args.index ws c.args.salt) vs)) c.self.view_is
-    (sends_front agent c.args.now c.args.limit (λ own ws. responding c.self.inside.engine.id own (given_of c.args.taken.now) s p c.args.status c.args.index ws c.args.salt) vs c.in-Some.own c.in-Some.ensures.0 c.in-Some.ensures.1 (front_answer c.send_response_front.result) rows)
+    subst (λ (a : AgentState). IfSome (front_answer c.write_response_front.result) (SendsFront a c.args.now c.args.limit (λ own ws. responding a.engine own (given_of c.args.taken.now) s p c.args.status c.args.index ws c.args.salt) vs)) c.self.view_is
+    (sends_front agent c.args.now c.args.limit (λ own ws. responding c.self.inside.engine.id own (given_of c.args.taken.now) s p c.args.status c.args.index ws c.args.salt) vs c.in-Some.own c.in-Some.ensures.0 c.in-Some.ensures.1 (front_answer c.write_response_front.result) rows)
 
 pub returns-clause-memory : goal.returns-clause-memory
 returns-clause-memory g c s p front is_pdu is =
     let fits_status : SFits w32 c.args.status = search rules in
     let fits_index : SFits w32 c.args.index = search rules in
-    let sealable = rw (to_z-of_z w32 c.args.status fits_status, to_z-of_z w32 c.args.index fits_index) at (c.send_response_front.ensures.memory s p front is_pdu is) in
+    let sealable = rw (to_z-of_z w32 c.args.status fits_status, to_z-of_z w32 c.args.index fits_index) at (c.write_response_front.ensures.memory s p front is_pdu is) in
     subst (λ (a : AgentState). CanBeSent a c.args.now (λ own. responding a.engine own (given_of c.args.taken.now) s p c.args.status c.args.index [] c.args.salt)) c.self.view_is
     (can_be_sent _ c.args.now (λ own. responding c.self.inside.engine.id own (given_of c.args.taken.now) s p c.args.status c.args.index [] c.args.salt) c.in-Some.own c.in-Some.ensures.0 c.in-Some.ensures.1 sealable)
 
@@ -46,9 +46,9 @@ returns-clause-accepted g c s p front is_pdu =
     let users = c.self.inside.users.users in
     let vs = map g.B.Spelled.says c.args.bindings.now in
     let of = λ (own : BootsAndTime) (ws : List Variable). response engine own (given_of c.args.taken.now) s p c.args.status c.args.index ws c.args.salt in
-    let rows = rw (to_z-of_z w32 c.args.status fits_status, to_z-of_z w32 c.args.index fits_index) at (c.send_response_front.ensures.rows s p front is_pdu) in
-    let fits : IfOk c.send_response_front.result (λ f. SpeechFits (of c.in-Some.own (take f.count vs))) = rw (to_z-of_z w32 c.args.status fits_status, to_z-of_z w32 c.args.index fits_index) at (c.send_response_front.ensures.fits s p front is_pdu) in
-    let told = accepted_front c.send_response_front.result users c.args.limit (of c.in-Some.own) vs
+    let rows = rw (to_z-of_z w32 c.args.status fits_status, to_z-of_z w32 c.args.index fits_index) at (c.write_response_front.ensures.rows s p front is_pdu) in
+    let fits : IfOk c.write_response_front.result (λ f. SpeechFits (of c.in-Some.own (take f.count vs))) = rw (to_z-of_z w32 c.args.status fits_status, to_z-of_z w32 c.args.index fits_index) at (c.write_response_front.ensures.fits s p front is_pdu) in
+    let told = accepted_front c.write_response_front.result users c.args.limit (of c.in-Some.own) vs
     (λ ws others held now text fits same seals. c.response_is_accepted.ensures users others held now engine c.in-Some.own (given_of c.args.taken.now) s p c.args.status c.args.index ws c.args.salt text fits same seals) fits rows in
-    subst (λ (a : AgentState). IfOk c.send_response_front.result (λ f. IsAcceptedByManagers a.users (response a.engine (own_pair a.boots a.started c.args.now) (given_of c.args.taken.now) s p c.args.status c.args.index (take f.count vs) c.args.salt) f.text.items)) c.self.view_is
-    (subst (λ (q : BootsAndTime). IfOk c.send_response_front.result (λ f. IsAcceptedByManagers users (of q (take f.count vs)) f.text.items)) c.in-Some.ensures.1 told)
+    subst (λ (a : AgentState). IfOk c.write_response_front.result (λ f. IsAcceptedByManagers a.users (response a.engine (own_pair a.boots a.started c.args.now) (given_of c.args.taken.now) s p c.args.status c.args.index (take f.count vs) c.args.salt) f.text.items)) c.self.view_is
+    (subst (λ (q : BootsAndTime). IfOk c.write_response_front.result (λ f. IsAcceptedByManagers users (of q (take f.count vs)) f.text.items)) c.in-Some.ensures.1 told)

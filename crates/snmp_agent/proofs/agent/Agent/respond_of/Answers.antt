@@ -23,16 +23,16 @@ pub returns-clause-answer : goal.returns-clause-answer
 returns-clause-answer g c s p front is_pdu =
     let fits_status : SFits w32 c.args.status = search rules in
     let fits_index : SFits w32 c.args.index = search rules in
-    let rows = rw (to_z-of_z w32 c.args.status fits_status, to_z-of_z w32 c.args.index fits_index) at (c.send_response.ensures.rows s p front is_pdu) in
+    let rows = rw (to_z-of_z w32 c.args.status fits_status, to_z-of_z w32 c.args.index fits_index) at (c.write_response.ensures.rows s p front is_pdu) in
     let agent : AgentState = record { engine = c.self.inside.engine.id; boots = c.self.inside.engine.boots; started = c.self.inside.engine.started; users = c.self.inside.users.users; tables = c.self.inside.vacm; counters = c.self.inside.counters; counts = c.self.inside.counts } in
-    subst (λ (a : AgentState). IfSome (send_answer c.send_response.result) (Sends a c.args.now (λ own. responding a.engine own (given_of c.args.taken.now) s p c.args.status c.args.index (map g.B.Spelled.says c.args.bindings.now) c.args.salt))) c.self.view_is
-    (sends agent c.args.now (λ own. responding c.self.inside.engine.id own (given_of c.args.taken.now) s p c.args.status c.args.index (map g.B.Spelled.says c.args.bindings.now) c.args.salt) c.in-Some.own c.in-Some.ensures.0 c.in-Some.ensures.1 (send_answer c.send_response.result) rows)
+    subst (λ (a : AgentState). IfSome (send_answer c.write_response.result) (Sends a c.args.now (λ own. responding a.engine own (given_of c.args.taken.now) s p c.args.status c.args.index (map g.B.Spelled.says c.args.bindings.now) c.args.salt))) c.self.view_is
+    (sends agent c.args.now (λ own. responding c.self.inside.engine.id own (given_of c.args.taken.now) s p c.args.status c.args.index (map g.B.Spelled.says c.args.bindings.now) c.args.salt) c.in-Some.own c.in-Some.ensures.0 c.in-Some.ensures.1 (send_answer c.write_response.result) rows)
 
 pub returns-clause-memory : goal.returns-clause-memory
 returns-clause-memory g c s p front is_pdu is =
     let fits_status : SFits w32 c.args.status = search rules in
     let fits_index : SFits w32 c.args.index = search rules in
-    let sealable = rw (to_z-of_z w32 c.args.status fits_status, to_z-of_z w32 c.args.index fits_index) at (c.send_response.ensures.memory s p front is_pdu is) in
+    let sealable = rw (to_z-of_z w32 c.args.status fits_status, to_z-of_z w32 c.args.index fits_index) at (c.write_response.ensures.memory s p front is_pdu is) in
     subst (λ (a : AgentState). CanBeSent a c.args.now (λ own. responding a.engine own (given_of c.args.taken.now) s p c.args.status c.args.index (map g.B.Spelled.says c.args.bindings.now) c.args.salt)) c.self.view_is
     (can_be_sent _ c.args.now (λ own. responding c.self.inside.engine.id own (given_of c.args.taken.now) s p c.args.status c.args.index (map g.B.Spelled.says c.args.bindings.now) c.args.salt) c.in-Some.own c.in-Some.ensures.0 c.in-Some.ensures.1 sealable)
 
@@ -44,9 +44,9 @@ returns-clause-accepted g c s p front is_pdu =
     let users = c.self.inside.users.users in
     let vs = map g.B.Spelled.says c.args.bindings.now in
     let of = λ (own : BootsAndTime). response engine own (given_of c.args.taken.now) s p c.args.status c.args.index vs c.args.salt in
-    let rows = rw (to_z-of_z w32 c.args.status fits_status, to_z-of_z w32 c.args.index fits_index) at (c.send_response.ensures.rows s p front is_pdu) in
-    let fits : IfOk c.send_response.result (λ _. SpeechFits (of c.in-Some.own)) = rw (to_z-of_z w32 c.args.status fits_status, to_z-of_z w32 c.args.index fits_index) at (c.send_response.ensures.fits s p front is_pdu) in
+    let rows = rw (to_z-of_z w32 c.args.status fits_status, to_z-of_z w32 c.args.index fits_index) at (c.write_response.ensures.rows s p front is_pdu) in
+    let fits : IfOk c.write_response.result (λ _. SpeechFits (of c.in-Some.own)) = rw (to_z-of_z w32 c.args.status fits_status, to_z-of_z w32 c.args.index fits_index) at (c.write_response.ensures.fits s p front is_pdu) in
     let law : AreAccepted users (of c.in-Some.own) = λ others held now text fits same seals. c.response_is_accepted.ensures users others held now engine c.in-Some.own (given_of c.args.taken.now) s p c.args.status c.args.index vs c.args.salt text fits same seals in
-    let told = accepted c.send_response.result users (of c.in-Some.own) law fits rows in
-    subst (λ (a : AgentState). IfOk c.send_response.result (λ text. IsAcceptedByManagers a.users (response a.engine (own_pair a.boots a.started c.args.now) (given_of c.args.taken.now) s p c.args.status c.args.index vs c.args.salt) text.items)) c.self.view_is
-    (subst (λ (q : BootsAndTime). IfOk c.send_response.result (λ text. IsAcceptedByManagers users (of q) text.items)) c.in-Some.ensures.1 told)
+    let told = accepted c.write_response.result users (of c.in-Some.own) law fits rows in
+    subst (λ (a : AgentState). IfOk c.write_response.result (λ text. IsAcceptedByManagers a.users (response a.engine (own_pair a.boots a.started c.args.now) (given_of c.args.taken.now) s p c.args.status c.args.index vs c.args.salt) text.items)) c.self.view_is
+    (subst (λ (q : BootsAndTime). IfOk c.write_response.result (λ text. IsAcceptedByManagers users (of q) text.items)) c.in-Some.ensures.1 told)

@@ -1,6 +1,6 @@
 use Rattle.std.proofs.Common.{arith}
 use Rattle.snmp_ber.proofs.ObjectNames.{found, found_exactly}
-use Rattle.snmp_ber.proofs.object_name.ObjectName.known.Goals as goal
+use Rattle.snmp_ber.proofs.object_name.ObjectName.of_content.Goals as goal
 
 pub invariant_of-result : goal.invariant_of-result
 invariant_of-result c = found c.args.content.now (λ i. omega (arith, c.type_inv.content i)) c.requires

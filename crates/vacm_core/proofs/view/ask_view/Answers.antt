@@ -1,6 +1,6 @@
 use Rattle.std.proofs.Common.{◌≡◌, ◌++◌, true, false, rules, inl}
 use Rattle.vacm_core.proofs.Views.{has_view_where, where_has_view, best_of_view, none_of_view, none_of_no_view, by_row}
-use Rattle.vacm_core.proofs.view.viewed.Goals as goal
+use Rattle.vacm_core.proofs.view.ask_view.Goals as goal
 
 pub returns-then-not-has_view-clause-answer : goal.returns-then-not-has_view-clause-answer
 returns-then-not-has_view-clause-answer c h =

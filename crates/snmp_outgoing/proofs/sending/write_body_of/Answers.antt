@@ -1,5 +1,5 @@
 use Rattle.snmp_outgoing.proofs.Refusing.{told_as, memory_as, large_as}
-use Rattle.snmp_outgoing.proofs.sending.send_of.Goals as goal
+use Rattle.snmp_outgoing.proofs.sending.write_body_of.Goals as goal
 
 pub returns-in-Err-clause-rows : goal.returns-in-Err-clause-rows
 returns-in-Err-clause-rows g c = told_as c.in-Err.fault c.into.result _ c.into.ensures c.in-Err.ensures.rows

@@ -6,24 +6,24 @@ use Rattle.snmp_incoming.specs.Answers.{given_of}
 use Rattle.snmp_outgoing.specs.Sends.{sent_with, send_answer}
 use Rattle.snmp_agent.specs.Responses.{response}
 use Rattle.snmp_agent.proofs.Speeches.{speech_fits}
-use Rattle.snmp_agent.proofs.response.send_response.Goals as goal
+use Rattle.snmp_agent.proofs.response.write_response.Goals as goal
 
 pub returns-clause-rows : goal.returns-clause-rows
 returns-clause-rows g c s p front is_pdu =
     let vs = map g.B.Spelled.says c.args.bindings.now in
     let is = ap (sent_with c.envelope-envelope.result) (c.front-front.ensures.scoped s p vs front is_pdu) ∙ c.envelope-envelope.ensures.message s p vs in
-    subst (λ (m : Sending). IfSome (send_answer c.send_of.result) (Seals c.args.users.now.users m)) is c.send_of.ensures.rows
+    subst (λ (m : Sending). IfSome (send_answer c.write_body_of.result) (Seals c.args.users.now.users m)) is c.write_body_of.ensures.rows
 
 pub returns-clause-memory : goal.returns-clause-memory
 returns-clause-memory g c s p front is_pdu memory =
     let vs = map g.B.Spelled.says c.args.bindings.now in
     let is = ap (sent_with c.envelope-envelope.result) (c.front-front.ensures.scoped s p vs front is_pdu) ∙ c.envelope-envelope.ensures.message s p vs in
-    subst (IsSealable c.args.users.now.users) is (c.send_of.ensures.memory memory)
+    subst (IsSealable c.args.users.now.users) is (c.write_body_of.ensures.memory memory)
 
 pub returns-clause-fits : goal.returns-clause-fits
 returns-clause-fits g c s p front is_pdu =
     let vs = map g.B.Spelled.says c.args.bindings.now in
-    let spelled = subst (λ (q : PduParts). IfOk c.send_of.result (λ _. IsSpelled q)) (c.front-front.ensures.pdu s p vs front is_pdu) c.send_of.ensures.spelled in
+    let spelled = subst (λ (q : PduParts). IfOk c.write_body_of.result (λ _. IsSpelled q)) (c.front-front.ensures.pdu s p vs front is_pdu) c.write_body_of.ensures.spelled in
     let salt : length c.args.response.now.salt ≡ 8 = search rules in
-    speech_fits c.send_of.result (response c.args.engine.now c.args.own (given_of c.args.taken.now) s p c.args.response.now.status c.args.response.now.index vs c.args.response.now.salt)
+    speech_fits c.write_body_of.result (response c.args.engine.now c.args.own (given_of c.args.taken.now) s p c.args.response.now.status c.args.response.now.index vs c.args.response.now.salt)
     c.args.taken.now.id_fits c.envelope-envelope.ensures.bounds c.requires.pair c.args.taken.now.user_fits salt spelled

@@ -11,7 +11,7 @@ use Rattle.snmp_outgoing.proofs.Levels.{flags_at, level_at}
 use Rattle.snmp_outgoing.proofs.Counting.{take_map}
 use Rattle.snmp_outgoing.proofs.Refusing.{sealable}
 use Rattle.snmp_outgoing.proofs.Fronting.{sealed_text, scoped_is, not_refused, if_none, sender_rows}
-use Rattle.snmp_outgoing.proofs.sending.send_front.Goals as goal
+use Rattle.snmp_outgoing.proofs.sending.write_front.Goals as goal
 
 pub returns-in-Err-clause-rows : goal.returns-in-Err-clause-rows
 returns-in-Err-clause-rows g c =

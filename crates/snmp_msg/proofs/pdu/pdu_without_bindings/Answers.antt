@@ -1,6 +1,6 @@
 use Rattle.std.proofs.Common.{refl, arith, FitsSigned, w32}
 use Rattle.std.proofs.lemmas.Int.{ints, to_z-of_z}
-use Rattle.snmp_msg.proofs.pdu.numbered.Goals as goal
+use Rattle.snmp_msg.proofs.pdu.pdu_without_bindings.Goals as goal
 
 pub returns : goal.returns
 returns c =

@@ -8,7 +8,7 @@ use Rattle.snmp_incoming.specs.Refusals.{answer_number, MemoryIs}
 use Rattle.snmp_agent.specs.Report.{reporting_of}
 use Rattle.snmp_agent.proofs.Sizes.{scoped_most}
 use Rattle.snmp_agent.proofs.Reports.{seals_text, refusal_is, report_sealable}
-use Rattle.snmp_agent.proofs.report.send_report.Goals as goal
+use Rattle.snmp_agent.proofs.report.write_report.Goals as goal
 
 pub returns-in-Ok-clause-text : goal.returns-in-Ok-clause-text
 returns-in-Ok-clause-text c =
