@@ -1,4 +1,10 @@
 -- What `snmpsec datagrams`, `show --from` and `open --from` do with a capture.
+--
+-- `Tells P ports name streams status`, `TellsNot`. What `datagrams` has read and written where it ends,
+-- with P for the line of a datagram: the log of the capture (`IsLogOf`), what is told and the line of
+-- counts; or the log as far as it is one, and the line for the first octet that isn't. And where it stops
+-- with a fault: within the capture, or a front of that last line is written. `AskPorts`: the ports that
+-- words ask for.
 use Rattle.std.specs.Prelude.{◌≡◌, ◌⊎◌, ℕ, ◌<◌, ◌^◌, Bool, if◌then◌else◌, map, List, [], ◌∷◌, ◌++◌, codes, decimal}
 use Rattle.std.specs.Prelude.{Option, IfSome}
 use Rattle.std.specs.List.{All, Contains}

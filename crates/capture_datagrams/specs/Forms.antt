@@ -1,4 +1,13 @@
 -- What `snmpsec datagrams`, `show --from` and `open --from` do with a file in any of its forms.
+--
+-- `TellsFile P asked name streams status`, `StopsFile`. What `datagrams` does with a file of any form: with
+-- a capture `Tells`, with a text `TellsText` (`Texts`): of pasted hex what P prints of its octets, or the
+-- line that refuses it (`IsHexOf`); of dumps what P prints of the octets of each (`PrintsAll` in `Dumped`),
+-- or of the datagrams in them where they are packets (`PrintsPackets` in `Packets`), or the line of the
+-- first that is none, and why (`IsRefusedDump`). `is_capture`: whether it is a capture, by what is asked or
+-- by the file's first octets (`begins_capture`); `IsDumpText`: whether a text is dumps, by what is asked or
+-- by a dump's first line (`HasDumpOn`). `IsFormWord`: the name of a form; `may_be_dumps`: it goes with
+-- dumps of packets.
 use Rattle.std.specs.Prelude.{◌≡◌, ◌⊎◌, Bool, true, false, List, ℕ, codes, Option, Some, None, IfSome}
 use Rattle.capture_files.specs.Formats.{begins_capture}
 use Rattle.capture_files.specs.Datagrams.{CannotBegin, Printing, Streams}

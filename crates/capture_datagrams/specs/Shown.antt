@@ -1,5 +1,10 @@
 -- What `snmpsec show --from` and `snmpsec open --from` print: of each datagram of a file what `show` and
 -- `open` do, behind a line of its own.
+--
+-- `TellsPrintout printout asked name streams status`, `StopsPrintout`. The same for `show --from` and `open
+-- --from`: P is `PrintsShown` or `PrintsOpened`, a line `datagram N MOMENT` and behind it what `show` or
+-- `open` prints of the datagram, with names where they are asked for (`IsNamed`). The refusal of a
+-- configuration stands alone.
 use Rattle.std.specs.Prelude.{◌≡◌, ◌⊎◌, ⊤, ℕ, ◌==◌, not, Bool, true, false, List, ◌++◌, codes, decimal, Option}
 use Rattle.std.specs.Io.KnownBytes.{Appends, Keeps}
 use Rattle.snmpsec_io.specs.Transfer.{WritesFront}

@@ -1,4 +1,15 @@
 -- The dumps of a text.
+--
+-- `HasDumps text dumps`. The lines of the text (`AreLines`) are blocks (`AreBlocks`), each a dump or one
+-- line that is passed over (`IsPassedOver`); the octets of the dumps are these, one dump at least.
+-- `IsDump`: a line of the offset 0, and lines that go on (`GoOn`): the offset of each writes the number of
+-- the octets before it, in hex, in decimal or in octal, all alike (`is_number` in `Base`). `MayEndBefore`:
+-- directly behind a dump stands no offset but that of another.
+--
+-- `IsUnread text fault`. Why a text isn't read: it is blocks without a dump; or behind blocks, and perhaps
+-- lines of a dump, a line stands that can't be read (`IsUnreadable`), that goes on no dump (`IsNotBegun`),
+-- or behind which the next has another offset than the number of the octets before, in each base
+-- (`IsOtherCount`). `StopsAt`: its number.
 use Rattle.std.specs.Prelude.{◌≡◌, ◌≢◌, ◌⊎◌, ⊤, ℕ, zero, suc, ◌+◌, ◌-◌, ◌<◌, true, false, List, [], ◌∷◌, ◌++◌, length}
 use Rattle.std.specs.Prelude.{map, Option, Some, None}
 use Rattle.capture_dumps.specs.Base.{base_number, has, is_number}

@@ -1,4 +1,8 @@
 -- The lines of a text with dumps.
+--
+-- `IsKindOf line kind`. What a line is: without an offset (`offset_of` in `Offset`); the first of a dump or
+-- one that goes on, with its octets; an offset and other words; or an offset and pairs that can't be read.
+-- `IsRowAt`: pairs stand apart, or behind a colon may be joined.
 use Rattle.std.specs.Prelude.{◌≡◌, ◌≢◌, ◌⊎◌, ℕ, ◌-◌, ◌%◌, ◌==◌, ◌&&◌, ◌||◌, not, nat_lt, if◌then◌else◌, Bool, true}
 use Rattle.std.specs.Prelude.{false, List, [], ◌∷◌, length, take, drop, Option, Some, None}
 use Rattle.std.specs.List.{list_all, prefix_len}

@@ -1,4 +1,9 @@
 -- The octets of a dump's line, behind its offset.
+--
+-- `IsRow text octets`. The octets of the fewest pairs behind which a column stands that shows them
+-- (`IsShown`), or, where there is no such, of all pairs, behind which only blanks stand (`IsBare`).
+-- `has_any_column` (`Column`): two blanks at least, and then the octets as text, as they are or between
+-- marks; blanks at the end may be missing.
 use Rattle.std.specs.Prelude.{◌≡◌, ◌⊎◌, ℕ, zero, suc, ◌<◌, true, List, [], ◌∷◌, ◌++◌, drop, Option, Some, None}
 use Rattle.hex.specs.Hex.{hex_digit_value}
 use Rattle.capture_dumps.specs.Dump.{blanks}

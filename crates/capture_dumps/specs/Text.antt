@@ -1,4 +1,12 @@
 -- A text of hex: a pair of digits for each octet, and what may stand between and before pairs.
+--
+-- `IsHexText text octets`. The text is parts, one behind the other (`AreParts`), which write these octets,
+-- one at least. A part (`IsPart`) is a gap, one octet that may stand between pairs or a backslash and a
+-- line end (`IsGap`), or a pair of digits of either case behind nothing, `0x`, `0X` or `\x` (`IsPair`).
+--
+-- `IsFaultAt text line column`. Behind parts, at this place (`IsBehind`), begins no part (`BeginsNone`), or
+-- the text ends there without an octet. `BeginsHex`: the text begins with parts that write an octet; memory
+-- is wanted there alone (`IsNoText`).
 use Rattle.std.specs.Prelude.{◌≡◌, ◌⊎◌, ℕ, zero, suc, ◌+◌, ◌/◌, ◌%◌, ◌<◌, ◌==◌, ◌||◌, not, Bool, true, List, [], ◌∷◌}
 use Rattle.std.specs.Prelude.{◌++◌, length, Some}
 use Rattle.std.specs.List.{count_by, suffix_len}

@@ -1,5 +1,10 @@
 -- The log of a capture: a text for each datagram, in the order of the records, a line or another. Each other
 -- record is told in a line of its own, or counted by its reason.
+--
+-- `IsLogOf ports capture log notes passed`. The capture is a beginning and items; each record of them in
+-- order is a line of the log, or a line of what is told, or one more of a reason (`Sorts`, by
+-- `IsSortedRecord`). `StopsBy`: what was read and written where it stops with a fault; `IsBad`: what begins
+-- there is no item. `StopsWriting`: of the log or of what is told an end isn't written.
 use Rattle.std.specs.Prelude.{◌≡◌, ◌⊎◌, ℕ, ◌+◌, ◌<◌, ◌≤◌, ◌==◌, ◌||◌, nat_le, Bool, true, false, List, [], ◌∷◌, ◌++◌}
 use Rattle.std.specs.Prelude.{length, codes, Option, Some, None, decimal}
 use Rattle.std.specs.List.{list_any}

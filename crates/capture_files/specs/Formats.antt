@@ -1,4 +1,10 @@
 -- A capture in either format, as items that are read one behind the other: records, and blocks that are none.
+--
+-- `IsItem state octets record state'`, `AreItems`. The octets are an item of a capture, a record or a
+-- block; which record it is, if it is one, and what the next is read by: the header, or what was read of
+-- the section (`State`). A text is the items of a list. `HasNoItem`: the octets begin with no item.
+-- `IsBeginning`: a capture's header, or that of the first section. `begins_capture`: what the first four
+-- octets tell.
 use Rattle.std.specs.Prelude.{◌≡◌, ◌≢◌, ◌⊎◌, ℕ, ◌+◌, ◌-◌, ◌<◌, ◌≤◌, ◌||◌, ⊤, Bool, true, false, List, [], ◌∷◌, ◌++◌}
 use Rattle.std.specs.Prelude.{length, take, filter_map, Option, Some, None, IfSome, option_map}
 use Rattle.std.specs.Io.KnownBytes.{Consumes, IsAtEnd}

@@ -1,4 +1,10 @@
 -- The datagram of a packet: the frame of its link, IP and UDP. A packet is octets as they were captured.
+--
+-- `IsFound link packet whole found`. What a packet on a link of this type is. `IsNetwork`: what its frame
+-- has in it; `IsUntagged` is the type behind all tags of virtual LANs (IEEE 802.1Q). `FindsIpv4` (RFC 791,
+-- section 3.1) and `FindsIpv6` (RFC 8200, sections 3 and 4) say of each answer when it comes; `LeadsTo`:
+-- the extension headers before a place are there and are skipped; `IsUdp` (RFC 768): the octets begin with
+-- a datagram from a port to another. `IsCutShort` and `HasBadLength`: why there is none.
 use Rattle.std.specs.Prelude.{◌≡◌, ◌≢◌, ◌⊎◌, ℕ, zero, suc, ◌+◌, ◌-◌, ◌*◌, ◌/◌, ◌%◌, ◌<◌, ◌≤◌, ◌==◌, ◌&&◌, ◌||◌, not}
 use Rattle.std.specs.Prelude.{Bool, true, false, if◌then◌else◌, List, length, take, drop, slice_index}
 use Rattle.capture_files.specs.Field.{field16}

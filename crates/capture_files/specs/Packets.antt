@@ -1,4 +1,7 @@
 -- Packets without a capture around them, each a record.
+--
+-- `ComeTo P ports moment packets log notes passed`. Packets that begin with their IP header, each as a
+-- record of that link and moment (`packet_record`), are sorted as those of a capture are.
 use Rattle.std.specs.Prelude.{ℕ, List, length, map, Some}
 use Rattle.capture_files.specs.Items.{Record}
 use Rattle.capture_files.specs.Passed.{Counts, none_passed}

@@ -1,4 +1,7 @@
 -- How many datagrams are printed, and how many packets are passed over, by reason, and what is said of these.
+--
+-- `IsPassedWords counts words`. The reasons that there were, each with how often, in the order of their
+-- octets; the links' types each by itself.
 use Rattle.std.specs.Prelude.{◌≡◌, ℕ, ◌+◌, ◌<◌, ◌==◌, ◌||◌, Bool, false, if◌then◌else◌, List, [], ◌∷◌, ◌++◌, length}
 use Rattle.std.specs.Prelude.{replicate, slice_index, slice_set, codes, decimal, IsPermutation, IsSorted}
 use Rattle.std.specs.Cmp.Lexicographic.{slice_cmp}

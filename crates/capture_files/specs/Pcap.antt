@@ -1,5 +1,10 @@
 -- A capture in the format of libpcap: a header, and records of a header and a packet each. All numbers are in
 -- one order.
+--
+-- `IsHeader`, `IsRecord header octets record` (the format of libpcap). A header says the order of all
+-- numbers, by the number that it begins with, version 2 and a link below 65,536. A record is 16 octets and
+-- the packet, whose length they say, at most 262,144. `IsHeaderFault octets place`: what is first at fault.
+-- `field16_by`, `field32`, `field64` (`Field`): the number that stands at a place.
 use Rattle.std.specs.Prelude.{◌≡◌, ◌≢◌, ◌⊎◌, ℕ, ◌+◌, ◌<◌, ◌≤◌, ◌==◌, ◌&&◌, ◌||◌, nat_le, Bool, true, false, List}
 use Rattle.std.specs.Prelude.{◌++◌, length, drop, Option, Some}
 use Rattle.std.specs.Io.KnownBytes.{Consumes}

@@ -1,6 +1,12 @@
 -- A capture in pcapng (draft-ietf-opsawg-pcapng): blocks, of which the header of a section says the order of
 -- the numbers up to the next one, a description of an interface how the packets are captured that name it,
 -- and a packet block one of them.
+--
+-- `IsBlock order octets`, `IsBlockIn section octets record section'` (draft-ietf-opsawg-pcapng). A block
+-- has its length twice, alike, a multiple of 4; its order is the section's, but for the header of a section
+-- (`block_order`). What it means by its kind (`Means`): another section, an interface more (`IsInterface`,
+-- by its options: `Say`), a record (`IsPacket`), a record without a moment, or nothing. `IsMoved`: the
+-- seconds with an offset, where they are from 0 to 2^64 - 1; `units`: how many units a second has.
 use Rattle.std.specs.Prelude.{◌≡◌, ℕ, zero, suc, ◌+◌, ◌-◌, ◌*◌, ◌/◌, ◌%◌, ◌^◌, ◌<◌, ◌≤◌, ◌==◌, ◌&&◌, ◌||◌, not}
 use Rattle.std.specs.Prelude.{nat_le, Bool, true, false, if◌then◌else◌, List, [], ◌∷◌, ◌++◌, length, take, drop}
 use Rattle.std.specs.Prelude.{slice_index, slice_get, Option, Some, None, SomeIff}

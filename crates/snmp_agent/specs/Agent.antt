@@ -1,4 +1,9 @@
 -- An agent, and what its taking of a datagram answers and leaves.
+--
+-- `AgentTakes`. What a take answers and leaves: the table's answer, one more in the counter of a refusal
+-- that has one, modulo 2^32, and nothing else changed; for want of memory no answer, and all as before.
+-- `IsOpened`: the message comes as far as its opening and is sealed, the one case in which a take needs
+-- memory besides a report.
 use Rattle.std.specs.Prelude.{◌≡◌, ℕ, List, Option, Some, None, Result, Ok, Err, true}
 use Rattle.usm_users.specs.User.{User}
 use Rattle.usm_core.specs.Verified.{Verified, Verifies}

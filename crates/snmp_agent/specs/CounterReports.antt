@@ -1,5 +1,9 @@
 -- Reports of one counter (RFC 3412, section 7.1, step 3; RFC 3414, section 3.2), each as what is handed in to
 -- be sealed.
+--
+-- `reporting` (RFC 3414, section 3.2). The report of a counter of usmStats, in the default context of the
+-- engine: at authNoPriv for counter 2, else at noAuthNoPriv. `refusing`: the report on an accepted message
+-- that isn't handled, at its own level (RFC 3412 section 7.1).
 use Rattle.std.specs.Prelude.{◌==◌, ℕ, ℤ, pos, false, if◌then◌else◌, List, [], ◌∷◌, replicate}
 use Rattle.snmp_ber.specs.declared.level.Level.{Level}
 use Rattle.snmp_ber.specs.declared.level.Level.TheVariants.{NoAuthNoPriv, AuthNoPriv}

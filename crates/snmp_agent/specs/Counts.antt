@@ -1,5 +1,8 @@
 -- The counters of messages that were refused without a report, that no application handled, or that had no
 -- answer short enough (RFC 3412, section 5; RFC 3413, section 4.1.2; RFC 3418).
+--
+-- `drop_counter_of` (RFC 3412, section 7.2, RFC 3418). The counter of a refusal that is never reported, by
+-- its number.
 use Rattle.std.specs.Prelude.{ℕ, ◌+◌, ◌%◌, ◌^◌, ◌==◌, ◌||◌, if◌then◌else◌, List, slice_index, slice_set, Option, Some}
 use Rattle.std.specs.Prelude.{None, Result, Ok, Err}
 use Rattle.snmp_incoming.specs.Outcome.{Given}

@@ -1,4 +1,8 @@
 -- Decisions on the variables that a request names (RFC 3413, section 3.2; RFC 3415, section 3).
+--
+-- `IsDecision` (RFC 3413, section 3.2, RFC 3415, section 3). For each variable that a GetRequest or a
+-- SetRequest names, in their order, `Allowed` of the message's user and level, its context's name, the
+-- user-based model and the read or the write view.
 use Rattle.std.specs.Prelude.{◌≡◌, ◌≢◌, ◌⊎◌, ℕ, List}
 use Rattle.std.specs.List.{AllZip}
 use Rattle.snmp_ber.specs.declared.level.Level.{Level}

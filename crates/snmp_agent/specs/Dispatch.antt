@@ -1,5 +1,11 @@
 -- Which accepted messages an agent answers, and what becomes of the others (RFC 3412, sections 4.2.2, 7.1 and
 -- 7.2; RFC 3413, section 3.2).
+--
+-- `HandledBy` (RFC 3412, sections 4.2.2 and 7.2, RFC 3413, section 3.2). Why no application answers an
+-- accepted message: a Response or a Report, for which no request waits; else the contextEngineID or the
+-- PDU, for which nothing is registered; else the context's name, which no row has. `Refuses`: what a
+-- refusal answers and leaves: one more in its counter, and for a PDU of the Confirmed Class the answer to
+-- sending `refusing`, the report with the counter after it.
 use Rattle.std.specs.Prelude.{◌≡◌, ◌⊎◌, ℕ, true, List, Option, Some, None, option_map, Result, Ok, Err}
 use Rattle.std.specs.Global.{Vec}
 use Rattle.snmp_message.specs.Scoped.{Contexts}

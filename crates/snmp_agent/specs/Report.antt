@@ -1,4 +1,10 @@
 -- Reports (RFC 3412, section 7.1; RFC 3414, section 3.2): on which refusal there is one, and what it says.
+--
+-- `IsReport` (RFC 3412, section 7.1, RFC 3414, section 3.2). `Offers`: the refusal has a counter, the
+-- reportable flag is set, and the PDU, where it isn't sealed and can be read, is of the Confirmed Class.
+-- The report is then the `SealedText` of `reporting`: the agent's engine, boots and time, the msgID, the
+-- user and (where it can be read) the request-id of the message, and the counter after it was counted; at
+-- authNoPriv for counter 2, else at noAuthNoPriv.
 use Rattle.std.specs.Prelude.{◌≡◌, ◌⊎◌, ℕ, ℤ, pos, true, List, Option, Some, None, Err, option_map}
 use Rattle.std.specs.Global.{Vec}
 use Rattle.snmp_message.specs.Layout.{Parts}

@@ -1,4 +1,8 @@
 -- Responses, each as what is handed in to be sealed.
+--
+-- `response` (RFC 3412, section 7.1, RFC 3416, section 4.2). The Response to what was given: its msgID,
+-- user, level, contexts and request-id, under the engine's boots and time. `responding`: the same as it is
+-- handed in to be sealed.
 use Rattle.std.specs.Prelude.{ℕ, ℤ, false, List}
 use Rattle.snmp_message.specs.Scoped.{Contexts}
 use Rattle.snmp_msg.specs.Variables.{Variable}

@@ -1,5 +1,8 @@
 -- What an agent sends besides reports: responses and notifications, each as what is handed in to be sealed,
 -- and the answer to sending it.
+--
+-- `Sends`. The answer of `respond` and `notify`: first that the agent's time has run out, then what `Seals`
+-- says of the `response` or the `notification` under its boots and time.
 use Rattle.std.specs.Prelude.{◌<◌, ◌≤◌, ◌-◌, ℕ, false, List, Result}
 use Rattle.snmp_ber.specs.declared.level.Level.{Level}
 use Rattle.snmp_msg.specs.Variables.{Variable}

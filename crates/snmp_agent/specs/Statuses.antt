@@ -1,4 +1,7 @@
 -- What becomes of a request by the answers on access (RFC 3413, section 3.2; RFC 3416, section 4.2).
+--
+-- `IsStatusOf` (RFC 3413, section 3.2). The answer on access and the tag of the PDU for which each status
+-- is due.
 use Rattle.std.specs.Prelude.{◌≡◌, ◌≢◌, ◌⊎◌, ℕ}
 use Rattle.vacm_core.specs.declared.access.Access.{Access}
 use Rattle.vacm_core.specs.declared.access.Access.TheVariants.{NoSuchContext, NoGroupName, NoAccessEntry, NoSuchView}

@@ -1,4 +1,7 @@
 -- The identifier that a content spells.
+--
+-- `arcs_in content`: the arcs of the identifier whose content this is, and none where it is no
+-- identifier's.
 use Rattle.std.specs.Prelude.{ℕ, List, [], Option, Some, None}
 use Rattle.snmp_ber.specs.Oid.{identifier_in}
 

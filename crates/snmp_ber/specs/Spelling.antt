@@ -1,4 +1,7 @@
 -- The canonical spelling: the shortest length, and an INTEGER's fewest octets.
+--
+-- `element tag content`: the tag, the shortest length, the content. `integer`: the last octets of the
+-- number in two's complement, as many as it needs.
 use Rattle.std.specs.Prelude.{ℕ, suc, ℤ, pos, negsuc, ◌+◌, ◌-◌, nat_lt, if◌then◌else◌, List, [], ◌∷◌, ◌++◌, length}
 use Rattle.std.specs.Prelude.{drop}
 use Rattle.std.specs.Int.{w32, w64, to_be_bytes, cast_unsigned}

@@ -1,4 +1,12 @@
 -- What the calls on a handle answer and leave.
+--
+-- `Done`, `Accesses`: the answer is the number of what is told. `Takes`, `Allows`, `May`, `Counter`,
+-- `RespondsTo`, `Notifies`, `TellsPart`, `TellsMessage`, `TellsNumbers`, `ClearsAgent`: what each export
+-- answers and leaves. `Makes`: the answer of `_new`. `ReadsBinding`, `Writes`: bindings as octets.
+-- `TellsConfiguration`: why a configuration is refused. `MaxSize`, `RespondsToWithin`, `UnhandledBy`,
+-- `RefusesKept`, `CountOf`, `DropsSilently`: those that go with an agent's answers. `ManagerMaxSize`,
+-- `TookAnswer`, `ToldReport`, `HasReport`: those on the answers to a manager's requests. `IsValueCode`:
+-- whether a content fits its tag.
 use Rattle.std.specs.Prelude.{◌≡◌, ◌≢◌, ◌<◌, ◌≤◌, ◌⊎◌, ⊤, ℕ, ℤ, pos, List, length, drop, ◌++◌, Option, Some, Result}
 use Rattle.std.specs.Prelude.{Ok, Err, MatchOption}
 use Rattle.std.specs.Int.{to_be_bytes, w64}

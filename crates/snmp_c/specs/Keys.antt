@@ -1,4 +1,11 @@
 -- What the calls on keys and codes answer and write.
+--
+-- `Gives InRange size octets protocol ..`. What a call on keys answers and writes: the octets, of which
+-- there are so many, in the front of the buffer and their number, or nothing. `WritesOctets`: the same
+-- without a protocol; `IsUntouched`: nothing is written. `auth_of` (RFC 3414 section 5, RFC 7860 section
+-- 8): the protocol of a number. `GivesKey` (RFC 3414 sections 2.6, 11.2 and A.2), `GivesLocalised`
+-- (sections 2.6 and A.2; RFC 7860 section 5), `GivesCode` (sections 6.3.1 and 7.3.1; RFC 7860 section
+-- 4.2.1): the three calls, each with its ranges, over `ku`, `kul` and `mac`.
 use Rattle.std.specs.Prelude.{◌==◌, if◌then◌else◌, ◌≡◌, ◌<◌, ◌≤◌, ⊤, ℕ, List, ◌++◌, length, drop, replicate, Option}
 use Rattle.std.specs.Prelude.{Some, None, Result, Ok, Err}
 use Rattle.usm_keys.specs.Keys.{ku, kul}

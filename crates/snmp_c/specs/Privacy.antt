@@ -1,4 +1,8 @@
 -- What the calls that seal and open a text in its place answer and leave.
+--
+-- `Seals`, `Opens` (RFC 3826, sections 3.1.3 and 3.1.4). A text is sealed or opened in its place, over
+-- `IsSealed`, `schedule` and `iv_of`; or it is as it was, exactly where key and salt haven't their lengths
+-- (`AreKeyAndSalt`, sections 3.1.2.1 and 3.3.2).
 use Rattle.std.specs.Prelude.{◌≡◌, ⊤, ℕ, List, length, Result, Ok, Err}
 use Rattle.usm_aes.specs.Aes.{enciphered, schedule}
 use Rattle.usm_aes.specs.Feedback.{IsSealed, iv_of, opened}

@@ -1,4 +1,19 @@
 -- An agent with what it accepted last and what it wrote last, and what its calls leave.
+--
+-- `AgentHeld`: an agent with what was accepted last and the message that was written last.
+--
+-- `MakesAgent`: an agent of a configuration; `begins`: one that took nothing yet. `IsEngineAt`: an engine
+-- ID that an engine may have (`IsOwnEngine`; RFC 3411, section 5) and boots that it can have.
+-- `RefusesAgent`: why there is none, the first that applies.
+--
+-- `TakesHeld`: what is accepted is kept; of a refusal the report is left. `TakesNoMemory`: the datagram is
+-- refused, isn't opened, and no report on it is offered. `IsAsked`: what is kept is of the Confirmed Class.
+-- `RespondsHeld`, `NotifiesHeld`: the message is left to be sent (`LeavesMessage`); `RefusesResponse`,
+-- `RefusesNotice`: why none is. `Responds`: the Response with the bindings that octets are; `trap`: a
+-- notification (RFC 3416, section 4.2.6).
+--
+-- `AllowsHeld`, `MaySee`: isAccessAllowed by numbers (`view_of`, `level_of`); `AreNoArcs`: not 1 to 128 of
+-- them. `Counts`: a counter. `Clears`: all is given back, and what stays has no users and `no_rows`.
 use Rattle.std.specs.Prelude.{◌≡◌, ◌<◌, ◌≤◌, ◌⊎◌, All, ℕ, pos, List, [], length, replicate, Option, Some, None}
 use Rattle.std.specs.Prelude.{Result, Ok, Err, IfSome, false, true}
 use Rattle.snmp_ber.specs.declared.level.Level.{Level}

@@ -1,4 +1,8 @@
 -- Variable bindings that a caller hands in, or asks for.
+--
+-- `RefusesBindings`: why octets aren't taken as bindings. `ReadsOne`, `ReadsAt`: a binding of a list with
+-- its places; `BeginsNone`: none begins there; `LacksRoom`: one does, and a buffer is too short.
+-- `WritesBinding`: one is written.
 use Rattle.std.specs.Prelude.{◌≡◌, ◌<◌, ◌⊎◌, ◌++◌, ℕ, List, [], ◌∷◌, length, drop, slice_range, Result, Ok, Err}
 use Rattle.snmp_ber.specs.Oid.{AreArcs}
 use Rattle.snmp_msg.specs.Variables.{Variable, IsBinding, AreBindings, CanBeWritten, variable_text}

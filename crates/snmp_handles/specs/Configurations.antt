@@ -1,4 +1,7 @@
 -- Why a configuration is refused, as callers in other languages are told.
+--
+-- `TellsConfig`, `RefusesConfig`, `IsTold`: why a text is refused as a configuration, by `numbers_of` the
+-- fault and in two lines.
 use Rattle.std.specs.Prelude.{◌≡◌, ◌<◌, ◌≤◌, ℕ, List, [], ◌∷◌, ◌++◌, length, drop, codes, Result, Ok, Err}
 use Rattle.usm_users.specs.declared.load.UserRow.{UserRow}
 use Rattle.vacm_core.specs.Tables.{Tables}

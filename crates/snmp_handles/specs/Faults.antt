@@ -1,4 +1,6 @@
 -- Why a call of a handle isn't done, and the numbers that tell it.
+--
+-- `code`, `fault_code`, `access_code`, `answer_code`, `value_code`: the numbers of what calls tell.
 use Rattle.std.specs.Prelude.{◌≡◌, ◌<◌, ◌⊎◌, ℕ, ℤ, pos, negsuc, ◌+◌, Option, Some, None, Result, Ok, Err}
 use Rattle.snmp_manager.specs.declared.pending.Answer.{Answer}
 use Rattle.snmp_manager.specs.declared.pending.Answer.TheVariants.{Response, Report, NotForIt}

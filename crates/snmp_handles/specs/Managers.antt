@@ -1,4 +1,9 @@
 -- A manager with what it accepted last, what it wrote last and the request that it waits for, and what its calls leave.
+--
+-- `ManagerHeld`: a manager with what was accepted last, the message that was written last and what is
+-- remembered of the last request. `MakesManager`, `RefusesManager`, `ClearsManager`, `ManagerTakes`,
+-- `TellsAnswer`, `RequestsHeld`, `RefusesRequest`, `DiscoversHeld`, `AbsorbsHeld`, `SavesHeld`,
+-- `TellsPair`: its calls. `asked`: the request; `Waits`: it is to be sent, and its answer is waited for.
 use Rattle.std.specs.FinMap as map
 use Rattle.std.specs.Prelude.{◌≡◌, ◌<◌, ◌⊎◌, ℕ, pos, List, [], length, Option, Some, None, Result, Ok, Err, IfSome}
 use Rattle.snmp_ber.specs.declared.level.Level.{Level}

@@ -1,4 +1,8 @@
 -- The numbers by which calls name levels, views, counters, answers on access and what becomes of messages.
+--
+-- `counter_of`, `unhandled_of`, `unhandled_number`, `access_of`: counters, what becomes of a message and
+-- answers on access by their numbers; `unhandled_code`, `IsStatusCode`: the numbers of what calls tell of
+-- them.
 use Rattle.std.specs.Prelude.{ℕ, ◌==◌, if◌then◌else◌, Option, Some, None}
 use Rattle.snmp_ber.specs.declared.level.Level.{Level}
 use Rattle.snmp_ber.specs.declared.level.Level.TheVariants.{NoAuthNoPriv, AuthNoPriv, AuthPriv}

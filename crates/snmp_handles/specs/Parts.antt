@@ -1,4 +1,14 @@
 -- What a caller gets of what a handle keeps, into buffers of its own.
+--
+-- `Copies`: octets go into a buffer, whole or not at all. `CopiesPart`, `CopiesMessage`, `IsPartOf`,
+-- `AreNumbersOf`: which octets and numbers.
+--
+-- `TellsMaxSize`: the msgMaxSize of what is kept. `RespondsHeldWithin`: the Response of at most so many
+-- octets is left to be sent (`RespondsWithin`, over `UpTo`); `RefusesWithin`: why none is.
+-- `RespondsHeldFront`: the Response with the longest front of the bindings that has room is
+-- (`RespondsFront`, over `SendsFront`). `RefusesAnswer`: why what is kept isn't answered, the first that
+-- applies. `TellsUnhandled`, `IsHandled`: why nothing answers what is kept. `ReportsHeld`, `Reports`: it is
+-- counted, and its report left to be sent; `StopsReport`: why not (RFC 3412 sections 4.2.2 and 7.1).
 use Rattle.std.specs.Prelude.{◌==◌, if◌then◌else◌, ◌≡◌, ◌<◌, ◌≤◌, ℕ, ℤ, pos, List, [], ◌∷◌, ◌++◌, length, drop}
 use Rattle.std.specs.Prelude.{Option, Some, None, Result, Ok, Err}
 use Rattle.snmp_ber.specs.Level.{level_number}

@@ -1,4 +1,7 @@
 -- What a manager's calls on the answers to its requests tell and leave (RFC 3412, section 7.2, steps 10 to 12).
+--
+-- `TakesAnswer`: what is kept is told as by `TellsAnswer`, and its Response ends the waiting.
+-- `TellsReport`: what it tells, where it is a Report on the request.
 use Rattle.std.specs.Prelude.{◌≡◌, Option, Some, Result, Ok, Err}
 use Rattle.snmp_message.specs.Scoped.{Contexts, ScopedFront}
 use Rattle.snmp_msg.specs.Pdu.{PduParts, PduText}

@@ -1,5 +1,12 @@
 -- What a datagram is answered: the table of refusals, each row a condition on the whole datagram, and the
 -- first that fails answers (after RFC 3412, section 7.2, and RFC 3414, section 3.2).
+--
+-- `Outcome taker users now w answer` (after RFC 3412, section 7.2 and RFC 3414, section 3.2). The whole
+-- table for an agent or a manager, in three parts: an agent's clock, then `Verifies`, then `Weighs` (the
+-- time window, the salt) and `ReadsText` (the scoped PDU, its PDU). Each row needs a fact about the whole
+-- datagram, and the first that fails gives its number. `Given` is what is given on of an accepted one,
+-- msgMaxSize too. `IsTextOf`: the octets that begin with the scoped PDU are what msgData is opened to, or
+-- the datagram from msgData on. The place of a fault isn't part of it.
 use Rattle.std.specs.Prelude.{◌≡◌, ◌≤◌, ◌-◌, ℕ, List, length, drop, true, Result, Some, MatchBool}
 use Rattle.snmp_ber.specs.declared.level.Level.{Level}
 use Rattle.snmp_message.specs.Level.{level_of}

@@ -1,4 +1,6 @@
 -- The numbers, names and places of refusals.
+--
+-- The number, name and place of each; want of memory is no answer of the table.
 use Rattle.std.specs.Prelude.{◌≡◌, ◌≢◌, ℕ, List, Bool, Option, Some, None, MatchBool}
 use Rattle.snmp_message.specs.declared.refusal.Refusal.{Refusal}
 use Rattle.snmp_message.specs.declared.refusal.Refusal.TheVariants as refusals

@@ -1,4 +1,8 @@
 -- Octets that begin with a ScopedPDU.
+--
+-- `HasTag`. Octets begin with a scoped PDU whose data is a PDU with this tag. `ContextsThere`: its contexts
+-- and its data stand at the places that were kept as it was read; `StandsThere`: the PDU's numbers and the
+-- place of its list are those kept.
 use Rattle.std.specs.Prelude.{◌≡◌, ℕ, List, length, slice_range, Option, Some, option_map, option_and_then}
 use Rattle.snmp_message.specs.declared.scoped.ScopedPlace.{ScopedPlace}
 use Rattle.snmp_message.specs.Scoped.{Contexts, ScopedFront, scoped_front_in, contexts_there, StandsWithin}

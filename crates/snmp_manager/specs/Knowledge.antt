@@ -1,4 +1,19 @@
 -- Managers that share saved marks: what each may know, and what a step does.
+--
+-- `Knowing` and `knows_after`. For each manager and each file a set of marks for each engine. At first a
+-- manager knows the marks that it holds, and a file those that it lists. A take adds the pair of an
+-- authentic datagram with the moment, a save copies a manager's set to a new file, an absorb unites it with
+-- a file's, a restart replaces it by a file's. Sets know no order. The code reads, prints and joins maps.
+--
+-- `HasGreatest`, `HasGreatestPairs`. Each manager and each file holds the greatest mark, or pair, of what
+-- it knows.
+--
+-- `Steps`. What one event changes. `NamesMissing`: it names a manager or a file that isn't there.
+-- `counted`: the events before the one that was refused, or all. `StepsAll`: events happened one after
+-- another. `StopsAt`: the next event is there, and `RefusesEvent` says why it is refused. `TakesNoMemory`:
+-- it is a take that wants none.
+--
+-- `SameKnowledge`, `SamePairsKnown`, `HasOrigin`, `IsNeverRestarted`. The words of the laws.
 use Rattle.std.specs.Prelude.{◌↔◌, Contains, ◌≡◌, ◌≢◌, ◌≤◌, ◌⊎◌, ℕ, suc, List, [], ◌∷◌, ◌++◌, length, take, slice_get}
 use Rattle.std.specs.Prelude.{slice_set, Some, Result, Ok, Err}
 use Rattle.engine_clock.specs.Pairs.{BootsAndTime, IsGreatestOf}

@@ -1,4 +1,8 @@
 -- What a manager may know of an engine's pair from the datagrams that it took.
+--
+-- `Known` and `IsLatest`. The set of an engine's pairs for which some datagram of a list is authentic, and
+-- the pair that was held at the beginning: it has neither order nor moment. The latest is its greatest.
+-- `KnownMark` and `IsLatestMark` are the same with moments.
 use Rattle.std.specs.Prelude.{◌≡◌, ◌⊎◌, ◌↔◌, ℕ, List, map, Contains, Option, Some}
 use Rattle.std.specs.Global.{Vec}
 use Rattle.engine_clock.specs.Pairs.{BootsAndTime, IsGreatestOf}

@@ -1,4 +1,8 @@
 -- What a manager learns.
+--
+-- `LearnsFrom`. After a datagram that is authentic as one engine with one pair, that engine's mark is the
+-- join of the one before with the pair at this moment, and every other engine keeps its own; after any
+-- other nothing has changed.
 use Rattle.std.specs.Prelude.{◌≡◌, ◌⊎◌, ℕ, List, MatchBool}
 use Rattle.engine_clock.specs.Pairs.{BootsAndTime}
 use Rattle.engine_clock.specs.Marks.{Marks, seen_at, JoinsMark, JoinsPair}

@@ -1,4 +1,7 @@
 -- What is remembered of a message that was sent.
+--
+-- `Remembers` and `IsPending`. What is remembered of a message that was sent: msgID, engine, user, level,
+-- contexts and request-id. `request_answer`: the text that was written, or the refusal.
 use Rattle.std.specs.Prelude.{◌≡◌, ℕ, ℤ, List, Option, Some, Result, Ok, Err}
 use Rattle.std.specs.Global.{Vec}
 use Rattle.snmp_ber.specs.declared.level.Level.{Level}

@@ -1,4 +1,7 @@
 -- What managers took apart from one another, each from the same beginning, and what they saved.
+--
+-- `ArePiecesOf`, `SaveEach`, `SavesText`. A datagram stands in a list, with its moment, exactly where it
+-- stands in one of the pieces; managers that begin alike take a piece each, and save their texts.
 use Rattle.std.specs.Prelude.{◌≡◌, ◌↔◌, ℕ, ⊤, List, [], ◌∷◌, Contains}
 use Rattle.engine_clock.specs.Saved.{AreMarks, listing}
 use Rattle.snmp_manager.specs.Views.{Held}

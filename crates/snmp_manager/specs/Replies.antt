@@ -1,4 +1,11 @@
 -- What an accepted message is to a request (RFC 3412, section 7.2, steps 10 to 12; RFC 3414, section 4).
+--
+-- `IsAnswer` (RFC 3412, section 7.2). What an accepted message is to what is remembered: its Response,
+-- where all of these are the same and the PDU is a Response; a Report on it, where msgID is the same, with
+-- the number of the counter that its only binding names, or 0; or neither. `IsReport`: what such a Report
+-- tells, of nine counters (`NamesTold`; RFC 3412 section 5, RFC 3413 section 4.1.2), the counter's value
+-- where it is a Counter32 (`IsCount`), and whether it came with authentication. `still_waiting`: the
+-- request, unless its Response has come.
 use Rattle.std.specs.Prelude.{◌≡◌, ◌≢◌, ◌≤◌, ◌⊎◌, ◌↔◌, IsTrue, ℕ, List, [], ◌∷◌, Option, Some, None}
 use Rattle.snmp_ber.specs.Number.{IsUnsigned}
 use Rattle.snmp_ber.specs.declared.level.Level.TheVariants.{NoAuthNoPriv}

@@ -1,4 +1,8 @@
 -- A run of a manager over datagrams, each with its moment.
+--
+-- `Runs`. The outcomes of datagrams taken one after another, each told as its answer. `HasTaken old
+-- datagrams new`: they were taken one after another, each at its moment, whatever they were answered: by a
+-- run, or by calls that take one.
 use Rattle.std.specs.Prelude.{◌≡◌, ℕ, List, [], ◌∷◌, take, map, Some, Result, Ok, Err}
 use Rattle.std.specs.Global.{Vec}
 use Rattle.snmp_incoming.specs.Refusals.{answer_number}

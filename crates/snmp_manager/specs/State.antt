@@ -1,4 +1,7 @@
 -- What contracts see of a world.
+--
+-- `WorldState`. Managers with what they hold, and files in the order in which they were saved; each file is
+-- a listing of marks (`AreFiles`).
 use Rattle.std.specs.Prelude.{◌≡◌, ℕ, List, slice_get, Some}
 use Rattle.engine_clock.specs.Marks.{Marks}
 use Rattle.engine_clock.specs.Saved.{AreMarks, listing}

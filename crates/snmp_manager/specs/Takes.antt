@@ -1,4 +1,9 @@
 -- What a manager answers to a datagram, and what it leaves.
+--
+-- `Takes`. What a take leaves and answers: the users as before, `LearnsFrom`, and the table's answer by the
+-- window of what is then held; for want of memory no answer, and all as before. `HoldsAuthentic`,
+-- `TakesNoMemory`: it wants no memory, also where what is accepted is to be copied; `kept_answer`: the
+-- answer of a call that copies it.
 use Rattle.std.specs.Prelude.{◌≡◌, ℕ, List, Option, Some, None, Result, Ok, Err, IsSome}
 use Rattle.engine_clock.specs.Pairs.{BootsAndTime}
 use Rattle.engine_clock.specs.Marks.{mark_at}

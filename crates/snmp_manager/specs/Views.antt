@@ -1,4 +1,6 @@
 -- What contracts see of a manager.
+--
+-- `BeginAlike` and `HoldSamePairs`. The same users, and the same pair of each engine.
 use Rattle.std.specs.Prelude.{◌≡◌, ℕ, List}
 use Rattle.engine_clock.specs.Marks.{Marks, pair_at}
 use Rattle.usm_users.specs.User.{User}

@@ -1,4 +1,14 @@
 -- The layouts of a message, as relations on whole texts (RFC 3412, section 6).
+--
+-- `Outer` (RFC 3412, section 6). `Outer w m`: w is an SNMPv3Message of version 3 whose header, content of
+-- msgSecurityParameters, tag and content of msgData, and the places of both, are m. `WrongVersion w`: w
+-- begins with a SEQUENCE whose content begins with an INTEGER other than 3.
+--
+-- Elements are looked for depth first and from left to right. Where an element has to be and none can be
+-- read within its parent, or its tag or value isn't allowed, the place is where its first octet is or would
+-- be. Octets after the last child of an element are a fault at the first of them; those after the whole
+-- message are found last. Places count from 0 in the datagram, and for a sealed message's BadScoped and
+-- BadPdu in what was decrypted.
 use Rattle.std.specs.Prelude.{◌≡◌, ◌≢◌, ◌⊎◌, ℕ, ℤ, pos, ◌+◌, ◌≤◌, Bool, not, nat_eq, List, [], ◌∷◌, ◌++◌, length}
 use Rattle.std.specs.Prelude.{bit_and}
 use Rattle.snmp_ber.specs.Number.{IsInteger32}

@@ -1,4 +1,7 @@
 -- The refusals' numbers, names and words, which the whole engine shares.
+--
+-- The refusals' numbers, 1 to 18, and their names, which the whole engine shares; `msg_refusal` and
+-- `place_of` (`Refusals`) say which of them a layer's fault is, and where.
 use Rattle.std.specs.Prelude.{ℕ, List, ◌++◌, codes, decimal, Option, Some, None}
 use Rattle.snmp_message.specs.declared.refusal.Refusal.{Refusal}
 use Rattle.snmp_message.specs.declared.refusal.Refusal.TheVariants.{NotMessage, BadVersion, NotSecurity, NotScoped}

@@ -1,4 +1,7 @@
 -- Why octets are refused: for each call the faults that it answers, each with its cause.
+--
+-- For each reading call, which of its faults comes when: each case of a fault says its cause, and the
+-- faults that the call doesn't answer are impossible.
 use Rattle.std.specs.Prelude.{◌⊎◌, ℕ, List, Option, Some, None}
 use Rattle.snmp_message.specs.declared.fault.MsgFault.{MsgFault}
 use Rattle.snmp_message.specs.declared.fault.MsgFault.TheVariants as faults

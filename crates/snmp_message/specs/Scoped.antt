@@ -1,4 +1,8 @@
 -- The layout of a ScopedPDU (RFC 3412, section 6.8).
+--
+-- `ScopedText` (RFC 3412, section 6.8). `ScopedContent at content s` and `ScopedText at z s`:
+-- contextEngineID, contextName and one element of data. `HasScoped` and `HasSealed`: msgData is what the
+-- priv flag says. `ScopedFront z s`: z begins with a scoped PDU.
 use Rattle.std.specs.Prelude.{◌≡◌, ℕ, ◌+◌, ◌-◌, ◌≤◌, nat_lt, slice_range, if◌then◌else◌, List, ◌++◌, length, Option}
 use Rattle.std.specs.Prelude.{Some, None, true, false}
 use Rattle.snmp_ber.specs.Element.{IsHead, IsElement}

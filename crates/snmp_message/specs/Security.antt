@@ -1,4 +1,9 @@
 -- The layout of msgSecurityParameters (RFC 3414, section 2.4).
+--
+-- `SecText` (RFC 3414, section 2.4). `SecText at x s`: x, which stands at this place, is exactly one
+-- UsmSecurityParameters with the fields s, whose content is the six elements joined (`SecContent at content
+-- s`); among them `auth_at`, where the content of msgAuthenticationParameters stands. `IsCut w m s front
+-- back`: w is front, that content and back joined, front ending at `auth_at`.
 use Rattle.std.specs.Prelude.{◌≡◌, ℕ, ◌+◌, ◌-◌, ◌≤◌, nat_lt, if◌then◌else◌, List, ◌++◌, length, Option, Some, None}
 use Rattle.snmp_message.specs.declared.message.TheConstants.{LARGEST}
 use Rattle.snmp_ber.specs.Element.{IsHead, IsElement}

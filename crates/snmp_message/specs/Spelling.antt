@@ -1,4 +1,7 @@
 -- The canonical spelling of a message.
+--
+-- `message_text`, `security_text`, `scoped_text`, `pdu_text`; `HeaderFits`, `FieldsFit`, `IsOneElement`,
+-- `PduFits` are the ranges of what can be written.
 use Rattle.std.specs.Prelude.{ℕ, ℤ, pos, ◌+◌, ◌≤◌, if◌then◌else◌, List, [], ◌∷◌, ◌++◌, length}
 use Rattle.snmp_ber.specs.Spelling.{head_of, head_size, element, integer}
 use Rattle.snmp_message.specs.Layout.{Parts}

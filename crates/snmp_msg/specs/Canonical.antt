@@ -1,4 +1,7 @@
 -- A message with all its layers, and its canonical spelling.
+--
+-- `Says` and `IsCanonical`. `Says w m`: w is a message with all its layers m. `IsCanonical w c`: c is the
+-- canonical spelling of the message that w is.
 use Rattle.std.specs.Prelude.{◌≡◌, ℕ, ◌≤◌, List, [], length}
 use Rattle.snmp_message.specs.declared.message.TheConstants.{LARGEST}
 use Rattle.snmp_message.specs.declared.header.Header.{Header}

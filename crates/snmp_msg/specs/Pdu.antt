@@ -1,4 +1,13 @@
 -- The layout of a PDU (RFC 3416, section 3).
+--
+-- `PduText` (RFC 3416, section 3). `PduText z p`: z is exactly one PDU: one of the eight tags, and as its
+-- content (`PduContent content p`) three INTEGERs of 32 bits with sign and the SEQUENCE of variable
+-- bindings. `IsBinding text v`: a SEQUENCE of an OBJECT IDENTIFIER and one element of any tag;
+-- `AreBindings`: the list's content is the bindings' texts joined. `IsReadBinding octets rest b`: the
+-- octets are a binding with the name and the value of b, and then the rest. `variables_of`: the bindings
+-- that octets begin with. `variable_of` and `bound_variable`: what a binding says, with the arcs of its
+-- name and with that name's octets. `CanBeWritten` and `VariableFits`: what can be written. `SaysPdu` has
+-- the list in its canonical spelling.
 use Rattle.std.specs.Prelude.{◌≡◌, ◌≢◌, ℕ, ℤ, pos, negsuc, ◌+◌, ◌≤◌, ◌≤ℤ◌, ◌&&◌, not, nat_le, nat_lt, ◌==◌}
 use Rattle.std.specs.Prelude.{if◌then◌else◌, List, ◌++◌, length, Option, Some, None}
 use Rattle.snmp_ber.specs.Number.{IsInteger32}

@@ -1,4 +1,7 @@
 -- The values of variables, by their tags (RFC 3416, section 3; RFC 2578, section 7.1).
+--
+-- `IsValueOf` (RFC 2578, section 7.1, RFC 3416, section 3). The content is of a value with the tag:
+-- `syntax_of` is the syntax of a tag, and `IsSpelledAs` says what its contents are.
 use Rattle.std.specs.Prelude.{◌==◌, if◌then◌else◌, ◌≡◌, ◌≤◌, ℕ, ℤ, List, length, Option, Some, None, MatchOption}
 use Rattle.snmp_ber.specs.Number.{IsInteger32, IsUnsigned}
 use Rattle.snmp_ber.specs.Oid.{IsIdentifier}

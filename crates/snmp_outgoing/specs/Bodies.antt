@@ -1,4 +1,10 @@
 -- What a message says, and the header with which it is sent.
+--
+-- What an envelope and a body are sent as: a header with msgMaxSize 65507 and the user-based model at the
+-- envelope's level, and the shortest spelling of the scoped PDU. `sent_with` and `scoped_after`: the same
+-- of a front, which is a body without its bindings, and what any bindings say. `send_answer`: the answer as
+-- `Seals` has it. `IsMeasured` (`Scopeds`): the sizes that are known of a ScopedPDU before it is spelled in
+-- its place are those of its parts.
 use Rattle.std.specs.Prelude.{ℕ, Bool, true, false, List, map, All}
 use Rattle.snmp_ber.specs.declared.level.Level.{Level}
 use Rattle.snmp_ber.specs.declared.level.Level.TheVariants.{NoAuthNoPriv, AuthNoPriv, AuthPriv}

@@ -1,4 +1,8 @@
 -- The bindings at the front of a list that a message has room for.
+--
+-- `IsLongestFront` and `SealsFront`. So many bindings from the first on that no text of the message with
+-- these has more octets than the limit, and each with one more has; the text with these and their number,
+-- or a refusal: those before the text, and 16 where each text without bindings is longer.
 use Rattle.std.specs.Prelude.{◌≡◌, ◌⊎◌, ◌+◌, ◌<◌, ◌≤◌, ℕ, nat_le, if◌then◌else◌, List, [], length, take, Option, Some}
 use Rattle.std.specs.Prelude.{option_map, Result, Ok, Err}
 use Rattle.snmp_msg.specs.Variables.{Variable}

@@ -1,4 +1,8 @@
 -- What a manager's requests are sent as (RFC 3414, sections 3.1 and 4).
+--
+-- `requesting` and `discovering` (RFC 3414, sections 3.1 and 4). What a manager's request with a front and
+-- bindings is sent as: at levels with authentication with the held boots and the notion of the time, or
+-- zeros where nothing is held. `front_in` and `variables_in` are the front and the bindings of a body.
 use Rattle.std.specs.Prelude.{◌≡◌, ◌≤◌, ℕ, pos, true, List, [], length, replicate, Option, Some, None}
 use Rattle.snmp_ber.specs.declared.level.Level.{Level}
 use Rattle.snmp_ber.specs.declared.level.Level.TheVariants.{NoAuthNoPriv, AuthNoPriv, AuthPriv}

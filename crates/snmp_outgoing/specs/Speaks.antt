@@ -1,4 +1,7 @@
 -- Messages by their parts, and what these need.
+--
+-- `Speech`. What a message says, by its parts; `spoken` is how it is sent, and `SpeechFits` that its
+-- numbers and lengths are in their ranges and its bindings fit.
 use Rattle.std.specs.Prelude.{◌≡◌, ◌≤◌, ℕ, Bool, true, List, length}
 use Rattle.snmp_ber.specs.declared.level.Level.{Level}
 use Rattle.snmp_ber.specs.Spelling.{head_size}

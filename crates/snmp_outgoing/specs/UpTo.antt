@@ -1,4 +1,7 @@
 -- Texts that have to fit: a local constraint, or the maximum message size of the originator (RFC 3416, section 4.2).
+--
+-- `UpTo`. A table of texts cut at a limit: its text, where that has at most so many octets, and else
+-- refusal 16; its refusals as they are.
 use Rattle.std.specs.Prelude.{ℕ, ◌<◌, ◌≤◌, List, length, Result, Ok, Err}
 
 -- A table that answers with texts, cut at a limit: where its text has more octets, the answer is refusal 16,

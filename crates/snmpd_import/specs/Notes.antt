@@ -1,4 +1,8 @@
 -- What is told of each line that isn't a row, and of each row that isn't printed.
+--
+-- `tells item`. The place and the kind of the note on a line, none on a row, on an empty line and on one
+-- that begins a section (`kind_of`). `IsSerious`: with such a note the configuration may not be what snmpd
+-- does.
 use Rattle.std.specs.Prelude.{⊤, ◌||◌, if◌then◌else◌, List, [], ◌∷◌, Option, Some, None}
 use Rattle.snmpd_lines.specs.declared.fault.LineFault.{LineFault}
 use Rattle.snmpd_lines.specs.declared.fault.LineFault.TheVariants as faults

@@ -1,4 +1,9 @@
 -- The rows that are printed, and what a text says of them.
+--
+-- `ComesTo items contexts text told`. The users and the rows that count after what the lines mean
+-- (`AreKept`), with these contexts, are what the text says (`Prints`): it is a configuration with these
+-- users (`AreUsersOf`), whose tables are those rows, row by row (`AreTablesOf`). `TellsAll`: what is told
+-- of lines, of rows that lines changed, of second rows, and of other choices of snmpd.
 use Rattle.std.specs.Prelude.{◌≡◌, ◌<◌, ℕ, List, ◌++◌, length, get_or, map}
 use Rattle.std.specs.List.{flat_map}
 use Rattle.vacm_core.specs.Tables.{Tables}

@@ -1,5 +1,11 @@
 -- What is told of rows beside which others count. Of each index one row counts; snmpd holds the others too,
 -- and each of them has its note.
+--
+-- `TellsSeconds lines held kept told`. A note stands on each user in whose place a later line makes another
+-- (`IsSecondUser`), and on each row beside which another one counts that is from another line: of groups
+-- one for the same name and model (`IsSecondGroup`, `IsFor`), of access rows and views one of the same
+-- index (`IsSecondAccess`, `IsSecondFamily`, `IsBeside`). Its kind: `access_kind`, by how the two compare
+-- contexts, and `IsFamilyKind`, by whether the first has all variables of the second (`Covers`).
 use Rattle.std.specs.Prelude.{◌≡◌, ◌≢◌, ◌⊎◌, ℕ, ◌≤◌, List, [], ◌∷◌, ◌++◌, get_or, Contains, Option, Some, MatchOption}
 use Rattle.std.specs.Option.{option_map}
 use Rattle.std.specs.declared.cmp.Ordering.{Ordering}

@@ -1,4 +1,8 @@
 -- The users of lines, as a configuration has them.
+--
+-- `AreUsers items users`. The users of the lines, one after another: of each name that of the last line
+-- (`IsUser`), as a configuration says it (`Said`), where there is a counterpart (`IsSaid`): a name of 1 to
+-- 32 octets, no authentication or a hash and a passphrase (`HasAuth`), and privacy by AES (`privacy_for`).
 use Rattle.std.specs.Prelude.{◌≡◌, ◌≢◌, ℕ, ◌<◌, Bool, true, false, List, [], ◌∷◌, ◌++◌, length, get_or, Contains}
 use Rattle.std.specs.Prelude.{Option, Some, None, MatchOption}
 use Rattle.std.specs.Option.{option_map}

@@ -1,4 +1,6 @@
 -- The directives of snmpd.conf that have to do with users and access (net-snmp 5.9.3).
+--
+-- `IsDirective word directive`. The word names it in either case (`Names`), or names none.
 use Rattle.std.specs.Prelude.{◌≡◌, ◌⊎◌, ℕ, List, [], ◌∷◌, codes, map}
 use Rattle.std.specs.Char.{to_ascii_lowercase}
 use Rattle.snmpd_lines.specs.declared.directives.Directive.{Directive}

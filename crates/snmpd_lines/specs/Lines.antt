@@ -1,5 +1,9 @@
 -- What a line of snmpd.conf is: nothing, the beginning of a section, or a directive with the text behind it
 -- (net-snmp 5.9.3).
+--
+-- `IsLine section text line`. What a line is where this section is in force. It is read up to its first
+-- octet 0 (`IsBeforeNul`) and begins with a word (`BeginsWith`). `HasDirective`: the word is a directive of
+-- the section in force, or stands behind a section's name in brackets.
 use Rattle.std.specs.Prelude.{◌≡◌, ◌⊎◌, ℕ, List, [], ◌∷◌, ◌++◌, codes, Option, Some, None, option_map}
 use Rattle.snmp_ber.specs.Splits.{Lacks, IsSplit}
 use Rattle.snmpd_lines.specs.Words.{GoesOn, TakesWord}

@@ -1,4 +1,7 @@
 -- Masks of views, as snmpd.conf has them: octets in hex, cut at spaces, dots and colons (net-snmp 5.9.3).
+--
+-- `AreMaskOctets text octets`. Each token is one octet (`IsMaskOctet`): the longest front of hex digits
+-- (`IsHexFront`) behind blanks, a sign and 0x (`HasDigitsAt`), modulo 256.
 use Rattle.std.specs.Prelude.{◌≡◌, ◌≢◌, ◌⊎◌, ℕ, ◌+◌, ◌%◌, ◌<◌, ◌≤◌, Bool, true, false, List, [], ◌∷◌, ◌++◌, length}
 use Rattle.std.specs.List.{AllByRecursion}
 use Rattle.snmpd_lines.specs.Words.{IsBehindBlanks, IsCut, TakesPart}

@@ -1,5 +1,10 @@
 -- Object identifiers in numbers, as snmpd.conf has them: a number with 0 in front is octal, and with 0x in
 -- front hex (net-snmp 5.9.3).
+--
+-- `SaysSubtree text subtree`. The text, without a dot in front, is at most 128 numbers with a dot between
+-- each two (`AreArcsOf`, `AreNumbers`), and these are its arcs; or one of them is too large for an arc
+-- (`HasTooLarge`: 2^32 or above; RFC 2578, section 3.5); or it is no such text. `IsNumber`: digits of base
+-- 10, of base 8 behind a 0, or of base 16 behind a 0 and an x (`IsInBase`, `AreDigits`, `IsDigit`).
 use Rattle.std.specs.Prelude.{◌≡◌, ◌≢◌, ◌⊎◌, ⊤, ℕ, ◌+◌, ◌*◌, ◌^◌, ◌<◌, ◌≤◌, ◌==◌, if◌then◌else◌, List, [], ◌∷◌, ◌++◌}
 use Rattle.std.specs.Prelude.{length, fold}
 use Rattle.std.specs.List.{AllByRecursion}

@@ -1,4 +1,7 @@
 -- The types of views that a word names: parts of it, cut at commas, bars and colons (net-snmp 5.9.3).
+--
+-- `IsTypes word types`. The types of views that the parts of a word name, cut at commas, bars and colons
+-- (`AreParts`), and whether one part is the word for none (`AreTypes`).
 use Rattle.std.specs.Prelude.{◌≡◌, ◌⊎◌, ◌↔◌, List, [], ◌∷◌, ℕ, Bool, true, false, IsTrue, Contains, codes}
 use Rattle.std.specs.List.{AllByRecursion}
 use Rattle.snmpd_lines.specs.Words.{IsCut, TakesPart}

@@ -1,4 +1,10 @@
 -- What a line `createUser [-M] [-e ENGINEID] NAME [HASH PASSPHRASE [CIPHER [PASSPHRASE]]]` says (net-snmp 5.9.3).
+--
+-- `SaysUser text created`. What user a line `createUser` makes: a name (`HasUserName`, `HasName`), a hash
+-- (`TakesHash`) and what the key is made of (`TakesSecret`: a passphrase or a key that is given), from
+-- which snmpd makes a key (`MakesNoKey` says where not); and a cipher (`TakesCipher`) with a secret of its
+-- own or the same (`HasOwnSecret`). `TellsNoUser`: why it makes none. `IsHash`, `IsCipher` (`Protocols`):
+-- the first in snmpd's order of which the word is a front of a name (`IsFront`).
 use Rattle.std.specs.Prelude.{◌≡◌, ◌≢◌, ◌⊎◌, ⊤, ℕ, ◌<◌, ◌≤◌, Bool, true, false, List, ◌++◌, length, codes, Option}
 use Rattle.std.specs.Prelude.{Some, None}
 use Rattle.snmpd_lines.specs.Words.{TakesWord, TakesOr, EndsBehindWord}

@@ -1,4 +1,6 @@
 -- What single words of snmpd.conf stand for (net-snmp 5.9.3).
+--
+-- `IsModel`, `IsLevel`, `IsMatching`. What single words name; `AreAlike`: but for the case of letters.
 use Rattle.std.specs.Prelude.{◌≡◌, ◌⊎◌, ℕ, List, map, codes}
 use Rattle.std.specs.Char.{to_ascii_lowercase}
 use Rattle.snmp_ber.specs.declared.level.Level.{Level}

@@ -1,5 +1,16 @@
 -- Lines of snmpd.conf, and how they are cut: into words, which quotes hold together, and into tokens, which
 -- they don't (net-snmp 5.9.3).
+--
+-- `TakesWord most text word later`. The text begins with a word, of which `most` octets are held, and goes
+-- on with `later` behind it. `IsWord`: it goes to a blank (`IsBlank`: octets 9 to 13 and 32), or where it
+-- begins with a quote to the same quote. `Writes`: each octet stands there as it is, or behind a backslash;
+-- a backslash with nothing behind it stands for itself. `GoesOn`: what stands behind blanks
+-- (`IsBehindBlanks`), or nothing where that is empty or begins with `#` (`SaysNothing`). `TakesOr`: where
+-- no word follows, another one stands for it. `EndsBehindWord`: nothing stands behind the first word.
+--
+-- `TakesPart cut text part rest`. Behind octets that cut, the text has the part, with none of them in it,
+-- and then one of them and the rest, or its end. Tokens (`TakesToken`) are cut at gaps, which are spaces,
+-- tabs and line feeds; the octets of a mask at spaces, dots and colons (`IsCut`).
 use Rattle.std.specs.Prelude.{◌≡◌, ◌≢◌, ◌⊎◌, ⊤, ℕ, ◌≤◌, List, [], ◌∷◌, ◌++◌, take, Option, Some, None}
 use Rattle.std.specs.List.{AllByRecursion}
 use Rattle.snmpd_lines.specs.declared.words.Separator.{Separator}

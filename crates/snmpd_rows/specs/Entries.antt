@@ -1,4 +1,9 @@
 -- What each line of a file makes: a row, or a note of why there is none (net-snmp 5.9.3).
+--
+-- `IsEntry section line entry`, `AreEntries section text entries` (`Files`). What a line makes, and each
+-- line of a file: a row, a user, what a simple line or a line that sets views says, a note of why there is
+-- neither (`IsNote`), or nothing of these where the line is empty or begins a section. `IsFirstLine`: the
+-- last line may lack its line feed. `section_behind`: the section that is in force for the next line.
 use Rattle.std.specs.Prelude.{◌≡◌, ◌≢◌, ◌⊎◌, ℕ, List, [], ◌∷◌, ◌++◌, Some, None}
 use Rattle.std.specs.List.{AllByRecursion}
 use Rattle.snmpd_lines.specs.Words.{IsBlank}

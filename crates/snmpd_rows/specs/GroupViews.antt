@@ -1,6 +1,10 @@
 -- What a line `authaccess TYPES GROUP [-s MODEL] VIEW [LEVEL [CONTEXT]]` sets: the views of these types, of
 -- the row that snmpd would choose for a message of GROUP, CONTEXT, MODEL and LEVEL, or of a new row where it
 -- would choose none (net-snmp 5.9.3).
+--
+-- `SaysAuthAccess text setting`. What a line `authaccess` sets: a view of several types for the messages of
+-- a group, under a model (`HasGroupAndView`), from a level (`HasLevel`, `level_for`), in contexts
+-- (`HasContexts`). `TellsNoAuthAccess`: why it sets nothing.
 use Rattle.std.specs.Prelude.{◌≡◌, ◌⊎◌, ◌<◌, ◌==◌, ◌||◌, if◌then◌else◌, List, [], ◌∷◌, ℕ, length, codes, None}
 use Rattle.snmp_ber.specs.declared.level.Level.{Level}
 use Rattle.snmp_ber.specs.declared.level.Level.TheVariants.{NoAuthNoPriv, AuthNoPriv}

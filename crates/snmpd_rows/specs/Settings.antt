@@ -1,6 +1,9 @@
 -- What a line `setaccess GROUP CONTEXT MODEL LEVEL MATCH TYPE VIEW` sets: the view of one type, of the row
 -- that snmpd would choose for a message of GROUP, CONTEXT, MODEL and LEVEL, or of a new row where it would
 -- choose none (net-snmp 5.9.3).
+--
+-- `SaysSetAccess text setting`. What a line `setaccess` sets: a view of one type for these messages.
+-- `TellsNoSetAccess`: why it sets nothing.
 use Rattle.std.specs.Prelude.{◌≡◌, ◌⊎◌, ◌<◌, List, [], ◌∷◌, ℕ, length}
 use Rattle.snmpd_rows.specs.Accesses.{AreTokens, HasFewer, SaysConditions, TellsNoConditions, IsViewName}
 use Rattle.snmpd_lines.specs.Types.{view_word, only, IsNoType}

@@ -1,6 +1,12 @@
 -- What a line `rouser [-s MODEL] NAME [LEVEL [OID | -V VIEW [CONTEXT]]]` says, and its like: `rwuser`,
 -- `authuser TYPES ..`, `authgroup TYPES ..`, and of communities `rocommunity [-v VERSION] NAME [SOURCE [OID |
 -- -V VIEW [CONTEXT]]]`, `rwcommunity` and `authcommunity TYPES ..` (net-snmp 5.9.3).
+--
+-- `SaysSimple kind given text simple`. What a line `rouser` and its like says: types of views, which the
+-- directive gives (`simple_of`) or the first word names (`HasTypes`); a name, behind an option with a model
+-- (`HasModel`) or without, and a level (`HasNamed`); for a community its versions in the place of the level
+-- (`HasCommunity`, `AreVersions`); and a view (`HasView`) and contexts (`HasContext`, `IsContextOf`: a star
+-- behind it makes a prefix). `TellsNoSimple`: why it says nothing.
 use Rattle.std.specs.Prelude.{◌≡◌, ◌≢◌, ◌⊎◌, ⊤, ℕ, true, false, List, [], ◌∷◌, ◌++◌, codes, Option, Some, None}
 use Rattle.vacm_core.specs.declared.rows.Matching.{Matching}
 use Rattle.vacm_core.specs.declared.rows.Matching.TheVariants.{Exact, Prefix}

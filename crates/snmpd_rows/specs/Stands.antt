@@ -1,4 +1,8 @@
 -- The lines that snmpd makes of a simple line (net-snmp 5.9.3).
+--
+-- `lines_of n simple`. The lines that snmpd makes of the nth simple line, as octets: `view` for a view of
+-- its own (`own_view`), `group` for a user or a community (`user_group`: `grp`, and 28 octets of the name
+-- as letters, digits and low lines), and `access`, or `setaccess` for each of other types (`right_lines`).
 use Rattle.std.specs.Prelude.{ℕ, List, [], ◌∷◌, ◌++◌, codes}
 use Rattle.snmpd_lines.specs.declared.directives.Directive.{Directive}
 use Rattle.snmpd_lines.specs.declared.directives.Directive.TheVariants as directives

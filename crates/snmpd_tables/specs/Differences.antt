@@ -1,4 +1,8 @@
 -- Whether snmpd and RFC 3415 choose access rows with other views for the same messages.
+--
+-- `IsDifference held kept difference`. For such messages snmpd chooses a row of all that it holds, and RFC
+-- 3415, of those that are kept, none, or one with other views (`ChoosesOther`). `Differs`: there is such a
+-- difference.
 use Rattle.std.specs.Prelude.{◌≡◌, ℕ, List, get_or, Option, Some, None}
 use Rattle.std.specs.declared.cmp.Ordering.{Ordering}
 use Rattle.vacm_core.specs.Allowed.{IsBestOf, NoneFits, access_order}

@@ -1,4 +1,8 @@
 -- What each line of a file makes, with its place and the word that it begins with.
+--
+-- `AreItems file number section text items`. Each line of the text, from this number on, makes its item
+-- (`IsItem`): the place, the directive's word, and what the line makes (`IsMade`): other files that it
+-- names (`IsInclude`), an entry whose names are UTF-8 (`IsText`), or a note that one of them isn't.
 use Rattle.std.specs.Prelude.{◌≡◌, ◌≢◌, ◌⊎◌, ⊤, ℕ, ◌+◌, List, [], ◌∷◌, codes, Option, Some, None, option_map, IsUtf8}
 use Rattle.snmpd_lines.specs.Values.{AreAlike}
 use Rattle.snmpd_lines.specs.Lines.{IsLine}

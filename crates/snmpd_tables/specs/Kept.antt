@@ -1,4 +1,10 @@
 -- Of the rows that snmpd holds those that count, one of each index.
+--
+-- `AreFirsts order rows kept`. Of the rows those whose index none before has (`Keeps`). `AreGroupsKept`: of
+-- group rows where one for any model stands for one of each of the models 1 to 3 (`stands_for`).
+-- `AreFamiliesKept`: of views without those of snmpd's own that no access row names (`AreWanted`).
+-- `AreAccessKept`: of access rows of one index the one that snmpd's choice comes to (`Settles`).
+-- `HasOneEach`: of each index there is one row.
 use Rattle.std.specs.Prelude.{◌≡◌, ◌≢◌, ◌⊎◌, ℕ, ◌<◌, ◌==◌, if◌then◌else◌, List, [], ◌∷◌, ◌++◌, length, get_or, set}
 use Rattle.std.specs.Prelude.{Contains}
 use Rattle.std.specs.List.{flat_map}

@@ -1,4 +1,8 @@
 -- What snmpd holds after lines (net-snmp 5.9.3).
+--
+-- `HoldsAfter before items after`. After these lines, one after another, the tables are these: each row
+-- goes into its table, and no other changes (`Takes`). `at_start`: no row but those of the views `_all_`
+-- and `_none_`.
 use Rattle.std.specs.Prelude.{◌≡◌, ℕ, Bool, true, false, List, [], ◌∷◌, codes}
 use Rattle.snmpd_rows.specs.declared.entries.Entry.{Entry}
 use Rattle.snmpd_rows.specs.declared.entries.Entry.TheVariants.{Group, Access, Family, Set}

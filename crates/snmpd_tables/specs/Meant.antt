@@ -1,4 +1,8 @@
 -- Items, and behind each simple line those of the lines that it stands for.
+--
+-- `AreMeant items meant`. Behind each simple line stand the items that its lines make (`AreOwn`), with its
+-- place and word; each other one stands for itself (`Means`). Simple lines are numbered from 1, through all
+-- files.
 use Rattle.std.specs.Prelude.{◌≡◌, ◌+◌, ◌⊎◌, ℕ, List, [], ◌∷◌, ◌++◌, Option, Some, None}
 use Rattle.snmpd_lines.specs.declared.directives.Directive.{Directive}
 use Rattle.snmpd_rows.specs.Entries.{IsMade}

@@ -1,5 +1,9 @@
 -- The order in which snmpd holds rows: by their indexes, in which a name and an identifier stand behind their
 -- length (RFC 2578, section 7.7).
+--
+-- `Adds order rows row after`. A row goes in behind those that aren't greater (`GoesAt`), and so behind
+-- those of its own index: by model and name; by group, prefix, model and level; by view and subtree. A
+-- shorter name is before a longer one (`by_length`).
 use Rattle.std.specs.Prelude.{◌≡◌, ◌≢◌, ℕ, ◌<◌, ◌≤◌, List, length, get_or}
 use Rattle.std.specs.List.{insert}
 use Rattle.std.specs.Ordering.{nat_cmp, ordering_then}

@@ -1,5 +1,13 @@
 -- Which access row snmpd chooses for messages of a group (net-snmp 5.9.3). The rows that fit are RFC 3415's
 -- (section 3.2); which of them counts is snmpd's own.
+--
+-- `ChoosesAt Fits rows chosen`. The place of the row that snmpd chooses, of those that fit messages of a
+-- group (`FitsQuestion`): row by row the best so far (`BestOf`), or none. `IsAbout`: which contexts are
+-- asked about, one by its name, or all beyond a name.
+--
+-- What is found is exactly for which of the messages that are asked for (`IsAsked`) the choices differ:
+-- those of a group and model that a name has (`HasPair`), at any level, in contexts that are tried
+-- (`IsTried`). `IsCovered`: a context is one of those, or no row of the group is for it.
 use Rattle.std.specs.Prelude.{◌≡◌, ◌≢◌, ◌⊎◌, ⊤, ℕ, zero, suc, ◌<◌, List, length, get_or, Option, Some, None, Contains}
 use Rattle.snmp_ber.specs.declared.level.Level.{Level}
 use Rattle.vacm_core.specs.Allowed.{FitsMessage, IsPrefixOf}

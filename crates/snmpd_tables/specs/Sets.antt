@@ -1,4 +1,9 @@
 -- What a line that sets views does to the access rows that snmpd holds (net-snmp 5.9.3).
+--
+-- `SetsAccess place setting rows told after changes`. The row that snmpd would choose for such messages has
+-- the views and the match (`set_row`), and its index stays; where that isn't the line's own
+-- (`HasOwnIndex`), it is told (`TellsChange`). Where snmpd would choose none, a new row with these views
+-- alone goes in.
 use Rattle.std.specs.Prelude.{◌≡◌, ◌⊎◌, ℕ, Bool, if◌then◌else◌, List, [], ◌∷◌, ◌++◌, get_or, set, Some, None}
 use Rattle.vacm_core.specs.declared.rows.AccessRow.{AccessRow}
 use Rattle.snmpd_rows.specs.declared.settings.Setting.{Setting}

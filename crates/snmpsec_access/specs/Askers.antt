@@ -1,4 +1,8 @@
 -- The questions of a variable that can be answered accessAllowed (RFC 3415, section 3), and their lines.
+--
+-- `askers tables views`. The product of views, group rows, levels and context rows, in this order.
+-- `asker_line`: the line of one. `name_word`, `context_word` (`Words`): a name as a word, or else as a TOML
+-- basic string.
 use Rattle.std.specs.Prelude.{ℕ, List, [], ◌∷◌, ◌++◌, map, codes, decimal}
 use Rattle.std.specs.List.{flat_map}
 use Rattle.snmp_ber.specs.declared.level.Level.{Level}

@@ -1,4 +1,8 @@
 -- In which line of a configuration a row begins: TOML begins each table of an array by a heading, `[[TABLE]]`.
+--
+-- `row_line`. The text is cut into `lines`; those that begin with the table's `heading` have numbers from 1
+-- (`numbers_of`). Where they are as many as the table has rows (`row_count`), the row at a position begins
+-- in the line at that position among them, and else the line isn't known.
 use Rattle.std.specs.Prelude.{◌==◌, ℕ, ◌+◌, cond, List, [], ◌∷◌, ◌++◌, length, codes, Option}
 use Rattle.std.specs.List.{starts_with, slice_get}
 use Rattle.usm_users.specs.declared.load.UserRow.{UserRow}

@@ -1,4 +1,12 @@
 -- What is no fault in a row and hardly meant, as sets over the rows.
+--
+-- `hints_of users tables`. Of each row of the tables, in their order and by the positions, what is odd of
+-- it (`user_hints`, `group_hints`, `access_hints`, `family_hints`), each with its position and the name
+-- that it is about. Odd is: a user whom no group row of the user-based model has (`is_user_without_group`);
+-- a group that no access row has (`is_group_without_access`); a name of that model that is no user's
+-- (`is_name_without_user`); a group that no group row has (`is_group_without_name`); a view that isn't
+-- empty and that no family row has (`is_view_without_family`); a write view at noAuthNoPriv
+-- (`is_write_without_auth`); a view that no access row names (`is_view_without_access`).
 use Rattle.std.specs.Prelude.{ℕ, Bool, true, false, not, ◌&&◌, List, [], ◌∷◌, ◌++◌, map}
 use Rattle.std.specs.List.{flat_map, enumerate_from}
 use Rattle.snmp_ber.specs.declared.level.Level.{Level}

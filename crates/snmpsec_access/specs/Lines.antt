@@ -1,5 +1,8 @@
 -- A hint as a line of standard error: the row's table and position, the line in which it begins, what is odd,
 -- and the name that it is about.
+--
+-- `hint_line`. The table, the position, the row's line where it is known, what is odd in words
+-- (`odd_words`), and the name as a TOML basic string.
 use Rattle.std.specs.Prelude.{ℕ, List, [], ◌++◌, codes, decimal, Option, Some, None}
 use Rattle.std.specs.List.{flat_map}
 use Rattle.vacm_core.specs.declared.access.ViewType.TheVariants.{Read, Write, Notify}

@@ -1,4 +1,6 @@
 -- Which names the rows of a configuration have.
+--
+-- Some row of a table has the name.
 use Rattle.std.specs.Prelude.{ℕ, Bool, ◌==◌, ◌&&◌, ◌||◌, List}
 use Rattle.std.specs.List.{list_any}
 use Rattle.std.specs.Str.{bytes_eq}

@@ -1,5 +1,20 @@
 -- What a name may see, for each view, at each level and in each context: lines of which the last that fits a
 -- variable decides on it.
+--
+-- `is_included lines variable`. The last line that `fits` the variable says whether it is included. A
+-- `Line` has an arc or none at each place of its pattern; `line_of` a family row leaves out the arcs that
+-- its mask doesn't compare. `AreNeeded`: without any one of the lines some variable is decided otherwise.
+--
+-- `AreLinesOf families view lines`. The lines of a view: of rows of it (`rows_of`), from the least up;
+-- where no row has a wildcard all are needed, and else all rows have theirs.
+--
+-- `Decide tables message view lines`. Each variable is decided by the lines as by `Allowed`, and they are
+-- lines of the view that the best access row names (`ByView`). `IsDecision`: an answer that no variable
+-- changes (`IsRefusal`), for each variable; or lines that decide.
+--
+-- `TellsSeen tables model name text included`. The text has a decision for each level, view and context
+-- row, in this order (`viewers`): the line of the answer, or the lines that decide, and that of notInView
+-- where there is none (`decision_text`). `included`: a line includes something.
 use Rattle.std.specs.Prelude.{◌≡◌, ◌≢◌, ◌⊎◌, ⊤, ℕ, ◌+◌, ◌<◌, ◌==◌, ◌&&◌, Bool, true, false, if◌then◌else◌, List, []}
 use Rattle.std.specs.Prelude.{◌∷◌, ◌++◌, length, map, fold, remove, Contains, codes, decimal, Option, Some, None}
 use Rattle.std.specs.List.{flat_map, filter, join_with_byte, list_any}

@@ -1,4 +1,12 @@
 -- Who may see a variable (RFC 3415, section 3): of the questions that can be answered accessAllowed those that are.
+--
+-- `TellsWho tables views only users variable text`. The text has the line of each of these that sees the
+-- variable, in their order, and no other (`AreThose`). `Sees`: isAccessAllowed answers accessAllowed, and
+-- where users alone are wanted it is one of theirs: `IsUserAt`, a name of the user-based model that is a
+-- user's, who supports the level.
+--
+-- `AnswerFor tables rows`. What loading gives: tables answer as is answered over the rows, and of each
+-- index there is one row. ### What a name sees (`Seen`)
 use Rattle.std.specs.Prelude.{◌≡◌, ◌⊎◌, ℕ, Bool, true, List, [], ◌∷◌, ◌++◌, map}
 use Rattle.std.specs.List.{flat_map}
 use Rattle.snmp_ber.specs.declared.level.Level.{Level}

@@ -1,4 +1,9 @@
 -- What `snmpsec replay` does with a configuration, a clocks file and a log.
+--
+-- `ReplayAnswers printing handed streams status`, `ReplayStopsBy`. What `replay` has read and written where
+-- it ends, and where it stops with a fault. `Begins`: the manager has the users that the configuration
+-- loads to (`Loads`) and the marks that the clocks file saves. `Refuses`: the line for the configuration,
+-- or, where that loads, for the clocks file.
 use Rattle.std.specs.Prelude.{◌≡◌, ◌⊎◌, ⊤, ℕ, List, ◌++◌, codes, IfSome}
 use Rattle.std.specs.Io.KnownBytes.{Appends}
 use Rattle.engine_clock.specs.Saved.{Saves, IsFirstFault}

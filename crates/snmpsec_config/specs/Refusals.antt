@@ -1,4 +1,10 @@
 -- What a configuration is, and why a text is none.
+--
+-- `Says text users rows`, `SaysSound`, `Loads text users tables`. The text is TOML whose document stands
+-- for these rows; none of them is at fault; and these users and tables are what they load to.
+--
+-- `Refuses text fault`, `RefusesText`. The cause of the fault holds of the text, and it isn't want of
+-- memory. `TellsKey`: the first key of a row at fault. `refusal_line`: the line that is printed.
 use Rattle.std.specs.Prelude.{◌≡◌, ◌≢◌, ⊤, ℕ, List, ◌++◌, codes, decimal, map, if◌then◌else◌, Some, None, IsUtf8}
 use Rattle.toml.specs.Data.{Members, table, get_item}
 use Rattle.snmpsec_config.specs.declared.rows.RowFault.{RowFault}

@@ -1,4 +1,6 @@
 -- What is wrong with a configuration and what is wanted, in words.
+--
+-- `IsWhy fault words`. What is told beside that line: what is wrong and what is wanted.
 use Rattle.std.specs.Prelude.{◌≡◌, ⊤, ℕ, List, ◌++◌, codes, decimal, string_bytes, Option, Some, None, IfSome, Contains}
 use Rattle.snmpsec_config.specs.declared.table.ConfigTable.{ConfigTable}
 use Rattle.snmpsec_config.specs.declared.table.ConfigTable.TheVariants as tables

@@ -1,4 +1,9 @@
 -- Which values are allowed at a key, and what they stand for. None is for an absent key.
+--
+-- `IsName`, `IsLevel`, `IsOid`, `IsMask` and so on (`Values`, `Words`). Which value is allowed at a key,
+-- and what it stands for; an absent key is None. `wanted_at table key`: what is wanted there. `IsRightAt`:
+-- what stands at a key is what is wanted, or it is left out and may be (`MayMiss`). `IsFirstWrong`: the
+-- first listed key at which a row isn't right.
 use Rattle.std.specs.Prelude.{◌≡◌, ⊤, ◌⊎◌, ℕ, pos, ◌≤◌, Bool, List, [], ◌∷◌, length, Option, Some, None, is_none, Ok}
 use Rattle.std.specs.Prelude.{option_map}
 use Rattle.hex.specs.Hex.{decode_of}

@@ -1,4 +1,6 @@
 -- Octets as text.
+--
+-- `characters_text octets`. Each octet as the character of its number, in UTF-8.
 use Rattle.std.specs.Prelude.{ℕ, List}
 use Rattle.std.specs.List.{flat_map}
 use Rattle.std.specs.Char.{encode_utf8}

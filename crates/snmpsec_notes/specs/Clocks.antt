@@ -1,4 +1,6 @@
 -- What a text is to those who read saved clocks.
+--
+-- `TellsClocks text told`. The text saves marks, or the line of this number is its first fault.
 use Rattle.std.specs.Prelude.{List, ℕ}
 use Rattle.engine_clock.specs.Marks.{Marks}
 use Rattle.engine_clock.specs.Saved.{Saves, IsFirstFault}

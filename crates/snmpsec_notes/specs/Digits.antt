@@ -1,4 +1,8 @@
 -- Pairs of hex digits, and what is wrong with a word that isn't such.
+--
+-- `ArePairs word`, `TellsDigits word fault`. The word is one or more pairs of hex digits; and else which
+-- fault is its: it is empty, the first character that is no digit has this number (`BeginsOtherwise`), or
+-- its digits are an odd number.
 use Rattle.std.specs.Prelude.{◌≡◌, ℕ, ◌<◌, ◌%◌, suc, true, false, List, [], length, slice_index}
 use Rattle.std.specs.Char.{is_ascii_hexdigit}
 use Rattle.snmpsec_notes.specs.declared.digits.DigitsFault.{DigitsFault}

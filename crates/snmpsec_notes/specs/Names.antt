@@ -1,4 +1,7 @@
 -- Names behind the lines of a text.
+--
+-- `AddsNames text named`. Each line of the text stands there as it is, with nothing behind it or with ` # `
+-- and a name, which goes on into no other line (`IsNote`), and then its line feed.
 use Rattle.std.specs.Prelude.{◌≡◌, ◌⊎◌, ℕ, List, [], ◌∷◌, ◌++◌, codes}
 use Rattle.std.specs.List.{AllByRecursion, flat_map}
 use Rattle.snmp_ber.specs.Splits.{Lacks}

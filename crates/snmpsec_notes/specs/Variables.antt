@@ -1,4 +1,9 @@
 -- Object identifiers in decimals with dots between (RFC 2578, section 3.5), and what is wrong with a word that is none.
+--
+-- `IsDotted word`, `TellsVariable word fault`. The word is the dotted text of arcs; and else which fault is
+-- its: it is empty, it begins with a dot, its parts are numbers and over 128, or a part is the first that
+-- is no number of 32 bits (`TellsPart`): nothing stands there, or something else than digits, or digits
+-- that are too great or have a 0 in front (`TellsNumber`).
 use Rattle.std.specs.Prelude.{◌≡◌, ℕ, ◌<◌, ◌^◌, ◌==◌, suc, true, false, List, [], ◌∷◌, length, take, decimal, Some}
 use Rattle.std.specs.List.{AllByRecursion, list_all, slice_get, slice_split}
 use Rattle.std.specs.Char.{is_ascii_digit}

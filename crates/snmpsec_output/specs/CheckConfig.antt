@@ -1,4 +1,8 @@
 -- What `snmpsec check-config` prints.
+--
+-- `ChecksConfig config printed`. What `check-config` prints: the numbers of those rows; or the refusal, and
+-- beside it what is wrong (`IsWhy`). `ChecksHinted`: the same, and beside the numbers of rows a line for
+-- each hint (`hints_of`, `lines_of`).
 use Rattle.std.specs.Prelude.{◌≡◌, ◌⊎◌, ℕ, List, [], ◌++◌, length, codes, decimal}
 use Rattle.usm_users.specs.declared.load.UserRow.{UserRow}
 use Rattle.vacm_core.specs.Tables.{Tables}

@@ -1,4 +1,6 @@
 -- The lines that are printed of a message.
+--
+-- `message_lines`, `scoped_lines`, `octets_line`. The lines of what a message says.
 use Rattle.std.specs.Prelude.{ℕ, Bool, true, false, not, ◌&&◌, List, [], ◌∷◌, ◌++◌, codes, decimal}
 use Rattle.std.specs.List.{flat_map}
 use Rattle.std.specs.Fmt.{signed_decimal}

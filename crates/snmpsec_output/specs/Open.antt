@@ -1,4 +1,8 @@
 -- What `snmpsec open` prints.
+--
+-- `OpensText config digits printed`. What `open` prints: the word that is no hex; or the refusal of the
+-- configuration; or, by the users that it loads to, the lines that `Opens` gives, or the refusal that it
+-- answers.
 use Rattle.std.specs.Prelude.{◌≡◌, ◌⊎◌, ℕ, List, [], Ok, Err}
 use Rattle.hex.specs.Hex.{decode_of}
 use Rattle.snmp_message.specs.Numbers.{refusal_number}

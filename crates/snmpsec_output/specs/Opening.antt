@@ -1,4 +1,8 @@
 -- What a message says that is opened by the keys of users.
+--
+-- `Opens users w answer`. The table of a manager without its time window, with the lines of the message in
+-- place of what is given on: `Verifies`, a row on the salt, and `ReadsMessage`. `TellsText`: the lines are
+-- those of the message and of the scoped PDU that the opened text begins with.
 use Rattle.std.specs.Prelude.{◌≡◌, ℕ, List, ◌++◌, codes, length, true, Option, Some, None, Result, Ok, Err, String}
 use Rattle.std.specs.Prelude.{string_bytes}
 use Rattle.snmp_message.specs.Level.{level_of}

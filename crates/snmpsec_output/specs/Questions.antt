@@ -1,4 +1,11 @@
 -- A question of `snmpsec check-access` or `snmpsec explain-access`, and what is printed for it.
+--
+-- `ChecksAccess config words printed`. What `check-access` prints: the first word out of its form; or the
+-- refusal of the configuration; or, for the question that the words ask, the answer that `Allowed` has on
+-- the rows that the configuration stands for (`SaysSound`).
+--
+-- `ExplainsAccess config words printed`. The same, and after the answer the lines of the rows that decide
+-- (`TellsSteps`); `context_lines` (`Steps`): what they are.
 use Rattle.std.specs.Prelude.{◌≡◌, ◌≢◌, ◌⊎◌, ℕ, ◌≤◌, List, [], ◌++◌, codes, decimal, slice_index_or, Option}
 use Rattle.snmp_ber.specs.Oid.{AreArcs, dotted}
 use Rattle.snmp_ber.specs.declared.level.Level.{Level}

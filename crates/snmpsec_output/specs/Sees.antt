@@ -1,4 +1,7 @@
 -- What `snmpsec sees` prints.
+--
+-- `PrintsSeen config word name printed`. A MODEL out of its form is told first (`TellsModel`), then a
+-- configuration that is refused with what is wrong with it, and else what the name sees (`ListsSeen`).
 use Rattle.std.specs.Prelude.{◌≡◌, ◌⊎◌, ℕ, Bool, if◌then◌else◌, List, [], codes}
 use Rattle.usm_users.specs.declared.load.UserRow.{UserRow}
 use Rattle.vacm_core.specs.Tables.{Tables}

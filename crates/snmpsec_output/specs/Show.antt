@@ -1,4 +1,7 @@
 -- What `snmpsec show` prints, and why it refuses a datagram.
+--
+-- `Show`: the text is the lines of all layers, and of the canonical spelling. `Merge`: what is printed for
+-- files of saved clocks. `Refusals`: the faults of the codec and of a manager as the program's.
 use Rattle.std.specs.Prelude.{◌≡◌, ◌≢◌, ⊤, true, false, ℕ, ◌<◌, ◌⊎◌, List, [], ◌++◌, length, codes, Ok, IsErr}
 use Rattle.snmp_message.specs.declared.header.TheConstants.{USER_BASED}
 use Rattle.snmp_message.specs.declared.message.TheConstants.{LARGEST}

@@ -1,4 +1,8 @@
 -- What `snmpsec who-sees` prints.
+--
+-- `PrintsWho config words only printed`. A word out of its form is told first (`IsFirstWrong`), then a
+-- configuration that is refused with what is wrong with it, and else who sees the variable (`Lists`), for
+-- the view that is asked for or for each (`views_of`).
 use Rattle.std.specs.Prelude.{◌≡◌, ◌⊎◌, ⊤, ℕ, Bool, List, [], ◌∷◌, ◌++◌, codes, Option, Some, None, IsSomeAnd}
 use Rattle.snmp_ber.specs.Oid.{AreArcs, dotted}
 use Rattle.usm_users.specs.declared.load.UserRow.{UserRow}

@@ -1,4 +1,10 @@
 -- What a text is to a replay, where it is only looked at.
+--
+-- `TellsLog`. A log that is only looked at is lines, and their number is told; or after some lines comes
+-- what is none, and its number is told.
+--
+-- `StopsLog`. Where a read fails, lines of a log stand before it, and a part of what is next, without a
+-- line feed.
 use Rattle.std.specs.Prelude.{◌≡◌, ⊤, ℕ, ◌+◌, ◌≤◌, List, [], ◌∷◌, ◌++◌, length, Option}
 use Rattle.std.specs.Io.KnownBytes.{Consumes, IsAtEnd}
 use Rattle.snmp_ber.specs.Splits.{Lacks}

@@ -1,4 +1,7 @@
 -- Logs that are replayed one after another, and pieces that are replayed apart.
+--
+-- `InTurn`, `ReplayEach`, `ReplaySaves`. Logs that are replayed one after another, each by what the one
+-- before left; logs that are replayed apart from one beginning, each with its saved text.
 use Rattle.std.specs.Prelude.{◌≡◌, ⊤, ℕ, List, [], ◌∷◌}
 use Rattle.engine_clock.specs.Saved.{AreMarks, listing}
 use Rattle.snmp_manager.specs.Views.{Held}

@@ -1,4 +1,13 @@
 -- What a replay writes for a log, and what it has written where it stops.
+--
+-- `Answers`, `ReplayText`. The text that a manager's replay of a log is: for each entry the line of its
+-- number, moment and outcome, the managers between as the takes leave them, and at the end the listing of
+-- the last manager's marks. `Printing` says from which number on, and whether there are lines
+-- (`printed_line`).
+--
+-- `StopsBy`. What was read, taken and written where a replay stops with a fault. `IsBad`: what comes next
+-- is no line of this number. `WriteFails`: of what answers the lines that were read a front was written,
+-- and not all.
 use Rattle.std.specs.Prelude.{◌≡◌, ◌⊎◌, if◌then◌else◌, Bool, true, ℕ, ◌+◌, ◌<◌, List, [], ◌∷◌, ◌++◌, length, codes}
 use Rattle.std.specs.Prelude.{Option, Some, decimal}
 use Rattle.std.specs.Io.KnownBytes.{Appends, Consumes, IsAtEnd, Keeps}

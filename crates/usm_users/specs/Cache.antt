@@ -1,4 +1,8 @@
 -- Localised keys that are kept (RFC 3414, section 2.6).
+--
+-- `AreCached users entries` (RFC 3414, section 2.6). Each entry is a user name, an engine ID and a purpose,
+-- with the key that this user has for this purpose, localised to this engine. `IsIndex users entries`
+-- (`Index`): the entries give the place of each name that a user has, and of no other.
 use Rattle.std.specs.Prelude.{◌≡◌, ℕ, List, Option, Contains, IsSomeAnd, take}
 use Rattle.usm_keys.specs.AuthKey.{AuthKey}
 use Rattle.usm_keys.specs.Keys.{kul}

@@ -1,4 +1,8 @@
 -- Users, with the keys of their passwords, not yet localised to an engine (RFC 3414, sections 2.1 and 2.6).
+--
+-- `Known`: the record with the fields `users` and `cache`; of each user the name, the authentication key
+-- and the privacy key, not yet localised, both by `ku` with the user's authentication hash. `Supports`:
+-- which levels.
 use Rattle.std.specs.Prelude.{◌≡◌, ℕ, ◌≤◌, ◌&&◌, List, length, slice_get, Contains, find, nat_eq, Bool, true, Option}
 use Rattle.std.specs.Prelude.{Some, IsSomeAnd, is_some}
 use Rattle.std.specs.Option.{option_map}

@@ -1,4 +1,15 @@
 -- What the rows of the four tables stand by.
+--
+-- `AreInPlace`: rows rise by their names, and those of a name fall by a rank. `IsRunOf name rank wanted
+-- rows run`: the run has all rows of the name, no others, and falls. `AreRuns`: the entries give the run of
+-- each name.
+--
+-- `AreInPlace`: how the rows of a table stand, its invariant. They rise by a name (a context's own, a
+-- security name, a group, a view), and those of one name fall from the best down, in the very orders of
+-- `Allowed`; family rows whose mask compares each arc stand apart from those with a wildcard. `IsRunOf`: a
+-- slice has all rows of a name and no other, from the best down. `AreRuns`: the entries of a map give the
+-- run of each name that has rows, and of no other. `AnswersView`: the last three answers, over the rows of
+-- one view.
 use Rattle.std.specs.Prelude.{ℕ, List, length}
 use Rattle.std.specs.Ordering.{nat_cmp, ordering_then}
 use Rattle.std.specs.Cmp.Lexicographic.{slice_cmp}

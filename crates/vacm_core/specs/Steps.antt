@@ -1,4 +1,9 @@
 -- Which rows decide on a question (RFC 3415 section 3), and where they stand.
+--
+-- `TellsContext tables message view variable steps`. Which rows decide, as far as it comes, by the
+-- relations of `Allowed`, and where they stand. `IsBestAt`: the row at this position is the best of those
+-- that fit. `TellsGroup`, `TellsAccess`, `TellsView`, `TellsFamily`: what comes after the context.
+-- `DecidesContext` and what follows it say the same of the rows alone.
 use Rattle.std.specs.Prelude.{◌≡◌, ◌≢◌, ℕ, List, [], Option, Some, None, MatchOption, Contains, slice_get}
 use Rattle.std.specs.Borrow.{Bor}
 use Rattle.std.specs.declared.cmp.Ordering.{Ordering}
