@@ -43,8 +43,8 @@ pub returns-in-Ok-clause-spelled : goal.returns-in-Ok-clause-spelled
 returns-in-Ok-clause-spelled g c =
     subst (λ (vs : List Variable). IsSpelled (pdu_after c.args.front.now vs)) (sym (take_map g.B.Spelled.says c.in-Some.count c.args.bindings.now)) c.in-Ok.ensures.spelled
 
-pub returns-in-Err-send_of-clause-rows : goal.returns-in-Err-send_of-clause-rows
-returns-in-Err-send_of-clause-rows g c =
+pub returns-in-Err-write_body_of-clause-rows : goal.returns-in-Err-write_body_of-clause-rows
+returns-in-Err-write_body_of-clause-rows g c =
     let says = g.B.Spelled.says in
     let bs = c.args.bindings.now in
     let e = c.args.envelope.now in
@@ -68,5 +68,5 @@ returns-in-Err-send_of-clause-rows g c =
     let longest : IsLongestFront users c.room.result (λ vs. sent_with e (scoped_after f vs)) (map says bs) n = c.in-Some.ensures.some in
     let within = subst (λ (vs : List Variable). IsWithin users c.room.result (sent_with e (scoped_after f vs))) (take_map says n bs) longest.fits in
     let short = within some.0 some.1 in
-    if_none (answer_number c.in-Err-send_of.fault) (Seals users m) (SealsFront users c.args.limit (λ vs. sent_with e (scoped_after f vs)) (map says bs))
-    (not_refused users m ok some.0 some.1 (omega (arith, short, c.room.ensures.most))) c.in-Err-send_of.ensures.rows
+    if_none (answer_number c.in-Err-write_body_of.fault) (Seals users m) (SealsFront users c.args.limit (λ vs. sent_with e (scoped_after f vs)) (map says bs))
+    (not_refused users m ok some.0 some.1 (omega (arith, short, c.room.ensures.most))) c.in-Err-write_body_of.ensures.rows
