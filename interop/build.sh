@@ -12,11 +12,8 @@ mkdir -p "$out"
 [ -n "$NO_LIBRARY" ] || (cd "$here/.." && tools/build ${OVER_CI:+--over-ci} snmp_c)
 cc="${CC:-cc} -std=c11 -O2 -Wall -Wextra -Werror -I$here/include -I$here"
 
-# the archive's calls under the names that api.c wraps
-ld -r --whole-archive "$archive" -o "$out/archive.o"
-objcopy --redefine-syms "$here/proved.syms" "$out/archive.o" "$out/proved.o"
-rm "$out/archive.o"
-library=$out/proved.o
+proved="-Wl,--whole-archive $archive -Wl,--no-whole-archive"
+library=$proved
 for part in api heap wipe words; do
     $cc -fPIC -fvisibility=hidden -Wconversion "$@" -c "$here/$part.c" -o "$out/$part.o"
     library="$library $out/$part.o"
@@ -35,7 +32,7 @@ $cc "$@" "$here/tests/hold.c" "$out/words_of.o" $library -o "$out/hold"
 $cc "$@" -pthread "$here/tests/threads.c" $library -o "$out/threads"
 $cc "$@" "$here/tests/page.c" $library "$here/tests/cost.c" -o "$out/cost"
 # with nothing wiped
-plain="$out/proved.o $here/tests/plain.c $out/api.o $out/words.o"
+plain="$proved $here/tests/plain.c $out/api.o $out/words.o"
 $cc "$@" "$here/tests/page.c" $plain "$here/tests/cost.c" -o "$out/cost_plain"
 $cc "$@" "$here/tests/stack.c" $plain -o "$out/stack"
 $cc "$@" "$here/tests/boots.c" "$out/files.o" -o "$out/boots"

@@ -140,7 +140,7 @@ EXPORT_TYPES = {"*mut u8": ["void *"], "&mut *mut u8": ["void **"], "&[u8]": ["c
 
 def exports():
     text = "".join(path.read_text() for path in sorted((here / "../crates/snmp_c/src").glob("*.rt")))
-    for name, arguments, result in re.findall(r'pub (?:unsafe )?extern "C" fn snmpsec_(\w+)\(([^)]*)\)\s*->\s*(\w+)', text):
+    for name, arguments, result in re.findall(r'pub (?:unsafe )?extern "C" fn proved_(\w+)\(([^)]*)\)\s*->\s*(\w+)', text):
         kinds = [kind for one in arguments.split(",") if one.strip() for kind in EXPORT_TYPES[one.split(":")[1].strip()]]
         yield name, f"{RUST_TYPES.get(result, 'int64_t')} proved_{name}({', '.join(kinds)});"
 
@@ -181,8 +181,7 @@ def main():
     differ = max(judged.stderr.count(" error: "), int(judged.returncode != 0))
     differ += names_differ("Python", named(python), DECLARED - NOT_IN_PYTHON) + names_differ("Rust", named(rust), DECLARED - NOT_IN_RUST)
     proved = set(re.findall(r"\bproved_(\w+)\(", (here / "proved.h").read_text()))
-    renamed = set(re.findall(r"^snmpsec_(\w+) proved_\1$", (here / "proved.syms").read_text(), re.M))
-    differ += names_differ("proved.h", proved, set(of_archive)) + names_differ("proved.syms", renamed, set(of_archive))
+    differ += names_differ("proved.h", proved, set(of_archive))
     if library:
         differ += library_differs(library[0])
     print(f"{len(python)} signatures of Python, {len(rust)} of Rust, {len(of_archive)} of the archive and {len(facts)} fields and numbers compared, {differ} differ")

@@ -9,6 +9,7 @@ here=$(cd "$(dirname "$0")" && pwd)
 export OUT=${OUT:-$here/out}
 work=$(mktemp -d)
 replay=$here/../examples/replay
+archive=$here/../crates/snmp_c/out/libsnmp_c.a
 port=${1:-16161}
 trap_port=$((port + 1)) snmpd_port=$((port + 2))
 passed=0 failed=0

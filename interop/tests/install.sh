@@ -67,7 +67,7 @@ look_at_library() { # FILE
 }
 
 test_install() {
-    local build=$work/cmake prefix=$work/prefix archive=$here/../crates/snmp_c/out/libsnmp_c.a program=$here/../crates/snmpsec/out/snmpsec words=()
+    local build=$work/cmake prefix=$work/prefix program=$here/../crates/snmpsec/out/snmpsec words=()
     if ! command -v cmake > /dev/null || ! command -v pkg-config > /dev/null; then
         echo "skipped: the installed library: there is no cmake or no pkg-config (apt-get install cmake make pkg-config)"
         return

@@ -16,7 +16,7 @@ use std::alloc::Global;
 /// It answers -1 where there are fewer than four numbers and 14 for want of memory, and nothing is written then; and -5 where the text is
 /// longer than the buffer: then the numbers are told, and how many octets the text has.
 #[unsafe(no_mangle)]
-pub extern "C" fn snmpsec_config_fault(
+pub extern "C" fn proved_config_fault(
     alloc: Global,
     config: &[u8],
     numbers: &mut [usize],
