@@ -21,9 +21,9 @@ version=$(sed -n 's/#define SNMPSEC_VERSION "\(.*\)"/\1/p' "$here/include/snmpse
 tree=$out/snmpsec-$version
 rm -rf "$tree"
 mkdir -p "$tree/docs" "$tree/tools"
-(cd "$repository" && tar c --exclude=interop/out --exclude=interop/rust/target --exclude=__pycache__ interop) | tar x -C "$tree"
+(cd "$repository" && tar c --exclude=lib/out --exclude=lib/rust/target --exclude=__pycache__ lib) | tar x -C "$tree"
 chmod -R u+w "$tree"
-mv "$tree/interop/debian" "$tree/debian"
+mv "$tree/lib/debian" "$tree/debian"
 cp "$repository/docs/snmpsec.1" "$tree/docs"
 cp "$repository/tools/snmpsec.bash" "$repository/tools/_snmpsec" "$tree/tools"
 (cd "$out" && tar czf "snmpsec_$version.orig.tar.gz" --exclude=debian "snmpsec-$version")
@@ -33,6 +33,6 @@ cp "$repository/tools/snmpsec.bash" "$repository/tools/_snmpsec" "$tree/tools"
 shared=$(find "$tree/debian/libsnmpsec0" -name 'libsnmpsec.so.0.*' -type f)
 libc=$(objdump -T "$shared" | grep -o 'GLIBC_[0-9.]*' | sort -V | tail -1)
 libc=${libc#GLIBC_}
-cd "$tree/interop/python"
+cd "$tree/lib/python"
 SNMPSEC_WHEEL_LIBRARY=$shared SNMPSEC_WHEEL_PLATFORM=manylinux_${libc/./_}_$(uname -m) \
     python3 -c 'import hatchling.build, sys; print(hatchling.build.build_wheel(sys.argv[1]))' "$out"

@@ -28,6 +28,9 @@ has() {
     if [[ "$3" == *"$2"* ]]; then passed=$((passed + 1)); else failed=$((failed + 1)); printf 'FAILED %s\n  expected: %s\n  found:    %s\n' "$1" "$2" "$3"; fi
 }
 
+# listed NAME: the sources of this name in CMakeLists.txt
+listed() { sed -n "s/^set($1 \(.*\))\$/\1/p" "$here/CMakeLists.txt"; }
+
 bound() { # PORT: waits until a process has it, at most 5 seconds
     local tries
     for tries in {1..50}; do

@@ -40,8 +40,11 @@ test_memory() {
 # The build option by which the heap is OpenSSL's: locked, and in no core.
 test_secure_heap() {
     if ! echo '#include <openssl/crypto.h>' | cc -fsyntax-only -x c - 2> /dev/null; then echo "skipped: OpenSSL's secure heap (apt-get install libssl-dev)"; return; fi
-    cc -std=c11 -O2 -Wall -Wextra -Werror -DSNMPSEC_SECURE_HEAP=4194304 -I"$here" -I"$here/include" "$here"/{api,heap,wipe,words,words_of}.c \
-        "$here/tests/hold.c" "$archive" -lcrypto -o "$OUT/hold_secure" > "$work/secure.log" 2>&1
+    (
+        cd "$here" || exit
+        cc -std=c11 -O2 -Wall -Wextra -Werror -DSNMPSEC_SECURE_HEAP=4194304 -Iinclude -Iexamples $(listed library_sources) examples/words_of.c \
+            tests/hold.c "$archive" -lcrypto -o "$OUT/hold_secure"
+    ) > "$work/secure.log" 2>&1
     check "the library over OpenSSL's secure heap" 0 $?
     look "OpenSSL's secure heap" --locked "$OUT/hold_secure"
 }

@@ -12,12 +12,12 @@ import re
 import subprocess
 import sys
 
-here = pathlib.Path(__file__).resolve().parent
-sys.path.insert(0, str(here / "python/src"))
+LIB = pathlib.Path(__file__).resolve().parents[1]
+sys.path.insert(0, str(LIB / "python/src"))
 import snmpsec  # noqa: E402
 from snmpsec import _library  # noqa: E402
 
-HEADER = (here / "include/snmpsec.h").read_text()
+HEADER = (LIB / "include/snmpsec.h").read_text()
 DECLARED = set(re.findall(r"\bsnmpsec_(\w+)\(", HEADER))
 # what a wrapper builds from other calls, or has of its own
 NOT_IN_PYTHON = {"agent_allows", "agent_user_allows", "wipe"}
@@ -80,7 +80,7 @@ def python_numbers():
 
 # ---- Rust
 
-RUST = "".join(path.read_text() for path in sorted((here / "rust/src").glob("*.rs")))
+RUST = "".join(path.read_text() for path in sorted((LIB / "rust/src").glob("*.rs")))
 RUST_TYPES = {"": "void", "bool": "bool", "i32": "int32_t", "u8": "uint8_t", "u32": "uint32_t", "u64": "uint64_t", "usize": "size_t", "c_char": "char", "c_void": "void",
               **{name: f"snmpsec_{c}" for name, c in STRUCTS.items()}}
 
@@ -139,7 +139,7 @@ EXPORT_TYPES = {"*mut u8": ["void *"], "&mut *mut u8": ["void **"], "&[u8]": ["c
 
 
 def exports():
-    text = "".join(path.read_text() for path in sorted((here / "../crates/snmp_c/src").glob("*.rt")))
+    text = "".join(path.read_text() for path in sorted((LIB / "../crates/snmp_c/src").glob("*.rt")))
     for name, arguments, result in re.findall(r'pub (?:unsafe )?extern "C" fn proved_(\w+)\(([^)]*)\)\s*->\s*(\w+)', text):
         kinds = [kind for one in arguments.split(",") if one.strip() for kind in EXPORT_TYPES[one.split(":")[1].strip()]]
         yield name, f"{RUST_TYPES.get(result, 'int64_t')} proved_{name}({', '.join(kinds)});"
@@ -162,7 +162,7 @@ def library_differs(library):
     """The names that the shared library shows, and those of the package's list."""
     told = subprocess.run(["nm", "-D", "--defined-only", library], capture_output=True, text=True, check=True).stdout
     shown = {word.split("@")[0] for word in re.findall(r" [A-Z] (\S+)", told)} - {"SNMPSEC_0"}
-    listed = set(re.findall(r"^ (\w+)@SNMPSEC_0 ", (here / "debian/libsnmpsec0.symbols").read_text(), re.M)) - {"SNMPSEC_0"}
+    listed = set(re.findall(r"^ (\w+)@SNMPSEC_0 ", (LIB / "debian/libsnmpsec0.symbols").read_text(), re.M)) - {"SNMPSEC_0"}
     wanted = {f"snmpsec_{name}" for name in DECLARED}
     return names_differ("the library", shown, wanted) + names_differ("debian/libsnmpsec0.symbols", listed, wanted)
 
@@ -175,12 +175,12 @@ def main():
     of_archive = dict(exports())
     text = "#include <stddef.h>\n#include <snmpsec.h>\n#include <proved.h>\n" + structs
     text += "\n".join([*python, *rust, *of_archive.values(), *(f'_Static_assert({fact}, "{fact}");' for fact in facts)]) + "\n"
-    words = [*compiler, "-std=c11", "-Wall", "-Werror", "-fsyntax-only", f"-I{here}/include", f"-I{here}", "-x", "c", "-"]
+    words = [*compiler, "-std=c11", "-Wall", "-Werror", "-fsyntax-only", f"-I{LIB}/include", f"-I{LIB}/src", "-x", "c", "-"]
     judged = subprocess.run(words, input=text, text=True, capture_output=True)
     print(judged.stderr, end="")
     differ = max(judged.stderr.count(" error: "), int(judged.returncode != 0))
     differ += names_differ("Python", named(python), DECLARED - NOT_IN_PYTHON) + names_differ("Rust", named(rust), DECLARED - NOT_IN_RUST)
-    proved = set(re.findall(r"\bproved_(\w+)\(", (here / "proved.h").read_text()))
+    proved = set(re.findall(r"\bproved_(\w+)\(", (LIB / "src/proved.h").read_text()))
     differ += names_differ("proved.h", proved, set(of_archive))
     if library:
         differ += library_differs(library[0])

@@ -55,7 +55,7 @@ test_python() {
     check "Python" 0 $?
     grep -E '^(FAIL|ERROR|[A-Za-z.]*Error)' "$work/python.out"
     echo "Python: $(grep '^Ran ' "$work/python.out")"
-    has "signatures" ", 0 differ" "$(python3 "$here/signatures.py" "$OUT/libsnmpsec.so.0" 2>&1 | tee "$work/signatures.out")"
+    has "signatures" ", 0 differ" "$(python3 "$here/tests/signatures.py" "$OUT/libsnmpsec.so.0" 2>&1 | tee "$work/signatures.out")"
     grep -v ', 0 differ' "$work/signatures.out"
     if command -v mypy > /dev/null; then
         has "the types in Python" "Success" "$(cd "$work" && mypy --strict-optional "$here/python/src/snmpsec" 2>&1 | tail -1)"

@@ -1,4 +1,4 @@
-//! The header's signatures again: `interop/signatures.py` has the C compiler compare them with the header. An enumeration is a `u32`.
+//! The header's signatures again: `lib/tests/signatures.py` has the C compiler compare them with the header. An enumeration is a `u32`.
 //!
 //! Why the calls of this crate are sound: a handle is a `Held`'s, which one thread uses at a time and which is freed once; and each pointer
 //! is that of a slice beside its length, or of a number or a struct.

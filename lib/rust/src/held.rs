@@ -22,7 +22,7 @@ pub struct Held {
 }
 
 // SAFETY: the library has no data but the handle's and the heap's (malloc, which threads share): it keeps nothing of the thread that made
-// the handle. `interop/test.sh` looks for races between handles.
+// the handle. `lib/test.sh` looks for races between handles.
 unsafe impl Send for Held {}
 
 /// The octets that a call writes. There is room for a datagram, and where more is wanted, as for a saved text, the call is made again.

@@ -1,4 +1,4 @@
-"""The library and the header's signatures again: interop/signatures.py has the C compiler compare them with the header. Not proved.
+"""The library and the header's signatures again: lib/tests/signatures.py has the C compiler compare them with the header. Not proved.
 
 Here c_char_p is octets that are read, POINTER(c_char) room that is written, and c_uint a number or one of an enumeration."""
 import ctypes
