@@ -19,12 +19,24 @@ in_copy() {
 # Which of the system's files there are, but for those of dpkg and caches.
 LISTED="(cd / && find usr etc opt lib* -xdev ! -path '*/__pycache__*' ! -name ld.so.cache | sort)"
 
+# The example programs, built of what the package has.
+build_examples() { # FOLDER: an unpacked libsnmpsec-dev
+    local program
+    cd "$1/usr/share/doc/libsnmpsec-dev/examples" || return
+    for program in agent poll; do
+        cc -I"$1/usr/include" $program.c $(basename -a $(listed example_sources)) "$OUT/libsnmpsec.so.0" -o "$1/$program" || return
+    done
+}
+
 test_debian() {
     local packages=$work/packages name
     for name in libsnmpsec0 libsnmpsec-dev python3-snmpsec snmpsec; do
         check "the package $name" 1 "$(find "$packages" -maxdepth 1 -name "${name}_*.deb" | wc -l)"
     done
     check "no licence is named" 4 "$(for name in "$packages"/*.deb; do dpkg-deb --fsys-tarfile "$name" | tar xO --wildcards '*/copyright' 2> /dev/null | grep -l 'names no licence yet'; done | wc -l)"
+    dpkg-deb -x "$packages"/libsnmpsec-dev_*.deb "$work/development"
+    (build_examples "$work/development") > "$work/examples.out" 2>&1
+    check "the package's examples build" 0 $?
     if command -v lintian > /dev/null; then
         lintian --allow-root "$packages"/*.changes > "$work/lintian.out" 2>&1
         check "lintian's errors" "" "$(grep '^E:' "$work/lintian.out")"
