@@ -2,9 +2,9 @@
 # Proves and builds the library, where it isn't built from these sources, and what stands in this folder, into lib/out:
 # build.sh [CFLAGS..]
 #
-# OUT is another folder than lib/out, CC another compiler than cc. With NO_LIBRARY the archive is taken as it lies there. With OVER_CI it is
-# built over the libraries that rt ci has left. The sources are those that CMakeLists.txt lists. CMakeLists.txt builds what is installed;
-# this wants a C compiler alone.
+# OUT is another folder than lib/out, CC another compiler than cc. With NO_LIBRARY the archive is taken as it lies there.
+# With OVER_CI it is built over the libraries that rt ci has left. The sources are those that CMakeLists.txt lists.
+# CMakeLists.txt builds what is installed; this wants a C compiler alone.
 set -e
 here=$(cd "$(dirname "$0")" && pwd)
 out=${OUT:-$here/out}
@@ -34,13 +34,15 @@ done
 for program in agent poll; do
     $cc -Wconversion "$@" "$here/examples/$program.c" $beside $library -o "$out/$program"
 done
-$cc -shared "$@" $library -Wl,-soname,libsnmpsec.so.0 -Wl,--version-script="$here/src/snmpsec.map" -o "$out/libsnmpsec.so.0"
+names="-Wl,-soname,libsnmpsec.so.0 -Wl,--version-script=$here/src/snmpsec.map"
+$cc -shared "$@" $library $names -o "$out/libsnmpsec.so.0"
 # what a linker finds by -lsnmpsec
 echo 'INPUT(-l:libsnmpsec.so.0)' > "$out/libsnmpsec.so"
 
 cc="$cc -I$here/src -I$here/examples"
 for test in calls manager_calls bindings keys exchange hostile; do
-    $cc "$@" -Wl,--wrap=malloc,--wrap=realloc "$here/tests/$test.c" "$here/tests/checks.c" "$out/words_of.o" $library -o "$out/$test"
+    checks="$here/tests/checks.c $out/words_of.o"
+    $cc "$@" -Wl,--wrap=malloc,--wrap=realloc "$here/tests/$test.c" $checks $library -o "$out/$test"
 done
 $cc "$@" "$here/tests/hold.c" "$out/words_of.o" $library -o "$out/hold"
 $cc "$@" -pthread "$here/tests/threads.c" $library -o "$out/threads"
