@@ -16,8 +16,8 @@ in_copy() {
         exec chroot "$1/root" bash -c "$3"' - "$work/copy" "$work" "$1"
 }
 
-# Which of the system's files there are, but for those of dpkg and caches.
-LISTED="(cd / && find usr etc opt lib* -xdev ! -path '*/__pycache__*' ! -name ld.so.cache | sort)"
+# Which of the system's files there are where a package may put some, but for those of dpkg and caches.
+LISTED="(cd / && find usr etc lib* -xdev ! -path '*/__pycache__*' ! -name ld.so.cache | sort)"
 
 # The example programs, built of what the package has.
 build_examples() { # FOLDER: an unpacked libsnmpsec-dev
