@@ -26,6 +26,7 @@ for source in $(listed library_sources); do
     library="$library $part"
     case $source in */heap.c | */wipe.c) ;; *) plain="$plain $part" ;; esac
 done
+beside=
 for source in $(listed example_sources); do
     part=$out/$(basename "$source" .c).o
     $cc -Wconversion "$@" -c "$here/$source" -o "$part"
