@@ -22,7 +22,7 @@ use std::alloc::Global;
 /// 3411, section 5), or boots are above 2147483647, -6 where the configuration is refused, and 14 for want of
 /// memory.
 #[unsafe(no_mangle)]
-pub extern "C" fn snmpsec_agent_new(
+pub extern "C" fn proved_agent_new(
     alloc: Global,
     config: &[u8],
     engine: &[u8],
@@ -48,7 +48,7 @@ pub extern "C" fn snmpsec_agent_new(
 /// Gives back all memory but the block at the pointer, for which the caller then calls the heap's
 /// `rattle_dealloc`: it answers 14, and nothing is given back, for want of memory.
 #[unsafe(no_mangle)]
-pub unsafe extern "C" fn snmpsec_agent_clear(at: *mut u8) -> i32
+pub unsafe extern "C" fn proved_agent_clear(at: *mut u8) -> i32
     ghost held: { AgentHeld }
     requires* { sem 𝓛 (lies_at agents.the_row full_share at held) }
     ensures* { ∃ₛ (λ (new : AgentHeld). sem 𝓛
@@ -61,7 +61,7 @@ pub unsafe extern "C" fn snmpsec_agent_clear(at: *mut u8) -> i32
 /// the calls below; a refusal is answered by its number, 1 to 18, and leaves its report as the message to be
 /// sent, where there is one.
 #[unsafe(no_mangle)]
-pub unsafe extern "C" fn snmpsec_agent_take(at: *mut u8, now: u64, datagram: &[u8]) -> i32
+pub unsafe extern "C" fn proved_agent_take(at: *mut u8, now: u64, datagram: &[u8]) -> i32
     ghost held: { AgentHeld }
     requires* { sem 𝓛 (lies_at agents.the_row full_share at held) }
     ensures* { ∃ₛ (λ (new : AgentHeld). sem 𝓛
@@ -75,7 +75,7 @@ pub unsafe extern "C" fn snmpsec_agent_take(at: *mut u8, now: u64, datagram: &[u
 /// noAccessEntry, 4 noGroupName, 5 noSuchContext (isAccessAllowed, RFC 3415, section 3); -1 where no view has
 /// the number or there aren't 1 to 128 arcs, and -2 where no message is kept.
 #[unsafe(no_mangle)]
-pub unsafe extern "C" fn snmpsec_agent_allows(at: *mut u8, view: u32, arcs: &[u32]) -> i32
+pub unsafe extern "C" fn proved_agent_allows(at: *mut u8, view: u32, arcs: &[u32]) -> i32
     ghost held: { AgentHeld }
     requires* { sem 𝓛 (lies_at agents.the_row full_share at held) }
     ensures* { ∃ₛ (λ (new : AgentHeld). sem 𝓛
@@ -87,7 +87,7 @@ pub unsafe extern "C" fn snmpsec_agent_allows(at: *mut u8, view: u32, arcs: &[u3
 /// The same without a message: whether this user at the level 1 (noAuthNoPriv), 2 (authNoPriv) or 3
 /// (authPriv) may see the variable in the context of this name.
 #[unsafe(no_mangle)]
-pub unsafe extern "C" fn snmpsec_agent_may(
+pub unsafe extern "C" fn proved_agent_may(
     at: *mut u8,
     user: &[u8],
     level: u32,
@@ -113,7 +113,7 @@ pub unsafe extern "C" fn snmpsec_agent_may(
 
 /// The value of counter n, usmStats n of RFC 3414, section 5, or -1 where n isn't 1 to 6.
 #[unsafe(no_mangle)]
-pub unsafe extern "C" fn snmpsec_agent_counter(at: *mut u8, n: u32) -> i64
+pub unsafe extern "C" fn proved_agent_counter(at: *mut u8, n: u32) -> i64
     ghost held: { AgentHeld }
     requires* { sem 𝓛 (lies_at agents.the_row full_share at held) }
     ensures* { ∃ₛ (λ (new : AgentHeld). sem 𝓛
@@ -128,7 +128,7 @@ pub unsafe extern "C" fn snmpsec_agent_counter(at: *mut u8, n: u32) -> i64
 /// 2147483647, -2 where no message is kept, -3 where that is of no PDU that is answered, -4 where the octets
 /// aren't bindings, and the refusals of sending: 15, 7, 8, 16, 14.
 #[unsafe(no_mangle)]
-pub unsafe extern "C" fn snmpsec_agent_respond(
+pub unsafe extern "C" fn proved_agent_respond(
     at: *mut u8,
     now: u64,
     status: u32,
@@ -157,7 +157,7 @@ pub unsafe extern "C" fn snmpsec_agent_respond(
 /// to be sent. Where it doesn't answer 0, nothing changes: it answers -1 where a number is out of its range
 /// or the name has more than 32 octets, -4 where the octets aren't bindings, and the refusals of sending.
 #[unsafe(no_mangle)]
-pub unsafe extern "C" fn snmpsec_agent_notify(
+pub unsafe extern "C" fn proved_agent_notify(
     at: *mut u8,
     now: u64,
     id: u32,
@@ -201,7 +201,7 @@ pub unsafe extern "C" fn snmpsec_agent_notify(
 /// message is kept, and -5 where the buffer is too short; the octets are counted then too, and the buffer
 /// stays as it was.
 #[unsafe(no_mangle)]
-pub unsafe extern "C" fn snmpsec_agent_part(
+pub unsafe extern "C" fn proved_agent_part(
     at: *mut u8,
     number: u32,
     out: &mut [u8],
@@ -220,7 +220,7 @@ pub unsafe extern "C" fn snmpsec_agent_part(
 /// or notification that was written since. It answers -2 where there is none, and -5 where the buffer is too
 /// short.
 #[unsafe(no_mangle)]
-pub unsafe extern "C" fn snmpsec_agent_message(
+pub unsafe extern "C" fn proved_agent_message(
     at: *mut u8,
     out: &mut [u8],
     written: &mut usize,
@@ -238,7 +238,7 @@ pub unsafe extern "C" fn snmpsec_agent_message(
 /// and third number, and msgID. It answers -2 where no message is kept, and -5 where there is no room for
 /// six.
 #[unsafe(no_mangle)]
-pub unsafe extern "C" fn snmpsec_agent_numbers(at: *mut u8, out: &mut [i32]) -> i32
+pub unsafe extern "C" fn proved_agent_numbers(at: *mut u8, out: &mut [i32]) -> i32
     ghost held: { AgentHeld }
     requires* { sem 𝓛 (lies_at agents.the_row full_share at held) }
     ensures* { ∃ₛ (λ (new : AgentHeld). sem 𝓛

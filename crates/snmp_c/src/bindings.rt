@@ -11,7 +11,7 @@ use std::alloc::Global;
 /// binding begins there, and -5 where there is no room, for which 128 arcs and 5 numbers are enough; the
 /// buffers are then as they were.
 #[unsafe(no_mangle)]
-pub extern "C" fn snmpsec_binding_read(
+pub extern "C" fn proved_binding_read(
     list: &[u8],
     at: usize,
     arcs: &mut [u32],
@@ -27,7 +27,7 @@ pub extern "C" fn snmpsec_binding_read(
 /// bits are all ones or it is above 255, or the content has more than 65,507 octets; 14 for want of memory;
 /// and -5 where there is no room, and the octets are counted too.
 #[unsafe(no_mangle)]
-pub extern "C" fn snmpsec_binding_write(
+pub extern "C" fn proved_binding_write(
     alloc: Global,
     arcs: &[u32],
     tag: u32,

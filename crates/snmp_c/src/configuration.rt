@@ -20,7 +20,7 @@ use std::alloc::Global;
 /// then; and -5 where the text is longer than the buffer: then the numbers are told, and how many octets the
 /// text has.
 #[unsafe(no_mangle)]
-pub extern "C" fn snmpsec_config_fault(
+pub extern "C" fn proved_config_fault(
     alloc: Global,
     config: &[u8],
     numbers: &mut [usize],

@@ -17,7 +17,7 @@ use snmp_msg::value_is;
 /// The sender's msgMaxSize of the message that is kept, 484 to 2147483647: how long a Response to it may be
 /// (RFC 3412, section 6.3). It answers -2 where no message is kept.
 #[unsafe(no_mangle)]
-pub unsafe extern "C" fn snmpsec_agent_max_size(at: *mut u8) -> i64
+pub unsafe extern "C" fn proved_agent_max_size(at: *mut u8) -> i64
     ghost held: { AgentHeld }
     requires* { sem 𝓛 (lies_at agents.the_row full_share at held) }
     ensures* { ∃ₛ (λ (new : AgentHeld). sem 𝓛
@@ -26,11 +26,11 @@ pub unsafe extern "C" fn snmpsec_agent_max_size(at: *mut u8) -> i64
     max_size(&mut *(at as *mut AgentHandle))
 }
 
-/// What `snmpsec_agent_respond` writes where that has at most `limit` octets, and else 16 (TooLarge): then a
+/// What `proved_agent_respond` writes where that has at most `limit` octets, and else 16 (TooLarge): then a
 /// tooBig is sent by calling it again with status 1 and no bindings (RFC 3416, section 4.2.1), for which 484
 /// octets are enough.
 #[unsafe(no_mangle)]
-pub unsafe extern "C" fn snmpsec_agent_respond_within(
+pub unsafe extern "C" fn proved_agent_respond_within(
     at: *mut u8,
     now: u64,
     status: u32,
@@ -61,7 +61,7 @@ pub unsafe extern "C" fn snmpsec_agent_respond_within(
 /// is sealed, whatever is left out. Where it doesn't answer 0, nothing changes, `count` neither: 16
 /// (TooLarge) means that there is no room even for a Response without bindings.
 #[unsafe(no_mangle)]
-pub unsafe extern "C" fn snmpsec_agent_respond_front(
+pub unsafe extern "C" fn proved_agent_respond_front(
     at: *mut u8,
     now: u64,
     status: u32,
@@ -94,7 +94,7 @@ pub unsafe extern "C" fn snmpsec_agent_respond_front(
 /// its PDU is no GetRequest, GetNextRequest, SetRequest or GetBulkRequest (RFC 3412, section 4.2.2); 9 where
 /// there is no context of its name (RFC 3413, section 3.2). It answers -2 where no message is kept.
 #[unsafe(no_mangle)]
-pub unsafe extern "C" fn snmpsec_agent_unhandled(at: *mut u8) -> i32
+pub unsafe extern "C" fn proved_agent_unhandled(at: *mut u8) -> i32
     ghost held: { AgentHeld }
     requires* { sem 𝓛 (lies_at agents.the_row full_share at held) }
     ensures* { ∃ₛ (λ (new : AgentHeld). sem 𝓛
@@ -103,13 +103,13 @@ pub unsafe extern "C" fn snmpsec_agent_unhandled(at: *mut u8) -> i32
     unhandled(&mut *(at as *mut AgentHandle))
 }
 
-/// Counts the message that is kept as one that isn't answered, for a reason of `snmpsec_agent_unhandled` or 8
+/// Counts the message that is kept as one that isn't answered, for a reason of `proved_agent_unhandled` or 8
 /// (a context that can't be reached now), and leaves the report on it as the message to be sent, where its
 /// PDU asks for an answer; else there is none. Each salt is to be another one, at authPriv. Where it doesn't
 /// answer 0, nothing changes: it answers -1 where no reason has the number, -2 where no message is kept, and
 /// the refusals of sending: 15, 7, 8, 14.
 #[unsafe(no_mangle)]
-pub unsafe extern "C" fn snmpsec_agent_refuse(at: *mut u8, now: u64, why: u32, salt: u64) -> i32
+pub unsafe extern "C" fn proved_agent_refuse(at: *mut u8, now: u64, why: u32, salt: u64) -> i32
     ghost held: { AgentHeld }
     requires* { sem 𝓛 (lies_at agents.the_row full_share at held) }
     ensures* { ∃ₛ (λ (new : AgentHeld). sem 𝓛
@@ -122,7 +122,7 @@ pub unsafe extern "C" fn snmpsec_agent_refuse(at: *mut u8, now: u64, why: u32, s
 /// snmpUnknownContexts, 10 snmpInBadVersions, 11 snmpInASNParseErrs, 12 snmpUnknownSecurityModels, 13
 /// snmpInvalidMsgs, 14 snmpSilentDrops; or -1 where none has the number.
 #[unsafe(no_mangle)]
-pub unsafe extern "C" fn snmpsec_agent_count(at: *mut u8, n: u32) -> i64
+pub unsafe extern "C" fn proved_agent_count(at: *mut u8, n: u32) -> i64
     ghost held: { AgentHeld }
     requires* { sem 𝓛 (lies_at agents.the_row full_share at held) }
     ensures* { ∃ₛ (λ (new : AgentHeld). sem 𝓛
@@ -134,7 +134,7 @@ pub unsafe extern "C" fn snmpsec_agent_count(at: *mut u8, n: u32) -> i64
 /// Counts a request in snmpSilentDrops: even its answer without bindings is too long (RFC 3416, section
 /// 4.2.1). It answers 0.
 #[unsafe(no_mangle)]
-pub unsafe extern "C" fn snmpsec_agent_silent_drop(at: *mut u8) -> i32
+pub unsafe extern "C" fn proved_agent_silent_drop(at: *mut u8) -> i32
     ghost held: { AgentHeld }
     requires* { sem 𝓛 (lies_at agents.the_row full_share at held) }
     ensures* { ∃ₛ (λ (new : AgentHeld). sem 𝓛
@@ -143,13 +143,13 @@ pub unsafe extern "C" fn snmpsec_agent_silent_drop(at: *mut u8) -> i32
     silent_drop(&mut *(at as *mut AgentHandle))
 }
 
-/// What becomes of a variable for which `snmpsec_agent_allows` answered so, 0 to 5, in a request whose PDU
-/// has this tag (RFC 3413, section 3.2): 0 where it is answered, the error-status 6 (noAccess) or 16
+/// What becomes of a variable for which `proved_agent_allows` answered so, 0 to 5, in a request whose PDU has
+/// this tag (RFC 3413, section 3.2): 0 where it is answered, the error-status 6 (noAccess) or 16
 /// (authorizationError), 128 where its value is noSuchObject, 256 where a walk goes on behind it, and 257
 /// where the message is refused as of an unknown context. It answers -1 where no answer has the number or the
 /// tag is above 255.
 #[unsafe(no_mangle)]
-pub extern "C" fn snmpsec_status_of(access: u32, tag: u32) -> i32
+pub extern "C" fn proved_status_of(access: u32, tag: u32) -> i32
     ensures { IsStatusCode access tag result }
 {
     status_code_of(access, tag)
@@ -159,7 +159,7 @@ pub extern "C" fn snmpsec_status_of(access: u32, tag: u32) -> i32
 /// it is, and 0 where the tag is of no value or the content isn't of its form. It answers -1 where the tag is
 /// above 255.
 #[unsafe(no_mangle)]
-pub extern "C" fn snmpsec_value_is(tag: u32, content: &[u8]) -> i32
+pub extern "C" fn proved_value_is(tag: u32, content: &[u8]) -> i32
     ensures { IsValueCode tag content.now result }
 {
     if tag > 255 {

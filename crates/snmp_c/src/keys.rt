@@ -16,7 +16,7 @@ use usm_keys::{Auth, Key, localise, mac, password_key};
 /// It answers -1 where no protocol has the number or the password has fewer than 8 octets, and else -5 where
 /// the buffer is too short. Nothing is written then, and no octets are counted.
 #[unsafe(no_mangle)]
-pub extern "C" fn snmpsec_password_key(
+pub extern "C" fn proved_password_key(
     protocol: u32,
     password: &[u8],
     out: &mut [u8],
@@ -32,7 +32,7 @@ pub extern "C" fn snmpsec_password_key(
 /// It answers -1 where no protocol has the number, the key has more than 32 octets or the engine ID hasn't 5
 /// to 32, and else -5 where the buffer is too short. Nothing is written then, and no octets are counted.
 #[unsafe(no_mangle)]
-pub extern "C" fn snmpsec_localise(
+pub extern "C" fn proved_localise(
     protocol: u32,
     key: &[u8],
     engine: &[u8],
@@ -51,7 +51,7 @@ pub extern "C" fn snmpsec_localise(
 /// It answers -1 where no protocol has the number, the key has more than 32 octets or the zeros are more than
 /// 24, and else -5 where the buffer is too short. Nothing is written then, and no octets are counted.
 #[unsafe(no_mangle)]
-pub extern "C" fn snmpsec_mac(
+pub extern "C" fn proved_mac(
     protocol: u32,
     key: &[u8],
     front: &[u8],

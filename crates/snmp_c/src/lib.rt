@@ -1,4 +1,4 @@
-//! What programs in C, Rust and Python call.
+//! What the C in `lib/src` calls, for programs in C, Rust and Python.
 //!
 //! An export on a handle takes a pointer that its `_new` wrote; what lies there is lent to one call and comes
 //! back as its contract says. All other arguments may be anything: what is out of range is answered by a

@@ -19,7 +19,7 @@ use std::alloc::Global;
 /// it. Where it answers another number than 0, nothing is written: -7 where the text saves no clocks, -6
 /// where the configuration is refused, 14 for want of memory.
 #[unsafe(no_mangle)]
-pub extern "C" fn snmpsec_manager_new(
+pub extern "C" fn proved_manager_new(
     alloc: Global,
     config: &[u8],
     clocks: &[u8],
@@ -44,7 +44,7 @@ pub extern "C" fn snmpsec_manager_new(
 /// Gives back all memory but the block at the pointer, for which the caller then calls the heap's
 /// `rattle_dealloc`: it answers 14, and nothing is given back, for want of memory.
 #[unsafe(no_mangle)]
-pub unsafe extern "C" fn snmpsec_manager_clear(at: *mut u8) -> i32
+pub unsafe extern "C" fn proved_manager_clear(at: *mut u8) -> i32
     ghost held: { ManagerHeld }
     requires* { sem 𝓛 (lies_at managers.the_row full_share at held) }
     ensures* { ∃ₛ (λ (new : ManagerHeld). sem 𝓛
@@ -56,7 +56,7 @@ pub unsafe extern "C" fn snmpsec_manager_clear(at: *mut u8) -> i32
 /// Takes a datagram at the moment `now`, in seconds, and learns its pair where it is authentic. Where it
 /// answers 0 the message is accepted and kept; a refusal is answered by its number, 1 to 18.
 #[unsafe(no_mangle)]
-pub unsafe extern "C" fn snmpsec_manager_take(at: *mut u8, now: u64, datagram: &[u8]) -> i32
+pub unsafe extern "C" fn proved_manager_take(at: *mut u8, now: u64, datagram: &[u8]) -> i32
     ghost held: { ManagerHeld }
     requires* { sem 𝓛 (lies_at managers.the_row full_share at held) }
     ensures* { ∃ₛ (λ (new : ManagerHeld). sem 𝓛
@@ -69,7 +69,7 @@ pub unsafe extern "C" fn snmpsec_manager_take(at: *mut u8, now: u64, datagram: &
 /// Report that names no counter, 11 to 16 a Report of the counter 1 to 6; -2 where no message is kept or no
 /// request was written.
 #[unsafe(no_mangle)]
-pub unsafe extern "C" fn snmpsec_manager_answer(at: *mut u8) -> i32
+pub unsafe extern "C" fn proved_manager_answer(at: *mut u8) -> i32
     ghost held: { ManagerHeld }
     requires* { sem 𝓛 (lies_at managers.the_row full_share at held) }
     ensures* { ∃ₛ (λ (new : ManagerHeld). sem 𝓛
@@ -83,7 +83,7 @@ pub unsafe extern "C" fn snmpsec_manager_answer(at: *mut u8) -> i32
 /// where a number or a length is out of its range, -4 where the octets aren't bindings, and the refusals of
 /// sending: 7, 8, 16, 14. Then nothing changes.
 #[unsafe(no_mangle)]
-pub unsafe extern "C" fn snmpsec_manager_request(
+pub unsafe extern "C" fn proved_manager_request(
     at: *mut u8,
     now: u64,
     id: u32,
@@ -136,7 +136,7 @@ pub unsafe extern "C" fn snmpsec_manager_request(
 /// Writes the request by which an engine is discovered, with this msgID, leaves it as the message to be sent
 /// and waits for its answer. It answers -1 where the msgID is above 2147483647, and 14 for want of memory.
 #[unsafe(no_mangle)]
-pub unsafe extern "C" fn snmpsec_manager_discover(at: *mut u8, id: u32) -> i32
+pub unsafe extern "C" fn proved_manager_discover(at: *mut u8, id: u32) -> i32
     ghost held: { ManagerHeld }
     requires* { sem 𝓛 (lies_at managers.the_row full_share at held) }
     ensures* { ∃ₛ (λ (new : ManagerHeld). sem 𝓛
@@ -148,7 +148,7 @@ pub unsafe extern "C" fn snmpsec_manager_discover(at: *mut u8, id: u32) -> i32
 /// Joins in the clocks of this saved text, where the marks of version 1 were seen at the moment `now`. It
 /// answers -7 where the text saves none, and 14 for want of memory; then nothing changes.
 #[unsafe(no_mangle)]
-pub unsafe extern "C" fn snmpsec_manager_absorb(at: *mut u8, text: &[u8], now: u64) -> i32
+pub unsafe extern "C" fn proved_manager_absorb(at: *mut u8, text: &[u8], now: u64) -> i32
     ghost held: { ManagerHeld }
     requires* { sem 𝓛 (lies_at managers.the_row full_share at held) }
     ensures* { ∃ₛ (λ (new : ManagerHeld). sem 𝓛
@@ -159,7 +159,7 @@ pub unsafe extern "C" fn snmpsec_manager_absorb(at: *mut u8, text: &[u8], now: u
 
 /// Leaves the saved text of the clocks as the message. It answers 14 for want of memory, and then nothing changes.
 #[unsafe(no_mangle)]
-pub unsafe extern "C" fn snmpsec_manager_save(at: *mut u8) -> i32
+pub unsafe extern "C" fn proved_manager_save(at: *mut u8) -> i32
     ghost held: { ManagerHeld }
     requires* { sem 𝓛 (lies_at managers.the_row full_share at held) }
     ensures* { ∃ₛ (λ (new : ManagerHeld). sem 𝓛
@@ -171,7 +171,7 @@ pub unsafe extern "C" fn snmpsec_manager_save(at: *mut u8) -> i32
 /// Writes the boots and the time that are held of the engine. It answers -1 where the ID hasn't 5 to 32
 /// octets, and -2 where nothing is held; then nothing is written.
 #[unsafe(no_mangle)]
-pub unsafe extern "C" fn snmpsec_manager_pair(
+pub unsafe extern "C" fn proved_manager_pair(
     at: *mut u8,
     engine: &[u8],
     boots: &mut u32,
@@ -186,9 +186,9 @@ pub unsafe extern "C" fn snmpsec_manager_pair(
     pair(&mut *(at as *mut ManagerHandle), engine, boots, time)
 }
 
-/// Copies a part of the message that is kept, as `snmpsec_agent_part` does.
+/// Copies a part of the message that is kept, as `proved_agent_part` does.
 #[unsafe(no_mangle)]
-pub unsafe extern "C" fn snmpsec_manager_part(
+pub unsafe extern "C" fn proved_manager_part(
     at: *mut u8,
     number: u32,
     out: &mut [u8],
@@ -205,7 +205,7 @@ pub unsafe extern "C" fn snmpsec_manager_part(
 
 /// Copies the message in the same way: the request that was written last, or the saved text.
 #[unsafe(no_mangle)]
-pub unsafe extern "C" fn snmpsec_manager_message(
+pub unsafe extern "C" fn proved_manager_message(
     at: *mut u8,
     out: &mut [u8],
     written: &mut usize,
@@ -219,9 +219,9 @@ pub unsafe extern "C" fn snmpsec_manager_message(
     message(&mut *(at as *mut ManagerHandle), out, written)
 }
 
-/// Writes the six numbers of the message that is kept, as `snmpsec_agent_numbers` does.
+/// Writes the six numbers of the message that is kept, as `proved_agent_numbers` does.
 #[unsafe(no_mangle)]
-pub unsafe extern "C" fn snmpsec_manager_numbers(at: *mut u8, out: &mut [i32]) -> i32
+pub unsafe extern "C" fn proved_manager_numbers(at: *mut u8, out: &mut [i32]) -> i32
     ghost held: { ManagerHeld }
     requires* { sem 𝓛 (lies_at managers.the_row full_share at held) }
     ensures* { ∃ₛ (λ (new : ManagerHeld). sem 𝓛

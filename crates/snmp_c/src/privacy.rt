@@ -12,7 +12,7 @@ use usm_aes::{cfb_open, cfb_seal, expand, iv};
 ///
 /// It answers -1 where the key hasn't 16 octets or the salt hasn't 8; the text is then as it was.
 #[unsafe(no_mangle)]
-pub extern "C" fn snmpsec_seal(
+pub extern "C" fn proved_seal(
     key: &[u8],
     boots: u32,
     time: u32,
@@ -29,7 +29,7 @@ pub extern "C" fn snmpsec_seal(
 ///
 /// It answers -1 where the key hasn't 16 octets or the salt hasn't 8; the text is then as it was.
 #[unsafe(no_mangle)]
-pub extern "C" fn snmpsec_open(
+pub extern "C" fn proved_open(
     key: &[u8],
     boots: u32,
     time: u32,

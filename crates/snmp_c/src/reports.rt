@@ -11,7 +11,7 @@ use snmp_handles::ManagerHandle;
 
 /// The sender's msgMaxSize of the message that is kept, 484 to 2147483647. It answers -2 where no message is kept.
 #[unsafe(no_mangle)]
-pub unsafe extern "C" fn snmpsec_manager_max_size(at: *mut u8) -> i64
+pub unsafe extern "C" fn proved_manager_max_size(at: *mut u8) -> i64
     ghost held: { ManagerHeld }
     requires* { sem 𝓛 (lies_at managers.the_row full_share at held) }
     ensures* { ∃ₛ (λ (new : ManagerHeld). sem 𝓛
@@ -20,10 +20,10 @@ pub unsafe extern "C" fn snmpsec_manager_max_size(at: *mut u8) -> i64
     max_size(&mut *(at as *mut ManagerHandle))
 }
 
-/// What `snmpsec_manager_answer` answers; and where that is 0, the Response, the request isn't waited for any
+/// What `proved_manager_answer` answers; and where that is 0, the Response, the request isn't waited for any
 /// more: the same message again is -2.
 #[unsafe(no_mangle)]
-pub unsafe extern "C" fn snmpsec_manager_take_answer(at: *mut u8) -> i32
+pub unsafe extern "C" fn proved_manager_take_answer(at: *mut u8) -> i32
     ghost held: { ManagerHeld }
     requires* { sem 𝓛 (lies_at managers.the_row full_share at held) }
     ensures* { ∃ₛ (λ (new : ManagerHeld). sem 𝓛
@@ -38,7 +38,7 @@ pub unsafe extern "C" fn snmpsec_manager_take_answer(at: *mut u8) -> i32
 /// authentication, or 0. It answers 1 where it is no such Report, -2 where no message is kept or no request
 /// is waited for, and -5 where there is no room for three.
 #[unsafe(no_mangle)]
-pub unsafe extern "C" fn snmpsec_manager_report(at: *mut u8, out: &mut [i64]) -> i32
+pub unsafe extern "C" fn proved_manager_report(at: *mut u8, out: &mut [i64]) -> i32
     ghost held: { ManagerHeld }
     requires* { sem 𝓛 (lies_at managers.the_row full_share at held) }
     ensures* { ∃ₛ (λ (new : ManagerHeld). sem 𝓛

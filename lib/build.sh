@@ -1,0 +1,54 @@
+#!/bin/sh
+# Proves and builds the library, where it isn't built from these sources, and what stands in this folder, into lib/out:
+# build.sh [CFLAGS..]
+#
+# OUT is another folder than lib/out, CC another compiler than cc. With NO_LIBRARY the archive is taken as it lies there.
+# With OVER_CI it is built over the libraries that rt ci has left. The sources are those that CMakeLists.txt lists.
+# CMakeLists.txt builds what is installed; this wants a C compiler alone.
+set -e
+here=$(cd "$(dirname "$0")" && pwd)
+out=${OUT:-$here/out}
+archive=$here/../crates/snmp_c/out/libsnmp_c.a
+mkdir -p "$out"
+[ -n "$NO_LIBRARY" ] || (cd "$here/.." && tools/build ${OVER_CI:+--over-ci} snmp_c)
+cc="${CC:-cc} -std=c11 -O2 -Wall -Wextra -Werror -I$here/include"
+
+# listed NAME: the sources of this name in CMakeLists.txt
+listed() { sed -n "s/^set($1 \(.*\))\$/\1/p" "$here/CMakeLists.txt"; }
+
+proved="-Wl,--whole-archive $archive -Wl,--no-whole-archive"
+library=$proved
+# with nothing wiped
+plain="$proved $here/tests/plain.c"
+for source in $(listed library_sources); do
+    part=$out/$(basename "$source" .c).o
+    $cc -fPIC -fvisibility=hidden -Wconversion "$@" -c "$here/$source" -o "$part"
+    library="$library $part"
+    case $source in */heap.c | */wipe.c) ;; *) plain="$plain $part" ;; esac
+done
+beside=
+for source in $(listed example_sources); do
+    part=$out/$(basename "$source" .c).o
+    $cc -Wconversion "$@" -c "$here/$source" -o "$part"
+    beside="$beside $part"
+done
+for program in agent poll; do
+    $cc -Wconversion "$@" "$here/examples/$program.c" $beside $library -o "$out/$program"
+done
+names="-Wl,-soname,libsnmpsec.so.0 -Wl,--version-script=$here/src/snmpsec.map"
+$cc -shared "$@" $library $names -o "$out/libsnmpsec.so.0"
+# what a linker finds by -lsnmpsec
+echo 'INPUT(-l:libsnmpsec.so.0)' > "$out/libsnmpsec.so"
+
+cc="$cc -I$here/src -I$here/examples"
+for test in calls manager_calls bindings keys exchange hostile; do
+    checks="$here/tests/checks.c $out/words_of.o"
+    $cc "$@" -Wl,--wrap=malloc,--wrap=realloc "$here/tests/$test.c" $checks $library -o "$out/$test"
+done
+$cc "$@" "$here/tests/hold.c" "$out/words_of.o" $library -o "$out/hold"
+$cc "$@" -pthread "$here/tests/threads.c" $library -o "$out/threads"
+$cc "$@" "$here/tests/page.c" $library "$here/tests/cost.c" -o "$out/cost"
+$cc "$@" "$here/tests/page.c" $plain "$here/tests/cost.c" -o "$out/cost_plain"
+$cc "$@" "$here/tests/stack.c" $plain -o "$out/stack"
+$cc "$@" "$here/tests/boots.c" "$out/files.o" -o "$out/boots"
+echo "built in $out"

@@ -1,0 +1,38 @@
+#!/bin/bash
+# Builds the Debian packages libsnmpsec0, libsnmpsec-dev, python3-snmpsec and snmpsec, and a wheel with the library in it, into a folder:
+# packages.sh OUT
+#
+# It proves and builds the library and the program first, where they aren't built from these sources; with NO_LIBRARY they are taken as they
+# lie there. It wants debhelper, dh-python, pybuild-plugin-pyproject, python3-hatchling and cmake. OUT lies outside of the repository, since
+# the packages' tree has symbolic links.
+set -e
+here=$(cd "$(dirname "$0")" && pwd)
+repository=$(cd "$here/.." && pwd)
+[ -n "$1" ] || { sed -n '2,3p' "$0"; exit 2; }
+mkdir -p "$1"
+out=$(cd "$1" && pwd)
+[ -n "$NO_LIBRARY" ] || (cd "$repository" && tools/build snmp_c snmpsec)
+export SNMPSEC_ARCHIVE=$repository/crates/snmp_c/out/libsnmp_c.a SNMPSEC_PROGRAM=${SNMPSEC_PROGRAM:-$repository/crates/snmpsec/out/snmpsec}
+(cd "$repository" && tools/check-proved "$SNMPSEC_ARCHIVE" "$SNMPSEC_PROGRAM")
+# (Debian's Python has the tools, whichever is first on the path)
+export PATH=/usr/sbin:/usr/bin:/sbin:/bin
+
+version=$(sed -n 's/#define SNMPSEC_VERSION "\(.*\)"/\1/p' "$here/include/snmpsec.h")
+tree=$out/snmpsec-$version
+rm -rf "$tree"
+mkdir -p "$tree/docs" "$tree/tools"
+(cd "$repository" && tar c --exclude=lib/out --exclude=lib/rust/target --exclude=__pycache__ lib) | tar x -C "$tree"
+chmod -R u+w "$tree"
+mv "$tree/lib/debian" "$tree/debian"
+cp "$repository/docs/snmpsec.1" "$tree/docs"
+cp "$repository/tools/snmpsec.bash" "$repository/tools/_snmpsec" "$tree/tools"
+(cd "$out" && tar czf "snmpsec_$version.orig.tar.gz" --exclude=debian "snmpsec-$version")
+(cd "$tree" && DEB_BUILD_OPTIONS=noautodbgsym dpkg-buildpackage -us -uc -b)
+
+# The wheel has the library of the package; its tag follows from the greatest version of the C library's symbols.
+shared=$(find "$tree/debian/libsnmpsec0" -name 'libsnmpsec.so.0.*' -type f)
+libc=$(objdump -T "$shared" | grep -o 'GLIBC_[0-9.]*' | sort -V | tail -1)
+libc=${libc#GLIBC_}
+cd "$tree/lib/python"
+SNMPSEC_WHEEL_LIBRARY=$shared SNMPSEC_WHEEL_PLATFORM=manylinux_${libc/./_}_$(uname -m) \
+    python3 -c 'import hatchling.build, sys; print(hatchling.build.build_wheel(sys.argv[1]))' "$out"

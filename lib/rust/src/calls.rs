@@ -1,0 +1,355 @@
+//! The header's signatures again: `lib/tests/signatures.py` has the C compiler compare them with the header. An enumeration is a `u32`.
+//!
+//! Why the calls of this crate are sound: a handle is a `Held`'s, which one thread uses at a time and which is freed once; and each pointer
+//! is that of a slice beside its length, or of a number or a struct.
+
+use std::ffi::{c_char, c_void};
+use std::marker::PhantomData;
+
+#[repr(C)]
+pub struct Opaque {
+    _private: [u8; 0],
+}
+
+/// Octets of a slice.
+#[repr(C)]
+#[derive(Clone, Copy)]
+pub struct Octets<'a> {
+    at: *const u8,
+    len: usize,
+    _of: PhantomData<&'a [u8]>,
+}
+
+impl<'a> From<&'a [u8]> for Octets<'a> {
+    fn from(octets: &'a [u8]) -> Self {
+        Octets {
+            at: octets.as_ptr(),
+            len: octets.len(),
+            _of: PhantomData,
+        }
+    }
+}
+
+#[repr(C)]
+#[derive(Default)]
+pub struct Info {
+    pub level: i32,
+    pub pdu: i32,
+    pub request_id: i32,
+    pub error_status: i32,
+    pub error_index: i32,
+    pub message_id: i32,
+}
+
+#[repr(C)]
+#[derive(Default)]
+pub struct Counters {
+    pub unsupported_levels: u32,
+    pub not_in_windows: u32,
+    pub unknown_users: u32,
+    pub unknown_engines: u32,
+    pub wrong_digests: u32,
+    pub decryption_errors: u32,
+}
+
+#[repr(C)]
+#[derive(Default)]
+pub struct Counts {
+    pub unknown_pdu_handlers: u32,
+    pub unavailable_contexts: u32,
+    pub unknown_contexts: u32,
+    pub bad_versions: u32,
+    pub asn_parse_errors: u32,
+    pub unknown_security_models: u32,
+    pub invalid_messages: u32,
+    pub silent_drops: u32,
+}
+
+#[repr(C)]
+#[derive(Default)]
+pub struct Report {
+    pub counter: i32,
+    pub value: u32,
+    pub has_value: bool,
+    pub is_authenticated: bool,
+}
+
+#[repr(C)]
+#[derive(Default)]
+pub struct Reply {
+    pub kind: u32,
+    pub counter: i32,
+}
+
+#[repr(C)]
+#[derive(Default)]
+pub struct Clock {
+    pub boots: u32,
+    pub time: u32,
+}
+
+#[repr(C)]
+#[derive(Default)]
+pub struct ConfigPlace {
+    pub table: usize,
+    pub position: usize,
+    pub reason: usize,
+    pub key: usize,
+}
+
+#[repr(C)]
+pub struct Notice<'a> {
+    pub message_id: u32,
+    pub request_id: u32,
+    pub level: u32,
+    pub user: Octets<'a>,
+    pub context_engine: Octets<'a>,
+    pub context_name: Octets<'a>,
+    pub list: Octets<'a>,
+    pub salt: u64,
+}
+
+#[repr(C)]
+pub struct Request<'a> {
+    pub pdu: u32,
+    pub message_id: u32,
+    pub request_id: u32,
+    pub error_status: u32,
+    pub error_index: u32,
+    pub level: u32,
+    pub engine: Octets<'a>,
+    pub user: Octets<'a>,
+    pub context_engine: Octets<'a>,
+    pub context_name: Octets<'a>,
+    pub list: Octets<'a>,
+    pub salt: u64,
+}
+
+#[repr(C)]
+pub struct BindingRead {
+    pub arcs: [u32; 128],
+    pub arcs_len: usize,
+    pub tag: u8,
+    pub content: *const u8,
+    pub content_len: usize,
+}
+
+extern "C" {
+    pub fn snmpsec_version() -> *const c_char;
+    pub fn snmpsec_strerror(answer: i32) -> *const c_char;
+    pub fn snmpsec_config_fault(
+        config: *const u8,
+        config_len: usize,
+        place: *mut ConfigPlace,
+        out: *mut u8,
+        len: usize,
+        written: *mut usize,
+    ) -> i32;
+    pub fn snmpsec_agent_new(
+        config: *const u8,
+        config_len: usize,
+        engine: *const u8,
+        engine_len: usize,
+        boots: u32,
+        started: u64,
+        out: *mut *mut Opaque,
+    ) -> i32;
+    pub fn snmpsec_agent_free(agent: *mut Opaque);
+    pub fn snmpsec_agent_take(agent: *mut Opaque, now: u64, datagram: *const u8, len: usize)
+        -> i32;
+    pub fn snmpsec_agent_info(agent: *mut Opaque, out: *mut Info) -> i32;
+    pub fn snmpsec_agent_part(
+        agent: *mut Opaque,
+        part: u32,
+        out: *mut u8,
+        len: usize,
+        written: *mut usize,
+    ) -> i32;
+    pub fn snmpsec_agent_message(
+        agent: *mut Opaque,
+        out: *mut u8,
+        len: usize,
+        written: *mut usize,
+    ) -> i32;
+    pub fn snmpsec_agent_access(
+        agent: *mut Opaque,
+        view: u32,
+        arcs: *const u32,
+        len: usize,
+        out: *mut u32,
+    ) -> i32;
+    pub fn snmpsec_agent_user_access(
+        agent: *mut Opaque,
+        user: Octets<'_>,
+        level: u32,
+        context: Octets<'_>,
+        view: u32,
+        arcs: *const u32,
+        len: usize,
+        out: *mut u32,
+    ) -> i32;
+    pub fn snmpsec_agent_respond(
+        agent: *mut Opaque,
+        now: u64,
+        error_status: u32,
+        error_index: u32,
+        list: *const u8,
+        len: usize,
+        salt: u64,
+    ) -> i32;
+    pub fn snmpsec_agent_respond_within(
+        agent: *mut Opaque,
+        now: u64,
+        error_status: u32,
+        error_index: u32,
+        list: *const u8,
+        len: usize,
+        salt: u64,
+        limit: u32,
+    ) -> i32;
+    pub fn snmpsec_agent_respond_front(
+        agent: *mut Opaque,
+        now: u64,
+        error_status: u32,
+        error_index: u32,
+        list: *const u8,
+        len: usize,
+        salt: u64,
+        limit: u32,
+        count: *mut usize,
+    ) -> i32;
+    pub fn snmpsec_agent_max_size(agent: *mut Opaque, out: *mut u32) -> i32;
+    pub fn snmpsec_agent_unhandled(agent: *mut Opaque, out: *mut u32) -> i32;
+    pub fn snmpsec_agent_refuse(agent: *mut Opaque, now: u64, why: u32, salt: u64) -> i32;
+    pub fn snmpsec_agent_silent_drop(agent: *mut Opaque) -> i32;
+    pub fn snmpsec_agent_counts(agent: *mut Opaque, out: *mut Counts) -> i32;
+    pub fn snmpsec_status_of(access: u32, pdu: u32, out: *mut u32) -> i32;
+    pub fn snmpsec_agent_notify(agent: *mut Opaque, now: u64, notice: *const Notice<'_>) -> i32;
+    pub fn snmpsec_agent_counters(agent: *mut Opaque, out: *mut Counters) -> i32;
+    pub fn snmpsec_manager_new(
+        config: *const u8,
+        config_len: usize,
+        clocks: *const u8,
+        clocks_len: usize,
+        now: u64,
+        out: *mut *mut Opaque,
+    ) -> i32;
+    pub fn snmpsec_manager_free(manager: *mut Opaque);
+    pub fn snmpsec_manager_take(
+        manager: *mut Opaque,
+        now: u64,
+        datagram: *const u8,
+        len: usize,
+    ) -> i32;
+    pub fn snmpsec_manager_info(manager: *mut Opaque, out: *mut Info) -> i32;
+    pub fn snmpsec_manager_part(
+        manager: *mut Opaque,
+        part: u32,
+        out: *mut u8,
+        len: usize,
+        written: *mut usize,
+    ) -> i32;
+    pub fn snmpsec_manager_message(
+        manager: *mut Opaque,
+        out: *mut u8,
+        len: usize,
+        written: *mut usize,
+    ) -> i32;
+    pub fn snmpsec_manager_reply(manager: *mut Opaque, out: *mut Reply) -> i32;
+    pub fn snmpsec_manager_take_reply(manager: *mut Opaque, out: *mut Reply) -> i32;
+    pub fn snmpsec_manager_report(manager: *mut Opaque, out: *mut Report) -> i32;
+    pub fn snmpsec_manager_max_size(manager: *mut Opaque, out: *mut u32) -> i32;
+    pub fn snmpsec_manager_discover(manager: *mut Opaque, message_id: u32) -> i32;
+    pub fn snmpsec_manager_request(
+        manager: *mut Opaque,
+        now: u64,
+        request: *const Request<'_>,
+    ) -> i32;
+    pub fn snmpsec_manager_absorb(
+        manager: *mut Opaque,
+        text: *const u8,
+        len: usize,
+        now: u64,
+    ) -> i32;
+    pub fn snmpsec_manager_save(
+        manager: *mut Opaque,
+        out: *mut u8,
+        len: usize,
+        written: *mut usize,
+    ) -> i32;
+    pub fn snmpsec_manager_clock(
+        manager: *mut Opaque,
+        engine: *const u8,
+        engine_len: usize,
+        out: *mut Clock,
+    ) -> i32;
+    pub fn snmpsec_binding_read(
+        list: *const u8,
+        list_len: usize,
+        at: *mut usize,
+        out: *mut BindingRead,
+    ) -> i32;
+    pub fn snmpsec_binding_write(
+        arcs: *const u32,
+        arcs_len: usize,
+        tag: u8,
+        content: *const u8,
+        content_len: usize,
+        out: *mut u8,
+        len: usize,
+        written: *mut usize,
+    ) -> i32;
+    pub fn snmpsec_value_is(tag: u8, content: *const u8, len: usize) -> bool;
+    pub fn snmpsec_password_key(
+        protocol: u32,
+        password: *const u8,
+        password_len: usize,
+        out: *mut u8,
+        len: usize,
+        written: *mut usize,
+    ) -> i32;
+    pub fn snmpsec_localise(
+        protocol: u32,
+        key: *const u8,
+        key_len: usize,
+        engine: *const u8,
+        engine_len: usize,
+        out: *mut u8,
+        len: usize,
+        written: *mut usize,
+    ) -> i32;
+    pub fn snmpsec_mac(
+        protocol: u32,
+        key: *const u8,
+        key_len: usize,
+        front: *const u8,
+        front_len: usize,
+        zeros: usize,
+        back: *const u8,
+        back_len: usize,
+        out: *mut u8,
+        len: usize,
+        written: *mut usize,
+    ) -> i32;
+    pub fn snmpsec_seal(
+        key: *const u8,
+        key_len: usize,
+        boots: u32,
+        time: u32,
+        salt: *const u8,
+        salt_len: usize,
+        text: *mut u8,
+        text_len: usize,
+    ) -> i32;
+    pub fn snmpsec_open(
+        key: *const u8,
+        key_len: usize,
+        boots: u32,
+        time: u32,
+        salt: *const u8,
+        salt_len: usize,
+        text: *mut u8,
+        text_len: usize,
+    ) -> i32;
+    pub fn snmpsec_wipe(octets: *mut c_void, octets_len: usize);
+}

@@ -1,0 +1,118 @@
+# The Debian packages and the wheel: built by one command, installed, used by the README's examples, and removed. test.sh runs this.
+missing_tools() { # the packages that packages.sh wants and that aren't there
+    local name
+    if ! command -v dpkg-query > /dev/null; then echo dpkg; return; fi
+    for name in debhelper dh-python pybuild-plugin-pyproject python3-all python3-hatchling cmake; do
+        dpkg-query -W -f '${Status}' "$name" 2> /dev/null | grep -q 'install ok installed' || echo "$name"
+    done
+}
+
+# As root, in a mount of its own over the system's files, which stay as they are: in_copy SCRIPT
+in_copy() {
+    unshare -m bash -c '
+        mount -t tmpfs none "$1" && mkdir "$1/upper" "$1/work" "$1/root" || exit 99
+        mount -t overlay overlay -o "lowerdir=/,upperdir=$1/upper,workdir=$1/work" "$1/root" || exit 99
+        mount --rbind /proc "$1/root/proc" && mount --rbind /dev "$1/root/dev" && mount --rbind "$2" "$1/root$2" || exit 99
+        exec chroot "$1/root" bash -c "$3"' - "$work/copy" "$work" "$1"
+}
+
+# Which of the system's files there are where a package may put some, but for those of dpkg and caches.
+LISTED="(cd / && find usr etc lib* -xdev ! -path '*/__pycache__*' ! -name ld.so.cache | sort)"
+
+# The example programs, built of what the package has.
+build_examples() { # FOLDER: an unpacked libsnmpsec-dev
+    local program
+    cd "$1/usr/share/doc/libsnmpsec-dev/examples" || return
+    for program in agent poll; do
+        cc -I"$1/usr/include" $program.c $(basename -a $(listed example_sources)) "$OUT/libsnmpsec.so.0" -o "$1/$program" || return
+    done
+}
+
+test_debian() {
+    local packages=$work/packages name
+    for name in libsnmpsec0 libsnmpsec-dev python3-snmpsec snmpsec; do
+        check "the package $name" 1 "$(find "$packages" -maxdepth 1 -name "${name}_*.deb" | wc -l)"
+    done
+    check "no licence is named" 4 "$(for name in "$packages"/*.deb; do dpkg-deb --fsys-tarfile "$name" | tar xO --wildcards '*/copyright' 2> /dev/null | grep -l 'names no licence yet'; done | wc -l)"
+    dpkg-deb -x "$packages"/libsnmpsec-dev_*.deb "$work/development"
+    (build_examples "$work/development") > "$work/examples.out" 2>&1
+    check "the package's examples build" 0 $?
+    if command -v lintian > /dev/null; then
+        lintian --allow-root "$packages"/*.changes > "$work/lintian.out" 2>&1
+        check "lintian's errors" "" "$(grep '^E:' "$work/lintian.out")"
+        echo "lintian: $(grep -c '^W:' "$work/lintian.out") warnings"
+    else
+        echo "skipped: the packages judged by lintian (apt-get install lintian)"
+    fi
+}
+
+test_debian_installed() {
+    mkdir -p "$work/copy" "$work/user"
+    if [ "$(id -u)" != 0 ] || ! in_copy true 2> /dev/null; then echo "skipped: the packages installed, since only root may mount a copy of the system"; return; fi
+    example c > "$work/user/main.c"
+    example python > "$work/user/main.py"
+    cat > "$work/installed.sh" << SCRIPT
+cd $work/user
+$LISTED > $work/before
+dpkg -i $work/packages/*.deb > $work/dpkg.log 2>&1 || exit 9
+unset SNMPSEC_LIBRARY SNMPSEC_OUT PYTHONPATH
+PATH=/usr/sbin:/usr/bin:/sbin:/bin
+cc -Wall -Wextra -Werror main.c \$(pkg-config --cflags --libs snmpsec) -o shared && echo "C: \$(./shared)"
+cc main.c \$(pkg-config --cflags snmpsec) -l:libsnmpsec.a -o static && echo "static: \$(./static)"
+echo "Python: \$(python3 main.py)"
+echo "agent: \$(snmpsec-agent --version)"
+echo "program: \$(snmpsec show 3038020103300e020101020300ffe30401040201030410300e0400020100020100040004000400301104000400a00b0201010201000201003000 | head -1)"
+echo "pages: \$(man -w snmpsec snmpsec-agent snmpsec-poll 2> /dev/null | wc -l)"
+dpkg -P snmpsec python3-snmpsec libsnmpsec-dev libsnmpsec0 >> $work/dpkg.log 2>&1 || exit 9
+$LISTED > $work/after
+SCRIPT
+    in_copy "bash $work/installed.sh" > "$work/installed.out" 2>&1
+    check "the packages are installed and removed" 0 $?
+    local expected="discovered 80001f88046578616d706c65"
+    for name in "C: $expected" "static: $expected" "Python: $expected" "agent: $("$OUT/agent" --version)" "program: id 1"; do
+        has "the packages' ${name%%:*}" "$name" "$(cat "$work/installed.out")"
+    done
+    if command -v man > /dev/null; then has "the packages' manual pages" "pages: 3" "$(cat "$work/installed.out")"; fi
+    check "without a rest" "" "$(diff "$work/before" "$work/after")"
+}
+
+test_wheel() {
+    local wheel python=/usr/bin/python3
+    wheel=$(find "$work/packages" -maxdepth 1 -name 'snmpsec-*-py3-none-manylinux_*.whl')
+    check "the wheel" 1 "$(wc -w <<< "$wheel")"
+    command -v "$python" > /dev/null || python=python3
+    if ! python3 -m venv "$work/venv" > "$work/venv.log" 2>&1; then echo "skipped: the wheel installed: there is no venv"; return; fi
+    "$work/venv/bin/pip" install -q --no-index --disable-pip-version-check "$wheel" > "$work/venv.log" 2>&1
+    check "is installed" 0 $?
+    example python > "$work/main.py"
+    check "and used" "discovered 80001f88046578616d706c65" "$(unset SNMPSEC_LIBRARY PYTHONPATH; cd "$work" && "$work/venv/bin/python" main.py 2>&1)"
+    "$work/venv/bin/pip" uninstall -q -y snmpsec > "$work/venv.log" 2>&1
+    check "and removed without a rest" "" "$(find "$work/venv" -path '*snmpsec*')"
+}
+
+# Against the library of the last release, which SNMPSEC_RELEASED names.
+test_abi() {
+    if ! git -C "$here" describe --tags --abbrev=0 > /dev/null 2>&1; then echo "skipped: the ABI against the last release: there is no tag yet"; return; fi
+    if ! command -v abidiff > /dev/null; then echo "skipped: the ABI against the last release (apt-get install abigail-tools)"; return; fi
+    if [ -z "$SNMPSEC_RELEASED" ]; then echo "skipped: the ABI against the last release: SNMPSEC_RELEASED names no library of it"; return; fi
+    abidiff "$SNMPSEC_RELEASED" "$OUT/libsnmpsec.so.0" > "$work/abi.out" 2>&1
+    check "the ABI of the last release" 0 $(($? & 12))
+    cat "$work/abi.out"
+}
+
+test_packages() {
+    local missing
+    missing=$(missing_tools)
+    if [ -n "$missing" ]; then echo "skipped: the Debian packages and the wheel: there is no $(paste -sd' ' <<< "$missing")"; return; fi
+    if [ ! -x "$here/../crates/snmpsec/out/snmpsec" ]; then echo "skipped: the Debian packages: the program isn't built, which ./prove does"; return; fi
+    echo unproved_build > "$work/unproved"
+    has "no package is made of an unproved program" "is an unproved build" "$(NO_LIBRARY=1 SNMPSEC_PROGRAM=$work/unproved bash "$here/packages.sh" "$work/refused" 2>&1)"
+    NO_LIBRARY=1 bash "$here/packages.sh" "$work/packages" > "$work/packages.log" 2>&1
+    check "the packages are built" 0 $?
+    test_debian
+    test_debian_installed
+    test_wheel
+}
+
+test_abi
+test_packages
