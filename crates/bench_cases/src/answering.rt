@@ -18,7 +18,7 @@ use snmp_outgoing::{Body, Front};
 use std::alloc::{AllocError, Global};
 
 /// How bindings are collected and handed in.
-#[derive(Clone, Copy, PartialEq, Eq, Debug)]
+#[derive(Clone, Copy)]
 pub enum Form {
     /// With the arcs of their names.
     Arcs,

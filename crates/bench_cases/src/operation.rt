@@ -48,7 +48,7 @@ const HEADER: Header = Header {
 pub(crate) const MOMENT: u64 = 1000;
 
 /// How many other users a manager has.
-#[derive(Clone, Copy, PartialEq, Eq, Debug)]
+#[derive(Clone, Copy)]
 pub enum Others {
     Nobody,
     Thousand,
@@ -68,7 +68,7 @@ impl Others {
 }
 
 /// An operation on a text that can be timed.
-#[derive(Clone, Copy, PartialEq, Eq, Debug)]
+#[derive(Clone, Copy)]
 pub enum Operation {
     /// `password-key-md5`, `password-key-sha1`, `password-key-sha256`: the key of the text, taken as a password.
     PasswordKey(Auth),
@@ -100,7 +100,7 @@ pub enum Operation {
 }
 
 /// No operation has this name.
-#[derive(Clone, Copy, PartialEq, Eq, Debug, Error)]
+#[derive(Clone, Copy, Debug, Error)]
 #[error("OPERATION is password-key-HASH, mac-HASH, open-auth-HASH, cfb-seal, cfb-open, take, take-among-1000, take-among-10000, agent-take, agent-answer, agent-answer-octets, request, request-octets or seal, HASH being md5, sha1 or sha256")]
 pub struct UnknownOperation;
 
@@ -141,9 +141,16 @@ impl FromStr for Operation {
 fn messages(alloc: Global, word: &str) -> Result<Vec<Vec<u8>>> {
     let mut texts = Vec::new(alloc);
     for message in word.split(',') {
-        texts.push(hex::decode(alloc, message).context("MESSAGE")?)?;
+        texts = with_item(texts, hex::decode(alloc, message).context("MESSAGE"))?;
     }
     Ok(texts)
+}
+
+/// The list with this item after those that it has.
+fn with_item<T: Drop>(list: Vec<T>, item: Result<T>) -> Result<Vec<T>> {
+    let mut list = list;
+    list.push(item?)?;
+    Ok(list)
 }
 
 impl Operation {

@@ -1,5 +1,5 @@
 //! Who opens, takes and answers the messages.
-ghost use Rattle.std.specs.Prelude.{◌≡◌, ◌+◌, length, map, IfOk};
+ghost use Rattle.std.specs.Prelude.{◌≡◌, ◌+◌, length, map, IfOk, Ok};
 ghost use Rattle.usm_users.specs.Rows.{user_of};
 ghost use Rattle.bench_cases.specs.Stations.{HasUsers};
 
@@ -103,6 +103,16 @@ fn agent_of(alloc: Global, rows: &[UserRow]) -> Result<Agent>
     Ok(Agent::new(alloc, engine, BOOTS, STARTED, users, access))
 }
 
+/// The two together, or the error of the second.
+fn beside<A: Drop, B: Drop>(first: A, second: Result<B>) -> Result<(A, B)>
+    ensures { IfOk result (λ both. (both.0 ≡ first) × (second ≡ Ok both.1)) }
+{
+    match second {
+        Ok(second) => Ok((first, second)),
+        Err(fault) => Err(fault),
+    }
+}
+
 impl Station {
     /// A station without users.
     pub fn empty(alloc: Global) -> Result<Station>
@@ -150,10 +160,13 @@ impl Station {
         ensures { IfOk result
             (λ station. HasUsers station (length openers.now) (length takers.now) (length answerers.now)) }
     {
+        let users = Users::load(alloc, openers)?;
+        let both = beside(users, manager_of(alloc, takers))?;
+        let ((users, manager), agent) = beside(both, agent_of(alloc, answerers))?;
         Ok(Station {
-            users: Users::load(alloc, openers)?,
-            manager: manager_of(alloc, takers)?,
-            agent: agent_of(alloc, answerers)?,
+            users,
+            manager,
+            agent,
             schedule: expand(&AES_KEY),
         })
     }

@@ -1,27 +1,46 @@
 //! Does one operation of the library again and again, for `bench/compare` to time.
 //!
-//! `bench_operations OPERATION OCTETS TIMES` does the operation TIMES times, first on a text of OCTETS octets
-//! `a`, and then each time on that text with the last result over its first octets, so that no time can be
-//! left out. `bench_operations OPERATION MESSAGE[,MESSAGE..] TIMES` opens, takes or answers the messages,
-//! given in hex, in turn, TIMES times in all; `seal` seals PDUs likewise. It prints the last result in
-//! lower-case hex.
+//! `speed OPERATION OCTETS TIMES` does the operation TIMES times, first on a text of OCTETS octets `a`, and
+//! then each time on that text with the last result over its first octets, so that no time can be left out.
+//! `speed OPERATION MESSAGE[,MESSAGE..] TIMES` opens, takes or answers the messages, given in hex, in turn,
+//! TIMES times in all; `seal` seals PDUs likewise. It prints the last result in lower-case hex.
 #![tactic(auto)]
 
 use anyhow::{Context, Result, bail};
 use bench_cases::Operation;
+use std::alloc::Global;
 use std::env;
 
 fn main(rt: HostRuntime) -> Result<()> {
-    let alloc = rt.alloc();
-    let words: Vec<String> = env::args(&rt)?.collect(alloc)?;
-    let [_, operation, text, times] = words.as_slice() else {
-        bail!("usage: bench_operations OPERATION OCTETS|MESSAGE[,MESSAGE..] TIMES");
+    let words: Vec<String> = env::args(&rt)?.collect(rt.alloc())?;
+    let line = line_of(rt.alloc(), words.as_slice());
+    drop(words);
+    println!(rt; "{}", line?)?;
+    Ok(())
+}
+
+/// The line that is printed for the words of the command line, the program's name first.
+fn line_of(alloc: Global, words: &[String]) -> Result<String> {
+    let [_, operation, text, times] = words else {
+        bail!("usage: speed OPERATION OCTETS|MESSAGE[,MESSAGE..] TIMES");
     };
     let operation: Operation = operation.as_str().parse()?;
     let mut texts = operation.texts(alloc, text.as_str())?;
-    let times: u64 = times.as_str().parse().context("TIMES")?;
+    let line = line_on(alloc, operation, texts.as_mut_slice(), times.as_str());
+    drop(texts);
+    line
+}
+
+/// The same, of an operation on these texts.
+fn line_on(
+    alloc: Global,
+    operation: Operation,
+    texts: &mut [Vec<u8>],
+    times: &str,
+) -> Result<String> {
+    let times: u64 = times.parse().context("TIMES")?;
     let mut station = operation.station(alloc)?;
-    let result = operation.repeat(alloc, &mut station, &mut texts, times)?;
-    println!(rt; "{}", hex::encode(alloc, result.as_slice())?)?;
-    Ok(())
+    let result = operation.repeat(alloc, &mut station, texts, times);
+    drop(station);
+    Ok(hex::encode(alloc, result?.as_slice())?)
 }

@@ -1,7 +1,8 @@
 //! Commands that ask a configuration one question, and the one that reads it.
 
+use crate::Command;
 use crate::forms::{Form, Kind, Word};
-use crate::given::given;
+use crate::given::word_of;
 use clap::ArgMatches;
 
 /// The file of a configuration.
@@ -59,6 +60,7 @@ const QUESTION: [Word; 7] = [
 
 /// The command check-access.
 pub(crate) static CHECK_ACCESS: Form = Form {
+    command: Command::CheckAccess,
     name: "check-access",
     about: "Ask whether a user may read, write or be notified of a variable (RFC 3415)",
     status: "Example: snmpsec check-access examples/access.toml 3 nagios authPriv read @ 1.3.6.1.2.1.1.5.0
@@ -68,6 +70,7 @@ Status: 0 accessAllowed, 1 another answer or a refused configuration, 2 a fault 
 
 /// The command explain-access.
 pub(crate) static EXPLAIN_ACCESS: Form = Form {
+    command: Command::ExplainAccess,
     name: "explain-access",
     about: "Ask as check-access does, and print which rows of the configuration decided",
     status: "After the answer come, as far as it got: context POSITION, group POSITION NAME, access POSITION, view NAME, family POSITION.
@@ -79,6 +82,7 @@ Status: 0 accessAllowed, 1 another answer or a refused configuration, 2 a fault 
 
 /// The command check-config.
 pub(crate) static CHECK_CONFIG: Form = Form {
+    command: Command::CheckConfig,
     name: "check-config",
     about: "Read a configuration: print how many rows each table has, or what is wrong with it",
     status: "Example: snmpsec check-config examples/access.toml
@@ -86,26 +90,34 @@ Status: 0 read, 1 refused (what is wrong is told on standard error), 2 a fault o
     words: &[CONFIG],
 };
 
-/// The words of check-access and explain-access.
+/// The words of a command that asks a configuration. One that the command doesn't have is empty.
 #[derive(Clone, Copy)]
 pub struct AccessWords<'a> {
     /// The name of the configuration's file.
     pub config: &'a str,
-    /// MODEL, NAME, LEVEL, VIEW, CONTEXT and OID.
-    pub question: [&'a str; 6],
+    /// The number of the security model.
+    pub model: &'a str,
+    /// The security name.
+    pub name: &'a str,
+    /// The security level.
+    pub level: &'a str,
+    /// The view.
+    pub view: &'a str,
+    /// The name of the context, or `@`.
+    pub context: &'a str,
+    /// The variable.
+    pub variable: &'a str,
 }
 
-/// The words of check-access and explain-access.
-pub(crate) fn access_words<'a>(words: &ArgMatches<'a>) -> AccessWords<'a> {
+/// The words of a command that asks a configuration.
+pub fn access_words<'a>(words: &ArgMatches<'a>) -> AccessWords<'a> {
     AccessWords {
-        config: given(words, "CONFIG"),
-        question: [
-            given(words, "MODEL"),
-            given(words, "NAME"),
-            given(words, "LEVEL"),
-            given(words, "VIEW"),
-            given(words, "CONTEXT"),
-            given(words, "OID"),
-        ],
+        config: word_of(words, "CONFIG"),
+        model: word_of(words, "MODEL"),
+        name: word_of(words, "NAME"),
+        level: word_of(words, "LEVEL"),
+        view: word_of(words, "VIEW"),
+        context: word_of(words, "CONTEXT"),
+        variable: word_of(words, "OID"),
     }
 }

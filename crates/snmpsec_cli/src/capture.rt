@@ -1,17 +1,16 @@
 //! The command line of `datagrams`, and what is asked of a file of datagrams.
 
+use crate::Command;
 use crate::forms::{Form, Kind, Word};
-use crate::given::{all_given, given};
-use crate::{Command, Unread};
+use crate::given::{word_of, words_of};
 use clap::ArgMatches;
-use std::alloc::{AllocError, Global};
 
 /// What a file of datagrams is.
 const SOURCE: &str =
     "A capture in the format of libpcap or pcapng, as tcpdump -w and Wireshark write it, pasted hex, or a dump, as hexdump -C prints it; - is standard input";
 
 /// The file of datagrams as an option.
-pub(crate) const FROM: Word = (Kind::Source, "FROM", "from", SOURCE);
+pub(crate) const FROM: Word = (Kind::SourceValue, "FILE", "from", SOURCE);
 
 /// The form of the file.
 pub(crate) const FORM: Word = (
@@ -47,6 +46,7 @@ pub(crate) const IP: Word = (
 
 /// The command datagrams.
 pub(crate) static DATAGRAMS: Form = Form {
+    command: Command::Datagrams,
     name: "datagrams",
     about: "Print the UDP datagrams of a capture as a log for replay, a line MOMENT HEX for each",
     status: "A record that can't be a datagram of these ports is counted, and one that may be part of one is told, on standard error. Pasted hex is one datagram, and so is each dump where --ip isn't given.
@@ -56,13 +56,13 @@ Status: 0 read, 1 refused (a line 'refused datagrams FILE octet N' behind what c
     words: &[FORM, PORT, MOMENT, IP, (Kind::Given, "FILE", "", SOURCE)],
 };
 
-/// The words of datagrams.
-#[derive(Drop)]
+/// The words of datagrams, and of show and open over a file of datagrams.
+#[derive(Clone, Copy)]
 pub struct DatagramsWords<'a> {
     /// The form of the file, where its octets aren't to tell.
     pub form: Option<&'a str>,
     /// The ports of the datagrams that are wanted.
-    pub ports: Vec<&'a str>,
+    pub ports: &'a [&'a str],
     /// When pasted hex or a dump was received.
     pub moment: Option<&'a str>,
     /// Whether each dump is a packet.
@@ -71,47 +71,13 @@ pub struct DatagramsWords<'a> {
     pub file: &'a str,
 }
 
-/// The words of show and open over the datagrams of a file.
-#[derive(Drop)]
-pub struct FromWords<'a> {
-    /// The file, and what is asked of it.
-    pub words: DatagramsWords<'a>,
-    /// Whether names are to stand behind the lines that have one.
-    pub names: bool,
-}
-
-/// The words of a file of datagrams of this name.
-fn source_words<'a>(
-    alloc: Global,
-    words: &ArgMatches<'a>,
-    file: &'a str,
-) -> Result<DatagramsWords<'a>, AllocError> {
-    Ok(DatagramsWords {
+/// The words of datagrams, and of show and open over a file of datagrams.
+pub fn datagrams_words<'m>(words: &'m ArgMatches<'_>) -> DatagramsWords<'m> {
+    DatagramsWords {
         form: words.get_str("FORM"),
-        ports: all_given(alloc, words, "PORT")?,
+        ports: words_of(words, "PORT"),
         moment: words.get_str("MOMENT"),
         ip: words.get_flag("ip"),
-        file,
-    })
-}
-
-/// The words of datagrams.
-pub(crate) fn datagrams_words<'a>(
-    alloc: Global,
-    words: &ArgMatches<'a>,
-) -> Result<Command<'a>, Unread> {
-    let words = source_words(alloc, words, given(words, "FILE"))?;
-    Ok(Command::Datagrams(words))
-}
-
-/// The words of a command over the datagrams of the file of this name.
-pub(crate) fn from_words<'a>(
-    alloc: Global,
-    words: &ArgMatches<'a>,
-    file: &'a str,
-) -> Result<FromWords<'a>, AllocError> {
-    Ok(FromWords {
-        words: source_words(alloc, words, file)?,
-        names: words.get_flag("names"),
-    })
+        file: word_of(words, "FILE"),
+    }
 }

@@ -1,6 +1,6 @@
 //! The parser of the command line, which is made of the tables of the commands.
 
-use crate::{access, capture, import, messages, own, replay, saved, wide};
+use crate::{Command, access, capture, import, messages, own, replay, saved, wide};
 use clap::{Arg, ArgAction};
 use std::alloc::{AllocError, Global};
 
@@ -21,9 +21,8 @@ pub(crate) enum Kind {
     Values,
     /// It is an option whose value is a number. A number below 0 is a value too.
     Number,
-    /// It is the file of datagrams, as an option. This option and those below can't be given with a datagram.
-    Source,
-    /// It is an option of the file of datagrams, without a value.
+    /// It is an option of the file of datagrams, without a value. This option and those below can't be given
+    /// with a datagram.
     SourceFlag,
     /// It is an option of the file of datagrams, with a value.
     SourceValue,
@@ -41,6 +40,7 @@ pub(crate) type Word = (Kind, &'static str, &'static str, &'static str);
 /// A command of the command line.
 #[derive(Clone, Copy)]
 pub(crate) struct Form {
+    pub(crate) command: Command,
     pub(crate) name: &'static str,
     /// What help says of it first.
     pub(crate) about: &'static str,
@@ -73,14 +73,15 @@ fn form_at(at: usize) -> &'static Form {
     }
 }
 
-/// The words of the command of this name. Another name has none.
-pub(crate) fn words_of(name: &str) -> &'static [Word] {
+/// The command of this name.
+pub(crate) fn form_named(name: &str) -> Option<&'static Form> {
     for at in 0..FORMS {
-        if form_at(at).name == name {
-            return form_at(at).words;
+        let form = form_at(at);
+        if form.name == name {
+            return Some(form);
         }
     }
-    &[]
+    None
 }
 
 /// The option that each command has.
@@ -108,7 +109,7 @@ fn is_number(kind: Kind) -> bool {
     )
 }
 
-/// The argument of a word.
+/// The argument of a word, and of an option but for its name.
 fn plain<'a>(alloc: Global, word: &Word) -> Arg<'a> {
     let (kind, id, _, help) = *word;
     Arg::new(alloc, id)
@@ -118,20 +119,25 @@ fn plain<'a>(alloc: Global, word: &Word) -> Arg<'a> {
         .allow_negative_numbers(is_number(kind))
 }
 
-/// The argument of an option.
-fn option<'a>(alloc: Global, word: &Word) -> Arg<'a> {
-    plain(alloc, word).long(word.2)
+/// The argument of a word or an option.
+fn named<'a>(alloc: Global, word: &Word) -> Arg<'a> {
+    let arg = plain(alloc, word);
+    match word.0 {
+        Kind::Given | Kind::Optional | Kind::Datagram => arg,
+        Kind::Files => arg.num_args(1..),
+        _ => arg.long(word.2),
+    }
 }
 
-/// The argument of a word or an option, as the parser takes it.
+/// The argument of a word or an option, as the parser takes it beside others.
 fn arg_of<'a>(alloc: Global, word: &Word) -> Result<Arg<'a>, AllocError> {
+    let arg = named(alloc, word);
     match word.0 {
-        Kind::Given | Kind::Optional => Ok(plain(alloc, word)),
-        Kind::Datagram => plain(alloc, word).required_unless_present("FROM"),
-        Kind::Files => Ok(plain(alloc, word).num_args(1..)),
-        Kind::Flag | Kind::Values | Kind::Number => Ok(option(alloc, word)),
-        Kind::Source => option(alloc, word).value_name("FILE").conflicts_with("HEX"),
-        _ => option(alloc, word).conflicts_with("HEX"),
+        Kind::Datagram => arg.required_unless_present("FILE"),
+        Kind::SourceFlag | Kind::SourceValue | Kind::SourceNumber | Kind::SourceNumbers => {
+            arg.conflicts_with("HEX")
+        }
+        _ => Ok(arg),
     }
 }
 
@@ -160,8 +166,10 @@ fn without_words<'a>(alloc: Global, form: &Form) -> clap::Command<'a> {
 
 /// The parser of a command.
 fn command_of<'a>(alloc: Global, form: &Form) -> Result<clap::Command<'a>, AllocError> {
-    let args = args_of(alloc, form.words)?;
-    without_words(alloc, form).args(args)
+    match args_of(alloc, form.words) {
+        Ok(args) => without_words(alloc, form).args(args),
+        Err(fault) => Err(fault),
+    }
 }
 
 /// The parsers of the commands.
@@ -182,12 +190,24 @@ fn bare<'a>(alloc: Global) -> clap::Command<'a> {
 
 /// The argument of the option that each command has. Help lists it after the first option of a command.
 fn why<'a>(alloc: Global) -> Arg<'a> {
-    option(alloc, &WHY).global(true).display_order(0)
+    named(alloc, &WHY).global(true).display_order(0)
+}
+
+/// The parser of the command line with these commands.
+fn with_commands<'a>(
+    alloc: Global,
+    commands: Vec<clap::Command<'a>>,
+) -> Result<clap::Command<'a>, AllocError> {
+    match bare(alloc).subcommands(commands) {
+        Ok(parser) => parser.arg(why(alloc)),
+        Err(fault) => Err(fault),
+    }
 }
 
 /// The parser of the command line.
 pub(crate) fn parser<'a>(alloc: Global) -> Result<clap::Command<'a>, AllocError> {
-    let commands = commands(alloc)?;
-    let parser = bare(alloc).subcommands(commands)?;
-    parser.arg(why(alloc))
+    match commands(alloc) {
+        Ok(commands) => with_commands(alloc, commands),
+        Err(fault) => Err(fault),
+    }
 }

@@ -2,10 +2,9 @@
 
 use crate::forms::{Kind, Word};
 use clap::ArgMatches;
-use std::alloc::{AllocError, Global};
 
 /// The word of this name, or no text where it isn't there.
-pub(crate) fn given<'a>(words: &ArgMatches<'a>, name: &str) -> &'a str {
+pub fn word_of<'a>(words: &ArgMatches<'a>, name: &str) -> &'a str {
     match words.get_str(name) {
         Some(word) => word,
         None => "",
@@ -13,22 +12,15 @@ pub(crate) fn given<'a>(words: &ArgMatches<'a>, name: &str) -> &'a str {
 }
 
 /// The words of this name, as many as were given.
-pub(crate) fn all_given<'a>(
-    alloc: Global,
-    words: &ArgMatches<'a>,
-    name: &str,
-) -> Result<Vec<&'a str>, AllocError> {
-    match words.get_strs(name) {
-        Some(found) => found.to_vec(alloc),
-        None => Ok(Vec::new(alloc)),
-    }
+pub fn words_of<'m>(words: &'m ArgMatches<'_>, name: &str) -> &'m [&'m str] {
+    words.get_strs(name).unwrap_or(&[])
 }
 
 /// Whether the word must be given, and isn't there.
 fn is_missing(words: &ArgMatches<'_>, kind: Kind, name: &str) -> bool {
     match kind {
         Kind::Given => words.get_str(name).is_none(),
-        Kind::Datagram => words.get_str(name).is_none() && words.get_str("FROM").is_none(),
+        Kind::Datagram => words.get_str(name).is_none() && words.get_str("FILE").is_none(),
         _ => false,
     }
 }

@@ -1,13 +1,13 @@
 //! The command line of `import-snmpd`.
 
+use crate::Command;
 use crate::forms::{Form, Kind, Word};
-use crate::given::all_given;
-use crate::{Command, Unread};
+use crate::given::words_of;
 use clap::ArgMatches;
-use std::alloc::Global;
 
 /// The command import-snmpd.
 pub(crate) static IMPORT_SNMPD: Form = Form {
+    command: Command::ImportSnmpd,
     name: "import-snmpd",
     about: "Print the configuration that files of net-snmp's snmpd come to",
     status: "On standard error stands a line FILE:LINE: KIND: DIRECTIVE: WHY for each line that isn't taken over, and for each row beside which another counts.
@@ -43,27 +43,24 @@ Status: 0 printed, 1 with --strict where the agent may decide otherwise (left ou
 };
 
 /// The words of import-snmpd.
-#[derive(Drop)]
+#[derive(Clone, Copy)]
 pub struct ImportWords<'a> {
     /// The names of contexts beside the one without a name.
-    pub contexts: Vec<&'a str>,
+    pub contexts: &'a [&'a str],
     /// Whether files that other files name are left alone.
     pub no_include: bool,
     /// Whether notes are a reason for status 1.
     pub strict: bool,
     /// The names of the files.
-    pub files: Vec<&'a str>,
+    pub files: &'a [&'a str],
 }
 
 /// The words of import-snmpd.
-pub(crate) fn import_words<'a>(
-    alloc: Global,
-    words: &ArgMatches<'a>,
-) -> Result<Command<'a>, Unread> {
-    Ok(Command::ImportSnmpd(ImportWords {
-        contexts: all_given(alloc, words, "NAME")?,
+pub fn import_words<'m>(words: &'m ArgMatches<'_>) -> ImportWords<'m> {
+    ImportWords {
+        contexts: words_of(words, "NAME"),
         no_include: words.get_flag("no-include"),
         strict: words.get_flag("strict"),
-        files: all_given(alloc, words, "FILE")?,
-    }))
+        files: words_of(words, "FILE"),
+    }
 }

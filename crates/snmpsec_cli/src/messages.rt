@@ -1,11 +1,8 @@
 //! The command lines of `show` and `open`.
 
-use crate::capture::{FORM, FROM, IP, MOMENT, PORT, from_words};
+use crate::Command;
+use crate::capture::{FORM, FROM, IP, MOMENT, PORT};
 use crate::forms::{Form, Kind, Word};
-use crate::given::given;
-use crate::{Command, Unread};
-use clap::ArgMatches;
-use std::alloc::Global;
 
 /// Whether names are to stand behind the lines that have one.
 const NAMES: Word = (
@@ -25,6 +22,7 @@ const HEX: Word = (
 
 /// The command show.
 pub(crate) static SHOW: Form = Form {
+    command: Command::Show,
     name: "show",
     about: "Print the fields of an SNMPv3 message, a field a line, and its canonical spelling",
     status: "With --from a line 'datagram N MOMENT' stands before what is printed of each datagram, N counting from 1.
@@ -36,6 +34,7 @@ file that can't be read.",
 
 /// The command open.
 pub(crate) static OPEN: Form = Form {
+    command: Command::Open,
     name: "open",
     about: "Authenticate and decrypt an SNMPv3 message with the users' passwords, and print its fields",
     status: "The time window isn't looked at. With --from a line 'datagram N MOMENT' stands before what is printed of each datagram, N counting from 1.
@@ -53,28 +52,3 @@ Status: 0 opened, 1 refused (a line 'refused N NAME at PLACE'), with --from also
         HEX,
     ],
 };
-
-/// The words of show.
-pub(crate) fn show_words<'a>(alloc: Global, words: &ArgMatches<'a>) -> Result<Command<'a>, Unread> {
-    match words.get_str("FROM") {
-        Some(file) => Ok(Command::ShowFrom(from_words(alloc, words, file)?)),
-        None => Ok(Command::Show {
-            digits: given(words, "HEX"),
-        }),
-    }
-}
-
-/// The words of open.
-pub(crate) fn open_words<'a>(alloc: Global, words: &ArgMatches<'a>) -> Result<Command<'a>, Unread> {
-    let config = given(words, "CONFIG");
-    match words.get_str("FROM") {
-        Some(file) => Ok(Command::OpenFrom {
-            config,
-            from: from_words(alloc, words, file)?,
-        }),
-        None => Ok(Command::Open {
-            config,
-            digits: given(words, "HEX"),
-        }),
-    }
-}

@@ -4,8 +4,8 @@ ghost use Rattle.std.specs.Prelude.{◌≡◌, ◌≢◌, IfErr, IfOk, codes, st
 ghost use Rattle.clap.specs.Values.{kind_of};
 ghost use Rattle.clap.specs.declared.error.kind.ErrorKind.TheVariants.{DisplayHelp};
 
-use crate::forms::{Form, Kind, parser};
-use crate::refusal;
+use crate::forms::{Form, Kind};
+use crate::{Command, matches_of, refusal};
 use clap::Error;
 use clap::error::ErrorKind;
 use std::alloc::{AllocError, Global};
@@ -15,6 +15,7 @@ pub const VERSION: &str = "0.1.0";
 
 /// The command version.
 pub(crate) static VERSION_FORM: Form = Form {
+    command: Command::Version,
     name: "version",
     about: "Print the name and the version of the program",
     status: "Status: 0 printed, 2 a fault of the command line.",
@@ -23,6 +24,7 @@ pub(crate) static VERSION_FORM: Form = Form {
 
 /// The command manual.
 pub(crate) static MANUAL: Form = Form {
+    command: Command::Manual,
     name: "manual",
     about: "Print the help of a command, or of all, on standard output",
     status: "What --help prints on standard error, with status 2, stands on standard output here, so that a pager can read it.
@@ -46,8 +48,11 @@ pub fn version_text(alloc: Global) -> Result<String, AllocError>
 /// What the parser answers to words for which it has no command to run: its help, or what is wrong. The error says
 /// that memory ran out.
 fn answer_to<'a>(alloc: Global, words: &'a [&'a str]) -> Result<Error, AllocError> {
-    match parser(alloc)?.try_get_matches_from(words) {
-        Ok(_matches) => refusal(alloc, ErrorKind::InvalidSubcommand, "there is no help"),
+    match matches_of(alloc, words) {
+        Ok(matches) => {
+            drop(matches);
+            refusal(alloc, ErrorKind::InvalidSubcommand, "there is no help")
+        }
         Err(fault) => Ok(fault),
     }
 }

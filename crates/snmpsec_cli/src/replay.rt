@@ -1,11 +1,10 @@
 //! Commands over saved clocks: the replay of a log, and the join.
 
+use crate::Command;
 use crate::forms::{Form, Kind, Word};
-use crate::given::{all_given, given};
+use crate::given::word_of;
 use crate::saved::SAVED;
-use crate::{Command, Unread};
 use clap::ArgMatches;
-use std::alloc::Global;
 
 /// The moment that marks get which have none of their own.
 const MOMENT: Word = (
@@ -17,6 +16,7 @@ const MOMENT: Word = (
 
 /// The command replay.
 pub(crate) static REPLAY: Form = Form {
+    command: Command::Replay,
     name: "replay",
     about: "Take a log of datagrams as a manager does: print what each comes to, and then the clocks",
     status: "A log of more than 1000000 lines is replayed in pieces, each with --clocks-only; merge-clocks joins what they save.
@@ -59,6 +59,7 @@ Status: 0 replayed, 1 a refused configuration or clocks file, 2 a fault of the c
 
 /// The command merge-clocks.
 pub(crate) static MERGE_CLOCKS: Form = Form {
+    command: Command::MergeClocks,
     name: "merge-clocks",
     about: "Print the join of saved clocks: of each engine the greatest boots and time",
     status: "Example: snmpsec merge-clocks examples/station-a.clocks examples/station-b.clocks
@@ -84,24 +85,13 @@ pub struct ReplayWords<'a> {
 }
 
 /// The words of replay.
-pub(crate) fn replay_words<'a>(words: &ArgMatches<'a>) -> ReplayWords<'a> {
+pub fn replay_words<'a>(words: &ArgMatches<'a>) -> ReplayWords<'a> {
     ReplayWords {
         moment: words.get_str("MOMENT"),
         clocks_only: words.get_flag("clocks-only"),
         from_line: words.get_str("N"),
-        config: given(words, "CONFIG"),
-        clocks: given(words, "CLOCKS"),
-        log: given(words, "LOG"),
+        config: word_of(words, "CONFIG"),
+        clocks: word_of(words, "CLOCKS"),
+        log: word_of(words, "LOG"),
     }
-}
-
-/// The words of merge-clocks.
-pub(crate) fn merge_words<'a>(
-    alloc: Global,
-    words: &ArgMatches<'a>,
-) -> Result<Command<'a>, Unread> {
-    Ok(Command::MergeClocks {
-        moment: words.get_str("MOMENT"),
-        files: all_given(alloc, words, "FILE")?,
-    })
 }

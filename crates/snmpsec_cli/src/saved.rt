@@ -1,16 +1,14 @@
 //! Commands that look at a file, and take nothing of it.
 
+use crate::Command;
 use crate::forms::{Form, Kind, Word};
-use crate::given::all_given;
-use crate::{Command, Unread};
-use clap::ArgMatches;
-use std::alloc::Global;
 
 /// The files of saved clocks.
 pub(crate) const SAVED: Word = (Kind::Files, "FILE", "", "Saved clocks, each at most 16 MiB");
 
 /// The command check-clocks.
 pub(crate) static CHECK_CLOCKS: Form = Form {
+    command: Command::CheckClocks,
     name: "check-clocks",
     about: "Print how many engines each file of saved clocks has, or what is wrong with it",
     status: "Example: snmpsec check-clocks examples/station-a.clocks
@@ -20,6 +18,7 @@ Status: 0 sound, 1 a file is refused (what is wrong is told on standard error), 
 
 /// The command check-log.
 pub(crate) static CHECK_LOG: Form = Form {
+    command: Command::CheckLog,
     name: "check-log",
     about: "Print how many lines a log has, or what is wrong with its first faulty line",
     status: "Example: snmpsec check-log examples/replay/captured.log
@@ -31,13 +30,3 @@ Status: 0 sound, 1 refused (what is wrong is told on standard error), 2 a fault 
         "A log: lines of a moment, a blank and a datagram in hex",
     )],
 };
-
-/// The words of check-clocks.
-pub(crate) fn clocks_words<'a>(
-    alloc: Global,
-    words: &ArgMatches<'a>,
-) -> Result<Command<'a>, Unread> {
-    Ok(Command::CheckClocks {
-        files: all_given(alloc, words, "FILE")?,
-    })
-}

@@ -4,7 +4,7 @@ use crate::run::unread;
 use capture_datagrams::datagrams::{Unread, ports_of};
 use capture_datagrams::forms::{Asked, Form, form_of, may_be_dumps};
 use capture_datagrams::shown::{Printout, write_printout};
-use snmpsec_cli::{DatagramsWords, FromWords};
+use snmpsec_cli::DatagramsWords;
 use snmpsec_io::{FileFault, open_log, read_file};
 use snmpsec_output::{Output, moment_of};
 use std::alloc::{AllocError, Global};
@@ -63,7 +63,7 @@ fn wanted_of(alloc: Global, words: &DatagramsWords<'_>) -> Result<Wanted, Unwant
         Ok(form) => form,
         Err(why) => return Err(why),
     };
-    let ports = match ports_of(alloc, &words.ports) {
+    let ports = match ports_of(alloc, words.ports) {
         Ok(Some(ports)) => ports,
         Ok(None) => return Err(Unwanted::Word("bad word PORT")),
         Err(_) => return Err(Unwanted::OutOfMemory),
@@ -103,14 +103,15 @@ pub(crate) fn log_file<R: Files + Input + AllocGlobal, O: Write, E: Write>(
 /// The same, and writes what `show` prints of each datagram.
 pub(crate) fn show_file<R: Files + Input + AllocGlobal, O: Write, E: Write>(
     rt: &R,
-    from: &FromWords<'_>,
+    words: &DatagramsWords<'_>,
+    names: bool,
     out: &mut O,
     err: &mut E,
 ) -> Result<Output, AllocError> {
     let alloc = rt.alloc();
-    let shown = Printout::Shown { names: from.names };
-    match wanted_of(alloc, &from.words) {
-        Ok(wanted) => print_file(rt, shown, &wanted, from.words.file, out, err),
+    let shown = Printout::Shown { names };
+    match wanted_of(alloc, words) {
+        Ok(wanted) => print_file(rt, shown, &wanted, words.file, out, err),
         Err(why) => told_why(alloc, why),
     }
 }
@@ -120,12 +121,13 @@ pub(crate) fn show_file<R: Files + Input + AllocGlobal, O: Write, E: Write>(
 pub(crate) fn open_file<R: Files + Input + AllocGlobal, O: Write, E: Write>(
     rt: &R,
     config: &str,
-    from: &FromWords<'_>,
+    words: &DatagramsWords<'_>,
+    names: bool,
     out: &mut O,
     err: &mut E,
 ) -> Result<Output, AllocError> {
     let alloc = rt.alloc();
-    let wanted = match wanted_of(alloc, &from.words) {
+    let wanted = match wanted_of(alloc, words) {
         Ok(wanted) => wanted,
         Err(why) => return told_why(alloc, why),
     };
@@ -135,9 +137,9 @@ pub(crate) fn open_file<R: Files + Input + AllocGlobal, O: Write, E: Write>(
     };
     let opened = Printout::Opened {
         config: &octets,
-        names: from.names,
+        names,
     };
-    print_file(rt, opened, &wanted, from.words.file, out, err)
+    print_file(rt, opened, &wanted, words.file, out, err)
 }
 
 /// Opens the file, and writes what is printed of its datagrams.

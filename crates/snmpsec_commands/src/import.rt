@@ -33,11 +33,11 @@ pub(crate) fn import_snmpd<R: Files + AllocGlobal>(
     words: &ImportWords<'_>,
 ) -> Result<Output, AllocError> {
     let alloc = rt.alloc();
-    let Some(contexts) = contexts_of(alloc, &words.contexts)? else {
+    let Some(contexts) = contexts_of(alloc, words.contexts)? else {
         return Output::complaint(alloc, "bad word NAME");
     };
     let mut sources = Sources::new(alloc);
-    for name in &words.files {
+    for name in words.files {
         if let Err(fault) = sources.read(rt, name) {
             return unread(alloc, fault, name);
         }

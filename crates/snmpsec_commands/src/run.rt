@@ -8,10 +8,11 @@ use crate::checks::{check_clocks_files, check_log_file};
 use crate::import::import_snmpd;
 use crate::replay::{first_line_of, replay_as};
 use crate::why::{says_why, why};
+use clap::ArgMatches;
 use clap::error::ErrorKind;
 use snmpsec_cli::{
-    AccessWords, Asked, Command, ReplayWords, SeesWords, WhoWords, manual_text, not_text,
-    parse_asked, version_text,
+    AccessWords, Asked, Command, ReplayWords, access_words, asked_by, datagrams_words,
+    import_words, manual_text, not_text, parse, replay_words, version_text, word_of, words_of,
 };
 use snmpsec_io::{FileFault, open_log, read_file, write_whole};
 use snmpsec_notes::with_names;
@@ -67,22 +68,51 @@ fn answer<R: Files + Env + Input + AllocGlobal, O: Write, E: Write + IsTerminal>
     let words = match env::args(rt) {
         Ok(words) => words,
         Err(e) if e.kind() == io::ErrorKind::OutOfMemory => return Err(AllocError),
-        Err(_) => return usage(alloc, &not_text(alloc)?),
+        Err(_) => return usage(alloc, not_text(alloc)?),
     };
     let words: Vec<String> = words.collect(alloc)?;
-    match parse_asked(alloc, words.as_slice()) {
+    let output = answer_words(rt, words.as_slice(), out, err);
+    drop(words);
+    output
+}
+
+/// The same, of the words of a command line, the program's name first.
+fn answer_words<R: Files + Input + AllocGlobal, O: Write, E: Write + IsTerminal>(
+    rt: &R,
+    words: &[String],
+    out: &mut O,
+    err: &mut E,
+) -> Result<Output, AllocError> {
+    match parse(rt.alloc(), words) {
+        Ok(matches) => {
+            let output = answer_matches(rt, &matches, out, err);
+            drop(matches);
+            output
+        }
+        Err(fault) => usage(rt.alloc(), fault),
+    }
+}
+
+/// The same, of what the parser made of them.
+fn answer_matches<R: Files + Input + AllocGlobal, O: Write, E: Write + IsTerminal>(
+    rt: &R,
+    matches: &ArgMatches<'_>,
+    out: &mut O,
+    err: &mut E,
+) -> Result<Output, AllocError> {
+    match asked_by(rt.alloc(), matches) {
         Ok(asked) => {
             let why = asked.why || err.is_terminal();
             answer_asked(rt, &Asked { why, ..asked }, out, err)
         }
-        Err(fault) => usage(alloc, &fault),
+        Err(fault) => usage(rt.alloc(), fault),
     }
 }
 
 /// What the command that was given prints, and behind a refusal what is wrong, where that is asked for.
 pub fn answer_asked<R: Files + Input + AllocGlobal, O: Write, E: Write>(
     rt: &R,
-    asked: &Asked<'_>,
+    asked: &Asked<'_, '_>,
     out: &mut O,
     err: &mut E,
 ) -> Result<Output, AllocError> {
@@ -94,10 +124,10 @@ pub fn answer_asked<R: Files + Input + AllocGlobal, O: Write, E: Write>(
             Ok(output)
         };
     }
-    if !(asked.why || says_why(&asked.command)) {
+    if !(asked.why || says_why(asked)) {
         return Ok(output);
     }
-    match why(rt, &asked.command, output.status)? {
+    match why(rt, asked, output.status)? {
         Some(line) => with_line(output, &line),
         None => Ok(output),
     }
@@ -106,13 +136,13 @@ pub fn answer_asked<R: Files + Input + AllocGlobal, O: Write, E: Write>(
 /// What the command that was given prints, with hints beside it where it has some and they are asked for.
 fn asked_output<R: Files + Input + AllocGlobal, O: Write, E: Write>(
     rt: &R,
-    asked: &Asked<'_>,
+    asked: &Asked<'_, '_>,
     out: &mut O,
     err: &mut E,
 ) -> Result<Output, AllocError> {
-    match &asked.command {
-        Command::CheckConfig { config } if asked.why => check_config_hints(rt, config),
-        given => command(rt, given, out, err),
+    match asked.command {
+        Command::CheckConfig if asked.why => check_config_hints(rt, word_of(asked.words, "CONFIG")),
+        _ => command(rt, asked, out, err),
     }
 }
 
@@ -141,7 +171,14 @@ fn with_line(mut output: Output, line: &str) -> Result<Output, AllocError>
 }
 
 /// The parser's text, on standard error whatever was asked, with status 2.
-fn usage(alloc: Global, fault: &clap::Error) -> Result<Output, AllocError> {
+fn usage(alloc: Global, fault: clap::Error) -> Result<Output, AllocError> {
+    let output = usage_of(alloc, &fault);
+    drop(fault);
+    output
+}
+
+/// The same, of a fault that the caller keeps.
+fn usage_of(alloc: Global, fault: &clap::Error) -> Result<Output, AllocError> {
     if fault.kind() == ErrorKind::OutOfMemory {
         return Err(AllocError);
     }
@@ -157,28 +194,72 @@ fn usage(alloc: Global, fault: &clap::Error) -> Result<Output, AllocError> {
 /// but for a fault.
 pub fn command<R: Files + Input + AllocGlobal, O: Write, E: Write>(
     rt: &R,
-    command: &Command<'_>,
+    asked: &Asked<'_, '_>,
     out: &mut O,
     err: &mut E,
 ) -> Result<Output, AllocError> {
+    let words = asked.words;
+    match asked.command {
+        Command::Show => show(rt, asked, out, err),
+        Command::Open => open(rt, asked, out, err),
+        Command::Datagrams => log_file(rt, &datagrams_words(words), out, err),
+        Command::Replay => replay_log(rt, &replay_words(words), out),
+        named => command_of_texts(rt, named, words),
+    }
+}
+
+/// What `show` prints.
+fn show<R: Files + Input + AllocGlobal, O: Write, E: Write>(
+    rt: &R,
+    asked: &Asked<'_, '_>,
+    out: &mut O,
+    err: &mut E,
+) -> Result<Output, AllocError> {
+    match asked.words.get_str("HEX") {
+        Some(digits) => show_text(rt.alloc(), digits),
+        None => show_file(rt, &datagrams_words(asked.words), asked.names, out, err),
+    }
+}
+
+/// What `open` prints.
+fn open<R: Files + Input + AllocGlobal, O: Write, E: Write>(
+    rt: &R,
+    asked: &Asked<'_, '_>,
+    out: &mut O,
+    err: &mut E,
+) -> Result<Output, AllocError> {
+    let config = word_of(asked.words, "CONFIG");
+    match asked.words.get_str("HEX") {
+        Some(digits) => open_message(rt, config, digits),
+        None => open_file(
+            rt,
+            config,
+            &datagrams_words(asked.words),
+            asked.names,
+            out,
+            err,
+        ),
+    }
+}
+
+/// What a command prints that reads its files whole, or none.
+fn command_of_texts<R: Files + AllocGlobal>(
+    rt: &R,
+    command: Command,
+    words: &ArgMatches<'_>,
+) -> Result<Output, AllocError> {
     match command {
-        Command::Show { digits } => show_text(rt.alloc(), digits),
-        Command::ShowFrom(from) => show_file(rt, from, out, err),
-        Command::Open { config, digits } => open_message(rt, config, digits),
-        Command::OpenFrom { config, from } => open_file(rt, config, from, out, err),
-        Command::CheckAccess(words) => answer_on_access(rt, words, false),
-        Command::ExplainAccess(words) => answer_on_access(rt, words, true),
-        Command::WhoSees(words) => who_sees(rt, words),
-        Command::Sees(words) => seen(rt, words),
-        Command::CheckConfig { config } => check_config(rt, config),
-        Command::Replay(words) => replay_log(rt, words, out),
-        Command::MergeClocks { moment, files } => merge_clocks(rt, moment.unwrap_or("0"), files),
-        Command::CheckClocks { files } => check_clocks_files(rt, files),
-        Command::CheckLog { log } => check_log_file(rt, log),
-        Command::Datagrams(words) => log_file(rt, words, out, err),
-        Command::ImportSnmpd(words) => import_snmpd(rt, words),
-        Command::Manual { command } => manual(rt.alloc(), *command),
-        Command::Version => version(rt.alloc()),
+        Command::CheckAccess => answer_on_access(rt, &access_words(words), false),
+        Command::ExplainAccess => answer_on_access(rt, &access_words(words), true),
+        Command::WhoSees => who_sees(rt, words),
+        Command::Sees => seen(rt, &access_words(words)),
+        Command::CheckConfig => check_config(rt, word_of(words, "CONFIG")),
+        Command::ImportSnmpd => import_snmpd(rt, &import_words(words)),
+        Command::MergeClocks => merge_clocks(rt, words),
+        Command::CheckClocks => check_clocks_files(rt, words_of(words, "FILE")),
+        Command::CheckLog => check_log_file(rt, word_of(words, "LOG")),
+        Command::Manual => manual(rt.alloc(), words.get_str("COMMAND")),
+        _ => version(rt.alloc()),
     }
 }
 
@@ -187,7 +268,7 @@ pub fn command<R: Files + Input + AllocGlobal, O: Write, E: Write>(
 fn manual(alloc: Global, command: Option<&str>) -> Result<Output, AllocError> {
     match manual_text(alloc, command) {
         Ok(text) => Ok(Output::out(alloc, text.into_bytes(), 0)),
-        Err(fault) => usage(alloc, &fault),
+        Err(fault) => usage(alloc, fault),
     }
 }
 
@@ -195,6 +276,18 @@ fn manual(alloc: Global, command: Option<&str>) -> Result<Output, AllocError> {
 fn version(alloc: Global) -> Result<Output, AllocError> {
     let text = version_text(alloc)?;
     Ok(Output::out(alloc, text.into_bytes(), 0))
+}
+
+/// The words of a question, in the order in which they are given.
+fn question_of<'a>(words: &AccessWords<'a>) -> [&'a str; 6] {
+    [
+        words.model,
+        words.name,
+        words.level,
+        words.view,
+        words.context,
+        words.variable,
+    ]
 }
 
 /// Reads the configuration whole, before it looks at another word, and then asks it, for what decides too
@@ -205,24 +298,28 @@ fn answer_on_access<R: Files + AllocGlobal>(
     is_explained: bool,
 ) -> Result<Output, AllocError> {
     let alloc = rt.alloc();
+    let question = question_of(words);
     match read_file(rt, words.config) {
-        Ok(config) if is_explained => explain_text(alloc, &config, &words.question),
-        Ok(config) => check_text(alloc, &config, &words.question),
+        Ok(config) if is_explained => explain_text(alloc, &config, &question),
+        Ok(config) => check_text(alloc, &config, &question),
         Err(fault) => unread(alloc, fault, words.config),
     }
 }
 
 /// Reads the configuration whole, before it looks at another word, and then lists who sees the variable.
-fn who_sees<R: Files + AllocGlobal>(rt: &R, words: &WhoWords<'_>) -> Result<Output, AllocError> {
+fn who_sees<R: Files + AllocGlobal>(rt: &R, words: &ArgMatches<'_>) -> Result<Output, AllocError> {
     let alloc = rt.alloc();
-    match read_file(rt, words.config) {
-        Ok(config) => who_text(alloc, &config, words.variable, words.view, words.only_users),
-        Err(fault) => unread(alloc, fault, words.config),
+    let name = word_of(words, "CONFIG");
+    let variable = word_of(words, "OID");
+    let (view, only_users) = (words.get_str("VIEW"), words.get_flag("users"));
+    match read_file(rt, name) {
+        Ok(config) => who_text(alloc, &config, variable, view, only_users),
+        Err(fault) => unread(alloc, fault, name),
     }
 }
 
 /// Reads the configuration whole, before it looks at another word, and then lists what the name sees.
-fn seen<R: Files + AllocGlobal>(rt: &R, words: &SeesWords<'_>) -> Result<Output, AllocError> {
+fn seen<R: Files + AllocGlobal>(rt: &R, words: &AccessWords<'_>) -> Result<Output, AllocError> {
     let alloc = rt.alloc();
     match read_file(rt, words.config) {
         Ok(config) => sees_text(alloc, &config, words.model, words.name),
@@ -264,11 +361,10 @@ fn check_config_hints<R: Files + AllocGlobal>(rt: &R, name: &str) -> Result<Outp
 /// Looks at the moment before it opens a file, and then merges the files.
 fn merge_clocks<R: Files + AllocGlobal>(
     rt: &R,
-    moment: &str,
-    names: &[&str],
+    words: &ArgMatches<'_>,
 ) -> Result<Output, AllocError> {
-    match moment_of(moment) {
-        Some(moment) => merge_files(rt, moment, names),
+    match moment_of(words.get_str("MOMENT").unwrap_or("0")) {
+        Some(moment) => merge_files(rt, moment, words_of(words, "FILE")),
         None => Output::complaint(rt.alloc(), "bad word MOMENT"),
     }
 }

@@ -8,7 +8,11 @@ use crate::why_words::{
     Complaint, look_at_digits, look_at_first, look_at_form, look_at_level, look_at_model,
     look_at_moment, look_at_ports, look_at_variable, look_at_view,
 };
-use snmpsec_cli::{AccessWords, Command, DatagramsWords, ReplayWords, SeesWords, WhoWords};
+use clap::ArgMatches;
+use snmpsec_cli::{
+    AccessWords, Asked, Command, DatagramsWords, ReplayWords, access_words, datagrams_words,
+    replay_words, word_of, words_of,
+};
 use snmpsec_notes::cut_message;
 use std::alloc::{AllocError, Global};
 use std::rt::Files;
@@ -18,10 +22,10 @@ use std::rt::Files;
 /// already, or where it can't be found out any more.
 pub(crate) fn why<R: Files + AllocGlobal>(
     rt: &R,
-    command: &Command<'_>,
+    asked: &Asked<'_, '_>,
     status: u8,
 ) -> Result<Option<String>, AllocError> {
-    match look_at(rt, command, status) {
+    match look_at(rt, asked, status) {
         Ok(()) => Ok(None),
         Err(Complaint::Told(line)) => Ok(Some(line)),
         Err(Complaint::OutOfMemory) => Err(AllocError),
@@ -29,43 +33,62 @@ pub(crate) fn why<R: Files + AllocGlobal>(
 }
 
 /// Whether the command says what is wrong without being asked, as those do that are as new as that line.
-pub(crate) fn says_why(command: &Command<'_>) -> bool {
-    matches!(
-        command,
-        Command::WhoSees(_)
-            | Command::Sees(_)
-            | Command::ShowFrom(_)
-            | Command::OpenFrom { .. }
-            | Command::Datagrams(_)
-            | Command::ImportSnmpd(_)
-            | Command::CheckClocks { .. }
-            | Command::CheckLog { .. }
-    )
+pub(crate) fn says_why(asked: &Asked<'_, '_>) -> bool {
+    match asked.command {
+        Command::Show | Command::Open => asked.words.get_str("HEX").is_none(),
+        Command::WhoSees
+        | Command::Sees
+        | Command::Datagrams
+        | Command::ImportSnmpd
+        | Command::CheckClocks
+        | Command::CheckLog => true,
+        _ => false,
+    }
 }
 
 /// Looks at the words and the files of a command as it does.
 fn look_at<R: Files + AllocGlobal>(
     rt: &R,
-    command: &Command<'_>,
+    asked: &Asked<'_, '_>,
     status: u8,
 ) -> Result<(), Complaint> {
-    match command {
-        Command::Show { digits } => look_at_datagram(rt.alloc(), digits),
-        Command::ShowFrom(from) => look_at_capture(rt, &from.words, status),
-        Command::Open { config, digits } => look_at_opened(rt, config, digits),
-        Command::OpenFrom { config, from } => look_at_opened_file(rt, config, &from.words, status),
-        Command::CheckAccess(words) => look_at_question(rt, words),
-        Command::ExplainAccess(words) => look_at_question(rt, words),
-        Command::WhoSees(words) => look_at_who(rt, words),
-        Command::Sees(words) => look_at_sees(rt, words),
-        Command::CheckConfig { config } => look_at_whole_file(rt, config),
-        Command::Replay(words) => look_at_replay(rt, words),
-        Command::MergeClocks { moment, files } => look_at_merge(rt, *moment, files),
-        Command::CheckClocks { files } => look_at_files(rt, files),
-        Command::CheckLog { log } => look_at_file(rt, log, usize::MAX),
-        Command::Datagrams(words) => look_at_capture(rt, words, status),
-        Command::ImportSnmpd(words) => look_at_files(rt, &words.files),
-        Command::Manual { .. } | Command::Version => Ok(()),
+    let words = asked.words;
+    match asked.command {
+        Command::Show => look_at_show(rt, words, status),
+        Command::Open => look_at_open(rt, words, status),
+        Command::CheckAccess | Command::ExplainAccess => look_at_question(rt, &access_words(words)),
+        Command::WhoSees => look_at_who(rt, words),
+        Command::Sees => look_at_sees(rt, &access_words(words)),
+        Command::CheckConfig => look_at_whole_file(rt, word_of(words, "CONFIG")),
+        Command::Replay => look_at_replay(rt, &replay_words(words)),
+        Command::MergeClocks => look_at_merge(rt, words.get_str("MOMENT"), words_of(words, "FILE")),
+        Command::CheckClocks | Command::ImportSnmpd => look_at_files(rt, words_of(words, "FILE")),
+        Command::CheckLog => look_at_file(rt, word_of(words, "LOG"), usize::MAX),
+        Command::Datagrams => look_at_capture(rt, &datagrams_words(words), status),
+        Command::Manual | Command::Version => Ok(()),
+    }
+}
+
+fn look_at_show<R: Files + AllocGlobal>(
+    rt: &R,
+    words: &ArgMatches<'_>,
+    status: u8,
+) -> Result<(), Complaint> {
+    match words.get_str("HEX") {
+        Some(digits) => look_at_datagram(rt.alloc(), digits),
+        None => look_at_capture(rt, &datagrams_words(words), status),
+    }
+}
+
+fn look_at_open<R: Files + AllocGlobal>(
+    rt: &R,
+    words: &ArgMatches<'_>,
+    status: u8,
+) -> Result<(), Complaint> {
+    let config = word_of(words, "CONFIG");
+    match words.get_str("HEX") {
+        Some(digits) => look_at_opened(rt, config, digits),
+        None => look_at_opened_file(rt, config, &datagrams_words(words), status),
     }
 }
 
@@ -101,22 +124,21 @@ fn look_at_question<R: Files + AllocGlobal>(
     rt: &R,
     words: &AccessWords<'_>,
 ) -> Result<(), Complaint> {
-    let [model, _, level, view, _, variable] = words.question;
     look_at_whole_file(rt, words.config)?;
-    look_at_model(rt.alloc(), model)?;
-    look_at_level(rt.alloc(), level)?;
-    look_at_view(rt.alloc(), Some(view))?;
-    look_at_variable(rt.alloc(), variable)?;
+    look_at_model(rt.alloc(), words.model)?;
+    look_at_level(rt.alloc(), words.level)?;
+    look_at_view(rt.alloc(), Some(words.view))?;
+    look_at_variable(rt.alloc(), words.variable)?;
     look_at_config(rt, words.config)
 }
 
-fn look_at_who<R: Files + AllocGlobal>(rt: &R, words: &WhoWords<'_>) -> Result<(), Complaint> {
-    look_at_whole_file(rt, words.config)?;
-    look_at_variable(rt.alloc(), words.variable)?;
-    look_at_view(rt.alloc(), words.view)
+fn look_at_who<R: Files + AllocGlobal>(rt: &R, words: &ArgMatches<'_>) -> Result<(), Complaint> {
+    look_at_whole_file(rt, word_of(words, "CONFIG"))?;
+    look_at_variable(rt.alloc(), word_of(words, "OID"))?;
+    look_at_view(rt.alloc(), words.get_str("VIEW"))
 }
 
-fn look_at_sees<R: Files + AllocGlobal>(rt: &R, words: &SeesWords<'_>) -> Result<(), Complaint> {
+fn look_at_sees<R: Files + AllocGlobal>(rt: &R, words: &AccessWords<'_>) -> Result<(), Complaint> {
     look_at_whole_file(rt, words.config)?;
     look_at_model(rt.alloc(), words.model)
 }
@@ -152,7 +174,7 @@ fn look_at_merge<R: Files + AllocGlobal>(
 /// The words of a file with datagrams.
 fn look_at_wanted(alloc: Global, words: &DatagramsWords<'_>) -> Result<(), Complaint> {
     look_at_form(alloc, words.form, words.ip)?;
-    look_at_ports(alloc, &words.ports)?;
+    look_at_ports(alloc, words.ports)?;
     look_at_moment(alloc, words.moment)
 }
 
