@@ -40,7 +40,7 @@ fn command_named(name: &str, words: &ArgMatches<'_>) -> Result<Command, Unread> 
 }
 
 /// The refusal of a command line whose command can't be read.
-fn refused(alloc: Global, fault: Unread) -> Result<Error, AllocError> {
+fn refusal_of(alloc: Global, fault: Unread) -> Result<Error, AllocError> {
     match fault {
         Unread::Missing(name) => refusal(alloc, ErrorKind::MissingRequiredArgument, name),
         Unread::NoCommand => refusal(alloc, ErrorKind::MissingSubcommand, "a command is missing"),
@@ -48,8 +48,8 @@ fn refused(alloc: Global, fault: Unread) -> Result<Error, AllocError> {
 }
 
 /// The same, where memory may have run out.
-fn refused_by(alloc: Global, fault: Unread) -> Error {
-    match refused(alloc, fault) {
+fn refuse(alloc: Global, fault: Unread) -> Error {
+    match refusal_of(alloc, fault) {
         Ok(error) => error,
         Err(fault) => Error::from(fault),
     }
@@ -61,7 +61,7 @@ pub fn asked_by<'m, 'a>(
     matches: &'m ArgMatches<'a>,
 ) -> Result<Asked<'m, 'a>, Error> {
     let Some((name, words)) = matches.subcommand() else {
-        return Err(refused_by(alloc, Unread::NoCommand));
+        return Err(refuse(alloc, Unread::NoCommand));
     };
     match command_named(name, words) {
         Ok(command) => Ok(Asked {
@@ -70,6 +70,6 @@ pub fn asked_by<'m, 'a>(
             why: matches.get_flag("why"),
             names: words.get_flag("names"),
         }),
-        Err(fault) => Err(refused_by(alloc, fault)),
+        Err(fault) => Err(refuse(alloc, fault)),
     }
 }

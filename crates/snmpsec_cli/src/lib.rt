@@ -20,6 +20,8 @@ use clap::{ArgMatches, Error};
 use forms::parser;
 use std::alloc::{AllocError, Global};
 use std::convert::AsStr;
+use std::rt::Env;
+use std::{env, io};
 
 /// A command of the command line.
 #[derive(Clone, Copy)]
@@ -54,6 +56,28 @@ pub enum Command {
     Manual,
     /// `version`
     Version,
+}
+
+/// The arguments of the program, its name first. The error is the refusal of words that are no text, or says that memory ran out.
+pub fn arguments<R: Env + AllocGlobal>(rt: &R) -> Result<Vec<String>, Error> {
+    match env::args(rt) {
+        Ok(words) => match words.collect(rt.alloc()) {
+            Ok(words) => Ok(words),
+            Err(fault) => Err(Error::from(fault)),
+        },
+        Err(fault) => Err(no_arguments(rt.alloc(), fault.kind())),
+    }
+}
+
+/// Why there are no arguments.
+fn no_arguments(alloc: Global, kind: io::ErrorKind) -> Error {
+    if kind == io::ErrorKind::OutOfMemory {
+        return Error::from(AllocError);
+    }
+    match not_text(alloc) {
+        Ok(error) => error,
+        Err(fault) => Error::from(fault),
+    }
 }
 
 /// What the parser makes of a command line, the program's name first. A request for help is an error too.

@@ -21,7 +21,7 @@ struct Wanted {
 
 impl Wanted {
     /// The same, as the reader of a file is asked.
-    fn asked(&self) -> Asked<'_> {
+    fn options(&self) -> Asked<'_> {
         Asked {
             form: self.form,
             moment: self.moment,
@@ -177,7 +177,15 @@ fn print_read<R: Read, O: Write, E: Write>(
     let Ok(mut log) = BufWriter::new(alloc, out) else {
         return Err(AllocError);
     };
-    let answer = write_printout(alloc, printout, wanted.asked(), name, reader, &mut log, err);
+    let answer = write_printout(
+        alloc,
+        printout,
+        wanted.options(),
+        name,
+        reader,
+        &mut log,
+        err,
+    );
     if log.flush().is_err() {
         return Output::complaint(alloc, "cannot write");
     }

@@ -15,7 +15,6 @@
 
 mod captured;
 mod checks;
-mod import;
 pub mod replay;
 pub mod run;
 mod why;

@@ -5,14 +5,13 @@ ghost use Rattle.snmpsec_notes.specs.Names.{AddsNames};
 
 use crate::captured::{log_file, open_file, show_file};
 use crate::checks::{check_clocks_files, check_log_file};
-use crate::import::import_snmpd;
 use crate::replay::{first_line_of, replay_as};
-use crate::why::{says_why, why};
+use crate::why::{file_fault, says_why, why};
 use clap::ArgMatches;
 use clap::error::ErrorKind;
 use snmpsec_cli::{
-    AccessWords, Asked, Command, ReplayWords, access_words, asked_by, datagrams_words,
-    import_words, manual_text, not_text, parse, replay_words, version_text, word_of, words_of,
+    AccessWords, Asked, Command, ReplayWords, access_words, arguments, asked_by, datagrams_words,
+    manual_text, parse, replay_words, version_text, word_of, words_of,
 };
 use snmpsec_io::{FileFault, open_log, read_file, write_whole};
 use snmpsec_notes::with_names;
@@ -24,9 +23,10 @@ use snmpsec_replay::{Printing, ReplayFault};
 use std::alloc::{AllocError, Global};
 use std::io::{Input, IsTerminal, Write};
 use std::rt::{Env, Files};
-use std::{env, io};
 
 const OUT_OF_MEMORY: &[u8] = b"snmpsec: out of memory\n";
+
+const NOT_HERE: &str = "import-snmpd is in the program snmpsec-import";
 
 const CANNOT_WRITE: &[u8] = b"snmpsec: cannot write\n";
 
@@ -36,7 +36,17 @@ pub fn run<R: Files + Env + Input + AllocGlobal, O: Write, E: Write + IsTerminal
     out: &mut O,
     err: &mut E,
 ) -> u8 {
-    match answer(rt, out, err) {
+    let answered = answer(rt, out, err);
+    finish(answered, out, err)
+}
+
+/// Writes what a command prints, or that memory ran out, and returns the status.
+pub fn finish<O: Write, E: Write>(
+    answered: Result<Output, AllocError>,
+    out: &mut O,
+    err: &mut E,
+) -> u8 {
+    match answered {
         Ok(output) => print(&output, out, err),
         Err(_) => {
             let _ = write_whole(err, OUT_OF_MEMORY);
@@ -64,16 +74,14 @@ fn answer<R: Files + Env + Input + AllocGlobal, O: Write, E: Write + IsTerminal>
     out: &mut O,
     err: &mut E,
 ) -> Result<Output, AllocError> {
-    let alloc = rt.alloc();
-    let words = match env::args(rt) {
-        Ok(words) => words,
-        Err(e) if e.kind() == io::ErrorKind::OutOfMemory => return Err(AllocError),
-        Err(_) => return usage(alloc, not_text(alloc)?),
-    };
-    let words: Vec<String> = words.collect(alloc)?;
-    let output = answer_words(rt, words.as_slice(), out, err);
-    drop(words);
-    output
+    match arguments(rt) {
+        Ok(words) => {
+            let output = answer_words(rt, words.as_slice(), out, err);
+            drop(words);
+            output
+        }
+        Err(fault) => usage(rt.alloc(), fault),
+    }
 }
 
 /// The same, of the words of a command line, the program's name first.
@@ -119,7 +127,7 @@ pub fn answer_asked<R: Files + Input + AllocGlobal, O: Write, E: Write>(
     let output = asked_output(rt, asked, out, err)?;
     if output.status == 0 {
         return if asked.names {
-            named(rt.alloc(), output)
+            add_names(rt.alloc(), output)
         } else {
             Ok(output)
         };
@@ -147,7 +155,7 @@ fn asked_output<R: Files + Input + AllocGlobal, O: Write, E: Write>(
 }
 
 /// The same, with names behind the lines of standard output that have one.
-fn named(alloc: Global, output: Output) -> Result<Output, AllocError>
+fn add_names(alloc: Global, output: Output) -> Result<Output, AllocError>
     ensures out { IfOk result (λ told. AddsNames output.out.items told.out.items) }
     ensures err { IfOk result (λ told. told.err.items ≡ output.err.items) }
     ensures status { IfOk result (λ told. told.status ≡ output.status) }
@@ -170,8 +178,20 @@ fn with_line(mut output: Output, line: &str) -> Result<Output, AllocError>
     Ok(output)
 }
 
+/// The same, and after a file of these that can't be read why it can't.
+pub fn with_file_fault<R: Files + AllocGlobal>(
+    rt: &R,
+    output: Output,
+    names: &[&str],
+) -> Result<Output, AllocError> {
+    match file_fault(rt, names)? {
+        Some(line) => with_line(output, &line),
+        None => Ok(output),
+    }
+}
+
 /// The parser's text, on standard error whatever was asked, with status 2.
-fn usage(alloc: Global, fault: clap::Error) -> Result<Output, AllocError> {
+pub fn usage(alloc: Global, fault: clap::Error) -> Result<Output, AllocError> {
     let output = usage_of(alloc, &fault);
     drop(fault);
     output
@@ -252,9 +272,9 @@ fn command_of_texts<R: Files + AllocGlobal>(
         Command::CheckAccess => answer_on_access(rt, &access_words(words), false),
         Command::ExplainAccess => answer_on_access(rt, &access_words(words), true),
         Command::WhoSees => who_sees(rt, words),
-        Command::Sees => seen(rt, &access_words(words)),
+        Command::Sees => list_seen(rt, &access_words(words)),
         Command::CheckConfig => check_config(rt, word_of(words, "CONFIG")),
-        Command::ImportSnmpd => import_snmpd(rt, &import_words(words)),
+        Command::ImportSnmpd => Output::complaint(rt.alloc(), NOT_HERE),
         Command::MergeClocks => merge_clocks(rt, words),
         Command::CheckClocks => check_clocks_files(rt, words_of(words, "FILE")),
         Command::CheckLog => check_log_file(rt, word_of(words, "LOG")),
@@ -319,7 +339,10 @@ fn who_sees<R: Files + AllocGlobal>(rt: &R, words: &ArgMatches<'_>) -> Result<Ou
 }
 
 /// Reads the configuration whole, before it looks at another word, and then lists what the name sees.
-fn seen<R: Files + AllocGlobal>(rt: &R, words: &AccessWords<'_>) -> Result<Output, AllocError> {
+fn list_seen<R: Files + AllocGlobal>(
+    rt: &R,
+    words: &AccessWords<'_>,
+) -> Result<Output, AllocError> {
     let alloc = rt.alloc();
     match read_file(rt, words.config) {
         Ok(config) => sees_text(alloc, &config, words.model, words.name),
@@ -439,12 +462,12 @@ fn replay_files<R: Files + AllocGlobal, O: Write>(
         out,
     ) {
         Ok(status) => Ok(Output::out(alloc, Vec::new(alloc), status)),
-        Err(fault) => stopped(alloc, fault, words.log),
+        Err(fault) => complaint_of(alloc, fault, words.log),
     }
 }
 
 /// What is printed where a replay stops.
-fn stopped(alloc: Global, fault: ReplayFault, log: &str) -> Result<Output, AllocError> {
+fn complaint_of(alloc: Global, fault: ReplayFault, log: &str) -> Result<Output, AllocError> {
     match fault {
         ReplayFault::LogLine(number) => {
             Output::complaint(alloc, format!(in alloc; "log line {number}")?.as_str())
@@ -456,7 +479,7 @@ fn stopped(alloc: Global, fault: ReplayFault, log: &str) -> Result<Output, Alloc
 }
 
 /// What is printed of a file that wasn't read.
-pub(crate) fn unread(alloc: Global, fault: FileFault, name: &str) -> Result<Output, AllocError> {
+pub fn unread(alloc: Global, fault: FileFault, name: &str) -> Result<Output, AllocError> {
     match fault {
         FileFault::CannotRead => {
             Output::complaint(alloc, format!(in alloc; "cannot read {name}")?.as_str())

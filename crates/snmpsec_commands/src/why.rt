@@ -32,6 +32,18 @@ pub(crate) fn why<R: Files + AllocGlobal>(
     }
 }
 
+/// The line that says why the first of these files that can't be read can't be. None if each can be read.
+pub(crate) fn file_fault<R: Files + AllocGlobal>(
+    rt: &R,
+    names: &[&str],
+) -> Result<Option<String>, AllocError> {
+    match look_at_files(rt, names) {
+        Ok(()) => Ok(None),
+        Err(Complaint::Told(line)) => Ok(Some(line)),
+        Err(Complaint::OutOfMemory) => Err(AllocError),
+    }
+}
+
 /// Whether the command says what is wrong without being asked, as those do that are as new as that line.
 pub(crate) fn says_why(asked: &Asked<'_, '_>) -> bool {
     match asked.command {
@@ -39,7 +51,6 @@ pub(crate) fn says_why(asked: &Asked<'_, '_>) -> bool {
         Command::WhoSees
         | Command::Sees
         | Command::Datagrams
-        | Command::ImportSnmpd
         | Command::CheckClocks
         | Command::CheckLog => true,
         _ => false,
@@ -62,10 +73,10 @@ fn look_at<R: Files + AllocGlobal>(
         Command::CheckConfig => look_at_whole_file(rt, word_of(words, "CONFIG")),
         Command::Replay => look_at_replay(rt, &replay_words(words)),
         Command::MergeClocks => look_at_merge(rt, words.get_str("MOMENT"), words_of(words, "FILE")),
-        Command::CheckClocks | Command::ImportSnmpd => look_at_files(rt, words_of(words, "FILE")),
+        Command::CheckClocks => look_at_files(rt, words_of(words, "FILE")),
         Command::CheckLog => look_at_file(rt, word_of(words, "LOG"), usize::MAX),
         Command::Datagrams => look_at_capture(rt, &datagrams_words(words), status),
-        Command::Manual | Command::Version => Ok(()),
+        Command::ImportSnmpd | Command::Manual | Command::Version => Ok(()),
     }
 }
 

@@ -1,8 +1,8 @@
 //! `snmpsec import-snmpd`: the configuration that files of snmpd.conf come to.
 
-use crate::run::unread;
 use snmpd_import::{Imported, Sources, TextFault, follow, import, is_serious, notes_text};
 use snmpsec_cli::ImportWords;
+use snmpsec_commands::run::unread;
 use snmpsec_output::Output;
 use std::alloc::{AllocError, Global};
 use std::rt::Files;
@@ -44,7 +44,7 @@ pub(crate) fn import_snmpd<R: Files + AllocGlobal>(
     }
     let Sources { names, items } = follow(rt, sources, words.no_include)?;
     match import(alloc, &names, items, contexts) {
-        Ok(done) => printed(alloc, &names, done, words.strict),
+        Ok(done) => import_output(alloc, &names, done, words.strict),
         Err(TextFault::OutOfMemory) => Err(AllocError),
         Err(TextFault::NotReadBack) => {
             Output::complaint(alloc, "the configuration isn't read back as it was written")
@@ -53,7 +53,7 @@ pub(crate) fn import_snmpd<R: Files + AllocGlobal>(
 }
 
 /// The configuration on standard output and the notes on standard error.
-fn printed(
+fn import_output(
     alloc: Global,
     names: &[String],
     done: Imported,

@@ -1,0 +1,69 @@
+//! From the command line of `import-snmpd` to what is written.
+
+use crate::import::import_snmpd;
+use clap::ArgMatches;
+use snmpsec_cli::{Command, arguments, asked_by, import_words, parse, words_of};
+use snmpsec_commands::run::{finish, usage, with_file_fault};
+use snmpsec_output::Output;
+use std::alloc::AllocError;
+use std::io::Write;
+use std::rt::{Env, Files};
+
+/// Runs `import-snmpd` over the program's arguments, and returns its status.
+pub(crate) fn run<R: Files + Env + AllocGlobal, O: Write, E: Write>(
+    rt: &R,
+    out: &mut O,
+    err: &mut E,
+) -> u8 {
+    finish(answer(rt), out, err)
+}
+
+/// What the program prints.
+fn answer<R: Files + Env + AllocGlobal>(rt: &R) -> Result<Output, AllocError> {
+    match arguments(rt) {
+        Ok(words) => {
+            let output = answer_words(rt, words.as_slice());
+            drop(words);
+            output
+        }
+        Err(fault) => usage(rt.alloc(), fault),
+    }
+}
+
+/// The same, of the words of a command line, the program's name first.
+fn answer_words<R: Files + AllocGlobal>(rt: &R, words: &[String]) -> Result<Output, AllocError> {
+    match parse(rt.alloc(), words) {
+        Ok(matches) => {
+            let output = answer_matches(rt, &matches);
+            drop(matches);
+            output
+        }
+        Err(fault) => usage(rt.alloc(), fault),
+    }
+}
+
+/// The same, of what the parser made of them.
+fn answer_matches<R: Files + AllocGlobal>(
+    rt: &R,
+    matches: &ArgMatches<'_>,
+) -> Result<Output, AllocError> {
+    match asked_by(rt.alloc(), matches) {
+        Ok(asked) => match asked.command {
+            Command::ImportSnmpd => import(rt, asked.words),
+            _ => Output::complaint(
+                rt.alloc(),
+                "this program has import-snmpd alone; run snmpsec",
+            ),
+        },
+        Err(fault) => usage(rt.alloc(), fault),
+    }
+}
+
+/// What import-snmpd prints, and after a file that can't be read why it can't.
+fn import<R: Files + AllocGlobal>(rt: &R, words: &ArgMatches<'_>) -> Result<Output, AllocError> {
+    let output = import_snmpd(rt, &import_words(words))?;
+    if output.status == 0 {
+        return Ok(output);
+    }
+    with_file_fault(rt, output, words_of(words, "FILE"))
+}
