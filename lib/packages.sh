@@ -11,9 +11,10 @@ repository=$(cd "$here/.." && pwd)
 [ -n "$1" ] || { sed -n '2,3p' "$0"; exit 2; }
 mkdir -p "$1"
 out=$(cd "$1" && pwd)
-[ -n "$NO_LIBRARY" ] || (cd "$repository" && tools/build snmp_c snmpsec)
+[ -n "$NO_LIBRARY" ] || (cd "$repository" && tools/build snmp_c snmpsec snmpsec_import)
 export SNMPSEC_ARCHIVE=$repository/crates/snmp_c/out/libsnmp_c.a SNMPSEC_PROGRAM=${SNMPSEC_PROGRAM:-$repository/crates/snmpsec/out/snmpsec}
-(cd "$repository" && tools/check-proved "$SNMPSEC_ARCHIVE" "$SNMPSEC_PROGRAM")
+export SNMPSEC_IMPORT_PROGRAM=${SNMPSEC_IMPORT_PROGRAM:-$repository/crates/snmpsec_import/out/snmpsec_import}
+(cd "$repository" && tools/check-proved "$SNMPSEC_ARCHIVE" "$SNMPSEC_PROGRAM" "$SNMPSEC_IMPORT_PROGRAM")
 # (Debian's Python has the tools, whichever is first on the path)
 export PATH=/usr/sbin:/usr/bin:/sbin:/bin
 
@@ -24,6 +25,7 @@ mkdir -p "$tree/docs" "$tree/tools"
 (cd "$repository" && tar c --exclude=lib/out --exclude=lib/rust/target --exclude=__pycache__ lib) | tar x -C "$tree"
 chmod -R u+w "$tree"
 mv "$tree/lib/debian" "$tree/debian"
+cp "$repository/snmpsec" "$tree"
 cp "$repository/docs/snmpsec.1" "$tree/docs"
 cp "$repository/tools/snmpsec.bash" "$repository/tools/_snmpsec" "$tree/tools"
 (cd "$out" && tar czf "snmpsec_$version.orig.tar.gz" --exclude=debian "snmpsec-$version")

@@ -72,7 +72,8 @@ test_install() {
         echo "skipped: the installed library: there is no cmake or no pkg-config (apt-get install cmake make pkg-config)"
         return
     fi
-    [ -x "$program" ] && words=(-DSNMPSEC_PROGRAM="$program")
+    local import=$here/../crates/snmpsec_import/out/snmpsec_import
+    [ -x "$program" ] && [ -x "$import" ] && words=(-DSNMPSEC_PROGRAM="$program" -DSNMPSEC_IMPORT_PROGRAM="$import")
     cmake -S "$here" -B "$build" -DSNMPSEC_ARCHIVE="$archive" "${words[@]}" -DCMAKE_BUILD_TYPE=Release > "$work/cmake.log" 2>&1 && cmake --build "$build" >> "$work/cmake.log" 2>&1
     check "CMake builds" 0 $?
     echo unproved_build > "$work/unproved"
@@ -83,6 +84,10 @@ test_install() {
     check "the archive shows no other names" "" "$(nm -g --defined-only "$(find "$prefix" -name libsnmpsec.a)" | awk 'NF == 3 { print $3 }' | grep -v '^snmpsec_')"
     use_installed "installed" "$prefix"
     use_by_cmake "$prefix"
+    if [ ${#words[@]} != 0 ]; then
+        check "the installed program" "$("$program" version)" "$("$prefix/bin/snmpsec" version)"
+        has "the installed import-snmpd" "snmpsec import-snmpd" "$("$prefix/bin/snmpsec" --why import-snmpd --help 2>&1)"
+    fi
     check "the installed agent" "$("$OUT/agent" --version)" "$(LD_LIBRARY_PATH=$prefix/lib "$prefix/bin/snmpsec-agent" --version)"
     cmake --build "$build" --target uninstall > "$work/uninstall.log" 2>&1
     check "removed" 0 $?

@@ -104,7 +104,7 @@ test_packages() {
     local missing
     missing=$(missing_tools)
     if [ -n "$missing" ]; then echo "skipped: the Debian packages and the wheel: there is no $(paste -sd' ' <<< "$missing")"; return; fi
-    if [ ! -x "$here/../crates/snmpsec/out/snmpsec" ]; then echo "skipped: the Debian packages: the program isn't built, which ./prove does"; return; fi
+    if [ ! -x "$here/../crates/snmpsec/out/snmpsec" ] || [ ! -x "$here/../crates/snmpsec_import/out/snmpsec_import" ]; then echo "skipped: the Debian packages: the program isn't built, which ./prove does"; return; fi
     echo unproved_build > "$work/unproved"
     has "no package is made of an unproved program" "is an unproved build" "$(NO_LIBRARY=1 SNMPSEC_PROGRAM=$work/unproved bash "$here/packages.sh" "$work/refused" 2>&1)"
     NO_LIBRARY=1 bash "$here/packages.sh" "$work/packages" > "$work/packages.log" 2>&1
