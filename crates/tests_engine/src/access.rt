@@ -5,17 +5,18 @@ use std::alloc::Global;
 use std::test::Fail;
 use vacm_core::*;
 
-fn name(text: &[u8]) -> Result<Name, Fail> {
-    Ok(Name::of(text).ok_or("at most 32 octets")?)
-}
-
-fn family(view: &[u8], subtree: &str, mask: &[u8], include: bool) -> Result<FamilyRow, Fail> {
-    Ok(FamilyRow {
-        view: name(view)?,
-        subtree: Oid::from_text(subtree).ok_or("an identifier")?,
-        mask: Mask::of(mask).ok_or("at most 16 octets")?,
-        include,
-    })
+/// A row of the subtree of this arc.
+fn family(arc: u32) -> FamilyRow {
+    let (Some(view), Some(subtree), Some(mask)) = (Name::of(b"v"), Oid::of(&[arc]), Mask::of(b""))
+    else {
+        unreachable!();
+    };
+    FamilyRow {
+        view,
+        subtree,
+        mask,
+        include: true,
+    }
 }
 
 /// No rows.
@@ -47,7 +48,7 @@ fn has_no_context(alloc: Global, rows: &Rows, variable: &Oid) -> Result<bool, Va
 #[test]
 fn a_refused_growth_leaves_the_rows(rt: HostRuntime) -> Result<(), Fail> {
     let mut rows = no_rows(rt.alloc());
-    let mut row = family(b"v", "1", b"", true)?;
+    let mut row = family(1);
     if let Err(refused) = rows.families.push(row) {
         row = refused.value;
         rows.families.push(row)?;

@@ -2,7 +2,7 @@
 
 ghost use Rattle.std.specs.Prelude.{◌≤◌};
 
-use usm_aes::{cfb_open, cfb_seal, expand};
+use usm_aes::{Schedule, cfb_open, cfb_seal, expand};
 
 /// The longest of the texts.
 const LONGEST: usize = 300;
@@ -13,7 +13,7 @@ const SEALED: u64 = 0x7325_f174_5a16_8601;
 const OPENED: u64 = 0xbf2d_dc2b_c013_3da8;
 
 /// A linear congruential generator of octets.
-#[derive(Drop)]
+#[derive(Clone, Copy)]
 struct Generator {
     state: u64,
 }
@@ -57,24 +57,49 @@ fn digest(so_far: u64, text: &[u8]) -> u64 {
     digest
 }
 
+/// Digests of texts that were sealed, and of texts that were opened.
+#[derive(Clone, Copy)]
+struct Digests {
+    sealed: u64,
+    opened: u64,
+}
+
+/// Carries the digests on over a text, sealed and opened.
+fn carry_on(
+    digests: &mut Digests,
+    schedule: &Schedule,
+    iv: [u8; 16],
+    plain: &[u8; LONGEST],
+    size: usize,
+)
+    requires { size ≤ 300 }
+{
+    let mut text = *plain;
+    cfb_seal(schedule, iv, &mut text[..size]);
+    digests.sealed = digest(digests.sealed, &text[..size]);
+    text = *plain;
+    cfb_open(schedule, iv, &mut text[..size]);
+    digests.opened = digest(digests.opened, &text[..size]);
+}
+/// Carries the digests on over the next text.
+fn seal_and_open(generator: &mut Generator, digests: &mut Digests) {
+    let schedule = expand(&generator.block());
+    let iv = generator.block();
+    let size = generator.size();
+    let mut plain = [0; LONGEST];
+    generator.fill(&mut plain[..size]);
+    carry_on(digests, &schedule, iv, &plain, size);
+}
+
 #[test]
 fn random_texts_as_openssl_has_them(rt: HostRuntime) {
     let mut generator = Generator { state: 1 };
-    let mut sealed = 0xcbf2_9ce4_8422_2325;
-    let mut opened = sealed;
+    let mut digests = Digests {
+        sealed: 0xcbf2_9ce4_8422_2325,
+        opened: 0xcbf2_9ce4_8422_2325,
+    };
     for _ in 0..10_000 {
-        let schedule = expand(&generator.block());
-        let iv = generator.block();
-        let size = generator.size();
-        let mut plain = [0; LONGEST];
-        generator.fill(&mut plain[..size]);
-        let mut text = plain;
-        cfb_seal(&schedule, iv, &mut text[..size]);
-        sealed = digest(sealed, &text[..size]);
-        let mut text = plain;
-        cfb_open(&schedule, iv, &mut text[..size]);
-        opened = digest(opened, &text[..size]);
+        seal_and_open(&mut generator, &mut digests);
     }
-    assert_eq!(rt; sealed, SEALED);
-    assert_eq!(rt; opened, OPENED);
+    assert!(rt; digests.sealed == SEALED && digests.opened == OPENED);
 }

@@ -1,20 +1,15 @@
 //! Agents that take, decide, answer and notify.
 
-use super::users::{ENGINE, users_after_refusal};
-use engine_clock::EngineId;
+use super::users::{ENGINE, own, users_after_refusal};
 use snmp_ber::Level;
 use snmp_engine::*;
 use std::alloc::{AllocError, Global};
 use std::process::Abort;
 use std::test::Fail;
-use vacm_core::{Rows, Vacm};
+use vacm_core::{Rows, Vacm, VacmFault};
 
 /// The salt of each message.
 const SALT: [u8; 8] = [0, 1, 2, 3, 4, 5, 6, 7];
-
-fn engine() -> Result<EngineId, Fail> {
-    Ok(EngineId::of(&ENGINE).ok_or("engine")?)
-}
 
 /// What an agent accepts, or why it refuses it.
 fn accepted<'a>(agent: &mut Agent, now: u64, datagram: &'a [u8]) -> Result<Taken<'a>, TakeFault> {
@@ -40,7 +35,7 @@ const DISCOVERY: &str =
     "3038020103300e020101020300ffe30401040201030410300e0400020100020100040004000400301104000400a00b0201010201000201003000";
 
 /// Tables without rows, asked for again where a growth was refused.
-fn tables_after_refusal(alloc: Global) -> Result<Vacm, Fail> {
+fn tables_after_refusal(alloc: Global) -> Result<Vacm, VacmFault> {
     let rows = Rows {
         contexts: Vec::new(alloc),
         groups: Vec::new(alloc),
@@ -49,14 +44,14 @@ fn tables_after_refusal(alloc: Global) -> Result<Vacm, Fail> {
     };
     match Vacm::load(alloc, &rows) {
         Ok(tables) => Ok(tables),
-        Err(_) => Ok(Vacm::load(alloc, &rows)?),
+        Err(_) => Vacm::load(alloc, &rows),
     }
 }
 
 fn agent_after_refusal(alloc: Global) -> Result<Agent, Fail> {
-    let users = users_after_refusal(alloc)?;
     let tables = tables_after_refusal(alloc)?;
-    Ok(Agent::new(alloc, engine()?, 7, 0, users, tables))
+    let users = users_after_refusal(alloc)?;
+    Ok(Agent::new(alloc, own(), 7, 0, users, tables))
 }
 
 /// The octets of a text in hex, asked for again where a growth was refused.
@@ -75,18 +70,22 @@ fn refused(agent: &mut Agent, now: u64, datagram: &[u8]) -> (Option<TakeFault>, 
     }
 }
 
+/// The agent reports on the discovery and counts it, and does neither where memory is wanting.
+fn assert_reported(rt: &impl Abort, agent: &mut Agent, discovery: &[u8]) {
+    let mut answer = refused(agent, 1000, discovery);
+    if answer.0 == Some(TakeFault::OutOfMemory) {
+        assert!(rt; !answer.1 && counters(agent) == [0; 6].map(Some));
+        answer = refused(agent, 1000, discovery);
+    }
+    assert!(rt; answer == (Some(TakeFault::UnknownEngine), true));
+    assert!(rt; counters(agent) == [0, 0, 0, 1, 0, 0].map(Some));
+}
+
 #[test]
 fn a_refused_growth_reports_and_counts_nothing(rt: HostRuntime) -> Result<(), Fail> {
-    let mut agent = agent_after_refusal(rt.alloc())?;
     let discovery = octets_after_refusal(rt.alloc(), DISCOVERY)?;
-    let mut answer = refused(&mut agent, 1000, &discovery);
-    if answer.0 == Some(TakeFault::OutOfMemory) {
-        assert!(rt; !answer.1);
-        assert_eq!(rt; counters(&agent), [0; 6].map(Some));
-        answer = refused(&mut agent, 1000, &discovery);
-    }
-    assert_eq!(rt; answer, (Some(TakeFault::UnknownEngine), true));
-    assert_eq!(rt; counters(&agent), [0, 0, 0, 1, 0, 0].map(Some));
+    let mut agent = agent_after_refusal(rt.alloc())?;
+    assert_reported(&rt, &mut agent, &discovery);
     Ok(())
 }
 
@@ -143,9 +142,10 @@ fn answers(agent: &mut Agent, datagram: &[u8]) -> Result<(usize, usize), Fail> {
 /// The agent decides and answers the request and sends a trap, and counts nothing.
 fn assert_answered(rt: &impl Abort, alloc: Global, agent: &mut Agent) -> Result<(), Fail> {
     let datagram = octets_after_refusal(alloc, GET_REQUEST)?;
-    assert_eq!(rt; answers(agent, &datagram)?, (1, 86));
-    assert_eq!(rt; trap(agent)?.len(), 108);
-    assert_eq!(rt; counters(agent), [0; 6].map(Some));
+    let (names, octets) = answers(agent, &datagram)?;
+    let trap = trap(agent)?;
+    assert!(rt; names == 1 && octets == 86 && trap.len() == 108);
+    assert!(rt; counters(agent) == [0; 6].map(Some));
     Ok(())
 }
 

@@ -1,35 +1,59 @@
 //! Elements, identifiers and messages.
 
+ghost use Rattle.std.specs.Prelude.{◌≤◌, length};
+
 use snmp_ber::*;
 use snmp_msg::{CanonFault, canonical};
+use std::alloc::AllocError;
+use std::process::Abort;
 use std::test::Fail;
 
-#[test]
-fn a_refused_growth_appends_no_element(rt: HostRuntime) -> Result<(), Fail> {
-    let mut out = Vec::new(rt.alloc());
-    if put_tlv(&mut out, 0x04, b"ab").is_err() {
-        assert_eq!(rt; out.len(), 0);
-        put_tlv(&mut out, 0x04, b"ab")?;
+/// Appends an element, and leaves what there was where memory is wanting.
+fn append(
+    rt: &impl Abort,
+    out: &mut Vec<u8>,
+    before: &[u8],
+    content: &[u8],
+) -> Result<(), AllocError>
+    requires { length content.now ≤ 100 }
+{
+    if put_tlv(out, 0x04, content).is_err() {
+        assert!(rt; out.as_slice() == before);
+        put_tlv(out, 0x04, content)?;
     }
-    let content = [0x61; 100];
-    if put_tlv(&mut out, 0x04, &content).is_err() {
-        assert_eq!(rt; out.as_slice(), [0x04, 0x02, 0x61, 0x62].as_slice());
-        put_tlv(&mut out, 0x04, &content)?;
-    }
-    assert_eq!(rt; out.len(), 106);
-    let mut numbers = Vec::new(rt.alloc());
-    if put_int(&mut numbers, 1).is_err() {
-        assert_eq!(rt; numbers.len(), 0);
-        put_int(&mut numbers, 1)?;
-    }
-    assert_eq!(rt; numbers.as_slice(), [0x02, 0x01, 0x01].as_slice());
-    let mut heads = Vec::new(rt.alloc());
-    if put_head(&mut heads, 0x30, 1).is_err() {
-        assert_eq!(rt; heads.len(), 0);
-        put_head(&mut heads, 0x30, 1)?;
-    }
-    assert_eq!(rt; heads.as_slice(), [0x30, 0x01].as_slice());
     Ok(())
+}
+
+/// A number is appended, or nothing.
+fn assert_number(rt: &impl Abort, out: &mut Vec<u8>) -> Result<(), AllocError> {
+    if put_int(out, 1).is_err() {
+        assert!(rt; out.is_empty());
+        put_int(out, 1)?;
+    }
+    assert!(rt; out.as_slice() == [0x02, 0x01, 0x01].as_slice());
+    Ok(())
+}
+
+/// A head is appended, or nothing.
+fn assert_head(rt: &impl Abort, out: &mut Vec<u8>) -> Result<(), AllocError> {
+    if put_head(out, 0x30, 1).is_err() {
+        assert!(rt; out.is_empty());
+        put_head(out, 0x30, 1)?;
+    }
+    assert!(rt; out.as_slice() == [0x30, 0x01].as_slice());
+    Ok(())
+}
+
+#[test]
+fn a_refused_growth_appends_no_element(rt: HostRuntime) -> Result<(), AllocError> {
+    let mut out = Vec::new(rt.alloc());
+    append(&rt, &mut out, b"", b"ab")?;
+    append(&rt, &mut out, &[0x04, 0x02, 0x61, 0x62], &[0x61; 100])?;
+    assert!(rt; out.len() == 106);
+    let mut number = Vec::new(rt.alloc());
+    assert_number(&rt, &mut number)?;
+    let mut head = Vec::new(rt.alloc());
+    assert_head(&rt, &mut head)
 }
 
 #[test]

@@ -1,6 +1,6 @@
 //! Managers that take, learn, absorb, save and ask. In each test one growth is refused at most.
 
-use super::users::{ENGINE, sealed_after_refusal, users_after_refusal};
+use super::users::{ENGINE, own, sealed_after_refusal, users_after_refusal};
 use engine_clock::{ClockFault, Clocks, EngineId, Pair};
 use snmp_ber::Level;
 use snmp_incoming::{TakeFault, Taken};
@@ -11,21 +11,9 @@ use std::process::Abort;
 use std::test::Fail;
 use usm_core::Users;
 
-/// The identifier of this engine.
-fn own() -> EngineId {
-    let Some(own) = EngineId::of(&ENGINE) else {
-        unreachable!();
-    };
-    own
-}
-
 /// A manager of these users that holds no engine.
 fn manager(alloc: Global, users: &Users) -> Result<Manager, AllocError> {
     Ok(Manager::new(alloc, users.try_clone()?, Clocks::new(alloc)))
-}
-
-fn pair(boots: u32, time: u32) -> Result<Pair, Fail> {
-    Ok(Pair::of(boots, time).ok_or("pair")?)
 }
 
 /// The datagram as the manager accepts it.
@@ -73,6 +61,15 @@ struct Station {
     manager: Manager,
 }
 
+/// The pair of most messages.
+const FIRST: Pair = Pair { boots: 1, time: 5 };
+
+/// The pair of an engine that can't begin again.
+const LAST: Pair = Pair {
+    boots: Pair::MAX,
+    time: 0,
+};
+
 /// A message of three is accepted at this level.
 const ACCEPTED: Outcome = Outcome::Accepted {
     level: Level::AuthPriv,
@@ -119,8 +116,7 @@ struct Waiting {
 }
 
 /// A manager that holds no engine, and a message at authPriv with this pair.
-fn message_to_take(alloc: Global, boots: u32, time: u32) -> Result<Waiting, Fail> {
-    let pair = pair(boots, time)?;
+fn message_to_take(alloc: Global, pair: Pair) -> Result<Waiting, Fail> {
     let mut it = station_after_refusal(alloc)?;
     let message = sealed_after_refusal(&mut it.users, alloc, &ENGINE, pair)?;
     Ok(Waiting {
@@ -170,7 +166,7 @@ fn assert_learns(rt: &impl Abort, it: &mut Waiting) {
 
 #[test]
 fn a_refused_growth_learns_nothing(rt: HostRuntime) -> Result<(), Fail> {
-    let mut it = message_to_take(rt.alloc(), 1, 5)?;
+    let mut it = message_to_take(rt.alloc(), FIRST)?;
     assert_learns(&rt, &mut it);
     Ok(())
 }
@@ -183,7 +179,7 @@ fn assert_late(rt: &impl Abort, it: &mut Waiting) {
 
 #[test]
 fn a_refused_growth_is_told_before_the_window(rt: HostRuntime) -> Result<(), Fail> {
-    let mut it = message_to_take(rt.alloc(), Pair::MAX, 0)?;
+    let mut it = message_to_take(rt.alloc(), LAST)?;
     assert_late(&rt, &mut it);
     Ok(())
 }
@@ -203,7 +199,7 @@ fn assert_wrong(rt: &impl Abort, it: &mut Waiting) {
 
 #[test]
 fn a_refused_growth_is_not_told_of_a_wrong_code(rt: HostRuntime) -> Result<(), Fail> {
-    let mut it = message_to_take(rt.alloc(), 1, 5)?;
+    let mut it = message_to_take(rt.alloc(), FIRST)?;
     assert_wrong(&rt, &mut it);
     Ok(())
 }
@@ -216,10 +212,9 @@ fn add_after_refusal(
     last: u8,
 ) -> Result<(), Fail> {
     let engine = [128, 0, 0, 0, last];
-    let pair = pair(1, 5)?;
-    let message = sealed_after_refusal(users, alloc, &engine, pair)?;
+    let message = sealed_after_refusal(users, alloc, &engine, FIRST)?;
     if list.push((7, message)).is_err() {
-        let again = sealed_after_refusal(users, alloc, &engine, pair)?;
+        let again = sealed_after_refusal(users, alloc, &engine, FIRST)?;
         list.push((7, again))?;
     }
     Ok(())

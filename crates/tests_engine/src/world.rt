@@ -8,17 +8,18 @@ use std::process::Abort;
 use std::test::Fail;
 use usm_core::Users;
 
-/// The engine ID 80 00 00 00 and the number.
-fn engine_octets(number: u8) -> [u8; 5] {
-    [0x80, 0, 0, 0, number]
-}
+/// The octets of engine 1.
+const ENGINE: [u8; 5] = [0x80, 0, 0, 0, 1];
 
-fn engine(number: u8) -> Result<EngineId, Fail> {
-    Ok(EngineId::of(&engine_octets(number)).ok_or("engine")?)
-}
+/// What is known of it.
+const KNOWN: Pair = Pair { boots: 1, time: 5 };
 
-fn pair(boots: u32, time: u32) -> Result<Pair, Fail> {
-    Ok(Pair::of(boots, time).ok_or("pair")?)
+/// Engine 1.
+fn engine() -> EngineId {
+    let Some(engine) = EngineId::of(&ENGINE) else {
+        unreachable!();
+    };
+    engine
 }
 
 /// Managers that hold nothing.
@@ -39,53 +40,47 @@ fn world(alloc: Global, users: &Users) -> Result<World, AllocError> {
 }
 
 /// What is seen of a world of one manager: how many files there are, and the pair of engine 1.
-fn seen(world: &World) -> Result<(usize, Option<Pair>), Fail> {
-    Ok((world.files(), world.pair(0, &engine(1)?)))
+fn seen(world: &World) -> (usize, Option<Pair>) {
+    (world.files(), world.pair(0, &engine()))
 }
 
 /// Does an event. Where a growth is refused nothing is seen of it, and it is done again.
-fn assert_done(rt: &impl Abort, world: &mut World, event: &Event) -> Result<(), Fail> {
-    let before = seen(world)?;
+fn assert_done(rt: &impl Abort, world: &mut World, event: &Event) {
+    let before = seen(world);
     let mut answer = world.step(event);
     if answer == Err(WorldFault::OutOfMemory) {
-        assert_eq!(rt; seen(world)?, before);
+        assert!(rt; seen(world) == before);
         answer = world.step(event);
     }
-    assert_eq!(rt; answer, Ok(()));
-    Ok(())
+    assert!(rt; answer == Ok(()));
+}
+
+/// Saves, takes the message, saves, begins anew and absorbs, and sees each.
+fn assert_all_done(rt: &impl Abort, world: &mut World, datagram: Vec<u8>) {
+    let (manager, file, now) = (0, 0, 9);
+    let take = Event::Take {
+        manager,
+        now,
+        datagram,
+    };
+    assert_done(rt, world, &Event::Save { manager });
+    assert!(rt; seen(world) == (1, None));
+    assert_done(rt, world, &take);
+    assert!(rt; seen(world) == (1, Some(KNOWN)));
+    assert_done(rt, world, &Event::Save { manager });
+    assert!(rt; seen(world) == (2, Some(KNOWN)));
+    assert_done(rt, world, &Event::Restart { manager, file, now });
+    assert!(rt; seen(world) == (2, None));
+    let file = 1;
+    assert_done(rt, world, &Event::Absorb { manager, file, now });
+    assert!(rt; seen(world) == (2, Some(KNOWN)));
 }
 
 #[test]
 fn a_refused_growth_changes_no_world(rt: HostRuntime) -> Result<(), Fail> {
     let mut users = users_after_refusal(rt.alloc())?;
-    let known = pair(1, 5)?;
-    let datagram = sealed_after_refusal(&mut users, rt.alloc(), &engine_octets(1), known)?;
+    let datagram = sealed_after_refusal(&mut users, rt.alloc(), &ENGINE, KNOWN)?;
     let mut world = world(rt.alloc(), &users)?;
-    let (manager, file, now) = (0, 0, 9);
-    let learned = Some(known);
-    for (event, leaves) in [
-        (Event::Save { manager }, (1, None)),
-        (
-            Event::Take {
-                manager,
-                now,
-                datagram,
-            },
-            (1, learned),
-        ),
-        (Event::Save { manager }, (2, learned)),
-        (Event::Restart { manager, file, now }, (2, None)),
-        (
-            Event::Absorb {
-                manager,
-                file: 1,
-                now,
-            },
-            (2, learned),
-        ),
-    ] {
-        assert_done(&rt, &mut world, &event)?;
-        assert_eq!(rt; seen(&world)?, leaves);
-    }
+    assert_all_done(&rt, &mut world, datagram);
     Ok(())
 }

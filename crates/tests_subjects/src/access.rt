@@ -1,10 +1,10 @@
 //! Who may see what (RFC 3415): the rows of the four tables, questions and the rows that decide on them.
 
-use crate::row::{Row, Word};
-use crate::shown::{Text, none, silent};
+ghost use Rattle.vacm_core.specs.Tables.{HaveSameRows, tables_of};
+
+use crate::row::{Fault, Row, keep};
+use crate::shown::Text;
 use crate::subjects::Subject;
-use anyhow::{Context, Result, bail};
-use snmp_ber::Oid;
 use std::alloc::Global;
 use std::fmt;
 use vacm_core::*;
@@ -35,181 +35,205 @@ impl Views {
         }
     }
 
-    /// What is answered to a row.
-    pub fn answer(&mut self, alloc: Global, row: &Row<'_>) -> Result<String> {
-        let words = row.words.as_slice();
-        match row.kind {
-            "new" => self.reset(alloc),
-            "turn" => self.turn(alloc),
-            "context" => self.context(alloc, words),
-            "group" => self.group(alloc, words),
-            "access" => self.access(alloc, words),
-            "family" => self.family(alloc, words),
-            "load" => self.load(alloc),
-            "allowed" => self.allowed(alloc, words),
-            "explain" => self.explain(alloc, words),
-            _ => of_values(alloc, row),
-        }
-    }
-
-    /// `new`: no rows, and no tables.
-    fn reset(&mut self, alloc: Global) -> Result<String> {
-        *self = Views::new(alloc);
-        silent(alloc)
-    }
-
     /// Gives the tables of the last row `load` away.
     pub fn give(&mut self) -> Option<Vacm> {
         self.tables.take()
     }
 
-    /// Turns the order of the rows round.
-    fn turn(&mut self, alloc: Global) -> Result<String> {
-        self.rows.contexts.reverse();
-        self.rows.groups.reverse();
-        self.rows.access.reverse();
-        self.rows.families.reverse();
-        silent(alloc)
-    }
-
-    /// `context NAME`.
-    fn context(&mut self, alloc: Global, words: &[Word<'_>]) -> Result<String> {
-        let [name] = words else {
-            bail!("context NAME");
-        };
-        let name = name_of(name)?;
-        self.rows.contexts.push(ContextRow { name })?;
-        silent(alloc)
-    }
-
-    /// `group MODEL NAME GROUP`.
-    fn group(&mut self, alloc: Global, words: &[Word<'_>]) -> Result<String> {
-        let [model, name, group] = words else {
-            bail!("group MODEL NAME GROUP");
-        };
-        let (model, name, group) = (model.number32()?, name_of(name)?, name_of(group)?);
-        self.rows.groups.push(GroupRow { model, name, group })?;
-        silent(alloc)
-    }
-
-    /// `access GROUP PREFIX MODEL LEVEL MATCH READ WRITE NOTIFY`.
-    fn access(&mut self, alloc: Global, words: &[Word<'_>]) -> Result<String> {
-        let row = access_row(words)?;
-        self.rows.access.push(row)?;
-        silent(alloc)
-    }
-
-    /// `family VIEW SUBTREE MASK included|excluded`.
-    fn family(&mut self, alloc: Global, words: &[Word<'_>]) -> Result<String> {
-        let [view, subtree, mask, include] = words else {
-            bail!("family VIEW SUBTREE MASK INCLUDED");
-        };
-        let row = FamilyRow {
-            view: name_of(view)?,
-            subtree: Oid::from_text(subtree.text).context("arcs")?,
-            mask: Mask::of(mask.octets()?).context("a mask has at most 16 octets")?,
-            include: include.text == "included",
-        };
-        self.rows.families.push(row)?;
-        silent(alloc)
-    }
-
     /// `load`: makes the tables of the rows, or tells the first row at fault.
-    fn load(&mut self, alloc: Global) -> Result<String> {
-        match Vacm::load(alloc, &self.rows) {
-            Ok(tables) => self.tables = Some(tables),
-            Err(VacmFault::OutOfMemory) => bail!("out of memory"),
-            Err(fault) => return Ok(format!(in alloc; "{fault:?}")?),
+    fn load(&mut self, row: &mut Row<'_>) {
+        match Vacm::load(row.alloc, &self.rows) {
+            Ok(tables) => {
+                keep(&mut self.tables, tables);
+                row.tell("loaded");
+            }
+            Err(VacmFault::OutOfMemory) => row.lack(),
+            Err(fault) => row.say(format!(in row.alloc; "{fault:?}")),
         }
-        Ok("loaded".to_string(alloc)?)
     }
 
     /// `allowed MODEL NAME LEVEL VIEW CONTEXT ARCS`: what the loaded tables answer, and its number.
-    fn allowed(&self, alloc: Global, words: &[Word<'_>]) -> Result<String> {
-        let tables = self.tables.as_ref().context("tables that are loaded")?;
-        question_of(alloc, tables, words)
-    }
-
-    /// `explain MODEL NAME LEVEL VIEW CONTEXT ARCS`: the answer of tables of the rows, and the positions of those
-    /// that decide.
-    fn explain(&self, alloc: Global, words: &[Word<'_>]) -> Result<String> {
-        let [model, name, level, view, context, arcs] = words else {
-            bail!("explain MODEL NAME LEVEL VIEW CONTEXT ARCS");
-        };
-        let arcs = Oid::from_text(arcs.text).context("arcs")?;
-        let asking = Asking {
-            model: model.number32()?,
-            name: name.name(),
-            level: level.level()?,
-            context: context.name(),
-            view: view_of(view)?,
-            variable: arcs.as_slice(),
-        };
-        let tables = Vacm::load(alloc, &self.rows)?;
-        Ok(format!(in alloc; "{}", Steps(&tables.explain(&self.rows, &asking)))?)
+    fn allowed(&self, row: &mut Row<'_>) {
+        match &self.tables {
+            Some(tables) => question(tables, row),
+            None => row.fail("tables that are loaded"),
+        }
     }
 }
 
 impl Subject for Views {
-    fn begin(alloc: Global) -> Result<Views> {
+    fn begin(alloc: Global) -> Result<Views, Fault> {
         Ok(Views::new(alloc))
     }
 
-    fn answered(&mut self, alloc: Global, row: &Row<'_>) -> Result<String> {
-        self.answer(alloc, row)
+    fn answer(&mut self, row: &mut Row<'_>) {
+        match row.kind {
+            "new" => *self = Views::new(row.alloc),
+            "load" => self.load(row),
+            "allowed" => self.allowed(row),
+            "explain" => explain(&self.rows, row),
+            _ => add(&mut self.rows, row),
+        }
     }
 }
 
-/// What tables answer to the question MODEL NAME LEVEL VIEW CONTEXT ARCS, and the number of the answer.
-pub fn question_of(alloc: Global, tables: &Vacm, words: &[Word<'_>]) -> Result<String> {
-    let [model, name, level, view, context, arcs] = words else {
-        bail!("allowed MODEL NAME LEVEL VIEW CONTEXT ARCS");
+/// What is answered to a row about the rows of tables.
+fn add(rows: &mut Rows, row: &mut Row<'_>) {
+    match row.kind {
+        "turn" => turn(rows),
+        "context" => add_context(rows, row),
+        "group" => add_group(rows, row),
+        "access" => add_access(rows, row),
+        "family" => add_family(rows, row),
+        "name" => is_name(row),
+        "mask" => is_mask(row),
+        _ => row.fail_kind(),
+    }
+}
+
+/// `turn`: turns the order of the rows round.
+fn turn(rows: &mut Rows) {
+    rows.contexts.reverse();
+    rows.groups.reverse();
+    rows.access.reverse();
+    rows.families.reverse();
+}
+
+/// `context NAME`.
+fn add_context(rows: &mut Rows, row: &mut Row<'_>) {
+    let name = name_of(row);
+    row.add(&mut rows.contexts, ContextRow { name });
+}
+
+/// `group MODEL NAME GROUP`.
+fn add_group(rows: &mut Rows, row: &mut Row<'_>) {
+    let (model, name, group) = (row.number32(), name_of(row), name_of(row));
+    row.add(&mut rows.groups, GroupRow { model, name, group });
+}
+
+/// `access GROUP PREFIX MODEL LEVEL MATCH READ WRITE NOTIFY`.
+fn add_access(rows: &mut Rows, row: &mut Row<'_>) {
+    let access = AccessRow {
+        group: name_of(row),
+        prefix: name_of(row),
+        model: row.number32(),
+        level: row.level(),
+        matching: matching_of(row),
+        read: name_of(row),
+        write: name_of(row),
+        notify: name_of(row),
     };
-    let arcs = Oid::from_text(arcs.text).context("arcs")?;
-    let (model, level, view) = (model.number32()?, level.level()?, view_of(view)?);
-    let answer = tables.is_access_allowed(model, name.name(), level, view, context.name(), &arcs);
-    Ok(format!(in alloc; "{answer:?} {}", answer.number())?)
+    row.add(&mut rows.access, access);
+}
+
+/// `family VIEW SUBTREE MASK included|excluded`.
+fn add_family(rows: &mut Rows, row: &mut Row<'_>) {
+    let view = name_of(row);
+    let Some(subtree) = row.arcs() else {
+        return;
+    };
+    let Some(mask) = Mask::of(row.octets()) else {
+        return row.fail("a mask has at most 16 octets");
+    };
+    let include = row.word() == "included";
+    let family = FamilyRow {
+        view,
+        subtree,
+        mask,
+        include,
+    };
+    row.add(&mut rows.families, family);
+}
+
+/// `explain MODEL NAME LEVEL VIEW CONTEXT ARCS`: the answer of tables of the rows, and the positions of those
+/// that decide.
+fn explain(rows: &Rows, row: &mut Row<'_>) {
+    match Vacm::load(row.alloc, rows) {
+        Ok(tables) => say_steps(rows, &tables, row),
+        Err(VacmFault::OutOfMemory) => row.lack(),
+        Err(_) => row.fail("rows that can be loaded"),
+    }
+}
+
+/// What decides on a question to these tables of the rows.
+fn say_steps(rows: &Rows, tables: &Vacm, row: &mut Row<'_>)
+    requires { HaveSameRows (tables_of rows.now) tables.now }
+{
+    let (model, name, level) = (row.number32(), row.name(), row.level());
+    let (view, context) = (view_of(row), row.name());
+    let Some(arcs) = row.arcs() else {
+        return;
+    };
+    let asking = Asking {
+        model,
+        name,
+        level,
+        context,
+        view,
+        variable: arcs.as_slice(),
+    };
+    row.say(format!(in row.alloc; "{}", Steps(&tables.explain(rows, &asking))));
+}
+
+/// What tables answer to the question MODEL NAME LEVEL VIEW CONTEXT ARCS, and the number of the answer.
+pub fn question(tables: &Vacm, row: &mut Row<'_>) {
+    let (model, name, level) = (row.number32(), row.name(), row.level());
+    let (view, context) = (view_of(row), row.name());
+    if let Some(arcs) = row.arcs() {
+        say_access(
+            row,
+            tables.is_access_allowed(model, name, level, view, context, &arcs),
+        );
+    }
+}
+
+/// An answer on access, and its number.
+pub fn say_access(row: &mut Row<'_>, access: Access) {
+    row.say(format!(in row.alloc; "{access:?} {}", access.number()));
+}
+
+/// The empty name.
+fn no_name() -> Name {
+    let Some(name) = Name::of(b"") else {
+        unreachable!();
+    };
+    name
 }
 
 /// A name of at most 32 octets, or `-` for the empty one.
-fn name_of(word: &Word<'_>) -> Result<Name> {
-    Ok(Name::of(word.name()).context("a name has at most 32 octets")?)
+fn name_of(row: &mut Row<'_>) -> Name {
+    match Name::of(row.name()) {
+        Some(name) => name,
+        None => {
+            row.fail("a name has at most 32 octets");
+            no_name()
+        }
+    }
 }
 
 /// `read`, `write` or `notify`.
-pub fn view_of(word: &Word<'_>) -> Result<ViewType> {
-    match word.text {
-        "read" => Ok(ViewType::Read),
-        "write" => Ok(ViewType::Write),
-        "notify" => Ok(ViewType::Notify),
-        _ => bail!("a view is read, write or notify"),
+pub fn view_of(row: &mut Row<'_>) -> ViewType {
+    match row.word() {
+        "read" => ViewType::Read,
+        "write" => ViewType::Write,
+        "notify" => ViewType::Notify,
+        _ => {
+            row.fail("a view is read, write or notify");
+            ViewType::Read
+        }
     }
 }
 
 /// `exact` or `prefix`.
-fn matching_of(word: &Word<'_>) -> Result<Matching> {
-    match word.text {
-        "exact" => Ok(Matching::Exact),
-        "prefix" => Ok(Matching::Prefix),
-        _ => bail!("a match is exact or prefix"),
+fn matching_of(row: &mut Row<'_>) -> Matching {
+    match row.word() {
+        "exact" => Matching::Exact,
+        "prefix" => Matching::Prefix,
+        _ => {
+            row.fail("a match is exact or prefix");
+            Matching::Exact
+        }
     }
-}
-
-/// The access row of these words.
-fn access_row(words: &[Word<'_>]) -> Result<AccessRow> {
-    let [group, prefix, model, level, matching, read, write, notify] = words else {
-        bail!("access GROUP PREFIX MODEL LEVEL MATCH READ WRITE NOTIFY");
-    };
-    Ok(AccessRow {
-        group: name_of(group)?,
-        prefix: name_of(prefix)?,
-        model: model.number32()?,
-        level: level.level()?,
-        matching: matching_of(matching)?,
-        read: name_of(read)?,
-        write: name_of(write)?,
-        notify: name_of(notify)?,
-    })
 }
 
 /// What decides on a question: the answer, and the positions of the rows with the names of the group and of the view.
@@ -257,20 +281,19 @@ impl fmt::Display for Viewed<'_> {
     }
 }
 
-/// What is answered to a row that needs no rows of tables.
-fn of_values(alloc: Global, row: &Row<'_>) -> Result<String> {
-    match (row.kind, row.words.as_slice()) {
-        ("name", [octets]) => is_one(alloc, Name::of(octets.octets()?).is_some()),
-        ("mask", [octets]) => is_one(alloc, Mask::of(octets.octets()?).is_some()),
-        _ => bail!("no row {} of so many words", row.kind),
-    }
+/// `name OCTETS`: whether there is a name of these octets.
+fn is_name(row: &mut Row<'_>) {
+    let name = Name::of(row.octets());
+    tell_one(row, name.is_some());
+}
+
+/// `mask OCTETS`: whether there is a mask of these octets.
+fn is_mask(row: &mut Row<'_>) {
+    let mask = Mask::of(row.octets());
+    tell_one(row, mask.is_some());
 }
 
 /// Whether there is one.
-fn is_one(alloc: Global, is_some: bool) -> Result<String> {
-    if is_some {
-        Ok("one".to_string(alloc)?)
-    } else {
-        none(alloc)
-    }
+fn tell_one(row: &mut Row<'_>, is_some: bool) {
+    row.tell(if is_some { "one" } else { "none" });
 }

@@ -3,19 +3,17 @@
 ghost use Rattle.std.specs.Prelude.{All};
 ghost use Rattle.snmp_msg.specs.Variables.{CanBeWritten, variable_of};
 
-use crate::access::view_of;
-use crate::outcome::{refused, taken_text};
-use crate::pdu::{bindings_of, pdu_of, variables_of};
-use crate::row::{Row, Word};
+use crate::access::{say_access, view_of};
+use crate::outcome::{refused_text, say_refused, say_taken};
+use crate::pdu::{bindings_of, pdu_in, variables_of};
+use crate::row::Row;
 use crate::shown::Hex;
-use crate::usm::salt_of;
-use anyhow::{Context, Result, bail, ensure};
 use snmp_agent::{Agent, Refused, Unhandled, status_of};
-use snmp_ber::Oid;
+use snmp_ber::Level;
 use snmp_incoming::{Kept, TakeFault, Taken};
 use snmp_msg::{Binding, TRAP};
 use snmp_outgoing::{Body, Counter, Front};
-use std::alloc::Global;
+use std::alloc::{AllocError, Global};
 use vacm_core::Access;
 
 /// The salt of each message.
@@ -44,130 +42,133 @@ pub fn has(kind: &str) -> bool {
     )
 }
 
-/// What is answered to a row.
-pub fn answer(agent: &mut Agent, alloc: Global, row: &Row<'_>) -> Result<String> {
-    match (row.kind, row.words.as_slice()) {
-        ("agent_take", [now, datagram]) => take(agent, alloc, now, datagram),
-        ("agent_read", [now, datagram]) => read(agent, alloc, now, datagram),
-        ("counters", []) => counters(agent, alloc),
-        ("count", []) => count(agent, alloc),
-        ("decide", [now, datagram]) => decide(agent, alloc, now, datagram),
-        ("unhandled", [now, datagram]) => unhandled(agent, alloc, now, datagram),
-        ("refuse", [now, datagram]) => refuse(agent, alloc, now, datagram),
-        ("may", words) => may(agent, alloc, words),
-        ("allows", words) => allows(agent, alloc, words),
-        ("status_of", [tag]) => statuses(alloc, tag),
-        ("notify", words) => notify(agent, alloc, words),
-        ("notify_of", words) => notify_of(agent, alloc, words),
-        (kind, [now, datagram, pdu]) => responding(agent, alloc, kind, now, datagram, pdu),
-        _ => bail!("no row {} of so many words", row.kind),
+/// Answers a row.
+pub fn answer(agent: &mut Agent, row: &mut Row<'_>) {
+    match row.kind {
+        "counters" => row.say(counters(agent, row.alloc)),
+        "count" => count(agent, row),
+        "may" => may(agent, row),
+        "status_of" => statuses(row),
+        "notify" => notify(agent, row),
+        "notify_of" => notify_of(agent, row),
+        _ => of_datagram(agent, row),
     }
 }
 
-/// What the agent accepts.
-fn accepted<'a>(agent: &mut Agent, now: &Word<'_>, datagram: &'a [u8]) -> Result<Taken<'a>> {
-    match agent.take(now.number()?, datagram) {
-        Ok(taken) => Ok(taken),
-        Err(refused) => Err(refused.why.into()),
+/// Answers a row that begins with NOW DATAGRAM.
+fn of_datagram(agent: &mut Agent, row: &mut Row<'_>) {
+    let (now, datagram) = (row.number(), row.octets());
+    match agent.take(now, datagram) {
+        Ok(taken) => of_taken(agent, now, &taken, row),
+        Err(refused) if row.kind == "agent_take" => say_refusal(row, &refused),
+        Err(refused) => turn_away(row, refused.why),
+    }
+}
+
+/// Answers a row about a message that was accepted at this timestamp.
+fn of_taken(agent: &mut Agent, now: u64, taken: &Taken<'_>, row: &mut Row<'_>) {
+    match row.kind {
+        "agent_take" => row.tell("accepted"),
+        "agent_read" => say_taken(row, taken),
+        "decide" => decide(agent, taken, row),
+        "unhandled" => row.say(format!(in row.alloc; "{:?}", agent.unhandled(taken))),
+        "refuse" => refuse(agent, now, taken, row),
+        "allows" => allows(agent, taken, row),
+        "respond" => respond(agent, now, taken, row),
+        "respond_of" => respond_of(agent, now, taken, row),
+        "respond_kept" => respond_kept(agent, now, taken, row),
+        "fronts" => fronts(agent, now, taken, row),
+        _ => row.fail_kind(),
+    }
+}
+
+/// Notes that the message isn't accepted, or isn't answered.
+fn turn_away(row: &mut Row<'_>, fault: TakeFault) {
+    if fault.is_memory() {
+        row.lack();
+    } else {
+        row.fail("a message that is accepted");
     }
 }
 
 /// A refusal, and the report on it.
-fn refusal(alloc: Global, refusal: &Refused) -> Result<String> {
-    let mut text = refused(alloc, refusal.why)?;
-    match &refusal.report {
+fn refusal_text(alloc: Global, refused: &Refused) -> Result<String, AllocError> {
+    let mut text = refused_text(alloc, refused.why)?;
+    match &refused.report {
         Some(report) => write!(text, " report {}", Hex(report))?,
         None => text.push_str(" no report")?,
     }
     Ok(text)
 }
 
-/// `agent_take NOW DATAGRAM`: whether it is accepted, or the refusal and the report on it.
-fn take(agent: &mut Agent, alloc: Global, now: &Word<'_>, datagram: &Word<'_>) -> Result<String> {
-    match agent.take(now.number()?, datagram.octets()?) {
-        Ok(_) => Ok("accepted".to_string(alloc)?),
-        Err(refused) => refusal(alloc, &refused),
+/// `agent_take NOW DATAGRAM`: the refusal and the report on it.
+fn say_refusal(row: &mut Row<'_>, refused: &Refused) {
+    if refused.why.is_memory() {
+        row.lack();
+    } else {
+        row.say(refusal_text(row.alloc, refused));
     }
 }
 
-/// `agent_read NOW DATAGRAM`: what the message says.
-fn read(agent: &mut Agent, alloc: Global, now: &Word<'_>, datagram: &Word<'_>) -> Result<String> {
-    taken_text(alloc, &accepted(agent, now, datagram.octets()?)?)
-}
-
 /// `counters`: the six usmStats, in their order.
-fn counters(agent: &Agent, alloc: Global) -> Result<String> {
+fn counters(agent: &Agent, alloc: Global) -> Result<String, AllocError> {
     let mut text = "counters".to_string(alloc)?;
     for number in 1..7u8 {
-        let count = agent.counter(number).context("a counter")?;
-        write!(text, " {count}")?;
+        match agent.counter(number) {
+            Some(count) => write!(text, " {count}")?,
+            None => text.push_str(" none")?,
+        }
     }
     Ok(text)
 }
 
 /// `count`: snmpUnknownPDUHandlers and snmpUnknownContexts.
-fn count(agent: &Agent, alloc: Global) -> Result<String> {
+fn count(agent: &Agent, row: &mut Row<'_>) {
     let handlers = agent.count(Counter::UnknownPduHandlers);
     let contexts = agent.count(Counter::UnknownContexts);
-    Ok(format!(in alloc; "{handlers} {contexts}")?)
+    row.say(format!(in row.alloc; "{handlers} {contexts}"));
 }
 
 /// `decide NOW DATAGRAM`: what is decided on the names of an accepted request.
-fn decide(agent: &mut Agent, alloc: Global, now: &Word<'_>, datagram: &Word<'_>) -> Result<String> {
-    let taken = accepted(agent, now, datagram.octets()?)?;
-    Ok(format!(in alloc; "{:?}", agent.decide(&taken)?)?)
-}
-
-/// `unhandled NOW DATAGRAM`: why nothing answers what is accepted.
-fn unhandled(
-    agent: &mut Agent,
-    alloc: Global,
-    now: &Word<'_>,
-    datagram: &Word<'_>,
-) -> Result<String> {
-    let taken = accepted(agent, now, datagram.octets()?)?;
-    Ok(format!(in alloc; "{:?}", agent.unhandled(&taken))?)
+fn decide(agent: &Agent, taken: &Taken<'_>, row: &mut Row<'_>) {
+    match agent.decide(taken) {
+        Ok(decision) => row.say(format!(in row.alloc; "{decision:?}")),
+        Err(_) => row.lack(),
+    }
 }
 
 /// `refuse NOW DATAGRAM`: whether a report is written on what is accepted and not handled.
-fn refuse(agent: &mut Agent, alloc: Global, now: &Word<'_>, datagram: &Word<'_>) -> Result<String> {
-    let taken = accepted(agent, now, datagram.octets()?)?;
-    let report = agent.refuse(now.number()?, &taken, Unhandled::UnknownPduHandlers, SALT)?;
-    Ok(format!(in alloc; "{}", report.is_some())?)
-}
-
-/// An answer on access, and its number.
-fn access_text(alloc: Global, access: Access) -> Result<String> {
-    Ok(format!(in alloc; "{access:?} {}", access.number())?)
+fn refuse(agent: &mut Agent, now: u64, taken: &Taken<'_>, row: &mut Row<'_>) {
+    match agent.refuse(now, taken, Unhandled::UnknownPduHandlers, SALT) {
+        Ok(report) => row.tell_if(report.is_some()),
+        Err(fault) => turn_away(row, fault),
+    }
 }
 
 /// `may NAME LEVEL CONTEXT VIEW ARCS`: whether a user may see a variable.
-fn may(agent: &Agent, alloc: Global, words: &[Word<'_>]) -> Result<String> {
-    let [name, level, context, view, arcs] = words else {
-        bail!("may NAME LEVEL CONTEXT VIEW ARCS");
-    };
-    let arcs = Oid::from_text(arcs.text).context("arcs")?;
-    let (level, view) = (level.level()?, view_of(view)?);
-    access_text(
-        alloc,
-        agent.may(name.name(), level, context.name(), view, &arcs),
-    )
+fn may(agent: &Agent, row: &mut Row<'_>) {
+    let (name, level, context, view) = (row.name(), row.level(), row.name(), view_of(row));
+    if let Some(arcs) = row.arcs() {
+        say_access(row, agent.may(name, level, context, view, &arcs));
+    }
 }
 
 /// `allows NOW DATAGRAM VIEW ARCS`: whether the sender of an accepted message may see a variable.
-fn allows(agent: &mut Agent, alloc: Global, words: &[Word<'_>]) -> Result<String> {
-    let [now, datagram, view, arcs] = words else {
-        bail!("allows NOW DATAGRAM VIEW ARCS");
-    };
-    let arcs = Oid::from_text(arcs.text).context("arcs")?;
-    let taken = accepted(agent, now, datagram.octets()?)?;
-    access_text(alloc, agent.allows(&taken, view_of(view)?, &arcs))
+fn allows(agent: &Agent, taken: &Taken<'_>, row: &mut Row<'_>) {
+    let view = view_of(row);
+    if let Some(arcs) = row.arcs() {
+        say_access(row, agent.allows(taken, view, &arcs));
+    }
 }
 
 /// `status_of TAG`: what becomes of a variable in a PDU of this tag, for each answer on access in the order of their
 /// numbers.
-fn statuses(alloc: Global, tag: &Word<'_>) -> Result<String> {
-    let tag = tag.octet()?;
+fn statuses(row: &mut Row<'_>) {
+    let tag = row.octet();
+    row.say(status_text(row.alloc, tag));
+}
+
+fn status_text(alloc: Global, tag: u8) -> Result<String, AllocError> {
     let mut text = "status".to_string(alloc)?;
     for access in [
         Access::AccessAllowed,
@@ -183,110 +184,118 @@ fn statuses(alloc: Global, tag: &Word<'_>) -> Result<String> {
 }
 
 /// What was sent, or why it wasn't.
-fn sent(alloc: Global, text: Result<Vec<u8>, TakeFault>) -> Result<String> {
+fn say_sent(row: &mut Row<'_>, text: Result<Vec<u8>, TakeFault>) {
     match text {
-        Ok(text) => Ok(format!(in alloc; "{}", Hex(&text))?),
-        Err(fault) => refused(alloc, fault),
+        Ok(text) => row.show(&text),
+        Err(fault) => say_refused(row, fault),
+    }
+}
+
+/// What a row says of a notification besides its PDU.
+#[derive(Clone, Copy)]
+struct Notice<'a> {
+    now: u64,
+    id: u32,
+    engine: &'a [u8],
+    user: &'a [u8],
+    level: Level,
+    context: &'a [u8],
+}
+
+/// What NOW ID ENGINE USER LEVEL CONTEXT says.
+fn notice_in<'a>(row: &mut Row<'a>) -> Notice<'a> {
+    Notice {
+        now: row.number(),
+        id: row.number32(),
+        engine: row.octets(),
+        user: row.name(),
+        level: row.level(),
+        context: row.octets(),
     }
 }
 
 /// `notify NOW ID ENGINE USER LEVEL CONTEXT PDU`: a notification with names as arcs, or why it isn't sent.
-fn notify(agent: &mut Agent, alloc: Global, words: &[Word<'_>]) -> Result<String> {
-    let [now, id, engine, user, level, context, pdu] = words else {
-        bail!("notify NOW ID ENGINE USER LEVEL CONTEXT PDU");
+fn notify(agent: &mut Agent, row: &mut Row<'_>) {
+    let said = notice_in(row);
+    let Some(pdu) = pdu_in(row) else {
+        return;
     };
-    let pdu = pdu_of(pdu.octets()?)?;
-    let bindings = bindings_of(alloc, &pdu)?;
-    let (id, user) = (id.number32()?, user.name());
-    ensure!(id <= 2_147_483_647 && user.len() <= 32, "a notification");
+    if said.id > 2_147_483_647 || said.user.len() > 32 {
+        return row.fail("a notification");
+    }
+    let Ok(bindings) = bindings_of(row.alloc, &pdu) else {
+        return row.lack();
+    };
     let body = Body {
-        context_engine: engine.octets()?,
-        context_name: context.octets()?,
+        context_engine: said.engine,
+        context_name: said.context,
         tag: TRAP,
         id: pdu.id,
         second: pdu.second,
         third: pdu.third,
         bindings: &bindings,
     };
-    sent(
-        alloc,
-        agent.notify(now.number()?, id, user, level.level()?, &body, SALT),
-    )
+    say_sent(
+        row,
+        agent.notify(said.now, said.id, said.user, said.level, &body, SALT),
+    );
 }
 
 /// `notify_of ..`: the same notification with names in octets.
-fn notify_of(agent: &mut Agent, alloc: Global, words: &[Word<'_>]) -> Result<String> {
-    let [now, id, engine, user, level, context, pdu] = words else {
-        bail!("notify_of NOW ID ENGINE USER LEVEL CONTEXT PDU");
+fn notify_of(agent: &mut Agent, row: &mut Row<'_>) {
+    let said = notice_in(row);
+    let Some(pdu) = pdu_in(row) else {
+        return;
     };
-    let pdu = pdu_of(pdu.octets()?)?;
-    let bindings = variables_of(alloc, &pdu)?;
-    let (id, user) = (id.number32()?, user.name());
-    ensure!(id <= 2_147_483_647 && user.len() <= 32, "a notification");
+    if said.id > 2_147_483_647 || said.user.len() > 32 {
+        return row.fail("a notification");
+    }
+    let Ok(bindings) = variables_of(row.alloc, &pdu) else {
+        return row.lack();
+    };
     let front = Front {
-        context_engine: engine.octets()?,
-        context_name: context.octets()?,
+        context_engine: said.engine,
+        context_name: said.context,
         tag: TRAP,
         id: pdu.id,
         second: pdu.second,
         third: pdu.third,
     };
-    sent(
-        alloc,
-        agent.notify_of(
-            now.number()?,
-            id,
-            user,
-            level.level()?,
-            &front,
-            &bindings,
-            SALT,
-        ),
-    )
+    let (now, user) = (said.now, said.user);
+    say_sent(
+        row,
+        agent.notify_of(now, said.id, user, said.level, &front, &bindings, SALT),
+    );
 }
 
-/// `respond`, `respond_of`, `respond_kept` or `fronts`, each NOW DATAGRAM PDU: the Response with status 0, index 0
-/// and the bindings of the PDU to an accepted message.
-fn responding(
-    agent: &mut Agent,
-    alloc: Global,
-    kind: &str,
-    now: &Word<'_>,
-    datagram: &Word<'_>,
-    pdu: &Word<'_>,
-) -> Result<String> {
-    let taken = accepted(agent, now, datagram.octets()?)?;
-    let now = now.number()?;
-    match kind {
-        "respond" => respond(agent, alloc, now, &taken, pdu),
-        "respond_of" => respond_of(agent, alloc, now, &taken, pdu),
-        "respond_kept" => respond(agent, alloc, now, &Kept::of(alloc, &taken)?.taken(), pdu),
-        _ => fronts(agent, alloc, now, &taken, pdu),
+/// `respond NOW DATAGRAM PDU`: the Response with status 0, index 0 and the bindings of the PDU, with names as arcs.
+fn respond(agent: &mut Agent, now: u64, taken: &Taken<'_>, row: &mut Row<'_>) {
+    let Some(pdu) = pdu_in(row) else {
+        return;
+    };
+    match bindings_of(row.alloc, &pdu) {
+        Ok(bindings) => say_sent(row, agent.respond(now, taken, 0, 0, &bindings, SALT)),
+        Err(_) => row.lack(),
     }
 }
 
-/// The Response with names as arcs.
-fn respond(
-    agent: &mut Agent,
-    alloc: Global,
-    now: u64,
-    taken: &Taken<'_>,
-    pdu: &Word<'_>,
-) -> Result<String> {
-    let bindings = bindings_of(alloc, &pdu_of(pdu.octets()?)?)?;
-    sent(alloc, agent.respond(now, taken, 0, 0, &bindings, SALT))
+/// `respond_of NOW DATAGRAM PDU`: the Response with names in octets.
+fn respond_of(agent: &mut Agent, now: u64, taken: &Taken<'_>, row: &mut Row<'_>) {
+    let Some(pdu) = pdu_in(row) else {
+        return;
+    };
+    match variables_of(row.alloc, &pdu) {
+        Ok(bindings) => say_sent(row, agent.respond_of(now, taken, 0, 0, &bindings, SALT)),
+        Err(_) => row.lack(),
+    }
 }
 
-/// The Response with names in octets.
-fn respond_of(
-    agent: &mut Agent,
-    alloc: Global,
-    now: u64,
-    taken: &Taken<'_>,
-    pdu: &Word<'_>,
-) -> Result<String> {
-    let bindings = variables_of(alloc, &pdu_of(pdu.octets()?)?)?;
-    sent(alloc, agent.respond_of(now, taken, 0, 0, &bindings, SALT))
+/// `respond_kept NOW DATAGRAM PDU`: the Response to the message as it is kept.
+fn respond_kept(agent: &mut Agent, now: u64, taken: &Taken<'_>, row: &mut Row<'_>) {
+    match Kept::of(row.alloc, taken) {
+        Ok(kept) => respond(agent, now, &kept.taken(), row),
+        Err(_) => row.lack(),
+    }
 }
 
 /// How many bindings have room, or None if not even a Response without bindings has.
@@ -296,13 +305,13 @@ fn count_within(
     taken: &Taken<'_>,
     bindings: &[Binding<'_>],
     limit: usize,
-) -> Result<Option<usize>>
+) -> Result<Option<usize>, TakeFault>
     requires { All (λ b. CanBeWritten (variable_of b)) bindings.now }
 {
     match agent.respond_front(now, taken, 0, 0, bindings, SALT, limit) {
         Ok(front) => Ok(Some(front.count)),
         Err(TakeFault::TooLarge) => Ok(None),
-        Err(fault) => Err(fault.into()),
+        Err(fault) => Err(fault),
     }
 }
 
@@ -314,7 +323,7 @@ fn has_front(
     taken: &Taken<'_>,
     bindings: &[Binding<'_>],
     count: usize,
-) -> Result<bool>
+) -> Result<bool, TakeFault>
     requires { All (λ b. CanBeWritten (variable_of b)) bindings.now }
 {
     let first = &bindings[..count.min(bindings.len())];
@@ -325,19 +334,33 @@ fn has_front(
 }
 
 /// How many of the beginnings of the bindings have their own room.
-fn fronts(
+fn fronts_of(
     agent: &mut Agent,
-    alloc: Global,
     now: u64,
     taken: &Taken<'_>,
-    pdu: &Word<'_>,
-) -> Result<String> {
-    let bindings = bindings_of(alloc, &pdu_of(pdu.octets()?)?)?;
+    bindings: &[Binding<'_>],
+) -> Result<usize, TakeFault>
+    requires { All (λ b. CanBeWritten (variable_of b)) bindings.now }
+{
     let mut whole = 0usize;
     for count in 0..=bindings.len() {
-        if has_front(agent, now, taken, &bindings, count)? {
+        if has_front(agent, now, taken, bindings, count)? {
             whole = whole.saturating_add(1);
         }
     }
-    Ok(format!(in alloc; "whole {whole}")?)
+    Ok(whole)
+}
+
+/// `fronts NOW DATAGRAM PDU`: how many of the beginnings of the bindings of the PDU have their own room.
+fn fronts(agent: &mut Agent, now: u64, taken: &Taken<'_>, row: &mut Row<'_>) {
+    let Some(pdu) = pdu_in(row) else {
+        return;
+    };
+    let Ok(bindings) = bindings_of(row.alloc, &pdu) else {
+        return row.lack();
+    };
+    match fronts_of(agent, now, taken, &bindings) {
+        Ok(whole) => row.say(format!(in row.alloc; "whole {whole}")),
+        Err(fault) => turn_away(row, fault),
+    }
 }

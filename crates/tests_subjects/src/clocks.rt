@@ -1,10 +1,9 @@
 //! What is known of engines: pairs of boots and time, their joins, saved texts and time windows (RFC 3414, sections
 //! 2.2 and 3.2).
 
-use crate::row::{Row, Word};
-use crate::shown::{Hex, Text, none, silent};
+use crate::row::{Fault, Row};
+use crate::shown::{Hex, Text};
 use crate::subjects::Subject;
-use anyhow::{Context, Result, bail};
 use engine_clock::*;
 use std::alloc::Global;
 use std::mem;
@@ -16,222 +15,269 @@ pub struct Held {
     copy: Clocks,
 }
 
-impl Held {
-    /// Clocks of no engine.
-    pub fn new(alloc: Global) -> Held {
-        Held {
+impl Subject for Held {
+    fn begin(alloc: Global) -> Result<Held, Fault> {
+        Ok(Held {
             clocks: Clocks::new(alloc),
             copy: Clocks::new(alloc),
-        }
+        })
     }
 
-    /// What is answered to a row.
-    pub fn answer(&mut self, alloc: Global, row: &Row<'_>) -> Result<String> {
-        match (row.kind, row.words.as_slice()) {
-            ("new", []) => self.reset(alloc),
-            ("copy", []) => self.keep(alloc),
-            ("turn", []) => self.turn(alloc),
-            ("learn", words) => self.learn(alloc, words),
-            ("absorb", [text, now]) => self.absorb(alloc, text, now),
-            ("read_saved", [text, now]) => self.read(alloc, text, now),
-            ("save", []) => self.save(alloc),
-            ("pair", [engine]) => self.pair(alloc, engine),
-            ("mark", [engine]) => self.mark(alloc, engine),
-            ("notion", [engine, now]) => self.notion(alloc, engine, now),
-            _ => of_values(alloc, row),
+    fn answer(&mut self, row: &mut Row<'_>) {
+        match row.kind {
+            "new" => self.reset(row),
+            "copy" => self.keep(row),
+            "turn" => mem::swap(&mut self.clocks, &mut self.copy),
+            _ => of_clocks(&mut self.clocks, row),
         }
     }
+}
 
+impl Held {
     /// `new`: clocks of no engine.
-    fn reset(&mut self, alloc: Global) -> Result<String> {
-        *self = Held::new(alloc);
-        silent(alloc)
+    fn reset(&mut self, row: &mut Row<'_>) {
+        self.clocks = Clocks::new(row.alloc);
+        self.copy = Clocks::new(row.alloc);
     }
 
     /// `copy`: keeps a copy of the clocks.
-    fn keep(&mut self, alloc: Global) -> Result<String> {
-        self.copy = self.clocks.try_clone()?;
-        silent(alloc)
-    }
-
-    /// `turn`: the clocks and the copy change places.
-    fn turn(&mut self, alloc: Global) -> Result<String> {
-        mem::swap(&mut self.clocks, &mut self.copy);
-        silent(alloc)
-    }
-
-    /// `save`: the saved text.
-    fn save(&self, alloc: Global) -> Result<String> {
-        Ok(format!(in alloc; "{}", Text(&self.clocks.save()?))?)
-    }
-
-    /// `pair ENGINE`: its boots and time.
-    fn pair(&self, alloc: Global, engine: &Word<'_>) -> Result<String> {
-        pair_text(alloc, self.clocks.pair(&engine_of(engine)?))
-    }
-
-    /// `mark ENGINE`: its boots and time, and when they were seen.
-    fn mark(&self, alloc: Global, engine: &Word<'_>) -> Result<String> {
-        mark_text(alloc, self.clocks.mark(&engine_of(engine)?))
-    }
-
-    /// `learn ENGINE BOOTS TIME NOW`.
-    fn learn(&mut self, alloc: Global, words: &[Word<'_>]) -> Result<String> {
-        let [engine, boots, time, now] = words else {
-            bail!("learn ENGINE BOOTS TIME NOW");
-        };
-        let pair = Pair::of(boots.number32()?, time.number32()?).context("a pair")?;
-        let now = now.number()?;
-        self.clocks.learn(engine_of(engine)?, pair, now)?;
-        silent(alloc)
-    }
-
-    /// `absorb TEXT NOW`: takes over what a saved text has that is greater.
-    fn absorb(&mut self, alloc: Global, text: &Word<'_>, now: &Word<'_>) -> Result<String> {
-        let other = Clocks::read_saved(alloc, text.octets()?, now.number()?)?;
-        self.clocks.absorb(&other)?;
-        silent(alloc)
-    }
-
-    /// `read_saved TEXT NOW`: whether it is read, or its first line at fault. What is read takes the place of the
-    /// clocks.
-    fn read(&mut self, alloc: Global, text: &Word<'_>, now: &Word<'_>) -> Result<String> {
-        match Clocks::read_saved(alloc, text.octets()?, now.number()?) {
-            Ok(clocks) => self.clocks = clocks,
-            Err(ClockFault::OutOfMemory) => bail!("out of memory"),
-            Err(fault) => return Ok(fault.to_string(alloc)?),
-        }
-        Ok("read".to_string(alloc)?)
-    }
-
-    /// `notion ENGINE NOW`: the engine's time at this timestamp, as it is known.
-    fn notion(&self, alloc: Global, engine: &Word<'_>, now: &Word<'_>) -> Result<String> {
-        match self.clocks.notion(&engine_of(engine)?, now.number()?) {
-            Some(time) => Ok(format!(in alloc; "{time}")?),
-            None => none(alloc),
+    fn keep(&mut self, row: &mut Row<'_>) {
+        match self.clocks.try_clone() {
+            Ok(copy) => self.copy = copy,
+            Err(_) => row.lack(),
         }
     }
 }
 
-impl Subject for Held {
-    fn begin(alloc: Global) -> Result<Held> {
-        Ok(Held::new(alloc))
+/// Answers a row about the clocks.
+fn of_clocks(clocks: &mut Clocks, row: &mut Row<'_>) {
+    match row.kind {
+        "learn" => learn(clocks, row),
+        "absorb" => absorb(clocks, row),
+        "read_saved" => read(clocks, row),
+        "save" => save(clocks, row),
+        "pair" => pair(clocks, row),
+        "mark" => mark(clocks, row),
+        "notion" => notion(clocks, row),
+        _ => of_values(row),
     }
+}
 
-    fn answered(&mut self, alloc: Global, row: &Row<'_>) -> Result<String> {
-        self.answer(alloc, row)
+/// `save`: the saved text.
+fn save(clocks: &Clocks, row: &mut Row<'_>) {
+    match clocks.save() {
+        Ok(text) => row.say(format!(in row.alloc; "{}", Text(&text))),
+        Err(_) => row.lack(),
     }
+}
+
+/// `pair ENGINE`: its boots and time.
+fn pair(clocks: &Clocks, row: &mut Row<'_>) {
+    let engine = engine_in(row);
+    say_pair(row, clocks.pair(&engine));
+}
+
+/// `mark ENGINE`: its boots and time, and when they were seen.
+fn mark(clocks: &Clocks, row: &mut Row<'_>) {
+    let engine = engine_in(row);
+    say_mark(row, clocks.mark(&engine));
+}
+
+/// `learn ENGINE BOOTS TIME NOW`.
+fn learn(clocks: &mut Clocks, row: &mut Row<'_>) {
+    let engine = engine_in(row);
+    let (boots, time, now) = (row.number32(), row.number32(), row.number());
+    match Pair::of(boots, time) {
+        Some(pair) => row.need(clocks.learn(engine, pair, now)),
+        None => row.fail("a pair"),
+    }
+}
+
+/// The clocks of the saved text of the next word, seen at this timestamp.
+pub fn clocks_in(row: &mut Row<'_>, text: &[u8], now: u64) -> Clocks {
+    match Clocks::read_saved(row.alloc, text, now) {
+        Ok(clocks) => return clocks,
+        Err(ClockFault::OutOfMemory) => row.lack(),
+        Err(_) => row.fail("a saved text"),
+    }
+    Clocks::new(row.alloc)
+}
+
+/// `absorb TEXT NOW`: takes over what a saved text has that is greater.
+fn absorb(clocks: &mut Clocks, row: &mut Row<'_>) {
+    let (text, now) = (row.octets(), row.number());
+    let other = clocks_in(row, text, now);
+    row.need(clocks.absorb(&other));
+}
+
+/// `read_saved TEXT NOW`: whether it is read, or its first line at fault. What is read takes the place of the
+/// clocks.
+fn read(clocks: &mut Clocks, row: &mut Row<'_>) {
+    let (text, now) = (row.octets(), row.number());
+    match Clocks::read_saved(row.alloc, text, now) {
+        Ok(read) => {
+            *clocks = read;
+            row.tell("read");
+        }
+        Err(ClockFault::OutOfMemory) => row.lack(),
+        Err(fault) => row.say(fault.to_string(row.alloc)),
+    }
+}
+
+/// `notion ENGINE NOW`: the engine's time at this timestamp, as it is known.
+fn notion(clocks: &Clocks, row: &mut Row<'_>) {
+    let (engine, now) = (engine_in(row), row.number());
+    say_notion(row, clocks.notion(&engine, now));
+}
+
+/// A time, if there is one.
+pub fn say_notion(row: &mut Row<'_>, notion: Option<u32>) {
+    match notion {
+        Some(time) => row.say(format!(in row.alloc; "{time}")),
+        None => row.none(),
+    }
+}
+
+/// The engine of the number, counted from 0: 8000000001 and on.
+pub fn engine_at(number: u8) -> EngineId {
+    let Some(engine) = EngineId::of(&[0x80, 0, 0, 0, number.saturating_add(1)]) else {
+        unreachable!();
+    };
+    engine
 }
 
 /// The identifier of an engine.
-pub fn engine_of(word: &Word<'_>) -> Result<EngineId> {
-    Ok(EngineId::of(word.octets()?).context("an engine ID has 5 to 32 octets")?)
+pub fn engine_in(row: &mut Row<'_>) -> EngineId {
+    match EngineId::of(row.octets()) {
+        Some(engine) => engine,
+        None => {
+            row.fail("an engine ID has 5 to 32 octets");
+            engine_at(0)
+        }
+    }
 }
 
 /// Boots and time.
-pub fn pair_text(alloc: Global, pair: Option<Pair>) -> Result<String> {
+pub fn say_pair(row: &mut Row<'_>, pair: Option<Pair>) {
     match pair {
-        Some(pair) => Ok(format!(in alloc; "{} {}", pair.boots, pair.time)?),
-        None => none(alloc),
+        Some(pair) => row.say(format!(in row.alloc; "{} {}", pair.boots, pair.time)),
+        None => row.none(),
     }
 }
 
 /// Boots and time, and the timestamp at which they were seen.
-pub fn mark_text(alloc: Global, mark: Option<Mark>) -> Result<String> {
+pub fn say_mark(row: &mut Row<'_>, mark: Option<Mark>) {
     match mark {
-        Some(Mark { pair, seen }) => Ok(format!(in alloc;
+        Some(Mark { pair, seen }) => row.say(format!(in row.alloc;
             "{} {} seen {seen}",
             pair.boots, pair.time
-        )?),
-        None => none(alloc),
+        )),
+        None => row.none(),
     }
 }
 
-/// What is answered to a row that needs no clocks.
-fn of_values(alloc: Global, row: &Row<'_>) -> Result<String> {
-    match (row.kind, row.words.as_slice()) {
-        ("engine_id", [octets]) => engine_text(alloc, octets),
-        ("pair_of", [boots, time]) => pair_made(alloc, boots, time),
-        ("join_pairs", [first, second]) => joined_pairs(alloc, first, second),
-        ("join_marks", [first, second]) => joined_marks(alloc, first, second),
-        ("in_window_manager", [held, notion, pair]) => manager_window(alloc, held, notion, pair),
-        ("in_window_agent", [own, pair]) => agent_window(alloc, own, pair),
-        ("faults", []) => faults(alloc),
-        _ => bail!("no row {} of so many words", row.kind),
+/// Answers a row that needs no clocks.
+fn of_values(row: &mut Row<'_>) {
+    match row.kind {
+        "engine_id" => say_engine(row),
+        "pair_of" => pair_made(row),
+        "join_pairs" => joined_pairs(row),
+        "join_marks" => joined_marks(row),
+        "in_window_manager" => manager_window(row),
+        "in_window_agent" => agent_window(row),
+        "faults" => faults(row),
+        _ => row.fail_kind(),
     }
 }
 
 /// `pair_of BOOTS TIME`: the pair, if there is one.
-fn pair_made(alloc: Global, boots: &Word<'_>, time: &Word<'_>) -> Result<String> {
-    pair_text(alloc, Pair::of(boots.number32()?, time.number32()?))
+fn pair_made(row: &mut Row<'_>) {
+    let (boots, time) = (row.number32(), row.number32());
+    say_pair(row, Pair::of(boots, time));
 }
 
 /// `join_pairs PAIR PAIR`: the join of two pairs.
-fn joined_pairs(alloc: Global, first: &Word<'_>, second: &Word<'_>) -> Result<String> {
-    pair_text(alloc, pair_in(first)?.join(pair_in(second)?))
+fn joined_pairs(row: &mut Row<'_>) {
+    let (first, second) = (pair_or_none(row), pair_or_none(row));
+    say_pair(row, first.join(second));
 }
 
 /// `join_marks MARK MARK`: the join of two marks.
-fn joined_marks(alloc: Global, first: &Word<'_>, second: &Word<'_>) -> Result<String> {
-    mark_text(alloc, mark_in(first)?.join(mark_in(second)?))
+fn joined_marks(row: &mut Row<'_>) {
+    let (first, second) = (mark_or_none(row), mark_or_none(row));
+    say_mark(row, first.join(second));
 }
 
 /// `faults`: how faults of saved texts are printed.
-fn faults(alloc: Global) -> Result<String> {
-    Ok(format!(in alloc; "{} {}", ClockFault::Line(3), ClockFault::OutOfMemory)?)
+fn faults(row: &mut Row<'_>) {
+    row.say(format!(in row.alloc; "{} {}", ClockFault::Line(3), ClockFault::OutOfMemory));
 }
 
 /// `engine_id OCTETS`: the identifier, and in a field of 12 characters.
-fn engine_text(alloc: Global, octets: &Word<'_>) -> Result<String> {
-    match EngineId::of(octets.octets()?) {
-        Some(id) => Ok(format!(in alloc; "{id} {id:>12} {}", Hex(id.as_slice()))?),
-        None => none(alloc),
+fn say_engine(row: &mut Row<'_>) {
+    match EngineId::of(row.octets()) {
+        Some(id) => row.say(format!(in row.alloc; "{id} {id:>12} {}", Hex(id.as_slice()))),
+        None => row.none(),
     }
 }
 
-/// A pair as `BOOTS/TIME`, or none as `-`.
-pub fn pair_in(word: &Word<'_>) -> Result<Option<Pair>> {
-    if word.text == "-" {
-        return Ok(None);
+/// A pair as `BOOTS/TIME`.
+fn pair_of(text: &str) -> Option<Pair> {
+    let (boots, time) = text.split_once('/')?;
+    match (boots.parse::<u32>(), time.parse::<u32>()) {
+        (Ok(boots), Ok(time)) => Pair::of(boots, time),
+        _ => None,
     }
-    let (boots, time) = word.text.split_once('/').context("BOOTS/TIME")?;
-    let pair = Pair::of(boots.parse::<u32>()?, time.parse::<u32>()?);
-    Ok(Some(pair.context("a pair")?))
 }
 
-/// A mark as `BOOTS/TIME@SEEN`, or none as `-`.
-fn mark_in(word: &Word<'_>) -> Result<Option<Mark>> {
-    if word.text == "-" {
-        return Ok(None);
+/// A mark as `BOOTS/TIME@SEEN`.
+fn mark_of(text: &str) -> Option<Mark> {
+    let (pair, seen) = text.split_once('@')?;
+    match (pair_of(pair), seen.parse::<u64>()) {
+        (Some(pair), Ok(seen)) => Some(Mark { pair, seen }),
+        _ => None,
     }
-    let (pair, seen) = word.text.split_once('@').context("BOOTS/TIME@SEEN")?;
-    let (boots, time) = pair.split_once('/').context("BOOTS/TIME")?;
-    let pair = Pair::of(boots.parse::<u32>()?, time.parse::<u32>()?).context("a pair")?;
-    Ok(Some(Mark {
-        pair,
-        seen: seen.parse::<u64>()?,
-    }))
+}
+
+/// A pair, or none as `-`.
+fn pair_or_none(row: &mut Row<'_>) -> Option<Pair> {
+    let text = row.word();
+    let pair = pair_of(text);
+    if pair.is_none() && text != "-" {
+        row.fail("BOOTS/TIME");
+    }
+    pair
+}
+
+/// A pair.
+pub fn pair_in(row: &mut Row<'_>) -> Pair {
+    match pair_of(row.word()) {
+        Some(pair) => pair,
+        None => {
+            row.fail("BOOTS/TIME");
+            Pair { boots: 0, time: 0 }
+        }
+    }
+}
+
+/// A mark, or none as `-`.
+fn mark_or_none(row: &mut Row<'_>) -> Option<Mark> {
+    let text = row.word();
+    let mark = mark_of(text);
+    if mark.is_none() && text != "-" {
+        row.fail("BOOTS/TIME@SEEN");
+    }
+    mark
 }
 
 /// `in_window_manager HELD NOTION PAIR`: whether a message with the pair is in the time window of a manager.
-fn manager_window(
-    alloc: Global,
-    held: &Word<'_>,
-    notion: &Word<'_>,
-    pair: &Word<'_>,
-) -> Result<String> {
-    let (held, pair) = (
-        pair_in(held)?.context("a pair")?,
-        pair_in(pair)?.context("a pair")?,
-    );
-    Ok(format!(in alloc; "{}", in_window_manager(held, notion.number32()?, pair))?)
+fn manager_window(row: &mut Row<'_>) {
+    let (held, notion, pair) = (pair_in(row), row.number32(), pair_in(row));
+    row.tell_if(in_window_manager(held, notion, pair));
 }
 
 /// `in_window_agent OWN PAIR`: whether a message with the pair is in the time window of an agent.
-fn agent_window(alloc: Global, own: &Word<'_>, pair: &Word<'_>) -> Result<String> {
-    let (own, pair) = (
-        pair_in(own)?.context("a pair")?,
-        pair_in(pair)?.context("a pair")?,
-    );
-    Ok(format!(in alloc; "{}", in_window_agent(own, pair))?)
+fn agent_window(row: &mut Row<'_>) {
+    let (own, pair) = (pair_in(row), pair_in(row));
+    row.tell_if(in_window_agent(own, pair));
 }

@@ -1,23 +1,21 @@
 //! Managers: what they take, learn, ask for and are answered (RFC 3412, section 7; RFC 3414, section 3.2).
 
-ghost use Rattle.std.specs.Prelude.{◌≤◌, All, length};
+ghost use Rattle.std.specs.Prelude.{◌≤◌, All, IfSome, length};
 ghost use Rattle.snmp_ber.specs.Element.{IsTag};
 ghost use Rattle.snmp_msg.specs.Pdu.{IsPduTag};
 ghost use Rattle.snmp_msg.specs.Variables.{CanBeWritten, variable_of};
 
-use crate::clocks::{engine_of, mark_text, pair_text};
-use crate::outcome::{refused, taken_text};
-use crate::pdu::{bindings_of, pdu_of, variables_of};
+use crate::clocks::{clocks_in, engine_in, say_mark, say_notion, say_pair};
+use crate::outcome::{refused_text, say_refused, say_taken};
+use crate::pdu::{bindings_of, pdu_in, variables_of};
 use crate::people::People;
-use crate::row::{Row, Word};
-use crate::shown::{Hex, Text, none, silent};
-use crate::usm::salt_of;
-use anyhow::{Context, Result, bail, ensure};
+use crate::row::{Row, keep};
+use crate::shown::Text;
 use engine_clock::{Clocks, EngineId};
 use snmp_ber::Level;
-use snmp_incoming::{TakeFault, Taken};
-use snmp_manager::{Answer, Manager, Outcome, Pending, Stopped, answer_of};
-use snmp_msg::{Binding, Pdu, VariableBinding, is_pdu_tag};
+use snmp_incoming::TakeFault;
+use snmp_manager::{Manager, Outcome, Pending, answer_of};
+use snmp_msg::{Binding, Pdu, VariableBinding};
 use snmp_outgoing::{Body, Front};
 use std::alloc::{AllocError, Global};
 use std::mem;
@@ -27,7 +25,13 @@ use usm_core::Users;
 #[derive(Drop)]
 pub struct Asking {
     manager: Manager,
-    pending: Option<Pending>,
+    requests: Requests,
+}
+
+/// What is remembered of the last two requests.
+#[derive(Drop)]
+struct Requests {
+    last: Option<Pending>,
     earlier: Option<Pending>,
 }
 
@@ -36,99 +40,65 @@ type Asked = Result<(Vec<u8>, Pending), TakeFault>;
 
 impl Asking {
     /// A manager that knows no engine.
-    pub fn new(alloc: Global, users: Users) -> Result<Asking> {
-        Ok(Asking {
+    pub fn new(alloc: Global, users: Users) -> Asking {
+        Asking {
             manager: Manager::new(alloc, users, Clocks::new(alloc)),
-            pending: None,
-            earlier: None,
-        })
+            requests: Requests {
+                last: None,
+                earlier: None,
+            },
+        }
     }
 
     /// `manager CLOCKS`: a manager that begins with these saved clocks.
-    pub fn begin(&mut self, alloc: Global, people: &People, words: &[Word<'_>]) -> Result<String> {
-        let [text] = words else {
-            bail!("manager CLOCKS");
-        };
-        let clocks = Clocks::read_saved(alloc, text.octets()?, 0)?;
-        self.manager = Manager::new(alloc, people.users()?, clocks);
-        silent(alloc)
-    }
-
-    /// What is answered to a row.
-    pub fn answer(&mut self, alloc: Global, row: &Row<'_>) -> Result<String> {
-        match (row.kind, row.words.as_slice()) {
-            ("take", [now, datagram]) => take(&mut self.manager, alloc, now, datagram),
-            ("take_one", [now, datagram]) => take_one(&mut self.manager, alloc, now, datagram),
-            ("take_changed", [bits, datagram]) => take_changed(
-                &mut self.manager,
-                alloc,
-                bits,
-                datagram,
-            ),
-            ("run", words) => run(&mut self.manager, alloc, words),
-            ("absorb", [text, now]) => absorb(&mut self.manager, alloc, text, now),
-            ("request", words) => self.request(alloc, words),
-            ("request_of", words) => self.request_of(alloc, words),
-            ("discover", [id]) => self.discover(alloc, id),
-            ("reply", [now, datagram]) => self.reply(alloc, now, datagram),
-            ("reply_to_earlier", [now, datagram]) => self.earlier_reply(alloc, now, datagram),
-            _ => held(&self.manager, alloc, row),
+    pub fn begin(&mut self, people: &People, row: &mut Row<'_>) {
+        let text = row.octets();
+        let clocks = clocks_in(row, text, 0);
+        if let Some(users) = people.users(row) {
+            self.manager = Manager::new(row.alloc, users, clocks);
         }
     }
 
-    /// The text of a request, which is remembered, or why it isn't written.
-    fn asked(&mut self, alloc: Global, asked: Asked) -> Result<String> {
-        match asked {
-            Ok((text, pending)) => {
-                mem::swap(&mut self.earlier, &mut self.pending);
-                self.pending = Some(pending);
-                Ok(format!(in alloc; "{}", Hex(&text))?)
+    /// Answers a row.
+    pub fn answer(&mut self, row: &mut Row<'_>) {
+        let manager = &mut self.manager;
+        match row.kind {
+            "request" | "request_of" | "discover" => {
+                let asked = request(manager, row);
+                self.requests.note(row, asked);
             }
-            Err(fault) => refused(alloc, fault),
+            "reply" => reply(manager, &self.requests.last, row),
+            "reply_to_earlier" => reply(manager, &self.requests.earlier, row),
+            _ => of_manager(manager, row),
         }
-    }
-
-    /// `request ..`: the request with names as arcs.
-    fn request(&mut self, alloc: Global, words: &[Word<'_>]) -> Result<String> {
-        let asked = request(&mut self.manager, alloc, words)?;
-        self.asked(alloc, asked)
-    }
-
-    /// `request_of ..`: the request with names in octets.
-    fn request_of(&mut self, alloc: Global, words: &[Word<'_>]) -> Result<String> {
-        let asked = request_of(&mut self.manager, alloc, words)?;
-        self.asked(alloc, asked)
-    }
-
-    /// `reply NOW DATAGRAM`: what an accepted message is to the last request.
-    fn reply(&mut self, alloc: Global, now: &Word<'_>, datagram: &Word<'_>) -> Result<String> {
-        let pending = self.pending.as_ref().context("a request")?;
-        reply(&mut self.manager, alloc, pending, now, datagram)
-    }
-
-    /// `reply_to_earlier NOW DATAGRAM`: what an accepted message is to the request before the last.
-    fn earlier_reply(
-        &mut self,
-        alloc: Global,
-        now: &Word<'_>,
-        datagram: &Word<'_>,
-    ) -> Result<String> {
-        let pending = self.earlier.as_ref().context("a request before the last")?;
-        reply(&mut self.manager, alloc, pending, now, datagram)
-    }
-
-    /// `discover ID`: the discovery request.
-    fn discover(&mut self, alloc: Global, id: &Word<'_>) -> Result<String> {
-        let id = id.number32()?;
-        ensure!(id <= 2_147_483_647, "a msgID of 31 bits");
-        let (text, pending) = self.manager.discover(id)?;
-        self.asked(alloc, Ok((text, pending)))
     }
 }
 
-/// What the manager accepts, or why it doesn't.
-fn taken<'a>(manager: &mut Manager, now: u64, datagram: &'a [u8]) -> Result<Taken<'a>, TakeFault> {
-    manager.take(now, datagram)
+impl Requests {
+    /// The text of a request, which is remembered, or why it isn't written. There is none where the row notes why.
+    fn note(&mut self, row: &mut Row<'_>, asked: Option<Asked>) {
+        match asked {
+            Some(Ok((text, pending))) => {
+                mem::swap(&mut self.earlier, &mut self.last);
+                keep(&mut self.last, pending);
+                row.show(&text);
+            }
+            Some(Err(fault)) => say_refused(row, fault),
+            None => {}
+        }
+    }
+}
+
+/// Answers a row about a manager alone.
+fn of_manager(manager: &mut Manager, row: &mut Row<'_>) {
+    match row.kind {
+        "take" => take(manager, row),
+        "take_one" => take_one(manager, row),
+        "take_changed" => take_changed(manager, row),
+        "run" => run(manager, row),
+        "absorb" => absorb(manager, row),
+        _ => held(manager, row),
+    }
 }
 
 /// What the manager makes of the datagram.
@@ -136,94 +106,73 @@ fn took(manager: &mut Manager, now: u64, datagram: &[u8]) -> Result<Outcome, All
     manager.take_one(now, datagram)
 }
 
-/// What the manager makes of the datagrams, one after another.
-fn ran(manager: &mut Manager, list: &[(u64, Vec<u8>)]) -> Result<Vec<Outcome>, Stopped> {
-    manager.run(list)
-}
-
-/// The text of what the manager holds.
-fn save(manager: &Manager) -> Result<Vec<u8>, AllocError> {
-    manager.save()
-}
-
-/// The manager absorbs these clocks.
-fn learn(manager: &mut Manager, clocks: &Clocks) -> Result<(), AllocError> {
-    manager.absorb(clocks)
-}
-
-/// What the message is to a request.
-fn answer_to(pending: &Pending, taken: &Taken<'_>) -> Answer {
-    answer_of(pending, taken)
-}
-
-/// What is answered to a row about what the manager holds.
-fn held(manager: &Manager, alloc: Global, row: &Row<'_>) -> Result<String> {
-    match (row.kind, row.words.as_slice()) {
-        ("save", []) => saved(manager, alloc),
-        ("pair", [engine]) => pair(manager, alloc, engine),
-        ("mark", [engine]) => mark(manager, alloc, engine),
-        ("notion", [engine, now]) => notion(manager, alloc, engine, now),
-        _ => bail!("no row {} of so many words", row.kind),
+/// Answers a row about what the manager holds.
+fn held(manager: &Manager, row: &mut Row<'_>) {
+    match row.kind {
+        "save" => save(manager, row),
+        "pair" => pair(manager, row),
+        "mark" => mark(manager, row),
+        "notion" => notion(manager, row),
+        _ => row.fail_kind(),
     }
 }
 
 /// `save`: the saved text.
-fn saved(manager: &Manager, alloc: Global) -> Result<String> {
-    Ok(format!(in alloc; "{}", Text(&save(manager)?))?)
-}
-
-/// `pair ENGINE`: its boots and time.
-fn pair(manager: &Manager, alloc: Global, engine: &Word<'_>) -> Result<String> {
-    pair_text(alloc, manager.pair(&engine_of(engine)?))
-}
-
-/// `mark ENGINE`: its boots and time, and when they were seen.
-fn mark(manager: &Manager, alloc: Global, engine: &Word<'_>) -> Result<String> {
-    mark_text(alloc, manager.mark(&engine_of(engine)?))
-}
-
-/// `notion ENGINE NOW`: the engine's time at this timestamp, as it is known.
-fn notion(manager: &Manager, alloc: Global, engine: &Word<'_>, now: &Word<'_>) -> Result<String> {
-    match manager.notion(&engine_of(engine)?, now.number()?) {
-        Some(time) => Ok(format!(in alloc; "{time}")?),
-        None => none(alloc),
+fn save(manager: &Manager, row: &mut Row<'_>) {
+    match manager.save() {
+        Ok(text) => row.say(format!(in row.alloc; "{}", Text(&text))),
+        Err(_) => row.lack(),
     }
 }
 
+/// `pair ENGINE`: its boots and time.
+fn pair(manager: &Manager, row: &mut Row<'_>) {
+    let engine = engine_in(row);
+    say_pair(row, manager.pair(&engine));
+}
+
+/// `mark ENGINE`: its boots and time, and when they were seen.
+fn mark(manager: &Manager, row: &mut Row<'_>) {
+    let engine = engine_in(row);
+    say_mark(row, manager.mark(&engine));
+}
+
+/// `notion ENGINE NOW`: the engine's time at this timestamp, as it is known.
+fn notion(manager: &Manager, row: &mut Row<'_>) {
+    let (engine, now) = (engine_in(row), row.number());
+    say_notion(row, manager.notion(&engine, now));
+}
+
 /// `take NOW DATAGRAM`: what the message says, or why it is refused.
-fn take(
-    manager: &mut Manager,
-    alloc: Global,
-    now: &Word<'_>,
-    datagram: &Word<'_>,
-) -> Result<String> {
-    match taken(manager, now.number()?, datagram.octets()?) {
-        Ok(taken) => taken_text(alloc, &taken),
-        Err(fault) => refused(alloc, fault),
+fn take(manager: &mut Manager, row: &mut Row<'_>) {
+    match manager.take(row.number(), row.octets()) {
+        Ok(taken) => say_taken(row, &taken),
+        Err(fault) => say_refused(row, fault),
     }
 }
 
 /// An outcome: the level and the tag of what is accepted, or the refusal.
-fn outcome_text(alloc: Global, outcome: Outcome) -> Result<String> {
+fn outcome_text(alloc: Global, outcome: Outcome) -> Result<String, AllocError> {
     match outcome {
-        Outcome::Accepted { level, tag } => Ok(format!(in alloc; "accepted {level:?} {tag:02x}")?),
-        Outcome::Refused(fault) => refused(alloc, fault),
+        Outcome::Accepted { level, tag } => format!(in alloc; "accepted {level:?} {tag:02x}"),
+        Outcome::Refused(fault) => refused_text(alloc, fault),
     }
 }
 
 /// `take_one NOW DATAGRAM`: the outcome.
-fn take_one(
-    manager: &mut Manager,
-    alloc: Global,
-    now: &Word<'_>,
-    datagram: &Word<'_>,
-) -> Result<String> {
-    let outcome = took(manager, now.number()?, datagram.octets()?)?;
-    outcome_text(alloc, outcome)
+fn take_one(manager: &mut Manager, row: &mut Row<'_>) {
+    match took(manager, row.number(), row.octets()) {
+        Ok(outcome) => row.say(outcome_text(row.alloc, outcome)),
+        Err(_) => row.lack(),
+    }
 }
 
 /// How many of the datagrams the manager accepts that differ from this one in these bits of one octet.
-fn accepted_changes(manager: &mut Manager, datagram: &mut [u8], bits: u8) -> Result<u32> {
+fn accepted_changes(
+    manager: &mut Manager,
+    datagram: &mut [u8],
+    bits: u8,
+) -> Result<u32, AllocError> {
     let mut accepted = 0u32;
     for place in 0..datagram.len() {
         datagram[place] ^= bits;
@@ -236,34 +185,34 @@ fn accepted_changes(manager: &mut Manager, datagram: &mut [u8], bits: u8) -> Res
 }
 
 /// `take_changed BITS DATAGRAM`: in how many places the manager accepts it with these bits changed.
-fn take_changed(
-    manager: &mut Manager,
-    alloc: Global,
-    bits: &Word<'_>,
-    datagram: &Word<'_>,
-) -> Result<String> {
-    let mut datagram = datagram.octets()?.to_vec(alloc)?;
-    let accepted = accepted_changes(manager, &mut datagram, bits.octet()?)?;
-    Ok(format!(in alloc; "accepted {accepted}")?)
+fn take_changed(manager: &mut Manager, row: &mut Row<'_>) {
+    let (bits, datagram) = (row.octet(), row.octets());
+    let Ok(mut datagram) = datagram.to_vec(row.alloc) else {
+        return row.lack();
+    };
+    match accepted_changes(manager, &mut datagram, bits) {
+        Ok(accepted) => row.say(format!(in row.alloc; "accepted {accepted}")),
+        Err(_) => row.lack(),
+    }
 }
 
 /// The datagrams of NOW DATAGRAM .., each with its timestamp.
-fn list_of(alloc: Global, words: &[Word<'_>]) -> Result<Vec<(u64, Vec<u8>)>> {
-    let mut list = Vec::new(alloc);
-    for pair in words.chunks(2) {
-        let [now, datagram] = pair else {
-            bail!("run NOW DATAGRAM ..");
-        };
-        list.push((now.number()?, datagram.octets()?.to_vec(alloc)?))?;
+fn list_in(row: &mut Row<'_>) -> Vec<(u64, Vec<u8>)> {
+    let mut list = Vec::new(row.alloc);
+    for _ in 0..row.left() / 2 {
+        let (now, datagram) = (row.number(), row.octets());
+        match datagram.to_vec(row.alloc) {
+            Ok(datagram) => row.add(&mut list, (now, datagram)),
+            Err(_) => row.lack(),
+        }
     }
-    Ok(list)
+    list
 }
 
-/// `run NOW DATAGRAM ..`: the outcomes, one after another.
-fn run(manager: &mut Manager, alloc: Global, words: &[Word<'_>]) -> Result<String> {
-    let outcomes = ran(manager, &list_of(alloc, words)?)?;
+/// The outcomes, one after another.
+fn outcomes_text(alloc: Global, outcomes: &[Outcome]) -> Result<String, AllocError> {
     let mut text = String::new(alloc);
-    for outcome in outcomes.iter() {
+    for outcome in outcomes {
         if !text.is_empty() {
             text.push_str(", ")?;
         }
@@ -272,11 +221,33 @@ fn run(manager: &mut Manager, alloc: Global, words: &[Word<'_>]) -> Result<Strin
     Ok(text)
 }
 
+/// `run NOW DATAGRAM ..`: the outcomes, one after another.
+fn run(manager: &mut Manager, row: &mut Row<'_>) {
+    let list = list_in(row);
+    match manager.run(&list) {
+        Ok(outcomes) => row.say(outcomes_text(row.alloc, &outcomes)),
+        Err(_) => row.lack(),
+    }
+}
+
 /// `absorb TEXT NOW`: takes over what a saved text has that is greater.
-fn absorb(manager: &mut Manager, alloc: Global, text: &Word<'_>, now: &Word<'_>) -> Result<String> {
-    let clocks = Clocks::read_saved(alloc, text.octets()?, now.number()?)?;
-    learn(manager, &clocks)?;
-    silent(alloc)
+fn absorb(manager: &mut Manager, row: &mut Row<'_>) {
+    let (text, now) = (row.octets(), row.number());
+    let clocks = clocks_in(row, text, now);
+    row.need(manager.absorb(&clocks));
+}
+
+/// `discover ID`: the discovery request.
+fn discover(manager: &Manager, row: &mut Row<'_>) -> Option<Asked> {
+    let id = row.number32();
+    if id > 2_147_483_647 {
+        row.fail("a msgID of 31 bits");
+        return None;
+    }
+    match manager.discover(id) {
+        Ok(asked) => Some(Ok(asked)),
+        Err(_) => Some(Err(TakeFault::OutOfMemory)),
+    }
 }
 
 /// What a row says of a request besides its PDU.
@@ -284,28 +255,32 @@ fn absorb(manager: &mut Manager, alloc: Global, text: &Word<'_>, now: &Word<'_>)
 struct Said<'a> {
     now: u64,
     id: u32,
-    engine: &'a [u8],
+    context_engine: &'a [u8],
     user: &'a [u8],
     level: Level,
     context: &'a [u8],
     salt: [u8; 8],
 }
 
-/// What NOW ID ENGINE USER LEVEL CONTEXT SALT PDU says, and the PDU.
-fn said_in<'a>(words: &'a [Word<'_>]) -> Result<(Said<'a>, Pdu<'a>)> {
-    let [now, id, engine, user, level, context, salt, pdu] = words else {
-        bail!("request NOW ID ENGINE USER LEVEL CONTEXT SALT PDU");
-    };
+/// What NOW ID ENGINE USER LEVEL CONTEXT SALT says. There is none where the row notes why.
+fn said_in<'a>(row: &mut Row<'a>) -> Option<Said<'a>>
+    ensures id { IfSome result (λ said. said.id ≤ 2147483647) }
+    ensures user { IfSome result (λ said. length said.user.now ≤ 32) }
+{
     let said = Said {
-        now: now.number()?,
-        id: id.number32()?,
-        engine: engine.octets()?,
-        user: user.name(),
-        level: level.level()?,
-        context: context.octets()?,
-        salt: salt_of(salt)?,
+        now: row.number(),
+        id: row.number32(),
+        context_engine: row.octets(),
+        user: row.name(),
+        level: row.level(),
+        context: row.octets(),
+        salt: row.salt(),
     };
-    Ok((said, pdu_of(pdu.octets()?)?))
+    if said.id > 2_147_483_647 || said.user.len() > 32 {
+        row.fail("a request");
+        return None;
+    }
+    Some(said)
 }
 
 /// The request of this PDU, with names as arcs.
@@ -322,7 +297,7 @@ fn asked_of(
     requires fit { All (λ b. CanBeWritten (variable_of b)) bindings.now }
 {
     let body = Body {
-        context_engine: said.engine,
+        context_engine: said.context_engine,
         context_name: said.context,
         tag: pdu.tag,
         id: pdu.id,
@@ -349,7 +324,7 @@ fn asked_in_octets(
     requires fit { All (λ b. IsTag b.tag) bindings.now }
 {
     let front = Front {
-        context_engine: said.engine,
+        context_engine: said.context_engine,
         context_name: said.context,
         tag: pdu.tag,
         id: pdu.id,
@@ -361,40 +336,53 @@ fn asked_in_octets(
     )
 }
 
+/// The engine that a request is for.
+fn engine_of(row: &mut Row<'_>, said: &Said<'_>) -> Option<EngineId> {
+    let engine = EngineId::of(said.context_engine);
+    if engine.is_none() {
+        row.fail("an engine ID");
+    }
+    engine
+}
+
 /// `request NOW ID ENGINE USER LEVEL CONTEXT SALT PDU`: a request of this PDU, with names as arcs.
-fn request(manager: &mut Manager, alloc: Global, words: &[Word<'_>]) -> Result<Asked> {
-    let (said, pdu) = said_in(words)?;
-    ensure!(
-        is_pdu_tag(pdu.tag) && said.id <= 2_147_483_647 && said.user.len() <= 32,
-        "a request"
-    );
-    let engine = EngineId::of(said.engine).context("an engine ID")?;
-    let bindings = bindings_of(alloc, &pdu)?;
-    Ok(asked_of(manager, &engine, &said, &pdu, &bindings))
+fn request_with_arcs(manager: &mut Manager, row: &mut Row<'_>) -> Option<Asked> {
+    let said = said_in(row)?;
+    let pdu = pdu_in(row)?;
+    let engine = engine_of(row, &said)?;
+    match bindings_of(row.alloc, &pdu) {
+        Ok(bindings) => Some(asked_of(manager, &engine, &said, &pdu, &bindings)),
+        Err(_) => Some(Err(TakeFault::OutOfMemory)),
+    }
 }
 
 /// `request_of ..`: this request with names in octets.
-fn request_of(manager: &mut Manager, alloc: Global, words: &[Word<'_>]) -> Result<Asked> {
-    let (said, pdu) = said_in(words)?;
-    ensure!(
-        is_pdu_tag(pdu.tag) && said.id <= 2_147_483_647 && said.user.len() <= 32,
-        "a request"
-    );
-    let engine = EngineId::of(said.engine).context("an engine ID")?;
-    let bindings = variables_of(alloc, &pdu)?;
-    Ok(asked_in_octets(manager, &engine, &said, &pdu, &bindings))
+fn request_in_octets(manager: &mut Manager, row: &mut Row<'_>) -> Option<Asked> {
+    let said = said_in(row)?;
+    let pdu = pdu_in(row)?;
+    let engine = engine_of(row, &said)?;
+    match variables_of(row.alloc, &pdu) {
+        Ok(bindings) => Some(asked_in_octets(manager, &engine, &said, &pdu, &bindings)),
+        Err(_) => Some(Err(TakeFault::OutOfMemory)),
+    }
 }
 
-/// What an accepted message is to a request.
-fn reply(
-    manager: &mut Manager,
-    alloc: Global,
-    pending: &Pending,
-    now: &Word<'_>,
-    datagram: &Word<'_>,
-) -> Result<String> {
-    match taken(manager, now.number()?, datagram.octets()?) {
-        Ok(taken) => Ok(format!(in alloc; "{:?}", answer_to(pending, &taken))?),
-        Err(fault) => refused(alloc, fault),
+/// What is asked by a row `request`, `request_of` or `discover`. There is nothing where the row notes why.
+fn request(manager: &mut Manager, row: &mut Row<'_>) -> Option<Asked> {
+    match row.kind {
+        "request" => request_with_arcs(manager, row),
+        "request_of" => request_in_octets(manager, row),
+        _ => discover(manager, row),
+    }
+}
+
+/// `reply NOW DATAGRAM`: what an accepted message is to the last request, or `reply_to_earlier ..` to that before it.
+fn reply(manager: &mut Manager, pending: &Option<Pending>, row: &mut Row<'_>) {
+    let Some(pending) = pending else {
+        return row.fail("a request");
+    };
+    match manager.take(row.number(), row.octets()) {
+        Ok(taken) => row.say(format!(in row.alloc; "{:?}", answer_of(pending, &taken))),
+        Err(fault) => say_refused(row, fault),
     }
 }

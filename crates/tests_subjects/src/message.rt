@@ -1,10 +1,9 @@
 //! Messages and their layers (RFC 3412, section 6; RFC 3414, section 2.4).
 
 use crate::pdu;
-use crate::row::{Row, Word};
+use crate::row::{Fault, Row};
 use crate::shown::Hex;
 use crate::subjects::Subject;
-use anyhow::{Result, bail};
 use snmp_msg::*;
 use std::alloc::Global;
 
@@ -13,30 +12,29 @@ use std::alloc::Global;
 pub struct Messages;
 
 impl Subject for Messages {
-    fn begin(_alloc: Global) -> Result<Messages> {
+    fn begin(_alloc: Global) -> Result<Messages, Fault> {
         Ok(Messages)
     }
 
-    fn answered(&mut self, alloc: Global, row: &Row<'_>) -> Result<String> {
-        answer(alloc, row)
+    fn answer(&mut self, row: &mut Row<'_>) {
+        answer(row);
     }
 }
 
-/// What is answered to a row.
-pub fn answer(alloc: Global, row: &Row<'_>) -> Result<String> {
-    let words = row.words.as_slice();
+/// Answers a row.
+fn answer(row: &mut Row<'_>) {
     match row.kind {
-        "layers" => layers(alloc, words),
-        "canonical" => spelled(alloc, words),
-        "read_message" => message(alloc, words),
-        "read_security" => security(alloc, words),
-        "read_scoped" => scoped(alloc, words),
-        "read_scoped_front" => scoped_front(alloc, words),
-        "write_security" => written_security(alloc, words),
-        "write_message" => written_message(alloc, words),
-        "write_scoped" => written_scoped(alloc, words),
-        "write_sealed" => written_sealed(alloc, words),
-        _ => pdu::answer(alloc, row),
+        "layers" => layers(row),
+        "canonical" => spelled(row),
+        "read_message" => message(row),
+        "read_security" => security(row),
+        "read_scoped" => scoped(row),
+        "read_scoped_front" => scoped_front(row),
+        "write_security" => written_security(row),
+        "write_message" => written_message(row),
+        "write_scoped" => written_scoped(row),
+        "write_sealed" => written_sealed(row),
+        _ => pdu::answer(row),
     }
 }
 
@@ -52,159 +50,165 @@ fn fault_of(datagram: &[u8]) -> Result<(), MsgFault> {
 }
 
 /// `layers DATAGRAM`: why a layer refuses it.
-fn layers(alloc: Global, words: &[Word<'_>]) -> Result<String> {
-    let [datagram] = words else {
-        bail!("layers DATAGRAM");
-    };
-    match fault_of(datagram.octets()?) {
-        Ok(()) => Ok("read".to_string(alloc)?),
-        Err(fault) => Ok(fault.to_string(alloc)?),
+fn layers(row: &mut Row<'_>) {
+    match fault_of(row.octets()) {
+        Ok(()) => row.tell("read"),
+        Err(fault) => row.say(fault.to_string(row.alloc)),
     }
 }
 
 /// What was written, or that it is too large.
-fn written(alloc: Global, text: Result<Vec<u8>, WriteFault>) -> Result<String> {
+fn say_written(row: &mut Row<'_>, text: Result<Vec<u8>, WriteFault>) {
     match text {
-        Ok(text) => Ok(format!(in alloc; "{}", Hex(&text))?),
-        Err(WriteFault::OutOfMemory) => bail!("out of memory"),
-        Err(fault) => Ok(fault.to_string(alloc)?),
+        Ok(text) => row.show(&text),
+        Err(WriteFault::OutOfMemory) => row.lack(),
+        Err(fault) => row.say(fault.to_string(row.alloc)),
     }
 }
 
 /// `canonical DATAGRAM`: its canonical spelling, or why it has none.
-fn spelled(alloc: Global, words: &[Word<'_>]) -> Result<String> {
-    let [datagram] = words else {
-        bail!("canonical DATAGRAM");
-    };
-    match canonical(alloc, datagram.octets()?) {
-        Ok(text) => Ok(format!(in alloc; "{}", Hex(&text))?),
-        Err(CanonFault::OutOfMemory) => bail!("out of memory"),
-        Err(fault) => Ok(fault.to_string(alloc)?),
+fn spelled(row: &mut Row<'_>) {
+    match canonical(row.alloc, row.octets()) {
+        Ok(text) => row.show(&text),
+        Err(CanonFault::OutOfMemory) => row.lack(),
+        Err(fault) => row.say(fault.to_string(row.alloc)),
     }
 }
 
 /// `read_message DATAGRAM`: its header, and the places of msgSecurityParameters and of msgData.
-fn message(alloc: Global, words: &[Word<'_>]) -> Result<String> {
-    let [datagram] = words else {
-        bail!("read_message DATAGRAM");
-    };
-    let found = match read_message(datagram.octets()?) {
-        Ok(found) => found,
-        Err(fault) => return Ok(fault.to_string(alloc)?),
-    };
-    let header = found.header;
-    Ok(format!(in alloc;
-        "id {} max-size {} auth {} priv {} reportable {} model {} level {:?} security {} data {}",
+fn message(row: &mut Row<'_>) {
+    match read_message(row.octets()) {
+        Ok(found) => say_header(row, &found.header, found.security_at, found.data_at),
+        Err(fault) => row.say(fault.to_string(row.alloc)),
+    }
+}
+
+/// A header, and the places of msgSecurityParameters and of msgData.
+fn say_header(row: &mut Row<'_>, header: &Header, security_at: usize, data_at: usize) {
+    row.say(format!(in row.alloc;
+        "id {} max-size {} auth {} priv {} reportable {} model {} level {:?} security {security_at} data {data_at}",
         header.id,
         header.max_size,
         header.auth,
         header.privacy,
         header.reportable,
         header.model,
-        header.level(),
-        found.security_at,
-        found.data_at
-    )?)
+        header.level()
+    ));
 }
 
 /// `read_security DATAGRAM`: the security parameters, and how many octets are before and after the field of the code.
-fn security(alloc: Global, words: &[Word<'_>]) -> Result<String> {
-    let [datagram] = words else {
-        bail!("read_security DATAGRAM");
+fn security(row: &mut Row<'_>) {
+    let datagram = row.octets();
+    let Ok(message) = read_message(datagram) else {
+        return row.fail("a message");
     };
-    let datagram = datagram.octets()?;
-    let found = read_security(datagram, &read_message(datagram)?)?;
-    let pieces = cut(datagram, &found);
-    Ok(format!(in alloc;
-        "engine {} boots {} time {} user {} auth {} at {} salt {} front {} back {}",
+    match read_security(datagram, &message) {
+        Ok(found) => {
+            let pieces = cut(datagram, &found);
+            say_security(row, &found, pieces.front.len(), pieces.back.len());
+        }
+        Err(_) => row.fail("security parameters"),
+    }
+}
+
+/// Security parameters, and how many octets are before and after the field of the code.
+fn say_security(row: &mut Row<'_>, found: &Security<'_>, front: usize, back: usize) {
+    row.say(format!(in row.alloc;
+        "engine {} boots {} time {} user {} auth {} at {} salt {} front {front} back {back}",
         Hex(found.engine),
         found.boots,
         found.time,
         Hex(found.user),
         Hex(found.auth),
         found.auth_at,
-        Hex(found.salt),
-        pieces.front.len(),
-        pieces.back.len()
-    )?)
+        Hex(found.salt)
+    ));
 }
 
 /// `read_scoped DATAGRAM`: the scoped PDU with the place of its data, or that it is sealed.
-fn scoped(alloc: Global, words: &[Word<'_>]) -> Result<String> {
-    let [datagram] = words else {
-        bail!("read_scoped DATAGRAM");
+fn scoped(row: &mut Row<'_>) {
+    let datagram = row.octets();
+    let Ok(message) = read_message(datagram) else {
+        return row.fail("a message");
     };
-    let datagram = datagram.octets()?;
-    match read_scoped(datagram, &read_message(datagram)?)? {
-        Some(found) => Ok(format!(in alloc;
-            "engine {} name {} data {} {}",
-            Hex(found.engine),
-            Hex(found.name),
-            found.data_at,
-            Hex(found.pdu)
-        )?),
-        None => Ok("sealed".to_string(alloc)?),
+    match read_scoped(datagram, &message) {
+        Ok(Some(found)) => say_scoped(row, &found),
+        Ok(None) => row.tell("sealed"),
+        Err(_) => row.fail("a scoped PDU"),
     }
+}
+
+/// A scoped PDU with the place of its data.
+fn say_scoped(row: &mut Row<'_>, found: &Scoped<'_>) {
+    row.say(format!(in row.alloc;
+        "engine {} name {} data {} {}",
+        Hex(found.engine),
+        Hex(found.name),
+        found.data_at,
+        Hex(found.pdu)
+    ));
 }
 
 /// `read_scoped_front OCTETS`: the place of the data of the scoped PDU that they begin with, or the fault and its
 /// place.
-fn scoped_front(alloc: Global, words: &[Word<'_>]) -> Result<String> {
-    let [octets] = words else {
-        bail!("read_scoped_front OCTETS");
-    };
-    match read_scoped_front(octets.octets()?) {
-        Ok(found) => Ok(format!(in alloc; "data {}", found.data_at)?),
-        Err(fault) => Ok(format!(in alloc; "{fault} {:?}", fault.at())?),
+fn scoped_front(row: &mut Row<'_>) {
+    match read_scoped_front(row.octets()) {
+        Ok(found) => row.say(format!(in row.alloc; "data {}", found.data_at)),
+        Err(fault) => row.say(format!(in row.alloc; "{fault} {:?}", fault.at())),
     }
 }
 
 /// `write_security DATAGRAM`: its security parameters, written again.
-fn written_security(alloc: Global, words: &[Word<'_>]) -> Result<String> {
-    let [datagram] = words else {
-        bail!("write_security DATAGRAM");
+fn written_security(row: &mut Row<'_>) {
+    let (alloc, datagram) = (row.alloc, row.octets());
+    let Ok(message) = read_message(datagram) else {
+        return row.fail("a message");
     };
-    let datagram = datagram.octets()?;
-    let found = read_security(datagram, &read_message(datagram)?)?;
-    written(alloc, write_security(alloc, &found))
+    match read_security(datagram, &message) {
+        Ok(found) => say_written(row, write_security(alloc, &found)),
+        Err(_) => row.fail("security parameters"),
+    }
 }
 
 /// `write_message DATAGRAM`: the message, written again around its security parameters and its msgData.
-fn written_message(alloc: Global, words: &[Word<'_>]) -> Result<String> {
-    let [datagram] = words else {
-        bail!("write_message DATAGRAM");
-    };
-    let found = read_message(datagram.octets()?)?;
-    written(
-        alloc,
-        write_message(alloc, &found.header, found.security, &found.body),
-    )
+fn written_message(row: &mut Row<'_>) {
+    let alloc = row.alloc;
+    match read_message(row.octets()) {
+        Ok(found) => say_written(
+            row,
+            write_message(alloc, &found.header, found.security, &found.body),
+        ),
+        Err(_) => row.fail("a message"),
+    }
 }
 
 /// `write_scoped DATAGRAM`: its scoped PDU, written again around its data.
-fn written_scoped(alloc: Global, words: &[Word<'_>]) -> Result<String> {
-    let [datagram] = words else {
-        bail!("write_scoped DATAGRAM");
+fn written_scoped(row: &mut Row<'_>) {
+    let (alloc, datagram) = (row.alloc, row.octets());
+    let Ok(message) = read_message(datagram) else {
+        return row.fail("a message");
     };
-    let datagram = datagram.octets()?;
-    match read_scoped(datagram, &read_message(datagram)?)? {
-        Some(found) => written(
-            alloc,
+    match read_scoped(datagram, &message) {
+        Ok(Some(found)) => say_written(
+            row,
             write_scoped(alloc, found.engine, found.name, found.pdu),
         ),
-        None => bail!("the scoped PDU is sealed"),
+        _ => row.fail("a scoped PDU in the open"),
     }
 }
 
 /// `write_sealed DATAGRAM COUNT`: how many octets the message has with so many sealed ones as its msgData.
-fn written_sealed(alloc: Global, words: &[Word<'_>]) -> Result<String> {
-    let [datagram, count] = words else {
-        bail!("write_sealed DATAGRAM COUNT");
+fn written_sealed(row: &mut Row<'_>) {
+    let (alloc, datagram, count) = (row.alloc, row.octets(), row.place());
+    let Ok(octets) = vec![in alloc; 0u8; count.min(100_000)] else {
+        return row.lack();
     };
-    let found = read_message(datagram.octets()?)?;
-    let octets = vec![in alloc; 0u8; count.place()?.min(100_000)]?;
-    pdu::length(
-        alloc,
-        write_message(alloc, &found.header, found.security, &Data::Sealed(&octets)),
-    )
+    match read_message(datagram) {
+        Ok(found) => pdu::say_length(
+            row,
+            write_message(alloc, &found.header, found.security, &Data::Sealed(&octets)),
+        ),
+        Err(_) => row.fail("a message"),
+    }
 }

@@ -1,14 +1,13 @@
 //! Messages that are opened and read (RFC 3412, section 7.2), and how refusals are told.
 
 use crate::people::People;
-use crate::row::{Row, Word};
+use crate::row::{Fault, Row};
 use crate::shown::{Hex, Text};
 use crate::subjects::Subject;
-use anyhow::{Result, bail, ensure};
 use engine_clock::EngineId;
 use snmp_incoming::{TakeFault, Taken, read_text, scoped_octets};
 use snmpsec_output::{octets_line, opened_lines};
-use std::alloc::Global;
+use std::alloc::{AllocError, Global};
 use usm_core::{Role, Users, UsmFault};
 
 /// Users who read messages.
@@ -17,36 +16,23 @@ pub struct Reading {
     people: People,
 }
 
-impl Reading {
-    /// No users.
-    pub fn new(alloc: Global) -> Result<Reading> {
+impl Subject for Reading {
+    fn begin(alloc: Global) -> Result<Reading, Fault> {
         Ok(Reading {
             people: People::new(alloc)?,
         })
     }
 
-    /// What is answered to a row.
-    pub fn answer(&mut self, alloc: Global, row: &Row<'_>) -> Result<String> {
-        let words = row.words.as_slice();
-        match (row.kind, words) {
-            ("user", _) => self.people.add(alloc, words),
-            ("users", []) => self.people.load(alloc),
-            ("read", [datagram]) => read(&self.people, alloc, datagram),
-            ("opened_lines", [datagram]) => opened(&self.people, alloc, datagram),
-            ("octets_line", [name, octets]) => line(alloc, name, octets),
-            ("fault", [name, place]) => fault_text(alloc, name, place),
-            _ => bail!("no row {} of so many words", row.kind),
+    fn answer(&mut self, row: &mut Row<'_>) {
+        match row.kind {
+            "user" => self.people.add(row),
+            "users" => self.people.load(row),
+            "read" => read(&self.people, row),
+            "opened_lines" => opened(&self.people, row),
+            "octets_line" => line(row),
+            "fault" => say_fault(row),
+            _ => row.fail_kind(),
         }
-    }
-}
-
-impl Subject for Reading {
-    fn begin(alloc: Global) -> Result<Reading> {
-        Reading::new(alloc)
-    }
-
-    fn answered(&mut self, alloc: Global, row: &Row<'_>) -> Result<String> {
-        self.answer(alloc, row)
     }
 }
 
@@ -63,11 +49,11 @@ fn read_of<'a>(users: &mut Users, datagram: &'a [u8]) -> Result<Taken<'a>, TakeF
     }
 }
 
-/// What an accepted message is: who sent it, its contexts and its PDU.
-pub fn taken_text(alloc: Global, taken: &Taken<'_>) -> Result<String> {
+/// Answers what an accepted message is: who sent it, its contexts and its PDU.
+pub fn say_taken(row: &mut Row<'_>, taken: &Taken<'_>) {
     let scoped = taken.scoped();
     let pdu = taken.pdu();
-    Ok(format!(in alloc;
+    row.say(format!(in row.alloc;
         "accepted {:?} id {} engine {} user {} context {} {} data {} {} tag {:02x} request {}",
         taken.level,
         taken.id,
@@ -79,60 +65,87 @@ pub fn taken_text(alloc: Global, taken: &Taken<'_>) -> Result<String> {
         Hex(scoped.pdu),
         taken.tag,
         pdu.id
-    )?)
+    ));
 }
 
 /// A refusal: its number, its name and its place.
-pub fn refused(alloc: Global, fault: TakeFault) -> Result<String> {
-    ensure!(!fault.is_memory(), "out of memory");
+pub fn refused_text(alloc: Global, fault: TakeFault) -> Result<String, AllocError> {
     let (number, name) = (fault.number(), fault.name());
     match fault.place() {
-        Some(place) => Ok(format!(in alloc; "refused {number} {name} {place}")?),
-        None => Ok(format!(in alloc; "refused {number} {name}")?),
+        Some(place) => format!(in alloc; "refused {number} {name} {place}"),
+        None => format!(in alloc; "refused {number} {name}"),
+    }
+}
+
+/// Answers a refusal, or notes that memory was wanting.
+pub fn say_refused(row: &mut Row<'_>, fault: TakeFault) {
+    if fault.is_memory() {
+        row.lack();
+    } else {
+        row.say(refused_text(row.alloc, fault));
     }
 }
 
 /// `read DATAGRAM`: what the message says, or why it isn't read, as the refusal is printed.
-fn read(people: &People, alloc: Global, datagram: &Word<'_>) -> Result<String> {
-    match read_of(&mut people.users()?, datagram.octets()?) {
-        Ok(taken) => taken_text(alloc, &taken),
-        Err(fault) => Ok(fault.to_string(alloc)?),
+fn read(people: &People, row: &mut Row<'_>) {
+    let Some(mut users) = people.users(row) else {
+        return;
+    };
+    match read_of(&mut users, row.octets()) {
+        Ok(taken) => say_taken(row, &taken),
+        Err(TakeFault::OutOfMemory) => row.lack(),
+        Err(fault) => row.say(fault.to_string(row.alloc)),
     }
 }
 
 /// The refusal of this name, at this place if it has one.
-fn fault_of(name: &Word<'_>, place: &Word<'_>) -> Result<TakeFault> {
-    match (name.text, place.place().unwrap_or(0)) {
-        ("NotMessage", at) => Ok(TakeFault::NotMessage { at }),
-        ("NotScoped", at) => Ok(UsmFault::NotScoped { at }.into()),
-        ("BadScoped", at) => Ok(TakeFault::BadScoped { at }),
-        ("BadPdu", at) => Ok(TakeFault::BadPdu { at }),
-        ("NotInWindow", _) => Ok(TakeFault::NotInWindow),
-        ("ClockExhausted", _) => Ok(TakeFault::ClockExhausted),
-        ("InvalidFlags", _) => Ok(UsmFault::InvalidFlags.into()),
-        ("OutOfMemory", _) => Ok(TakeFault::OutOfMemory),
-        _ => bail!("no refusal of this name"),
+fn fault_of(name: &str, at: usize) -> Option<TakeFault> {
+    match name {
+        "NotMessage" => Some(TakeFault::NotMessage { at }),
+        "NotScoped" => Some(UsmFault::NotScoped { at }.into()),
+        "BadScoped" => Some(TakeFault::BadScoped { at }),
+        "BadPdu" => Some(TakeFault::BadPdu { at }),
+        "NotInWindow" => Some(TakeFault::NotInWindow),
+        "ClockExhausted" => Some(TakeFault::ClockExhausted),
+        "InvalidFlags" => Some(UsmFault::InvalidFlags.into()),
+        "OutOfMemory" => Some(TakeFault::OutOfMemory),
+        _ => None,
     }
 }
 
 /// `fault NAME PLACE`: the number of the refusal, its name, its place, whether it is of memory, and how it is
 /// printed.
-fn fault_text(alloc: Global, name: &Word<'_>, place: &Word<'_>) -> Result<String> {
-    let fault = fault_of(name, place)?;
+fn say_fault(row: &mut Row<'_>) {
+    let (name, place) = (row.word(), row.word());
+    let Some(fault) = fault_of(name, place.parse::<usize>().unwrap_or(0)) else {
+        return row.fail("a refusal");
+    };
     let (number, name, place) = (fault.number(), fault.name(), fault.place());
-    Ok(format!(in alloc; "{number} {name} {place:?} {} {fault}", fault.is_memory())?)
+    let is_memory = fault.is_memory();
+    row.say(format!(in row.alloc; "{number} {name} {place:?} {is_memory} {fault}"));
+}
+
+/// Answers a text.
+fn say_text(row: &mut Row<'_>, text: &str) {
+    row.say(format!(in row.alloc; "{}", Text(text.as_bytes())));
 }
 
 /// `opened_lines DATAGRAM`: the lines of the message, or why it isn't opened.
-fn opened(people: &People, alloc: Global, datagram: &Word<'_>) -> Result<String> {
-    match opened_lines(alloc, &mut people.users()?, datagram.octets()?) {
-        Ok(text) => Ok(format!(in alloc; "{}", Text(text.as_bytes()))?),
-        Err(fault) => refused(alloc, fault),
+fn opened(people: &People, row: &mut Row<'_>) {
+    let Some(mut users) = people.users(row) else {
+        return;
+    };
+    match opened_lines(row.alloc, &mut users, row.octets()) {
+        Ok(text) => say_text(row, &text),
+        Err(fault) => say_refused(row, fault),
     }
 }
 
 /// `octets_line NAME OCTETS`: the line of octets of this name.
-fn line(alloc: Global, name: &Word<'_>, octets: &Word<'_>) -> Result<String> {
-    let line = octets_line(alloc, name.text, octets.octets()?)?;
-    Ok(format!(in alloc; "{}", Text(line.as_bytes()))?)
+fn line(row: &mut Row<'_>) {
+    let (name, octets) = (row.word(), row.octets());
+    match octets_line(row.alloc, name, octets) {
+        Ok(text) => say_text(row, &text),
+        Err(_) => row.lack(),
+    }
 }

@@ -1,40 +1,39 @@
 //! PDUs, their variable bindings and values (RFC 3416, section 3; RFC 2578, section 7.1).
 
-ghost use Rattle.std.specs.Prelude.{All, IfOk};
+ghost use Rattle.std.specs.Prelude.{All, IfOk, IfSome};
 ghost use Rattle.snmp_ber.specs.Element.{IsTag};
 ghost use Rattle.snmp_message.specs.Scoped.{IsOneElement};
+ghost use Rattle.snmp_msg.specs.Pdu.{IsPduTag};
 ghost use Rattle.snmp_msg.specs.Variables.{CanBeWritten, variable_of};
 
-use crate::row::{Row, Word};
-use crate::shown::{Hex, none};
-use anyhow::{Context, Result, bail, ensure};
+use crate::row::Row;
+use crate::shown::Hex;
 use snmp_ber::{ObjectName, Oid};
 use snmp_msg::*;
 use std::alloc::{AllocError, Global};
 use std::fmt;
 
-/// What is answered to a row.
-pub fn answer(alloc: Global, row: &Row<'_>) -> Result<String> {
-    let words = row.words.as_slice();
+/// Answers a row.
+pub fn answer(row: &mut Row<'_>) {
     match row.kind {
-        "read_pdu" => read(alloc, words),
-        "variable_bindings" => variables(alloc, words),
-        "read_binding" => binding(alloc, words),
-        "value_is" => value(alloc, words),
-        "write_pdu" => written(alloc, words),
-        "write_value" => written_value(alloc, words),
-        "binding_len" => binding_length(alloc, words),
-        "written_pdu_len" => pdu_length(alloc, words),
-        kind => bail!("no kind of row {kind}"),
+        "read_pdu" => read(row),
+        "variable_bindings" => variables(row),
+        "read_binding" => binding(row),
+        "value_is" => value(row),
+        "write_pdu" => written(row),
+        "write_value" => written_value(row),
+        "binding_len" => binding_length(row),
+        "written_pdu_len" => pdu_length(row),
+        _ => row.fail_kind(),
     }
 }
 
 /// How long the text is that was written, or that it is too large.
-pub fn length(alloc: Global, text: Result<Vec<u8>, WriteFault>) -> Result<String> {
+pub fn say_length(row: &mut Row<'_>, text: Result<Vec<u8>, WriteFault>) {
     match text {
-        Ok(text) => Ok(format!(in alloc; "len {}", text.len())?),
-        Err(WriteFault::OutOfMemory) => bail!("out of memory"),
-        Err(fault) => Ok(fault.to_string(alloc)?),
+        Ok(text) => row.say(format!(in row.alloc; "len {}", text.len())),
+        Err(WriteFault::OutOfMemory) => row.lack(),
+        Err(fault) => row.say(fault.to_string(row.alloc)),
     }
 }
 
@@ -58,22 +57,21 @@ impl fmt::Display for Arcs<'_> {
 }
 
 /// `read_pdu OCTETS AT END`: its tag, its three numbers and its bindings, or the fault.
-fn read(alloc: Global, words: &[Word<'_>]) -> Result<String> {
-    let [octets, at, end] = words else {
-        bail!("read_pdu OCTETS AT END");
-    };
-    let (octets, at, end) = (octets.octets()?, at.place()?, end.place()?);
-    ensure!(at <= end && end <= octets.len(), "places of the octets");
+fn read(row: &mut Row<'_>) {
+    let (octets, at, end) = (row.octets(), row.place(), row.place());
+    if at > end || end > octets.len() {
+        return row.fail("places of the octets");
+    }
     match read_pdu(octets, at, end) {
-        Ok(pdu) => Ok(format!(in alloc;
+        Ok(pdu) => row.say(format!(in row.alloc;
             "tag {:02x} {} {} {}{}",
             pdu.tag,
             pdu.id,
             pdu.second,
             pdu.third,
             Arcs(pdu.bindings())
-        )?),
-        Err(fault) => Ok(fault.to_string(alloc)?),
+        )),
+        Err(fault) => row.say(fault.to_string(row.alloc)),
     }
 }
 
@@ -92,41 +90,52 @@ impl fmt::Display for InOctets<'_> {
 }
 
 /// The PDU that the octets are.
-pub fn pdu_of(octets: &[u8]) -> Result<Pdu<'_>> {
-    Ok(read_pdu(octets, 0, octets.len())?)
+fn pdu_of(octets: &[u8]) -> Option<Pdu<'_>>
+    ensures { IfSome result (λ p. IsPduTag p.tag) }
+{
+    match read_pdu(octets, 0, octets.len()) {
+        Ok(pdu) if is_pdu_tag(pdu.tag) => Some(pdu),
+        _ => None,
+    }
+}
+
+/// The PDU that the octets of the next word are.
+pub fn pdu_in<'a>(row: &mut Row<'a>) -> Option<Pdu<'a>>
+    ensures { IfSome result (λ p. IsPduTag p.tag) }
+{
+    let pdu = pdu_of(row.octets());
+    if pdu.is_none() {
+        row.fail("a PDU");
+    }
+    pdu
 }
 
 /// `variable_bindings PDU`: its bindings with their names in octets.
-fn variables(alloc: Global, words: &[Word<'_>]) -> Result<String> {
-    let [octets] = words else {
-        bail!("variable_bindings PDU");
-    };
-    let pdu = pdu_of(octets.octets()?)?;
-    Ok(format!(in alloc; "bindings{}", InOctets(pdu.variable_bindings()))?)
+fn variables(row: &mut Row<'_>) {
+    if let Some(pdu) = pdu_in(row) {
+        row.say(format!(in row.alloc; "bindings{}", InOctets(pdu.variable_bindings())));
+    }
 }
 
 /// `read_binding OCTETS AT END`: the places of its parts and the tag of its value, or the place of the fault.
-fn binding(alloc: Global, words: &[Word<'_>]) -> Result<String> {
-    let [octets, at, end] = words else {
-        bail!("read_binding OCTETS AT END");
-    };
-    let (octets, at, end) = (octets.octets()?, at.place()?, end.place()?);
-    ensure!(at <= end && end <= octets.len(), "places of the octets");
+fn binding(row: &mut Row<'_>) {
+    let (octets, at, end) = (row.octets(), row.place(), row.place());
+    if at > end || end > octets.len() {
+        return row.fail("places of the octets");
+    }
     match read_binding(octets, at, end) {
-        Ok(VarBind { name, value, end }) => Ok(format!(in alloc;
+        Ok(VarBind { name, value, end }) => row.say(format!(in row.alloc;
             "name {} {} {} value {} {} {} tag {:02x} end {end}",
             name.start, name.body, name.end, value.start, value.body, value.end, value.tag
-        )?),
-        Err(fault) => Ok(format!(in alloc; "fault {}", fault.at)?),
+        )),
+        Err(fault) => row.say(format!(in row.alloc; "fault {}", fault.at)),
     }
 }
 
 /// `value_is TAG CONTENT`: whether the content is of a value with the tag.
-fn value(alloc: Global, words: &[Word<'_>]) -> Result<String> {
-    let [tag, content] = words else {
-        bail!("value_is TAG CONTENT");
-    };
-    Ok(format!(in alloc; "{}", value_is(tag.octet()?, content.octets()?))?)
+fn value(row: &mut Row<'_>) {
+    let (tag, content) = (row.octet(), row.octets());
+    row.tell_if(value_is(tag, content));
 }
 
 /// The bindings of a PDU that can be written.
@@ -159,40 +168,54 @@ pub fn variables_of<'a>(
 }
 
 /// The PDU, written with names as arcs.
-pub fn with_arcs(alloc: Global, pdu: &Pdu<'_>) -> Result<Vec<u8>>
+pub fn with_arcs(alloc: Global, pdu: &Pdu<'_>) -> Result<Vec<u8>, WriteFault>
+    requires { IsPduTag pdu.now.tag }
     ensures { IfOk result (λ v. IsOneElement v.items) }
 {
     let bindings = bindings_of(alloc, pdu)?;
-    ensure!(is_pdu_tag(pdu.tag), "a tag of a PDU");
-    Ok(write_pdu(alloc, pdu.tag, pdu.id, pdu.second, pdu.third, &bindings)?)
+    write_pdu(alloc, pdu.tag, pdu.id, pdu.second, pdu.third, &bindings)
 }
 
 /// The PDU, written with names in octets.
-fn in_octets(alloc: Global, pdu: &Pdu<'_>) -> Result<Vec<u8>> {
+fn in_octets(alloc: Global, pdu: &Pdu<'_>) -> Result<Vec<u8>, WriteFault>
+    requires { IsPduTag pdu.now.tag }
+{
     let bindings = variables_of(alloc, pdu)?;
-    ensure!(is_pdu_tag(pdu.tag), "a tag of a PDU");
-    Ok(write_pdu_of(alloc, pdu.tag, pdu.id, pdu.second, pdu.third, &bindings)?)
+    write_pdu_of(alloc, pdu.tag, pdu.id, pdu.second, pdu.third, &bindings)
+}
+
+/// Whether the text that was written is this one, or what stands in the way of writing it.
+fn is_text(text: Result<Vec<u8>, WriteFault>, wanted: &[u8]) -> Result<bool, WriteFault> {
+    match text {
+        Ok(text) => Ok(text.as_slice() == wanted),
+        Err(fault) => Err(fault),
+    }
 }
 
 /// `write_pdu PDU`: whether it is written as it is, with names as arcs and with names in octets.
-fn written(alloc: Global, words: &[Word<'_>]) -> Result<String> {
-    let [octets] = words else {
-        bail!("write_pdu PDU");
+fn written(row: &mut Row<'_>) {
+    let octets = row.octets();
+    let Some(pdu) = pdu_of(octets) else {
+        return row.fail("a PDU");
     };
-    let octets = octets.octets()?;
-    let pdu = pdu_of(octets)?;
-    let arcs = with_arcs(alloc, &pdu)?.as_slice() == octets;
-    let names = in_octets(alloc, &pdu)?.as_slice() == octets;
-    Ok(format!(in alloc; "{arcs} {names}")?)
+    let arcs = is_text(with_arcs(row.alloc, &pdu), octets);
+    let names = is_text(in_octets(row.alloc, &pdu), octets);
+    match (arcs, names) {
+        (Ok(arcs), Ok(names)) => row.say(format!(in row.alloc; "{arcs} {names}")),
+        (Err(WriteFault::OutOfMemory), _) | (_, Err(WriteFault::OutOfMemory)) => row.lack(),
+        _ => row.fail("a PDU that is written again"),
+    }
 }
 
 /// The OCTET STRING of 1.3, with its name as arcs.
-fn with_arcs_of(content: &[u8]) -> Result<Binding<'_>>
-    ensures { IfOk result (λ b. CanBeWritten (variable_of b)) }
+fn with_arcs_of(content: &[u8]) -> Option<Binding<'_>>
+    ensures { IfSome result (λ b. CanBeWritten (variable_of b)) }
 {
-    let name = Oid::of(&[1, 3]).context("an identifier")?;
-    ensure!(name.is_object_id(), "an object id");
-    Ok(Binding {
+    let name = Oid::of(&[1, 3])?;
+    if !name.is_object_id() {
+        return None;
+    }
+    Some(Binding {
         name,
         tag: 0x04,
         content,
@@ -200,11 +223,11 @@ fn with_arcs_of(content: &[u8]) -> Result<Binding<'_>>
 }
 
 /// The OCTET STRING of 1.3, with its name in octets.
-fn in_octets_of(content: &[u8]) -> Result<VariableBinding<'_>>
-    ensures { IfOk result (λ b. IsTag b.tag) }
+fn in_octets_of(content: &[u8]) -> Option<VariableBinding<'_>>
+    ensures { IfSome result (λ b. IsTag b.tag) }
 {
-    let name = ObjectName::of(&[0x2b]).context("an identifier")?;
-    Ok(VariableBinding {
+    let name = ObjectName::of(&[0x2b])?;
+    Some(VariableBinding {
         name,
         tag: 0x04,
         content,
@@ -212,45 +235,46 @@ fn in_octets_of(content: &[u8]) -> Result<VariableBinding<'_>>
 }
 
 /// `write_value arcs|octets CONTENT`: how long the GetRequest is that binds 1.3 to this OCTET STRING.
-fn written_value(alloc: Global, words: &[Word<'_>]) -> Result<String> {
-    let [form, content] = words else {
-        bail!("write_value FORM CONTENT");
-    };
-    let content = content.octets()?;
-    match form.text {
-        "arcs" => length(
-            alloc,
-            write_pdu(alloc, GET_REQUEST, 0, 0, 0, &[with_arcs_of(content)?]),
+fn written_value(row: &mut Row<'_>) {
+    let (alloc, form, content) = (row.alloc, row.word(), row.octets());
+    match (form, with_arcs_of(content), in_octets_of(content)) {
+        ("arcs", Some(binding), _) => say_length(
+            row,
+            write_pdu(alloc, GET_REQUEST, 0, 0, 0, &[binding]),
         ),
-        "octets" => length(
-            alloc,
-            write_pdu_of(alloc, GET_REQUEST, 0, 0, 0, &[in_octets_of(content)?]),
+        ("octets", _, Some(binding)) => say_length(
+            row,
+            write_pdu_of(alloc, GET_REQUEST, 0, 0, 0, &[binding]),
         ),
-        _ => bail!("a form is arcs or octets"),
+        _ => row.fail("a form is arcs or octets"),
     }
 }
 
 /// `binding_len CONTENT`: how long the binding of 1.3 is to this OCTET STRING, with its name as arcs and in octets.
-fn binding_length(alloc: Global, words: &[Word<'_>]) -> Result<String> {
-    let [content] = words else {
-        bail!("binding_len CONTENT");
+fn binding_length(row: &mut Row<'_>) {
+    let content = row.octets();
+    let (Some(arcs), Some(octets)) = (with_arcs_of(content), in_octets_of(content)) else {
+        return row.fail("an identifier");
     };
-    let content = content.octets()?;
-    let arcs = binding_len(&with_arcs_of(content)?);
-    let octets = binding_len(&in_octets_of(content)?);
-    Ok(format!(in alloc; "{arcs:?} {octets:?}")?)
+    let (arcs, octets) = (binding_len(&arcs), binding_len(&octets));
+    row.say(format!(in row.alloc; "{arcs:?} {octets:?}"));
 }
 
 /// `written_pdu_len ID SECOND THIRD PDU`: how long a PDU is of these numbers and the bindings of this one.
-fn pdu_length(alloc: Global, words: &[Word<'_>]) -> Result<String> {
-    let [id, second, third, octets] = words else {
-        bail!("written_pdu_len ID SECOND THIRD PDU");
+fn pdu_length(row: &mut Row<'_>) {
+    let (id, second, third) = (row.signed32(), row.signed32(), row.signed32());
+    let Some(pdu) = pdu_in(row) else {
+        return;
     };
-    let bindings = bindings_of(alloc, &pdu_of(octets.octets()?)?)?;
-    let Some(list) = bindings_len(&bindings) else {
-        return none(alloc);
+    let Ok(bindings) = bindings_of(row.alloc, &pdu) else {
+        return row.lack();
     };
-    ensure!(list <= LARGEST, "bindings that fit");
-    let len = written_pdu_len(id.signed()?, second.signed()?, third.signed()?, list);
-    Ok(format!(in alloc; "list {list} pdu {len}")?)
+    match bindings_len(&bindings) {
+        Some(list) if list <= LARGEST => {
+            let len = written_pdu_len(id, second, third, list);
+            row.say(format!(in row.alloc; "list {list} pdu {len}"));
+        }
+        Some(_) => row.fail("bindings that fit"),
+        None => row.none(),
+    }
 }

@@ -1,9 +1,8 @@
 //! Users, who are loaded once for the rows of a file (RFC 3414, sections 2.1 and A.2).
 
-use crate::row::Word;
-use crate::shown::{Hex, silent};
-use anyhow::{Context, Result, bail};
-use std::alloc::Global;
+use crate::row::{Fault, Row};
+use crate::shown::Hex;
+use std::alloc::{AllocError, Global};
 use usm_core::{UserFault, UserRow, Users};
 use usm_keys::{Auth, Key, localise};
 use usm_users::table_of;
@@ -16,89 +15,159 @@ pub struct People {
 }
 
 /// The protocol of this name.
-pub fn auth_of(name: &str) -> Result<Auth> {
+fn auth_of(name: &str) -> Option<Auth> {
     match name {
-        "md5" => Ok(Auth::Md5),
-        "sha1" => Ok(Auth::Sha1),
-        "sha256" => Ok(Auth::Sha256),
-        _ => bail!("a protocol is md5, sha1 or sha256"),
+        "md5" => Some(Auth::Md5),
+        "sha1" => Some(Auth::Sha1),
+        "sha256" => Some(Auth::Sha256),
+        _ => None,
+    }
+}
+
+/// The protocol of the next word.
+pub fn auth_in(row: &mut Row<'_>) -> Auth {
+    match auth_of(row.word()) {
+        Some(auth) => auth,
+        None => {
+            row.fail("a protocol is md5, sha1 or sha256");
+            Auth::Md5
+        }
     }
 }
 
 /// A protocol and its password, as `md5:maplesyrup`, or `-` for none.
-fn auth_in(alloc: Global, word: &Word<'_>) -> Result<Option<(Auth, Vec<u8>)>> {
-    if word.text == "-" {
-        return Ok(None);
+fn password_in<'a>(row: &mut Row<'a>) -> Option<(Auth, &'a [u8])> {
+    let word = row.word();
+    if word == "-" {
+        return None;
     }
-    let (auth, password) = word.text.split_once(':').context("PROTOCOL:PASSWORD")?;
-    Ok(Some((auth_of(auth)?, password.as_bytes().to_vec(alloc)?)))
+    let (name, password) = word.split_once(':').unwrap_or((word, ""));
+    match auth_of(name) {
+        Some(auth) => Some((auth, password.as_bytes())),
+        None => {
+            row.fail("PROTOCOL:PASSWORD");
+            None
+        }
+    }
 }
 
-/// A password, or `-` for none.
-fn privacy_in(alloc: Global, word: &Word<'_>) -> Result<Option<Vec<u8>>> {
-    match word.text {
-        "-" => Ok(None),
-        password => Ok(Some(password.as_bytes().to_vec(alloc)?)),
+/// The password for privacy, or `-` for none.
+fn privacy_in<'a>(row: &mut Row<'a>) -> Option<&'a [u8]> {
+    match row.word() {
+        "-" => None,
+        password => Some(password.as_bytes()),
+    }
+}
+
+/// What of octets there may be, in memory of its own.
+fn owned(alloc: Global, octets: Option<&[u8]>) -> Result<Option<Vec<u8>>, AllocError> {
+    match octets {
+        Some(octets) => Ok(Some(octets.to_vec(alloc)?)),
+        None => Ok(None),
+    }
+}
+
+/// A protocol and a password, in memory of its own.
+fn owned_auth(
+    alloc: Global,
+    auth: Option<(Auth, &[u8])>,
+) -> Result<Option<(Auth, Vec<u8>)>, AllocError> {
+    match auth {
+        Some((auth, password)) => Ok(Some((auth, password.to_vec(alloc)?))),
+        None => Ok(None),
     }
 }
 
 /// The row of a user.
-fn row_of(alloc: Global, name: &Word<'_>, auth: &Word<'_>, privacy: &Word<'_>) -> Result<UserRow> {
+fn row_of(
+    alloc: Global,
+    name: &[u8],
+    auth: Option<(Auth, &[u8])>,
+    privacy: Option<&[u8]>,
+) -> Result<UserRow, AllocError> {
+    let name = name.to_vec(alloc)?;
+    let auth = owned_auth(alloc, auth)?;
+    let privacy = owned(alloc, privacy)?;
     Ok(UserRow {
-        name: name.name().to_vec(alloc)?,
-        auth: auth_in(alloc, auth)?,
-        privacy: privacy_in(alloc, privacy)?,
+        name,
+        auth,
+        privacy,
     })
+}
+
+/// The users of no rows.
+fn no_users(alloc: Global) -> Result<Users, Fault> {
+    match Users::load(alloc, &[]) {
+        Ok(users) => Ok(users),
+        Err(_) => Err(Fault::OutOfMemory),
+    }
 }
 
 impl People {
     /// No rows and no users.
-    pub fn new(alloc: Global) -> Result<People> {
+    pub fn new(alloc: Global) -> Result<People, Fault> {
         Ok(People {
             rows: Vec::new(alloc),
-            loaded: Users::load(alloc, &[])?,
+            loaded: no_users(alloc)?,
         })
     }
 
     /// A copy of the users that were loaded, who keep no localised key.
-    pub fn users(&self) -> Result<Users> {
-        Ok(self.loaded.try_clone()?)
+    pub fn copy(&self) -> Result<Users, AllocError> {
+        self.loaded.try_clone()
+    }
+
+    /// The same for a row, which notes it where memory is wanting.
+    pub fn users(&self, row: &mut Row<'_>) -> Option<Users> {
+        match self.loaded.try_clone() {
+            Ok(users) => Some(users),
+            Err(_) => {
+                row.lack();
+                None
+            }
+        }
     }
 
     /// `user NAME AUTH PRIVACY`: a row more.
-    pub fn add(&mut self, alloc: Global, words: &[Word<'_>]) -> Result<String> {
-        let [name, auth, privacy] = words else {
-            bail!("user NAME AUTH PRIVACY");
-        };
-        self.rows.push(row_of(alloc, name, auth, privacy)?)?;
-        silent(alloc)
+    pub fn add(&mut self, row: &mut Row<'_>) {
+        let (name, auth, privacy) = (row.name(), password_in(row), privacy_in(row));
+        match row_of(row.alloc, name, auth, privacy) {
+            Ok(user) => row.add(&mut self.rows, user),
+            Err(_) => row.lack(),
+        }
     }
 
     /// `users`: makes users of the rows, or tells the first row at fault.
-    pub fn load(&mut self, alloc: Global) -> Result<String> {
-        match Users::load(alloc, &self.rows) {
-            Ok(users) => self.loaded = users,
-            Err(UserFault::OutOfMemory) => bail!("out of memory"),
-            Err(fault) => return Ok(format!(in alloc; "{fault:?}")?),
+    pub fn load(&mut self, row: &mut Row<'_>) {
+        match Users::load(row.alloc, &self.rows) {
+            Ok(users) => {
+                self.loaded = users;
+                row.tell("loaded");
+            }
+            Err(UserFault::OutOfMemory) => row.lack(),
+            Err(fault) => row.say(format!(in row.alloc; "{fault:?}")),
         }
-        Ok("loaded".to_string(alloc)?)
     }
 
     /// `keys NAME ENGINE`: the keys of a user of the rows for authentication and for privacy, localised to an engine.
-    pub fn keys(&self, alloc: Global, words: &[Word<'_>]) -> Result<String> {
-        let [name, engine] = words else {
-            bail!("keys NAME ENGINE");
-        };
-        let table = table_of(alloc, &self.rows)?;
-        let user = table.user_named(name.name()).context("a user")?;
-        let engine = engine.octets()?;
-        let auth = at_engine(user.auth(), engine).context("a key for authentication")?;
-        let privacy = at_engine(user.privacy(), engine).context("a key for privacy")?;
-        Ok(format!(in alloc; "{} {}", Hex(auth.as_slice()), Hex(privacy.as_slice()))?)
+    pub fn keys(&self, row: &mut Row<'_>) {
+        match table_of(row.alloc, &self.rows) {
+            Ok(table) => match table.user_named(row.name()) {
+                Some(user) => say_keys(row, user.auth(), user.privacy()),
+                None => row.fail("a user"),
+            },
+            Err(UserFault::OutOfMemory) => row.lack(),
+            Err(_) => row.fail("rows that can be loaded"),
+        }
     }
 }
 
-/// The key, localised to the engine.
-fn at_engine(key: Option<&Key>, engine: &[u8]) -> Option<Key> {
-    Some(localise(key?, engine))
+/// Keys for authentication and for privacy, localised to the engine of the next word.
+fn say_keys(row: &mut Row<'_>, auth: Option<&Key>, privacy: Option<&Key>) {
+    let (Some(auth), Some(privacy)) = (auth, privacy) else {
+        return row.fail("a key for each purpose");
+    };
+    let engine = row.octets();
+    let (auth, privacy) = (localise(auth, engine), localise(privacy, engine));
+    row.say(format!(in row.alloc; "{} {}", Hex(auth.as_slice()), Hex(privacy.as_slice())));
 }

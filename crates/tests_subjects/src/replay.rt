@@ -1,15 +1,14 @@
 //! Logs of datagrams that a manager takes, read and written by streams that are interrupted and fail, and texts of
 //! opened messages.
 
-use crate::row::{Row, Word};
+use crate::row::{Fault, Row};
 use crate::shown::Text;
 use crate::subjects::Subject;
-use anyhow::{Result, bail};
 use engine_clock::Clocks;
 use snmp_manager::Manager;
 use snmpsec_io::write_whole;
 use snmpsec_replay::{ReplayFault, replay_log};
-use std::alloc::Global;
+use std::alloc::{AllocError, Global};
 use std::io;
 use std::io::{BufRead, BufReader, ErrorKind, Read, Write};
 use usm_core::Users;
@@ -23,22 +22,23 @@ struct Troubles {
     failing: Option<u32>,
 }
 
-impl Troubles {
-    /// `INTERRUPTIONS` and `FAILING`, which is `-` for none.
-    fn of(interruptions: &Word<'_>, failing: &Word<'_>) -> Result<Troubles> {
-        let interruptions = interruptions.number32()?;
-        let failing = match failing.text {
-            "-" => None,
-            _ => Some(failing.number32()?),
-        };
-        Ok(Troubles {
-            interruptions,
-            left: interruptions,
-            calls: 0,
-            failing,
-        })
+/// `INTERRUPTIONS` and `FAILING`, which is `-` for none.
+fn troubles_in(row: &mut Row<'_>) -> Troubles {
+    let interruptions = row.number32();
+    let failing = if row.is_next("-") {
+        None
+    } else {
+        Some(row.number32())
+    };
+    Troubles {
+        interruptions,
+        left: interruptions,
+        calls: 0,
+        failing,
     }
+}
 
+impl Troubles {
     /// What becomes of a call.
     fn meet(&mut self) -> io::Result<()> {
         if self.left > 0 {
@@ -55,7 +55,7 @@ impl Troubles {
 }
 
 /// Gives one octet a read.
-#[derive(Drop)]
+#[derive(Clone, Copy)]
 struct Slow<'a> {
     text: &'a [u8],
     troubles: Troubles,
@@ -96,7 +96,7 @@ impl Write for Choppy {
 }
 
 /// Gives a line for ever, with line feeds after it or with other octets.
-#[derive(Drop)]
+#[derive(Clone, Copy)]
 struct Endless<'a> {
     line: &'a [u8],
     at: usize,
@@ -125,29 +125,19 @@ impl Read for Endless<'_> {
 pub struct Logs;
 
 impl Subject for Logs {
-    fn begin(_alloc: Global) -> Result<Logs> {
+    fn begin(_alloc: Global) -> Result<Logs, Fault> {
         Ok(Logs)
     }
 
-    fn answered(&mut self, alloc: Global, row: &Row<'_>) -> Result<String> {
-        answer(alloc, row)
+    fn answer(&mut self, row: &mut Row<'_>) {
+        match row.kind {
+            "replay" => replay(row),
+            "replay_longest" => longest(row),
+            "replay_endless" => never_ending(row),
+            "write_whole" => written(row),
+            _ => row.fail_kind(),
+        }
     }
-}
-
-/// What is answered to a row.
-pub fn answer(alloc: Global, row: &Row<'_>) -> Result<String> {
-    match (row.kind, row.words.as_slice()) {
-        ("replay", words) => replay(alloc, words),
-        ("replay_longest", [now, count]) => longest(alloc, now, count),
-        ("replay_endless", [line, end]) => never_ending(alloc, line, end),
-        ("write_whole", words) => written(alloc, words),
-        _ => bail!("no row {} of so many words", row.kind),
-    }
-}
-
-/// A manager without users.
-fn manager(alloc: Global) -> Result<Manager> {
-    Ok(Manager::new(alloc, Users::load(alloc, &[])?, Clocks::new(alloc)))
 }
 
 /// How it ended that a manager without users took the log.
@@ -155,60 +145,81 @@ fn replayed<R: BufRead, W: Write>(
     alloc: Global,
     log: &mut R,
     text: &mut W,
-) -> Result<Result<(), ReplayFault>> {
-    Ok(replay_log(alloc, manager(alloc)?, log, text))
+) -> Result<(), ReplayFault> {
+    match Users::load(alloc, &[]) {
+        Ok(users) => {
+            let manager = Manager::new(alloc, users, Clocks::new(alloc));
+            replay_log(alloc, manager, log, text)
+        }
+        Err(_) => Err(ReplayFault::OutOfMemory),
+    }
 }
 
-/// What was written, and how it ended.
-fn ended(alloc: Global, outcome: Result<(), ReplayFault>, text: &[u8]) -> Result<String> {
-    Ok(format!(in alloc; "{outcome:?} {}", Text(text))?)
+/// How a log of the reader ended.
+fn say_end<R: BufRead>(row: &mut Row<'_>, log: &mut R) {
+    match replayed(row.alloc, log, &mut io::sink()) {
+        Err(ReplayFault::OutOfMemory) => row.lack(),
+        outcome => row.say(format!(in row.alloc; "{outcome:?}")),
+    }
 }
 
 /// `replay LOG INTERRUPTIONS FAILING_READ INTERRUPTIONS FAILING_WRITE`: how it ended, and what was written.
-fn replay(alloc: Global, words: &[Word<'_>]) -> Result<String> {
-    let [log, reading, read, writing, write] = words else {
-        bail!("replay LOG INTERRUPTIONS FAILING_READ INTERRUPTIONS FAILING_WRITE");
+fn replay(row: &mut Row<'_>) {
+    let (log, reading, writing) = (row.octets(), troubles_in(row), troubles_in(row));
+    let slow = Slow {
+        text: log,
+        troubles: reading,
     };
-    let (troubles, text) = (Troubles::of(reading, read)?, log.octets()?);
-    let writing = Troubles::of(writing, write)?;
-    let mut log = BufReader::new(alloc, Slow { text, troubles })?;
+    let Ok(mut log) = BufReader::new(row.alloc, slow) else {
+        return row.lack();
+    };
     let mut text = Choppy {
-        written: Vec::new(alloc),
+        written: Vec::new(row.alloc),
         troubles: writing,
     };
-    let outcome = replayed(alloc, &mut log, &mut text)?;
-    ended(alloc, outcome, &text.written)
+    match replayed(row.alloc, &mut log, &mut text) {
+        Err(ReplayFault::OutOfMemory) => row.lack(),
+        outcome => row.say(format!(in row.alloc; "{outcome:?} {}", Text(&text.written))),
+    }
 }
 
 /// `replay_endless LINE END`: how a log of this line for ever ended, with this octet after it.
-fn never_ending(alloc: Global, line: &Word<'_>, end: &Word<'_>) -> Result<String> {
-    let (line, end) = (line.octets()?, end.octet()?);
-    let mut log = BufReader::new(alloc, Endless { line, at: 0, end })?;
-    let outcome = replayed(alloc, &mut log, &mut io::sink())?;
-    Ok(format!(in alloc; "{outcome:?}")?)
+fn never_ending(row: &mut Row<'_>) {
+    let endless = Endless {
+        line: row.octets(),
+        at: 0,
+        end: row.octet(),
+    };
+    match BufReader::new(row.alloc, endless) {
+        Ok(mut log) => say_end(row, &mut log),
+        Err(_) => row.lack(),
+    }
+}
+
+/// A line of a log with this timestamp and so many digits 0.
+fn long_line(alloc: Global, now: &str, count: usize) -> Result<String, AllocError> {
+    let mut log = format!(in alloc; "{now} ")?;
+    log.push_str("0".repeat(alloc, count)?.as_str())?;
+    log.push('\n')?;
+    Ok(log)
 }
 
 /// `replay_longest NOW COUNT`: how a log ended of one line with this timestamp and so many digits 0.
-fn longest(alloc: Global, now: &Word<'_>, count: &Word<'_>) -> Result<String> {
-    let count = count.place()?.min(1_000_000);
-    let mut log = format!(in alloc; "{} ", now.text)?;
-    log.push_str("0".repeat(alloc, count)?.as_str())?;
-    log.push('\n')?;
-    let mut reader = log.as_bytes();
-    let outcome = replayed(alloc, &mut reader, &mut io::sink())?;
-    Ok(format!(in alloc; "{outcome:?}")?)
+fn longest(row: &mut Row<'_>) {
+    let (now, count) = (row.word(), row.place().min(1_000_000));
+    match long_line(row.alloc, now, count) {
+        Ok(log) => say_end(row, &mut log.as_bytes()),
+        Err(_) => row.lack(),
+    }
 }
 
 /// `write_whole TEXT INTERRUPTIONS FAILING_WRITE`: whether the text is written whole, and what was written.
-fn written(alloc: Global, words: &[Word<'_>]) -> Result<String> {
-    let [text, interruptions, failing] = words else {
-        bail!("write_whole TEXT INTERRUPTIONS FAILING_WRITE");
-    };
-    let (text, troubles) = (text.octets()?, Troubles::of(interruptions, failing)?);
+fn written(row: &mut Row<'_>) {
+    let (text, troubles) = (row.octets(), troubles_in(row));
     let mut writer = Choppy {
-        written: Vec::new(alloc),
+        written: Vec::new(row.alloc),
         troubles,
     };
     let is_whole = write_whole(&mut writer, text).is_ok();
-    Ok(format!(in alloc; "{is_whole} {}", Text(&writer.written))?)
+    row.say(format!(in row.alloc; "{is_whole} {}", Text(&writer.written)));
 }

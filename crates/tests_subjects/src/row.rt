@@ -1,108 +1,298 @@
-//! A row: its kind, its inputs and the answer that is expected.
+//! A row: its kind, its inputs, and what is answered.
+//!
+//! A reader of a row has no fault to hand on: where a word isn't what it should be the row notes why, and the
+//! reader goes on with the simplest value there is. A row that has noted something has no answer.
 
-use crate::octets::octets_of;
-use anyhow::{Result, bail};
-use snmp_ber::Level;
-use std::alloc::Global;
+use crate::octets::{octet_of, octets_of};
+use crate::shown::Hex;
+use snmp_ber::{Level, Oid};
+use std::alloc::{AllocError, Global};
 use std::str;
+
+/// Why a row has no answer.
+#[derive(Clone, Copy)]
+pub enum Fault {
+    OutOfMemory,
+    Unread(&'static str),
+}
+
+impl From<AllocError> for Fault {
+    fn from(_: AllocError) -> Fault {
+        Fault::OutOfMemory
+    }
+}
 
 /// An input, and the octets that it spells, if it spells some.
 #[derive(Drop)]
 pub struct Word<'a> {
-    pub text: &'a str,
-    octets: Option<Vec<u8>>,
+    text: &'a str,
+    octets: Result<Vec<u8>, Fault>,
 }
 
-impl<'a> Word<'a> {
-    /// The octets that the word spells.
-    pub fn octets(&self) -> Result<&[u8]> {
-        match &self.octets {
-            Some(octets) => Ok(octets),
-            None => bail!("{} spells no octets", self.text),
-        }
-    }
-
-    /// The octets of the word, of which `-` has none.
-    pub fn name(&self) -> &'a [u8] {
-        match self.text {
-            "-" => b"",
-            text => text.as_bytes(),
-        }
-    }
-
-    /// The text that the octets are.
-    pub fn said(&self) -> Result<&str> {
-        Ok(str::from_utf8(self.octets()?)?)
-    }
-
-    /// A decimal number.
-    pub fn number(&self) -> Result<u64> {
-        Ok(self.text.parse::<u64>()?)
-    }
-
-    /// A decimal number of 32 bits.
-    pub fn number32(&self) -> Result<u32> {
-        Ok(self.text.parse::<u32>()?)
-    }
-
-    /// A decimal number of 32 bits with its sign.
-    pub fn signed(&self) -> Result<i32> {
-        Ok(self.text.parse::<i32>()?)
-    }
-
-    /// A place, counted from 0.
-    pub fn place(&self) -> Result<usize> {
-        Ok(self.text.parse::<usize>()?)
-    }
-
-    /// A security level.
-    pub fn level(&self) -> Result<Level> {
-        match self.text {
-            "noAuthNoPriv" => Ok(Level::NoAuthNoPriv),
-            "authNoPriv" => Ok(Level::AuthNoPriv),
-            "authPriv" => Ok(Level::AuthPriv),
-            _ => bail!("no security level"),
-        }
-    }
-
-    /// An octet in hex.
-    pub fn octet(&self) -> Result<u8> {
-        Ok(u8::from_str_radix(self.text, 16)?)
-    }
-}
-
-/// A row.
-#[derive(Drop)]
-pub struct Row<'a> {
-    pub kind: &'a str,
-    pub words: Vec<Word<'a>>,
-    pub wanted: &'a str,
-}
-
-/// The inputs of a row.
-fn words_of<'a>(alloc: Global, text: &'a str, kept: &[u8]) -> Result<Vec<Word<'a>>> {
+/// The inputs of a row. `kept` are the octets that a word with `@` begins with.
+pub fn words_of<'a>(
+    alloc: Global,
+    inputs: &'a str,
+    kept: &[u8],
+) -> Result<Vec<Word<'a>>, AllocError> {
     let mut words = Vec::new(alloc);
-    for text in text.split(' ') {
-        let octets = octets_of(alloc, text, kept).ok();
+    if inputs.is_empty() {
+        return Ok(words);
+    }
+    for text in inputs.split(' ') {
+        let octets = octets_of(alloc, text, kept);
         words.push(Word { text, octets })?;
     }
     Ok(words)
 }
 
+/// A row: its words, how many of them are read, and the answer or why there is none.
+#[derive(Drop)]
+pub struct Row<'a> {
+    pub alloc: Global,
+    pub kind: &'a str,
+    words: &'a [Word<'a>],
+    at: usize,
+    fault: Option<Fault>,
+    answer: String,
+}
+
 impl<'a> Row<'a> {
-    /// The row of a line. `kept` are the octets that a word with `@` begins with.
-    pub fn of(alloc: Global, line: &'a str, kept: &[u8]) -> Result<Row<'a>> {
-        let (row, wanted) = line.split_once(" -> ").unwrap_or((line, ""));
-        let (kind, inputs) = row.split_once(' ').unwrap_or((row, ""));
-        let words = if inputs.is_empty() {
-            Vec::new(alloc)
-        } else {
-            words_of(alloc, inputs, kept)?
-        };
-        Ok(Row {
+    /// A row of which no word is read.
+    pub fn new(alloc: Global, kind: &'a str, words: &'a [Word<'a>]) -> Row<'a> {
+        Row {
+            alloc,
             kind,
             words,
-            wanted,
-        })
+            at: 0,
+            fault: None,
+            answer: String::new(alloc),
+        }
     }
+
+    /// Notes why the row has no answer. The first reason stays.
+    fn refuse(&mut self, fault: Fault) {
+        if self.fault.is_none() {
+            self.fault = Some(fault);
+        }
+    }
+
+    /// Notes what the row should be or have.
+    pub fn fail(&mut self, why: &'static str) {
+        self.refuse(Fault::Unread(why));
+    }
+
+    /// Notes that there is no subject for a row of this kind.
+    pub fn fail_kind(&mut self) {
+        self.fail("no row is of this kind");
+    }
+
+    /// Notes that memory is wanting.
+    pub fn lack(&mut self) {
+        self.refuse(Fault::OutOfMemory);
+    }
+
+    /// Notes it if memory was wanting.
+    pub fn need(&mut self, done: Result<(), AllocError>) {
+        if done.is_err() {
+            self.lack();
+        }
+    }
+
+    /// Puts an item behind the others.
+    pub fn add<T: Drop>(&mut self, list: &mut Vec<T>, item: T) {
+        if list.push(item).is_err() {
+            self.lack();
+        }
+    }
+
+    /// Answers the text, or notes that memory was wanting for it.
+    pub fn say(&mut self, text: Result<String, AllocError>) {
+        match text {
+            Ok(text) => self.answer = text,
+            Err(_) => self.lack(),
+        }
+    }
+
+    /// Answers these words.
+    pub fn tell(&mut self, text: &str) {
+        self.say(text.to_string(self.alloc));
+    }
+
+    /// Answers that there is nothing.
+    pub fn none(&mut self) {
+        self.tell("none");
+    }
+
+    /// Answers whether it is so.
+    pub fn tell_if(&mut self, is_so: bool) {
+        self.tell(if is_so { "true" } else { "false" });
+    }
+
+    /// Answers octets in hex.
+    pub fn show(&mut self, octets: &[u8]) {
+        self.say(format!(in self.alloc; "{}", Hex(octets)));
+    }
+
+    /// The answer, once each word is read.
+    pub fn end(self) -> Result<String, Fault> {
+        match self.fault {
+            Some(fault) => Err(fault),
+            None if self.at >= self.words.len() => Ok(self.answer),
+            None => Err(Fault::Unread("a row of this kind has fewer words")),
+        }
+    }
+
+    /// Whether the next word is this one, which is then read.
+    pub fn is_next(&mut self, text: &str) -> bool {
+        let is_next = match self.words.get(self.at) {
+            Some(word) => word.text == text,
+            None => false,
+        };
+        if is_next {
+            self.at = self.at.saturating_add(1);
+        }
+        is_next
+    }
+
+    /// How many words are still to be read.
+    pub fn left(&self) -> usize {
+        self.words.len().saturating_sub(self.at)
+    }
+
+    /// The next word.
+    fn next(&mut self) -> Option<&'a Word<'a>> {
+        let word = self.words.get(self.at);
+        self.at = self.at.saturating_add(1);
+        if word.is_none() {
+            self.fail("a row of this kind has more words");
+        }
+        word
+    }
+
+    /// The text of the next word.
+    pub fn word(&mut self) -> &'a str {
+        match self.next() {
+            Some(word) => word.text,
+            None => "",
+        }
+    }
+
+    /// The octets that the next word spells.
+    pub fn octets(&mut self) -> &'a [u8] {
+        let Some(word) = self.next() else {
+            return b"";
+        };
+        match &word.octets {
+            Ok(octets) => octets,
+            Err(fault) => {
+                self.refuse(*fault);
+                b""
+            }
+        }
+    }
+
+    /// The octets of the next word itself, of which `-` has none.
+    pub fn name(&mut self) -> &'a [u8] {
+        match self.word() {
+            "-" => b"",
+            text => text.as_bytes(),
+        }
+    }
+
+    /// The text that the octets of the next word are.
+    pub fn said(&mut self) -> &'a str {
+        match str::from_utf8(self.octets()) {
+            Ok(text) => text,
+            Err(_) => {
+                self.fail("a text");
+                ""
+            }
+        }
+    }
+
+    /// The number that was read.
+    fn whole<N: From<u8> + Copy>(&mut self, number: Option<N>) -> N {
+        match number {
+            Some(number) => number,
+            None => {
+                self.fail("a number");
+                N::from(0)
+            }
+        }
+    }
+
+    /// A decimal number.
+    pub fn number(&mut self) -> u64 {
+        let number = self.word().parse::<u64>().ok();
+        self.whole(number)
+    }
+
+    /// A decimal number of 32 bits.
+    pub fn number32(&mut self) -> u32 {
+        let number = self.word().parse::<u32>().ok();
+        self.whole(number)
+    }
+
+    /// A decimal number with its sign.
+    pub fn signed(&mut self) -> i64 {
+        let number = self.word().parse::<i64>().ok();
+        self.whole(number)
+    }
+
+    /// A decimal number of 32 bits with its sign.
+    pub fn signed32(&mut self) -> i32 {
+        let number = self.word().parse::<i32>().ok();
+        self.whole(number)
+    }
+
+    /// A place, counted from 0.
+    pub fn place(&mut self) -> usize {
+        let number = self.word().parse::<usize>().ok();
+        self.whole(number)
+    }
+
+    /// An octet in hex.
+    pub fn octet(&mut self) -> u8 {
+        let number = octet_of(self.word());
+        self.whole(number)
+    }
+
+    /// A security level.
+    pub fn level(&mut self) -> Level {
+        match self.word() {
+            "noAuthNoPriv" => Level::NoAuthNoPriv,
+            "authNoPriv" => Level::AuthNoPriv,
+            "authPriv" => Level::AuthPriv,
+            _ => {
+                self.fail("a security level");
+                Level::NoAuthNoPriv
+            }
+        }
+    }
+
+    /// Eight octets of salt.
+    pub fn salt(&mut self) -> [u8; 8] {
+        match self.octets() {
+            [a, b, c, d, e, f, g, h] => [*a, *b, *c, *d, *e, *f, *g, *h],
+            _ => {
+                self.fail("a salt has 8 octets");
+                [0; 8]
+            }
+        }
+    }
+
+    /// The arcs of an identifier.
+    pub fn arcs(&mut self) -> Option<Oid> {
+        let arcs = Oid::from_text(self.word());
+        if arcs.is_none() {
+            self.fail("arcs");
+        }
+        arcs
+    }
+}
+
+/// Puts another value in the place.
+pub fn keep<T: Drop>(place: &mut Option<T>, value: T) {
+    *place = Some(value);
 }

@@ -8,13 +8,12 @@ use crate::keys::Keys;
 use crate::message::Messages;
 use crate::outcome::Reading;
 use crate::replay::Logs;
-use crate::row::Row;
-use crate::shown::silent;
+use crate::row::{Fault, Row, words_of};
 use crate::stations::Stations;
 use crate::subjects::Subject;
 use crate::usm::Sealing;
 use crate::world::Sharing;
-use anyhow::{Context, Result, bail, ensure};
+use anyhow::{Context, Error, bail, ensure};
 use std::alloc::Global;
 use std::rt::{Env, Files};
 use std::{env, fs};
@@ -57,17 +56,45 @@ struct State<S: Subject> {
     kept: Vec<u8>,
 }
 
+/// A line: its kind, its inputs and the answer that is expected.
+#[derive(Clone, Copy)]
+struct Line<'a> {
+    kind: &'a str,
+    inputs: &'a str,
+    wanted: &'a str,
+}
+
+/// The parts of a line.
+fn parts_of(line: &str) -> Line<'_> {
+    let (row, wanted) = line.split_once(" -> ").unwrap_or((line, ""));
+    let (kind, inputs) = row.split_once(' ').unwrap_or((row, ""));
+    Line {
+        kind,
+        inputs,
+        wanted,
+    }
+}
+
 impl<S: Subject> State<S> {
-    /// What is answered to a row. `octets OCTETS` keeps them for words with `@`.
-    fn answer(&mut self, alloc: Global, row: &Row<'_>) -> Result<String> {
-        if row.kind != "octets" {
-            return self.subject.answered(alloc, row);
+    /// What is answered to a line. `octets OCTETS` keeps them for words with `@`.
+    fn answer(&mut self, alloc: Global, line: &Line<'_>) -> Result<String, Fault> {
+        let words = words_of(alloc, line.inputs, &self.kept)?;
+        let mut row = Row::new(alloc, line.kind, &words);
+        if row.kind == "octets" {
+            self.kept = row.octets().to_vec(alloc)?;
+        } else {
+            self.subject.answer(&mut row);
         }
-        let [octets] = row.words.as_slice() else {
-            bail!("octets OCTETS");
-        };
-        self.kept = octets.octets()?.to_vec(alloc)?;
-        silent(alloc)
+        row.end()
+    }
+}
+
+/// The answer, or why there is none.
+fn told<T>(answer: Result<T, Fault>) -> Result<T, Error> {
+    match answer {
+        Ok(answer) => Ok(answer),
+        Err(Fault::OutOfMemory) => bail!("out of memory"),
+        Err(Fault::Unread(why)) => bail!("{why}"),
     }
 }
 
@@ -76,27 +103,30 @@ fn check_line<R: Print + AllocGlobal, S: Subject>(
     rt: &R,
     state: &mut State<S>,
     place: (&str, usize),
-    line: &str,
+    line: &Line<'_>,
     count: &mut Count,
-) -> Result<()> {
-    let row = Row::of(rt.alloc(), line, &state.kept)?;
-    let found = state.answer(rt.alloc(), &row)?;
-    let is_same = found.as_str() == row.wanted;
+) -> Result<(), Error> {
+    let found = told(state.answer(rt.alloc(), line))?;
+    let is_same = found.as_str() == line.wanted;
     if !is_same {
         println!(rt;
             "{}:{}: wanted {}, found {found}",
-            place.0, place.1, row.wanted
+            place.0, place.1, line.wanted
         )?;
     }
-    count.note(is_same, row.wanted.is_empty());
+    count.note(is_same, line.wanted.is_empty());
     Ok(())
 }
 
 /// Checks the rows of a text.
-fn check_text<R: Print + AllocGlobal, S: Subject>(rt: &R, file: &str, text: &str) -> Result<Count> {
+fn check_text<R: Print + AllocGlobal, S: Subject>(
+    rt: &R,
+    file: &str,
+    text: &str,
+) -> Result<Count, Error> {
     let mut count = Count::new();
     let mut state = State {
-        subject: S::begin(rt.alloc())?,
+        subject: told(S::begin(rt.alloc()))?,
         kept: Vec::new(rt.alloc()),
     };
     let mut number = 0usize;
@@ -104,7 +134,7 @@ fn check_text<R: Print + AllocGlobal, S: Subject>(rt: &R, file: &str, text: &str
         number = number.saturating_add(1);
         if !line.is_empty() && !line.starts_with('#') {
             let place = (file, number);
-            check_line(rt, &mut state, place, line, &mut count).context(format_args!(
+            check_line(rt, &mut state, place, &parts_of(line), &mut count).context(format_args!(
                 "{file}:{number}"
             ))?;
         }
@@ -113,7 +143,10 @@ fn check_text<R: Print + AllocGlobal, S: Subject>(rt: &R, file: &str, text: &str
 }
 
 /// Checks the rows of a file, and prints how many passed.
-fn check_file<R: Files + Print + AllocGlobal, S: Subject>(rt: &R, file: &str) -> Result<Count> {
+fn check_file<R: Files + Print + AllocGlobal, S: Subject>(
+    rt: &R,
+    file: &str,
+) -> Result<Count, Error> {
     let text = fs::read_to_string(rt, file).context(format_args!("{file}"))?;
     let count = check_text::<R, S>(rt, file, text.as_str())?;
     println!(rt; "{file} {} passed, {} failed", count.passed, count.failed)?;
@@ -121,7 +154,7 @@ fn check_file<R: Files + Print + AllocGlobal, S: Subject>(rt: &R, file: &str) ->
 }
 
 /// Checks the rows of a file by the subject of its name, which is what is after the last slash.
-fn check_named<R: Files + Print + AllocGlobal>(rt: &R, file: &str) -> Result<Count> {
+fn check_named<R: Files + Print + AllocGlobal>(rt: &R, file: &str) -> Result<Count, Error> {
     let name = match file.rsplit_once('/') {
         Some((_, name)) => name,
         None => file,
@@ -145,7 +178,7 @@ fn check_named<R: Files + Print + AllocGlobal>(rt: &R, file: &str) -> Result<Cou
 }
 
 /// Checks the files that the arguments name. Gives whether each row passed.
-pub fn check_files<R: Files + Env + Print + AllocGlobal>(rt: &R) -> Result<bool> {
+pub fn check_files<R: Files + Env + Print + AllocGlobal>(rt: &R) -> Result<bool, Error> {
     let words: Vec<String> = env::args(rt)?.collect(rt.alloc())?;
     ensure!(words.len() > 1, "usage: tests_rows FILE..");
     let mut count = Count::new();

@@ -1,18 +1,6 @@
 //! Octets as answers show them.
 
-use anyhow::Result;
-use std::alloc::Global;
 use std::fmt;
-
-/// The answer to a row that sets something up.
-pub fn silent(alloc: Global) -> Result<String> {
-    Ok(String::new(alloc))
-}
-
-/// The answer that there is nothing.
-pub fn none(alloc: Global) -> Result<String> {
-    Ok("none".to_string(alloc)?)
-}
 
 /// Octets in hex, or `-` for none.
 #[derive(Clone, Copy)]

@@ -2,15 +2,15 @@
 
 use crate::access::Views;
 use crate::agent;
-use crate::clocks::engine_of;
+use crate::clocks::engine_in;
 use crate::manager::Asking;
 use crate::people::People;
-use crate::row::{Row, Word};
-use crate::shown::silent;
+use crate::row::{Fault, Row, keep};
 use crate::subjects::Subject;
-use anyhow::{Context, Result, bail, ensure};
 use snmp_agent::Agent;
 use std::alloc::Global;
+use usm_core::Users;
+use vacm_core::Vacm;
 
 /// Users and tables of access, a manager and an agent.
 #[derive(Drop)]
@@ -21,61 +21,55 @@ pub struct Stations {
     agent: Option<Agent>,
 }
 
-impl Stations {
-    /// No users, no tables, a manager that knows no engine, and no agent.
-    pub fn new(alloc: Global) -> Result<Stations> {
+impl Subject for Stations {
+    fn begin(alloc: Global) -> Result<Stations, Fault> {
         let people = People::new(alloc)?;
-        let asking = Asking::new(alloc, people.users()?)?;
+        let users = people.copy()?;
         Ok(Stations {
             people,
             views: Views::new(alloc),
-            asking,
+            asking: Asking::new(alloc, users),
             agent: None,
         })
     }
 
-    /// What is answered to a row.
-    pub fn answer(&mut self, alloc: Global, row: &Row<'_>) -> Result<String> {
-        let words = row.words.as_slice();
+    fn answer(&mut self, row: &mut Row<'_>) {
         match row.kind {
-            "user" => self.people.add(alloc, words),
-            "users" => self.people.load(alloc),
-            "manager" => self.asking.begin(alloc, &self.people, words),
-            "agent" => self.begin(alloc, words),
-            "context" | "group" | "access" | "family" | "load" => self.views.answer(alloc, row),
-            _ => self.of_stations(alloc, row),
-        }
-    }
-
-    /// `agent ENGINE BOOTS STARTED`: an agent of the users who were loaded, and of the tables, which are loaded anew
-    /// after it.
-    fn begin(&mut self, alloc: Global, words: &[Word<'_>]) -> Result<String> {
-        let [engine, boots, started] = words else {
-            bail!("agent ENGINE BOOTS STARTED");
-        };
-        let (engine, boots, started) = (engine_of(engine)?, boots.number32()?, started.number()?);
-        ensure!(boots <= 2_147_483_647, "boots of 31 bits");
-        let users = self.people.users()?;
-        let tables = self.views.give().context("tables that are loaded")?;
-        self.agent = Some(Agent::new(alloc, engine, boots, started, users, tables));
-        silent(alloc)
-    }
-
-    /// What is answered to a row about the manager or the agent.
-    fn of_stations(&mut self, alloc: Global, row: &Row<'_>) -> Result<String> {
-        match &mut self.agent {
-            Some(agent) if agent::has(row.kind) => agent::answer(agent, alloc, row),
-            _ => self.asking.answer(alloc, row),
+            "user" => self.people.add(row),
+            "users" => self.people.load(row),
+            "manager" => self.asking.begin(&self.people, row),
+            "agent" => self.begin_agent(row),
+            "context" | "group" | "access" | "family" | "load" => self.views.answer(row),
+            _ => self.of_stations(row),
         }
     }
 }
 
-impl Subject for Stations {
-    fn begin(alloc: Global) -> Result<Stations> {
-        Stations::new(alloc)
+/// `agent ENGINE BOOTS STARTED`: an agent of these users and tables.
+fn agent_of(users: Users, tables: Vacm, row: &mut Row<'_>) -> Option<Agent> {
+    let (engine, boots, started) = (engine_in(row), row.number32(), row.number());
+    if boots > 2_147_483_647 {
+        row.fail("boots of 31 bits");
+        return None;
+    }
+    Some(Agent::new(row.alloc, engine, boots, started, users, tables))
+}
+
+impl Stations {
+    /// `agent ENGINE BOOTS STARTED`: an agent of the users who were loaded, and of the tables, which are loaded anew
+    /// after it.
+    fn begin_agent(&mut self, row: &mut Row<'_>) {
+        match (self.people.users(row), self.views.give()) {
+            (Some(users), Some(tables)) => self.agent = agent_of(users, tables, row),
+            _ => row.fail("tables that are loaded"),
+        }
     }
 
-    fn answered(&mut self, alloc: Global, row: &Row<'_>) -> Result<String> {
-        self.answer(alloc, row)
+    /// Answers a row about the manager or the agent.
+    fn of_stations(&mut self, row: &mut Row<'_>) {
+        match &mut self.agent {
+            Some(agent) if agent::has(row.kind) => agent::answer(agent, row),
+            _ => self.asking.answer(row),
+        }
     }
 }

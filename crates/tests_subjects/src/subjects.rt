@@ -1,14 +1,13 @@
 //! The subjects of rows, each with the kinds of row that a file of its name has.
 
-use crate::row::Row;
-use anyhow::Result;
+use crate::row::{Fault, Row};
 use std::alloc::Global;
 
 /// What rows of a file are about, and what they set up for those after them.
 pub trait Subject: Drop + Sized {
     /// What there is at the beginning of a file.
-    fn begin(alloc: Global) -> Result<Self>;
+    fn begin(alloc: Global) -> Result<Self, Fault>;
 
-    /// What is answered to a row. A row that sets something up is answered nothing.
-    fn answered(&mut self, alloc: Global, row: &Row<'_>) -> Result<String>;
+    /// Answers a row. One that sets something up is answered nothing.
+    fn answer(&mut self, row: &mut Row<'_>);
 }

@@ -1,20 +1,21 @@
 //! Messages that are opened and sealed for users (RFC 3414, section 3).
 
-ghost use Rattle.std.specs.Prelude.{ℕ, List, IfOk};
+ghost use Rattle.std.specs.Prelude.{◌≤◌, ℕ, List, IfOk};
 ghost use Rattle.snmp_ber.specs.Element.{IsElement};
 ghost use Rattle.snmp_message.specs.Spelling.{HeaderFits};
+ghost use Rattle.snmp_msg.specs.Pdu.{IsPduTag};
 
-use crate::pdu::{pdu_of, with_arcs};
+use crate::clocks::pair_in;
+use crate::pdu::{pdu_in, with_arcs};
 use crate::people::People;
-use crate::row::{Row, Word};
-use crate::shown::{Hex, Text, silent};
+use crate::row::{Fault, Row};
+use crate::shown::{Hex, Text};
 use crate::subjects::Subject;
-use anyhow::{Context, Result, bail, ensure};
 use engine_clock::EngineId;
 use snmp_ber::Level;
-use snmp_msg::{Header, Pdu, write_scoped};
+use snmp_msg::{Header, Pdu, WriteFault, write_scoped};
 use std::alloc::Global;
-use usm_core::{Role, Users, UsmFault};
+use usm_core::{Checked, Role, Users, UsmFault};
 
 /// Users, and what they keep of the messages that were opened and sealed.
 #[derive(Drop)]
@@ -23,94 +24,87 @@ pub struct Sealing {
     users: Users,
 }
 
-impl Sealing {
-    /// No users.
-    pub fn new(alloc: Global) -> Result<Sealing> {
+impl Subject for Sealing {
+    fn begin(alloc: Global) -> Result<Sealing, Fault> {
         let people = People::new(alloc)?;
-        let users = people.users()?;
+        let users = people.copy()?;
         Ok(Sealing { people, users })
     }
 
-    /// What is answered to a row.
-    pub fn answer(&mut self, alloc: Global, row: &Row<'_>) -> Result<String> {
-        let words = row.words.as_slice();
+    fn answer(&mut self, row: &mut Row<'_>) {
         match row.kind {
-            "new" => self.reset(alloc),
-            "user" => self.people.add(alloc, words),
-            "users" => self.people.load(alloc),
-            "fresh" => self.begin(alloc),
-            "keys" => self.people.keys(alloc, words),
-            _ => of_users(&mut self.users, alloc, row),
+            "new" => self.reset(row),
+            "user" => self.people.add(row),
+            "users" => self.people.load(row),
+            "fresh" => self.begin_anew(row),
+            "keys" => self.people.keys(row),
+            _ => of_users(&mut self.users, row),
+        }
+    }
+}
+
+impl Sealing {
+    /// `new`: no rows of users.
+    fn reset(&mut self, row: &mut Row<'_>) {
+        match People::new(row.alloc) {
+            Ok(people) => self.people = people,
+            Err(_) => row.lack(),
         }
     }
 
-    /// `new`: no rows of users.
-    fn reset(&mut self, alloc: Global) -> Result<String> {
-        self.people = People::new(alloc)?;
-        silent(alloc)
-    }
-
     /// `fresh`: the users who were loaded last, with no key kept.
-    fn begin(&mut self, alloc: Global) -> Result<String> {
-        self.users = self.people.users()?;
-        silent(alloc)
+    fn begin_anew(&mut self, row: &mut Row<'_>) {
+        if let Some(users) = self.people.users(row) {
+            self.users = users;
+        }
     }
 }
 
-impl Subject for Sealing {
-    fn begin(alloc: Global) -> Result<Sealing> {
-        Sealing::new(alloc)
+/// Answers a row about users.
+fn of_users(users: &mut Users, row: &mut Row<'_>) {
+    match row.kind {
+        "cached" => row.say(format!(in row.alloc; "{}", users.cached())),
+        "supports" => supports(users, row),
+        "open" => open(users, row),
+        "plain" => plain(users, row),
+        "again" => again(users, row),
+        "changed" => changed(users, row),
+        "seal" => seal(users, row),
+        "sealed_len" => sealed_len(users, row),
+        _ => row.fail_kind(),
     }
-
-    fn answered(&mut self, alloc: Global, row: &Row<'_>) -> Result<String> {
-        self.answer(alloc, row)
-    }
-}
-
-/// What is answered to a row about users.
-fn of_users(users: &mut Users, alloc: Global, row: &Row<'_>) -> Result<String> {
-    match (row.kind, row.words.as_slice()) {
-        ("cached", []) => cached(users, alloc),
-        ("supports", [name, level]) => supports(users, alloc, name, level),
-        ("open", [role, datagram]) => open(users, alloc, role, datagram),
-        ("plain", [role, datagram]) => plain(users, alloc, role, datagram),
-        ("again", [count, datagram]) => again(users, alloc, count, datagram),
-        ("changed", [octet, datagram]) => changed(users, alloc, octet, datagram),
-        ("seal", words) => seal(users, alloc, words),
-        ("sealed_len", words) => sealed_len(users, alloc, words),
-        _ => bail!("no row {} of so many words", row.kind),
-    }
-}
-
-/// `cached`: how many localised keys are kept.
-fn cached(users: &Users, alloc: Global) -> Result<String> {
-    Ok(format!(in alloc; "{}", users.cached())?)
 }
 
 /// A refusal: its number, its name and its place.
-fn refused(alloc: Global, fault: UsmFault) -> Result<String> {
+fn say_refused(row: &mut Row<'_>, fault: UsmFault) {
+    if fault == UsmFault::OutOfMemory {
+        return row.lack();
+    }
     let (number, name) = (fault.number(), fault.name());
-    ensure!(fault != UsmFault::OutOfMemory, "out of memory");
     match fault.place() {
-        Some(place) => Ok(format!(in alloc; "refused {number} {name} {place}")?),
-        None => Ok(format!(in alloc; "refused {number} {name}")?),
+        Some(place) => row.say(format!(in row.alloc; "refused {number} {name} {place}")),
+        None => row.say(format!(in row.alloc; "refused {number} {name}")),
     }
 }
 
 /// `supports NAME LEVEL`: whether the user has the keys that the level needs.
-fn supports(users: &Users, alloc: Global, name: &Word<'_>, level: &Word<'_>) -> Result<String> {
-    match users.supports(name.name(), level.level()?) {
-        Ok(()) => Ok("supported".to_string(alloc)?),
-        Err(fault) => refused(alloc, fault),
+fn supports(users: &Users, row: &mut Row<'_>) {
+    match users.supports(row.name(), row.level()) {
+        Ok(()) => row.tell("supported"),
+        Err(fault) => say_refused(row, fault),
     }
 }
 
 /// The engine ID of an agent, or none of a manager.
-fn engine_in(role: &Word<'_>) -> Result<Option<EngineId>> {
-    match role.text {
-        "manager" => Ok(None),
-        _ => Ok(Some(EngineId::of(role.octets()?).context("an engine ID")?)),
+fn engine_in(row: &mut Row<'_>) -> Option<EngineId> {
+    if row.is_next("manager") {
+        return None;
     }
+    let engine = EngineId::of(row.octets());
+    if engine.is_none() {
+        row.fail("an engine ID");
+    }
+    engine
 }
 
 /// Whose part is taken: an agent's of this engine, or a manager's.
@@ -121,24 +115,27 @@ fn role_of(engine: &Option<EngineId>) -> Role<'_> {
     }
 }
 
+/// What an authentic message says.
+fn say_checked(row: &mut Row<'_>, checked: &Checked<'_>) {
+    let said = &checked.security;
+    row.say(format!(in row.alloc;
+        "{:?} id {} engine {} boots {} time {} user {} at {}",
+        checked.level,
+        checked.message.header.id,
+        Hex(said.engine),
+        said.boots,
+        said.time,
+        Text(said.user),
+        said.auth_at
+    ));
+}
+
 /// `open ROLE DATAGRAM`: what the message says, or why it isn't authentic.
-fn open(users: &mut Users, alloc: Global, role: &Word<'_>, datagram: &Word<'_>) -> Result<String> {
-    let engine = engine_in(role)?;
-    match users.open_auth(role_of(&engine), datagram.octets()?) {
-        Ok(checked) => {
-            let said = &checked.security;
-            Ok(format!(in alloc;
-                "{:?} id {} engine {} boots {} time {} user {} at {}",
-                checked.level,
-                checked.message.header.id,
-                Hex(said.engine),
-                said.boots,
-                said.time,
-                Text(said.user),
-                said.auth_at
-            )?)
-        }
-        Err(fault) => refused(alloc, fault),
+fn open(users: &mut Users, row: &mut Row<'_>) {
+    let (engine, datagram) = (engine_in(row), row.octets());
+    match users.open_auth(role_of(&engine), datagram) {
+        Ok(checked) => say_checked(row, &checked),
+        Err(fault) => say_refused(row, fault),
     }
 }
 
@@ -157,29 +154,35 @@ fn opened(
 }
 
 /// `plain ROLE DATAGRAM`: the content of msgData in the open, or why there is none.
-fn plain(users: &mut Users, alloc: Global, role: &Word<'_>, datagram: &Word<'_>) -> Result<String> {
-    let engine = engine_in(role)?;
-    match opened(users, alloc, role_of(&engine), datagram.octets()?) {
-        Ok(text) => Ok(format!(in alloc; "{}", Hex(&text))?),
-        Err(fault) => refused(alloc, fault),
+fn plain(users: &mut Users, row: &mut Row<'_>) {
+    let (engine, datagram) = (engine_in(row), row.octets());
+    let text = opened(users, row.alloc, role_of(&engine), datagram);
+    say_text(row, text);
+}
+
+/// A text, or why there is none.
+fn say_text(row: &mut Row<'_>, text: Result<Vec<u8>, UsmFault>) {
+    match text {
+        Ok(text) => row.show(&text),
+        Err(fault) => say_refused(row, fault),
     }
 }
 
+/// Whether a manager finds the datagram authentic.
+fn is_authentic(users: &mut Users, datagram: &[u8]) -> bool {
+    users.open_auth(Role::Manager, datagram).is_ok()
+}
+
 /// `again COUNT DATAGRAM`: how often of so many times a manager finds it authentic.
-fn again(
-    users: &mut Users,
-    alloc: Global,
-    count: &Word<'_>,
-    datagram: &Word<'_>,
-) -> Result<String> {
-    let datagram = datagram.octets()?;
+fn again(users: &mut Users, row: &mut Row<'_>) {
+    let (count, datagram) = (row.number32(), row.octets());
     let mut authentic = 0u32;
-    for _ in 0..count.number32()? {
-        if users.open_auth(Role::Manager, datagram).is_ok() {
+    for _ in 0..count {
+        if is_authentic(users, datagram) {
             authentic = authentic.saturating_add(1);
         }
     }
-    Ok(format!(in alloc; "authentic {authentic}")?)
+    row.say(format!(in row.alloc; "authentic {authentic}"));
 }
 
 /// How many of the datagrams are authentic that differ from this one in these bits of one octet.
@@ -187,7 +190,7 @@ fn authentic_changes(users: &mut Users, datagram: &mut [u8], bits: u8) -> u32 {
     let mut authentic = 0u32;
     for place in 0..datagram.len() {
         datagram[place] ^= bits;
-        if users.open_auth(Role::Manager, datagram).is_ok() {
+        if is_authentic(users, datagram) {
             authentic = authentic.saturating_add(1);
         }
         datagram[place] ^= bits;
@@ -196,84 +199,79 @@ fn authentic_changes(users: &mut Users, datagram: &mut [u8], bits: u8) -> u32 {
 }
 
 /// `changed BITS DATAGRAM`: in how many places a manager finds it authentic with these bits changed.
-fn changed(
-    users: &mut Users,
-    alloc: Global,
-    bits: &Word<'_>,
-    datagram: &Word<'_>,
-) -> Result<String> {
-    let mut datagram = datagram.octets()?.to_vec(alloc)?;
-    let authentic = authentic_changes(users, &mut datagram, bits.octet()?);
-    Ok(format!(in alloc; "authentic {authentic}")?)
+fn changed(users: &mut Users, row: &mut Row<'_>) {
+    let (bits, datagram) = (row.octet(), row.octets());
+    let Ok(mut datagram) = datagram.to_vec(row.alloc) else {
+        return row.lack();
+    };
+    let authentic = authentic_changes(users, &mut datagram, bits);
+    row.say(format!(in row.alloc; "authentic {authentic}"));
 }
 
 /// The ScopedPDU around a PDU.
-fn scoped_of(alloc: Global, engine: &[u8], name: &[u8], pdu: &Pdu<'_>) -> Result<Vec<u8>>
+fn scoped_of(
+    alloc: Global,
+    engine: &[u8],
+    name: &[u8],
+    pdu: &Pdu<'_>,
+) -> Result<Vec<u8>, WriteFault>
+    requires { IsPduTag pdu.now.tag }
     ensures { IfOk result (λ v. (content : List ℕ) × IsElement 48 content v.items) }
 {
     let written = with_arcs(alloc, pdu)?;
-    Ok(write_scoped(alloc, engine, name, &written)?)
+    write_scoped(alloc, engine, name, &written)
 }
 
 /// The header with this msgID and these flags: 1 auth, 2 priv, 4 reportable.
-fn header_of(id: &Word<'_>, flags: &Word<'_>) -> Result<Header>
-    ensures { IfOk result (λ h. HeaderFits h) }
+fn header_of(id: u32, flags: u8) -> Header
+    requires { id ≤ 2147483647 }
+    ensures { HeaderFits result }
 {
-    let (id, flags) = (id.number32()?, flags.octet()?);
-    ensure!(id <= 2_147_483_647, "a msgID of 31 bits");
-    Ok(Header {
+    Header {
         id,
         max_size: 65_507,
         auth: flags & 1 != 0,
         privacy: flags & 2 != 0,
         reportable: flags & 4 != 0,
         model: 3,
-    })
-}
-
-/// Eight octets of salt.
-pub fn salt_of(word: &Word<'_>) -> Result<[u8; 8]> {
-    match word.octets()? {
-        [a, b, c, d, e, f, g, h] => Ok([*a, *b, *c, *d, *e, *f, *g, *h]),
-        _ => bail!("a salt has 8 octets"),
     }
 }
 
-/// The message of these words, sealed for a user.
-fn sealed(
-    users: &mut Users,
-    alloc: Global,
-    words: &[Word<'_>],
-) -> Result<Result<Vec<u8>, UsmFault>> {
-    let [id, flags, engine, pair, user, salt, name, pdu] = words else {
-        bail!("seal ID FLAGS ENGINE BOOTS/TIME USER SALT CONTEXT PDU");
-    };
-    let (engine, user) = (engine.octets()?, user.name());
-    ensure!(user.len() <= 32, "a user name has at most 32 octets");
-    let pair = crate::clocks::pair_in(pair)?.context("a pair")?;
-    let scoped = scoped_of(alloc, engine, name.octets()?, &pdu_of(pdu.octets()?)?)?;
-    Ok(users.seal(
-        &header_of(id, flags)?,
-        engine,
-        pair,
-        user,
-        salt_of(salt)?,
-        &scoped,
-    ))
+/// The message of ID FLAGS ENGINE BOOTS/TIME USER SALT CONTEXT PDU, sealed for a user. There is none where the row
+/// notes why.
+fn sealed(users: &mut Users, row: &mut Row<'_>) -> Option<Result<Vec<u8>, UsmFault>> {
+    let (id, flags, engine, pair) = (row.number32(), row.octet(), row.octets(), pair_in(row));
+    let (user, salt, name) = (row.name(), row.salt(), row.octets());
+    let pdu = pdu_in(row)?;
+    if id > 2_147_483_647 || user.len() > 32 {
+        row.fail("a msgID of 31 bits, and a user name of at most 32 octets");
+        return None;
+    }
+    match scoped_of(row.alloc, engine, name, &pdu) {
+        Ok(scoped) => {
+            let header = header_of(id, flags);
+            Some(users.seal(&header, engine, pair, user, salt, &scoped))
+        }
+        Err(WriteFault::OutOfMemory) => Some(Err(UsmFault::OutOfMemory)),
+        Err(_) => {
+            row.fail("a scoped PDU that is written");
+            None
+        }
+    }
 }
 
 /// `seal ID FLAGS ENGINE BOOTS/TIME USER SALT CONTEXT PDU`: the message, or why it isn't sealed.
-fn seal(users: &mut Users, alloc: Global, words: &[Word<'_>]) -> Result<String> {
-    match sealed(users, alloc, words)? {
-        Ok(text) => Ok(format!(in alloc; "{}", Hex(&text))?),
-        Err(fault) => refused(alloc, fault),
+fn seal(users: &mut Users, row: &mut Row<'_>) {
+    if let Some(text) = sealed(users, row) {
+        say_text(row, text);
     }
 }
 
 /// `sealed_len ..`: how long the message is that `seal` gives.
-fn sealed_len(users: &mut Users, alloc: Global, words: &[Word<'_>]) -> Result<String> {
-    match sealed(users, alloc, words)? {
-        Ok(text) => Ok(format!(in alloc; "len {}", text.len())?),
-        Err(fault) => refused(alloc, fault),
+fn sealed_len(users: &mut Users, row: &mut Row<'_>) {
+    match sealed(users, row) {
+        Some(Ok(text)) => row.say(format!(in row.alloc; "len {}", text.len())),
+        Some(Err(fault)) => say_refused(row, fault),
+        None => {}
     }
 }

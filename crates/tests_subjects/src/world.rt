@@ -1,15 +1,13 @@
 //! Managers that share what they know through saved files.
 
-use crate::clocks::{engine_of, pair_text};
+use crate::clocks::{clocks_in, engine_at, engine_in, say_pair};
 use crate::people::People;
-use crate::row::{Row, Word};
-use crate::shown::{Text, none, silent};
+use crate::row::{Fault, Row, keep};
+use crate::shown::Text;
 use crate::subjects::Subject;
-use anyhow::{Context, Result, bail};
-use engine_clock::{Clocks, EngineId};
-use snmp_manager::{Event, World, WorldFault, WorldStopped};
-use std::alloc::Global;
-use usm_core::Users;
+use engine_clock::Clocks;
+use snmp_manager::{Event, World, WorldFault};
+use std::alloc::{AllocError, Global};
 
 /// Users, a world of managers, and messages that the rows name by their positions.
 #[derive(Drop)]
@@ -19,9 +17,8 @@ pub struct Sharing {
     messages: Vec<Vec<u8>>,
 }
 
-impl Sharing {
-    /// No users, and no world.
-    pub fn new(alloc: Global) -> Result<Sharing> {
+impl Subject for Sharing {
+    fn begin(alloc: Global) -> Result<Sharing, Fault> {
         Ok(Sharing {
             people: People::new(alloc)?,
             world: None,
@@ -29,125 +26,135 @@ impl Sharing {
         })
     }
 
-    /// What is answered to a row.
-    pub fn answer(&mut self, alloc: Global, row: &Row<'_>) -> Result<String> {
-        let words = row.words.as_slice();
-        match (row.kind, words) {
-            ("user", _) => self.people.add(alloc, words),
-            ("users", []) => self.people.load(alloc),
-            ("message", [datagram]) => self.message(alloc, datagram),
-            ("world", [count]) => self.begin(alloc, count),
-            ("world_of", [text]) => self.begin_with(alloc, text),
-            ("step", [event]) => self.step(alloc, event),
-            ("run", events) => self.run(alloc, events),
-            _ => self.of_world(alloc, row),
+    fn answer(&mut self, row: &mut Row<'_>) {
+        match row.kind {
+            "user" => self.people.add(row),
+            "users" => self.people.load(row),
+            "message" => self.message(row),
+            "world" => self.begin_empty(row),
+            "world_of" => self.begin_with(row),
+            _ => self.of_world(row),
         }
     }
+}
 
+impl Sharing {
     /// `message DATAGRAM`: a message more.
-    fn message(&mut self, alloc: Global, datagram: &Word<'_>) -> Result<String> {
-        self.messages.push(datagram.octets()?.to_vec(alloc)?)?;
-        silent(alloc)
+    fn message(&mut self, row: &mut Row<'_>) {
+        match row.octets().to_vec(row.alloc) {
+            Ok(message) => row.add(&mut self.messages, message),
+            Err(_) => row.lack(),
+        }
     }
 
     /// `world COUNT`: so many managers that know no engine.
-    fn begin(&mut self, alloc: Global, count: &Word<'_>) -> Result<String> {
-        let mut clocks = Vec::new(alloc);
-        for _ in 0..count.place()?.min(100) {
-            clocks.push(Clocks::new(alloc))?;
+    fn begin_empty(&mut self, row: &mut Row<'_>) {
+        let mut clocks = Vec::new(row.alloc);
+        for _ in 0..row.place().min(100) {
+            let empty = Clocks::new(row.alloc);
+            row.add(&mut clocks, empty);
         }
-        self.world = Some(World::new(alloc, &self.people.users()?, &clocks)?);
-        silent(alloc)
+        self.begin_world(&clocks, row);
     }
 
     /// `world_of CLOCKS`: one manager that begins with these saved clocks.
-    fn begin_with(&mut self, alloc: Global, text: &Word<'_>) -> Result<String> {
-        let clocks = Clocks::read_saved(alloc, text.octets()?, 0)?;
-        self.world = Some(World::new(alloc, &self.people.users()?, &[clocks])?);
-        silent(alloc)
+    fn begin_with(&mut self, row: &mut Row<'_>) {
+        let text = row.octets();
+        let clocks = [clocks_in(row, text, 0)];
+        self.begin_world(&clocks, row);
     }
 
-    /// `step EVENT`: whether it is done.
-    fn step(&mut self, alloc: Global, event: &Word<'_>) -> Result<String> {
-        let event = event_of(alloc, event.text, &self.messages)?;
-        let world = self.world.as_mut().context("a world")?;
-        match stepped(world, &event) {
-            Ok(()) => Ok("done".to_string(alloc)?),
-            Err(WorldFault::OutOfMemory) => bail!("out of memory"),
-            Err(fault) => Ok(format!(in alloc; "{fault:?}")?),
+    /// A manager of the users who were loaded for each of these clocks.
+    fn begin_world(&mut self, clocks: &[Clocks], row: &mut Row<'_>) {
+        if let Some(users) = self.people.users(row) {
+            match World::new(row.alloc, &users, clocks) {
+                Ok(world) => keep(&mut self.world, world),
+                Err(_) => row.lack(),
+            }
         }
     }
 
-    /// `run EVENT ..`: how many events were done until one was refused.
-    fn run(&mut self, alloc: Global, words: &[Word<'_>]) -> Result<String> {
-        let mut events = Vec::new(alloc);
-        for word in words {
-            events.push(event_of(alloc, word.text, &self.messages)?)?;
-        }
-        let done = match ran(self.world.as_mut().context("a world")?, &events) {
-            Ok(()) => events.len(),
-            Err(stopped) => stopped.done,
-        };
-        Ok(format!(in alloc; "done {done}")?)
-    }
-
-    /// What is answered to a row about what there is in the world.
-    fn of_world(&self, alloc: Global, row: &Row<'_>) -> Result<String> {
-        let world = self.world.as_ref().context("a world")?;
-        match (row.kind, row.words.as_slice()) {
-            ("size", []) => size(world, alloc),
-            ("pair", [manager, engine]) => pair(world, alloc, manager, engine),
-            ("pairs", [manager, engines]) => pairs(world, alloc, manager, engines),
-            ("file", [number]) => file(world, alloc, number),
-            _ => bail!("no row {} of so many words", row.kind),
+    /// Answers a row about the world.
+    fn of_world(&mut self, row: &mut Row<'_>) {
+        match &mut self.world {
+            Some(world) => of_world(world, &self.messages, row),
+            None => row.fail("a world"),
         }
     }
 }
 
-impl Subject for Sharing {
-    fn begin(alloc: Global) -> Result<Sharing> {
-        Sharing::new(alloc)
+/// Answers a row about a world.
+fn of_world(world: &mut World, messages: &[Vec<u8>], row: &mut Row<'_>) {
+    match row.kind {
+        "step" => step(world, messages, row),
+        "run" => run(world, messages, row),
+        "size" => row.say(format!(in row.alloc; "{} {}", world.managers(), world.files())),
+        "pair" => pair(world, row),
+        "pairs" => pairs(world, row),
+        "file" => file(world, row),
+        _ => row.fail_kind(),
     }
+}
 
-    fn answered(&mut self, alloc: Global, row: &Row<'_>) -> Result<String> {
-        self.answer(alloc, row)
+/// `step EVENT`: whether it is done.
+fn step(world: &mut World, messages: &[Vec<u8>], row: &mut Row<'_>) {
+    let Some(event) = event_in(row, messages) else {
+        return;
+    };
+    match world.step(&event) {
+        Ok(()) => row.tell("done"),
+        Err(WorldFault::OutOfMemory) => row.lack(),
+        Err(fault) => row.say(format!(in row.alloc; "{fault:?}")),
     }
 }
 
-/// The event happens in the world.
-fn stepped(world: &mut World, event: &Event) -> Result<(), WorldFault> {
-    world.step(event)
+/// The events of the words that are left.
+fn events_in(row: &mut Row<'_>, messages: &[Vec<u8>]) -> Vec<Event> {
+    let mut events = Vec::new(row.alloc);
+    for _ in 0..row.left() {
+        if let Some(event) = event_in(row, messages) {
+            row.add(&mut events, event);
+        }
+    }
+    events
 }
 
-/// The events happen in the world, one after another.
-fn ran(world: &mut World, events: &[Event]) -> Result<(), WorldStopped> {
-    world.run(events)
-}
-
-/// `size`: how many managers and files there are.
-fn size(world: &World, alloc: Global) -> Result<String> {
-    Ok(format!(in alloc; "{} {}", world.managers(), world.files())?)
+/// `run EVENT ..`: how many events were done until one was refused.
+fn run(world: &mut World, messages: &[Vec<u8>], row: &mut Row<'_>) {
+    let events = events_in(row, messages);
+    let done = match world.run(&events) {
+        Ok(()) => events.len(),
+        Err(stopped) if stopped.why == WorldFault::OutOfMemory => return row.lack(),
+        Err(stopped) => stopped.done,
+    };
+    row.say(format!(in row.alloc; "done {done}"));
 }
 
 /// `pair MANAGER ENGINE`: the boots and the time that the manager holds.
-fn pair(world: &World, alloc: Global, manager: &Word<'_>, engine: &Word<'_>) -> Result<String> {
-    pair_text(alloc, world.pair(manager.place()?, &engine_of(engine)?))
+fn pair(world: &World, row: &mut Row<'_>) {
+    let (manager, engine) = (row.place(), engine_in(row));
+    say_pair(row, world.pair(manager, &engine));
 }
 
 /// `file NUMBER`: a saved text.
-fn file(world: &World, alloc: Global, number: &Word<'_>) -> Result<String> {
-    match world.file(number.place()?) {
-        Some(text) => Ok(format!(in alloc; "{}", Text(text))?),
-        None => none(alloc),
+fn file(world: &World, row: &mut Row<'_>) {
+    match world.file(row.place()) {
+        Some(text) => row.say(format!(in row.alloc; "{}", Text(text))),
+        None => row.none(),
     }
 }
 
-/// `pairs MANAGERS ENGINES`: what each manager holds of the engines 8000000001 and on, a manager after another.
-fn pairs(world: &World, alloc: Global, managers: &Word<'_>, engines: &Word<'_>) -> Result<String> {
+/// What each of so many managers holds of the first so many engines.
+fn pairs_text(
+    world: &World,
+    alloc: Global,
+    managers: usize,
+    engines: u8,
+) -> Result<String, AllocError> {
     let mut text = "held".to_string(alloc)?;
-    for manager in 0..managers.place()? {
-        for number in 0..engines.octet()? {
-            match world.pair(manager, &engine_at(number)?) {
+    for manager in 0..managers {
+        for number in 0..engines {
+            match world.pair(manager, &engine_at(number)) {
                 Some(pair) => write!(text, " {}/{}", pair.boots, pair.time)?,
                 None => text.push_str(" -")?,
             }
@@ -156,53 +163,96 @@ fn pairs(world: &World, alloc: Global, managers: &Word<'_>, engines: &Word<'_>) 
     Ok(text)
 }
 
-/// The engine of this number, counted from 0.
-fn engine_at(number: u8) -> Result<EngineId> {
-    EngineId::of(&[0x80, 0, 0, 0, number.saturating_add(1)]).context("an engine")
+/// `pairs MANAGERS ENGINES`: what each manager holds of the engines 8000000001 and on, a manager after another.
+fn pairs(world: &World, row: &mut Row<'_>) {
+    let (managers, engines) = (row.place(), row.octet());
+    row.say(pairs_text(world, row.alloc, managers, engines));
 }
 
-/// The numbers of an event, with dots between.
-fn numbers_of(alloc: Global, text: &str) -> Result<Vec<u64>> {
-    let mut numbers = Vec::new(alloc);
-    for number in text.split('.') {
-        numbers.push(number.parse::<u64>()?)?;
-    }
-    Ok(numbers)
+/// The numbers of an event that are still to be read, with dots between.
+#[derive(Clone, Copy)]
+struct Numbers<'a> {
+    left: Option<&'a str>,
+    is_wrong: bool,
 }
 
-/// An event: `take:MANAGER.NOW.MESSAGE`, `noise:MANAGER.NOW`, `save:MANAGER`, `absorb:MANAGER.FILE.NOW` or
-/// `restart:MANAGER.FILE.NOW`.
-fn event_of(alloc: Global, text: &str, messages: &[Vec<u8>]) -> Result<Event> {
-    let (kind, rest) = text.split_once(':').context("an event")?;
-    let numbers = numbers_of(alloc, rest)?;
-    match (kind, numbers.as_slice()) {
-        ("take", [manager, now, message]) => {
-            let datagram = messages.get(*message as usize).context("a message")?;
-            taking(alloc, *manager, *now, datagram)
+impl Numbers<'_> {
+    /// The next number. Where there is none, that is noted.
+    fn next(&mut self) -> u64 {
+        let text = self.left.unwrap_or("");
+        let number = match text.split_once('.') {
+            Some((number, left)) => {
+                self.left = Some(left);
+                number
+            }
+            None => {
+                self.left = None;
+                text
+            }
+        };
+        match number.parse::<u64>() {
+            Ok(number) => number,
+            Err(_) => {
+                self.is_wrong = true;
+                0
+            }
         }
-        ("noise", [manager, now]) => taking(alloc, *manager, *now, b"no message"),
-        ("save", [manager]) => Ok(Event::Save {
-            manager: *manager as usize,
-        }),
-        ("absorb", [manager, file, now]) => Ok(Event::Absorb {
-            manager: *manager as usize,
-            file: *file as usize,
-            now: *now,
-        }),
-        ("restart", [manager, file, now]) => Ok(Event::Restart {
-            manager: *manager as usize,
-            file: *file as usize,
-            now: *now,
-        }),
-        _ => bail!("no event {text}"),
     }
 }
 
-/// A manager takes a datagram.
-fn taking(alloc: Global, manager: u64, now: u64, datagram: &[u8]) -> Result<Event> {
-    Ok(Event::Take {
-        manager: manager as usize,
-        now,
-        datagram: datagram.to_vec(alloc)?,
-    })
+/// The event of the next word: `take:MANAGER.NOW.MESSAGE`, `noise:MANAGER.NOW`, `save:MANAGER`,
+/// `absorb:MANAGER.FILE.NOW` or `restart:MANAGER.FILE.NOW`. There is none where the row notes why.
+fn event_in(row: &mut Row<'_>, messages: &[Vec<u8>]) -> Option<Event> {
+    let (kind, rest) = row.word().split_once(':').unwrap_or(("", ""));
+    let mut numbers = Numbers {
+        left: Some(rest),
+        is_wrong: false,
+    };
+    let manager = numbers.next() as usize;
+    let event = match kind {
+        "take" | "noise" => taking(row, kind, manager, &mut numbers, messages),
+        "save" => Some(Event::Save { manager }),
+        "absorb" => Some(Event::Absorb {
+            manager,
+            file: numbers.next() as usize,
+            now: numbers.next(),
+        }),
+        "restart" => Some(Event::Restart {
+            manager,
+            file: numbers.next() as usize,
+            now: numbers.next(),
+        }),
+        _ => None,
+    };
+    if event.is_none() || numbers.is_wrong || numbers.left.is_some() {
+        row.fail("an event");
+    }
+    event
+}
+
+/// A manager takes a datagram: one of the messages, or what is no message.
+fn taking(
+    row: &mut Row<'_>,
+    kind: &str,
+    manager: usize,
+    numbers: &mut Numbers<'_>,
+    messages: &[Vec<u8>],
+) -> Option<Event> {
+    let now = numbers.next();
+    let datagram = if kind == "take" {
+        messages.get(numbers.next() as usize)?.as_slice()
+    } else {
+        b"no message"
+    };
+    match datagram.to_vec(row.alloc) {
+        Ok(datagram) => Some(Event::Take {
+            manager,
+            now,
+            datagram,
+        }),
+        Err(_) => {
+            row.lack();
+            None
+        }
+    }
 }
