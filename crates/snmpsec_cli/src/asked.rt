@@ -11,8 +11,8 @@ use std::alloc::{AllocError, Global};
 #[derive(Clone, Copy)]
 pub struct Asked<'m, 'a> {
     pub command: Command,
-    /// The words of the command. Those that must be given are there, and none has been looked at beyond what
-    /// the parser asks.
+    /// The words of the command. Those that must be given are there, and none has been looked at beyond what the
+    /// parser asks.
     pub words: &'m ArgMatches<'a>,
     /// Whether a refusal is to be told with what is wrong and what is wanted.
     pub why: bool,

@@ -21,8 +21,8 @@ pub(crate) enum Kind {
     Values,
     /// It is an option whose value is a number. A number below 0 is a value too.
     Number,
-    /// It is an option of the file of datagrams, without a value. This option and those below can't be given
-    /// with a datagram.
+    /// It is an option of the file of datagrams, without a value. This option and those below can't be given with a
+    /// datagram.
     SourceFlag,
     /// It is an option of the file of datagrams, with a value.
     SourceValue,
