@@ -44,7 +44,7 @@ fn questions(alloc: Global, count: u32, arcs: usize, is_hit: bool) -> Result<Vec
     Ok(made)
 }
 
-fn loaded(alloc: Global, rows: &Rows) -> Result<Vacm> {
+fn load(alloc: Global, rows: &Rows) -> Result<Vacm> {
     match Vacm::load(alloc, rows) {
         Ok(vacm) => Ok(vacm),
         Err(VacmFault::OutOfMemory) => bail!("out of memory"),
@@ -53,7 +53,7 @@ fn loaded(alloc: Global, rows: &Rows) -> Result<Vacm> {
 }
 
 /// How many of the questions were allowed, and how many not in view.
-fn asked(vacm: &Vacm, questions: &[Question], asks: usize) -> (u64, u64) {
+fn ask(vacm: &Vacm, questions: &[Question], asks: usize) -> (u64, u64) {
     let mut allowed = 0u64;
     let mut not_in_view = 0u64;
     for question in questions.iter().cycle().take(asks) {
@@ -103,23 +103,23 @@ fn read_words(words: &[String]) -> Result<Wanted> {
 /// Loads the rows so often, once at least, and answers what was loaded last.
 fn loaded_often(alloc: Global, rows: &Rows, loads: u64) -> Result<Vacm> {
     for _ in 1..loads {
-        loaded(alloc, rows)?;
+        load(alloc, rows)?;
     }
-    loaded(alloc, rows)
+    load(alloc, rows)
 }
 
 /// What the questions were answered.
-fn counted(alloc: Global, wanted: Wanted) -> Result<(u64, u64)> {
+fn count_answers(alloc: Global, wanted: Wanted) -> Result<(u64, u64)> {
     let questions = questions(alloc, wanted.count, wanted.arcs, wanted.is_hit)?;
     let rows = rows_of(alloc, wanted.shape, wanted.count, wanted.wild)?;
     let vacm = loaded_often(alloc, &rows, wanted.loads)?;
-    Ok(asked(&vacm, questions.as_slice(), wanted.asks))
+    Ok(ask(&vacm, questions.as_slice(), wanted.asks))
 }
 
 fn main(rt: HostRuntime) -> Result<()> {
     let alloc = rt.alloc();
     let words: Vec<String> = env::args(&rt)?.collect(alloc)?;
-    let (allowed, not_in_view) = counted(alloc, read_words(words.as_slice())?)?;
+    let (allowed, not_in_view) = count_answers(alloc, read_words(words.as_slice())?)?;
     println!(rt; "{allowed} {not_in_view}")?;
     Ok(())
 }

@@ -14,7 +14,7 @@ ghost use Rattle.snmp_ber.specs.Element.{IsTag};
 ghost use Rattle.snmp_msg.specs.Variables.{CanBeWritten, variable_of};
 
 use anyhow::{Context, Result, bail};
-use pdus::{in_octets, made, read, with_arcs};
+use pdus::{in_octets, read, response, with_arcs};
 use snmp_msg::{Binding, Pdu, RESPONSE, VariableBinding, write_pdu, write_pdu_of};
 use std::alloc::Global;
 use std::env;
@@ -62,7 +62,7 @@ fn answered_in_octets(alloc: Global, text: &[u8]) -> Result<u64> {
 }
 
 /// The bindings of the text written so often, and how many octets that was.
-fn written(alloc: Global, form: &str, text: &[u8], times: u64) -> Result<u64> {
+fn write_times(alloc: Global, form: &str, text: &[u8], times: u64) -> Result<u64> {
     let mut octets = 0u64;
     let pdu = read(text)?;
     if form == "arcs" {
@@ -91,9 +91,9 @@ fn once(alloc: Global, step: &str, form: &str, text: &[u8]) -> Result<u64> {
 }
 
 /// The step done so often.
-fn repeated(alloc: Global, step: &str, form: &str, text: &[u8], times: u64) -> Result<u64> {
+fn repeat(alloc: Global, step: &str, form: &str, text: &[u8], times: u64) -> Result<u64> {
     if step == "write" {
-        return written(alloc, form, text, times);
+        return write_times(alloc, form, text, times);
     }
     let mut octets = 0u64;
     for _ in 0..times {
@@ -110,8 +110,8 @@ fn main(rt: HostRuntime) -> Result<()> {
     };
     let count: u32 = count.as_str().parse().context("COUNT")?;
     let times: u64 = times.as_str().parse().context("TIMES")?;
-    let text = made(alloc, count)?;
-    let octets = repeated(alloc, step.as_str(), form.as_str(), &text, times)?;
+    let text = response(alloc, count)?;
+    let octets = repeat(alloc, step.as_str(), form.as_str(), &text, times)?;
     println!(rt; "{octets}")?;
     Ok(())
 }

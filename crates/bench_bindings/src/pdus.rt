@@ -10,7 +10,7 @@ use snmp_msg::{Binding, Pdu, RESPONSE, VariableBinding, read_pdu, write_pdu};
 use std::alloc::Global;
 
 /// The bindings of ifInOctets.1 and on, so many.
-fn numbered(alloc: Global, count: u32) -> Result<Vec<Binding<'static>>>
+fn counters(alloc: Global, count: u32) -> Result<Vec<Binding<'static>>>
     ensures { IfOk result (λ v. All (λ b. CanBeWritten (variable_of b)) v.items) }
 {
     let mut bindings = Vec::new(alloc);
@@ -29,8 +29,8 @@ fn numbered(alloc: Global, count: u32) -> Result<Vec<Binding<'static>>>
 }
 
 /// A Response with these bindings.
-pub(crate) fn made(alloc: Global, count: u32) -> Result<Vec<u8>> {
-    let bindings = numbered(alloc, count)?;
+pub(crate) fn response(alloc: Global, count: u32) -> Result<Vec<u8>> {
+    let bindings = counters(alloc, count)?;
     let text = write_pdu(alloc, RESPONSE, 1, 0, 0, &bindings)?;
     Ok(text)
 }

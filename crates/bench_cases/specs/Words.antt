@@ -2,7 +2,7 @@
 use Rattle.std.specs.Prelude.{ℕ, List, codes}
 use Rattle.usm_keys.specs.declared.auth.Auth.TheVariants.{Md5, Sha1, Sha256}
 use Rattle.bench_cases.specs.declared.operation.Others.TheVariants.{Nobody, Thousand, TenThousand}
-use Rattle.bench_cases.specs.declared.answering.Form.TheVariants.{Arcs, Octets}
+use Rattle.bench_cases.specs.declared.answering.BindingForm.TheVariants.{Arcs, Octets}
 use Rattle.bench_cases.specs.declared.operation.Operation.{Operation}
 use Rattle.bench_cases.specs.declared.operation.Operation.TheVariants.{PasswordKey, Mac, CfbSeal, CfbOpen, OpenAuth}
 use Rattle.bench_cases.specs.declared.operation.Operation.TheVariants.{Take, AgentTake, AgentAnswer, Request, Seal}

@@ -19,7 +19,7 @@ use std::alloc::{AllocError, Global};
 
 /// How bindings are collected and handed in.
 #[derive(Clone, Copy)]
-pub enum Form {
+pub enum BindingForm {
     /// With the arcs of their names.
     Arcs,
     /// With their names' octets.
@@ -72,7 +72,7 @@ pub(crate) fn answered_end(
     alloc: Global,
     agent: &mut Agent,
     message: &[u8],
-    form: Form,
+    form: BindingForm,
 ) -> Result<ArrayVec<u8, 32>> {
     let taken = match agent.take(MOMENT, message) {
         Ok(taken) => taken,
@@ -80,11 +80,11 @@ pub(crate) fn answered_end(
     };
     let pdu = taken.pdu();
     let response = match form {
-        Form::Arcs => {
+        BindingForm::Arcs => {
             let bindings = bindings_of(alloc, &pdu)?;
             agent.respond(MOMENT, &taken, 0, 0, &bindings, SALT)?
         }
-        Form::Octets => {
+        BindingForm::Octets => {
             let bindings = variables_of(alloc, &pdu)?;
             agent.respond_of(MOMENT, &taken, 0, 0, &bindings, SALT)?
         }
@@ -151,13 +151,13 @@ pub(crate) fn requested_end(
     alloc: Global,
     manager: &mut Manager,
     text: &[u8],
-    form: Form,
+    form: BindingForm,
 ) -> Result<ArrayVec<u8, 32>> {
     let pdu = read_pdu(text, 0, text.len()).ok().context("a PDU")?;
     let engine = EngineId::of(&ENGINE).context("an engine")?;
     let request = match form {
-        Form::Arcs => request(alloc, manager, &engine, &pdu)?,
-        Form::Octets => request_of(alloc, manager, &engine, &pdu)?,
+        BindingForm::Arcs => request(alloc, manager, &engine, &pdu)?,
+        BindingForm::Octets => request_of(alloc, manager, &engine, &pdu)?,
     };
     Ok(end_of(&request))
 }

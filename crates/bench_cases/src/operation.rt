@@ -8,7 +8,7 @@ ghost use Rattle.bench_cases.specs.Words.{operation_word};
 ghost use Rattle.bench_cases.specs.Stations as count;
 ghost use Rattle.bench_cases.specs.Stations.{HasUsers, number_of};
 
-use crate::answering::{Form, answered_end, requested_end};
+use crate::answering::{BindingForm, answered_end, requested_end};
 use crate::station::{ENGINE, OAK, Station};
 use anyhow::{Context, Result, ensure};
 use arrayvec::ArrayVec;
@@ -91,10 +91,10 @@ pub enum Operation {
     AgentTake,
     /// `agent-answer`, `agent-answer-octets`: the same, and then a Response with the bindings of what was
     /// taken, with the arcs of their names or with their names' octets. The result is its last 16 octets.
-    AgentAnswer(Form),
+    AgentAnswer(BindingForm),
     /// `request`, `request-octets`: a request at authPriv by a manager that has `oak`, with the bindings of
     /// the text, which is a PDU, in the same forms. The result is its last 16 octets.
-    Request(Form),
+    Request(BindingForm),
     /// `seal`: the text, which is a PDU, sealed by `oak` as a message at authPriv. The result is its last 16 octets.
     Seal,
 }
@@ -127,10 +127,10 @@ impl FromStr for Operation {
             "take-among-1000" => Ok(Operation::Take(Others::Thousand)),
             "take-among-10000" => Ok(Operation::Take(Others::TenThousand)),
             "agent-take" => Ok(Operation::AgentTake),
-            "agent-answer" => Ok(Operation::AgentAnswer(Form::Arcs)),
-            "agent-answer-octets" => Ok(Operation::AgentAnswer(Form::Octets)),
-            "request" => Ok(Operation::Request(Form::Arcs)),
-            "request-octets" => Ok(Operation::Request(Form::Octets)),
+            "agent-answer" => Ok(Operation::AgentAnswer(BindingForm::Arcs)),
+            "agent-answer-octets" => Ok(Operation::AgentAnswer(BindingForm::Octets)),
+            "request" => Ok(Operation::Request(BindingForm::Arcs)),
+            "request-octets" => Ok(Operation::Request(BindingForm::Octets)),
             "seal" => Ok(Operation::Seal),
             _ => Err(UnknownOperation),
         }

@@ -18,7 +18,7 @@ use Rattle.capture_datagrams.specs.declared.forms.Form.{Form}
 use Rattle.capture_datagrams.specs.declared.forms.Form.TheVariants.{Pcap, Hex, Dump, Packets}
 use Rattle.capture_datagrams.specs.declared.texts.TextForm.{TextForm}
 use Rattle.capture_datagrams.specs.declared.texts.TextForm.TheVariants as text
-use Rattle.capture_datagrams.specs.declared.forms.Asked.{Asked}
+use Rattle.capture_datagrams.specs.declared.forms.ReadOptions.{ReadOptions}
 use Rattle.capture_datagrams.specs.declared.datagrams.Unread.{Unread}
 use Rattle.capture_datagrams.specs.declared.datagrams.Unread.TheVariants as unread
 
@@ -45,7 +45,7 @@ is_capture (Some Dump) octets = false
 is_capture (Some Packets) octets = false
 is_capture None octets = begins_capture octets
 
-abbrev pub form_by : Option Form → Asked → TextForm
+abbrev pub form_by : Option Form → ReadOptions → TextForm
 form_by (Some Pcap) a = text.Found
 form_by (Some Hex) a = text.Hex
 form_by (Some Dump) a = text.Dump
@@ -53,7 +53,7 @@ form_by (Some Packets) a = text.Packets a.ports
 form_by None a = text.Found
 
 -- how a text is read: as it is asked for
-abbrev pub text_form : Asked → TextForm
+abbrev pub text_form : ReadOptions → TextForm
 text_form a = form_by a.form a
 
 -- A capture is read, or else a text.
@@ -62,12 +62,12 @@ Reads form s Capture Text =
     (IfSome s.unread (λ octets. is_capture form octets ≡ true) × Capture)
     ⊎ (IfSome s.unread (λ octets. is_capture form octets ≡ false) × Text)
 
-abbrev pub TellsFile : Printing → Asked → List ℕ → Streams → ℕ → Type 0
+abbrev pub TellsFile : Printing → ReadOptions → List ℕ → Streams → ℕ → Type 0
 TellsFile P a name s status = Reads a.form s (Tells P a.ports.now name s status)
     (TellsText P (text_form a) a.moment name s status)
 
 -- the first octets aren't read, or it stops behind them
-abbrev pub StopsFile : Printing → Asked → List ℕ → Streams → Unread → Type 0
+abbrev pub StopsFile : Printing → ReadOptions → List ℕ → Streams → Unread → Type 0
 StopsFile P a name s f =
     ((f ≡ unread.CannotRead) × CannotBegin s capture.CannotRead)
     ⊎ Reads a.form s (TellsNot P a.ports.now name s f) (StopsText P (text_form a) a.moment name s f)

@@ -18,7 +18,7 @@ use Rattle.snmpsec_output.specs.Open.{OpensBy}
 use Rattle.snmpsec_output.specs.Questions.{Printed}
 use Rattle.snmpsec_output.specs.Show.{ShowsDatagram}
 use Rattle.capture_datagrams.specs.Forms.{StopsFile, TellsFile}
-use Rattle.capture_datagrams.specs.declared.forms.Asked.{Asked}
+use Rattle.capture_datagrams.specs.declared.forms.ReadOptions.{ReadOptions}
 use Rattle.capture_datagrams.specs.declared.datagrams.Unread.{Unread}
 use Rattle.capture_datagrams.specs.declared.datagrams.Unread.TheVariants as unread
 use Rattle.capture_datagrams.specs.declared.shown.Printout.{Printout}
@@ -81,7 +81,7 @@ pub record RefusesUsers (config : List ℕ) (s : Streams)
   pub tells : Keeps s.untold s.told
 
 -- The line of a refused configuration is written, with status 1, or else the datagrams as its users open them.
-abbrev pub OpensFile : Bool → List ℕ → Asked → List ℕ → Streams → ℕ → Type 0
+abbrev pub OpensFile : Bool → List ℕ → ReadOptions → List ℕ → Streams → ℕ → Type 0
 OpensFile names config a name s status =
     ((status ≡ 1) × RefusesUsers config s Appends)
     ⊎ ((users : List User) × LoadsUsers config users × TellsFile (PrintsOpened names users) a name s status)
@@ -92,19 +92,19 @@ StopsBefore config s unread.CannotRead = ⊥
 StopsBefore config s unread.CannotWrite = RefusesUsers config s WritesFront
 StopsBefore config s unread.OutOfMemory = (s.left ≡ s.unread) × Keeps s.held s.written × Keeps s.untold s.told
 
-abbrev pub StopsOpening : Bool → List ℕ → Asked → List ℕ → Streams → Unread → Type 0
+abbrev pub StopsOpening : Bool → List ℕ → ReadOptions → List ℕ → Streams → Unread → Type 0
 StopsOpening names config a name s f =
     StopsBefore config s f
     ⊎ ((users : List User) × LoadsUsers config users × StopsFile (PrintsOpened names users) a name s f)
 
 -- ---- each printout
 
-abbrev pub TellsPrintout : Printout → Asked → List ℕ → Streams → ℕ → Type 0
+abbrev pub TellsPrintout : Printout → ReadOptions → List ℕ → Streams → ℕ → Type 0
 TellsPrintout printout.Log a name s status = TellsFile PrintsLine a name s status
 TellsPrintout (printout.Shown names) a name s status = TellsFile (PrintsShown names) a name s status
 TellsPrintout (printout.Opened config names) a name s status = OpensFile names config.now a name s status
 
-abbrev pub StopsPrintout : Printout → Asked → List ℕ → Streams → Unread → Type 0
+abbrev pub StopsPrintout : Printout → ReadOptions → List ℕ → Streams → Unread → Type 0
 StopsPrintout printout.Log a name s f = StopsFile PrintsLine a name s f
 StopsPrintout (printout.Shown names) a name s f = StopsFile (PrintsShown names) a name s f
 StopsPrintout (printout.Opened config names) a name s f = StopsOpening names config.now a name s f

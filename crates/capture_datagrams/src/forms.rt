@@ -54,7 +54,7 @@ pub fn may_be_dumps(form: Option<Form>) -> bool
 
 /// What is asked of a file with datagrams.
 #[derive(Clone, Copy)]
-pub struct Asked<'a> {
+pub struct ReadOptions<'a> {
     /// The form of the file, or `None` where its octets tell.
     pub form: Option<Form>,
     /// The moment of what has none, in seconds.
@@ -75,7 +75,7 @@ fn is_capture(form: Option<Form>, front: &[u8]) -> bool
 }
 
 /// How a text is read.
-fn text_form(asked: Asked<'_>) -> TextForm<'_>
+fn text_form(asked: ReadOptions<'_>) -> TextForm<'_>
     ensures { result ≡ text_form asked.entry }
 {
     match asked.form {
@@ -93,7 +93,7 @@ fn text_form(asked: Asked<'_>) -> TextForm<'_>
 /// The errors are CannotRead, CannotWrite and OutOfMemory.
 pub fn datagrams_of<R: Read, L: Write, N: Write>(
     alloc: Global,
-    asked: Asked<'_>,
+    asked: ReadOptions<'_>,
     name: &str,
     reader: &mut R,
     log: &mut L,
@@ -113,7 +113,7 @@ pub fn datagrams_of<R: Read, L: Write, N: Write>(
 /// that tells a refusal.
 pub fn print_datagrams<P: Printer, R: Read, L: Write, N: Write>(
     alloc: Global,
-    asked: Asked<'_>,
+    asked: ReadOptions<'_>,
     name: &str,
     printer: &mut P,
     reader: &mut R,

@@ -2,9 +2,9 @@
 //! `show` or `open` prints of it.
 //!
 //! ```
-//! use capture_datagrams::forms::{Asked, datagrams_of};
+//! use capture_datagrams::forms::{ReadOptions, datagrams_of};
 //!
-//! let asked = Asked {
+//! let asked = ReadOptions {
 //!     form: None,
 //!     moment: 1_700_000_000,
 //!     ports: &[161, 162],

@@ -10,12 +10,12 @@ ghost use Rattle.capture_datagrams.specs.declared.shown.NoUsers.TheVariants as n
 ghost use Rattle.snmpsec_output.specs.Questions.{Printed as PrintedIs};
 
 use crate::datagrams::Unread;
-use crate::forms::{Asked, print_datagrams};
+use crate::forms::{ReadOptions, print_datagrams};
 use capture_files::{Lines, Printed, Printer};
 use snmpsec_config::Config;
 use snmpsec_io::write_whole;
 use snmpsec_notes::with_names;
-use snmpsec_output::{Output, opened, shown};
+use snmpsec_output::{Output, open_datagram, show_datagram};
 use std::alloc::{AllocError, Global};
 use std::io::{Read, Write};
 use thiserror::Error;
@@ -45,7 +45,12 @@ fn head_line(alloc: Global, number: u64, moment: u64) -> Result<String, AllocErr
 }
 
 /// The text, with names behind its lines where these are asked for and it tells no refusal.
-fn named(alloc: Global, names: bool, refused: bool, text: Vec<u8>) -> Result<Vec<u8>, AllocError>
+fn add_names(
+    alloc: Global,
+    names: bool,
+    refused: bool,
+    text: Vec<u8>,
+) -> Result<Vec<u8>, AllocError>
     ensures { IfOk result (λ told. IsNamed names refused text.items told.items) }
 {
     if names && !refused {
@@ -71,7 +76,7 @@ fn behind_head(
         IfOk result (λ printed. StandsBehind names number moment told printed.text.items printed.refused) }
 {
     let refused = output.status != 0;
-    let told = named(alloc, names, refused, output.out)?;
+    let told = add_names(alloc, names, refused, output.out)?;
     let mut text = head_line(alloc, number, moment)?.into_bytes();
     text.extend_from_slice(&told)?;
     Ok(Printed { text, refused })
@@ -87,7 +92,7 @@ impl Printer for Shows {
         moment: u64,
         datagram: &[u8],
     ) -> Result<Printed, AllocError> {
-        let output = shown(alloc, datagram)?;
+        let output = show_datagram(alloc, datagram)?;
         behind_head(alloc, self.names, number, moment, output)
     }
 }
@@ -102,7 +107,7 @@ impl Printer for Opens {
         moment: u64,
         datagram: &[u8],
     ) -> Result<Printed, AllocError> {
-        let output = opened(alloc, &mut self.users, datagram)?;
+        let output = open_datagram(alloc, &mut self.users, datagram)?;
         behind_head(alloc, self.names, number, moment, output)
     }
 }
@@ -145,7 +150,7 @@ fn users_of(alloc: Global, config: &[u8]) -> Result<Users, NoUsers>
     match Config::read(alloc, config) {
         Ok(config) => Ok(config.users),
         Err(fault) if fault.is_memory() => Err(NoUsers::OutOfMemory),
-        Err(fault) => Err(NoUsers::Refused(Output::refused(alloc, &fault)?.out)),
+        Err(fault) => Err(NoUsers::Refused(Output::refusal(alloc, &fault)?.out)),
     }
 }
 
@@ -158,7 +163,7 @@ fn open_datagrams<R: Read, L: Write, N: Write>(
     alloc: Global,
     config: &[u8],
     names: bool,
-    asked: Asked<'_>,
+    asked: ReadOptions<'_>,
     name: &str,
     reader: &mut R,
     log: &mut L,
@@ -191,7 +196,7 @@ fn open_datagrams<R: Read, L: Write, N: Write>(
 pub fn write_printout<R: Read, L: Write, N: Write>(
     alloc: Global,
     printout: Printout<'_>,
-    asked: Asked<'_>,
+    asked: ReadOptions<'_>,
     name: &str,
     reader: &mut R,
     log: &mut L,

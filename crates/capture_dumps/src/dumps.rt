@@ -61,7 +61,7 @@ struct Reading {
 
 impl Reading {
     /// All dumps, where none goes on.
-    fn closed(self) -> Result<Vec<Vec<u8>>, AllocError>
+    fn into_dumps(self) -> Result<Vec<Vec<u8>>, AllocError>
         ensures { IfOk result (λ dumps. map (λ octets. octets.items) dumps.items ≡ ended self ++ as_list self.going) }
     {
         let Reading { mut dumps, going } = self;
@@ -72,11 +72,11 @@ impl Reading {
     }
 
     /// What goes on is this, and the dump before has ended.
-    fn begun(self, going: Option<Dump>) -> Result<Reading, AllocError>
+    fn begin_dump(self, going: Option<Dump>) -> Result<Reading, AllocError>
         ensures { IfOk result
             (λ reading. (ended reading ≡ ended self ++ as_list self.going) × (reading.going ≡ going)) }
     {
-        let dumps = self.closed()?;
+        let dumps = self.into_dumps()?;
         Ok(Reading { dumps, going })
     }
 
@@ -110,7 +110,7 @@ impl Reading {
     {
         let octets = Vec::from_slice(alloc, octets)?;
         let bases = Bases::all();
-        self.begun(Some(Dump { octets, bases }))
+        self.begin_dump(Some(Dump { octets, bases }))
     }
 
     /// What is read behind a line with other words behind its offset, where `place` lines stand before it.
@@ -132,7 +132,7 @@ impl Reading {
         ensures err { IfErr result (StopsAfter place self (kind line.now)) }
     {
         match line {
-            Line::Other => Ok(self.begun(None)?),
+            Line::Other => Ok(self.begin_dump(None)?),
             Line::Begin { octets } => Ok(self.beginning(alloc, octets.as_slice())?),
             Line::More { digits, octets } => self.longer(place, digits, octets.as_slice()),
             Line::Words => self.behind_words(place),
@@ -154,7 +154,7 @@ fn dumps_in(alloc: Global, lines: &[Line<'_>]) -> Result<Vec<Vec<u8>>, DumpFault
     for (place, line) in lines.iter().enumerate() {
         reading = reading.behind(alloc, place, line)?;
     }
-    Ok(reading.closed()?)
+    Ok(reading.into_dumps()?)
 }
 
 /// The dumps of a text, one at least, each by its octets, in their order.

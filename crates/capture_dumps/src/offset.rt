@@ -61,7 +61,7 @@ fn digits_of(text: &[u8]) -> Option<Offset<'_>>
 }
 
 /// The same, perhaps behind `0x` or `0X`.
-fn prefixed(text: &[u8]) -> Option<Offset<'_>>
+fn read_prefixed(text: &[u8]) -> Option<Offset<'_>>
     ensures { MatchOption result (spec.prefixed text.now ≡ None)
         (λ offset. spec.prefixed text.now ≡ Some (told offset)) }
 {
@@ -76,7 +76,7 @@ pub(crate) fn offset_of(text: &[u8]) -> Option<Offset<'_>>
         (λ offset. spec.offset_of text.now ≡ Some (told offset)) }
 {
     let (_, text) = text.split_at(blanks(text));
-    prefixed(text)
+    read_prefixed(text)
 }
 
 /// The digits are zeros.

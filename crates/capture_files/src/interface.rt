@@ -37,7 +37,7 @@ impl Interface {
             Some(units) => time / units,
             None => 0,
         };
-        moved(seconds, self.offset)
+        add_offset(seconds, self.offset)
     }
 }
 
@@ -53,7 +53,7 @@ fn units(resolution: u8) -> Option<u64>
 }
 
 /// The seconds with an offset, which is below 0 from 2^63 on.
-fn moved(seconds: u64, offset: u64) -> Option<u64>
+fn add_offset(seconds: u64, offset: u64) -> Option<u64>
     ensures { IsMoved seconds offset result }
 {
     if offset < 9_223_372_036_854_775_808 {

@@ -68,16 +68,16 @@ fn unframe(link: u32, packet: &[u8]) -> Network<'_>
     ensures { IsNetwork link packet.now result }
 {
     match link {
-        1 => framed(packet, 12, 14),
+        1 => after_header(packet, 12, 14),
         101 => raw(packet),
-        113 => framed(packet, 14, 16),
-        276 => framed(packet, 0, 20),
+        113 => after_header(packet, 14, 16),
+        276 => after_header(packet, 0, 20),
         _ => Network::OtherLink,
     }
 }
 
 /// What stands behind a header of so many octets, whose type is at a place.
-fn framed(packet: &[u8], place: usize, head: usize) -> Network<'_>
+fn after_header(packet: &[u8], place: usize, head: usize) -> Network<'_>
     requires { place + 2 ≤ head }
     ensures { IsFramed packet.now place head result }
 {

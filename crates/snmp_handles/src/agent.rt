@@ -81,7 +81,7 @@ fn own_engine(octets: &[u8]) -> Option<EngineId>
 }
 
 /// Whether the sender of what was kept may see this variable.
-fn allowed(agent: &Agent, kept: &Kept, view: ViewType, variable: &Oid) -> Access
+fn access_of_sender(agent: &Agent, kept: &Kept, view: ViewType, variable: &Oid) -> Access
     ensures { (c : Contexts) → ScopedFront kept.now.text c
         → Allowed agent.now.tables (question_of kept.now c) view variable.now result }
 {
@@ -241,7 +241,7 @@ impl AgentHandle {
             return Err(CallFault::BadArgument);
         };
         match &self.last {
-            Some(kept) => Ok(allowed(&self.agent, kept, view, &variable)),
+            Some(kept) => Ok(access_of_sender(&self.agent, kept, view, &variable)),
             None => Err(CallFault::NothingTaken),
         }
     }

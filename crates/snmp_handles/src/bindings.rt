@@ -7,7 +7,7 @@ ghost use Rattle.snmp_msg.specs.Variables.{Variable, AreBindings, bound_variable
 ghost use Rattle.snmp_handles.specs.Bindings.{RefusesBindings, ReadsAt, WritesBinding};
 
 use crate::fault::CallFault;
-use crate::parts::copied;
+use crate::parts::copy_to;
 use snmp_ber::{ObjectName, Oid, one_element, put_oid, put_tlv, read_oid, read_tlv};
 use snmp_incoming::TakeFault;
 use snmp_msg::{LARGEST, VariableBinding, read_binding, whole_slice};
@@ -143,7 +143,7 @@ pub fn write_binding(
         return Err(CallFault::BadArgument);
     }
     match binding_text(alloc, &name, tag as u8, content) {
-        Ok(text) => copied(&text, out, written),
+        Ok(text) => copy_to(&text, out, written),
         Err(_) => Err(CallFault::Refused(TakeFault::OutOfMemory)),
     }
 }

@@ -6,7 +6,7 @@ ghost use Rattle.snmp_handles.specs.Configurations.{table_number as table_by, ke
 ghost use Rattle.snmp_handles.specs.Configurations.{wrong_number as wrong_by};
 
 use crate::fault::CallFault;
-use crate::parts::copied;
+use crate::parts::copy_to;
 use snmp_incoming::TakeFault;
 use snmpsec_config::{AccessConfig, ConfigFault, ConfigKey, ConfigTable, KeyFault, LoadFault};
 use std::alloc::{AllocError, Global};
@@ -50,16 +50,16 @@ pub fn tell_config(
     if fault.is_memory() {
         return Err(CallFault::Refused(TakeFault::OutOfMemory));
     }
-    let Ok(text) = told(alloc, &fault) else {
+    let Ok(text) = fault_text(alloc, &fault) else {
         return Err(CallFault::Refused(TakeFault::OutOfMemory));
     };
     numbers[..NUMBERS].copy_from_slice(&numbers_of(&fault));
-    copied(&text, out, written)?;
+    copy_to(&text, out, written)?;
     Err(CallFault::BadConfiguration)
 }
 
 /// The two lines that tell a fault.
-fn told(alloc: Global, fault: &ConfigFault) -> Result<Vec<u8>, AllocError>
+fn fault_text(alloc: Global, fault: &ConfigFault) -> Result<Vec<u8>, AllocError>
     ensures { IfOk result (λ text. IsTold fault.now text.items) }
 {
     let why = fault.why(alloc)?;

@@ -45,7 +45,7 @@ impl Part {
 
 /// Copies the octets to the front of the buffer, and tells how many they are. The error is ShortBuffer, which
 /// leaves the buffer as it was.
-pub(crate) fn copied(octets: &[u8], out: &mut [u8], written: &mut usize) -> Result<(), CallFault>
+pub(crate) fn copy_to(octets: &[u8], out: &mut [u8], written: &mut usize) -> Result<(), CallFault>
     ensures { Copies octets.now out.old out.new written.new result }
 {
     *written = octets.len();
@@ -64,11 +64,11 @@ fn copied_of(kept: &Kept, part: Part, out: &mut [u8], written: &mut usize) -> Re
     let taken = kept.taken();
     let scoped = taken.scoped();
     match part {
-        Part::Bindings => copied(taken.pdu().list, out, written),
-        Part::User => copied(taken.user, out, written),
-        Part::ContextEngine => copied(scoped.engine, out, written),
-        Part::ContextName => copied(scoped.name, out, written),
-        Part::Engine => copied(taken.engine.as_slice(), out, written),
+        Part::Bindings => copy_to(taken.pdu().list, out, written),
+        Part::User => copy_to(taken.user, out, written),
+        Part::ContextEngine => copy_to(scoped.engine, out, written),
+        Part::ContextName => copy_to(scoped.name, out, written),
+        Part::Engine => copy_to(taken.engine.as_slice(), out, written),
     }
 }
 
@@ -98,7 +98,7 @@ pub fn copied_message(
     ensures { CopiesMessage (option_map (λ v. v.items) message.now) out.old out.new written.new result }
 {
     match message {
-        Some(text) => copied(text, out, written),
+        Some(text) => copy_to(text, out, written),
         None => Err(CallFault::NothingTaken),
     }
 }

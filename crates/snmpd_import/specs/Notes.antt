@@ -14,8 +14,8 @@ use Rattle.snmpd_lines.specs.declared.types.Types.{Types}
 use Rattle.snmpd_rows.specs.declared.simple.Who.{Who}
 use Rattle.snmpd_rows.specs.declared.simple.Who.TheVariants as whom
 use Rattle.snmpd_rows.specs.declared.simple.Simple.{Simple}
-use Rattle.snmpd_lines.specs.declared.users.UserFault.{UserFault}
-use Rattle.snmpd_lines.specs.declared.users.UserFault.TheVariants as user_faults
+use Rattle.snmpd_lines.specs.declared.users.CreateUserFault.{CreateUserFault}
+use Rattle.snmpd_lines.specs.declared.users.CreateUserFault.TheVariants as user_faults
 use Rattle.snmpd_lines.specs.declared.users.Created.{Created}
 use Rattle.usm_users.specs.Rows.{is_bad_name}
 use Rattle.snmpd_tables.specs.declared.rows.Place.{Place}
@@ -42,7 +42,7 @@ fault_kind faults.OutOfReach = Ignored
 fault_kind faults.OutOfMemory = LeftOut
 
 -- snmpd 5.9.3 ends where a passphrase is missing
-abbrev pub user_fault_kind : UserFault → Kind
+abbrev pub user_fault_kind : CreateUserFault → Kind
 user_fault_kind user_faults.MissingPassphrase = Undefined
 user_fault_kind user_faults.OneEngine = LeftOut
 user_fault_kind user_faults.OutOfMemory = LeftOut

@@ -17,7 +17,7 @@ use Rattle.snmpd_tables.specs.declared.rows.Place.{Place}
 use Rattle.snmpd_tables.specs.declared.rows.HeldGroup.{HeldGroup}
 use Rattle.snmpd_tables.specs.declared.rows.HeldAccess.{HeldAccess}
 use Rattle.snmpd_tables.specs.declared.rows.HeldFamily.{HeldFamily}
-use Rattle.snmpd_import.specs.declared.rows.Kept.{Kept}
+use Rattle.snmpd_import.specs.declared.rows.KeptRows.{KeptRows}
 use Rattle.snmpd_import.specs.declared.notes.Kind.{Kind}
 use Rattle.snmpd_import.specs.Notes.{tells as tells_of, change_told, difference_told}
 use Rattle.snmpd_import.specs.Users.{said_with_place, AreUsers, AreUsersOf}
@@ -32,26 +32,26 @@ pub record AreRowsOf {H R : Type 0} (row_of : H → R) (kept : List H) (rows : L
   pub each : (k : ℕ) (h : H) (r : R) → k < length kept → get_or rows k r ≡ row_of (get_or kept k h)
 
 -- the tables are the rows of what is kept
-pub record AreTablesOf (kept : Kept) (rows : Tables) : Type 0 where
+pub record AreTablesOf (kept : KeptRows) (rows : Tables) : Type 0 where
   pub contexts : AreRowsOf (λ (row : ContextRow). row) kept.contexts.items rows.contexts
   pub groups : AreRowsOf (λ (held : HeldGroup). held.row) kept.groups.items rows.groups
   pub access : AreRowsOf (λ (held : HeldAccess). held.row) kept.access.items rows.access
   pub families : AreRowsOf (λ (held : HeldFamily). held.row) kept.families.items rows.families
 
 -- The text is a configuration, and stands for exactly these users and rows.
-abbrev pub Prints : Kept → List ℕ → Type 0
+abbrev pub Prints : KeptRows → List ℕ → Type 0
 Prints kept text = (users : List UserRow) × (rows : Tables) × SaysSound text users rows
     × AreUsersOf kept.users.items users × AreTablesOf kept rows
 
 -- The lines come to these users, and of what snmpd holds after them these rows count.
-pub record AreKept (lines : List Item) (held : HeldTables) (kept : Kept) : Type 0 where
+pub record AreKept (lines : List Item) (held : HeldTables) (kept : KeptRows) : Type 0 where
   pub users : AreUsers lines (map said_with_place kept.users.items)
   pub groups : AreGroupsKept held.groups kept.groups.items
   pub access : AreAccessKept held.access kept.access.items
   pub families : AreFamiliesKept kept.access.items held.families kept.families.items
 
 -- the contexts and groups of what is kept, and the access rows that snmpd holds and those that are kept
-abbrev pub compared : HeldTables → Kept → Sides
+abbrev pub compared : HeldTables → KeptRows → Sides
 compared held kept = record {
   contexts = kept.contexts.items;
   groups = kept.groups.items;
@@ -62,7 +62,7 @@ compared held kept = record {
 -- What is told, in this order: of each of the lines that makes no row; of each that changed a row of another
 -- index than its own; of rows beside which others count; and of each row that snmpd chooses for messages for
 -- which RFC 3415 comes to other views, over the rows that are kept.
-pub record TellsAll (lines : List Item) (held : HeldTables) (kept : Kept) (told : List (Place × Kind)) : Type 0 where
+pub record TellsAll (lines : List Item) (held : HeldTables) (kept : KeptRows) (told : List (Place × Kind)) : Type 0 where
   pub second : List (Place × Kind)
   pub seconds : TellsSeconds lines held kept second
   pub differences : List Difference
@@ -76,7 +76,7 @@ pub record ComesTo (items : List Item) (contexts : List ContextRow) (text : List
     (told : List (Place × Kind)) : Type 0 where
   pub meant : List Item
   pub held : HeldTables
-  pub kept : Kept
+  pub kept : KeptRows
   pub are_meant : AreMeant items meant
   pub holds : HoldsAfter at_start meant held
   pub are_kept : AreKept meant held kept

@@ -24,7 +24,7 @@ use Rattle.snmpd_tables.specs.declared.rows.HeldAccess.{HeldAccess}
 use Rattle.snmpd_tables.specs.declared.rows.HeldFamily.{HeldFamily}
 use Rattle.snmpd_import.specs.declared.notes.Kind.{Kind}
 use Rattle.snmpd_import.specs.declared.notes.Kind.TheVariants.{Ignored, Differs}
-use Rattle.snmpd_import.specs.declared.rows.Kept.{Kept}
+use Rattle.snmpd_import.specs.declared.rows.KeptRows.{KeptRows}
 use Rattle.snmpd_import.specs.declared.second.Second.{Second}
 use Rattle.snmpd_import.specs.Notes.{tells_kind}
 use Rattle.snmpd_import.specs.Users.{created_in, MakeUser}
@@ -117,7 +117,7 @@ AreTold IsOf place_of (row ∷ rows) told =
 
 -- The second rows of what snmpd holds after the lines have these notes: first those of users, in the order of
 -- their lines, then of groups, access rows and views, each in snmpd's order.
-pub record TellsSeconds (lines : List Item) (held : HeldTables) (kept : Kept)
+pub record TellsSeconds (lines : List Item) (held : HeldTables) (kept : KeptRows)
     (told : List (Place × Kind)) : Type 0 where
   pub users : List (Place × Kind)
   pub groups : List (Place × Kind)

@@ -1,6 +1,6 @@
 //! Rows as tables of TOML. Before each stands a comment with its place.
 
-use crate::rows::Kept;
+use crate::rows::KeptRows;
 use crate::texts::put_shown;
 use crate::users::HeldUser;
 use snmpd_tables::{HeldAccess, HeldFamily, HeldGroup, Place};
@@ -176,7 +176,11 @@ fn put_family(
 }
 
 /// The rows as a configuration's text.
-pub(crate) fn text_of(alloc: Global, files: &[String], kept: &Kept) -> Result<Vec<u8>, AllocError> {
+pub(crate) fn text_of(
+    alloc: Global,
+    files: &[String],
+    kept: &KeptRows,
+) -> Result<Vec<u8>, AllocError> {
     let mut out = Vec::new(alloc);
     for held in &kept.users {
         put_user(alloc, &mut out, files, held)?;

@@ -229,7 +229,7 @@ fn follow_once<R: Files + AllocGlobal>(rt: &R, sources: Sources) -> Result<Sourc
 }
 
 /// What a line comes to that names files which aren't read.
-fn left(made: Made, followed: Followed) -> Made
+fn without_files(made: Made, followed: Followed) -> Made
     ensures left { NamesNone result }
 {
     match made {
@@ -252,7 +252,7 @@ fn leave(alloc: Global, sources: Sources, followed: Followed) -> Result<Sources,
         told.push(Item {
             place,
             word,
-            made: left(made, followed),
+            made: without_files(made, followed),
         })?;
     }
     Ok(Sources { names, items: told })

@@ -7,7 +7,7 @@ ghost use Rattle.snmpd_import.specs.Notes as spec;
 ghost use Rattle.snmpd_import.specs.Notes.{told_of, tells};
 
 use crate::users::{is_bad_name, is_defaulted, lacks_auth, lacks_privacy};
-use snmpd_lines::{Created, Directive, LineFault, Types, UserFault};
+use snmpd_lines::{CreateUserFault, Created, Directive, LineFault, Types};
 use snmpd_rows::{Entry, Note, Simple, Who};
 use snmpd_tables::{Difference, Followed, Include, Item, Made, Place};
 use std::alloc::{AllocError, Global};
@@ -63,7 +63,7 @@ pub enum Why {
     /// This is wrong with the line.
     Fault(LineFault),
     /// This is wrong with a line `createUser`.
-    NoUser(UserFault),
+    NoUser(CreateUserFault),
     /// The row from there has the same index.
     Same(Place),
     /// The line changed the row from there, which has another index than the line names.
@@ -95,17 +95,17 @@ fn fault_kind(fault: LineFault) -> Kind
 }
 
 /// The kind of a note on such a fault of a line `createUser`.
-fn user_fault_kind(fault: UserFault) -> Kind
+fn user_fault_kind(fault: CreateUserFault) -> Kind
     ensures { result ≡ spec.user_fault_kind fault }
 {
     match fault {
-        UserFault::MissingPassphrase => Kind::Undefined,
-        UserFault::OneEngine | UserFault::OutOfMemory => Kind::LeftOut,
-        UserFault::UnknownHash
-        | UserFault::NoAuthKey
-        | UserFault::UnknownCipher
-        | UserFault::NoPrivKey
-        | UserFault::ShortKey => Kind::Refused,
+        CreateUserFault::MissingPassphrase => Kind::Undefined,
+        CreateUserFault::OneEngine | CreateUserFault::OutOfMemory => Kind::LeftOut,
+        CreateUserFault::UnknownHash
+        | CreateUserFault::NoAuthKey
+        | CreateUserFault::UnknownCipher
+        | CreateUserFault::NoPrivKey
+        | CreateUserFault::ShortKey => Kind::Refused,
     }
 }
 

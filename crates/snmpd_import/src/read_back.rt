@@ -6,7 +6,7 @@ ghost use Rattle.snmpd_import.specs.Rows.{AreTablesOf, Prints};
 ghost use Rattle.snmpd_import.specs.Users.{said_of, said_in};
 
 use crate::blocks::text_of;
-use crate::rows::Kept;
+use crate::rows::KeptRows;
 use crate::users::HeldUser;
 use snmpd_tables::{HeldAccess, HeldFamily, HeldGroup};
 use snmpsec_config::AccessConfig;
@@ -134,7 +134,7 @@ fn are_read<W: Written>(rows: &[W::Read], kept: &[W]) -> bool
 }
 
 /// The rows are those that are kept.
-fn are_kept(rows: &Rows, kept: &Kept) -> bool
+fn are_kept(rows: &Rows, kept: &KeptRows) -> bool
     ensures { IsTrue result → AreTablesOf kept.now (tables_of rows.now) }
 {
     are_read(&rows.contexts, &kept.contexts)
@@ -144,7 +144,7 @@ fn are_kept(rows: &Rows, kept: &Kept) -> bool
 }
 
 /// Reads the text, and sees that it stands for these rows.
-fn check(alloc: Global, text: &[u8], kept: &Kept) -> Result<(), TextFault>
+fn check(alloc: Global, text: &[u8], kept: &KeptRows) -> Result<(), TextFault>
     ensures { OnOk result (Prints kept.now text.now) }
 {
     let rows = match AccessConfig::read(alloc, text) {
@@ -163,7 +163,7 @@ fn check(alloc: Global, text: &[u8], kept: &Kept) -> Result<(), TextFault>
 /// is accepted, and stands for exactly these.
 ///
 /// The fault is want of memory, or `NotReadBack` where the text doesn't do so: then there is none.
-pub fn configuration(alloc: Global, files: &[String], kept: &Kept) -> Result<Vec<u8>, TextFault>
+pub fn configuration(alloc: Global, files: &[String], kept: &KeptRows) -> Result<Vec<u8>, TextFault>
     ensures { IfOk result (λ text. Prints kept.now text.items) }
 {
     let text = text_of(alloc, files, kept)?;

@@ -14,7 +14,7 @@ use vacm_core::ContextRow;
 
 /// The rows of a configuration, those of lines with their places.
 #[derive(Drop)]
-pub struct Kept {
+pub struct KeptRows {
     pub users: Vec<HeldUser>,
     pub contexts: Vec<ContextRow>,
     pub groups: Vec<HeldGroup>,
@@ -30,14 +30,14 @@ pub fn kept_of(
     lines: &[Item],
     lists: &Lists,
     contexts: Vec<ContextRow>,
-) -> Result<Kept, AllocError>
+) -> Result<KeptRows, AllocError>
     ensures contexts { IfOk result (λ kept. kept.contexts.items ≡ contexts.items) }
     ensures kept { IfOk result (AreKept lines.now (tables_of lists.now)) }
     ensures one_each { IfOk result (λ kept. HasOneEach kept.access.items) }
 {
     let access = access_kept(alloc, &lists.access)?;
     let users = users_of(alloc, lines)?;
-    Ok(Kept {
+    Ok(KeptRows {
         users,
         contexts,
         groups: groups_kept(alloc, &lists.groups)?,

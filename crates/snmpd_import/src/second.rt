@@ -11,7 +11,7 @@ ghost use Rattle.snmpd_import.specs.Seconds.{IsSecondFamily, Covers, IsFamilyKin
 ghost use Rattle.snmpd_import.specs.Seconds.{place_of_group, place_of_access, place_of_family};
 
 use crate::notes::{Kind, Told, Why};
-use crate::rows::Kept;
+use crate::rows::KeptRows;
 use crate::users::{created_in, user_at};
 use snmpd_tables::{HeldAccess, HeldFamily, HeldGroup, Item, Lists, Place, find};
 use std::alloc::{AllocError, Global};
@@ -229,7 +229,7 @@ pub fn second_notes(
     alloc: Global,
     lines: &[Item],
     lists: &Lists,
-    kept: &Kept,
+    kept: &KeptRows,
 ) -> Result<Vec<Told>, AllocError>
     ensures { IfOk result (λ notes. TellsSeconds lines.now (tables_of lists.now) kept.now (map told_of notes.items)) }
 {

@@ -7,7 +7,7 @@ use Rattle.std.specs.List.{AllByRecursion}
 use Rattle.snmpd_lines.specs.Words.{IsBehindBlanks, IsCut, TakesPart}
 use Rattle.snmpd_lines.specs.Subtrees.{IsDigit, AreDigits, number, IsX}
 use Rattle.snmpd_lines.specs.declared.words.Separator.TheVariants.{AtMark}
-use Rattle.snmpd_lines.specs.declared.fault.Refusal.TheVariants as refusals
+use Rattle.snmpd_lines.specs.declared.fault.LineRefusal.TheVariants as refusals
 use Rattle.snmpd_lines.specs.declared.fault.LineFault.{LineFault}
 use Rattle.snmpd_lines.specs.declared.fault.LineFault.TheVariants.{Refused}
 

@@ -13,10 +13,10 @@ use Rattle.snmpd_lines.specs.declared.protocols.Hash.{Hash}
 use Rattle.snmpd_lines.specs.declared.protocols.Hash.TheVariants.{NoAuth, Md5}
 use Rattle.snmpd_lines.specs.declared.protocols.Cipher.{Cipher}
 use Rattle.snmpd_lines.specs.declared.protocols.Cipher.TheVariants.{Des}
-use Rattle.snmpd_lines.specs.declared.users.UserFault.{UserFault}
-use Rattle.snmpd_lines.specs.declared.users.UserFault.TheVariants.{MissingPassphrase, UnknownHash, NoAuthKey}
-use Rattle.snmpd_lines.specs.declared.users.UserFault.TheVariants.{UnknownCipher, NoPrivKey, ShortKey, OneEngine}
-use Rattle.snmpd_lines.specs.declared.users.UserFault.TheVariants.{OutOfMemory}
+use Rattle.snmpd_lines.specs.declared.users.CreateUserFault.{CreateUserFault}
+use Rattle.snmpd_lines.specs.declared.users.CreateUserFault.TheVariants.{MissingPassphrase, UnknownHash, NoAuthKey}
+use Rattle.snmpd_lines.specs.declared.users.CreateUserFault.TheVariants.{UnknownCipher, NoPrivKey, ShortKey, OneEngine}
+use Rattle.snmpd_lines.specs.declared.users.CreateUserFault.TheVariants.{OutOfMemory}
 use Rattle.snmpd_lines.specs.declared.users.Secret.{Secret}
 use Rattle.snmpd_lines.specs.declared.users.Secret.TheVariants.{Passphrase, Key}
 use Rattle.snmpd_lines.specs.declared.users.Authentication.{Authentication}
@@ -140,28 +140,28 @@ SaysUser text created =
 
 -- ---- why a line makes none
 
-abbrev pub TellsNoHash : List ℕ → UserFault → Type 0
+abbrev pub TellsNoHash : List ℕ → CreateUserFault → Type 0
 TellsNoHash text MissingPassphrase = EndsBehindWord 1023 text
 TellsNoHash text UnknownHash = (word : List ℕ) × (rest : List ℕ) × TakesWord 1023 text word (Some rest)
     × TakesHash word rest None
 TellsNoHash text OutOfMemory = ⊤
 TellsNoHash text _ = ⊥
 
-abbrev pub TellsNoAuthentication : List ℕ → UserFault → Type 0
+abbrev pub TellsNoAuthentication : List ℕ → CreateUserFault → Type 0
 TellsNoAuthentication text NoAuthKey =
     (hash : Hash) × (behind : List ℕ) × (secret : Secret) × (later : Option (List ℕ)) × HasHash text hash behind
     × TakesSecret behind secret later
     × MakesNoKey hash secret
 TellsNoAuthentication text fault = TellsNoHash text fault
 
-abbrev pub TellsNoOwnSecret : Authentication → Cipher → Option (List ℕ) → UserFault → Type 0
+abbrev pub TellsNoOwnSecret : Authentication → Cipher → Option (List ℕ) → CreateUserFault → Type 0
 TellsNoOwnSecret authentication cipher None ShortKey = hash_octets authentication.hash < cipher_octets cipher
 TellsNoOwnSecret authentication cipher (Some text) NoPrivKey = (secret : Secret) × (later : Option (List ℕ))
     × TakesSecret text secret later × IsShort secret
 TellsNoOwnSecret authentication cipher text OutOfMemory = ⊤
 TellsNoOwnSecret authentication cipher text _ = ⊥
 
-abbrev pub TellsNoPrivacy : Authentication → List ℕ → UserFault → Type 0
+abbrev pub TellsNoPrivacy : Authentication → List ℕ → CreateUserFault → Type 0
 TellsNoPrivacy authentication text UnknownCipher =
     (word : List ℕ) × (behind : Option (List ℕ)) × TakesWord 1023 text word behind × TakesCipher word None
 TellsNoPrivacy authentication text OutOfMemory = ⊤
@@ -171,23 +171,23 @@ TellsNoPrivacy authentication text fault =
     × TellsNoOwnSecret authentication cipher behind fault
 
 -- the words for authentication are sound, and behind them this is wrong
-abbrev pub TellsBehind : List ℕ → UserFault → Type 0
+abbrev pub TellsBehind : List ℕ → CreateUserFault → Type 0
 TellsBehind text fault =
     (authentication : Authentication) × (later : List ℕ) × HasAuthentication text authentication (Some later)
     × TellsNoPrivacy authentication later fault
 
-abbrev pub TellsNoProtectionIn : List ℕ → UserFault → Type 0
+abbrev pub TellsNoProtectionIn : List ℕ → CreateUserFault → Type 0
 TellsNoProtectionIn text UnknownCipher = TellsBehind text UnknownCipher
 TellsNoProtectionIn text NoPrivKey = TellsBehind text NoPrivKey
 TellsNoProtectionIn text ShortKey = TellsBehind text ShortKey
 TellsNoProtectionIn text fault = TellsNoAuthentication text fault
 
-abbrev pub TellsNoProtection : Option (List ℕ) → UserFault → Type 0
+abbrev pub TellsNoProtection : Option (List ℕ) → CreateUserFault → Type 0
 TellsNoProtection None fault = ⊥
 TellsNoProtection (Some text) fault = TellsNoProtectionIn text fault
 
 -- Why the line makes no user: the first cause.
-abbrev pub TellsNoUser : List ℕ → UserFault → Type 0
+abbrev pub TellsNoUser : List ℕ → CreateUserFault → Type 0
 TellsNoUser text OutOfMemory = ⊤
 TellsNoUser text OneEngine =
     (name : List ℕ) × (later : Option (List ℕ)) × (protection : Protection) × HasUserName text true name later

@@ -8,7 +8,7 @@ use thiserror::Error;
 
 /// What snmpd tells of a line that it refuses.
 #[derive(Clone, Copy, Debug, PartialEq, Eq, Drop, Error)]
-pub enum Refusal {
+pub enum LineRefusal {
     #[error("missing a word")]
     MissingWord,
     #[error("bad security model")]
@@ -39,7 +39,7 @@ pub enum Refusal {
 pub enum LineFault {
     /// snmpd tells this and goes on.
     #[error("{0}")]
-    Refused(Refusal),
+    Refused(LineRefusal),
     /// snmpd reads octets that nothing wrote.
     #[error("a word is missing")]
     Undefined,

@@ -11,13 +11,13 @@
 //! ```
 //!
 //! ```
-//! use snmpd_lines::{Hash, UserFault, hash_of, user_line};
+//! use snmpd_lines::{Hash, CreateUserFault, hash_of, user_line};
 //!
 //! let created = user_line(rt.alloc(), b"ann SHA maplesyrup AES")?;
 //! assert_eq!(rt; created.name.as_slice(), b"ann".as_slice());
 //! assert_eq!(rt; hash_of(b"SHA"), Some(Hash::Sha1));
 //! let short = user_line(rt.alloc(), b"ann SHA maple").err();
-//! assert_eq!(rt; short, Some(UserFault::NoAuthKey));
+//! assert_eq!(rt; short, Some(CreateUserFault::NoAuthKey));
 //! ```
 #![tactic(auto)]
 

@@ -4,7 +4,7 @@ ghost use Rattle.std.specs.Prelude.{◌≡◌, ◌↔◌, ◌+◌, ◌*◌, ◌%
 ghost use Rattle.snmpd_lines.specs.Masks.{BeginsHex, IsHexFront, IsBehindPrefix, IsBehindSign, IsSigned, IsMaskOctet};
 ghost use Rattle.snmpd_lines.specs.Masks.{IsNoMaskOctet, AreMaskOctets, TellsNoMask};
 
-use crate::fault::{LineFault, Refusal};
+use crate::fault::{LineFault, LineRefusal};
 use crate::subtrees::{digit_of, is_x};
 use crate::words::{Separator, skip_blanks, take_part};
 use arrayvec::ArrayVec;
@@ -70,7 +70,7 @@ fn behind_sign(text: &[u8]) -> (bool, &[u8])
 }
 
 /// The octet that makes 256 with this one, or else the octet itself.
-fn signed(octet: u8, is_negative: bool) -> u8
+fn negate_octet(octet: u8, is_negative: bool) -> u8
     ensures { IsSigned is_negative octet result }
 {
     if is_negative && octet != 0 {
@@ -87,7 +87,7 @@ fn mask_octet(token: &[u8]) -> Option<u8>
 {
     let (is_negative, unsigned) = behind_sign(skip_blanks(token));
     let octet = read_hex(behind_prefix(unsigned))?;
-    Some(signed(octet, is_negative))
+    Some(negate_octet(octet, is_negative))
 }
 
 /// The octets that a text writes: of each token the longest front of hex digits, modulo 256.
@@ -101,10 +101,10 @@ pub fn mask_octets(text: &[u8]) -> Result<ArrayVec<u8, MASK_ROOM>, LineFault>
     let mut rest = text;
     'octets: while let Some((token, later)) = take_part(rest, Separator::AtMark) {
         if octets.is_full() {
-            return Err(LineFault::Refused(Refusal::LongMask));
+            return Err(LineFault::Refused(LineRefusal::LongMask));
         }
         let Some(octet) = mask_octet(token) else {
-            return Err(LineFault::Refused(Refusal::BadMask));
+            return Err(LineFault::Refused(LineRefusal::BadMask));
         };
         octets.push(octet);
         rest = later;

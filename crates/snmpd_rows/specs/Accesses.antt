@@ -8,7 +8,7 @@ use Rattle.vacm_core.specs.declared.rows.AccessRow.{AccessRow}
 use Rattle.snmpd_lines.specs.Words.{IsGap, TakesToken}
 use Rattle.snmpd_lines.specs.Values.{IsModel, IsLevel, IsMatching}
 use Rattle.snmpd_rows.specs.declared.accesses.Conditions.{Conditions}
-use Rattle.snmpd_lines.specs.declared.fault.Refusal.TheVariants as refusals
+use Rattle.snmpd_lines.specs.declared.fault.LineRefusal.TheVariants as refusals
 use Rattle.snmpd_lines.specs.declared.fault.LineFault.{LineFault}
 use Rattle.snmpd_lines.specs.declared.fault.LineFault.TheVariants.{Refused}
 

@@ -14,7 +14,7 @@ use Rattle.snmpd_rows.specs.Accesses.{SaysAccess, TellsNoAccess}
 use Rattle.snmpd_rows.specs.Settings.{SaysSetAccess, TellsNoSetAccess}
 use Rattle.snmpd_rows.specs.GroupViews.{SaysAuthAccess, TellsNoAuthAccess}
 use Rattle.snmpd_lines.specs.Users.{SaysUser, TellsNoUser}
-use Rattle.snmpd_lines.specs.declared.users.UserFault.TheVariants as user_faults
+use Rattle.snmpd_lines.specs.declared.users.CreateUserFault.TheVariants as user_faults
 use Rattle.snmpd_rows.specs.declared.settings.Setting.{Setting}
 use Rattle.snmpd_rows.specs.Simple.{simple_of, SaysSimpleLine, TellsNoSimpleLine}
 use Rattle.snmpd_rows.specs.Views.{SaysFamily, TellsNoFamily}

@@ -13,7 +13,7 @@ use Rattle.vacm_core.specs.declared.rows.Matching.TheVariants.{Exact}
 use Rattle.snmpd_lines.specs.Words.{TakesToken}
 use Rattle.snmpd_lines.specs.Values.{AreAlike, IsModel, IsLevel}
 use Rattle.snmpd_lines.specs.declared.types.Types.{Types}
-use Rattle.snmpd_lines.specs.declared.fault.Refusal.TheVariants as refusals
+use Rattle.snmpd_lines.specs.declared.fault.LineRefusal.TheVariants as refusals
 use Rattle.snmpd_lines.specs.declared.fault.LineFault.{LineFault}
 use Rattle.snmpd_lines.specs.declared.fault.LineFault.TheVariants.{Refused}
 use Rattle.snmpd_rows.specs.Accesses.{AreTokens, HasFewer, IsViewName, IsNoModel, IsNoLevel}

@@ -9,7 +9,7 @@ use Rattle.std.specs.Prelude.{◌≡◌, ◌≢◌, ◌⊎◌, ⊤, ℕ, List, [
 use Rattle.vacm_core.specs.declared.rows.GroupRow.{GroupRow}
 use Rattle.snmpd_lines.specs.Words.{TakesWord, EndsBehindWord}
 use Rattle.snmpd_lines.specs.Values.{IsModel}
-use Rattle.snmpd_lines.specs.declared.fault.Refusal.TheVariants as refusals
+use Rattle.snmpd_lines.specs.declared.fault.LineRefusal.TheVariants as refusals
 use Rattle.snmpd_lines.specs.declared.fault.LineFault.{LineFault}
 use Rattle.snmpd_lines.specs.declared.fault.LineFault.TheVariants.{Refused, Undefined, OutOfMemory}
 

@@ -10,7 +10,7 @@ use Rattle.snmpd_lines.specs.Types.{view_word, only, IsNoType}
 use Rattle.snmpd_rows.specs.declared.accesses.Conditions.{Conditions}
 use Rattle.snmpd_lines.specs.declared.types.ViewWord.{ViewWord}
 use Rattle.snmpd_rows.specs.declared.settings.Setting.{Setting}
-use Rattle.snmpd_lines.specs.declared.fault.Refusal.TheVariants as refusals
+use Rattle.snmpd_lines.specs.declared.fault.LineRefusal.TheVariants as refusals
 use Rattle.snmpd_lines.specs.declared.fault.LineFault.{LineFault}
 use Rattle.snmpd_lines.specs.declared.fault.LineFault.TheVariants.{Refused}
 

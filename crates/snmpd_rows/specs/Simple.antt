@@ -16,7 +16,7 @@ use Rattle.snmpd_lines.specs.Types.{IsTypes}
 use Rattle.snmpd_lines.specs.declared.types.Types.{Types}
 use Rattle.snmpd_lines.specs.declared.directives.Directive.{Directive}
 use Rattle.snmpd_lines.specs.declared.directives.Directive.TheVariants as directives
-use Rattle.snmpd_lines.specs.declared.fault.Refusal.TheVariants as refusals
+use Rattle.snmpd_lines.specs.declared.fault.LineRefusal.TheVariants as refusals
 use Rattle.snmpd_lines.specs.declared.fault.LineFault.{LineFault}
 use Rattle.snmpd_lines.specs.declared.fault.LineFault.TheVariants.{Refused, Undefined, OutOfMemory}
 use Rattle.snmpd_rows.specs.declared.simple.Versions.{Versions}

@@ -7,7 +7,7 @@ use Rattle.snmpd_lines.specs.Subtrees.{SaysSubtree}
 use Rattle.snmpd_lines.specs.Masks.{AreMaskOctets, TellsNoMask}
 use Rattle.snmpd_lines.specs.declared.subtrees.Subtree.{Subtree}
 use Rattle.snmpd_lines.specs.declared.subtrees.Subtree.TheVariants as subtrees
-use Rattle.snmpd_lines.specs.declared.fault.Refusal.TheVariants as refusals
+use Rattle.snmpd_lines.specs.declared.fault.LineRefusal.TheVariants as refusals
 use Rattle.snmpd_lines.specs.declared.fault.LineFault.{LineFault}
 use Rattle.snmpd_lines.specs.declared.fault.LineFault.TheVariants.{Refused, NotInNumbers, OutOfReach}
 

@@ -6,7 +6,7 @@ ghost use Rattle.snmpd_rows.specs.Accesses.{HasViewTokens, IsViewName, IsAccess,
 ghost use Rattle.snmpd_rows.specs.Accesses.{TellsNoAccess};
 
 use snmp_ber::Level;
-use snmpd_lines::{LineFault, Refusal, level_of, matching_of, model_of, take_token};
+use snmpd_lines::{LineFault, LineRefusal, level_of, matching_of, model_of, take_token};
 use vacm_core::{AccessRow, Matching, Name};
 
 /// The most octets of a view's name that snmpd has room for. No view can have a name of so many.
@@ -70,16 +70,16 @@ pub(crate) fn conditions_of(text: &[u8]) -> Result<(Conditions<'_>, &[u8]), Line
     ensures fault { IfErr result (TellsNoConditions text.now) }
 {
     let Some((tokens, rest)) = take_conditions(text) else {
-        return Err(LineFault::Refused(Refusal::MissingWord));
+        return Err(LineFault::Refused(LineRefusal::MissingWord));
     };
     let Some(model) = model_of(tokens.model) else {
-        return Err(LineFault::Refused(Refusal::BadModel));
+        return Err(LineFault::Refused(LineRefusal::BadModel));
     };
     let Some(level) = level_of(tokens.level) else {
-        return Err(LineFault::Refused(Refusal::BadLevel));
+        return Err(LineFault::Refused(LineRefusal::BadLevel));
     };
     let Some(matching) = matching_of(tokens.matching) else {
-        return Err(LineFault::Refused(Refusal::BadMatching));
+        return Err(LineFault::Refused(LineRefusal::BadMatching));
     };
     let conditions = Conditions {
         group: tokens.group,
@@ -140,7 +140,7 @@ pub fn access_row(text: &[u8]) -> Result<AccessRow, LineFault>
 {
     let (conditions, rest) = conditions_of(text)?;
     let Some(views) = take_views(rest) else {
-        return Err(LineFault::Refused(Refusal::MissingView));
+        return Err(LineFault::Refused(LineRefusal::MissingView));
     };
     row_of(conditions, views)
 }
@@ -157,11 +157,11 @@ fn row_of(conditions: Conditions<'_>, views: ViewTokens<'_>) -> Result<AccessRow
         view_name(views.write),
         view_name(views.notify),
     ) else {
-        return Err(LineFault::Refused(Refusal::LongView));
+        return Err(LineFault::Refused(LineRefusal::LongView));
     };
     let (Some(group), Some(prefix)) = (Name::of(conditions.group), Name::of(conditions.context))
     else {
-        return Err(LineFault::Refused(Refusal::LongIndex));
+        return Err(LineFault::Refused(LineRefusal::LongIndex));
     };
     Ok(AccessRow {
         group,

@@ -15,7 +15,7 @@ use crate::settings::{Setting, set_access};
 use crate::simple::{Simple, SimpleKind, simple_line, simple_of};
 use crate::views::family_row;
 use snmpd_lines::{
-    Created, Directive, Line, LineFault, Section, Types, UserFault, directive_of, is_blank,
+    CreateUserFault, Created, Directive, Line, LineFault, Section, Types, directive_of, is_blank,
     read_line, user_line,
 };
 use std::alloc::{AllocError, Global};
@@ -37,7 +37,7 @@ pub enum Note {
     /// What is wrong with a line of this directive: it is never want of memory.
     Fault(Directive, LineFault),
     /// What is wrong with a line `createUser`: it is never want of memory.
-    NoUser(UserFault),
+    NoUser(CreateUserFault),
 }
 
 /// What a line makes.
@@ -107,7 +107,7 @@ fn user_entry(alloc: Global, text: &[u8]) -> Result<Entry, AllocError>
 {
     match user_line(alloc, text) {
         Ok(created) => Ok(Entry::User(created)),
-        Err(UserFault::OutOfMemory) => Err(AllocError),
+        Err(CreateUserFault::OutOfMemory) => Err(AllocError),
         Err(fault) => Ok(Entry::Told(Note::NoUser(fault))),
     }
 }

@@ -11,7 +11,7 @@ use crate::accesses::view_name;
 use crate::settings::Setting;
 use crate::simple::{contexts_of, take_types};
 use snmp_ber::Level;
-use snmpd_lines::{LineFault, Refusal, Types, level_of, model_of, take_token};
+use snmpd_lines::{LineFault, LineRefusal, Types, level_of, model_of, take_token};
 use std::alloc::Global;
 use vacm_core::{Matching, Name};
 
@@ -47,14 +47,14 @@ fn take_model_and_view(text: &[u8]) -> Result<(u32, &[u8], &[u8]), LineFault>
     ensures fault { IfErr result (TellsNoModelAndView text.now) }
 {
     let Some((word, rest)) = take_token(text) else {
-        return Err(LineFault::Refused(Refusal::MissingWord));
+        return Err(LineFault::Refused(LineRefusal::MissingWord));
     };
     let Some(model) = model_of(word) else {
-        return Err(LineFault::Refused(Refusal::BadModel));
+        return Err(LineFault::Refused(LineRefusal::BadModel));
     };
     match take_token(rest) {
         Some((view, rest)) => Ok((model, view, rest)),
-        None => Err(LineFault::Refused(Refusal::MissingView)),
+        None => Err(LineFault::Refused(LineRefusal::MissingView)),
     }
 }
 
@@ -64,7 +64,7 @@ fn take_group_and_view(text: &[u8]) -> Result<GroupView<'_>, LineFault>
     ensures fault { IfErr result (TellsNoGroupAndView text.now) }
 {
     let Some((group, second, behind)) = take_two(text) else {
-        return Err(LineFault::Refused(Refusal::MissingWord));
+        return Err(LineFault::Refused(LineRefusal::MissingWord));
     };
     if !is_option(second) {
         return Ok(GroupView {
@@ -104,7 +104,7 @@ fn take_level(model: u32, text: &[u8]) -> Result<(Level, &[u8]), LineFault>
     };
     match level_of(word) {
         Some(level) => Ok((level, rest)),
-        None => Err(LineFault::Refused(Refusal::BadLevel)),
+        None => Err(LineFault::Refused(LineRefusal::BadLevel)),
     }
 }
 
@@ -136,12 +136,12 @@ fn group_views(types: Types, text: &[u8]) -> Result<Setting, LineFault>
 {
     let found = take_group_and_view(text)?;
     let Some(view) = view_name(found.view) else {
-        return Err(LineFault::Refused(Refusal::LongView));
+        return Err(LineFault::Refused(LineRefusal::LongView));
     };
     let (level, behind) = take_level(found.model, found.rest)?;
     let (context, matching) = take_contexts(behind);
     let Some((group, context)) = names_of(found.group, context) else {
-        return Err(LineFault::Refused(Refusal::LongIndex));
+        return Err(LineFault::Refused(LineRefusal::LongIndex));
     };
     Ok(Setting {
         group,

@@ -5,7 +5,7 @@ ghost use Rattle.std.specs.Option.{option_map};
 ghost use Rattle.snmpd_lines.specs.Words.{TakesWord};
 ghost use Rattle.snmpd_rows.specs.Groups.{SaysGroup, TellsNoGroup, TellsNoWord};
 
-use snmpd_lines::{LineFault, Refusal, model_of, take_word};
+use snmpd_lines::{LineFault, LineRefusal, model_of, take_word};
 use std::alloc::{AllocError, Global};
 use vacm_core::{GroupRow, Name};
 
@@ -47,10 +47,10 @@ pub fn group_row(alloc: Global, text: &[u8]) -> Result<GroupRow, LineFault>
     let (model, rest) = take_inner_name(alloc, rest)?;
     let (name, _) = take_name(alloc, rest)?;
     if is_empty(&group) || is_empty(&model) || is_empty(&name) {
-        return Err(LineFault::Refused(Refusal::MissingWord));
+        return Err(LineFault::Refused(LineRefusal::MissingWord));
     }
     let Some(model) = model_of(model.as_slice()) else {
-        return Err(LineFault::Refused(Refusal::BadModel));
+        return Err(LineFault::Refused(LineRefusal::BadModel));
     };
     Ok(GroupRow { model, name, group })
 }

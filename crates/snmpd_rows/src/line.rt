@@ -16,7 +16,7 @@ pub struct MadeLine {
 }
 
 /// Words with a space between each two.
-fn joined(alloc: Global, first: &[u8], others: &[&[u8]]) -> Result<Vec<u8>, AllocError>
+fn join_with_spaces(alloc: Global, first: &[u8], others: &[&[u8]]) -> Result<Vec<u8>, AllocError>
     ensures { IfOk result (λ text. text.items ≡ spec.joined first.now (map (λ word. word.now) others.now)) }
 {
     let mut text = Vec::from_slice(alloc, first)?;
@@ -38,7 +38,7 @@ pub(crate) fn put_line(
     ensures { OnOk result (map line_of lines.new.items ≡ map line_of lines.old.items
         ++ (directive, spec.joined first.now (map (λ word. word.now) others.now)) ∷ []) }
 {
-    let text = joined(alloc, first, others)?;
+    let text = join_with_spaces(alloc, first, others)?;
     lines.push(MadeLine { directive, text })?;
     Ok(())
 }

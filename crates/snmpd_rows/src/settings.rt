@@ -6,7 +6,7 @@ ghost use Rattle.snmpd_rows.specs.Settings.{HasLongIndex, SaysSetAccess, TellsNo
 
 use crate::accesses::{Conditions, conditions_of, view_name};
 use snmp_ber::Level;
-use snmpd_lines::{LineFault, Refusal, Types, ViewWord, take_token};
+use snmpd_lines::{LineFault, LineRefusal, Types, ViewWord, take_token};
 use vacm_core::{Matching, Name};
 
 /// What messages a line sets views for, and the view.
@@ -54,16 +54,16 @@ pub fn set_access(text: &[u8]) -> Result<Setting, LineFault>
 {
     let (conditions, rest) = conditions_of(text)?;
     let Some((kind, view, _)) = take_type_and_view(rest) else {
-        return Err(LineFault::Refused(Refusal::MissingView));
+        return Err(LineFault::Refused(LineRefusal::MissingView));
     };
     let Some(view) = view_name(view) else {
-        return Err(LineFault::Refused(Refusal::LongView));
+        return Err(LineFault::Refused(LineRefusal::LongView));
     };
     let Some(word) = ViewWord::of(kind) else {
-        return Err(LineFault::Refused(Refusal::BadViewType));
+        return Err(LineFault::Refused(LineRefusal::BadViewType));
     };
     let Some((group, context)) = index_of(conditions) else {
-        return Err(LineFault::Refused(Refusal::LongIndex));
+        return Err(LineFault::Refused(LineRefusal::LongIndex));
     };
     Ok(Setting {
         group,

@@ -11,7 +11,7 @@ ghost use Rattle.snmpd_rows.specs.Simple.{TellsNoSimple, option_of};
 ghost use Rattle.snmpd_rows.specs.declared.simple.SimpleKind.TheVariants as kinds;
 
 use snmpd_lines::{
-    Directive, LineFault, Refusal, Types, Word, go_on, is_word, take_or, take_word, types_of,
+    Directive, LineFault, LineRefusal, Types, Word, go_on, is_word, take_or, take_word, types_of,
 };
 use std::alloc::{AllocError, Global};
 use vacm_core::Matching;
@@ -133,7 +133,7 @@ pub(crate) fn take_types(
     let word = take_word(alloc, text, TYPES_MAX)?;
     match word.rest {
         Some(rest) => Ok((types_of(&word.octets), rest)),
-        None => Err(LineFault::Refused(Refusal::MissingWord)),
+        None => Err(LineFault::Refused(LineRefusal::MissingWord)),
     }
 }
 
@@ -153,7 +153,7 @@ fn take_model_behind(alloc: Global, text: &[u8]) -> Result<Modeled<'_>, LineFaul
 {
     let model = take_word(alloc, text, WORD_MAX)?;
     let Some(rest) = model.rest else {
-        return Err(LineFault::Refused(Refusal::MissingWord));
+        return Err(LineFault::Refused(LineRefusal::MissingWord));
     };
     let name = take_word(alloc, rest, NAME_MAX)?;
     Ok(Modeled {
@@ -184,7 +184,7 @@ fn take_model<'a>(
         });
     }
     let Some(rest) = word.rest else {
-        return Err(LineFault::Refused(Refusal::MissingWord));
+        return Err(LineFault::Refused(LineRefusal::MissingWord));
     };
     take_model_behind(alloc, rest)
 }

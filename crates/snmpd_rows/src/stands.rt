@@ -74,7 +74,7 @@ fn put_versions(
 }
 
 /// A name between quotes.
-fn quoted(alloc: Global, name: &[u8]) -> Result<Vec<u8>, AllocError>
+fn quote(alloc: Global, name: &[u8]) -> Result<Vec<u8>, AllocError>
     ensures { IfOk result (λ text. text.items ≡ in_quotes name.now) }
 {
     let mut text = Vec::from_slice(alloc, b"\"")?;
@@ -96,7 +96,7 @@ fn put_groups(
 {
     match simple.named.who {
         Who::User => {
-            let name = quoted(alloc, &simple.named.name)?;
+            let name = quote(alloc, &simple.named.name)?;
             put_group(alloc, lines, group, &simple.named.model, &name)
         }
         Who::Group => Ok(()),

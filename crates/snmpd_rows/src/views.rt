@@ -5,7 +5,7 @@ ghost use Rattle.snmpd_rows.specs.Accesses.{HasFewer};
 ghost use Rattle.snmpd_rows.specs.Views.{IsType, IsWithoutDot, held_mask, AreViewWords, SaysFamily, TellsNoFamily};
 
 use snmp_ber::Oid;
-use snmpd_lines::{LineFault, Refusal, Subtree, mask_octets, subtree_of, take_token};
+use snmpd_lines::{LineFault, LineRefusal, Subtree, mask_octets, subtree_of, take_token};
 use vacm_core::{FamilyRow, Mask, Name};
 
 /// The bits of an octet.
@@ -79,10 +79,10 @@ pub fn family_row(text: &[u8]) -> Result<FamilyRow, LineFault>
     ensures fault { IfErr result (TellsNoFamily text.now) }
 {
     let Some(words) = take_view_words(text) else {
-        return Err(LineFault::Refused(Refusal::MissingWord));
+        return Err(LineFault::Refused(LineRefusal::MissingWord));
     };
     let Some(include) = type_of(words.kind) else {
-        return Err(LineFault::Refused(Refusal::BadType));
+        return Err(LineFault::Refused(LineRefusal::BadType));
     };
     let subtree = match subtree_of(without_dot(words.subtree)) {
         Subtree::Numbers(subtree) => Some(subtree),
@@ -91,7 +91,7 @@ pub fn family_row(text: &[u8]) -> Result<FamilyRow, LineFault>
     };
     let octets = mask_octets(words.mask)?;
     let Some(view) = Name::of(words.view) else {
-        return Err(LineFault::Refused(Refusal::LongIndex));
+        return Err(LineFault::Refused(LineRefusal::LongIndex));
     };
     let Some(subtree) = subtree else {
         return Err(LineFault::OutOfReach);

@@ -114,7 +114,7 @@ fn is_wanted(access: &[HeldAccess], held: &HeldFamily) -> bool
 }
 
 /// Those of the rows that are wanted.
-fn wanted(
+fn families_named(
     alloc: Global,
     access: &[HeldAccess],
     held: &[HeldFamily],
@@ -141,6 +141,6 @@ pub fn families_kept(
 ) -> Result<Vec<HeldFamily>, AllocError>
     ensures { IfOk result (λ kept. AreFamiliesKept access.now held.now kept.items) }
 {
-    let rows = wanted(alloc, access, held)?;
+    let rows = families_named(alloc, access, held)?;
     firsts(alloc, &rows)
 }

@@ -19,7 +19,7 @@ use Rattle.vacm_core.specs.declared.access.Access.TheVariants.{AccessAllowed}
 use Rattle.vacm_core.specs.Allowed.{Requester, Allowed}
 use Rattle.vacm_core.specs.Distinct.{HasOneRowEach}
 use Rattle.vacm_core.specs.Tables.{Tables, tables_of}
-use Rattle.snmpsec_access.specs.declared.who.Wanted.{Wanted}
+use Rattle.snmpsec_access.specs.declared.who.WhoSeesQuery.{WhoSeesQuery}
 use Rattle.snmpsec_access.specs.Askers.{Asker, askers, asker_line}
 
 -- those of these of which P holds, in their order
@@ -61,10 +61,10 @@ pub record AnswerFor (tables rows : Tables) : Type 0 where
       → Allowed tables message view variable answer → Allowed rows message view variable answer
   pub one_row_each : HasOneRowEach rows
 
-abbrev pub IsReady : Wanted → Type 0
+abbrev pub IsReady : WhoSeesQuery → Type 0
 IsReady w = AnswerFor w.access.now (tables_of w.rows.now)
 
-abbrev pub SeesIt : Wanted → Asker → Type 0
+abbrev pub SeesIt : WhoSeesQuery → Asker → Type 0
 SeesIt w = Sees (tables_of w.rows.now) w.only_users w.users.now w.variable.now
 
 -- The text goes on with a line for each of these that sees the variable, and no other.

@@ -18,7 +18,7 @@ use vacm_core::{Access, ContextRow, GroupRow, Rows, Vacm, ViewType};
 
 /// Which variable is asked for, in which configuration, and whether only its users are wanted.
 #[derive(Clone, Copy)]
-pub struct Wanted<'a> {
+pub struct WhoSeesQuery<'a> {
     /// The tables of the rows.
     pub access: &'a Vacm,
     pub rows: &'a Rows,
@@ -29,7 +29,7 @@ pub struct Wanted<'a> {
 }
 
 /// The name of the group row is wanted at this level.
-fn is_wanted(wanted: &Wanted<'_>, group: &GroupRow, level: Level) -> bool
+fn is_wanted(wanted: &WhoSeesQuery<'_>, group: &GroupRow, level: Level) -> bool
     ensures { let is_wanted = IsWanted wanted.now.only_users wanted.now.users.now group.now.model group.now.name level
         in MatchBool result is_wanted (¬ is_wanted) }
 {
@@ -41,7 +41,7 @@ fn is_wanted(wanted: &Wanted<'_>, group: &GroupRow, level: Level) -> bool
 
 /// The question is answered accessAllowed.
 fn is_allowed(
-    wanted: &Wanted<'_>,
+    wanted: &WhoSeesQuery<'_>,
     view: ViewType,
     group: &GroupRow,
     level: Level,
@@ -89,7 +89,7 @@ fn put_line(
 fn put_allowed(
     alloc: Global,
     out: &mut Vec<u8>,
-    wanted: &Wanted<'_>,
+    wanted: &WhoSeesQuery<'_>,
     view: ViewType,
     group: &GroupRow,
     level: Level,
@@ -110,7 +110,7 @@ fn put_allowed(
 fn put_level(
     alloc: Global,
     out: &mut Vec<u8>,
-    wanted: &Wanted<'_>,
+    wanted: &WhoSeesQuery<'_>,
     view: ViewType,
     group: &GroupRow,
     level: Level,
@@ -133,7 +133,7 @@ fn put_level(
 fn put_group(
     alloc: Global,
     out: &mut Vec<u8>,
-    wanted: &Wanted<'_>,
+    wanted: &WhoSeesQuery<'_>,
     view: ViewType,
     group: &GroupRow,
 ) -> Result<(), AllocError>
@@ -151,7 +151,7 @@ fn put_group(
 fn put_view(
     alloc: Global,
     out: &mut Vec<u8>,
-    wanted: &Wanted<'_>,
+    wanted: &WhoSeesQuery<'_>,
     view: ViewType,
 ) -> Result<(), AllocError>
     requires { IsReady wanted.now }
@@ -173,7 +173,7 @@ fn put_view(
 /// are asked. The error is want of memory.
 pub fn who_sees(
     alloc: Global,
-    wanted: &Wanted<'_>,
+    wanted: &WhoSeesQuery<'_>,
     views: &[ViewType],
 ) -> Result<Vec<u8>, AllocError>
     requires { IsReady wanted.now }

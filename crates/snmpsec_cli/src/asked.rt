@@ -9,7 +9,7 @@ use std::alloc::{AllocError, Global};
 
 /// What a command line asks for.
 #[derive(Clone, Copy)]
-pub struct Asked<'m, 'a> {
+pub struct Invocation<'m, 'a> {
     pub command: Command,
     /// The words of the command. Those that must be given are there, and none has been looked at beyond what the
     /// parser asks.
@@ -59,12 +59,12 @@ fn refuse(alloc: Global, fault: Unread) -> Error {
 pub fn asked_by<'m, 'a>(
     alloc: Global,
     matches: &'m ArgMatches<'a>,
-) -> Result<Asked<'m, 'a>, Error> {
+) -> Result<Invocation<'m, 'a>, Error> {
     let Some((name, words)) = matches.subcommand() else {
         return Err(refuse(alloc, Unread::NoCommand));
     };
     match command_named(name, words) {
-        Ok(command) => Ok(Asked {
+        Ok(command) => Ok(Invocation {
             command,
             words,
             why: matches.get_flag("why"),

@@ -120,7 +120,7 @@ fn plain<'a>(alloc: Global, word: &Word) -> Arg<'a> {
 }
 
 /// The argument of a word or an option.
-fn named<'a>(alloc: Global, word: &Word) -> Arg<'a> {
+fn arg_named<'a>(alloc: Global, word: &Word) -> Arg<'a> {
     let arg = plain(alloc, word);
     match word.0 {
         Kind::Given | Kind::Optional | Kind::Datagram => arg,
@@ -131,7 +131,7 @@ fn named<'a>(alloc: Global, word: &Word) -> Arg<'a> {
 
 /// The argument of a word or an option, as the parser takes it beside others.
 fn arg_of<'a>(alloc: Global, word: &Word) -> Result<Arg<'a>, AllocError> {
-    let arg = named(alloc, word);
+    let arg = arg_named(alloc, word);
     match word.0 {
         Kind::Datagram => arg.required_unless_present("FILE"),
         Kind::SourceFlag | Kind::SourceValue | Kind::SourceNumber | Kind::SourceNumbers => {
@@ -190,7 +190,7 @@ fn bare<'a>(alloc: Global) -> clap::Command<'a> {
 
 /// The argument of the option that each command has. Help lists it after the first option of a command.
 fn why<'a>(alloc: Global) -> Arg<'a> {
-    named(alloc, &WHY).global(true).display_order(0)
+    arg_named(alloc, &WHY).global(true).display_order(0)
 }
 
 /// The parser of the command line with these commands.

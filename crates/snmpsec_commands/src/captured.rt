@@ -2,7 +2,7 @@
 
 use crate::run::unread;
 use capture_datagrams::datagrams::{Unread, ports_of};
-use capture_datagrams::forms::{Asked, Form, form_of, may_be_dumps};
+use capture_datagrams::forms::{Form, ReadOptions, form_of, may_be_dumps};
 use capture_datagrams::shown::{Printout, write_printout};
 use snmpsec_cli::DatagramsWords;
 use snmpsec_io::{FileFault, open_log, read_file};
@@ -21,8 +21,8 @@ struct Wanted {
 
 impl Wanted {
     /// The same, as the reader of a file is asked.
-    fn options(&self) -> Asked<'_> {
-        Asked {
+    fn options(&self) -> ReadOptions<'_> {
+        ReadOptions {
             form: self.form,
             moment: self.moment,
             ports: &self.ports,

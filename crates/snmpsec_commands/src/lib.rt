@@ -23,5 +23,5 @@ mod why_words;
 
 pub use snmpsec_output::{
     Output, check_config_hinted, check_config_text, check_text, explain_text, merge_text,
-    open_text, opened, sees_text, show_text, who_text,
+    open_datagram, open_text, sees_text, show_text, who_text,
 };

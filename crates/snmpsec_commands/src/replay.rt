@@ -184,7 +184,7 @@ fn manager_of(
     let config = match Config::read(alloc, config) {
         Ok(config) => config,
         Err(fault) if fault.is_memory() => return Err(NoManager::OutOfMemory),
-        Err(fault) => return Err(NoManager::Refused(Output::refused(alloc, &fault)?.out)),
+        Err(fault) => return Err(NoManager::Refused(Output::refusal(alloc, &fault)?.out)),
     };
     match Clocks::read_saved(alloc, clocks, moment) {
         Ok(clocks) => Ok(Manager::new(alloc, config.users, clocks)),

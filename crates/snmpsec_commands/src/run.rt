@@ -10,8 +10,8 @@ use crate::why::{file_fault, says_why, why};
 use clap::ArgMatches;
 use clap::error::ErrorKind;
 use snmpsec_cli::{
-    AccessWords, Asked, Command, ReplayWords, access_words, arguments, asked_by, datagrams_words,
-    manual_text, parse, replay_words, version_text, word_of, words_of,
+    AccessWords, Command, Invocation, ReplayWords, access_words, arguments, asked_by,
+    datagrams_words, manual_text, parse, replay_words, version_text, word_of, words_of,
 };
 use snmpsec_io::{FileFault, open_log, read_file, write_whole};
 use snmpsec_notes::with_names;
@@ -111,7 +111,7 @@ fn answer_matches<R: Files + Input + AllocGlobal, O: Write, E: Write + IsTermina
     match asked_by(rt.alloc(), matches) {
         Ok(asked) => {
             let why = asked.why || err.is_terminal();
-            answer_asked(rt, &Asked { why, ..asked }, out, err)
+            answer_asked(rt, &Invocation { why, ..asked }, out, err)
         }
         Err(fault) => usage(rt.alloc(), fault),
     }
@@ -120,7 +120,7 @@ fn answer_matches<R: Files + Input + AllocGlobal, O: Write, E: Write + IsTermina
 /// What the command that was given prints, and behind a refusal what is wrong, where that is asked for.
 pub fn answer_asked<R: Files + Input + AllocGlobal, O: Write, E: Write>(
     rt: &R,
-    asked: &Asked<'_, '_>,
+    asked: &Invocation<'_, '_>,
     out: &mut O,
     err: &mut E,
 ) -> Result<Output, AllocError> {
@@ -144,7 +144,7 @@ pub fn answer_asked<R: Files + Input + AllocGlobal, O: Write, E: Write>(
 /// What the command that was given prints, with hints beside it where it has some and they are asked for.
 fn asked_output<R: Files + Input + AllocGlobal, O: Write, E: Write>(
     rt: &R,
-    asked: &Asked<'_, '_>,
+    asked: &Invocation<'_, '_>,
     out: &mut O,
     err: &mut E,
 ) -> Result<Output, AllocError> {
@@ -214,7 +214,7 @@ fn usage_of(alloc: Global, fault: &clap::Error) -> Result<Output, AllocError> {
 /// but for a fault.
 pub fn command<R: Files + Input + AllocGlobal, O: Write, E: Write>(
     rt: &R,
-    asked: &Asked<'_, '_>,
+    asked: &Invocation<'_, '_>,
     out: &mut O,
     err: &mut E,
 ) -> Result<Output, AllocError> {
@@ -231,7 +231,7 @@ pub fn command<R: Files + Input + AllocGlobal, O: Write, E: Write>(
 /// What `show` prints.
 fn show<R: Files + Input + AllocGlobal, O: Write, E: Write>(
     rt: &R,
-    asked: &Asked<'_, '_>,
+    asked: &Invocation<'_, '_>,
     out: &mut O,
     err: &mut E,
 ) -> Result<Output, AllocError> {
@@ -244,7 +244,7 @@ fn show<R: Files + Input + AllocGlobal, O: Write, E: Write>(
 /// What `open` prints.
 fn open<R: Files + Input + AllocGlobal, O: Write, E: Write>(
     rt: &R,
-    asked: &Asked<'_, '_>,
+    asked: &Invocation<'_, '_>,
     out: &mut O,
     err: &mut E,
 ) -> Result<Output, AllocError> {

@@ -10,7 +10,7 @@ use crate::why_words::{
 };
 use clap::ArgMatches;
 use snmpsec_cli::{
-    AccessWords, Asked, Command, DatagramsWords, ReplayWords, access_words, datagrams_words,
+    AccessWords, Command, DatagramsWords, Invocation, ReplayWords, access_words, datagrams_words,
     replay_words, word_of, words_of,
 };
 use snmpsec_notes::cut_message;
@@ -22,7 +22,7 @@ use std::rt::Files;
 /// already, or where it can't be found out any more.
 pub(crate) fn why<R: Files + AllocGlobal>(
     rt: &R,
-    asked: &Asked<'_, '_>,
+    asked: &Invocation<'_, '_>,
     status: u8,
 ) -> Result<Option<String>, AllocError> {
     match look_at(rt, asked, status) {
@@ -45,7 +45,7 @@ pub(crate) fn file_fault<R: Files + AllocGlobal>(
 }
 
 /// Whether the command says what is wrong without being asked, as those do that are as new as that line.
-pub(crate) fn says_why(asked: &Asked<'_, '_>) -> bool {
+pub(crate) fn says_why(asked: &Invocation<'_, '_>) -> bool {
     match asked.command {
         Command::Show | Command::Open => asked.words.get_str("HEX").is_none(),
         Command::WhoSees
@@ -60,7 +60,7 @@ pub(crate) fn says_why(asked: &Asked<'_, '_>) -> bool {
 /// Looks at the words and the files of a command as it does.
 fn look_at<R: Files + AllocGlobal>(
     rt: &R,
-    asked: &Asked<'_, '_>,
+    asked: &Invocation<'_, '_>,
     status: u8,
 ) -> Result<(), Complaint> {
     let words = asked.words;

@@ -75,9 +75,9 @@ pub fn check_text(alloc: Global, config: &[u8], words: &[&str; 6]) -> Result<Out
         Err(argument) => return bad_word(alloc, argument),
     };
     match AccessConfig::read(alloc, config) {
-        Ok(config) => answered(alloc, answer_of(&config.access, &question)),
+        Ok(config) => answer_output(alloc, answer_of(&config.access, &question)),
         Err(fault) if fault.is_memory() => Err(AllocError),
-        Err(fault) => Output::refused(alloc, &fault),
+        Err(fault) => Output::refusal(alloc, &fault),
     }
 }
 
@@ -154,7 +154,7 @@ pub(crate) fn answer_of(access: &Vacm, question: &Question<'_>) -> Access
 }
 
 /// The line for an answer, on standard output.
-fn answered(alloc: Global, answer: Access) -> Result<Output, AllocError>
+fn answer_output(alloc: Global, answer: Access) -> Result<Output, AllocError>
     ensures out { IfOk result (λ output. output.out.items ≡ access_word answer ++ codes "\n") }
     ensures err { IfOk result (λ output. output.err.items ≡ []) }
     ensures status { IfOk result (λ output. output.status ≡ access_status answer) }

@@ -28,9 +28,9 @@ pub fn check_config_text(alloc: Global, config: &[u8]) -> Result<Output, AllocEr
         ChecksConfig config.now printed) }
 {
     match AccessConfig::read(alloc, config) {
-        Ok(config) => counted(alloc, &config.rows),
+        Ok(config) => counts(alloc, &config.rows),
         Err(fault) if fault.is_memory() => Err(AllocError),
-        Err(fault) => explained(alloc, &fault),
+        Err(fault) => refusal_and_why(alloc, &fault),
     }
 }
 
@@ -46,14 +46,14 @@ pub fn check_config_hinted(alloc: Global, config: &[u8]) -> Result<Output, Alloc
         ChecksHinted config.now printed) }
 {
     match AccessConfig::read(alloc, config) {
-        Ok(read) => hinted(alloc, config, &read.rows),
+        Ok(read) => counts_and_hints(alloc, config, &read.rows),
         Err(fault) if fault.is_memory() => Err(AllocError),
-        Err(fault) => explained(alloc, &fault),
+        Err(fault) => refusal_and_why(alloc, &fault),
     }
 }
 
 /// The lines of the numbers of rows, and beside them the hints.
-fn hinted(alloc: Global, text: &[u8], rows: &ConfigRows) -> Result<Output, AllocError>
+fn counts_and_hints(alloc: Global, text: &[u8], rows: &ConfigRows) -> Result<Output, AllocError>
     ensures out { IfOk result
         (λ output. output.out.items ≡ counts_text rows.now.users.items (tables_of rows.now.access)) }
     ensures err { IfOk result
@@ -61,7 +61,7 @@ fn hinted(alloc: Global, text: &[u8], rows: &ConfigRows) -> Result<Output, Alloc
         (hints_of rows.now.users.items (tables_of rows.now.access))) }
     ensures status { IfOk result (λ output. output.status ≡ 0) }
 {
-    let counts = counted(alloc, rows)?;
+    let counts = counts(alloc, rows)?;
     let hints = hint_text(alloc, text, rows)?;
     Ok(Output {
         out: counts.out,
@@ -71,7 +71,7 @@ fn hinted(alloc: Global, text: &[u8], rows: &ConfigRows) -> Result<Output, Alloc
 }
 
 /// The lines of the numbers of rows.
-fn counted(alloc: Global, rows: &ConfigRows) -> Result<Output, AllocError>
+fn counts(alloc: Global, rows: &ConfigRows) -> Result<Output, AllocError>
     ensures out { IfOk result
         (λ output. output.out.items ≡ counts_text rows.now.users.items (tables_of rows.now.access)) }
     ensures err { IfOk result (λ output. output.err.items ≡ []) }
@@ -90,7 +90,7 @@ fn counted(alloc: Global, rows: &ConfigRows) -> Result<Output, AllocError>
 }
 
 /// The line of a refusal, and what is wrong beside it.
-pub(crate) fn explained(alloc: Global, fault: &ConfigFault) -> Result<Output, AllocError>
+pub(crate) fn refusal_and_why(alloc: Global, fault: &ConfigFault) -> Result<Output, AllocError>
     ensures out { IfOk result (λ output. output.out.items ≡ refusal_line fault.now ++ codes "\n") }
     ensures err { IfOk result
         (λ output. (why : List ℕ) × IsWhy fault.now why

@@ -38,16 +38,16 @@ pub fn explain_text(alloc: Global, config: &[u8], words: &[&str; 6]) -> Result<O
     };
     match AccessConfig::read(alloc, config) {
         Ok(config) => {
-            let explained = decided(&config.access, &config.rows.access, &question);
-            told(alloc, &explained)
+            let explained = decide(&config.access, &config.rows.access, &question);
+            answer_and_rows(alloc, &explained)
         }
         Err(fault) if fault.is_memory() => Err(AllocError),
-        Err(fault) => Output::refused(alloc, &fault),
+        Err(fault) => Output::refusal(alloc, &fault),
     }
 }
 
 /// What decides on the question over these tables, which are made of the rows.
-fn decided(access: &Vacm, rows: &Rows, question: &Question<'_>) -> Explained
+fn decide(access: &Vacm, rows: &Rows, question: &Question<'_>) -> Explained
     requires { HaveSameRows (tables_of rows.now) access.now }
     ensures answer { let asked = asked_of question.now in Allowed access.now asked.message asked.view asked.arcs
         result.answer }
@@ -66,7 +66,7 @@ fn decided(access: &Vacm, rows: &Rows, question: &Question<'_>) -> Explained
 }
 
 /// The line for an answer, and those of the rows that decided.
-fn told(alloc: Global, explained: &Explained) -> Result<Output, AllocError>
+fn answer_and_rows(alloc: Global, explained: &Explained) -> Result<Output, AllocError>
     ensures out { IfOk result
         (λ output. output.out.items
         ≡ (access_word explained.now.answer ++ codes "\n") ++ context_lines explained.now.context) }

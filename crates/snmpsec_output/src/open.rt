@@ -31,14 +31,18 @@ pub fn open_text(alloc: Global, config: &[u8], digits: &str) -> Result<Output, A
         return Output::complaint(alloc, "bad word HEX");
     };
     match Config::read(alloc, config) {
-        Ok(mut config) => opened(alloc, &mut config.users, &datagram),
+        Ok(mut config) => open_datagram(alloc, &mut config.users, &datagram),
         Err(fault) if fault.is_memory() => Err(AllocError),
-        Err(fault) => Output::refused(alloc, &fault),
+        Err(fault) => Output::refusal(alloc, &fault),
     }
 }
 
 /// The lines of the message, or its refusal.
-pub fn opened(alloc: Global, users: &mut Users, datagram: &[u8]) -> Result<Output, AllocError>
+pub fn open_datagram(
+    alloc: Global,
+    users: &mut Users,
+    datagram: &[u8],
+) -> Result<Output, AllocError>
     ensures opens { IfOk result
         (λ output. let printed : Printed = record {
           out = output.out.items;

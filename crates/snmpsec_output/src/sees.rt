@@ -8,7 +8,7 @@ ghost use Rattle.snmpsec_output.specs.Questions.{Printed};
 ghost use Rattle.snmpsec_output.specs.Sees.{PrintsSeen};
 
 use crate::check::{Argument, bad_word};
-use crate::check_config::explained;
+use crate::check_config::refusal_and_why;
 use crate::output::Output;
 use crate::words::model_of;
 use snmpsec_access::sees;
@@ -40,14 +40,14 @@ pub fn sees_text(
         return bad_word(alloc, Argument::Model);
     };
     match AccessConfig::read(alloc, config) {
-        Ok(config) => listed(alloc, &config, model, name.as_bytes()),
+        Ok(config) => list_seen(alloc, &config, model, name.as_bytes()),
         Err(fault) if fault.is_memory() => Err(AllocError),
-        Err(fault) => explained(alloc, &fault),
+        Err(fault) => refusal_and_why(alloc, &fault),
     }
 }
 
 /// The lines of what the name sees, and the status that says whether one includes something.
-fn listed(
+fn list_seen(
     alloc: Global,
     config: &AccessConfig,
     model: u32,

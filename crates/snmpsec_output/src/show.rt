@@ -103,11 +103,11 @@ pub fn show_text(alloc: Global, digits: &str) -> Result<Output, AllocError>
     let Some(datagram) = datagram_of(alloc, digits)? else {
         return Output::complaint(alloc, "bad word HEX");
     };
-    shown(alloc, &datagram)
+    show_datagram(alloc, &datagram)
 }
 
 /// What `snmpsec show` prints of a datagram: its lines with status 0, or the line of its refusal with status 1.
-pub fn shown(alloc: Global, datagram: &[u8]) -> Result<Output, AllocError>
+pub fn show_datagram(alloc: Global, datagram: &[u8]) -> Result<Output, AllocError>
     ensures { IfOk result
         (λ output. let printed : Printed = record {
           out = output.out.items;

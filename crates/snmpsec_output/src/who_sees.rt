@@ -8,11 +8,11 @@ ghost use Rattle.snmpsec_output.specs.Questions.{Printed};
 ghost use Rattle.snmpsec_output.specs.WhoSees.{PrintsWho, WhoWords, AsksWho, IsFirstWrong, views_of, line_status};
 
 use crate::check::{Argument, bad_word};
-use crate::check_config::explained;
+use crate::check_config::refusal_and_why;
 use crate::output::Output;
 use crate::words::view_of;
 use snmp_ber::Oid;
-use snmpsec_access::{Wanted, who_sees};
+use snmpsec_access::{WhoSeesQuery, who_sees};
 use snmpsec_config::AccessConfig;
 use std::alloc::{AllocError, Global};
 use vacm_core::ViewType;
@@ -46,9 +46,9 @@ pub fn who_text(
         Err(argument) => return bad_word(alloc, argument),
     };
     match AccessConfig::read(alloc, config) {
-        Ok(config) => listed(alloc, &config, &asked, only_users),
+        Ok(config) => list_askers(alloc, &config, &asked, only_users),
         Err(fault) if fault.is_memory() => Err(AllocError),
-        Err(fault) => explained(alloc, &fault),
+        Err(fault) => refusal_and_why(alloc, &fault),
     }
 }
 
@@ -102,7 +102,7 @@ fn lines_of(
         (λ text. TellsWho (tables_of config.now.rows.access)
         (views_of asked.now.view) only_users config.now.rows.users.items asked.now.variable text.items) }
 {
-    let wanted = Wanted {
+    let wanted = WhoSeesQuery {
         access: &config.access,
         rows: &config.rows.access,
         users: config.rows.users.as_slice(),
@@ -120,7 +120,7 @@ fn lines_of(
 }
 
 /// The lines, and the status that says whether there is one.
-fn listed(
+fn list_askers(
     alloc: Global,
     config: &AccessConfig,
     asked: &Asked,

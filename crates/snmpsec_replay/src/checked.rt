@@ -58,7 +58,7 @@ pub fn check_log<R: BufRead>(alloc: Global, reader: &mut R) -> Result<CheckedLog
         return Err(ReplayFault::CannotRead);
     };
     if next.is_some() {
-        let why = told(alloc, LineFault::TooManyLines)?;
+        let why = fault_text(alloc, LineFault::TooManyLines)?;
         let number = LINES_LIMIT + 1;
         return Ok(CheckedLog::Faulty { number, why });
     }
@@ -83,7 +83,7 @@ fn check_line<R: BufRead>(
         NextLine::Whole => check_entry(alloc, line),
         NextLine::End => Ok(CheckedLine::End),
         NextLine::TooLong => {
-            let why = told(alloc, LineFault::TooLong)?;
+            let why = fault_text(alloc, LineFault::TooLong)?;
             Ok(CheckedLine::Faulty(why))
         }
         NextLine::NoLineFeed => {
@@ -116,13 +116,13 @@ fn why_line(alloc: Global, line: &[u8], other: LineFault<'_>) -> Result<String, 
         return Err(ReplayFault::OutOfMemory);
     };
     match line_fault(&text) {
-        Some(fault) => told(alloc, fault),
-        None => told(alloc, other),
+        Some(fault) => fault_text(alloc, fault),
+        None => fault_text(alloc, other),
     }
 }
 
 /// A fault in words.
-fn told(alloc: Global, fault: LineFault<'_>) -> Result<String, ReplayFault>
+fn fault_text(alloc: Global, fault: LineFault<'_>) -> Result<String, ReplayFault>
     ensures err { IfErr result (λ fault. fault ≡ faults.OutOfMemory) }
 {
     match format!(in alloc; "{fault}") {

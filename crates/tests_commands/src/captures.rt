@@ -2,7 +2,7 @@
 
 use super::streams::{Calls, Choppy, Slow};
 use capture_datagrams::datagrams::{Unread, datagrams};
-use capture_datagrams::forms::{Asked, Form, datagrams_of};
+use capture_datagrams::forms::{Form, ReadOptions, datagrams_of};
 use capture_datagrams::shown::{Printout, write_printout};
 use std::alloc::{AllocError, Global};
 use std::test::Fail;
@@ -183,8 +183,8 @@ refused 1 NotMessage at 5
 ";
 
 /// Asks for the datagrams of port 161, at the timestamp 7.
-const fn asked(form: Option<Form>) -> Asked<'static> {
-    Asked {
+const fn asked(form: Option<Form>) -> ReadOptions<'static> {
+    ReadOptions {
         form,
         moment: 7,
         ports: &[161],

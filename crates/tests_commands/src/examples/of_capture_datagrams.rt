@@ -1,10 +1,10 @@
 //! `capture_datagrams`: pasted hex as a line of a log.
-use capture_datagrams::forms::{Asked, datagrams_of};
+use capture_datagrams::forms::{ReadOptions, datagrams_of};
 use std::test::Fail;
 
 #[test]
 fn pasted_hex_is_a_line_of_a_log(rt: HostRuntime) -> Result<(), Fail> {
-    let asked = Asked {
+    let asked = ReadOptions {
         form: None,
         moment: 1_700_000_000,
         ports: &[161, 162],

@@ -1,5 +1,5 @@
 //! `snmpd_lines`: the user of a line `createUser`, and a line that makes none.
-use snmpd_lines::{Hash, UserFault, hash_of, user_line};
+use snmpd_lines::{CreateUserFault, Hash, hash_of, user_line};
 use std::test::Fail;
 
 #[test]
@@ -8,6 +8,6 @@ fn a_createuser_line_names_its_user(rt: HostRuntime) -> Result<(), Fail> {
     assert_eq!(rt; created.name.as_slice(), b"ann".as_slice());
     assert_eq!(rt; hash_of(b"SHA"), Some(Hash::Sha1));
     let short = user_line(rt.alloc(), b"ann SHA maple").err();
-    assert_eq!(rt; short, Some(UserFault::NoAuthKey));
+    assert_eq!(rt; short, Some(CreateUserFault::NoAuthKey));
     Ok(())
 }

@@ -31,4 +31,4 @@ returns-clause-ok c =
     let none : drop c.loop-place.place (map kind c.args.lines.now) ≡ [] = drop_all c.loop-place.place (map kind c.args.lines.now) (omega (arith, over, all)) in
     let read = subst (λ rest. ReadUp (map kind c.args.lines.now) rest c.loop-place.reading) none c.loop-place.invariant in
     let blocks = closed c.loop-place.reading (map kind c.args.lines.now) [] read tt in
-    (blocks.0, subst (λ d. AreBlocks blocks.0 (map kind c.args.lines.now) d []) (sym c.in_ok-closed.ensures) blocks.1)
+    (blocks.0, subst (λ d. AreBlocks blocks.0 (map kind c.args.lines.now) d []) (sym c.in_ok-into_dumps.ensures) blocks.1)

@@ -13,13 +13,13 @@ returns-in-Bindings c =
     let octets : List ℕ = c.pdu.result.list.now in
     let of_taken : IsPartOf (given_of c.taken-taken.result) Bindings octets = λ k f. (pdu_of c.pdu.result, c.pdu.ensures.is_pdu k f, refl) in
     let of_kept : IsPartOf c.args.kept.now Bindings octets = subst (λ (g : Given). IsPartOf g Bindings octets) c.taken-taken.ensures of_taken in
-    (octets, subst (λ (part : Part). IsPartOf c.args.kept.now part octets) (sym c.in-Bindings.is) of_kept, c.copied.ensures)
+    (octets, subst (λ (part : Part). IsPartOf c.args.kept.now part octets) (sym c.in-Bindings.is) of_kept, c.copy_to.ensures)
 
 pub returns-in-User : goal.returns-in-User
 returns-in-User c =
     let octets : List ℕ = c.taken-taken.result.user.now in
     let of_kept : IsPartOf c.args.kept.now User octets = ap (λ (g : Given). g.user) c.taken-taken.ensures in
-    (octets, subst (λ (part : Part). IsPartOf c.args.kept.now part octets) (sym c.in-User.is) of_kept, c.copied-in-User.ensures)
+    (octets, subst (λ (part : Part). IsPartOf c.args.kept.now part octets) (sym c.in-User.is) of_kept, c.copy_to-in-User.ensures)
 
 pub returns-in-ContextEngine : goal.returns-in-ContextEngine
 returns-in-ContextEngine c =
@@ -27,7 +27,7 @@ returns-in-ContextEngine c =
     let of_taken : IsPartOf (given_of c.taken-taken.result) ContextEngine octets = λ k f.
     ap (λ (s : Contexts). s.engine) (c.one_content.ensures.front (given_of c.taken-taken.result).text (contexts_of c.scoped-scoped.result) k c.scoped-scoped.ensures f) in
     let of_kept : IsPartOf c.args.kept.now ContextEngine octets = subst (λ (g : Given). IsPartOf g ContextEngine octets) c.taken-taken.ensures of_taken in
-    (octets, subst (λ (part : Part). IsPartOf c.args.kept.now part octets) (sym c.in-ContextEngine.is) of_kept, c.copied-in-ContextEngine.ensures)
+    (octets, subst (λ (part : Part). IsPartOf c.args.kept.now part octets) (sym c.in-ContextEngine.is) of_kept, c.copy_to-in-ContextEngine.ensures)
 
 pub returns-in-ContextName : goal.returns-in-ContextName
 returns-in-ContextName c =
@@ -35,4 +35,4 @@ returns-in-ContextName c =
     let of_taken : IsPartOf (given_of c.taken-taken.result) ContextName octets = λ k f.
     ap (λ (s : Contexts). s.name) (c.one_content.ensures.front (given_of c.taken-taken.result).text (contexts_of c.scoped-scoped.result) k c.scoped-scoped.ensures f) in
     let of_kept : IsPartOf c.args.kept.now ContextName octets = subst (λ (g : Given). IsPartOf g ContextName octets) c.taken-taken.ensures of_taken in
-    (octets, subst (λ (part : Part). IsPartOf c.args.kept.now part octets) (sym c.in-ContextName.is) of_kept, c.copied-in-ContextName.ensures)
+    (octets, subst (λ (part : Part). IsPartOf c.args.kept.now part octets) (sym c.in-ContextName.is) of_kept, c.copy_to-in-ContextName.ensures)

@@ -3,7 +3,7 @@ use Rattle.std.specs.Option.{option_map}
 use Rattle.snmpd_lines.specs.Words.{TakesWord}
 use Rattle.snmpd_rows.specs.Simple.{HasModelBehind, HasModel, TellsNoModelBehind, TellsNoModel}
 use Rattle.snmpd_rows.specs.declared.simple.Modeled.{Modeled}
-use Rattle.snmpd_lines.specs.declared.fault.Refusal.TheVariants as refusals
+use Rattle.snmpd_lines.specs.declared.fault.LineRefusal.TheVariants as refusals
 use Rattle.snmpd_lines.specs.declared.fault.LineFault.{LineFault}
 use Rattle.snmpd_lines.specs.declared.fault.LineFault.TheVariants.{Refused}
 use Rattle.snmpd_rows.proofs.simple.take_model.Goals as goal

@@ -3,8 +3,8 @@ use Rattle.snmpsec_output.proofs.check_config.check_config_hinted.Goals as goal
 
 pub returns-in-Ok : goal.returns-in-Ok
 returns-in-Ok c =
-    if_hinted c.hinted.result (λ output. output.out.items) (λ output. output.err.items) (λ output. output.status) _ _ _ c.in-Ok.ensures.says c.hinted.ensures.out c.hinted.ensures.err c.hinted.ensures.status
+    if_hinted c.counts_and_hints.result (λ output. output.out.items) (λ output. output.err.items) (λ output. output.status) _ _ _ c.in-Ok.ensures.says c.counts_and_hints.ensures.out c.counts_and_hints.ensures.err c.counts_and_hints.ensures.status
 
 pub returns-in-Err-2 : goal.returns-in-Err-2
 returns-in-Err-2 c =
-    if_hinted_not c.explained.result (λ output. output.out.items) (λ output. output.err.items) (λ output. output.status) _ c.in-Err.fault (record { cause = c.in-Err.ensures.refuses; no_memory = c.if-is_memory.ensures }) c.explained.ensures.out c.explained.ensures.err c.explained.ensures.status
+    if_hinted_not c.refusal_and_why.result (λ output. output.out.items) (λ output. output.err.items) (λ output. output.status) _ c.in-Err.fault (record { cause = c.in-Err.ensures.refuses; no_memory = c.if-is_memory.ensures }) c.refusal_and_why.ensures.out c.refusal_and_why.ensures.err c.refusal_and_why.ensures.status

@@ -6,5 +6,5 @@ use Rattle.snmpsec_output.proofs.show.show_text.Goals as goal
 pub returns : goal.returns
 returns c =
     let decoded : decode_of c.args.digits.now ≡ Ok c.in-Some.datagram.items = rw c.in-Some.is at c.in_ok-datagram.ensures in
-    if_shown c.shown.result (λ output. output.out.items) (λ output. output.err.items) (λ output. output.status) c.args.digits.now c.deref.result.now
-    (decoded ∙ ap Ok (sym c.deref.ensures.value)) c.shown.ensures
+    if_shown c.show_datagram.result (λ output. output.out.items) (λ output. output.err.items) (λ output. output.status) c.args.digits.now c.deref.result.now
+    (decoded ∙ ap Ok (sym c.deref.ensures.value)) c.show_datagram.ensures

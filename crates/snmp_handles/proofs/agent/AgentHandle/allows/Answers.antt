@@ -12,6 +12,6 @@ returns-in-Some c =
     let is : view_of c.args.view ≡ Some c.in-Some-Some.view = search rules in
     let arcs : c.in-Some-Some.variable ≡ c.args.arcs.now = c.in-Some-Some.ensures'.value in
     let kept : held.last ≡ Some c.in-Some.kept = subst (λ (h : AgentHeld). h.last ≡ Some c.in-Some.kept) c.self.view_is c.in-Some.is in
-    let asked : (k : Contexts) → ScopedFront c.in-Some.kept.text k → Allowed held.agent.tables (question_of c.in-Some.kept k) c.in-Some-Some.view c.args.arcs.now c.allowed.result
-    = subst (λ (h : AgentHeld). (k : Contexts) → ScopedFront c.in-Some.kept.text k → Allowed h.agent.tables (question_of c.in-Some.kept k) c.in-Some-Some.view c.args.arcs.now c.allowed.result) c.self.view_is (rw arcs at c.allowed.ensures) in
+    let asked : (k : Contexts) → ScopedFront c.in-Some.kept.text k → Allowed held.agent.tables (question_of c.in-Some.kept k) c.in-Some-Some.view c.args.arcs.now c.access_of_sender.result
+    = subst (λ (h : AgentHeld). (k : Contexts) → ScopedFront c.in-Some.kept.text k → Allowed h.agent.tables (question_of c.in-Some.kept k) c.in-Some-Some.view c.args.arcs.now c.access_of_sender.result) c.self.view_is (rw arcs at c.access_of_sender.ensures) in
     (c.in-Some.kept, c.in-Some-Some.view, kept, is, asked)

@@ -1,7 +1,7 @@
 use Rattle.std.proofs.Common.{take}
 use Rattle.snmpsec_access.specs.Known.{AreThose}
 use Rattle.snmpsec_access.specs.Names.{is_named}
-use Rattle.snmpsec_access.proofs.names.Names.named.Given as goal
+use Rattle.snmpsec_access.proofs.names.Names.of_access.Given as goal
 
 abbrev pub invariant-loop-row : goal.invariant-loop-row
 invariant-loop-row l = AreThose l.names (is_named (take l.row-index l.access))

@@ -3,8 +3,8 @@ use Rattle.snmpd_tables.specs.declared.rows.HeldAccess.{HeldAccess}
 use Rattle.snmpd_tables.specs.declared.rows.HeldFamily.{HeldFamily}
 use Rattle.snmpd_tables.specs.Kept.{AreWanted}
 use Rattle.snmpd_tables.proofs.Runs.{wants_one, wants_none, wants_end}
-use Rattle.snmpd_tables.proofs.kept.wanted.Goals.{then-is_wanted+in_ok-push, else-is_wanted}
-use Rattle.snmpd_tables.proofs.kept.wanted.Goals as goal
+use Rattle.snmpd_tables.proofs.kept.families_named.Goals.{then-is_wanted+in_ok-push, else-is_wanted}
+use Rattle.snmpd_tables.proofs.kept.families_named.Goals as goal
 
 pub loop-row-preserved : goal.loop-row-preserved
 loop-row-preserved c = λ others later.

@@ -3,7 +3,7 @@ use Rattle.snmp_message.specs.Scoped.{Contexts, ScopedFront}
 use Rattle.snmp_incoming.specs.Outcome.{Given}
 use Rattle.snmp_agent.specs.Decides.{question_of}
 use Rattle.vacm_core.specs.Allowed.{Allowed}
-use Rattle.snmp_handles.proofs.agent.allowed.Goals as goal
+use Rattle.snmp_handles.proofs.agent.access_of_sender.Goals as goal
 
 pub returns : goal.returns
 returns c =

@@ -1,5 +1,5 @@
 use Rattle.snmpsec_output.proofs.Shows.{if_told}
-use Rattle.snmpsec_output.proofs.show.shown.Goals as goal
+use Rattle.snmpsec_output.proofs.show.show_datagram.Goals as goal
 
 pub returns-in-Err : goal.returns-in-Err
 returns-in-Err c =
