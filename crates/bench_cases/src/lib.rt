@@ -5,6 +5,6 @@ mod answering;
 mod operation;
 mod station;
 
-pub use answering::Form;
+pub use answering::BindingForm;
 pub use operation::{Operation, Others, UnknownOperation};
 pub use station::Station;

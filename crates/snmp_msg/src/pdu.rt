@@ -141,10 +141,7 @@ pub fn written_pdu_len(id: i32, second: i32, third: i32, list_len: usize) -> usi
         → result ≡ length (pdu_text (record { tag = tag; id = id; second = second; third = third; list = list })) }
     ensures most { result ≤ 3 * LARGEST }
 {
-    pdu_len(
-        &pdu_without_bindings(GET_REQUEST, id, second, third),
-        list_len,
-    )
+    pdu_len(&bare_pdu(GET_REQUEST, id, second, third), list_len)
 }
 
 /// Appends what stands in a PDU before the content of its list, which has `list_len` octets.
@@ -204,12 +201,7 @@ pub fn put_pdu_of<B: Spelled>(
     ensures ok { OnOk result
         (out.new.items ≡ out.old.items ++ pdu_text (pdu_with tag id second third (map B.says bindings.now))) }
 {
-    put_spelled(
-        out,
-        &pdu_without_bindings(tag, id, second, third),
-        bindings,
-        list_len,
-    )
+    put_spelled(out, &bare_pdu(tag, id, second, third), bindings, list_len)
 }
 
 /// Writes a PDU with these bindings, whose list has `list_len` octets then, into `size` octets of memory.
@@ -261,7 +253,7 @@ fn write_spelled<B: Spelled>(
 }
 
 /// The tag and the numbers of a PDU, which has no bindings.
-fn pdu_without_bindings(tag: u8, id: i32, second: i32, third: i32) -> Pdu<'static>
+fn bare_pdu(tag: u8, id: i32, second: i32, third: i32) -> Pdu<'static>
     ensures { pdu_of result ≡ record { tag = tag; id = id; second = second; third = third; list = [] } }
 {
     Pdu {
@@ -327,9 +319,5 @@ pub fn write_pdu_of<B: Spelled>(
     ensures memory { IsErrOf result WriteFault.OutOfMemory
         → length (pdu_text (pdu_with tag id second third (map B.says bindings.now))) ≤ LARGEST }
 {
-    write_spelled(
-        alloc,
-        &pdu_without_bindings(tag, id, second, third),
-        bindings,
-    )
+    write_spelled(alloc, &bare_pdu(tag, id, second, third), bindings)
 }

@@ -28,7 +28,7 @@ pub use imported::{Imported, import};
 pub use included::{Sources, follow};
 pub use notes::{Kind, Told, Why, line_notes};
 pub use read_back::{TextFault, configuration};
-pub use rows::{Kept, kept_of};
+pub use rows::{KeptRows, kept_of};
 pub use second::second_notes;
 pub use texts::{is_serious, notes_text};
 pub use users::{HeldUser, users_of};

@@ -11,7 +11,7 @@
 //! ```
 //!
 //! ```
-//! use snmpd_lines::{Hash, CreateUserFault, hash_of, user_line};
+//! use snmpd_lines::{CreateUserFault, Hash, hash_of, user_line};
 //!
 //! let created = user_line(rt.alloc(), b"ann SHA maplesyrup AES")?;
 //! assert_eq!(rt; created.name.as_slice(), b"ann".as_slice());
@@ -33,12 +33,12 @@ mod values;
 mod words;
 
 pub use directives::{Directive, directive_of};
-pub use fault::{LineFault, Refusal};
+pub use fault::{LineFault, LineRefusal};
 pub use lines::{Line, Section, read_line};
 pub use masks::{MASK_ROOM, mask_octets};
 pub use protocols::{Cipher, Hash, cipher_of, hash_of};
 pub use subtrees::{Subtree, subtree_of};
 pub use types::{Types, ViewWord, types_of};
-pub use users::{Authentication, Created, Privacy, Protection, Secret, UserFault, user_line};
+pub use users::{Authentication, CreateUserFault, Created, Privacy, Protection, Secret, user_line};
 pub use values::{level_of, matching_of, model_of};
 pub use words::{Word, go_on, is_blank, is_word, take_or, take_token, take_word};

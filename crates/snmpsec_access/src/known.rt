@@ -35,7 +35,7 @@ impl<'a> Known<'a> {
         Ok(Known {
             rows,
             users: Names::of_users(alloc, &rows.users)?,
-            grouped: Names::of_groups(alloc, &access.groups)?,
+            grouped: Names::of_members(alloc, &access.groups)?,
             groups: Names::of_groups(alloc, &access.groups)?,
             with_access: Names::with_access(alloc, &access.access)?,
             with_family: Names::with_family(alloc, &access.families)?,

@@ -43,5 +43,5 @@ pub use laws::no_other_sees;
 pub use lines::hint_text;
 pub use seeing::{Seen, sees};
 pub use walk::hints;
-pub use who::{Wanted, who_sees};
+pub use who::{WhoSeesQuery, who_sees};
 pub use words::{access_word, put_quoted, view_word};

@@ -55,7 +55,7 @@ impl<'a> Names<'a> {
     }
 
     /// The names that group rows of the user-based model have.
-    pub(crate) fn of_groups(alloc: Global, groups: &'a [GroupRow]) -> Result<Names<'a>, AllocError>
+    pub(crate) fn of_members(alloc: Global, groups: &'a [GroupRow]) -> Result<Names<'a>, AllocError>
         ensures { IfOk result (λ names. AreThose names (is_grouped groups.now)) }
     {
         let mut names = Names::new(alloc);

@@ -131,7 +131,7 @@ mod saved;
 mod wide;
 
 pub use access::{AccessWords, access_words};
-pub use asked::{Asked, asked_by};
+pub use asked::{Invocation, asked_by};
 pub use capture::{DatagramsWords, datagrams_words};
 pub use given::{word_of, words_of};
 pub use import::{ImportWords, import_words};
