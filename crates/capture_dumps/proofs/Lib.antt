@@ -6,4 +6,4 @@ pub mod OneList
 pub mod Begins
 pub mod Parts
 pub mod Places
-pub mod Dumps
+pub mod DumpLines

@@ -1,5 +1,5 @@
 pub mod Walks
-pub mod Lines
+pub mod SeenLines
 pub mod Wholes
 pub mod Named
 pub mod Refused
@@ -15,4 +15,4 @@ pub mod Seens
 pub mod Added
 pub mod HintWalks
 pub mod Numbering
-pub mod Told
+pub mod HintsTold

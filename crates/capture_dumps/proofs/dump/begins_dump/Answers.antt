@@ -1,6 +1,6 @@
 use Rattle.std.proofs.Common.{◌∙◌, drop, ap}
 use Rattle.capture_dumps.specs.Dump.{begins_prefix}
-use Rattle.capture_dumps.proofs.Dumps.{behind_is_drop}
+use Rattle.capture_dumps.proofs.DumpLines.{behind_is_drop}
 use Rattle.capture_dumps.proofs.dump.begins_dump.Goals as goal
 
 pub returns : goal.returns

@@ -1,7 +1,7 @@
 use Rattle.std.proofs.Common.{◌≡◌, ◌+◌, true, false, drop, sym, ap, ◌∙◌, arith}
 use Rattle.std.proofs.lemmas.Bool.{false≢true}
 use Rattle.capture_dumps.specs.Dump.{IsDumpFrom, begins_dump}
-use Rattle.capture_dumps.proofs.Dumps.{behind_is_drop, dump_is, dump_again, nothing_begins, one_more}
+use Rattle.capture_dumps.proofs.DumpLines.{behind_is_drop, dump_is, dump_again, nothing_begins, one_more}
 use Rattle.capture_dumps.proofs.dump.dump_place.Goals.{else-begins_line-via-then-begins_line+else-begins_dump, else-begins_line-via-else-begins_line}
 use Rattle.capture_dumps.proofs.dump.dump_place.Goals as goal
 

@@ -6,7 +6,7 @@ use Rattle.snmpsec_access.specs.Found.{line_in}
 use Rattle.snmpsec_access.specs.Hints.{Told, told}
 use Rattle.snmpsec_access.specs.Lines.{hint_line, lines_of, table_of}
 use Rattle.snmpsec_access.specs.declared.hint.Hint.{Hint}
-use Rattle.snmpsec_access.proofs.Told.{same_lines}
+use Rattle.snmpsec_access.proofs.HintsTold.{same_lines}
 use Rattle.snmpsec_access.proofs.lines.hint_text.Goals as goal
 
 pub returns : goal.returns

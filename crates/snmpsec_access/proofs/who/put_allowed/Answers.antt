@@ -1,7 +1,7 @@
 use Rattle.std.proofs.lemmas.Result.{on_ok_weaker}
 use Rattle.snmpsec_access.specs.Askers.{asker}
 use Rattle.snmpsec_access.specs.WhoSees.{SeesIt}
-use Rattle.snmpsec_access.proofs.Lines.{sees, sees_not}
+use Rattle.snmpsec_access.proofs.SeenLines.{sees, sees_not}
 use Rattle.snmpsec_access.proofs.who.put_allowed.Goals as goal
 
 pub returns-then-is_allowed : goal.returns-then-is_allowed

@@ -1,6 +1,6 @@
 use Rattle.std.proofs.lemmas.Result.{on_ok_weaker}
 use Rattle.snmpsec_access.specs.WhoSees.{SeesIt, GoesOn}
-use Rattle.snmpsec_access.proofs.Lines.{nothing, goes_on}
+use Rattle.snmpsec_access.proofs.SeenLines.{nothing, goes_on}
 use Rattle.snmpsec_access.proofs.Walks.{three}
 use Rattle.snmpsec_access.proofs.who.put_group.Goals as goal
 

@@ -2,7 +2,7 @@ use Rattle.std.proofs.Common.{List, get_or, ap, ◌∙◌, arith}
 use Rattle.vacm_core.specs.declared.rows.ContextRow.{ContextRow}
 use Rattle.snmpsec_access.specs.Askers.{asker}
 use Rattle.snmpsec_access.specs.WhoSees.{SeesIt, GoesOn}
-use Rattle.snmpsec_access.proofs.Lines.{nothing, goes_on, none_sees}
+use Rattle.snmpsec_access.proofs.SeenLines.{nothing, goes_on, none_sees}
 use Rattle.snmpsec_access.proofs.Walks.{one_more}
 use Rattle.snmpsec_access.proofs.who.put_level.Goals as goal
 

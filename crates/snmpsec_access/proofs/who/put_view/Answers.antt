@@ -2,7 +2,7 @@ use Rattle.std.proofs.Common.{List, get_or, ap, ◌∙◌, arith}
 use Rattle.vacm_core.specs.declared.rows.GroupRow.{GroupRow}
 use Rattle.snmpsec_access.specs.Askers.{of_group}
 use Rattle.snmpsec_access.specs.WhoSees.{SeesIt, GoesOn}
-use Rattle.snmpsec_access.proofs.Lines.{nothing, goes_on}
+use Rattle.snmpsec_access.proofs.SeenLines.{nothing, goes_on}
 use Rattle.snmpsec_access.proofs.Walks.{many_more}
 use Rattle.snmpsec_access.proofs.who.put_view.Goals as goal
 

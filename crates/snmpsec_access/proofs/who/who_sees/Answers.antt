@@ -2,7 +2,7 @@ use Rattle.std.proofs.Common.{[], arith}
 use Rattle.vacm_core.specs.Tables.{tables_of}
 use Rattle.snmpsec_access.specs.Askers.{of_view}
 use Rattle.snmpsec_access.specs.WhoSees.{SeesIt, GoesOn}
-use Rattle.snmpsec_access.proofs.Lines.{nothing, goes_on}
+use Rattle.snmpsec_access.proofs.SeenLines.{nothing, goes_on}
 use Rattle.snmpsec_access.proofs.Walks.{many_at}
 use Rattle.snmpsec_access.proofs.who.who_sees.Goals as goal
 
