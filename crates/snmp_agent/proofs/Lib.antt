@@ -1,6 +1,6 @@
 pub mod Requests
 pub mod Judging
-pub mod Counted
+pub mod CountedAgents
 pub mod Reports
 pub mod Clocked
 pub mod Alike

@@ -2,7 +2,7 @@ use Rattle.std.proofs.Common.{arith}
 use Rattle.snmp_incoming.specs.Refusals.{number_of}
 use Rattle.snmp_incoming.specs.Outcome.{Outcome}
 use Rattle.snmp_agent.specs.Agent.{taker_at}
-use Rattle.snmp_agent.proofs.Counted.{answer_counted, second_is, clock_runs, known}
+use Rattle.snmp_agent.proofs.CountedAgents.{answer_counted, second_is, clock_runs, known}
 use Rattle.snmp_agent.proofs.Reports.{not_counted, not_asked, is_offered}
 use Rattle.snmp_agent.proofs.report.report.Goals as goal
 

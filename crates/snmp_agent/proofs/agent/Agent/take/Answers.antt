@@ -1,7 +1,7 @@
 use Rattle.std.proofs.Common.{Bool, subst}
 use Rattle.std.specs.Prelude.{◌≢◌, None}
 use Rattle.snmp_incoming.specs.Refusals.{answer_number, number_of, MemoryIs}
-use Rattle.snmp_agent.proofs.Counted.{answer_some, answer_offered}
+use Rattle.snmp_agent.proofs.CountedAgents.{answer_some, answer_offered}
 use Rattle.snmp_agent.proofs.agent.Agent.take.Goals as goal
 
 pub returns-in-Ok-report-clause-no_memory : goal.returns-in-Ok-report-clause-no_memory
