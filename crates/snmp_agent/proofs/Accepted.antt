@@ -7,9 +7,9 @@ use Rattle.usm_users.specs.User.{User}
 use Rattle.usm_core.specs.Sealed.{Seals}
 use Rattle.usm_core.specs.Verified.{manager}
 use Rattle.snmp_incoming.specs.Outcome.{as_manager}
-use Rattle.snmp_incoming.specs.declared.fault.TakeFault.{TakeFault}
+use Rattle.snmp_message.specs.declared.refused_at.RefusedAt.{RefusedAt}
 use Rattle.snmp_outgoing.specs.Accepts.{IsTakenInTime}
-use Rattle.snmp_outgoing.specs.Sends.{send_answer}
+use Rattle.usm_core.specs.Answers.{seal_answer}
 use Rattle.snmp_outgoing.specs.Speaks.{Speech, spoken, spoken_contexts, SpeechFits, HasSameUser}
 use Rattle.snmp_agent.specs.Sent.{IsAcceptedByManagers}
 
@@ -19,6 +19,6 @@ AreAccepted users s =
     (others : List User) (held : Marks) (now : ℕ) (text : List ℕ) → SpeechFits s → HasSameUser manager users others s.user s.level → Seals users (spoken s) (Ok text)
     → IsTakenInTime (as_manager held) others now text (spoken s) (spoken_contexts s) s.pdu
 
-pub accepted : (r : Result (Vec ℕ) TakeFault) (users : List User) (s : Speech) → AreAccepted users s → IfOk r (λ _. SpeechFits s) → IfSome (send_answer r) (Seals users (spoken s)) → IfOk r (λ text. IsAcceptedByManagers users s text.items)
+pub accepted : (r : Result (Vec ℕ) RefusedAt) (users : List User) (s : Speech) → AreAccepted users s → IfOk r (λ _. SpeechFits s) → IfSome (seal_answer r) (Seals users (spoken s)) → IfOk r (λ text. IsAcceptedByManagers users s text.items)
 accepted (Err e) users s law fits seals = tt
 accepted (Ok text) users s law fits seals = λ others held now same. law others held now text.items fits same seals

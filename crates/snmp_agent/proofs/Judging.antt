@@ -1,18 +1,16 @@
 -- The rows of the table, for the function that answers them.
+use Rattle.snmp_message.specs.declared.refusal.Refusal.TheVariants.{ClockExhausted, DecryptionError, NotInWindow, OutOfMemory}
+use Rattle.snmp_message.specs.declared.refusal.Refusal.{Refusal}
 use Rattle.std.proofs.Common.{◌≡◌, ℕ, List, Option, Some, None, Bool, true, false, sym, subst, ◌∙◌}
 use Rattle.std.specs.Prelude.{◌↔◌, ◌≢◌, Result, Ok, Err, IfSome, IsSomeAnd, IsTrue}
 use Rattle.engine_clock.specs.Pairs.{BootsAndTime}
 use Rattle.engine_clock.specs.Windows.{InAgentWindow}
 use Rattle.usm_users.specs.User.{User}
-use Rattle.usm_core.specs.declared.fault.UsmFault.{UsmFault}
-use Rattle.usm_core.specs.declared.fault.UsmFault.TheVariants as usm
-use Rattle.usm_core.specs.Refusals.{number_of}
-use Rattle.usm_core.specs.Table.{holds, fails, gives, refuses}
+use Rattle.snmp_message.specs.declared.refused_at.RefusedAt.{RefusedAt}
+use Rattle.usm_core.specs.Table.{holds, fails, gives, refuses, refusal_answer}
 use Rattle.usm_core.specs.Verified.{Verified, Verifies}
-use Rattle.snmp_incoming.specs.declared.fault.TakeFault.{TakeFault}
-use Rattle.snmp_incoming.specs.Refusals.{answer_number, IsSameRefusal}
 use Rattle.snmp_incoming.specs.Outcome.{Given, Taker, side_at, ClockRuns, IsFresh, pair_in, ReadsText, Weighs, Outcome}
-use Rattle.snmp_incoming.specs.Answers.{IsOpening, refused}
+use Rattle.snmp_incoming.specs.Answers.{IsOpening}
 use Rattle.snmp_incoming.proofs.Rows.{same_refused}
 
 pub not_both : (b : Bool) (P : Type 0) → IsTrue b ↔ P → b ≡ false → P → ⊥
@@ -24,29 +22,27 @@ inside own q v same fresh auth = subst (λ (p : BootsAndTime). InAgentWindow p (
 
 module _ (taker : Taker) (users : List User) (now : ℕ) (w : List ℕ) where
   -- the clock has run out
-  pub stopped : (ClockRuns taker now → ⊥) → Outcome taker users now w (Err 15)
+  pub stopped : (ClockRuns taker now → ⊥) → Outcome taker users now w (Err ClockExhausted)
   unfolding Outcome
   stopped never = fails never
 
   module _ (runs : ClockRuns taker now) where
     -- refused down to the digest
-    pub told_refused : (fault : UsmFault) (e : TakeFault) → fault ≢ usm.OutOfMemory → IsSameRefusal fault e → Verifies (side_at taker) users w (Err (number_of fault))
-        → IfSome (refused (answer_number e)) (Outcome taker users now w)
+    pub told_refused : (r : Refusal) → r ≢ OutOfMemory → Verifies (side_at taker) users w (Err r) → IfSome (refusal_answer r) (Outcome taker users now w)
     unfolding Outcome
-    told_refused fault e h is rows =
-        subst (λ (a : Option (Result Given ℕ)). IfSome a (Outcome taker users now w)) (sym (same_refused fault e h is)) (holds runs (refuses (number_of fault) rows))
+    told_refused r other rows = subst (λ (a : Option (Result Given Refusal)). IfSome a (Outcome taker users now w)) (sym (same_refused r other)) (holds runs (refuses r rows))
 
     module _ (v : Verified) (rows : Verifies (side_at taker) users w (Ok v)) where
-      pub late : ((v.parts.header.auth ≡ true → IsFresh taker now v) → ⊥) → Outcome taker users now w (Err 10)
+      pub late : ((v.parts.header.auth ≡ true → IsFresh taker now v) → ⊥) → Outcome taker users now w (Err NotInWindow)
       unfolding Outcome Weighs
       late outside = holds runs (gives v rows (fails outside))
 
       module _ (fresh : v.parts.header.auth ≡ true → IsFresh taker now v) where
-        pub unopened : IsOpening users w v None → Outcome taker users now w (Err 11)
+        pub unopened : IsOpening users w v None → Outcome taker users now w (Err DecryptionError)
         unfolding Outcome Weighs
         unopened opening = holds runs (gives v rows (holds fresh (fails (λ salt. opening.1 (salt opening.0)))))
 
-        pub reads : (text : List ℕ) (a : Option (Result Given ℕ)) → IsOpening users w v (Some text) → IsSomeAnd a (ReadsText v text) → IfSome a (Outcome taker users now w)
+        pub reads : (text : List ℕ) (a : Option (Result Given Refusal)) → IsOpening users w v (Some text) → IsSomeAnd a (ReadsText v text) → IfSome a (Outcome taker users now w)
         unfolding Outcome Weighs
         reads text None opening read = absurd read
         reads text (Some a) opening read = holds runs (gives v rows (holds fresh (holds opening.0 (text, opening.1, read))))

@@ -1,4 +1,5 @@
 -- Fronts of bindings, of one message told in two ways.
+use Rattle.snmp_message.specs.declared.refusal.Refusal.{Refusal}
 use Rattle.std.proofs.Common.{◌≡◌, inl, inr, ℕ, ◌+◌, List, [], take, subst, Result, Ok, Err, Option, Some, None}
 use Rattle.std.specs.Prelude.{IfSome, IfOk}
 use Rattle.snmp_msg.specs.Variables.{Variable}
@@ -14,12 +15,12 @@ module _ (users : List User) (limit : ℕ) (vs : List Variable) (after of : List
     longest = λ small. subst (IsBeyond users (room limit)) (is (take (count + 1) vs)) (h.longest small);
   }
 
-  same_answer : (answer : Result FrontText ℕ) → SealsFront users limit after vs answer → SealsFront users limit of vs answer
+  same_answer : (answer : Result FrontText Refusal) → SealsFront users limit after vs answer → SealsFront users limit of vs answer
   same_answer (Ok f) h = (subst (λ (m : Sending). Seals users m (Ok f.text)) (is (take f.count vs)) h.0, h.1, same_longest f.count h.2)
   same_answer (Err n) (inl rows) = inl (subst (λ (m : Sending). Seals users m (Err n)) (is []) rows)
   same_answer (Err n) (inr h) = inr (h.0, subst (IsSealable users) (is []) h.1, subst (IsBeyond users (room limit)) (is []) h.2)
 
-  pub same_message : (answer : Option (Result FrontText ℕ)) → IfSome answer (SealsFront users limit after vs) → IfSome answer (SealsFront users limit of vs)
+  pub same_message : (answer : Option (Result FrontText Refusal)) → IfSome answer (SealsFront users limit after vs) → IfSome answer (SealsFront users limit of vs)
   same_message None h = h
   same_message (Some answer) h = same_answer answer h
 

@@ -4,14 +4,15 @@
 -- that has one, modulo 2^32, and nothing else changed; for want of memory no answer, and all as before.
 -- `IsOpened`: the message comes as far as its opening and is sealed, the one case in which a take needs
 -- memory besides a report.
+use Rattle.usm_core.specs.Table.{refusal_answer}
+use Rattle.snmp_message.specs.declared.refusal.Refusal.{Refusal}
 use Rattle.std.specs.Prelude.{◌≡◌, ℕ, List, Option, Some, None, Result, Ok, Err, true}
 use Rattle.usm_users.specs.User.{User}
 use Rattle.usm_core.specs.Verified.{Verified, Verifies}
 use Rattle.vacm_core.specs.Tables.{Tables}
 use Rattle.snmp_incoming.specs.declared.taken.Taken.{Taken}
-use Rattle.snmp_incoming.specs.Refusals.{answer_number}
 use Rattle.snmp_incoming.specs.Outcome.{Given, Taker, as_agent, side_at, ClockRuns, IsFresh, Outcome}
-use Rattle.snmp_incoming.specs.Answers.{given_of, refused}
+use Rattle.snmp_incoming.specs.Answers.{given_of}
 use Rattle.snmp_agent.specs.declared.refused.Refused.{Refused}
 use Rattle.snmp_agent.specs.declared.engine.Engine.{Engine}
 use Rattle.snmp_agent.specs.Counting.{counters_after}
@@ -35,13 +36,13 @@ abbrev pub taker_at : Engine → Taker
 taker_at e = as_agent e.id e.boots e.started
 
 -- the answer to a datagram; None for want of memory, which is no answer of the table
-abbrev pub taken_answer : Result Taken Refused → Option (Result Given ℕ)
+abbrev pub taken_answer : Result Taken Refused → Option (Result Given Refusal)
 taken_answer (Ok t) = Some (Ok (given_of t))
-taken_answer (Err r) = refused (answer_number r.why)
+taken_answer (Err r) = refusal_answer r.why.refusal
 
 -- The answer is the table's, and nothing but the counter of the refusal changes. For want of memory there is
 -- no answer, and all is as before.
-abbrev pub AgentTakes : AgentState → ℕ → List ℕ → Option (Result Given ℕ) → AgentState → Type 0
+abbrev pub AgentTakes : AgentState → ℕ → List ℕ → Option (Result Given Refusal) → AgentState → Type 0
 AgentTakes old now w None new = new ≡ old
 AgentTakes old now w (Some answer) new =
     Outcome (taker_of old) old.users now w answer

@@ -6,14 +6,15 @@
 -- PDU, for which nothing is registered; else the context's name, which no row has. `Refuses`: what a
 -- refusal answers and leaves: one more in its counter, and for a PDU of the Confirmed Class the answer to
 -- sending `refusing`, the report with the counter after it.
+use Rattle.usm_core.specs.Table.{refusal_answer}
+use Rattle.snmp_message.specs.declared.refusal.Refusal.{Refusal}
 use Rattle.std.specs.Prelude.{◌≡◌, ◌⊎◌, ℕ, true, List, Option, Some, None, option_map, Result, Ok, Err}
 use Rattle.std.specs.Global.{Vec}
 use Rattle.snmp_message.specs.Scoped.{Contexts}
 use Rattle.snmp_msg.specs.Pdu.{PduParts}
 use Rattle.vacm_core.specs.Tables.{Tables}
 use Rattle.vacm_core.specs.Allowed.{HasContext}
-use Rattle.snmp_incoming.specs.declared.fault.TakeFault.{TakeFault}
-use Rattle.snmp_incoming.specs.Refusals.{answer_number}
+use Rattle.snmp_message.specs.declared.refused_at.RefusedAt.{RefusedAt}
 use Rattle.snmp_incoming.specs.Outcome.{Given}
 use Rattle.snmp_outgoing.specs.Classes.{is_confirmed}
 use Rattle.snmp_outgoing.specs.declared.counter.Counter.{Counter}
@@ -69,7 +70,7 @@ pub record IsReported (p : PduParts) (why : Unhandled) (counter : Counter) : Typ
   pub counted : counter_of why ≡ Some counter
 
 -- what is sent of it: the answer to sending the report with the counter after one more
-abbrev pub SendsRefusal : AgentState → ℕ → Given → PduParts → Counter → List ℕ → Result (List ℕ) ℕ → Type 0
+abbrev pub SendsRefusal : AgentState → ℕ → Given → PduParts → Counter → List ℕ → Result (List ℕ) Refusal → Type 0
 SendsRefusal a now g p counter salt = Sends a now
     (λ own. refusing a.engine own g p counter (count_after a.counts counter) salt)
 
@@ -81,7 +82,7 @@ RefusalCanBeSent a now g p why salt =
 
 -- A message that is reported is counted too, and where the report can't be sent nothing changes; another is
 -- counted alone, where it has a counter.
-abbrev pub Refuses : AgentState → ℕ → Given → PduParts → Unhandled → List ℕ → Result (Option (List ℕ)) ℕ
+abbrev pub Refuses : AgentState → ℕ → Given → PduParts → Unhandled → List ℕ → Result (Option (List ℕ)) Refusal
     → AgentState → Type 0
 Refuses old now g p why salt (Ok None) new = ((counter : Counter) → IsReported p why counter → ⊥)
     × (new ≡ agent_counted old why)
@@ -93,6 +94,6 @@ Refuses old now g p why salt
     × (new ≡ old)
 
 -- what the call answers; None for want of memory
-abbrev pub refusing_answer : Result (Option (Vec ℕ)) TakeFault → Option (Result (Option (List ℕ)) ℕ)
+abbrev pub refusing_answer : Result (Option (Vec ℕ)) RefusedAt → Option (Result (Option (List ℕ)) Refusal)
 refusing_answer (Ok text) = Some (Ok (report_of text))
-refusing_answer (Err fault) = option_map (λ n. Err n) (answer_number fault)
+refusing_answer (Err fault) = refusal_answer fault.refusal

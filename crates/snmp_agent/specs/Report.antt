@@ -5,6 +5,7 @@
 -- The report is then the `SealedText` of `reporting`: the agent's engine, boots and time, the msgID, the
 -- user and (where it can be read) the request-id of the message, and the counter after it was counted; at
 -- authNoPriv for counter 2, else at noAuthNoPriv.
+use Rattle.snmp_message.specs.declared.refusal.Refusal.{Refusal}
 use Rattle.std.specs.Prelude.{◌≡◌, ◌⊎◌, ℕ, ℤ, pos, true, List, Option, Some, None, Err, option_map}
 use Rattle.std.specs.Global.{Vec}
 use Rattle.snmp_message.specs.Layout.{Parts}
@@ -38,15 +39,15 @@ pub record AsksForReport (w : List ℕ) : Type 0 where
   pub reportable : outer.parts.header.reportable ≡ true
   pub confirmed : (plain : PlainPdu w outer.parts) → is_confirmed plain.pdu.tag ≡ true
 
--- A report on refusal n is offered.
-pub record Offers (w : List ℕ) (n : ℕ) : Type 0 where
+-- A report on this refusal is offered.
+pub record Offers (w : List ℕ) (refusal : Refusal) : Type 0 where
   pub counter : ℕ
-  pub counter_is : counter_of n ≡ Some counter
+  pub counter_is : counter_of refusal ≡ Some counter
   pub asks : AsksForReport w
 
 -- one is offered on the answer to the datagram, so that memory is needed for it
 abbrev pub OffersOnAnswer : Taker → List User → ℕ → List ℕ → Type 0
-OffersOnAnswer taker users now w = (n : ℕ) × Outcome taker users now w (Err n) × Offers w n
+OffersOnAnswer taker users now w = (refusal : Refusal) × Outcome taker users now w (Err refusal) × Offers w refusal
 
 -- ---- what it says
 
@@ -54,21 +55,21 @@ OffersOnAnswer taker users now w = (n : ℕ) × Outcome taker users now w (Err n
 abbrev pub IsCopiedId : List ℕ → Parts → ℤ → Type 0
 IsCopiedId w m id = ((plain : PlainPdu w m) × (id ≡ plain.pdu.id)) ⊎ ((PlainPdu w m → ⊥) × (id ≡ pos 0))
 
--- The report on refusal n of the datagram, by the users and the engine of the agent, its boots and time, and
+-- The report on this refusal of the datagram, by the users and the engine of the agent, its boots and time, and
 -- its counters after the refusal was counted; or None where none is offered.
 pub data IsReport (users : List User) (engine : List ℕ) (own : BootsAndTime) (counters : List ℕ) (w : List ℕ)
-    (n : ℕ) : Option (List ℕ) → Type 0 where
-  offered : (offer : Offers w n) (id : ℤ) (text : List ℕ) → IsCopiedId w offer.asks.outer.parts id
+    (refusal : Refusal) : Option (List ℕ) → Type 0 where
+  offered : (offer : Offers w refusal) (id : ℤ) (text : List ℕ) → IsCopiedId w offer.asks.outer.parts id
       → SealedText users (reporting engine own offer.asks.outer.parts.header.id offer.asks.security.fields.user id
       offer.counter (counter_at counters offer.counter)) text
-      → IsReport users engine own counters w n (Some text)
-  missing : (Offers w n → ⊥) → IsReport users engine own counters w n None
+      → IsReport users engine own counters w refusal (Some text)
+  missing : (Offers w refusal → ⊥) → IsReport users engine own counters w refusal None
 
--- what an agent, as the refusal left it, reports; nothing for want of memory
-abbrev pub AgentReports : AgentState → ℕ → List ℕ → Option ℕ → Option (List ℕ) → Type 0
+-- what an agent, as the refusal left it, reports; nothing for out of memory
+abbrev pub AgentReports : AgentState → ℕ → List ℕ → Option Refusal → Option (List ℕ) → Type 0
 AgentReports agent now w None report = report ≡ None
-AgentReports agent now w (Some n) report = IsReport agent.users agent.engine
-    (own_pair agent.boots agent.started now) agent.counters w n report
+AgentReports agent now w (Some refusal) report = IsReport agent.users agent.engine
+    (own_pair agent.boots agent.started now) agent.counters w refusal report
 
 abbrev pub report_of : Option (Vec ℕ) → Option (List ℕ)
 report_of report = option_map (λ v. v.items) report

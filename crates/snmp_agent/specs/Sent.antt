@@ -3,6 +3,7 @@
 --
 -- `Sends`. The answer of `respond` and `notify`: first that the agent's time has run out, then what `Seals`
 -- says of the `response` or the `notification` under its boots and time.
+use Rattle.snmp_message.specs.declared.refusal.Refusal.{Refusal}
 use Rattle.std.specs.Prelude.{◌<◌, ◌≤◌, ◌-◌, ℕ, false, List, Result}
 use Rattle.snmp_ber.specs.declared.level.Level.{Level}
 use Rattle.snmp_msg.specs.Variables.{Variable}
@@ -19,8 +20,8 @@ use Rattle.snmp_outgoing.specs.Accepts.{IsTakenInTime}
 use Rattle.snmp_outgoing.specs.Speaks.{Speech, spoken, spoken_contexts, HasSameUser}
 use Rattle.snmp_outgoing.specs.Sends.{CanSend, RefusesSender}
 use Rattle.snmp_outgoing.specs.Fronts.{FrontText, SealsFront}
-use Rattle.snmp_incoming.specs.declared.fault.TakeFault.{TakeFault}
-use Rattle.snmp_incoming.specs.declared.fault.TakeFault.TheVariants.{ClockExhausted}
+use Rattle.snmp_message.specs.declared.refused_at.RefusedAt.{RefusedAt}
+use Rattle.snmp_message.specs.declared.refusal.Refusal.TheVariants.{ClockExhausted}
 use Rattle.snmp_agent.specs.Agent.{AgentState}
 
 -- a message with this front and these bindings from the engine that isn't answered, as an SNMPv2-Trap is (RFC
@@ -43,7 +44,7 @@ abbrev pub notifying : List ℕ → BootsAndTime → ℕ → List ℕ → Level 
 notifying engine own id user level f vs salt = spoken (notification engine own id user level f vs salt)
 
 -- the answer to sending what an agent makes of its boots and time: first that its clock has run out
-abbrev pub Sends : AgentState → ℕ → (BootsAndTime → Sending) → Result (List ℕ) ℕ → Type 0
+abbrev pub Sends : AgentState → ℕ → (BootsAndTime → Sending) → Result (List ℕ) Refusal → Type 0
 Sends agent now message = Needs (now - agent.started ≤ pair_max) 15
     (λ _. Seals agent.users (message (own_pair agent.boots agent.started now)))
 
@@ -55,7 +56,7 @@ pub record CanBeSent (agent : AgentState) (now : ℕ) (message : BootsAndTime �
 -- the answer to sending the longest front of variables that has room, of a message that the agent makes of
 -- its boots and time and of variables: first that its clock has run out
 abbrev pub SendsFront : AgentState → ℕ → ℕ → (BootsAndTime → List Variable → Sending) → List Variable
-    → Result FrontText ℕ → Type 0
+    → Result FrontText Refusal → Type 0
 SendsFront agent now limit message vs = Needs (now - agent.started ≤ pair_max) 15
     (λ _. SealsFront agent.users limit (message (own_pair agent.boots agent.started now)) vs)
 
@@ -64,7 +65,7 @@ abbrev pub CanSendAt : AgentState → ℕ → List ℕ → Level → Type 0
 CanSendAt agent now name level = (now - agent.started ≤ pair_max) × CanSend agent.users name level
 
 -- why none of them can: first that the agent's clock has run out
-abbrev pub RefusesSenderAt : AgentState → ℕ → List ℕ → Level → TakeFault → Type 0
+abbrev pub RefusesSenderAt : AgentState → ℕ → List ℕ → Level → RefusedAt → Type 0
 RefusesSenderAt agent now name level ClockExhausted = pair_max < now - agent.started
 RefusesSenderAt agent now name level fault = (now - agent.started ≤ pair_max)
     × RefusesSender agent.users name level fault

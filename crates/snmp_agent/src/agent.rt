@@ -2,10 +2,12 @@
 
 ghost use Rattle.std.specs.Prelude.{◌≡◌, ◌≤◌, ◌<◌, ◌⊎◌, replicate, IfErr, IsSome, MatchOption, MatchResult};
 ghost use Rattle.engine_clock.specs.Pairs.{pair_max};
-ghost use Rattle.snmp_incoming.specs.Refusals.{answer_number};
 ghost use Rattle.snmp_agent.specs.Counting.{counter_at};
 ghost use Rattle.snmp_agent.specs.Agent.{taker_of, taken_answer, AgentTakes, IsOpened};
 ghost use Rattle.snmp_agent.specs.Report.{AgentReports, OffersOnAnswer, report_of};
+ghost use Rattle.snmp_message.specs.declared.refusal.Refusal.TheVariants.{OutOfMemory};
+ghost use Rattle.snmp_message.specs.Refusals.{IsRefused};
+ghost use Rattle.snmp_message.specs.Numbers.{in_table};
 
 use crate::answers::{answers, view_for};
 use crate::counter::{drop_counter_of, one_more};
@@ -21,8 +23,8 @@ use crate::response::{Response, write_response};
 use crate::response_laws::response_is_accepted;
 use engine_clock::EngineId;
 use snmp_ber::{Level, Oid};
-use snmp_incoming::{TakeFault, Taken};
-use snmp_msg::{Binding, Spelled, USER_BASED, one_content, one_pdu};
+use snmp_incoming::Taken;
+use snmp_msg::{Binding, Refusal, RefusedAt, Spelled, USER_BASED, one_content, one_pdu};
 use snmp_outgoing::{Body, Front, supports};
 use std::alloc::{AllocError, Global};
 use std::marker::Model;
@@ -68,7 +70,7 @@ impl Agent {
     ghost use Rattle.snmp_incoming.specs.Texts.{text_of};
     ghost use Rattle.snmp_incoming.specs.Answers.{given_of};
     ghost use Rattle.snmp_outgoing.specs.Bodies.{BodyFits, front_in, variables_in};
-    ghost use Rattle.snmp_outgoing.specs.Sends.{send_answer};
+    ghost use Rattle.usm_core.specs.Answers.{seal_answer};
     ghost use Rattle.snmp_agent.specs.Decides.{question, question_of, IsDecision};
     ghost use Rattle.snmp_incoming.specs.Outcome.{own_pair};
     ghost use Rattle.snmp_agent.specs.Responses.{response, responding};
@@ -134,7 +136,7 @@ impl Agent {
     pub fn take<'a>(&mut self, now: u64, datagram: &'a [u8]) -> Result<Taken<'a>, Refused>
         ensures takes { AgentTakes self.old now datagram.now (taken_answer result) self.new }
         ensures report { IfErr result
-            (λ r. AgentReports self.new now datagram.now (answer_number r.why) (report_of r.report)) }
+            (λ r. AgentReports self.new now datagram.now (in_table r.why.refusal) (report_of r.report)) }
         ensures no_memory { (IsOpened (taker_of self.old) self.old.users now datagram.now → ⊥)
             → (OffersOnAnswer (taker_of self.old) self.old.users now datagram.now → ⊥)
             → IsSome (taken_answer result) }
@@ -221,12 +223,12 @@ impl Agent {
     /// Whether messages of this user at this level can be sent at the moment `now` (RFC 3414, section 3.1).
     /// The errors are ClockExhausted (15), and then at levels with authentication UnknownUser (7), and where
     /// there is such a user UnsupportedLevel (8). It takes no memory.
-    pub fn supports(&self, now: u64, user: &[u8], level: Level) -> Result<(), TakeFault>
+    pub fn supports(&self, now: u64, user: &[u8], level: Level) -> Result<(), RefusedAt>
         ensures { MatchResult result (λ _. CanSendAt self.now now user.now level)
             (RefusesSenderAt self.now now user.now level) }
     {
         if self.engine.pair(now).is_none() {
-            return Err(TakeFault::ClockExhausted);
+            return Err(RefusedAt::plain(Refusal::ClockExhausted));
         }
         supports(&self.users, user, level)
     }
@@ -247,16 +249,16 @@ impl Agent {
         index: i32,
         bindings: &[Binding<'_>],
         salt: [u8; 8],
-    ) -> Result<Vec<u8>, TakeFault>
+    ) -> Result<Vec<u8>, RefusedAt>
         requires { All (λ b. CanBeWritten (variable_of b)) bindings.now }
         ensures answer { (c : Contexts) (p : PduParts) → ScopedFront (text_of taken.now.text) c → PduText c.pdu p
-            → IfSome (send_answer result)
+            → IfSome (seal_answer result)
             (Sends self.old now (λ own. responding self.old.engine own (given_of taken.now) c p status index
             (map variable_of bindings.now) salt)) }
 
         // The refusals before the text come before want of memory.
         ensures memory { (c : Contexts) (p : PduParts) → ScopedFront (text_of taken.now.text) c → PduText c.pdu p
-            → IsErrOf result TakeFault.OutOfMemory
+            → IsRefused result OutOfMemory
             → CanBeSent self.old now
             (λ own. responding self.old.engine own (given_of taken.now) c p status index
             (map variable_of bindings.now) salt) }
@@ -281,14 +283,14 @@ impl Agent {
         index: i32,
         bindings: &[B],
         salt: [u8; 8],
-    ) -> Result<Vec<u8>, TakeFault>
+    ) -> Result<Vec<u8>, RefusedAt>
         requires { All (λ b. B.fits b) bindings.now }
         ensures answer { (c : Contexts) (p : PduParts) → ScopedFront (text_of taken.now.text) c → PduText c.pdu p
-            → IfSome (send_answer result)
+            → IfSome (seal_answer result)
             (Sends self.old now (λ own. responding self.old.engine own (given_of taken.now) c p status index
             (map B.says bindings.now) salt)) }
         ensures memory { (c : Contexts) (p : PduParts) → ScopedFront (text_of taken.now.text) c → PduText c.pdu p
-            → IsErrOf result TakeFault.OutOfMemory
+            → IsRefused result OutOfMemory
             → CanBeSent self.old now
             (λ own. responding self.old.engine own (given_of taken.now) c p status index
             (map B.says bindings.now) salt) }
@@ -300,7 +302,7 @@ impl Agent {
     {
         response_is_accepted();
         let Some(own) = self.engine.pair(now) else {
-            return Err(TakeFault::ClockExhausted);
+            return Err(RefusedAt::plain(Refusal::ClockExhausted));
         };
         let response = Response {
             status,
@@ -330,17 +332,17 @@ impl Agent {
         level: Level,
         body: &Body<'_>,
         salt: [u8; 8],
-    ) -> Result<Vec<u8>, TakeFault>
+    ) -> Result<Vec<u8>, RefusedAt>
         requires id { id ≤ 2147483647 }
         requires user { length user.now ≤ 32 }
         requires tag { body.now.tag ≡ 167 }
         requires body { BodyFits body.now }
-        ensures answer { IfSome (send_answer result)
+        ensures answer { IfSome (seal_answer result)
             (Sends self.old now (λ own. notifying self.old.engine own id user.now level (front_in body.now)
             (variables_in body.now) salt)) }
 
         // The refusals before the text come before want of memory.
-        ensures memory { IsErrOf result TakeFault.OutOfMemory
+        ensures memory { IsRefused result OutOfMemory
             → CanBeSent self.old now
             (λ own. notifying self.old.engine own id user.now level (front_in body.now)
             (variables_in body.now) salt) }
@@ -364,15 +366,15 @@ impl Agent {
         front: &Front<'_>,
         bindings: &[B],
         salt: [u8; 8],
-    ) -> Result<Vec<u8>, TakeFault>
+    ) -> Result<Vec<u8>, RefusedAt>
         requires id { id ≤ 2147483647 }
         requires user { length user.now ≤ 32 }
         requires tag { front.now.tag ≡ 167 }
         requires fit { All (λ b. B.fits b) bindings.now }
-        ensures answer { IfSome (send_answer result)
+        ensures answer { IfSome (seal_answer result)
             (Sends self.old now (λ own. notifying self.old.engine own id user.now level front.now
             (map B.says bindings.now) salt)) }
-        ensures memory { IsErrOf result TakeFault.OutOfMemory
+        ensures memory { IsRefused result OutOfMemory
             → CanBeSent self.old now
             (λ own. notifying self.old.engine own id user.now level front.now (map B.says bindings.now) salt) }
         ensures accepted { IfOk result (λ text. IsAcceptedByManagers self.old.users
@@ -382,7 +384,7 @@ impl Agent {
     {
         notification_is_accepted();
         let Some(own) = self.engine.pair(now) else {
-            return Err(TakeFault::ClockExhausted);
+            return Err(RefusedAt::plain(Refusal::ClockExhausted));
         };
         let to = Recipient {
             id,

@@ -2,24 +2,23 @@
 
 ghost use Rattle.std.specs.Prelude.{◌≡◌};
 ghost use Rattle.snmp_agent.specs.Counts.{drop_counter_of, one_more};
-ghost use Rattle.snmp_incoming.specs.Refusals.{number_of};
 
-use snmp_incoming::TakeFault;
+use snmp_msg::Refusal;
 use snmp_outgoing::Counter;
 
 /// The counter of a refusal that is never reported.
-pub(crate) fn drop_counter_of(why: TakeFault) -> Option<Counter>
-    ensures { result ≡ drop_counter_of (number_of why) }
+pub(crate) fn drop_counter_of(why: Refusal) -> Option<Counter>
+    ensures { result ≡ drop_counter_of why }
 {
     match why {
-        TakeFault::BadVersion => Some(Counter::InBadVersions),
-        TakeFault::NotMessage { .. }
-        | TakeFault::NotSecurity { .. }
-        | TakeFault::NotScoped { .. }
-        | TakeFault::BadScoped { .. }
-        | TakeFault::BadPdu { .. } => Some(Counter::InAsnParseErrs),
-        TakeFault::UnknownModel => Some(Counter::UnknownSecurityModels),
-        TakeFault::InvalidFlags => Some(Counter::InvalidMsgs),
+        Refusal::BadVersion => Some(Counter::InBadVersions),
+        Refusal::NotMessage
+        | Refusal::NotSecurity
+        | Refusal::NotScoped
+        | Refusal::BadScoped
+        | Refusal::BadPdu => Some(Counter::InAsnParseErrs),
+        Refusal::UnknownModel => Some(Counter::UnknownSecurityModels),
+        Refusal::InvalidFlags => Some(Counter::InvalidMsgs),
         _ => None,
     }
 }

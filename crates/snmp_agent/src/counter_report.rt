@@ -3,13 +3,15 @@
 ghost use Rattle.std.specs.Prelude.{◌≡◌, ◌+◌, ◌<◌, length, IfSome, IsErrOf};
 ghost use Rattle.snmp_ber.specs.Oid.{IsObjectId};
 ghost use Rattle.usm_core.specs.Sealed.{Seals, IsSealable};
-ghost use Rattle.snmp_outgoing.specs.Sends.{send_answer, sent_with};
+ghost use Rattle.snmp_outgoing.specs.Sends.{sent_with};
+ghost use Rattle.usm_core.specs.Answers.{seal_answer};
 ghost use Rattle.snmp_agent.specs.CounterReports.{counter_scoped};
+ghost use Rattle.snmp_message.specs.declared.refusal.Refusal.TheVariants.{OutOfMemory, TooLarge};
+ghost use Rattle.snmp_message.specs.Refusals.{IsRefused};
 
 use engine_clock::EngineId;
 use snmp_ber::{Oid, int_content};
-use snmp_incoming::TakeFault;
-use snmp_msg::{Binding, COUNTER32, LARGEST, REPORT};
+use snmp_msg::{Binding, COUNTER32, LARGEST, REPORT, RefusedAt};
 use snmp_outgoing::{Body, Envelope, write_body};
 use usm_core::Users;
 
@@ -23,13 +25,13 @@ pub fn write_counter_report(
     request_id: i32,
     name: Oid,
     value: u32,
-) -> Result<Vec<u8>, TakeFault>
+) -> Result<Vec<u8>, RefusedAt>
     requires { IsObjectId name }
-    ensures rows { IfSome (send_answer result)
+    ensures rows { IfSome (seal_answer result)
         (Seals users.old.users (sent_with envelope.now (counter_scoped engine.now request_id name value))) }
-    ensures memory { IsErrOf result TakeFault.OutOfMemory
+    ensures memory { IsRefused result OutOfMemory
         → IsSealable users.old.users (sent_with envelope.now (counter_scoped engine.now request_id name value)) }
-    ensures short { IsErrOf result TakeFault.TooLarge
+    ensures short { IsRefused result TooLarge
         → LARGEST < 150 + length envelope.now.engine.now + length envelope.now.user.now
         + length (counter_scoped engine.now request_id name value) }
     ensures users { users.new.users ≡ users.old.users }

@@ -8,7 +8,7 @@ ghost use Rattle.snmp_msg.specs.Variables.{CanBeWritten, variable_of};
 ghost use Rattle.snmp_incoming.specs.Texts.{text_of};
 ghost use Rattle.snmp_incoming.specs.Answers.{given_of};
 ghost use Rattle.snmp_incoming.specs.Outcome.{own_pair};
-ghost use Rattle.snmp_outgoing.specs.Sends.{send_answer};
+ghost use Rattle.usm_core.specs.Answers.{seal_answer};
 ghost use Rattle.snmp_outgoing.specs.UpTo.{UpTo};
 ghost use Rattle.snmp_outgoing.specs.Fronts.{front_answer};
 ghost use Rattle.snmp_agent.specs.Counts.{count_at, one_more};
@@ -16,6 +16,8 @@ ghost use Rattle.snmp_agent.specs.Responses.{response, responding};
 ghost use Rattle.snmp_agent.specs.Sent.{Sends, SendsFront, CanBeSent, IsAcceptedByManagers};
 ghost use Rattle.snmp_agent.specs.Dispatch.{HandledBy, Refuses, RefusalCanBeSent, refusing_answer};
 ghost use Rattle.snmp_outgoing.specs.declared.counter.Counter.TheVariants.{SilentDrops};
+ghost use Rattle.snmp_message.specs.declared.refusal.Refusal.TheVariants.{OutOfMemory};
+ghost use Rattle.snmp_message.specs.Refusals.{IsRefused};
 
 use crate::agent::Agent;
 use crate::commands::{is_answer, is_command};
@@ -24,8 +26,8 @@ use crate::refusal::{Counted, write_refusal_report};
 use crate::response::{Response, write_response_front};
 use crate::response_laws::response_is_accepted;
 use crate::unhandled::Unhandled;
-use snmp_incoming::{TakeFault, Taken};
-use snmp_msg::{Binding, Pdu, Scoped, Spelled, one_content, one_pdu};
+use snmp_incoming::Taken;
+use snmp_msg::{Binding, Pdu, Refusal, RefusedAt, Scoped, Spelled, one_content, one_pdu};
 use snmp_outgoing::{Counter, Fronted, is_confirmed};
 
 impl Agent {
@@ -90,14 +92,14 @@ impl Agent {
         taken: &Taken<'_>,
         why: Unhandled,
         salt: [u8; 8],
-    ) -> Result<Option<Vec<u8>>, TakeFault>
+    ) -> Result<Option<Vec<u8>>, RefusedAt>
         ensures answer { (c : Contexts) (p : PduParts) → ScopedFront (text_of taken.now.text) c → PduText c.pdu p
             → IfSome (refusing_answer result)
             (λ answer. Refuses self.old now (given_of taken.now) p why salt answer self.new) }
 
         // There is a report, and the refusals before its text come before want of memory.
         ensures memory { (c : Contexts) (p : PduParts) → ScopedFront (text_of taken.now.text) c → PduText c.pdu p
-            → IsErrOf result TakeFault.OutOfMemory
+            → IsRefused result OutOfMemory
             → RefusalCanBeSent self.old now (given_of taken.now) p why salt }
         ensures err { OnErr result (self.new ≡ self.old) }
     {
@@ -115,10 +117,10 @@ impl Agent {
         pdu: &Pdu<'_>,
         why: Unhandled,
         salt: [u8; 8],
-    ) -> Result<Option<Vec<u8>>, TakeFault>
+    ) -> Result<Option<Vec<u8>>, RefusedAt>
         ensures answer { IfSome (refusing_answer result)
             (λ answer. Refuses self.old now (given_of taken.now) (pdu_of pdu.now) why salt answer self.new) }
-        ensures memory { IsErrOf result TakeFault.OutOfMemory
+        ensures memory { IsRefused result OutOfMemory
             → RefusalCanBeSent self.old now (given_of taken.now) (pdu_of pdu.now) why salt }
         ensures err { OnErr result (self.new ≡ self.old) }
     {
@@ -131,7 +133,7 @@ impl Agent {
             return Ok(None);
         }
         let Some(own) = self.engine.pair(now) else {
-            return Err(TakeFault::ClockExhausted);
+            return Err(RefusedAt::plain(Refusal::ClockExhausted));
         };
         let counted = Counted {
             counter,
@@ -162,17 +164,17 @@ impl Agent {
         bindings: &[Binding<'_>],
         salt: [u8; 8],
         limit: usize,
-    ) -> Result<Vec<u8>, TakeFault>
+    ) -> Result<Vec<u8>, RefusedAt>
         requires { All (λ b. CanBeWritten (variable_of b)) bindings.now }
         ensures answer { (c : Contexts) (p : PduParts) → ScopedFront (text_of taken.now.text) c → PduText c.pdu p
-            → IfSome (send_answer result)
+            → IfSome (seal_answer result)
             (UpTo limit (Sends self.old now
             (λ own. responding self.old.engine own (given_of taken.now) c p status index
             (map variable_of bindings.now) salt))) }
 
         // The refusals before the text come before want of memory.
         ensures memory { (c : Contexts) (p : PduParts) → ScopedFront (text_of taken.now.text) c → PduText c.pdu p
-            → IsErrOf result TakeFault.OutOfMemory
+            → IsRefused result OutOfMemory
             → CanBeSent self.old now
             (λ own. responding self.old.engine own (given_of taken.now) c p status index
             (map variable_of bindings.now) salt) }
@@ -197,15 +199,15 @@ impl Agent {
         bindings: &[B],
         salt: [u8; 8],
         limit: usize,
-    ) -> Result<Vec<u8>, TakeFault>
+    ) -> Result<Vec<u8>, RefusedAt>
         requires { All (λ b. B.fits b) bindings.now }
         ensures answer { (c : Contexts) (p : PduParts) → ScopedFront (text_of taken.now.text) c → PduText c.pdu p
-            → IfSome (send_answer result)
+            → IfSome (seal_answer result)
             (UpTo limit (Sends self.old now
             (λ own. responding self.old.engine own (given_of taken.now) c p status index
             (map B.says bindings.now) salt))) }
         ensures memory { (c : Contexts) (p : PduParts) → ScopedFront (text_of taken.now.text) c → PduText c.pdu p
-            → IsErrOf result TakeFault.OutOfMemory
+            → IsRefused result OutOfMemory
             → CanBeSent self.old now
             (λ own. responding self.old.engine own (given_of taken.now) c p status index
             (map B.says bindings.now) salt) }
@@ -217,7 +219,7 @@ impl Agent {
     {
         let text = self.respond_of(now, taken, status, index, bindings, salt)?;
         if text.len() > limit {
-            return Err(TakeFault::TooLarge);
+            return Err(RefusedAt::plain(Refusal::TooLarge));
         }
         Ok(text)
     }
@@ -238,7 +240,7 @@ impl Agent {
         bindings: &[B],
         salt: [u8; 8],
         limit: usize,
-    ) -> Result<Fronted, TakeFault>
+    ) -> Result<Fronted, RefusedAt>
         requires { All (λ b. B.fits b) bindings.now }
         ensures answer { (c : Contexts) (p : PduParts) → ScopedFront (text_of taken.now.text) c → PduText c.pdu p
             → IfSome (front_answer result)
@@ -246,7 +248,7 @@ impl Agent {
             (λ own vs. responding self.old.engine own (given_of taken.now) c p status index vs salt)
             (map B.says bindings.now)) }
         ensures memory { (c : Contexts) (p : PduParts) → ScopedFront (text_of taken.now.text) c → PduText c.pdu p
-            → IsErrOf result TakeFault.OutOfMemory
+            → IsRefused result OutOfMemory
             → CanBeSent self.old now
             (λ own. responding self.old.engine own (given_of taken.now) c p status index [] salt) }
         ensures accepted { (c : Contexts) (p : PduParts) → ScopedFront (text_of taken.now.text) c → PduText c.pdu p
@@ -257,7 +259,7 @@ impl Agent {
     {
         response_is_accepted();
         let Some(own) = self.engine.pair(now) else {
-            return Err(TakeFault::ClockExhausted);
+            return Err(RefusedAt::plain(Refusal::ClockExhausted));
         };
         let response = Response {
             status,

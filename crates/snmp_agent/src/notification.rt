@@ -4,14 +4,15 @@ ghost use Rattle.std.specs.Prelude.{◌≡◌, ◌≤◌, All, length, map, IfOk
 ghost use Rattle.engine_clock.specs.Pairs.{IsPair};
 ghost use Rattle.snmp_msg.specs.Pdu.{IsPduTag};
 ghost use Rattle.usm_core.specs.Sealed.{Seals, IsSealable};
-ghost use Rattle.snmp_outgoing.specs.Sends.{send_answer};
+ghost use Rattle.usm_core.specs.Answers.{seal_answer};
 ghost use Rattle.snmp_outgoing.specs.Speaks.{SpeechFits};
 ghost use Rattle.snmp_agent.specs.Sent.{notification, notifying};
+ghost use Rattle.snmp_message.specs.declared.refusal.Refusal.TheVariants.{OutOfMemory};
+ghost use Rattle.snmp_message.specs.Refusals.{IsRefused};
 
 use engine_clock::{EngineId, Pair};
 use snmp_ber::Level;
-use snmp_incoming::TakeFault;
-use snmp_msg::Spelled;
+use snmp_msg::{RefusedAt, Spelled};
 use snmp_outgoing::{Envelope, Front, write_body_of};
 use usm_core::Users;
 
@@ -36,15 +37,15 @@ pub(crate) fn write_notification<B: Spelled>(
     to: &Recipient<'_>,
     front: &Front<'_>,
     bindings: &[B],
-) -> Result<Vec<u8>, TakeFault>
+) -> Result<Vec<u8>, RefusedAt>
     requires tag { IsPduTag front.now.tag }
     requires fit { All (λ b. B.fits b) bindings.now }
     requires pair { IsPair own }
-    ensures rows { IfSome (send_answer result)
+    ensures rows { IfSome (seal_answer result)
         (Seals users.old.users
         (notifying engine.now own to.now.id to.now.user.now to.now.level front.now
         (map B.says bindings.now) to.now.salt)) }
-    ensures memory { IsErrOf result TakeFault.OutOfMemory
+    ensures memory { IsRefused result OutOfMemory
         → IsSealable users.old.users
         (notifying engine.now own to.now.id to.now.user.now to.now.level front.now
         (map B.says bindings.now) to.now.salt) }

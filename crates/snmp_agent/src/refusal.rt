@@ -4,14 +4,16 @@ ghost use Rattle.std.specs.Prelude.{◌≡◌, IfSome, IsErrOf};
 ghost use Rattle.snmp_msg.specs.Pdu.{pdu_of};
 ghost use Rattle.usm_core.specs.Sealed.{Seals, IsSealable};
 ghost use Rattle.snmp_incoming.specs.Answers.{given_of};
-ghost use Rattle.snmp_outgoing.specs.Sends.{send_answer};
+ghost use Rattle.usm_core.specs.Answers.{seal_answer};
 ghost use Rattle.snmp_agent.specs.CounterReports.{refusing};
+ghost use Rattle.snmp_message.specs.declared.refusal.Refusal.TheVariants.{OutOfMemory};
+ghost use Rattle.snmp_message.specs.Refusals.{IsRefused};
 
 use crate::counter_report::write_counter_report;
 use engine_clock::{EngineId, Pair};
 use snmp_ber::Oid;
-use snmp_incoming::{TakeFault, Taken};
-use snmp_msg::Pdu;
+use snmp_incoming::Taken;
+use snmp_msg::{Pdu, RefusedAt};
 use snmp_outgoing::{Counter, Envelope};
 use usm_core::Users;
 
@@ -36,12 +38,12 @@ pub fn write_refusal_report<'a>(
     taken: &'a Taken<'a>,
     pdu: &Pdu<'_>,
     counted: Counted,
-) -> Result<Vec<u8>, TakeFault>
-    ensures rows { IfSome (send_answer result)
+) -> Result<Vec<u8>, RefusedAt>
+    ensures rows { IfSome (seal_answer result)
         (Seals users.old.users
         (refusing engine.now own (given_of taken.now)
         (pdu_of pdu.now) counted.counter counted.value counted.salt)) }
-    ensures memory { IsErrOf result TakeFault.OutOfMemory
+    ensures memory { IsRefused result OutOfMemory
         → IsSealable users.old.users
         (refusing engine.now own (given_of taken.now)
         (pdu_of pdu.now) counted.counter counted.value counted.salt) }

@@ -4,9 +4,8 @@ ghost use Rattle.std.specs.Prelude.{◌≡◌, Some, IfOk, OnErr, IfSome};
 ghost use Rattle.snmp_ber.specs.declared.level.Level.TheVariants.{AuthNoPriv};
 ghost use Rattle.usm_users.specs.Users.{HasUserAt};
 ghost use Rattle.usm_core.specs.Sealed.{SealedText};
-ghost use Rattle.snmp_incoming.specs.Refusals.{number_of, answer_number};
 ghost use Rattle.snmp_incoming.specs.Outcome.{Outcome, own_pair};
-ghost use Rattle.snmp_incoming.specs.Answers.{refused};
+ghost use Rattle.usm_core.specs.Table.{refusal_answer};
 ghost use Rattle.snmp_agent.specs.Counting.{counter_of};
 ghost use Rattle.snmp_agent.specs.Agent.{taker_at};
 ghost use Rattle.snmp_agent.specs.CounterReports.{report_level};
@@ -19,8 +18,7 @@ use crate::counting::counter_of;
 use crate::engine::Engine;
 use engine_clock::{EngineId, Pair};
 use snmp_ber::{Level, Oid};
-use snmp_incoming::TakeFault;
-use snmp_msg::{one_cut, one_message};
+use snmp_msg::{Refusal, one_cut, one_message};
 use snmp_outgoing::{Envelope, counter_name};
 use std::alloc::AllocError;
 use usm_core::{Users, verified_was_read};
@@ -33,17 +31,17 @@ pub(crate) fn report(
     engine: &Engine,
     now: u64,
     counters: &[u32; 6],
-    why: TakeFault,
+    why: Refusal,
     datagram: &[u8],
 ) -> Result<Option<Vec<u8>>, AllocError>
-    requires rows { IfSome (refused (answer_number why))
+    requires rows { IfSome (refusal_answer why)
         (Outcome (taker_at engine.now) users.old.users now datagram.now) }
     ensures users { users.new.users ≡ users.old.users }
     ensures report { IfOk result
         (λ r. IsReport users.old.users engine.now.id
-        (own_pair engine.now.boots engine.now.started now) counters.now datagram.now (number_of why)
+        (own_pair engine.now.boots engine.now.started now) counters.now datagram.now why
         (report_of r)) }
-    ensures memory { OnErr result (Offers datagram.now (number_of why)) }
+    ensures memory { OnErr result (Offers datagram.now why) }
 {
     one_message();
     one_cut();

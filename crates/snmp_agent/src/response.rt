@@ -10,14 +10,17 @@ ghost use Rattle.usm_core.specs.Sealed.{Seals, IsSealable};
 ghost use Rattle.snmp_incoming.specs.Texts.{text_of};
 ghost use Rattle.snmp_incoming.specs.Answers.{given_of};
 ghost use Rattle.snmp_outgoing.specs.Bodies.{pdu_after, scoped_after};
-ghost use Rattle.snmp_outgoing.specs.Sends.{send_answer, sent_with};
+ghost use Rattle.snmp_outgoing.specs.Sends.{sent_with};
+ghost use Rattle.usm_core.specs.Answers.{seal_answer};
 ghost use Rattle.snmp_outgoing.specs.Fronts.{SealsFront, front_answer};
 ghost use Rattle.snmp_outgoing.specs.Speaks.{SpeechFits};
 ghost use Rattle.snmp_agent.specs.Responses.{response as speech, responding};
+ghost use Rattle.snmp_message.specs.declared.refusal.Refusal.TheVariants.{OutOfMemory};
+ghost use Rattle.snmp_message.specs.Refusals.{IsRefused};
 
 use engine_clock::{EngineId, Pair};
-use snmp_incoming::{TakeFault, Taken};
-use snmp_msg::{RESPONSE, Spelled, one_content, one_pdu};
+use snmp_incoming::Taken;
+use snmp_msg::{RESPONSE, RefusedAt, Spelled, one_content, one_pdu};
 use snmp_outgoing::{Envelope, Front, Fronted, write_body_of, write_front};
 use usm_core::Users;
 
@@ -97,16 +100,16 @@ pub fn write_response<B: Spelled>(
     taken: &Taken<'_>,
     response: &Response,
     bindings: &[B],
-) -> Result<Vec<u8>, TakeFault>
+) -> Result<Vec<u8>, RefusedAt>
     requires bindings { All (λ b. B.fits b) bindings.now }
     requires pair { IsPair own }
     ensures rows { (c : Contexts) (p : PduParts) → ScopedFront (text_of taken.now.text) c → PduText c.pdu p
-        → IfSome (send_answer result)
+        → IfSome (seal_answer result)
         (Seals users.old.users
         (responding engine.now own (given_of taken.now) c p response.now.status response.now.index
         (map B.says bindings.now) response.now.salt)) }
     ensures memory { (c : Contexts) (p : PduParts) → ScopedFront (text_of taken.now.text) c → PduText c.pdu p
-        → IsErrOf result TakeFault.OutOfMemory
+        → IsRefused result OutOfMemory
         → IsSealable users.old.users
         (responding engine.now own (given_of taken.now) c p response.now.status response.now.index
         (map B.says bindings.now) response.now.salt) }
@@ -133,7 +136,7 @@ pub fn write_response_front<B: Spelled>(
     response: &Response,
     bindings: &[B],
     limit: usize,
-) -> Result<Fronted, TakeFault>
+) -> Result<Fronted, RefusedAt>
     requires bindings { All (λ b. B.fits b) bindings.now }
     requires pair { IsPair own }
     ensures rows { (c : Contexts) (p : PduParts) → ScopedFront (text_of taken.now.text) c → PduText c.pdu p
@@ -143,7 +146,7 @@ pub fn write_response_front<B: Spelled>(
         (given_of taken.now) c p response.now.status response.now.index vs response.now.salt)
         (map B.says bindings.now)) }
     ensures memory { (c : Contexts) (p : PduParts) → ScopedFront (text_of taken.now.text) c → PduText c.pdu p
-        → IsErrOf result TakeFault.OutOfMemory
+        → IsRefused result OutOfMemory
         → IsSealable users.old.users
         (responding engine.now own
         (given_of taken.now) c p response.now.status response.now.index [] response.now.salt) }

@@ -11,7 +11,6 @@ use crate::agent_calls::{
     allows, clear, counter, may, message, notify, numbers, part, respond, take,
 };
 use snmp_handles::{AgentHandle, CallFault};
-use snmp_incoming::TakeFault;
 use std::alloc::Global;
 
 /// Makes an agent of this configuration, in TOML, with this engine ID and these boots, which started at the

@@ -11,7 +11,6 @@ use crate::manager_calls::{
     absorb, answer, clear, discover, message, numbers, pair, part, request, save, take,
 };
 use snmp_handles::{CallFault, ManagerHandle};
-use snmp_incoming::TakeFault;
 use std::alloc::Global;
 
 /// Makes a manager with the users of this configuration, in TOML, that begins with the clocks of this saved

@@ -6,7 +6,7 @@
 use Rattle.std.specs.Prelude.{◌≡◌, ◌<◌, ◌⊎◌, ◌++◌, ℕ, List, [], ◌∷◌, length, drop, slice_range, Result, Ok, Err}
 use Rattle.snmp_ber.specs.Oid.{AreArcs}
 use Rattle.snmp_msg.specs.Variables.{Variable, IsBinding, AreBindings, CanBeWritten, variable_text}
-use Rattle.snmp_incoming.specs.declared.fault.TakeFault.TheVariants.{OutOfMemory}
+use Rattle.snmp_message.specs.declared.refusal.Refusal.TheVariants.{OutOfMemory}
 use Rattle.snmp_handles.specs.Parts.{Copies}
 use Rattle.snmp_handles.specs.declared.fault.CallFault.{CallFault}
 use Rattle.snmp_handles.specs.declared.fault.CallFault.TheVariants.{Refused, BadArgument, BadBindings, ShortBuffer}

@@ -1,16 +1,16 @@
 -- What the calls of an agent leave that go with what it accepted, besides its answer: how long the answer may
 -- be, whether anything answers it at all, the report where nothing does, and the counters (RFC 3412, sections
 -- 4.2.2 and 7.1; RFC 3413, section 3.2; RFC 3416, section 4.2).
+use Rattle.snmp_message.specs.declared.refusal.Refusal.{Refusal}
 use Rattle.std.specs.Prelude.{◌≡◌, ◌⊎◌, ℕ, pos, List, Option, Some, None, option_map, Result, Ok, Err, IfSome}
 use Rattle.std.specs.Global.{Vec}
 use Rattle.snmp_message.specs.Scoped.{Contexts, ScopedFront}
 use Rattle.snmp_msg.specs.Pdu.{PduParts, PduText}
 use Rattle.snmp_msg.specs.Variables.{Variable, AreBindings}
 use Rattle.snmp_incoming.specs.Outcome.{Given}
-use Rattle.snmp_incoming.specs.Refusals.{answer_number}
-use Rattle.snmp_incoming.specs.declared.fault.TakeFault.{TakeFault}
-use Rattle.snmp_incoming.specs.declared.fault.TakeFault.TheVariants.{OutOfMemory}
-use Rattle.snmp_outgoing.specs.Sends.{send_refusal}
+use Rattle.snmp_message.specs.declared.refused_at.RefusedAt.{RefusedAt}
+use Rattle.snmp_message.specs.declared.refusal.Refusal.TheVariants.{OutOfMemory}
+use Rattle.usm_core.specs.Table.{refusal_answer}
 use Rattle.snmp_outgoing.specs.UpTo.{UpTo}
 use Rattle.snmp_outgoing.specs.Fronts.{FrontText, front_answer}
 use Rattle.snmp_outgoing.specs.declared.front.Fronted.{Fronted}
@@ -28,7 +28,7 @@ use Rattle.snmp_handles.specs.declared.fault.CallFault.TheVariants.{Refused, Not
 
 -- The Response to what was given, with the bindings that these octets are, where it has at most so many
 -- octets; or its refusal.
-abbrev pub RespondsWithin : AgentState → ℕ → Given → ℕ → ℕ → List ℕ → List ℕ → ℕ → Result (List ℕ) ℕ → Type 0
+abbrev pub RespondsWithin : AgentState → ℕ → Given → ℕ → ℕ → List ℕ → List ℕ → ℕ → Result (List ℕ) Refusal → Type 0
 RespondsWithin agent now g status index list salt limit answer =
     (vs : List Variable) × AreBindings vs list
     × ((c : Contexts) (p : PduParts) → ScopedFront g.text c → PduText c.pdu p
@@ -36,11 +36,11 @@ RespondsWithin agent now g status index list salt limit answer =
 
 -- Nothing can be sent for its user at its level; or it can, and the Response is refused or too long, or finds
 -- no memory.
-abbrev pub StopsWithin : AgentState → ℕ → Given → ℕ → ℕ → List ℕ → List ℕ → ℕ → TakeFault → Type 0
+abbrev pub StopsWithin : AgentState → ℕ → Given → ℕ → ℕ → List ℕ → List ℕ → ℕ → RefusedAt → Type 0
 StopsWithin agent now g status index list salt limit fault =
     RefusesSenderAt agent now g.user g.level fault
     ⊎ (CanSendAt agent now g.user g.level
-    × IfSome (send_refusal fault) (RespondsWithin agent now g status index list salt limit))
+    × IfSome (refusal_answer fault.refusal) (RespondsWithin agent now g status index list salt limit))
 
 abbrev pub RefusesWithin : AgentHeld → ℕ → ℕ → ℕ → List ℕ → List ℕ → ℕ → CallFault → Type 0
 RefusesWithin held now status index list salt limit fault =
@@ -57,7 +57,7 @@ RespondsHeldWithin old now status index list salt limit
 
 -- The Response to what was given, with the longest front of the bindings that these octets are that has room
 -- within so many octets, and how many that front has; or its refusal.
-abbrev pub RespondsFront : AgentState → ℕ → Given → ℕ → ℕ → List ℕ → List ℕ → ℕ → Result FrontText ℕ → Type 0
+abbrev pub RespondsFront : AgentState → ℕ → Given → ℕ → ℕ → List ℕ → List ℕ → ℕ → Result FrontText Refusal → Type 0
 RespondsFront agent now g status index list salt limit answer =
     (vs : List Variable) × AreBindings vs list
     × ((c : Contexts) (p : PduParts) → ScopedFront g.text c → PduText c.pdu p
@@ -66,7 +66,7 @@ RespondsFront agent now g status index list salt limit answer =
 
 -- Nothing can be sent for its user at its level; or it can, and the Response is refused, has no room even
 -- without bindings, or finds no memory.
-abbrev pub StopsFront : AgentState → ℕ → Given → ℕ → ℕ → List ℕ → List ℕ → ℕ → TakeFault → Type 0
+abbrev pub StopsFront : AgentState → ℕ → Given → ℕ → ℕ → List ℕ → List ℕ → ℕ → RefusedAt → Type 0
 StopsFront agent now g status index list salt limit fault =
     RefusesSenderAt agent now g.user g.level fault
     ⊎ (CanSendAt agent now g.user g.level
@@ -111,13 +111,13 @@ TellsUnhandled held (Err _) = ⊥
 -- ---- reports
 
 -- what becomes of a message that is refused so: the report on it, where there is one, or its refusal
-abbrev pub Reports : AgentState → ℕ → Given → Unhandled → List ℕ → Result (Option (List ℕ)) ℕ → AgentState → Type 0
+abbrev pub Reports : AgentState → ℕ → Given → Unhandled → List ℕ → Result (Option (List ℕ)) Refusal → AgentState → Type 0
 Reports old now g why salt answer new =
     (c : Contexts) (p : PduParts) → ScopedFront g.text c → PduText c.pdu p → Refuses old now g p why salt answer new
 
 -- the refusal as a report's; None for want of memory
-abbrev pub report_refusal : TakeFault → Option (Result (Option (List ℕ)) ℕ)
-report_refusal fault = option_map (λ n. Err n) (answer_number fault)
+abbrev pub report_refusal : RefusedAt → Option (Result (Option (List ℕ)) Refusal)
+report_refusal fault = refusal_answer fault.refusal
 
 -- There is a report, and none of the refusals before its text applies.
 abbrev pub CanReport : AgentState → ℕ → Given → Unhandled → List ℕ → Type 0
@@ -125,7 +125,7 @@ CanReport agent now g why salt = (c : Contexts) (p : PduParts) → ScopedFront g
     → RefusalCanBeSent agent now g p why salt
 
 -- The report is refused, or finds no memory where there is one that can be sent. Nothing changes.
-abbrev pub StopsWith : AgentState → ℕ → Given → Unhandled → List ℕ → TakeFault → Type 0
+abbrev pub StopsWith : AgentState → ℕ → Given → Unhandled → List ℕ → RefusedAt → Type 0
 StopsWith agent now g why salt fault =
     IfSome (report_refusal fault) (λ answer. Reports agent now g why salt answer agent)
     × (fault ≡ OutOfMemory → CanReport agent now g why salt)

@@ -6,7 +6,6 @@ use Rattle.snmp_manager.specs.declared.pending.Answer.{Answer}
 use Rattle.snmp_manager.specs.declared.pending.Answer.TheVariants.{Response, Report, NotForIt}
 use Rattle.vacm_core.specs.declared.access.Access.{Access}
 use Rattle.vacm_core.specs.Numbers.{access_number}
-use Rattle.snmp_incoming.specs.Refusals.{number_of}
 use Rattle.snmp_agent.specs.Statuses.{IsStatusOf, status_number}
 use Rattle.snmp_agent.specs.declared.status.Status.{Status}
 use Rattle.snmp_agent.specs.declared.unhandled.Unhandled.{Unhandled}
@@ -18,7 +17,7 @@ use Rattle.snmp_handles.specs.declared.fault.CallFault.TheVariants.{BadClocks}
 
 -- a refusal has its own number, and a fault of the call a negative one
 abbrev pub fault_code : CallFault → ℤ
-fault_code (Refused fault) = pos (number_of fault)
+fault_code (Refused fault) = pos (fault.refusal)
 fault_code BadArgument = negsuc 0
 fault_code NothingTaken = negsuc 1
 fault_code NotAsked = negsuc 2

@@ -4,6 +4,7 @@
 -- remembered of the last request. `MakesManager`, `RefusesManager`, `ClearsManager`, `ManagerTakes`,
 -- `TellsAnswer`, `RequestsHeld`, `RefusesRequest`, `DiscoversHeld`, `AbsorbsHeld`, `SavesHeld`,
 -- `TellsPair`: its calls. `asked`: the request; `Waits`: it is to be sent, and its answer is waited for.
+use Rattle.snmp_message.specs.declared.refusal.Refusal.{Refusal}
 use Rattle.std.specs.FinMap as map
 use Rattle.std.specs.Prelude.{◌≡◌, ◌<◌, ◌⊎◌, ℕ, pos, List, [], length, Option, Some, None, Result, Ok, Err, IfSome}
 use Rattle.snmp_ber.specs.declared.level.Level.{Level}
@@ -18,13 +19,13 @@ use Rattle.usm_core.specs.Authentic.{HasEngineLength}
 use Rattle.usm_users.specs.User.{User}
 use Rattle.usm_core.specs.Sealed.{Sending, Seals}
 use Rattle.snmp_incoming.specs.Outcome.{Given}
-use Rattle.snmp_incoming.specs.Answers.{refused}
-use Rattle.snmp_incoming.specs.Refusals.{answer_number}
-use Rattle.snmp_incoming.specs.declared.fault.TakeFault.{TakeFault}
-use Rattle.snmp_incoming.specs.declared.fault.TakeFault.TheVariants.{OutOfMemory}
+use Rattle.usm_core.specs.Table.{refused}
+use Rattle.snmp_message.specs.declared.refused_at.RefusedAt.{RefusedAt}
+use Rattle.snmp_message.specs.declared.refusal.Refusal.TheVariants.{OutOfMemory}
 use Rattle.snmp_outgoing.specs.Classes.{is_confirmed}
 use Rattle.snmp_outgoing.specs.Bodies.{header_at}
-use Rattle.snmp_outgoing.specs.Sends.{send_refusal, CanSend, RefusesSender}
+use Rattle.snmp_outgoing.specs.Sends.{CanSend, RefusesSender}
+use Rattle.usm_core.specs.Table.{refusal_answer}
 use Rattle.snmp_outgoing.specs.Requests.{written_pair, discovering}
 use Rattle.snmp_manager.specs.Views.{Held, held_by}
 use Rattle.snmp_manager.specs.Takes as manager
@@ -86,7 +87,7 @@ ManagerTakes old now w (Ok done) new =
     × manager.Takes old.manager now w (Some (Ok g)) new.manager
 ManagerTakes old now w (Err (Refused fault)) new =
     (new.last ≡ None) × (new.message ≡ None) × (new.pending ≡ old.pending)
-    × manager.Takes old.manager now w (refused (answer_number fault)) new.manager
+    × manager.Takes old.manager now w (refusal_answer fault.refusal) new.manager
 ManagerTakes old now w (Err _) new = ⊥
 
 -- ---- the request that is waited for
@@ -131,7 +132,7 @@ asked held now ask level vs salt = record {
 }
 
 -- the request with the bindings that these octets are, or its refusal
-abbrev pub AsksAt : Held → ℕ → Asking → Level → List ℕ → List ℕ → Result (List ℕ) ℕ → Type 0
+abbrev pub AsksAt : Held → ℕ → Asking → Level → List ℕ → List ℕ → Result (List ℕ) Refusal → Type 0
 AsksAt held now ask level list salt answer =
     (vs : List Variable) × AreBindings vs list
     × Seals held.users (asked (mark_at held.clocks ask.engine) now ask level vs salt) answer
@@ -144,10 +145,10 @@ IsOutOfRange ask =
     ⊎ ((2147483647 < ask.request_id) ⊎ ((2147483647 < ask.second) ⊎ (2147483647 < ask.third)))))))
 
 -- Nothing can be sent for the user at this level; or it can, and the request is refused, or finds no memory.
-abbrev pub StopsRequest : Held → ℕ → Asking → Level → List ℕ → List ℕ → TakeFault → Type 0
+abbrev pub StopsRequest : Held → ℕ → Asking → Level → List ℕ → List ℕ → RefusedAt → Type 0
 StopsRequest held now ask level list salt fault =
     RefusesSender held.users ask.user level fault
-    ⊎ (CanSend held.users ask.user level × IfSome (send_refusal fault) (AsksAt held now ask level list salt))
+    ⊎ (CanSend held.users ask.user level × IfSome (refusal_answer fault.refusal) (AsksAt held now ask level list salt))
 
 abbrev pub RefusesRequest : ManagerHeld → ℕ → Asking → List ℕ → List ℕ → CallFault → Type 0
 RefusesRequest held now ask list salt (Refused fault) = (level : Level) × (level_of ask.level ≡ Some level)

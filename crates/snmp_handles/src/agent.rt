@@ -20,7 +20,7 @@ use crate::parts::{Part, copied_message, copied_part, numbers_of};
 use engine_clock::EngineId;
 use snmp_agent::Agent;
 use snmp_ber::Oid;
-use snmp_incoming::{Kept, TakeFault};
+use snmp_incoming::Kept;
 use snmp_outgoing::Front;
 use snmpsec_config::{Config, ConfigFault};
 use std::alloc::Global;
@@ -211,7 +211,7 @@ impl AgentHandle {
     pub fn take(&mut self, now: u64, datagram: &[u8]) -> Result<(), CallFault>
         ensures takes { TakesHeld self.old now datagram.now result self.new }
         ensures no_memory { TakesNoMemory self.old.agent now datagram.now
-            → result ≢ Err (CallFault.Refused TakeFault.OutOfMemory) }
+            → result ≢ Err (CallFault.Refused RefusedAt.OutOfMemory) }
     {
         self.last = None;
         self.message = None;

@@ -9,7 +9,6 @@ ghost use Rattle.snmp_handles.specs.Bindings.{RefusesBindings, ReadsAt, WritesBi
 use crate::fault::CallFault;
 use crate::parts::copy_to;
 use snmp_ber::{ObjectName, Oid, one_element, put_oid, put_tlv, read_oid, read_tlv};
-use snmp_incoming::TakeFault;
 use snmp_msg::{LARGEST, VariableBinding, read_binding, whole_slice};
 use std::alloc::{AllocError, Global};
 

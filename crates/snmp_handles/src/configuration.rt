@@ -7,7 +7,6 @@ ghost use Rattle.snmp_handles.specs.Configurations.{wrong_number as wrong_by};
 
 use crate::fault::CallFault;
 use crate::parts::copy_to;
-use snmp_incoming::TakeFault;
 use snmpsec_config::{AccessConfig, ConfigFault, ConfigKey, ConfigTable, KeyFault, LoadFault};
 use std::alloc::{AllocError, Global};
 

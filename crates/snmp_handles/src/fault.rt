@@ -4,9 +4,9 @@ ghost use Rattle.std.specs.Prelude.{◌≡◌};
 ghost use Rattle.snmp_handles.specs.Faults.{code, access_code, value_code, answer_code, fault_code, unhandled_code};
 ghost use Rattle.snmp_handles.specs.Faults.{IsStatusCode};
 
+use snmp_msg::{RefusedAt};
 use crate::numbers::{access_of, unhandled_number};
 use snmp_agent::{Unhandled, status_of};
-use snmp_incoming::TakeFault;
 use snmp_manager::Answer;
 use vacm_core::Access;
 
@@ -14,7 +14,7 @@ use vacm_core::Access;
 #[derive(Clone, Copy, Debug, PartialEq, Eq)]
 pub enum CallFault {
     /// The engine refuses the message that was taken, or that was to be written; want of memory is one of its refusals.
-    Refused(TakeFault),
+    Refused(RefusedAt),
     /// An argument is outside of its range.
     BadArgument,
     /// No accepted message is kept.

@@ -17,7 +17,7 @@ use crate::fault::CallFault;
 use crate::in_range::{AskedInRange, GREATEST};
 use crate::parts::{Part, copied_message, copied_part, numbers_of};
 use engine_clock::{ClockFault, Clocks, EngineId, Pair};
-use snmp_incoming::{Kept, TakeFault};
+use snmp_incoming::Kept;
 use snmp_manager::{Answer, Manager, Pending, answer_of};
 use snmp_outgoing::Front;
 use snmpsec_config::{Config, ConfigFault};
@@ -173,7 +173,7 @@ impl ManagerHandle {
     pub fn take(&mut self, now: u64, datagram: &[u8]) -> Result<(), CallFault>
         ensures takes { ManagerTakes self.old now datagram.now result self.new }
         ensures no_memory { TakesNoMemory self.old.manager now datagram.now
-            → result ≢ Err (CallFault.Refused TakeFault.OutOfMemory) }
+            → result ≢ Err (CallFault.Refused RefusedAt.OutOfMemory) }
     {
         self.last = None;
         self.message = None;

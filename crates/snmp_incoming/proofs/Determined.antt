@@ -1,5 +1,7 @@
--- The table gives one answer, and its row 12 is of a sealed message.
-use Rattle.std.proofs.Common.{◌≡◌, ℕ, arith, ◌-◌, List, [], ◌++◌, append-nil, Bool, true, false, Option, Some, None, drop, refl, sym, ap, subst, ◌∙◌, inl, inr}
+-- The table gives one answer, and its row BadScoped is of a sealed message.
+use Rattle.snmp_message.specs.declared.refusal.Refusal.TheVariants.{NotMessage, BadVersion, NotSecurity, NotScoped, NotPdu, UnknownEngine, UnknownUser, UnsupportedLevel, WrongDigest, NotInWindow, DecryptionError, BadScoped, BadPdu, OutOfMemory, ClockExhausted, TooLarge, UnknownModel, InvalidFlags}
+use Rattle.snmp_message.specs.declared.refusal.Refusal.{Refusal}
+use Rattle.std.proofs.Common.{◌≡◌, ℕ, ◌-◌, List, [], ◌++◌, append-nil, Bool, true, false, Option, Some, None, drop, refl, sym, ap, subst, ◌∙◌, inl, inr}
 use Rattle.std.specs.Prelude.{Result, Ok, Err, IsSomeAnd, MatchBool}
 use Rattle.snmp_message.specs.Layout.{Parts, Outer}
 use Rattle.snmp_message.specs.Scoped.{Contexts, HasScoped, ScopedFront, ScopedText}
@@ -9,7 +11,7 @@ use Rattle.usm_users.specs.User.{User}
 use Rattle.usm_users.specs.Users.{user_named}
 use Rattle.usm_core.specs.Sealed.{IsPlaintext}
 use Rattle.usm_core.specs.Table.{Needs, Then, holds, fails, gives, refuses}
-use Rattle.usm_core.proofs.Determined.{needs_one, then_one, no_row}
+use Rattle.usm_core.proofs.Determined.{needs_one, then_one, no_row, IsNoRow}
 use Rattle.usm_core.specs.Verified.{Side, Verified, Verifies, IsReadAs}
 use Rattle.snmp_incoming.specs.Texts.{FrontOf, PduOf}
 use Rattle.snmp_incoming.specs.Outcome.{Given, Taker, side_at, ClockRuns, IsTextOf, ReadsText, ReadsMessage, Weighs, Outcome}
@@ -38,42 +40,66 @@ text_one users w v a b =
 -- ---- one answer
 
 module _ (front : (z : List ℕ) (s t : Contexts) → ScopedFront z s → ScopedFront z t → s ≡ t) (pdu : (z : List ℕ) (p q : PduParts) → PduText z p → PduText z q → p ≡ q) where
-  text_answer_one : (v : Verified) (text : List ℕ) (a b : Result Given ℕ) → ReadsText v text a → ReadsText v text b → a ≡ b
+  text_answer_one : (v : Verified) (text : List ℕ) (a b : Result Given Refusal) → ReadsText v text a → ReadsText v text b → a ≡ b
   unfolding ReadsText
   text_answer_one v text =
-      needs_one (FrontOf text) 12 _ (λ s t a b x y.
+      needs_one (FrontOf text) BadScoped _ (λ s t a b x y.
       let same : s.contexts.pdu ≡ t.contexts.pdu = ap (λ (c : Contexts). c.pdu) (front text s.contexts t.contexts s.is t.is) in
-      needs_one (PduOf t.contexts.pdu) 13 (λ p c. c ≡ Ok (record { engine = v.fields.engine; user = v.fields.user; level = level_of v.parts.header; id = v.parts.header.id; max_size = v.parts.header.max_size; tag = p.pdu.tag; text = text }))
+      needs_one (PduOf t.contexts.pdu) BadPdu (λ p c. c ≡ Ok (record { engine = v.fields.engine; user = v.fields.user; level = level_of v.parts.header; id = v.parts.header.id; max_size = v.parts.header.max_size; tag = p.pdu.tag; text = text }))
       (λ p q c d e f. e ∙ ap (λ (r : PduParts). Ok (record { engine = v.fields.engine; user = v.fields.user; level = level_of v.parts.header; id = v.parts.header.id; max_size = v.parts.header.max_size; tag = r.tag; text = text })) (pdu t.contexts.pdu p.pdu q.pdu p.is q.is) ∙ sym f)
       a b
-      (subst (λ (z : List ℕ). Needs (PduOf z) 13 (λ p c. c ≡ Ok (record { engine = v.fields.engine; user = v.fields.user; level = level_of v.parts.header; id = v.parts.header.id; max_size = v.parts.header.max_size; tag = p.pdu.tag; text = text })) a) same x)
+      (subst (λ (z : List ℕ). Needs (PduOf z) BadPdu (λ p c. c ≡ Ok (record { engine = v.fields.engine; user = v.fields.user; level = level_of v.parts.header; id = v.parts.header.id; max_size = v.parts.header.max_size; tag = p.pdu.tag; text = text })) a) same x)
       y)
 
-  pub message_one : (users : List User) (w : List ℕ) (v : Verified) (a b : Result Given ℕ) → ReadsMessage users w v a → ReadsMessage users w v b → a ≡ b
+  pub message_one : (users : List User) (w : List ℕ) (v : Verified) (a b : Result Given Refusal) → ReadsMessage users w v a → ReadsMessage users w v b → a ≡ b
   message_one users w v a b x y =
       text_answer_one v y.0 a b (subst (λ (z : List ℕ). ReadsText v z a) (text_one users w v x.0 y.0 x.1 y.1) x.2) y.2
 
-  weighs_one : (taker : Taker) (users : List User) (now : ℕ) (w : List ℕ) (v : Verified) (a b : Result Given ℕ) → Weighs taker users now w v a → Weighs taker users now w v b → a ≡ b
+  weighs_one : (taker : Taker) (users : List User) (now : ℕ) (w : List ℕ) (v : Verified) (a b : Result Given Refusal) → Weighs taker users now w v a → Weighs taker users now w v b → a ≡ b
   unfolding Weighs
-  weighs_one taker users now w v = needs_one _ 10 _ (λ p q. needs_one _ 11 _ (λ r s. message_one users w v))
+  weighs_one taker users now w v = needs_one _ NotInWindow _ (λ p q. needs_one _ DecryptionError _ (λ r s. message_one users w v))
 
-  pub outcome_one : ((side : Side) (users : List User) (w : List ℕ) (a b : Result Verified ℕ) → Verifies side users w a → Verifies side users w b → a ≡ b)
-      → (taker : Taker) (users : List User) (now : ℕ) (w : List ℕ) (a b : Result Given ℕ) → Outcome taker users now w a → Outcome taker users now w b → a ≡ b
+  pub outcome_one : ((side : Side) (users : List User) (w : List ℕ) (a b : Result Verified Refusal) → Verifies side users w a → Verifies side users w b → a ≡ b)
+      → (taker : Taker) (users : List User) (now : ℕ) (w : List ℕ) (a b : Result Given Refusal) → Outcome taker users now w a → Outcome taker users now w b → a ≡ b
   unfolding Outcome
   outcome_one verified taker users now w =
-      needs_one _ 15 _ (λ p q. then_one _ (Weighs taker users now w) (verified (side_at taker) users w) (weighs_one taker users now w))
+      needs_one _ ClockExhausted _ (λ p q. then_one _ (Weighs taker users now w) (verified (side_at taker) users w) (weighs_one taker users now w))
 
--- ---- row 12
+-- ---- row BadScoped
 
--- the text of row 12 begins with no ScopedPDU
-no_front : (v : Verified) (text : List ℕ) (n : ℕ) → n ≡ 12 → ReadsText v text (Err n) → FrontOf text → ⊥
+abbrev IsBadScoped : Refusal → Type 0
+IsBadScoped BadScoped = Unit {0}
+IsBadScoped _ = ⊥
+
+no_row_of : (r : Refusal) → IsBadScoped r → IsNoRow r
+no_row_of NotMessage bad = absurd bad
+no_row_of BadVersion bad = absurd bad
+no_row_of NotSecurity bad = absurd bad
+no_row_of NotScoped bad = absurd bad
+no_row_of NotPdu bad = absurd bad
+no_row_of UnknownEngine bad = absurd bad
+no_row_of UnknownUser bad = absurd bad
+no_row_of UnsupportedLevel bad = absurd bad
+no_row_of WrongDigest bad = absurd bad
+no_row_of NotInWindow bad = absurd bad
+no_row_of DecryptionError bad = absurd bad
+no_row_of BadScoped bad = tt
+no_row_of BadPdu bad = absurd bad
+no_row_of OutOfMemory bad = absurd bad
+no_row_of ClockExhausted bad = absurd bad
+no_row_of TooLarge bad = absurd bad
+no_row_of UnknownModel bad = absurd bad
+no_row_of InvalidFlags bad = absurd bad
+
+-- the text of that row begins with no ScopedPDU
+no_front : (v : Verified) (text : List ℕ) (r : Refusal) → IsBadScoped r → ReadsText v text (Err r) → FrontOf text → ⊥
 unfolding ReadsText
-no_front v text n e (fails never) f = never f
-no_front v text n e (holds s (fails never)) f = cc e
-no_front v text n e (holds s (holds p is)) f = cc is
+no_front v text r bad (fails never) f = never f
+no_front v text r bad (holds s (fails never)) f = bad
+no_front v text r bad (holds s (holds p is)) f = cc is
 
 -- another refusal than the row's own comes from below it
-passed : {X : Type 0} (P : Type 0) (row : ℕ) (below : Result X ℕ → Type 0) (n : ℕ) → (n ≡ row → ⊥) → Needs P row (λ _. below) (Err n) → below (Err n)
+passed : {X : Type 0} (P : Type 0) (row : Refusal) (below : Result X Refusal → Type 0) (n : Refusal) → (n ≡ row → ⊥) → Needs P row (λ _. below) (Err n) → below (Err n)
 passed P row below n other (holds p x) = x
 passed P row below n other (fails never) = absurd (other refl)
 
@@ -93,21 +119,21 @@ module _ (read : (side : Side) (users : List User) (w : List ℕ) (v : Verified)
   sealed_by users w v text r true e is none = e
   sealed_by users w v text r false e is none = absurd (none (subst (λ (z : List ℕ). FrontOf z) (sym is) (plain_front w v r e)))
 
-  message_sealed : (users : List User) (w : List ℕ) (v : Verified) (n : ℕ) → n ≡ 12 → IsReadAs w v → ReadsMessage users w v (Err n) → v.parts.header.privacy ≡ true
-  message_sealed users w v n e r x = sealed_by users w v x.0 r v.parts.header.privacy refl x.1 (no_front v x.0 n e x.2)
+  message_sealed : (users : List User) (w : List ℕ) (v : Verified) (r : Refusal) → IsBadScoped r → IsReadAs w v → ReadsMessage users w v (Err r) → v.parts.header.privacy ≡ true
+  message_sealed users w v r bad read-as x = sealed_by users w v x.0 read-as v.parts.header.privacy refl x.1 (no_front v x.0 r bad x.2)
 
-  weighs_sealed : (taker : Taker) (users : List User) (now : ℕ) (w : List ℕ) (v : Verified) (n : ℕ) → n ≡ 12 → IsReadAs w v → Weighs taker users now w v (Err n) → v.parts.header.privacy ≡ true
+  weighs_sealed : (taker : Taker) (users : List User) (now : ℕ) (w : List ℕ) (v : Verified) (r : Refusal) → IsBadScoped r → IsReadAs w v → Weighs taker users now w v (Err r) → v.parts.header.privacy ≡ true
   unfolding Weighs
-  weighs_sealed taker users now w v n e r (fails never) = cc e
-  weighs_sealed taker users now w v n e r (holds _ (fails never)) = cc e
-  weighs_sealed taker users now w v n e r (holds _ (holds _ x)) = message_sealed users w v n e r x
+  weighs_sealed taker users now w v r bad read-as (fails never) = absurd bad
+  weighs_sealed taker users now w v r bad read-as (holds _ (fails never)) = absurd bad
+  weighs_sealed taker users now w v r bad read-as (holds _ (holds _ x)) = message_sealed users w v r bad read-as x
 
-  then_sealed : (taker : Taker) (users : List User) (now : ℕ) (w : List ℕ) (n : ℕ) → n ≡ 12 → Then (Verifies (side_at taker) users w) (Weighs taker users now w) (Err n)
+  then_sealed : (taker : Taker) (users : List User) (now : ℕ) (w : List ℕ) (r : Refusal) → IsBadScoped r → Then (Verifies (side_at taker) users w) (Weighs taker users now w) (Err r)
       → (v : Verified) × Verifies (side_at taker) users w (Ok v) × (v.parts.header.privacy ≡ true)
-  then_sealed taker users now w n e (gives v rows x) = (v, rows, weighs_sealed taker users now w v n e (read (side_at taker) users w v rows) x)
-  then_sealed taker users now w n e (refuses k rows) = absurd (no_row (side_at taker) users w k (omega (arith, e)) (omega (arith, e)) rows)
+  then_sealed taker users now w r bad (gives v rows x) = (v, rows, weighs_sealed taker users now w v r bad (read (side_at taker) users w v rows) x)
+  then_sealed taker users now w r bad (refuses k rows) = absurd (no_row (side_at taker) users w k (no_row_of k bad) rows)
 
-  pub outcome_sealed : (taker : Taker) (users : List User) (now : ℕ) (w : List ℕ) (n : ℕ) → n ≡ 12 → Outcome taker users now w (Err n)
+  pub outcome_sealed : (taker : Taker) (users : List User) (now : ℕ) (w : List ℕ) → Outcome taker users now w (Err BadScoped)
       → (v : Verified) × Verifies (side_at taker) users w (Ok v) × (v.parts.header.privacy ≡ true)
   unfolding Outcome
-  outcome_sealed taker users now w n e x = then_sealed taker users now w n e (passed (ClockRuns taker now) 15 (Then (Verifies (side_at taker) users w) (Weighs taker users now w)) n (λ is. let wrong : 12 ≡ 15 = sym e ∙ is in cc wrong) x)
+  outcome_sealed taker users now w x = then_sealed taker users now w BadScoped tt (passed (ClockRuns taker now) ClockExhausted (Then (Verifies (side_at taker) users w) (Weighs taker users now w)) BadScoped (λ is. absurd cc) x)

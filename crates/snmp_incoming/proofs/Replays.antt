@@ -1,4 +1,5 @@
 -- What agents of one engine that accept one datagram have in common.
+use Rattle.snmp_message.specs.declared.refusal.Refusal.{Refusal}
 use Rattle.std.proofs.Common.{◌≡◌, ◌≤◌, ◌+◌, ◌-◌, ℕ, List, Bool, true, false, refl, sym, ap, ◌∙◌, subst, arith}
 use Rattle.std.specs.Prelude.{◌≢◌, Result, Ok}
 use Rattle.snmp_ber.specs.declared.level.Level.TheVariants.{NoAuthNoPriv}
@@ -18,7 +19,7 @@ record Accepted (taker : Taker) (users : List User) (now : ℕ) (w : List ℕ) (
   pub fresh : v.parts.header.auth ≡ true → IsFresh taker now v
   pub level : given.level ≡ level_of v.parts.header
 
-same_given : (v u : Given) → ◌≡◌ {A = Result Given ℕ} (Ok v) (Ok u) → v ≡ u
+same_given : (v u : Given) → ◌≡◌ {A = Result Given Refusal} (Ok v) (Ok u) → v ≡ u
 same_given v u e = cc
 
 level_read : (v : Verified) (text : List ℕ) (given : Given) → ReadsText v text (Ok given) → given.level ≡ level_of v.parts.header

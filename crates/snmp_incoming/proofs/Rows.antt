@@ -1,48 +1,65 @@
 -- Rows of the table, for the functions that answer them.
-use Rattle.std.proofs.Common.{◌≡◌, ℕ, List, Option, Some, None, refl, sym, subst, ap, ◌∙◌, inl, inr}
+use Rattle.std.proofs.Common.{◌≡◌, ℕ, List, Some, refl, sym, ap}
 use Rattle.std.specs.Prelude.{◌≢◌, Ok, Err, IsSomeAnd}
 use Rattle.snmp_message.specs.Level.{level_of}
+use Rattle.snmp_message.specs.Numbers.{in_table}
 use Rattle.snmp_message.specs.declared.refusal.Refusal.{Refusal}
-use Rattle.usm_core.specs.declared.fault.UsmFault.{UsmFault}
-use Rattle.usm_core.specs.declared.fault.UsmFault.TheVariants as usm
-use Rattle.usm_core.specs.Refusals as usm_refusals
-use Rattle.usm_core.specs.Table.{holds, fails}
+use Rattle.snmp_message.specs.declared.refusal.Refusal.TheVariants.{NotMessage, BadVersion, NotSecurity, NotScoped, NotPdu, UnknownEngine, UnknownUser, UnsupportedLevel, WrongDigest, NotInWindow, DecryptionError, BadScoped, BadPdu, OutOfMemory, ClockExhausted, TooLarge, UnknownModel, InvalidFlags}
+use Rattle.usm_core.specs.Table.{holds, fails, refused, refusal_answer}
 use Rattle.usm_core.specs.Verified.{Verified}
-use Rattle.snmp_incoming.specs.declared.fault.TakeFault.{TakeFault}
-use Rattle.snmp_incoming.specs.Refusals.{IsSameRefusal, answer_number, number_in_table}
 use Rattle.snmp_incoming.specs.Texts.{HasTag}
 use Rattle.snmp_incoming.specs.Outcome.{Given, ReadsText}
-use Rattle.snmp_incoming.specs.Answers.{refused, RefusesNumber}
+use Rattle.snmp_incoming.specs.Answers.{RefusesText}
 
 -- ---- refusals down to the digest
 
-in_table : (fault : UsmFault) → fault ≢ usm.OutOfMemory → number_in_table (usm_refusals.refusal_of fault) ≡ Some (usm_refusals.number_of fault)
-in_table (usm.NotMessage at) h = refl
-in_table usm.BadVersion h = refl
-in_table (usm.NotSecurity at) h = refl
-in_table (usm.NotScoped at) h = refl
-in_table usm.UnknownEngine h = refl
-in_table usm.UnknownUser h = refl
-in_table usm.UnsupportedLevel h = refl
-in_table usm.WrongDigest h = refl
-in_table usm.DecryptionError h = refl
-in_table usm.OutOfMemory h = absurd (h refl)
-in_table usm.TooLarge h = refl
-in_table usm.UnknownModel h = refl
-in_table usm.InvalidFlags h = refl
+-- each refusal but out of memory is an answer of a table
+pub is_in_table : (r : Refusal) → r ≢ OutOfMemory → in_table r ≡ Some r
+is_in_table NotMessage other = refl
+is_in_table BadVersion other = refl
+is_in_table NotSecurity other = refl
+is_in_table NotScoped other = refl
+is_in_table NotPdu other = refl
+is_in_table UnknownEngine other = refl
+is_in_table UnknownUser other = refl
+is_in_table UnsupportedLevel other = refl
+is_in_table WrongDigest other = refl
+is_in_table NotInWindow other = refl
+is_in_table DecryptionError other = refl
+is_in_table BadScoped other = refl
+is_in_table BadPdu other = refl
+is_in_table OutOfMemory other = absurd (other refl)
+is_in_table ClockExhausted other = refl
+is_in_table TooLarge other = refl
+is_in_table UnknownModel other = refl
+is_in_table InvalidFlags other = refl
 
--- A refusal of the user-based security model is the table's answer with its number.
-pub same_refused : (fault : UsmFault) (e : TakeFault) → fault ≢ usm.OutOfMemory → IsSameRefusal fault e → refused (answer_number e) ≡ Some (Err (usm_refusals.number_of fault))
-same_refused fault e h same = ap (λ (r : Refusal). refused (number_in_table r)) same.0 ∙ ap refused (in_table fault h)
+pub same_refused : (r : Refusal) → r ≢ OutOfMemory → refused {X = Given} (in_table r) ≡ Some (Err r)
+same_refused r other = ap refused (is_in_table r other)
 
 -- ---- rows on the ScopedPDU
 
 -- what refuses the text is a row of the table
-pub text_refused : (v : Verified) (text : List ℕ) (n : Option ℕ) → RefusesNumber text n → IsSomeAnd (refused n) (ReadsText v text)
+pub text_refused : (v : Verified) (text : List ℕ) (r : Refusal) → RefusesText text r → IsSomeAnd (refusal_answer r) (ReadsText v text)
 unfolding ReadsText
-text_refused v text None h = absurd h
-text_refused v text (Some n) (inl none) = subst (λ (k : ℕ). ReadsText v text (Err k)) (sym none.0) (fails none.1)
-text_refused v text (Some n) (inr none) = subst (λ (k : ℕ). ReadsText v text (Err k)) (sym none.0) (holds none.1.0 (fails none.1.1))
+text_refused v text NotMessage none = absurd none
+text_refused v text BadVersion none = absurd none
+text_refused v text NotSecurity none = absurd none
+text_refused v text NotScoped none = absurd none
+text_refused v text NotPdu none = absurd none
+text_refused v text UnknownEngine none = absurd none
+text_refused v text UnknownUser none = absurd none
+text_refused v text UnsupportedLevel none = absurd none
+text_refused v text WrongDigest none = absurd none
+text_refused v text NotInWindow none = absurd none
+text_refused v text DecryptionError none = absurd none
+text_refused v text BadScoped none = fails none
+text_refused v text BadPdu none = holds none.0 (fails none.1)
+text_refused v text OutOfMemory none = absurd none
+text_refused v text ClockExhausted none = absurd none
+text_refused v text TooLarge none = absurd none
+text_refused v text UnknownModel none = absurd none
+text_refused v text InvalidFlags none = absurd none
 
 pub text_read : (v : Verified) (text : List ℕ) (given : Given) → HasTag text given.tag → given.engine ≡ v.fields.engine → given.user ≡ v.fields.user → given.level ≡ level_of v.parts.header
     → given.id ≡ v.parts.header.id → given.max_size ≡ v.parts.header.max_size → given.text ≡ text → ReadsText v text (Ok given)

@@ -1,10 +1,12 @@
 -- The answers of the code, as the table has them.
-use Rattle.std.specs.Prelude.{◌≡◌, ◌≢◌, ◌⊎◌, ℕ, List, Option, Some, None, Result, Ok, Err, true, false, length}
+use Rattle.snmp_message.specs.declared.refusal.Refusal.{Refusal}
+use Rattle.std.specs.Prelude.{◌≡◌, ◌≢◌, ℕ, List, Option, Some, None, Result, Ok, Err, true, false, length}
 use Rattle.usm_users.specs.User.{User}
 use Rattle.usm_core.specs.Verified.{Side, Verified, Verifies}
 use Rattle.snmp_incoming.specs.declared.taken.Taken.{Taken}
-use Rattle.snmp_incoming.specs.declared.fault.TakeFault.{TakeFault}
-use Rattle.snmp_incoming.specs.Refusals.{answer_number}
+use Rattle.snmp_message.specs.declared.refused_at.RefusedAt.{RefusedAt}
+use Rattle.snmp_message.specs.declared.refusal.Refusal.TheVariants.{BadScoped, BadPdu}
+use Rattle.usm_core.specs.Table.{refusal_answer}
 use Rattle.snmp_incoming.specs.Texts.{text_of, FrontOf, PduOf}
 use Rattle.snmp_incoming.specs.Outcome.{Given, IsTextOf}
 
@@ -19,14 +21,10 @@ given_of t = record {
   text = text_of t.text;
 }
 
-abbrev pub refused : Option ℕ → Option (Result Given ℕ)
-refused None = None
-refused (Some n) = Some (Err n)
-
--- None for want of memory, which is no answer of the table
-abbrev pub answer_of : Result Taken TakeFault → Option (Result Given ℕ)
+-- None for out of memory, which is no answer of the table
+abbrev pub answer_of : Result Taken RefusedAt → Option (Result Given Refusal)
 answer_of (Ok t) = Some (Ok (given_of t))
-answer_of (Err fault) = refused (answer_number fault)
+answer_of (Err e) = refusal_answer e.refusal
 
 -- No message that passes the digest is sealed, so that no memory is needed to open one.
 abbrev pub IsPlain : Side → List User → List ℕ → Type 0
@@ -39,12 +37,8 @@ abbrev pub IsOpening : List User → List ℕ → Verified → Option (List ℕ)
 IsOpening users w v None = (v.parts.header.privacy ≡ true) × (length v.fields.salt ≢ 8)
 IsOpening users w v (Some text) = (v.parts.header.privacy ≡ true → length v.fields.salt ≡ 8) × IsTextOf users w v text
 
--- The number is why the text has no PDU.
-abbrev pub RefusesNumber : List ℕ → Option ℕ → Type 0
-RefusesNumber text None = ⊥
-RefusesNumber text (Some n) = ((n ≡ 12) × (FrontOf text → ⊥))
-    ⊎ ((n ≡ 13) × ((s : FrontOf text) × (PduOf s.contexts.pdu → ⊥)))
-
--- The fault is why the text has no PDU.
-abbrev pub RefusesText : List ℕ → TakeFault → Type 0
-RefusesText text fault = RefusesNumber text (answer_number fault)
+-- The refusal is why the text has no PDU.
+abbrev pub RefusesText : List ℕ → Refusal → Type 0
+RefusesText text BadScoped = FrontOf text → ⊥
+RefusesText text BadPdu = (s : FrontOf text) × (PduOf s.contexts.pdu → ⊥)
+RefusesText text _ = ⊥

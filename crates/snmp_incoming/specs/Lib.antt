@@ -1,4 +1,3 @@
-pub mod Refusals
 pub mod Texts
 pub mod Outcome
 pub mod Answers

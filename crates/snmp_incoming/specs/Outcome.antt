@@ -7,6 +7,8 @@
 -- datagram, and the first that fails gives its number. `Given` is what is given on of an accepted one,
 -- msgMaxSize too. `IsTextOf`: the octets that begin with the scoped PDU are what msgData is opened to, or
 -- the datagram from msgData on. The place of a fault isn't part of it.
+use Rattle.snmp_message.specs.declared.refusal.Refusal.TheVariants.{BadPdu, BadScoped, ClockExhausted, DecryptionError, NotInWindow}
+use Rattle.snmp_message.specs.declared.refusal.Refusal.{Refusal}
 use Rattle.std.specs.Prelude.{◌≡◌, ◌≤◌, ◌-◌, ℕ, List, length, drop, true, Result, Some, MatchBool}
 use Rattle.snmp_ber.specs.declared.level.Level.{Level}
 use Rattle.snmp_message.specs.Level.{level_of}
@@ -74,10 +76,10 @@ IsTextOf users w v text =
     (text ≡ drop v.parts.data_at w)
 
 -- the rows on the ScopedPDU that the text begins with
-unfoldable pub ReadsText : Verified → List ℕ → Result Given ℕ → Type 0
+unfoldable pub ReadsText : Verified → List ℕ → Result Given Refusal → Type 0
 ReadsText v text =
-    Needs (FrontOf text) 12 (λ s.
-    Needs (PduOf s.contexts.pdu) 13 (λ p.
+    Needs (FrontOf text) BadScoped (λ s.
+    Needs (PduOf s.contexts.pdu) BadPdu (λ p.
     Gives (record {
       engine = v.fields.engine;
       user = v.fields.user;
@@ -89,18 +91,18 @@ ReadsText v text =
     })))
 
 -- the same of the text that the message has
-abbrev pub ReadsMessage : List User → List ℕ → Verified → Result Given ℕ → Type 0
+abbrev pub ReadsMessage : List User → List ℕ → Verified → Result Given Refusal → Type 0
 ReadsMessage users w v answer = (text : List ℕ) × IsTextOf users w v text × ReadsText v text answer
 
 -- the rows on the time and the salt, and those below
-unfoldable pub Weighs : Taker → List User → ℕ → List ℕ → Verified → Result Given ℕ → Type 0
+unfoldable pub Weighs : Taker → List User → ℕ → List ℕ → Verified → Result Given Refusal → Type 0
 Weighs taker users now w v =
-    Needs (v.parts.header.auth ≡ true → IsFresh taker now v) 10 (λ _.
-    Needs (v.parts.header.privacy ≡ true → length v.fields.salt ≡ 8) 11 (λ _.
+    Needs (v.parts.header.auth ≡ true → IsFresh taker now v) NotInWindow (λ _.
+    Needs (v.parts.header.privacy ≡ true → length v.fields.salt ≡ 8) DecryptionError (λ _.
     ReadsMessage users w v))
 
 -- the whole table
-unfoldable pub Outcome : Taker → List User → ℕ → List ℕ → Result Given ℕ → Type 0
+unfoldable pub Outcome : Taker → List User → ℕ → List ℕ → Result Given Refusal → Type 0
 Outcome taker users now w =
-    Needs (ClockRuns taker now) 15 (λ _.
+    Needs (ClockRuns taker now) ClockExhausted (λ _.
     Then (Verifies (side_at taker) users w) (Weighs taker users now w))

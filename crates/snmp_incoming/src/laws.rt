@@ -5,6 +5,8 @@ ghost use Rattle.snmp_ber.specs.declared.level.Level.TheVariants.{NoAuthNoPriv};
 ghost use Rattle.usm_users.specs.User.{User};
 ghost use Rattle.usm_core.specs.Verified.{Verified, Verifies};
 ghost use Rattle.snmp_incoming.specs.Outcome.{Given, Taker, as_agent, side_at, IsTextOf, Outcome};
+ghost use Rattle.snmp_message.specs.declared.refusal.Refusal.TheVariants.{BadScoped};
+ghost use Rattle.snmp_message.specs.declared.refusal.Refusal.{Refusal};
 
 use snmp_msg::{one_content, one_cut, one_message, one_pdu, plain_from_data};
 
@@ -16,7 +18,7 @@ pub fn one_text()
 
 /// The table gives each datagram one answer at most.
 pub fn one_answer()
-    ensures { (taker : Taker) (users : List User) (now : ℕ) (w : List ℕ) (a b : Result Given ℕ)
+    ensures { (taker : Taker) (users : List User) (now : ℕ) (w : List ℕ) (a b : Result Given Refusal)
         → Outcome taker users now w a → Outcome taker users now w b → a ≡ b }
 {
     usm_core::one_answer();
@@ -24,10 +26,10 @@ pub fn one_answer()
     one_pdu();
 }
 
-/// Where the answer is 12 the message is sealed: what isn't was found to be a ScopedPDU before its digest was
+/// Where the answer is BadScoped the message is sealed: what isn't was found to be a ScopedPDU before its digest was
 /// looked at.
 pub fn bad_scoped_is_sealed()
-    ensures { (taker : Taker) (users : List User) (now : ℕ) (w : List ℕ) → Outcome taker users now w (Err 12)
+    ensures { (taker : Taker) (users : List User) (now : ℕ) (w : List ℕ) → Outcome taker users now w (Err BadScoped)
         → (v : Verified) × Verifies (side_at taker) users w (Ok v) × (v.parts.header.privacy ≡ true) }
 {
     usm_core::verified_was_read();

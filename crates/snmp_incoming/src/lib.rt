@@ -3,16 +3,18 @@
 //!
 //! ```
 //! use snmp_incoming::TakeFault;
+//! use snmp_msg::Refusal;
 //!
-//! let fault = TakeFault::NotScoped { at: 39 };
+//! let fault = TakeFault::plain(Refusal::WrongDigest);
 //! assert_eq!(rt;
-//!     (fault.number(), fault.name(), fault.place()),
-//!     (4, "NotScoped", Some(39))
+//!     (fault.number(), fault.name(), fault.at),
+//!     (9, "WrongDigest", None)
 //! );
 //! ```
 #![tactic(auto)]
 
-mod fault;
+use snmp_msg::RefusedAt;
+
 mod kept;
 mod laws;
 mod octets;
@@ -20,9 +22,10 @@ mod place;
 mod reading;
 mod taken;
 
-pub use fault::TakeFault;
 pub use kept::Kept;
 pub use laws::{bad_scoped_is_sealed, one_answer, one_text, replay_bound};
 pub use octets::Octets;
 pub use reading::{read_text, scoped_octets};
+/// A refusal of a datagram, or of a message that was to go out: a `RefusedAt`.
+pub use snmp_msg::RefusedAt as TakeFault;
 pub use taken::Taken;

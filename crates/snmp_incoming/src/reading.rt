@@ -11,15 +11,16 @@ ghost use Rattle.snmp_incoming.specs.Texts.{text_of, ContextsThere, HasTag, Stan
 ghost use Rattle.snmp_incoming.specs.Outcome.{ReadsText};
 ghost use Rattle.snmp_incoming.specs.Answers.{answer_of, IsOpening, RefusesText};
 
-use crate::fault::TakeFault;
 use crate::octets::Octets;
 use crate::place::PduPlace;
 use crate::taken::Taken;
 use engine_clock::EngineId;
 use snmp_ber::Level;
-use snmp_msg::{MsgFault, ScopedPlace, place_scoped_front, plain_from_data, read_pdu, whole_slice};
+use snmp_msg::{
+    Refusal, RefusedAt, ScopedPlace, place_scoped_front, plain_from_data, read_pdu, whole_slice,
+};
 use std::alloc::AllocError;
-use usm_core::{Checked, Users, UsmFault};
+use usm_core::{Checked, Users};
 
 /// The octets that begin with the ScopedPDU of a message that `open_auth` gave of this datagram, or None
 /// where they can't be decrypted, since msgPrivacyParameters don't have the 8 octets of a salt (RFC 3826,
@@ -44,16 +45,18 @@ pub fn scoped_octets<'a>(
     match checked.level {
         Level::AuthPriv => match users.open_priv(checked) {
             Ok(plaintext) => Ok(Some(Octets::Owned(plaintext))),
-            Err(UsmFault::DecryptionError) => Ok(None),
-            Err(_) => Err(AllocError),
+            Err(refused) => match refused.refusal {
+                Refusal::DecryptionError => Ok(None),
+                _ => Err(AllocError),
+            },
         },
         _ => Ok(Some(Octets::Borrowed(&datagram[checked.message.data_at..]))),
     }
 }
 
 /// The place of a fault, in octets that begin at the place `base`.
-fn place(fault: MsgFault, base: usize) -> usize {
-    fault.at().unwrap_or(0).saturating_add(base)
+fn place(fault: RefusedAt, base: usize) -> usize {
+    fault.at.unwrap_or(0).saturating_add(base)
 }
 
 /// What is given on of the message that `open_auth` gave, whose octets `scoped_octets` gave.
@@ -64,7 +67,7 @@ pub fn read_text<'a>(
     checked: &Checked<'a>,
     engine: EngineId,
     text: Octets<'a>,
-) -> Result<Taken<'a>, TakeFault>
+) -> Result<Taken<'a>, RefusedAt>
     requires engine { engine ≡ checked.now.security.engine.now }
     ensures { IsSomeAnd (answer_of result) (ReadsText (verified_of checked.now) (text_of text.entry)) }
 {
@@ -89,19 +92,20 @@ pub fn read_text<'a>(
 
 /// The tag of the PDU of the ScopedPDU that the text begins with, and where the contexts and the PDU stand.
 /// Places of faults count from `base`.
-fn read_place(text: &[u8], base: usize) -> Result<(u8, ScopedPlace, PduPlace), TakeFault>
+fn read_place(text: &[u8], base: usize) -> Result<(u8, ScopedPlace, PduPlace), RefusedAt>
     ensures tag { IfOk result (λ found. HasTag text.now found.0) }
     ensures contexts { IfOk result (λ found. ContextsThere text.now found.1) }
     ensures stands { IfOk result (λ found. StandsThere text.now found.0 found.2) }
     ensures within { IfOk result (λ found. (found.2.list_at ≤ found.2.end) × (found.2.end ≤ length text.now)) }
-    ensures fault { IfErr result (RefusesText text.now) }
+    ensures fault { IfErr result (λ e. RefusesText text.now e.refusal) }
 {
     whole_slice();
     let contexts = match place_scoped_front(text) {
         Ok(contexts) => contexts,
         Err(fault) => {
-            return Err(TakeFault::BadScoped {
-                at: place(fault, base),
+            return Err(RefusedAt {
+                refusal: Refusal::BadScoped,
+                at: Some(place(fault, base)),
             });
         }
     };
@@ -110,8 +114,9 @@ fn read_place(text: &[u8], base: usize) -> Result<(u8, ScopedPlace, PduPlace), T
         Ok(pdu) => pdu,
         Err(fault) => {
             let base = base.saturating_add(scoped.data_at);
-            return Err(TakeFault::BadPdu {
-                at: place(fault, base),
+            return Err(RefusedAt {
+                refusal: Refusal::BadPdu,
+                at: Some(place(fault, base)),
             });
         }
     };

@@ -1,4 +1,6 @@
 -- What a take answers and leaves, for the functions that do it.
+use Rattle.snmp_message.specs.declared.refusal.Refusal.TheVariants.{DecryptionError, NotInWindow, OutOfMemory}
+use Rattle.snmp_message.specs.declared.refusal.Refusal.{Refusal}
 use Rattle.std.proofs.Common.{◌≡◌, ℕ, ◌≤◌, List, Option, Some, None, Bool, true, false, cond, length, refl, sym, ◌∙◌, ap, subst, inl, inr}
 use Rattle.std.specs.Prelude.{◌↔◌, ◌≢◌, Result, Ok, Err, MatchBool, IsTrue, IsSome, IsSomeAnd}
 use Rattle.engine_clock.specs.Pairs.{BootsAndTime}
@@ -10,17 +12,14 @@ use Rattle.engine_clock.specs.Windows.{InManagerWindow, notion_at}
 use Rattle.engine_clock.proofs.Absorbing.{joined_is, JoinsMark-learned, JoinsPair-learned}
 use Rattle.engine_clock.proofs.Held.{engines_total}
 use Rattle.usm_users.specs.User.{User}
-use Rattle.usm_core.specs.declared.fault.UsmFault.{UsmFault}
-use Rattle.usm_core.specs.declared.fault.UsmFault.TheVariants as usm
-use Rattle.usm_core.specs.Table.{holds, fails, gives, refuses}
-use Rattle.usm_core.specs.Refusals.{number_of}
+use Rattle.snmp_message.specs.declared.refused_at.RefusedAt.{RefusedAt}
+use Rattle.usm_core.specs.Table.{holds, fails, gives, refuses, refused, refusal_answer}
+use Rattle.snmp_message.specs.Numbers.{in_table}
 use Rattle.usm_core.specs.Authentic.{Authentic}
 use Rattle.usm_core.specs.Verified.{Verified, Verifies, AllowsEngine, manager}
 use Rattle.usm_core.specs.Answers.{IsAuthenticatedAs}
-use Rattle.snmp_incoming.specs.declared.fault.TakeFault.{TakeFault}
-use Rattle.snmp_incoming.specs.Refusals.{answer_number, IsSameRefusal}
 use Rattle.snmp_incoming.specs.Outcome.{Given, Taker, Outcome, Weighs, ReadsText, IsFresh, pair_in, as_manager}
-use Rattle.snmp_incoming.specs.Answers.{IsOpening, refused}
+use Rattle.snmp_incoming.specs.Answers.{IsOpening}
 use Rattle.snmp_incoming.proofs.Rows.{same_refused}
 use Rattle.snmp_manager.specs.declared.outcome.Outcome.TheVariants.{Refused}
 use Rattle.snmp_manager.specs.Views.{Held, held_by}
@@ -29,14 +28,14 @@ use Rattle.snmp_manager.specs.Takes.{Takes, HoldsAuthentic, TakesNoMemory}
 use Rattle.snmp_manager.specs.Runs.{TakesOne}
 
 -- exactly the authentic datagrams, as `open_auth` says
-abbrev pub IsExact : List User → List ℕ → Result Verified ℕ → Type 0
+abbrev pub IsExact : List User → List ℕ → Result Verified Refusal → Type 0
 IsExact users w answer = (engine : List ℕ) (pair : BootsAndTime) → (Authentic users w engine pair × AllowsEngine manager engine) ↔ IsAuthenticatedAs answer engine pair
 
 allowed : (users : List User) (w engine : List ℕ) (pair : BootsAndTime) → Authentic users w engine pair → AllowsEngine manager engine
 allowed users w engine pair a = subst (λ (e : List ℕ). (5 ≤ length e) × (length e ≤ 32)) a.engine_is a.message.engine_length
 
 -- of a refused datagram nothing is learned
-pub learns_nothing : (users : List User) (now : ℕ) (w : List ℕ) (held : Marks) (n : ℕ) → IsExact users w (Err n) → LearnsFrom users now w held held
+pub learns_nothing : (users : List User) (now : ℕ) (w : List ℕ) (held : Marks) (n : Refusal) → IsExact users w (Err n) → LearnsFrom users now w held held
 learns_nothing users now w held n exact = inr (λ e p a. (exact e p).0 (a, allowed users w e p a), refl)
 
 pub one_pair : (p q : BootsAndTime) → p.boots ≡ q.boots → p.time ≡ q.time → p ≡ q
@@ -65,19 +64,18 @@ learns_checked users now w old new v exact l = by_auth users now w old new v exa
 
 module _ (old new : Held) (now : ℕ) (w : List ℕ) (same : new.users ≡ old.users) where
   -- refused down to the digest
-  pub takes_refused : (fault : UsmFault) (e : TakeFault) → fault ≢ usm.OutOfMemory → IsSameRefusal fault e → new.clocks ≡ old.clocks → IsExact old.users w (Err (number_of fault))
-      → Verifies manager old.users w (Err (number_of fault)) → Takes old now w (refused (answer_number e)) new
+  pub takes_refused : (r : Refusal) → r ≢ OutOfMemory → new.clocks ≡ old.clocks → IsExact old.users w (Err r) → Verifies manager old.users w (Err r) → Takes old now w (refusal_answer r) new
   unfolding Outcome
-  takes_refused fault e h is kept exact rows =
-      subst (λ (a : Option (Result Given ℕ)). Takes old now w a new) (sym (same_refused fault e h is))
-      (same, subst (λ (m : Marks). LearnsFrom old.users now w old.clocks m) (sym kept) (learns_nothing old.users now w old.clocks (number_of fault) exact), holds tt (refuses (number_of fault) rows))
+  takes_refused r other kept exact rows =
+      subst (λ (a : Option (Result Given Refusal)). Takes old now w a new) (sym (same_refused r other))
+      (same, subst (λ (m : Marks). LearnsFrom old.users now w old.clocks m) (sym kept) (learns_nothing old.users now w old.clocks r exact), holds tt (refuses r rows))
 
   module _ (v : Verified) (exact : IsExact old.users w (Ok v)) (rows : Verifies manager old.users w (Ok v)) (learned : LearnsChecked v now old.clocks new.clocks) where
     learns : LearnsFrom old.users now w old.clocks new.clocks
     learns = learns_checked old.users now w old.clocks new.clocks v exact learned
 
     -- what is answered by the rows from the time window on
-    pub takes_weighed : (a : Option (Result Given ℕ)) → IsSomeAnd a (Weighs (as_manager new.clocks) old.users now w v) → Takes old now w a new
+    pub takes_weighed : (a : Option (Result Given Refusal)) → IsSomeAnd a (Weighs (as_manager new.clocks) old.users now w v) → Takes old now w a new
     unfolding Outcome learns
     takes_weighed None weighs = absurd weighs
     takes_weighed (Some a) weighs = (same, learns, holds tt (gives v rows weighs))
@@ -85,16 +83,16 @@ module _ (old new : Held) (now : ℕ) (w : List ℕ) (same : new.users ≡ old.u
 -- ---- the rows from the time window on
 
 module _ (taker : Taker) (users : List User) (now : ℕ) (w : List ℕ) (v : Verified) where
-  pub weighs_late : ((v.parts.header.auth ≡ true → IsFresh taker now v) → ⊥) → Weighs taker users now w v (Err 10)
+  pub weighs_late : ((v.parts.header.auth ≡ true → IsFresh taker now v) → ⊥) → Weighs taker users now w v (Err NotInWindow)
   unfolding Weighs
   weighs_late outside = fails outside
 
   module _ (fresh : v.parts.header.auth ≡ true → IsFresh taker now v) where
-    pub weighs_unopened : IsOpening users w v None → Weighs taker users now w v (Err 11)
+    pub weighs_unopened : IsOpening users w v None → Weighs taker users now w v (Err DecryptionError)
     unfolding Weighs
     weighs_unopened opening = holds fresh (fails (λ salt. opening.1 (salt opening.0)))
 
-    pub weighs_read : (text : List ℕ) (a : Option (Result Given ℕ)) → IsOpening users w v (Some text) → IsSomeAnd a (ReadsText v text) → IsSomeAnd a (Weighs taker users now w v)
+    pub weighs_read : (text : List ℕ) (a : Option (Result Given Refusal)) → IsOpening users w v (Some text) → IsSomeAnd a (ReadsText v text) → IsSomeAnd a (Weighs taker users now w v)
     unfolding Weighs
     weighs_read text None opening read = absurd read
     weighs_read text (Some a) opening read = holds fresh (holds opening.0 (text, opening.1, read))
@@ -156,11 +154,16 @@ learns_held held w v exact holds_it auth = holds_it v.fields.engine (pair_in v) 
 
 -- ---- outcomes
 
--- a refusal is told by its number
-pub told : (old new : Held) (now : ℕ) (w : List ℕ) (fault : TakeFault) (o : Option ℕ) → answer_number fault ≡ o → o ≢ None → Takes old now w (refused o) new → TakesOne old now w (Refused fault) new
+-- a refusal is told as it is
+pub told : (old new : Held) (now : ℕ) (w : List ℕ) (fault : RefusedAt) (o : Option Refusal) → in_table fault.refusal ≡ o → o ≢ None → Takes old now w (refused o) new → TakesOne old now w (Refused fault) new
 told old new now w fault None is some takes = absurd (some refl)
 told old new now w fault (Some n) is some takes = (Err n, is, takes)
 
-pub stays : (old new : Held) (now : ℕ) (w : List ℕ) (o : Option ℕ) → o ≡ None → Takes old now w (refused o) new → new ≡ old
+pub stays : (old new : Held) (now : ℕ) (w : List ℕ) (o : Option Refusal) → o ≡ None → Takes old now w (refused o) new → new ≡ old
 stays old new now w None e takes = takes
 stays old new now w (Some n) e takes = cc e
+
+-- what is answered by some row is an answer
+pub is_answer : {A : Type 0} (o : Option A) (P : A → Type 0) → IsSomeAnd o P → IsSome o
+is_answer None P h = absurd h
+is_answer (Some a) P h = refl

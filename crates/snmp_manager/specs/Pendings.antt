@@ -2,12 +2,13 @@
 --
 -- `Remembers` and `IsPending`. What is remembered of a message that was sent: msgID, engine, user, level,
 -- contexts and request-id. `request_answer`: the text that was written, or the refusal.
+use Rattle.snmp_message.specs.declared.refusal.Refusal.{Refusal}
 use Rattle.std.specs.Prelude.{◌≡◌, ℕ, ℤ, List, Option, Some, Result, Ok, Err}
 use Rattle.std.specs.Global.{Vec}
 use Rattle.snmp_ber.specs.declared.level.Level.{Level}
-use Rattle.snmp_incoming.specs.declared.fault.TakeFault.{TakeFault}
+use Rattle.snmp_message.specs.declared.refused_at.RefusedAt.{RefusedAt}
 use Rattle.snmp_outgoing.specs.declared.front.Front.{Front}
-use Rattle.snmp_outgoing.specs.Sends.{send_refusal}
+use Rattle.usm_core.specs.Table.{refusal_answer}
 use Rattle.snmp_manager.specs.declared.pending.Pending.{Pending}
 
 pub record Remembers (a : Pending) (id : ℕ) (engine user : List ℕ) (level : Level)
@@ -26,6 +27,6 @@ IsPending a id engine user level front = Remembers a id engine user level front.
     front.context_name.now front.id
 
 -- the text that was written, or the refusal; None for want of memory
-abbrev pub request_answer : Result (Vec ℕ × Pending) TakeFault → Option (Result (List ℕ) ℕ)
+abbrev pub request_answer : Result (Vec ℕ × Pending) RefusedAt → Option (Result (List ℕ) Refusal)
 request_answer (Ok sent) = Some (Ok sent.0.items)
-request_answer (Err fault) = send_refusal fault
+request_answer (Err e) = refusal_answer e.refusal

@@ -3,9 +3,10 @@
 -- `Runs`. The outcomes of datagrams taken one after another, each told as its answer. `HasTaken old
 -- datagrams new`: they were taken one after another, each at its moment, whatever they were answered: by a
 -- run, or by calls that take one.
+use Rattle.snmp_message.specs.declared.refusal.Refusal.{Refusal}
 use Rattle.std.specs.Prelude.{◌≡◌, ℕ, List, [], ◌∷◌, take, map, Some, Result, Ok, Err}
 use Rattle.std.specs.Global.{Vec}
-use Rattle.snmp_incoming.specs.Refusals.{answer_number}
+use Rattle.snmp_message.specs.Numbers.{in_table}
 use Rattle.snmp_incoming.specs.Outcome.{Given}
 use Rattle.snmp_manager.specs.declared.outcome.Outcome.{Outcome}
 use Rattle.snmp_manager.specs.declared.outcome.Outcome.TheVariants.{Accepted, Refused}
@@ -14,15 +15,15 @@ use Rattle.snmp_manager.specs.Views.{Held}
 use Rattle.snmp_manager.specs.Takes.{Takes}
 
 -- what an outcome tells of an answer
-abbrev pub Tells : Outcome → Result Given ℕ → Type 0
+abbrev pub Tells : Outcome → Result Given Refusal → Type 0
 Tells (Accepted level tag) (Ok given) = (level ≡ given.level) × (tag ≡ given.tag)
-Tells (Refused fault) (Err n) = answer_number fault ≡ Some n
-Tells (Accepted level tag) (Err n) = ⊥
-Tells (Refused fault) (Ok given) = ⊥
+Tells (Refused e) (Err refusal) = in_table e.refusal ≡ Some refusal
+Tells (Accepted level tag) (Err refusal) = ⊥
+Tells (Refused e) (Ok given) = ⊥
 
 -- a take of one datagram, told by an outcome
 abbrev pub TakesOne : Held → ℕ → List ℕ → Outcome → Held → Type 0
-TakesOne old now w outcome new = (answer : Result Given ℕ) × Tells outcome answer × Takes old now w (Some answer) new
+TakesOne old now w outcome new = (answer : Result Given Refusal) × Tells outcome answer × Takes old now w (Some answer) new
 
 -- the outcomes of datagrams taken one after another
 abbrev pub Runs : Held → List (ℕ × Vec ℕ) → List Outcome → Held → Type 0
@@ -35,7 +36,7 @@ Runs old (t ∷ ts) [] new = ⊥
 -- Datagrams were taken one after another, each at its moment, whatever they were answered.
 abbrev pub HasTaken : Held → List (ℕ × List ℕ) → Held → Type 0
 HasTaken old [] new = new ≡ old
-HasTaken old (t ∷ ts) new = (mid : Held) × ((answer : Result Given ℕ) × Takes old t.0 t.1 (Some answer) mid)
+HasTaken old (t ∷ ts) new = (mid : Held) × ((answer : Result Given Refusal) × Takes old t.0 t.1 (Some answer) mid)
     × HasTaken mid ts new
 
 -- moments and datagrams, as contracts see them

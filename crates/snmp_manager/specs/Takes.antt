@@ -4,21 +4,22 @@
 -- window of what is then held; for want of memory no answer, and all as before. `HoldsAuthentic`,
 -- `TakesNoMemory`: it wants no memory, also where what is accepted is to be copied; `kept_answer`: the
 -- answer of a call that copies it.
+use Rattle.snmp_message.specs.declared.refusal.Refusal.{Refusal}
 use Rattle.std.specs.Prelude.{◌≡◌, ℕ, List, Option, Some, None, Result, Ok, Err, IsSome}
 use Rattle.engine_clock.specs.Pairs.{BootsAndTime}
 use Rattle.engine_clock.specs.Marks.{mark_at}
 use Rattle.usm_core.specs.Authentic.{Authentic}
 use Rattle.usm_core.specs.Verified.{manager}
-use Rattle.snmp_incoming.specs.declared.fault.TakeFault.{TakeFault}
-use Rattle.snmp_incoming.specs.Refusals.{answer_number}
-use Rattle.snmp_incoming.specs.Answers.{IsPlain, refused}
+use Rattle.snmp_message.specs.declared.refused_at.RefusedAt.{RefusedAt}
+use Rattle.snmp_incoming.specs.Answers.{IsPlain}
+use Rattle.usm_core.specs.Table.{refusal_answer}
 use Rattle.snmp_incoming.specs.Outcome.{Given, Outcome, as_manager}
 use Rattle.snmp_manager.specs.Views.{Held}
 use Rattle.snmp_manager.specs.Learning.{LearnsFrom}
 
 -- The answer is the table's, by the window of what is held after learning, and nothing but marks has changed.
 -- For want of memory there is no answer, and all is as before.
-abbrev pub Takes : Held → ℕ → List ℕ → Option (Result Given ℕ) → Held → Type 0
+abbrev pub Takes : Held → ℕ → List ℕ → Option (Result Given Refusal) → Held → Type 0
 Takes old now w None new = new ≡ old
 Takes old now w (Some answer) new = (new.users ≡ old.users) × LearnsFrom old.users now w old.clocks new.clocks
     × Outcome (as_manager new.clocks) old.users now w answer
@@ -36,6 +37,6 @@ pub record TakesNoMemory (held : Held) (now : ℕ) (w : List ℕ) : Type 0 where
   pub refused : (g : Given) (new : Held) → Takes held now w (Some (Ok g)) new → ⊥
 
 -- the answer of a call that keeps what is accepted, as the table has it; None for want of memory
-abbrev pub kept_answer : Result Given TakeFault → Option (Result Given ℕ)
+abbrev pub kept_answer : Result Given RefusedAt → Option (Result Given Refusal)
 kept_answer (Ok g) = Some (Ok g)
-kept_answer (Err fault) = refused (answer_number fault)
+kept_answer (Err e) = refusal_answer e.refusal

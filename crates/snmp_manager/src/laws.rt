@@ -13,6 +13,7 @@ ghost use Rattle.snmp_manager.specs.Known.{IsLatest, IsLatestMark, HaveSameAuthe
 ghost use Rattle.snmp_manager.specs.Pieces.{Piece, ArePiecesOf, SavesText, SaveEach};
 ghost use Rattle.snmp_manager.specs.Takes.{Takes};
 ghost use Rattle.snmp_manager.specs.Runs.{TakesOne, Runs, HasTaken, moments_of};
+ghost use Rattle.snmp_message.specs.declared.refusal.Refusal.{Refusal};
 
 /// Lists with the same authentic datagrams, in any order, with any repeats and anything else between, have
 /// the same latest pair of each engine.
@@ -35,7 +36,7 @@ pub fn same_authentic_same_pairs()
 /// What each call that takes says comes to datagrams taken: one call of `take` or `take_one`, what was taken
 /// before and after it, and so the laws are of all that a manager took.
 pub fn takes_are_joined()
-    ensures take { (a b : Held) (now : ℕ) (w : List ℕ) (answer : Result Given ℕ) → Takes a now w (Some answer) b
+    ensures take { (a b : Held) (now : ℕ) (w : List ℕ) (answer : Result Given Refusal) → Takes a now w (Some answer) b
         → HasTaken a ((now, w) ∷ []) b }
     ensures take_one { (a b : Held) (now : ℕ) (w : List ℕ) (outcome : Answered) → TakesOne a now w outcome b
         → HasTaken a ((now, w) ∷ []) b }

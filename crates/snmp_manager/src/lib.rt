@@ -4,15 +4,16 @@
 //!
 //! ```
 //! use engine_clock::Clocks;
-//! use snmp_incoming::TakeFault;
 //! use snmp_manager::{Manager, Outcome};
+//! use snmp_msg::{Refusal, RefusedAt};
 //! use usm_core::Users;
 //!
 //! let users = Users::load(rt.alloc(), &[])?;
 //! let mut manager = Manager::new(rt.alloc(), users, Clocks::new(rt.alloc()));
 //! let (datagram, _pending) = manager.discover(1)?;
 //! let outcome = manager.take_one(1700000000, &datagram)?;
-//! assert_eq!(rt; outcome, Outcome::Refused(TakeFault::UnknownEngine));
+//! let refused = RefusedAt::plain(Refusal::UnknownEngine);
+//! assert_eq!(rt; outcome, Outcome::Refused(refused));
 //! ```
 //!
 //! ```

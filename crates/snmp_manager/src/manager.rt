@@ -1,7 +1,7 @@
 //! The manager.
 
 ghost use Rattle.std.specs.Prelude.{◌≡◌, ◌<◌, ◌≤◌, ℕ, pos, List, [], All, length, map, Ok, IfOk, IfErr, IfSome};
-ghost use Rattle.std.specs.Prelude.{IsErrOf, IsOk, IsSome, MatchResult, OnErr, OnOk, Some};
+ghost use Rattle.std.specs.Prelude.{IsOk, IsSome, MatchResult, OnErr, OnOk, Some};
 ghost use Rattle.std.specs.Option.{option_map};
 ghost use Rattle.engine_clock.specs.Pairs.{IsPair};
 ghost use Rattle.engine_clock.specs.Marks.{HoldsAll, SeenPair, mark_at, pair_at, IsMarkJoinOf, IsJoinOf};
@@ -19,6 +19,8 @@ ghost use Rattle.snmp_manager.specs.Pendings.{Remembers, IsPending, request_answ
 ghost use Rattle.snmp_manager.specs.Known.{IsLatest, datagrams_of};
 ghost use Rattle.snmp_manager.specs.Takes.{Takes, HoldsAuthentic, TakesNoMemory, kept_answer};
 ghost use Rattle.snmp_manager.specs.Runs.{TakesOne, Runs, HasTaken, moments_of, taken_of};
+ghost use Rattle.snmp_message.specs.declared.refusal.Refusal.TheVariants.{OutOfMemory};
+ghost use Rattle.snmp_message.specs.Refusals.{IsRefused};
 
 use crate::learning::learn;
 use crate::outcome::{Outcome, Stopped};
@@ -27,8 +29,8 @@ use crate::requests::{no_pair, written_pair};
 use crate::weighing::{weigh, weigh_kept};
 use engine_clock::{Clocks, EngineId, Mark, Pair};
 use snmp_ber::Level;
-use snmp_incoming::{Kept, TakeFault, Taken};
-use snmp_msg::{GET_REQUEST, Spelled};
+use snmp_incoming::{Kept, Taken};
+use snmp_msg::{GET_REQUEST, Refusal, RefusedAt, Spelled};
 use snmp_outgoing::{Body, Envelope, Front, is_confirmed, supports, write_body_of, write_plain};
 use std::alloc::{AllocError, Global};
 use std::marker::Model;
@@ -127,21 +129,14 @@ impl Manager {
     /// (14), which leaves all as before; and NotInWindow (10), DecryptionError (11), BadScoped (12) and
     /// BadPdu (13), of messages whose pair is learned all the same, where they have authentication. Memory is
     /// taken to decrypt, and for an engine that isn't held.
-    pub fn take<'a>(&mut self, now: u64, datagram: &'a [u8]) -> Result<Taken<'a>, TakeFault>
+    pub fn take<'a>(&mut self, now: u64, datagram: &'a [u8]) -> Result<Taken<'a>, RefusedAt>
         ensures takes { Takes self.old now datagram.now (answer_of result) self.new }
         ensures no_memory { IsPlain manager self.old.users datagram.now → HoldsAuthentic self.old datagram.now
             → IsSome (answer_of result) }
     {
-        let checked = match self.users.open_auth(Role::Manager, datagram) {
-            Ok(checked) => checked,
-            Err(fault) => return Err(fault.into()),
-        };
-        let Ok(answer) = weigh(&mut self.users, &self.clocks, now, datagram, &checked) else {
-            return Err(TakeFault::OutOfMemory);
-        };
-        let Ok(()) = learn(&mut self.clocks, &checked, now) else {
-            return Err(TakeFault::OutOfMemory);
-        };
+        let checked = self.users.open_auth(Role::Manager, datagram)?;
+        let answer = weigh(&mut self.users, &self.clocks, now, datagram, &checked)?;
+        learn(&mut self.clocks, &checked, now)?;
         answer
     }
 
@@ -150,27 +145,20 @@ impl Manager {
     /// (14) leaves all as before here too.
     ///
     /// The errors are those of `take`. Memory is taken where `take` does, and for the copy.
-    pub fn take_kept(&mut self, now: u64, datagram: &[u8]) -> Result<Kept, TakeFault>
+    pub fn take_kept(&mut self, now: u64, datagram: &[u8]) -> Result<Kept, RefusedAt>
         ensures takes { Takes self.old now datagram.now (kept_answer result) self.new }
         ensures no_memory { TakesNoMemory self.old now datagram.now → IsSome (kept_answer result) }
     {
-        let checked = match self.users.open_auth(Role::Manager, datagram) {
-            Ok(checked) => checked,
-            Err(fault) => return Err(fault.into()),
-        };
-        let Ok(kept) = weigh_kept(
+        let checked = self.users.open_auth(Role::Manager, datagram)?;
+        let kept = weigh_kept(
             self.alloc,
             &mut self.users,
             &self.clocks,
             now,
             datagram,
             &checked,
-        ) else {
-            return Err(TakeFault::OutOfMemory);
-        };
-        let Ok(()) = learn(&mut self.clocks, &checked, now) else {
-            return Err(TakeFault::OutOfMemory);
-        };
+        )?;
+        learn(&mut self.clocks, &checked, now)?;
         kept
     }
 
@@ -227,9 +215,9 @@ impl Manager {
     /// Whether a request for this user at this level can be sent (RFC 3414, section 3.1): at levels with
     /// authentication there is a user of this name that supports the level. The errors are UnknownUser (7),
     /// and where there is such a user UnsupportedLevel (8). It takes no memory.
-    pub fn supports(&self, user: &[u8], level: Level) -> Result<(), TakeFault>
+    pub fn supports(&self, user: &[u8], level: Level) -> Result<(), RefusedAt>
         ensures { MatchResult result (λ _. CanSend self.now.users user.now level)
-            (RefusesSender self.now.users user.now level) }
+            (λ e. RefusesSender self.now.users user.now level e.refusal) }
     {
         supports(&self.users, user, level)
     }
@@ -252,7 +240,7 @@ impl Manager {
         level: Level,
         body: &Body<'_>,
         salt: [u8; 8],
-    ) -> Result<(Vec<u8>, Pending), TakeFault>
+    ) -> Result<(Vec<u8>, Pending), RefusedAt>
         requires id { id ≤ 2147483647 }
         requires user { length user.now ≤ 32 }
         requires body { BodyFits body.now }
@@ -260,7 +248,7 @@ impl Manager {
             (Seals self.old.users
             (requesting (mark_at self.old.clocks engine.now) now id engine.now user.now level (front_in body.now)
             (variables_in body.now) salt)) }
-        ensures memory { IsErrOf result TakeFault.OutOfMemory
+        ensures memory { IsRefused result OutOfMemory
             → IsSealable self.old.users
             (requesting (mark_at self.old.clocks engine.now) now id engine.now user.now level (front_in body.now)
             (variables_in body.now) salt) }
@@ -297,7 +285,7 @@ impl Manager {
         front: &Front<'_>,
         bindings: &[B],
         salt: [u8; 8],
-    ) -> Result<(Vec<u8>, Pending), TakeFault>
+    ) -> Result<(Vec<u8>, Pending), RefusedAt>
         requires id { id ≤ 2147483647 }
         requires user { length user.now ≤ 32 }
         requires tag { IsPduTag front.now.tag }
@@ -306,7 +294,7 @@ impl Manager {
             (Seals self.old.users
             (requesting (mark_at self.old.clocks engine.now) now id engine.now user.now level front.now
             (map B.says bindings.now) salt)) }
-        ensures memory { IsErrOf result TakeFault.OutOfMemory
+        ensures memory { IsRefused result OutOfMemory
             → IsSealable self.old.users
             (requesting (mark_at self.old.clocks engine.now) now id engine.now user.now level front.now
             (map B.says bindings.now) salt) }
@@ -325,10 +313,7 @@ impl Manager {
             salt,
         };
         let text = write_body_of(&mut self.users, &envelope, front, bindings)?;
-        match Pending::of(self.alloc, &envelope, front) {
-            Ok(pending) => Ok((text, pending)),
-            Err(_) => Err(TakeFault::OutOfMemory),
-        }
+        Ok((text, Pending::of(self.alloc, &envelope, front)?))
     }
 
     /// The request by which an engine is discovered (RFC 3414, section 4), and what is to be remembered of
@@ -359,8 +344,10 @@ impl Manager {
         };
         let text = match write_plain(&self.users, &envelope, &body) {
             Ok(text) => text,
-            Err(TakeFault::TooLarge) => unreachable!(),
-            Err(_) => return Err(AllocError),
+            Err(refused) => match refused.refusal {
+                Refusal::TooLarge => unreachable!(),
+                _ => return Err(AllocError),
+            },
         };
         Ok((text, Pending::of(self.alloc, &envelope, &body.front())?))
     }

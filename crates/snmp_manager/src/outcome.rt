@@ -1,7 +1,7 @@
 //! What is told of datagrams that a manager took.
 
 use snmp_ber::Level;
-use snmp_incoming::TakeFault;
+use snmp_msg::RefusedAt;
 use thiserror::Error;
 
 /// What a datagram was answered.
@@ -10,7 +10,7 @@ pub enum Outcome {
     /// It is accepted; the tag is that of its PDU.
     Accepted { level: Level, tag: u8 },
     /// It is refused. This is never OutOfMemory.
-    Refused(TakeFault),
+    Refused(RefusedAt),
 }
 
 /// A run that stopped for want of memory, when the first so many of its datagrams were taken.

@@ -14,7 +14,8 @@ ghost use Rattle.snmp_manager.specs.Takes.{kept_answer};
 
 use crate::learning::{engine_of, is_fresh_once_learned};
 use engine_clock::Clocks;
-use snmp_incoming::{Kept, TakeFault, Taken, read_text, scoped_octets};
+use snmp_incoming::{Kept, Taken, read_text, scoped_octets};
+use snmp_msg::{Refusal, RefusedAt};
 use std::alloc::{AllocError, Global};
 use usm_core::{Checked, Users};
 
@@ -27,7 +28,7 @@ pub(crate) fn weigh<'a>(
     now: u64,
     datagram: &'a [u8],
     checked: &Checked<'a>,
-) -> Result<Result<Taken<'a>, TakeFault>, AllocError>
+) -> Result<Result<Taken<'a>, RefusedAt>, AllocError>
     requires read { IsReadAs datagram.now (verified_of checked.now) }
     requires private { checked.now.level ≡ AuthPriv
         → HasUserAt users.old.users checked.now.security.user.now AuthPriv × (tag_of checked.now.message.body ≡ 4) }
@@ -40,10 +41,10 @@ pub(crate) fn weigh<'a>(
 {
     let opening = scoped_octets(users, datagram, checked)?;
     if !is_fresh_once_learned(clocks, checked, now) {
-        return Ok(Err(TakeFault::NotInWindow));
+        return Ok(Err(RefusedAt::plain(Refusal::NotInWindow)));
     }
     let Some(text) = opening else {
-        return Ok(Err(TakeFault::DecryptionError));
+        return Ok(Err(RefusedAt::plain(Refusal::DecryptionError)));
     };
     Ok(read_text(checked, engine_of(checked), text))
 }
@@ -56,7 +57,7 @@ pub(crate) fn weigh_kept(
     now: u64,
     datagram: &[u8],
     checked: &Checked<'_>,
-) -> Result<Result<Kept, TakeFault>, AllocError>
+) -> Result<Result<Kept, RefusedAt>, AllocError>
     requires read { IsReadAs datagram.now (verified_of checked.now) }
     requires private { checked.now.level ≡ AuthPriv
         → HasUserAt users.old.users checked.now.security.user.now AuthPriv × (tag_of checked.now.message.body ≡ 4) }

@@ -1,8 +1,9 @@
 -- The refusals' numbers, names and words, which the whole engine shares.
 --
--- The refusals' numbers, 1 to 18, and their names, which the whole engine shares; `msg_refusal` and
--- `place_of` (`Refusals`) say which of them a layer's fault is, and where.
-use Rattle.std.specs.Prelude.{ℕ, List, ◌++◌, codes, decimal, Option, Some, None}
+-- The refusals' numbers, 1 to 18, and their names, which the whole engine shares. `has_place` says which of them
+-- have a place, and `in_table` which of them a table of refusals can answer.
+use Rattle.std.specs.Prelude.{ℕ, List, ◌++◌, codes, decimal, Bool, true, false, Option, Some, None}
+use Rattle.std.specs.Prelude.{◌≡◌, ◌≢◌, MatchBool}
 use Rattle.snmp_message.specs.declared.refusal.Refusal.{Refusal}
 use Rattle.snmp_message.specs.declared.refusal.Refusal.TheVariants.{NotMessage, BadVersion, NotSecurity, NotScoped}
 use Rattle.snmp_message.specs.declared.refusal.Refusal.TheVariants.{NotPdu, UnknownEngine, UnknownUser}
@@ -76,3 +77,22 @@ refusal_words InvalidFlags = codes "privacy without authentication"
 abbrev pub words_at : Refusal → Option ℕ → List ℕ
 words_at refusal None = refusal_words refusal
 words_at refusal (Some at) = refusal_words refusal ++ (codes " at octet " ++ decimal at)
+
+-- A refusal of octets has the place of the first octet that isn't of the layout.
+abbrev pub has_place : Refusal → Bool
+has_place NotMessage = true
+has_place NotSecurity = true
+has_place NotScoped = true
+has_place NotPdu = true
+has_place BadScoped = true
+has_place BadPdu = true
+has_place _ = false
+
+-- The refusal as an answer of a table. Out of memory says nothing of the message, so no table answers it.
+abbrev pub in_table : Refusal → Option Refusal
+in_table OutOfMemory = None
+in_table refusal = Some refusal
+
+-- whether the refusal is out of memory
+abbrev pub MemoryIs : Refusal → Bool → Type 0
+MemoryIs refusal is = MatchBool is (in_table refusal ≡ None) (in_table refusal ≢ None)

@@ -20,18 +20,17 @@
 //! ```
 #![tactic(auto)]
 
-mod fault;
 mod field;
 mod header;
 mod laws;
 mod message;
 mod pieces;
 mod refusal;
+mod refused_at;
 mod scoped;
 mod scoped_pdu;
 mod security;
 
-pub use fault::{MsgFault, WriteFault};
 pub use field::{
     INTEGER, OBJECT_IDENTIFIER, OCTET_STRING, SEQUENCE, element_len, integer_len, read_element,
     read_signed,
@@ -44,6 +43,7 @@ pub use laws::{
 pub use message::{Data, LARGEST, Message, message_len, put_front, read_message, write_message};
 pub use pieces::cut;
 pub use refusal::Refusal;
+pub use refused_at::RefusedAt;
 pub use scoped::{
     Scoped, ScopedPlace, contexts_len, place_scoped_front, put_contexts, read_scoped,
     read_scoped_front, write_scoped,

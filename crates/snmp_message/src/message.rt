@@ -1,18 +1,20 @@
 //! The outer layout of an SNMPv3Message (RFC 3412, section 6).
 
-ghost use Rattle.std.specs.Prelude.{◌≡◌, ◌+◌, ◌*◌, ◌<◌, ◌≤◌, ◌++◌, length, slice_range, option_map, IfOk, OnOk};
-ghost use Rattle.std.specs.Prelude.{OnErr, IsErrOf, MatchResult};
+ghost use Rattle.std.specs.Prelude.{◌≡◌, ◌+◌, ◌*◌, ◌<◌, ◌≤◌, ◌++◌, length, slice_range, option_map, IfErr, IfOk, OnOk};
+ghost use Rattle.std.specs.Prelude.{OnErr, MatchResult};
 ghost use Rattle.std.specs.Result.{result_ok};
 ghost use Rattle.snmp_ber.specs.Spelling.{head_size};
 ghost use Rattle.snmp_message.specs.Layout.{Parts, Outer};
 ghost use Rattle.snmp_message.specs.Spelling.{HeaderFits, number, content_size, front_text, message_text, written};
 ghost use Rattle.snmp_message.specs.Reading.{version_in, after_version};
 ghost use Rattle.snmp_message.specs.Message.{parts, tag_of, content_of};
-ghost use Rattle.snmp_message.specs.Refusals.{RefusesOuter};
+ghost use Rattle.snmp_message.specs.declared.refusal.Refusal.TheVariants.{OutOfMemory, TooLarge};
+ghost use Rattle.snmp_message.specs.Refusals.{IsRefused, IsWriteRefusal, RefusesOuter};
 
-use crate::fault::{MsgFault, WriteFault};
 use crate::field::{INTEGER, OCTET_STRING, SEQUENCE, element_len, read_element};
 use crate::header::{Header, header_len, put_header, read_header};
+use crate::refusal::Refusal;
+use crate::refused_at::RefusedAt;
 use snmp_ber::{BerFault, put_head, put_int, put_tlv, read_int, read_tlv};
 use std::alloc::{AllocError, Global};
 
@@ -114,24 +116,33 @@ fn read_after_version(datagram: &[u8], at: usize, end: usize) -> Result<Message<
 /// BadVersion comes exactly where the datagram begins with a SEQUENCE whose content begins with an INTEGER
 /// other than 3. NotMessage comes exactly where it doesn't, and isn't an SNMPv3Message of version 3. No
 /// memory is taken.
-pub fn read_message(datagram: &[u8]) -> Result<Message<'_>, MsgFault>
-    ensures exact { MatchResult result (λ m. Outer datagram.now (parts m)) (RefusesOuter datagram.now) }
+pub fn read_message(datagram: &[u8]) -> Result<Message<'_>, RefusedAt>
+    ensures exact { MatchResult result (λ m. Outer datagram.now (parts m)) (λ e. RefusesOuter datagram.now e.refusal) }
     ensures none { OnErr result ((m : Parts) → Outer datagram.now m → ⊥) }
     ensures fits { IfOk result (λ m. HeaderFits m.header) }
 {
     let (version, at, end) = match read_version(datagram) {
         Ok(found) => found,
-        Err(fault) => return Err(MsgFault::NotMessage { at: fault.at }),
+        Err(fault) => return Err(RefusedAt {
+            refusal: Refusal::NotMessage,
+            at: Some(fault.at),
+        }),
     };
     if version != 3 {
-        return Err(MsgFault::BadVersion);
+        return Err(RefusedAt::plain(Refusal::BadVersion));
     }
     let message = match read_after_version(datagram, at, end) {
         Ok(message) => message,
-        Err(fault) => return Err(MsgFault::NotMessage { at: fault.at }),
+        Err(fault) => return Err(RefusedAt {
+            refusal: Refusal::NotMessage,
+            at: Some(fault.at),
+        }),
     };
     if end < datagram.len() {
-        return Err(MsgFault::NotMessage { at: end });
+        return Err(RefusedAt {
+            refusal: Refusal::NotMessage,
+            at: Some(end),
+        });
     }
     Ok(message)
 }
@@ -219,25 +230,26 @@ pub fn write_message(
     header: &Header,
     security: &[u8],
     body: &Data<'_>,
-) -> Result<Vec<u8>, WriteFault>
+) -> Result<Vec<u8>, RefusedAt>
     requires { HeaderFits header.now }
     ensures ok { IfOk result
         (λ v. v.items ≡ message_text header.now security.now (tag_of body.now) (content_of body.now)) }
     ensures size { IfOk result (λ v. length v.items ≤ LARGEST) }
     ensures spelled { IfOk result
         (λ v. Outer v.items (written header.now security.now (tag_of body.now) (content_of body.now))) }
-    ensures too_large { IsErrOf result WriteFault.TooLarge
+    ensures refusal { IfErr result (λ e. IsWriteRefusal e.refusal) }
+    ensures too_large { IsRefused result TooLarge
         → LARGEST < length (message_text header.now security.now (tag_of body.now) (content_of body.now)) }
-    ensures memory { IsErrOf result WriteFault.OutOfMemory
+    ensures memory { IsRefused result OutOfMemory
         → length (message_text header.now security.now (tag_of body.now) (content_of body.now)) ≤ LARGEST }
 {
     let content = body.content();
     if security.len().max(content.len()) > LARGEST {
-        return Err(WriteFault::TooLarge);
+        return Err(RefusedAt::plain(Refusal::TooLarge));
     }
     let size = message_len(header, security.len(), content.len());
     if size > LARGEST {
-        return Err(WriteFault::TooLarge);
+        return Err(RefusedAt::plain(Refusal::TooLarge));
     }
     let out = spell_message(alloc, header, security, body, size)?;
     Ok(out)

@@ -1,7 +1,7 @@
 //! ScopedPDU (RFC 3412, section 6.8).
 
-ghost use Rattle.std.specs.Prelude.{◌≡◌, ℕ, List, ◌+◌, ◌*◌, ◌<◌, ◌≤◌, ◌++◌, length, slice_range, option_map, IfOk};
-ghost use Rattle.std.specs.Prelude.{IfSome, OnOk, OnErr, IsErrOf, MatchOption, MatchResult};
+ghost use Rattle.std.specs.Prelude.{◌≡◌, ℕ, List, ◌+◌, ◌*◌, ◌<◌, ◌≤◌, ◌++◌, length, slice_range, option_map, IfErr, IfOk};
+ghost use Rattle.std.specs.Prelude.{IfSome, OnOk, OnErr, MatchOption, MatchResult};
 ghost use Rattle.std.specs.Result.{result_ok};
 ghost use Rattle.snmp_ber.specs.Element.{IsElement};
 ghost use Rattle.snmp_ber.specs.Spelling.{element, head_size};
@@ -10,11 +10,13 @@ ghost use Rattle.snmp_message.specs.Message.{parts};
 ghost use Rattle.snmp_message.specs.Scoped.{Contexts, ScopedText, HasScoped, HasSealed, ScopedFront, contexts_in};
 ghost use Rattle.snmp_message.specs.Scoped.{contexts_of, contexts_there, scoped_front_in, StandsWithin, IsOneElement};
 ghost use Rattle.snmp_message.specs.Scoped.{contexts_size, contexts_text, scoped_text, contexts_placed};
-ghost use Rattle.snmp_message.specs.Refusals.{RefusesScoped, RefusesFront};
+ghost use Rattle.snmp_message.specs.declared.refusal.Refusal.TheVariants.{OutOfMemory, TooLarge};
+ghost use Rattle.snmp_message.specs.Refusals.{IsRefused, IsWriteRefusal, RefusesScoped, RefusesFront};
 
-use crate::fault::{MsgFault, WriteFault};
 use crate::field::{OCTET_STRING, SEQUENCE, element_len, read_element};
 use crate::message::{Data, LARGEST, Message};
+use crate::refusal::Refusal;
+use crate::refused_at::RefusedAt;
 use snmp_ber::{BerFault, put_head, put_tlv, read_tlv};
 use std::alloc::{AllocError, Global};
 
@@ -111,12 +113,12 @@ fn read_contexts(octets: &[u8], at: usize, end: usize) -> Result<Scoped<'_>, Ber
 pub fn read_scoped<'a>(
     datagram: &'a [u8],
     message: &Message<'_>,
-) -> Result<Option<Scoped<'a>>, MsgFault>
+) -> Result<Option<Scoped<'a>>, RefusedAt>
     requires { Outer datagram.now (parts message.now) }
     ensures exact { MatchResult result
         (λ found. MatchOption found (HasSealed (parts message.now))
         (λ s. HasScoped datagram.now (parts message.now) (contexts_of s)))
-        (RefusesScoped datagram.now (parts message.now)) }
+        (λ e. RefusesScoped datagram.now (parts message.now) e.refusal) }
     ensures none { OnErr result
         ((HasSealed (parts message.now) → ⊥)
         × ((s : Contexts) → HasScoped datagram.now (parts message.now) s → ⊥)) }
@@ -130,11 +132,15 @@ pub fn read_scoped<'a>(
         (false, Data::Plain(content)) => {
             match read_contexts(datagram, datagram.len() - content.len(), datagram.len()) {
                 Ok(scoped) => Ok(Some(scoped)),
-                Err(fault) => Err(MsgFault::NotScoped { at: fault.at }),
+                Err(fault) => Err(RefusedAt {
+                    refusal: Refusal::NotScoped,
+                    at: Some(fault.at),
+                }),
             }
         }
-        _ => Err(MsgFault::NotScoped {
-            at: message.data_at,
+        _ => Err(RefusedAt {
+            refusal: Refusal::NotScoped,
+            at: Some(message.data_at),
         }),
     }
 }
@@ -154,16 +160,19 @@ fn place_front(plaintext: &[u8]) -> Result<ScopedPlace, BerFault>
 ///
 /// The error is NotScoped, exactly where no front of the octets is a ScopedPDU; its place counts in the plaintext. No
 /// memory is taken.
-pub fn place_scoped_front(plaintext: &[u8]) -> Result<ScopedPlace, MsgFault>
+pub fn place_scoped_front(plaintext: &[u8]) -> Result<ScopedPlace, RefusedAt>
     ensures exact { MatchResult result (λ p. ScopedFront plaintext.now (contexts_there plaintext.now p))
-        (RefusesFront plaintext.now) }
+        (λ e. RefusesFront plaintext.now e.refusal) }
     ensures none { OnErr result ((s : Contexts) → ScopedFront plaintext.now s → ⊥) }
     ensures stands { IfOk result (λ p. StandsWithin (length plaintext.now) p) }
     ensures element { IfOk result (λ p. IsOneElement (slice_range plaintext.now p.data_at p.end)) }
 {
     match place_front(plaintext) {
         Ok(place) => Ok(place),
-        Err(fault) => Err(MsgFault::NotScoped { at: fault.at }),
+        Err(fault) => Err(RefusedAt {
+            refusal: Refusal::NotScoped,
+            at: Some(fault.at),
+        }),
     }
 }
 
@@ -171,8 +180,8 @@ pub fn place_scoped_front(plaintext: &[u8]) -> Result<ScopedPlace, MsgFault>
 ///
 /// The error is NotScoped, exactly where no front of the octets is a ScopedPDU; its place counts in the plaintext. No
 /// memory is taken.
-pub fn read_scoped_front(plaintext: &[u8]) -> Result<Scoped<'_>, MsgFault>
-    ensures exact { MatchResult result (λ s. ScopedFront plaintext.now (contexts_of s)) (RefusesFront plaintext.now) }
+pub fn read_scoped_front(plaintext: &[u8]) -> Result<Scoped<'_>, RefusedAt>
+    ensures exact { MatchResult result (λ s. ScopedFront plaintext.now (contexts_of s)) (λ e. RefusesFront plaintext.now e.refusal) }
     ensures none { OnErr result ((s : Contexts) → ScopedFront plaintext.now s → ⊥) }
     ensures within { IfOk result (λ s. s.data_at + length s.pdu.now ≤ length plaintext.now) }
     ensures place { IfOk result (λ s. s.pdu.now ≡ slice_range plaintext.now s.data_at (s.data_at + length s.pdu.now)) }
@@ -233,7 +242,7 @@ pub fn write_scoped(
     engine: &[u8],
     name: &[u8],
     pdu: &[u8],
-) -> Result<Vec<u8>, WriteFault>
+) -> Result<Vec<u8>, RefusedAt>
     requires { IsOneElement pdu.now }
     ensures ok { IfOk result (λ v. v.items ≡ scoped_text engine.now name.now pdu.now) }
     ensures size { IfOk result (λ v. length v.items ≤ LARGEST) }
@@ -242,17 +251,18 @@ pub fn write_scoped(
         (λ v. ScopedText 0 v.items
         (contexts_placed (head_size (length (contexts_text engine.now name.now pdu.now))) engine.now
         name.now pdu.now)) }
-    ensures too_large { IsErrOf result WriteFault.TooLarge
+    ensures refusal { IfErr result (λ e. IsWriteRefusal e.refusal) }
+    ensures too_large { IsRefused result TooLarge
         → LARGEST < length (scoped_text engine.now name.now pdu.now) }
-    ensures memory { IsErrOf result WriteFault.OutOfMemory
+    ensures memory { IsRefused result OutOfMemory
         → length (scoped_text engine.now name.now pdu.now) ≤ LARGEST }
 {
     if engine.len().max(name.len()).max(pdu.len()) > LARGEST {
-        return Err(WriteFault::TooLarge);
+        return Err(RefusedAt::plain(Refusal::TooLarge));
     }
     let size = element_len(contexts_len(engine, name, pdu.len()));
     if size > LARGEST {
-        return Err(WriteFault::TooLarge);
+        return Err(RefusedAt::plain(Refusal::TooLarge));
     }
     let out = spell_scoped(alloc, engine, name, pdu, size)?;
     Ok(out)

@@ -1,17 +1,19 @@
 //! msgSecurityParameters of the user-based security model (RFC 3414, section 2.4).
 
 ghost use Rattle.std.specs.Prelude.{◌≡◌, ℕ, ◌+◌, ◌*◌, ◌<◌, ◌≤◌, ◌++◌, length, slice_range, take, drop, option_map};
-ghost use Rattle.std.specs.Prelude.{IfOk, OnOk, OnErr, IsErrOf, MatchResult, IsTrue, ◌↔◌};
+ghost use Rattle.std.specs.Prelude.{IfErr, IfOk, OnOk, OnErr, MatchResult, IsTrue, ◌↔◌};
 ghost use Rattle.std.specs.Result.{result_ok};
 ghost use Rattle.snmp_message.specs.Layout.{Parts, Outer};
 ghost use Rattle.snmp_message.specs.Message.{parts};
 ghost use Rattle.snmp_message.specs.Security.{Fields, SecText, IsCut, fields_in, security_in, fields_of, FieldsFit};
 ghost use Rattle.snmp_message.specs.Security.{IsShort, fields_text, security_text, placed};
-ghost use Rattle.snmp_message.specs.Refusals.{RefusesSecurity};
+ghost use Rattle.snmp_message.specs.declared.refusal.Refusal.TheVariants.{OutOfMemory, TooLarge};
+ghost use Rattle.snmp_message.specs.Refusals.{IsRefused, IsWriteRefusal, RefusesSecurity};
 
-use crate::fault::{MsgFault, WriteFault};
 use crate::field::{OCTET_STRING, SEQUENCE, element_len, integer_len, read_element, read_number};
 use crate::message::{LARGEST, Message};
+use crate::refusal::Refusal;
+use crate::refused_at::RefusedAt;
 use snmp_ber::{BerFault, put_head, put_int, put_tlv};
 use std::alloc::{AllocError, Global};
 
@@ -86,11 +88,11 @@ fn read_parameters(datagram: &[u8], at: usize, end: usize) -> Result<Security<'_
 pub fn read_security<'a>(
     datagram: &'a [u8],
     message: &Message<'_>,
-) -> Result<Security<'a>, MsgFault>
+) -> Result<Security<'a>, RefusedAt>
     requires { Outer datagram.now (parts message.now) }
     ensures exact { MatchResult result
         (λ s. SecText message.now.security_at message.now.security.now (fields_of s))
-        (RefusesSecurity (parts message.now)) }
+        (λ e. RefusesSecurity (parts message.now) e.refusal) }
     ensures none { OnErr result
         ((m : Parts) (s : Fields) → Outer datagram.now m → SecText m.security_at m.security s → ⊥) }
 
@@ -103,7 +105,10 @@ pub fn read_security<'a>(
     let at = message.security_at;
     match read_parameters(datagram, at, at + message.security.len()) {
         Ok(security) => Ok(security),
-        Err(fault) => Err(MsgFault::NotSecurity { at: fault.at }),
+        Err(fault) => Err(RefusedAt {
+            refusal: Refusal::NotSecurity,
+            at: Some(fault.at),
+        }),
     }
 }
 
@@ -201,20 +206,21 @@ fn spell_security(
 /// Boots and time are at most 2,147,483,647 and the user name has at most 32 octets. The error TooLarge (16)
 /// comes exactly where the text would be longer than 65,507 octets, unless there is want of memory, which is
 /// the other error.
-pub fn write_security(alloc: Global, security: &Security<'_>) -> Result<Vec<u8>, WriteFault>
+pub fn write_security(alloc: Global, security: &Security<'_>) -> Result<Vec<u8>, RefusedAt>
     requires { FieldsFit (fields_of security.now) }
     ensures ok { IfOk result (λ v. v.items ≡ security_text (fields_of security.now)) }
     ensures size { IfOk result (λ v. length v.items ≤ LARGEST) }
     ensures spelled { IfOk result (λ v. (at : ℕ) → SecText at v.items (placed at (fields_of security.now))) }
-    ensures too_large { IsErrOf result WriteFault.TooLarge → LARGEST < length (security_text (fields_of security.now)) }
-    ensures memory { IsErrOf result WriteFault.OutOfMemory → length (security_text (fields_of security.now)) ≤ LARGEST }
+    ensures refusal { IfErr result (λ e. IsWriteRefusal e.refusal) }
+    ensures too_large { IsRefused result TooLarge → LARGEST < length (security_text (fields_of security.now)) }
+    ensures memory { IsRefused result OutOfMemory → length (security_text (fields_of security.now)) ≤ LARGEST }
 {
     if !is_short(security) {
-        return Err(WriteFault::TooLarge);
+        return Err(RefusedAt::plain(Refusal::TooLarge));
     }
     let size = security_len(security);
     if size > LARGEST {
-        return Err(WriteFault::TooLarge);
+        return Err(RefusedAt::plain(Refusal::TooLarge));
     }
     let out = spell_security(alloc, security, size)?;
     Ok(out)

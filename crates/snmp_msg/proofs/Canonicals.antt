@@ -4,10 +4,8 @@ use Rattle.std.specs.Prelude.{MatchResult, MatchOption, IsErrAnd}
 use Rattle.snmp_ber.specs.Spelling.{head_size}
 use Rattle.snmp_message.specs.declared.header.Header.{Header}
 use Rattle.snmp_message.specs.declared.scoped.Scoped.{Scoped}
-use Rattle.snmp_message.specs.declared.fault.MsgFault.{MsgFault}
-use Rattle.snmp_message.specs.declared.fault.MsgFault.TheVariants as faults
-use Rattle.snmp_message.specs.declared.fault.WriteFault.{WriteFault}
-use Rattle.snmp_message.specs.declared.fault.WriteFault.TheVariants as writes
+use Rattle.snmp_message.specs.declared.refusal.Refusal.{Refusal}
+use Rattle.snmp_message.specs.declared.refusal.Refusal.TheVariants.{NotMessage, BadVersion, NotSecurity, NotScoped, NotPdu, UnknownEngine, UnknownUser, UnsupportedLevel, WrongDigest, NotInWindow, DecryptionError, BadScoped, BadPdu, OutOfMemory, ClockExhausted, TooLarge, UnknownModel, InvalidFlags}
 use Rattle.snmp_message.specs.Layout.{Parts, Outer, IsGlobal}
 use Rattle.snmp_message.specs.Security.{Fields, SecText, FieldsFit, IsShort, fields_text, security_text, placed}
 use Rattle.snmp_message.specs.Scoped.{Contexts, ScopedContent, HasScoped, HasSealed, IsOneElement, contexts_of, contexts_placed}
@@ -16,7 +14,7 @@ use Rattle.snmp_message.specs.Spelling.{HeaderFits, content_size, message_text, 
 use Rattle.snmp_msg.specs.Canonical.{DataParts, sealed, plain, Whole, SaysData, Says, data_tag_of, data_content_of, whole_text, IsCanonical, DataFits, WholeFits, IsShortData}
 use Rattle.snmp_message.specs.Refusals.{RefusesSecurity}
 use Rattle.snmp_message.specs.Refusals.{AgreesWithPriv}
-use Rattle.snmp_msg.specs.Refusals.{RefusesPdu, RefusesWhole, RefusesCanonical, canon_fault}
+use Rattle.snmp_msg.specs.Refusals.{RefusesPdu, RefusesWhole, RefusesCanonical}
 use Rattle.snmp_message.proofs.Outers.{one_outer}
 use Rattle.snmp_message.proofs.Securities.{one_security}
 use Rattle.snmp_message.proofs.Scopeds.{not_both, one_scoped, contexts_text-length, contexts_text-is}
@@ -35,23 +33,49 @@ pub agrees_from : (w : List ℕ) (m : Parts) (o : Option Scoped) → MatchOption
 agrees_from w m None h = inl h
 agrees_from w m (Some s) h = inr (contexts_of s, h)
 
-pub security_refused : (w : List ℕ) (m : Parts) (f : MsgFault) → Outer w m → AgreesWithPriv w m → RefusesSecurity m f → RefusesWhole w f
-security_refused w m (faults.NotSecurity at) o agrees none = (m, o, agrees, none)
-security_refused w m (faults.NotMessage at) o agrees none = absurd none
-security_refused w m faults.BadVersion o agrees none = absurd none
-security_refused w m (faults.NotScoped at) o agrees none = absurd none
-security_refused w m (faults.NotPdu at) o agrees none = absurd none
+pub security_refused : (w : List ℕ) (m : Parts) (r : Refusal) → Outer w m → AgreesWithPriv w m → RefusesSecurity m r → RefusesWhole w r
+security_refused w m NotMessage o agrees none = absurd none
+security_refused w m BadVersion o agrees none = absurd none
+security_refused w m NotSecurity o agrees none = (m, o, agrees, none)
+security_refused w m NotScoped o agrees none = absurd none
+security_refused w m NotPdu o agrees none = absurd none
+security_refused w m UnknownEngine o agrees none = absurd none
+security_refused w m UnknownUser o agrees none = absurd none
+security_refused w m UnsupportedLevel o agrees none = absurd none
+security_refused w m WrongDigest o agrees none = absurd none
+security_refused w m NotInWindow o agrees none = absurd none
+security_refused w m DecryptionError o agrees none = absurd none
+security_refused w m BadScoped o agrees none = absurd none
+security_refused w m BadPdu o agrees none = absurd none
+security_refused w m OutOfMemory o agrees none = absurd none
+security_refused w m ClockExhausted o agrees none = absurd none
+security_refused w m TooLarge o agrees none = absurd none
+security_refused w m UnknownModel o agrees none = absurd none
+security_refused w m InvalidFlags o agrees none = absurd none
 
-pub pdu_refused : (w text : List ℕ) (m : Parts) (f : Fields) (s : Contexts) (fault : MsgFault) → Outer w m → SecText m.security_at m.security f → HasScoped w m s → s.pdu ≡ text → RefusesPdu text fault → RefusesWhole w fault
-pdu_refused w text m f s (faults.NotPdu at) o x h same none = (m, f, s, o, x, h, λ p t. none p (subst (λ (z : List ℕ). PduText z p) same t))
-pdu_refused w text m f s (faults.NotMessage at) o x h same none = absurd none
-pdu_refused w text m f s faults.BadVersion o x h same none = absurd none
-pdu_refused w text m f s (faults.NotScoped at) o x h same none = absurd none
-pdu_refused w text m f s (faults.NotSecurity at) o x h same none = absurd none
+pub pdu_refused : (w text : List ℕ) (m : Parts) (f : Fields) (s : Contexts) (r : Refusal) → Outer w m → SecText m.security_at m.security f → HasScoped w m s → s.pdu ≡ text → RefusesPdu text r → RefusesWhole w r
+pdu_refused w text m f s NotMessage o x h same none = absurd none
+pdu_refused w text m f s BadVersion o x h same none = absurd none
+pdu_refused w text m f s NotSecurity o x h same none = absurd none
+pdu_refused w text m f s NotScoped o x h same none = absurd none
+pdu_refused w text m f s NotPdu o x h same none = (m, f, s, o, x, h, λ p t. none p (subst (λ (z : List ℕ). PduText z p) same t))
+pdu_refused w text m f s UnknownEngine o x h same none = absurd none
+pdu_refused w text m f s UnknownUser o x h same none = absurd none
+pdu_refused w text m f s UnsupportedLevel o x h same none = absurd none
+pdu_refused w text m f s WrongDigest o x h same none = absurd none
+pdu_refused w text m f s NotInWindow o x h same none = absurd none
+pdu_refused w text m f s DecryptionError o x h same none = absurd none
+pdu_refused w text m f s BadScoped o x h same none = absurd none
+pdu_refused w text m f s BadPdu o x h same none = absurd none
+pdu_refused w text m f s OutOfMemory o x h same none = absurd none
+pdu_refused w text m f s ClockExhausted o x h same none = absurd none
+pdu_refused w text m f s TooLarge o x h same none = absurd none
+pdu_refused w text m f s UnknownModel o x h same none = absurd none
+pdu_refused w text m f s InvalidFlags o x h same none = absurd none
 
-pub write_refused : (w : List ℕ) (m : Whole) (f : WriteFault) → Says w m → (f ≡ writes.TooLarge → 65507 < length (whole_text m)) → (f ≡ writes.OutOfMemory → length (whole_text m) ≤ 65507) → RefusesCanonical w (canon_fault f)
-write_refused w m writes.TooLarge says large short = (whole_text m, record { message = m; says = says; spelled = refl }, large refl)
-write_refused w m writes.OutOfMemory says large short = (whole_text m, record { message = m; says = says; spelled = refl }, short refl)
+pub write_refused : (w : List ℕ) (m : Whole) (r : Refusal) → Says w m → (r ≡ TooLarge) ⊎ (r ≡ OutOfMemory) → (r ≡ TooLarge → 65507 < length (whole_text m)) → (r ≡ OutOfMemory → length (whole_text m) ≤ 65507) → RefusesCanonical w r
+write_refused w m r says (inl is) large short = subst (RefusesCanonical w) (sym is) (whole_text m, record { message = m; says = says; spelled = refl }, large is)
+write_refused w m r says (inr is) large short = subst (RefusesCanonical w) (sym is) (whole_text m, record { message = m; says = says; spelled = refl }, short is)
 
 -- ---- sizes
 

@@ -23,7 +23,6 @@
 #![tactic(auto)]
 
 mod binding;
-mod fault;
 mod laws;
 mod list;
 mod pdu;
@@ -33,7 +32,6 @@ mod variable;
 mod whole;
 
 pub use binding::{Binding, Bindings, VarBind, read_binding};
-pub use fault::CanonFault;
 pub use laws::{canonical_again, one_pdu, one_whole, pdu_written_again};
 pub use list::{Spelled, binding_len, bindings_len};
 pub use pdu::{Pdu, put_pdu_of, read_pdu, write_pdu, write_pdu_of, written_pdu_len};
@@ -42,11 +40,15 @@ pub use pdu_type::{
     TRAP, is_pdu_tag,
 };
 pub use snmp_message::{
-    Cut, Data, Header, LARGEST, Message, MsgFault, Refusal, Scoped, ScopedPlace, Security,
-    USER_BASED, WriteFault, cut, field_filled, longer_whole, message_size, one_content, one_cut,
-    one_message, place_scoped_front, plain_from_data, read_message, read_scoped, read_scoped_front,
+    Cut, Data, Header, LARGEST, Message, Refusal, RefusedAt, Scoped, ScopedPlace, Security,
+    USER_BASED, cut, field_filled, longer_whole, message_size, one_content, one_cut, one_message,
+    place_scoped_front, plain_from_data, read_message, read_scoped, read_scoped_front,
     read_security, whole_slice, write_message, write_scoped, write_security, written_again,
 };
+/// Why a layout isn't read: a `RefusedAt`.
+pub use snmp_message::RefusedAt as MsgFault;
+/// Why there is no canonical spelling: a `RefusedAt`.
+pub use snmp_message::RefusedAt as CanonFault;
 pub use value::{COUNTER32, Syntax, value_is};
 pub use variable::{VariableBinding, VariableBindings};
 pub use whole::{Layer, Layers, canonical, read_layers, write_layers};

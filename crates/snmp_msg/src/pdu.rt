@@ -1,7 +1,7 @@
 //! PDUs (RFC 3416, section 3).
 
 ghost use Rattle.std.specs.Prelude.{◌≡◌, ℕ, List, [], ◌+◌, ◌*◌, ◌<◌, ◌≤◌, ◌++◌, length, slice_range, option_map};
-ghost use Rattle.std.specs.Prelude.{IfOk, OnOk, OnErr, IsErrOf, MatchResult, All, map};
+ghost use Rattle.std.specs.Prelude.{IfErr, IfOk, OnOk, OnErr, MatchResult, All, map};
 ghost use Rattle.std.specs.Result.{result_ok};
 ghost use Rattle.snmp_ber.specs.Spelling.{head_size};
 ghost use Rattle.snmp_msg.specs.Pdu.{IsPduTag, PduParts, PduText, PduFits, pdu_in, pdu_content_in, pdu_of, pdu_with};
@@ -9,6 +9,8 @@ ghost use Rattle.snmp_msg.specs.Pdu.{with_variables, pdu_content_size, pdu_front
 ghost use Rattle.snmp_msg.specs.Variables.{Variable, AreBindings, CanBeWritten, variable_of, variables_of};
 ghost use Rattle.snmp_msg.specs.Variables.{bindings_left, variables_left, variables_text};
 ghost use Rattle.snmp_message.specs.Scoped.{IsOneElement};
+ghost use Rattle.snmp_message.specs.declared.refusal.Refusal.TheVariants.{OutOfMemory, TooLarge};
+ghost use Rattle.snmp_message.specs.Refusals.{IsRefused, IsWriteRefusal};
 ghost use Rattle.snmp_msg.specs.Refusals.{RefusesPdu};
 
 use crate::binding::{Binding, Bindings, check_bindings};
@@ -17,7 +19,7 @@ use crate::pdu_type::{GET_REQUEST, is_pdu_tag};
 use crate::variable::VariableBindings;
 use snmp_ber::{BerFault, put_head, put_int, read_tlv};
 use snmp_message::{
-    LARGEST, MsgFault, SEQUENCE, WriteFault, element_len, integer_len, read_element, read_signed,
+    LARGEST, Refusal, RefusedAt, SEQUENCE, element_len, integer_len, read_element, read_signed,
 };
 use std::alloc::{AllocError, Global};
 
@@ -101,17 +103,20 @@ fn read_whole_pdu(bytes: &[u8], at: usize, end: usize) -> Result<Pdu<'_>, BerFau
 /// The PDU that fills the octets between the places `at` and `end`.
 ///
 /// The error is NotPdu, exactly where they aren't one PDU. No memory is taken.
-pub fn read_pdu(bytes: &[u8], at: usize, end: usize) -> Result<Pdu<'_>, MsgFault>
+pub fn read_pdu(bytes: &[u8], at: usize, end: usize) -> Result<Pdu<'_>, RefusedAt>
     requires start { at ≤ end }
     requires within { end ≤ length bytes.now }
     ensures exact { MatchResult result (λ p. PduText (slice_range bytes.now at end) (pdu_of p))
-        (RefusesPdu (slice_range bytes.now at end)) }
+        (λ e. RefusesPdu (slice_range bytes.now at end) e.refusal) }
     ensures none { OnErr result ((p : PduParts) → PduText (slice_range bytes.now at end) p → ⊥) }
     ensures fits { IfOk result (λ p. PduFits (pdu_of p)) }
 {
     match read_whole_pdu(bytes, at, end) {
         Ok(pdu) => Ok(pdu),
-        Err(fault) => Err(MsgFault::NotPdu { at: fault.at }),
+        Err(fault) => Err(RefusedAt {
+            refusal: Refusal::NotPdu,
+            at: Some(fault.at),
+        }),
     }
 }
 
@@ -227,7 +232,7 @@ fn write_spelled<B: Spelled>(
     alloc: Global,
     front: &Pdu<'_>,
     bindings: &[B],
-) -> Result<Vec<u8>, WriteFault>
+) -> Result<Vec<u8>, RefusedAt>
     requires tag { IsPduTag front.now.tag }
     requires fit { All (λ b. B.fits b) bindings.now }
     ensures ok { IfOk result (λ v. v.items ≡ pdu_text (with_variables (pdu_of front.now) (map B.says bindings.now))) }
@@ -235,18 +240,19 @@ fn write_spelled<B: Spelled>(
     ensures spelled { IfOk result (λ v. PduText v.items (with_variables (pdu_of front.now) (map B.says bindings.now))) }
     ensures bindings { IfOk result
         (λ _. AreBindings (map B.says bindings.now) (variables_text (map B.says bindings.now))) }
-    ensures too_large { IsErrOf result WriteFault.TooLarge
+    ensures refusal { IfErr result (λ e. IsWriteRefusal e.refusal) }
+    ensures too_large { IsRefused result TooLarge
         → LARGEST < length (pdu_text (with_variables (pdu_of front.now) (map B.says bindings.now))) }
-    ensures memory { IsErrOf result WriteFault.OutOfMemory
+    ensures memory { IsRefused result OutOfMemory
         → length (pdu_text (with_variables (pdu_of front.now) (map B.says bindings.now))) ≤ LARGEST }
 {
     let _numbers = (front.id, front.second, front.third);
     let Some(list_len) = bindings_len(bindings) else {
-        return Err(WriteFault::TooLarge);
+        return Err(RefusedAt::plain(Refusal::TooLarge));
     };
     let size = pdu_len(front, list_len);
     if size > LARGEST {
-        return Err(WriteFault::TooLarge);
+        return Err(RefusedAt::plain(Refusal::TooLarge));
     }
     let out = spell_pdu(alloc, front, bindings, list_len, size)?;
     Ok(out)
@@ -277,7 +283,7 @@ pub fn write_pdu(
     second: i32,
     third: i32,
     bindings: &[Binding<'_>],
-) -> Result<Vec<u8>, WriteFault>
+) -> Result<Vec<u8>, RefusedAt>
     requires tag { IsPduTag tag }
     requires fit { All (λ b. CanBeWritten (variable_of b)) bindings.now }
     ensures ok { IfOk result (λ v. v.items ≡ pdu_text (pdu_with tag id second third (map variable_of bindings.now))) }
@@ -286,9 +292,10 @@ pub fn write_pdu(
     ensures bindings { IfOk result
         (λ _. AreBindings (map variable_of bindings.now) (variables_text (map variable_of bindings.now))) }
     ensures element { IfOk result (λ v. IsOneElement v.items) }
-    ensures too_large { IsErrOf result WriteFault.TooLarge
+    ensures refusal { IfErr result (λ e. IsWriteRefusal e.refusal) }
+    ensures too_large { IsRefused result TooLarge
         → LARGEST < length (pdu_text (pdu_with tag id second third (map variable_of bindings.now))) }
-    ensures memory { IsErrOf result WriteFault.OutOfMemory
+    ensures memory { IsRefused result OutOfMemory
         → length (pdu_text (pdu_with tag id second third (map variable_of bindings.now))) ≤ LARGEST }
 {
     write_pdu_of(alloc, tag, id, second, third, bindings)
@@ -305,7 +312,7 @@ pub fn write_pdu_of<B: Spelled>(
     second: i32,
     third: i32,
     bindings: &[B],
-) -> Result<Vec<u8>, WriteFault>
+) -> Result<Vec<u8>, RefusedAt>
     requires tag { IsPduTag tag }
     requires fit { All (λ b. B.fits b) bindings.now }
     ensures ok { IfOk result (λ v. v.items ≡ pdu_text (pdu_with tag id second third (map B.says bindings.now))) }
@@ -314,9 +321,10 @@ pub fn write_pdu_of<B: Spelled>(
     ensures bindings { IfOk result
         (λ _. AreBindings (map B.says bindings.now) (variables_text (map B.says bindings.now))) }
     ensures element { IfOk result (λ v. IsOneElement v.items) }
-    ensures too_large { IsErrOf result WriteFault.TooLarge
+    ensures refusal { IfErr result (λ e. IsWriteRefusal e.refusal) }
+    ensures too_large { IsRefused result TooLarge
         → LARGEST < length (pdu_text (pdu_with tag id second third (map B.says bindings.now))) }
-    ensures memory { IsErrOf result WriteFault.OutOfMemory
+    ensures memory { IsRefused result OutOfMemory
         → length (pdu_text (pdu_with tag id second third (map B.says bindings.now))) ≤ LARGEST }
 {
     write_spelled(alloc, &bare_pdu(tag, id, second, third), bindings)

@@ -1,7 +1,7 @@
 //! A message with all its layers, and its canonical spelling.
 
-ghost use Rattle.std.specs.Prelude.{◌≡◌, [], ◌+◌, ◌*◌, ◌<◌, ◌≤◌, ◌++◌, length, IfOk, IfSome, IfNone, OnOk, IsErrOf};
-ghost use Rattle.std.specs.Prelude.{MatchResult};
+ghost use Rattle.std.specs.Prelude.{◌≡◌, [], ◌+◌, ◌*◌, ◌<◌, ◌≤◌, ◌++◌, length, IfOk, IfSome, IfNone, OnOk};
+ghost use Rattle.std.specs.Prelude.{IfErr, MatchResult};
 ghost use Rattle.snmp_ber.specs.Spelling.{element};
 ghost use Rattle.snmp_message.specs.Layout.{Outer};
 ghost use Rattle.snmp_message.specs.Message.{parts};
@@ -11,14 +11,15 @@ ghost use Rattle.snmp_msg.specs.Canonical.{whole_text, message_with, data_parts,
 ghost use Rattle.snmp_msg.specs.Canonical.{data_content_of};
 ghost use Rattle.snmp_msg.specs.Variables.{variables_of, after_variables, variables_text};
 ghost use Rattle.snmp_msg.specs.Pdu.{pdu_of, pdu_text, respelled};
+ghost use Rattle.snmp_message.specs.declared.refusal.Refusal.TheVariants.{OutOfMemory, TooLarge};
+ghost use Rattle.snmp_message.specs.Refusals.{IsRefused, IsWriteRefusal};
 ghost use Rattle.snmp_msg.specs.Refusals.{RefusesWhole, RefusesCanonical};
 
-use crate::fault::CanonFault;
 use crate::list::{list_len, put_list};
 use crate::pdu::{Pdu, pdu_len, put_pdu_front, read_pdu};
 use snmp_ber::{put_head, put_tlv};
 use snmp_message::{
-    Header, LARGEST, Message, MsgFault, OCTET_STRING, SEQUENCE, Scoped, Security, WriteFault,
+    Header, LARGEST, Message, OCTET_STRING, Refusal, RefusedAt, SEQUENCE, Scoped, Security,
     contexts_len, is_short, message_len, put_contexts, put_front, put_security, read_message,
     read_scoped, read_security, security_len,
 };
@@ -54,9 +55,9 @@ pub(crate) enum Measured<'a> {
 /// They are read in the order msgData, msgSecurityParameters and, where the priv flag is clear, PDU. The
 /// error is that of the first that refuses, and comes exactly where one does: NotScoped, NotSecurity or
 /// NotPdu. No memory is taken.
-pub fn read_layers<'a>(datagram: &'a [u8], message: &Message<'a>) -> Result<Layers<'a>, MsgFault>
+pub fn read_layers<'a>(datagram: &'a [u8], message: &Message<'a>) -> Result<Layers<'a>, RefusedAt>
     requires { Outer datagram.now (parts message.now) }
-    ensures exact { MatchResult result (λ m. Says datagram.now (whole_of m)) (RefusesWhole datagram.now) }
+    ensures exact { MatchResult result (λ m. Says datagram.now (whole_of m)) (λ e. RefusesWhole datagram.now e.refusal) }
     ensures fits { IfOk result (λ m. WholeFits (whole_of m)) }
     ensures list { IfOk result (λ m. IsReadLayer m.contents) }
 {
@@ -181,28 +182,29 @@ fn spell_layers(
 ///
 /// The layers are `read_layers`'s. The error TooLarge (16) comes exactly where the spelling is longer than
 /// 65,507 octets, and OutOfMemory only where it isn't.
-pub fn write_layers(alloc: Global, layers: &Layers<'_>) -> Result<Vec<u8>, WriteFault>
+pub fn write_layers(alloc: Global, layers: &Layers<'_>) -> Result<Vec<u8>, RefusedAt>
     requires fits { WholeFits (whole_of layers.now) }
     requires read { IsReadLayer layers.now.contents }
     ensures ok { IfOk result (λ v. v.items ≡ whole_text (whole_of layers.now)) }
     ensures size { IfOk result (λ v. length v.items ≤ LARGEST) }
-    ensures too_large { IsErrOf result WriteFault.TooLarge → LARGEST < length (whole_text (whole_of layers.now)) }
-    ensures memory { IsErrOf result WriteFault.OutOfMemory → length (whole_text (whole_of layers.now)) ≤ LARGEST }
+    ensures refusal { IfErr result (λ e. IsWriteRefusal e.refusal) }
+    ensures too_large { IsRefused result TooLarge → LARGEST < length (whole_text (whole_of layers.now)) }
+    ensures memory { IsRefused result OutOfMemory → length (whole_text (whole_of layers.now)) ≤ LARGEST }
 {
     if !is_short(&layers.security) {
-        return Err(WriteFault::TooLarge);
+        return Err(RefusedAt::plain(Refusal::TooLarge));
     }
     let Some(contents) = measure(&layers.contents) else {
-        return Err(WriteFault::TooLarge);
+        return Err(RefusedAt::plain(Refusal::TooLarge));
     };
     let security_len = security_len(&layers.security);
     let data_len = data_len(&contents);
     if security_len.max(data_len) > LARGEST {
-        return Err(WriteFault::TooLarge);
+        return Err(RefusedAt::plain(Refusal::TooLarge));
     }
     let size = message_len(&layers.header, security_len, data_len);
     if size > LARGEST {
-        return Err(WriteFault::TooLarge);
+        return Err(RefusedAt::plain(Refusal::TooLarge));
     }
     let out = spell_layers(alloc, &layers.header, &layers.security, &contents, size)?;
     Ok(out)
@@ -212,11 +214,11 @@ pub fn write_layers(alloc: Global, layers: &Layers<'_>) -> Result<Vec<u8>, Write
 /// of msgFlags are 0, and all other fields are as read. The MAC isn't computed again.
 ///
 /// The layers are read in the order message, msgData, msgSecurityParameters and, where the priv flag is
-/// clear, PDU. The error Msg is that of the first that refuses, and comes exactly where one does. TooLarge
+/// clear, PDU. The error is that of the first that refuses, and comes exactly where one does. TooLarge
 /// (16) comes exactly where the spelling is longer than 65,507 octets, and OutOfMemory only where there is a
 /// spelling that isn't. Neither the security model nor priv without auth is looked at.
-pub fn canonical(alloc: Global, datagram: &[u8]) -> Result<Vec<u8>, CanonFault>
-    ensures exact { MatchResult result (λ v. IsCanonical datagram.now v.items) (RefusesCanonical datagram.now) }
+pub fn canonical(alloc: Global, datagram: &[u8]) -> Result<Vec<u8>, RefusedAt>
+    ensures exact { MatchResult result (λ v. IsCanonical datagram.now v.items) (λ e. RefusesCanonical datagram.now e.refusal) }
     ensures size { IfOk result (λ v. length v.items ≤ LARGEST) }
 {
     let message = read_message(datagram)?;

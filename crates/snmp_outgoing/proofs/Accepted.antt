@@ -1,4 +1,6 @@
 -- What was sealed is accepted by who has its user and allows its engine.
+use Rattle.snmp_message.specs.declared.refusal.Refusal.TheVariants.{NotInWindow}
+use Rattle.snmp_message.specs.declared.refusal.Refusal.{Refusal}
 use Rattle.std.proofs.Common.{◌≡◌, ℕ, ◌-◌, List, [], ◌+◌, ◌++◌, Bool, true, false, length, drop, refl, sym, ap, subst, ◌∙◌, inl, inr, append-nil}
 use Rattle.std.specs.Prelude.{if◌then◌else◌, ◌&&◌, Result, Ok, Err, Option, Some, None, is_some, IsSomeAnd, MatchBool}
 use Rattle.snmp_ber.specs.Element.{IsElement}
@@ -217,13 +219,13 @@ module _ (taker : Taker) (senders users : List User) (now : ℕ) (m : Sending) (
     },
   )
 
-  pub late : ClockRuns taker now → (IsInTime taker now m → ⊥) → Outcome taker users now w (Err 10)
+  pub late : ClockRuns taker now → (IsInTime taker now m → ⊥) → Outcome taker users now w (Err NotInWindow)
   unfolding Outcome Weighs
   late runs stale = holds runs (gives v verifies (fails (λ fresh. stale (λ auth. fresh_there taker now v m.engine m.pair said.engine_is pair_same (fresh (ap (λ (h : Header). h.auth) said.header_is ∙ auth))))))
 
-  pub answered : ((a b : Result Given ℕ) → Outcome taker users now w a → Outcome taker users now w b → a ≡ b) → ClockRuns taker now
-      → (answer : Result Given ℕ) → Outcome taker users now w answer → IsAnsweredInTime taker now m c p answer
+  pub answered : ((a b : Result Given Refusal) → Outcome taker users now w a → Outcome taker users now w b → a ≡ b) → ClockRuns taker now
+      → (answer : Result Given Refusal) → Outcome taker users now w answer → IsAnsweredInTime taker now m c p answer
   answered same runs answer is = record {
     in_time = λ fresh. let a = accepted runs fresh in (a.0, same answer (Ok a.0) is a.1, a.2);
-    late = λ stale. same answer (Err 10) is (late runs stale);
+    late = λ stale. same answer (Err NotInWindow) is (late runs stale);
   }

@@ -1,4 +1,5 @@
 -- At noAuthNoPriv no salt is sent, so it doesn't matter which is handed over.
+use Rattle.snmp_message.specs.declared.refusal.Refusal.{Refusal}
 use Rattle.std.proofs.Common.{◌≡◌, ℕ, List, [], Bool, true, false, Option, Some, None, refl, ◌∙◌}
 use Rattle.std.specs.Prelude.{Result, Ok, Err, IfSome, MatchBool, if◌then◌else◌}
 use Rattle.usm_users.specs.User.{User}
@@ -31,17 +32,17 @@ module _ (users : List User) (m : Sending) (salt : List ℕ) (auth : m.header.au
   }
 
 module _ (users : List User) (m : Sending) (salt : List ℕ) (auth : m.header.auth ≡ false) (privacy : m.header.privacy ≡ false) where
-  writes_salted : (answer : Result (List ℕ) ℕ) → Writes users m answer → Writes users (salted m salt) answer
+  writes_salted : (answer : Result (List ℕ) Refusal) → Writes users m answer → Writes users (salted m salt) answer
   writes_salted (Ok text) w = (sealed_salted users m salt auth privacy text w.0, w.1)
   writes_salted (Err n) w = (w.0, λ text s. w.1 text (sealed_salted users (salted m salt) m.salt auth privacy text s))
 
-  seals_salted : (answer : Result (List ℕ) ℕ) → Seals users m answer → Seals users (salted m salt) answer
+  seals_salted : (answer : Result (List ℕ) Refusal) → Seals users m answer → Seals users (salted m salt) answer
   unfolding Seals
   seals_salted answer (holds flags (holds user (holds level w))) = holds flags (holds user (holds level (writes_salted answer w)))
   seals_salted answer (holds flags (holds user (fails never))) = holds flags (holds user (fails never))
   seals_salted answer (holds flags (fails never)) = holds flags (fails never)
   seals_salted answer (fails never) = fails never
 
-  pub answer_salted : (answer : Option (Result (List ℕ) ℕ)) → IfSome answer (Seals users m) → IfSome answer (Seals users (salted m salt))
+  pub answer_salted : (answer : Option (Result (List ℕ) Refusal)) → IfSome answer (Seals users m) → IfSome answer (Seals users (salted m salt))
   answer_salted None h = h
   answer_salted (Some answer) h = seals_salted answer h

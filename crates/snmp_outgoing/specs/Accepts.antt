@@ -4,6 +4,8 @@
 -- is clear, it is accepted with what was sent given on, else it is refused as NotInWindow; and it has no
 -- other answer. `IsFor`: who takes it allows its engine and has its user, at a level with authentication
 -- the sender's own.
+use Rattle.snmp_message.specs.declared.refusal.Refusal.TheVariants.{NotInWindow}
+use Rattle.snmp_message.specs.declared.refusal.Refusal.{Refusal}
 use Rattle.std.specs.Prelude.{◌≡◌, ℕ, true, List, Result, Ok, Err}
 use Rattle.snmp_message.specs.Level.{level_of}
 use Rattle.snmp_message.specs.Scoped.{Contexts, ScopedText, ScopedFront}
@@ -58,14 +60,14 @@ IsAccepted taker users now w m c p = (g : Given) × Outcome taker users now w (O
 
 -- The answer to the message: what was sent where it is in time, and else NotInWindow.
 pub record IsAnsweredInTime (taker : Taker) (now : ℕ) (m : Sending) (c : Contexts) (p : PduParts)
-    (answer : Result Given ℕ) : Type 0 where
+    (answer : Result Given Refusal) : Type 0 where
   pub in_time : IsInTime taker now m → (g : Given) × (answer ≡ Ok g) × GivesBack m c p g
-  pub late : (IsInTime taker now m → ⊥) → answer ≡ Err 10
+  pub late : (IsInTime taker now m → ⊥) → answer ≡ Err NotInWindow
 
 -- What comes of the message where it is taken: it is accepted where it is in time, and else refused as
 -- NotInWindow, and there is no other answer.
 pub record IsTakenInTime (taker : Taker) (users : List User) (now : ℕ) (w : List ℕ) (m : Sending) (c : Contexts)
     (p : PduParts) : Type 0 where
   pub accepted : IsInTime taker now m → IsAccepted taker users now w m c p
-  pub late : (IsInTime taker now m → ⊥) → Outcome taker users now w (Err 10)
-  pub only : (answer : Result Given ℕ) → Outcome taker users now w answer → IsAnsweredInTime taker now m c p answer
+  pub late : (IsInTime taker now m → ⊥) → Outcome taker users now w (Err NotInWindow)
+  pub only : (answer : Result Given Refusal) → Outcome taker users now w answer → IsAnsweredInTime taker now m c p answer

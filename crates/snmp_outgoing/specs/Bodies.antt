@@ -2,7 +2,7 @@
 --
 -- What an envelope and a body are sent as: a header with msgMaxSize 65507 and the user-based model at the
 -- envelope's level, and the shortest spelling of the scoped PDU. `sent_with` and `scoped_after`: the same
--- of a front, which is a body without its bindings, and what any bindings say. `send_answer`: the answer as
+-- of a front, which is a body without its bindings, and what any bindings say. `seal_answer`: the answer as
 -- `Seals` has it. `IsMeasured` (`Scopeds`): the sizes that are known of a ScopedPDU before it is spelled in
 -- its place are those of its parts.
 use Rattle.std.specs.Prelude.{ℕ, Bool, true, false, List, map, All}

@@ -2,14 +2,16 @@
 --
 -- `IsLongestFront` and `SealsFront`. So many bindings from the first on that no text of the message with
 -- these has more octets than the limit, and each with one more has; the text with these and their number,
--- or a refusal: those before the text, and 16 where each text without bindings is longer.
+-- or a refusal: those before the text, and TooLarge where each text without bindings is longer.
+use Rattle.snmp_message.specs.declared.refusal.Refusal.{Refusal}
 use Rattle.std.specs.Prelude.{◌≡◌, ◌⊎◌, ◌+◌, ◌<◌, ◌≤◌, ℕ, nat_le, if◌then◌else◌, List, [], length, take, Option, Some}
-use Rattle.std.specs.Prelude.{option_map, Result, Ok, Err}
+use Rattle.std.specs.Prelude.{Result, Ok, Err}
+use Rattle.snmp_message.specs.declared.refusal.Refusal.TheVariants.{TooLarge}
+use Rattle.usm_core.specs.Table.{refusal_answer}
 use Rattle.snmp_msg.specs.Variables.{Variable}
 use Rattle.usm_users.specs.User.{User}
 use Rattle.usm_core.specs.Sealed.{Sending, SealedText, Seals, IsSealable}
-use Rattle.snmp_incoming.specs.declared.fault.TakeFault.{TakeFault}
-use Rattle.snmp_incoming.specs.Refusals.{answer_number}
+use Rattle.snmp_message.specs.declared.refused_at.RefusedAt.{RefusedAt}
 use Rattle.snmp_outgoing.specs.declared.front.Fronted.{Fronted}
 
 -- No text of the message has more octets than this.
@@ -38,14 +40,14 @@ pub record FrontText : Type 0 where
   pub count : ℕ
 
 -- The text of the message with the longest front that has room, and how many variables that has; or a
--- refusal: those before the text, and 16 where there is no room even for the message without variables.
-abbrev pub SealsFront : List User → ℕ → (List Variable → Sending) → List Variable → Result FrontText ℕ → Type 0
+-- refusal: those before the text, and TooLarge where there is no room even for the message without variables.
+abbrev pub SealsFront : List User → ℕ → (List Variable → Sending) → List Variable → Result FrontText Refusal → Type 0
 SealsFront users limit message vs (Ok f) = Seals users (message (take f.count vs)) (Ok f.text)
     × (length f.text ≤ limit) × IsLongestFront users (room limit) message vs f.count
-SealsFront users limit message vs (Err n) = Seals users (message []) (Err n)
-    ⊎ ((n ≡ 16) × IsSealable users (message []) × IsBeyond users (room limit) (message []))
+SealsFront users limit message vs (Err refusal) = Seals users (message []) (Err refusal)
+    ⊎ ((refusal ≡ TooLarge) × IsSealable users (message []) × IsBeyond users (room limit) (message []))
 
--- what the call answers; None for want of memory
-abbrev pub front_answer : Result Fronted TakeFault → Option (Result FrontText ℕ)
+-- what the call answers; None for out of memory
+abbrev pub front_answer : Result Fronted RefusedAt → Option (Result FrontText Refusal)
 front_answer (Ok f) = Some (Ok (record { text = f.text.items; count = f.count }))
-front_answer (Err fault) = option_map (λ n. Err n) (answer_number fault)
+front_answer (Err e) = refusal_answer e.refusal

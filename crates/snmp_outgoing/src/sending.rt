@@ -1,17 +1,18 @@
 //! Messages that go out.
 
 ghost use Rattle.std.specs.Prelude.{◌≡◌, ◌+◌, ◌<◌, ◌≤◌, All, [], length, map, take, IfOk, IfSome, MatchResult, OnOk};
-ghost use Rattle.std.specs.Prelude.{OnErr, IsErrOf, true};
+ghost use Rattle.std.specs.Prelude.{OnErr, true};
 ghost use Rattle.snmp_ber.specs.declared.level.Level.TheVariants.{NoAuthNoPriv};
 ghost use Rattle.engine_clock.specs.Pairs.{IsPair};
 ghost use Rattle.usm_users.specs.Users.{HasUserAt};
-ghost use Rattle.usm_core.specs.Refusals.{Supports};
 ghost use Rattle.usm_core.specs.Answers.{seal_answer};
 ghost use Rattle.usm_core.specs.Sealed.{Seals, IsSealable};
-ghost use Rattle.snmp_outgoing.specs.Sends.{sent, sent_with, send_answer, CanSend, RefusesSender};
+ghost use Rattle.snmp_outgoing.specs.Sends.{sent, sent_with, CanSend, RefusesSender};
 ghost use Rattle.snmp_outgoing.specs.Fronts.{SealsFront, front_answer, room};
 ghost use Rattle.snmp_msg.specs.Pdu.{IsPduTag, IsSpelled};
 ghost use Rattle.snmp_outgoing.specs.Bodies.{has_auth, scoped_of, pdu_in, scoped_after, pdu_after, BodyFits};
+ghost use Rattle.snmp_message.specs.declared.refusal.Refusal.TheVariants.{OutOfMemory, TooLarge};
+ghost use Rattle.snmp_message.specs.Refusals.{IsRefused};
 
 use crate::body::Body;
 use crate::count::count_within;
@@ -19,71 +20,22 @@ use crate::envelope::Envelope;
 use crate::front::{Front, Fronted};
 use crate::measured::Measured;
 use snmp_ber::Level;
-use snmp_incoming::TakeFault;
-use snmp_msg::{LARGEST, Spelled};
-use usm_core::{Users, UsmFault, sealed_size, some_sealed};
-
-/// At a level with authentication, there is a user of this name that supports it.
-fn has_user(users: &Users, user: &[u8], level: Level) -> Result<(), UsmFault>
-    ensures has { OnOk result (has_auth level ≡ true → HasUserAt users.now.users user.now level) }
-    ensures auth { OnErr result (has_auth level ≡ true) }
-    ensures answer { has_auth level ≡ true → Supports users.now.users user.now level result }
-{
-    if level == Level::NoAuthNoPriv {
-        return Ok(());
-    }
-    users.supports(user, level)
-}
+use snmp_msg::{LARGEST, Refusal, RefusedAt, Spelled};
+use usm_core::{Users, sealed_size, some_sealed};
 
 /// Whether messages of this user at this level can go out (RFC 3414, section 3.1): at levels with
 /// authentication there is a user of this name that supports the level. At noAuthNoPriv no user is looked
 /// for.
 ///
 /// The errors are UnknownUser (7), and where there is such a user UnsupportedLevel (8). It takes no memory.
-pub fn supports(users: &Users, user: &[u8], level: Level) -> Result<(), TakeFault>
+pub fn supports(users: &Users, user: &[u8], level: Level) -> Result<(), RefusedAt>
     ensures { MatchResult result (λ _. CanSend users.now.users user.now level)
-        (RefusesSender users.now.users user.now level) }
+        (λ e. RefusesSender users.now.users user.now level e.refusal) }
 {
-    match has_user(users, user, level) {
-        Ok(()) => Ok(()),
-        Err(UsmFault::UnknownUser) => Err(TakeFault::UnknownUser),
-        Err(UsmFault::UnsupportedLevel) => Err(TakeFault::UnsupportedLevel),
-        Err(_) => unreachable!(),
+    if level == Level::NoAuthNoPriv {
+        return Ok(());
     }
-}
-
-/// The text of the message, as `send` says.
-fn seal_body<B: Spelled>(
-    users: &mut Users,
-    envelope: &Envelope<'_>,
-    front: &Front<'_>,
-    bindings: &[B],
-) -> Result<Vec<u8>, UsmFault>
-    requires tag { IsPduTag front.now.tag }
-    requires fit { All (λ b. B.fits b) bindings.now }
-    ensures rows { IfSome (seal_answer result)
-        (Seals users.old.users (sent_with envelope.now (scoped_after front.now (map B.says bindings.now)))) }
-    ensures memory { IsErrOf result UsmFault.OutOfMemory
-        → IsSealable users.old.users (sent_with envelope.now (scoped_after front.now (map B.says bindings.now))) }
-    ensures spelled { IfOk result (λ _. IsSpelled (pdu_after front.now (map B.says bindings.now))) }
-    ensures short { IsErrOf result UsmFault.TooLarge
-        → LARGEST < 150 + length envelope.now.engine.now + length envelope.now.user.now
-        + length (scoped_after front.now (map B.says bindings.now)) }
-    ensures users { users.new.users ≡ users.old.users }
-{
-    sealed_size();
-    has_user(users, envelope.user, envelope.level)?;
-    let Some(scoped) = Measured::of(front, bindings) else {
-        return Err(UsmFault::TooLarge);
-    };
-    users.seal_of(
-        &envelope.header(),
-        envelope.engine,
-        envelope.pair,
-        envelope.user,
-        envelope.salt,
-        &scoped,
-    )
+    users.supports(user, level)
 }
 
 /// The text of the message with this envelope and this body (RFC 3414, section 3.1).
@@ -95,16 +47,16 @@ pub fn write_body(
     users: &mut Users,
     envelope: &Envelope<'_>,
     body: &Body<'_>,
-) -> Result<Vec<u8>, TakeFault>
+) -> Result<Vec<u8>, RefusedAt>
     requires body { BodyFits body.now }
-    ensures rows { IfSome (send_answer result) (Seals users.old.users (sent envelope.now body.now)) }
+    ensures rows { IfSome (seal_answer result) (Seals users.old.users (sent envelope.now body.now)) }
 
     // The refusals before the text come before want of memory.
-    ensures memory { IsErrOf result TakeFault.OutOfMemory → IsSealable users.old.users (sent envelope.now body.now) }
+    ensures memory { IsRefused result OutOfMemory → IsSealable users.old.users (sent envelope.now body.now) }
 
     // What was written has bindings that are read again.
     ensures spelled { IfOk result (λ _. IsSpelled (pdu_in body.now)) }
-    ensures short { IsErrOf result TakeFault.TooLarge
+    ensures short { IsRefused result TooLarge
         → LARGEST < 150 + length envelope.now.engine.now + length envelope.now.user.now
         + length (scoped_of body.now) }
     ensures users { users.new.users ≡ users.old.users }
@@ -112,32 +64,41 @@ pub fn write_body(
     write_body_of(users, envelope, &body.front(), body.bindings)
 }
 
-/// The same, of bindings in any form that can be written: `VariableBinding` is the quick one, of which only
+/// Writes the text of the message with bindings in any form that can be written: `VariableBinding` is the quick one, of which only
 /// the tags are asked.
 ///
-/// The errors are those of `send`, in its order.
+/// The errors are those of `write_body`, in its order.
 pub fn write_body_of<B: Spelled>(
     users: &mut Users,
     envelope: &Envelope<'_>,
     front: &Front<'_>,
     bindings: &[B],
-) -> Result<Vec<u8>, TakeFault>
+) -> Result<Vec<u8>, RefusedAt>
     requires tag { IsPduTag front.now.tag }
     requires fit { All (λ b. B.fits b) bindings.now }
-    ensures rows { IfSome (send_answer result)
+    ensures rows { IfSome (seal_answer result)
         (Seals users.old.users (sent_with envelope.now (scoped_after front.now (map B.says bindings.now)))) }
-    ensures memory { IsErrOf result TakeFault.OutOfMemory
+    ensures memory { IsRefused result OutOfMemory
         → IsSealable users.old.users (sent_with envelope.now (scoped_after front.now (map B.says bindings.now))) }
     ensures spelled { IfOk result (λ _. IsSpelled (pdu_after front.now (map B.says bindings.now))) }
-    ensures short { IsErrOf result TakeFault.TooLarge
+    ensures short { IsRefused result TooLarge
         → LARGEST < 150 + length envelope.now.engine.now + length envelope.now.user.now
         + length (scoped_after front.now (map B.says bindings.now)) }
     ensures users { users.new.users ≡ users.old.users }
 {
-    match seal_body(users, envelope, front, bindings) {
-        Ok(text) => Ok(text),
-        Err(fault) => Err(fault.into()),
-    }
+    sealed_size();
+    supports(users, envelope.user, envelope.level)?;
+    let Some(scoped) = Measured::of(front, bindings) else {
+        return Err(RefusedAt::plain(Refusal::TooLarge));
+    };
+    users.seal_of(
+        &envelope.header(),
+        envelope.engine,
+        envelope.pair,
+        envelope.user,
+        envelope.salt,
+        &scoped,
+    )
 }
 
 /// The most octets of a datagram within a limit.
@@ -152,7 +113,7 @@ fn room(limit: usize) -> usize
 /// The text of the message with the longest front of the bindings that has at most `limit` octets, and how
 /// many bindings that has. One text is sealed.
 ///
-/// The errors are those of `send` before the text; then TooLarge (16), exactly where even the text without
+/// The errors are those of `write_body` before the text; then TooLarge (16), exactly where even the text without
 /// bindings has more octets than `limit`, or than 65,507; and OutOfMemory.
 pub fn write_front<B: Spelled>(
     users: &mut Users,
@@ -160,7 +121,7 @@ pub fn write_front<B: Spelled>(
     front: &Front<'_>,
     bindings: &[B],
     limit: usize,
-) -> Result<Fronted, TakeFault>
+) -> Result<Fronted, RefusedAt>
     requires engine { length envelope.now.engine.now ≤ 32 }
     requires pair { IsPair envelope.now.pair }
     requires tag { IsPduTag front.now.tag }
@@ -168,36 +129,38 @@ pub fn write_front<B: Spelled>(
     ensures rows { IfSome (front_answer result)
         (SealsFront users.old.users limit (λ vs. sent_with envelope.now (scoped_after front.now vs))
         (map B.says bindings.now)) }
-    ensures memory { IsErrOf result TakeFault.OutOfMemory
+    ensures memory { IsRefused result OutOfMemory
         → IsSealable users.old.users (sent_with envelope.now (scoped_after front.now [])) }
     ensures spelled { IfOk result (λ f. IsSpelled (pdu_after front.now (take f.count (map B.says bindings.now)))) }
     ensures users { users.new.users ≡ users.old.users }
 {
     some_sealed();
-    if let Err(fault) = supports(users, envelope.user, envelope.level) {
-        return Err(fault);
-    }
+    supports(users, envelope.user, envelope.level)?;
     let Some(count) = count_within(users, envelope, front, bindings, room(limit)) else {
-        return Err(TakeFault::TooLarge);
+        return Err(RefusedAt::plain(Refusal::TooLarge));
     };
-    match write_body_of(users, envelope, front, &bindings[..count]) {
-        Ok(text) => Ok(Fronted { text, count }),
-        Err(fault) => Err(fault),
-    }
+    let text = write_body_of(users, envelope, front, &bindings[..count])?;
+    Ok(Fronted { text, count })
 }
 
-/// The text of the message, as `plain` says.
-fn seal_plain(users: &Users, envelope: &Envelope<'_>, body: &Body<'_>) -> Result<Vec<u8>, UsmFault>
+/// The text of a message at noAuthNoPriv, for which no key is looked up: what `write_body` gives.
+///
+/// The errors are TooLarge (16), only where the text would be longer than 65,507 octets, and OutOfMemory.
+pub fn write_plain(
+    users: &Users,
+    envelope: &Envelope<'_>,
+    body: &Body<'_>,
+) -> Result<Vec<u8>, RefusedAt>
     requires level { envelope.now.level ≡ NoAuthNoPriv }
     requires body { BodyFits body.now }
     ensures rows { IfSome (seal_answer result) (Seals users.now.users (sent envelope.now body.now)) }
-    ensures short { IsErrOf result UsmFault.TooLarge
+    ensures short { IsRefused result TooLarge
         → LARGEST < 150 + length envelope.now.engine.now + length envelope.now.user.now
         + length (scoped_of body.now) }
 {
     sealed_size();
     let Some(scoped) = Measured::of(&body.front(), body.bindings) else {
-        return Err(UsmFault::TooLarge);
+        return Err(RefusedAt::plain(Refusal::TooLarge));
     };
     users.write_plain(
         &envelope.header(),
@@ -206,25 +169,4 @@ fn seal_plain(users: &Users, envelope: &Envelope<'_>, body: &Body<'_>) -> Result
         envelope.user,
         &scoped,
     )
-}
-
-/// The text of a message at noAuthNoPriv, for which no key is looked up: what `send` gives.
-///
-/// The errors are TooLarge (16), only where the text would be longer than 65,507 octets, and OutOfMemory.
-pub fn write_plain(
-    users: &Users,
-    envelope: &Envelope<'_>,
-    body: &Body<'_>,
-) -> Result<Vec<u8>, TakeFault>
-    requires level { envelope.now.level ≡ NoAuthNoPriv }
-    requires body { BodyFits body.now }
-    ensures rows { IfSome (send_answer result) (Seals users.now.users (sent envelope.now body.now)) }
-    ensures short { IsErrOf result TakeFault.TooLarge
-        → LARGEST < 150 + length envelope.now.engine.now + length envelope.now.user.now
-        + length (scoped_of body.now) }
-{
-    match seal_plain(users, envelope, body) {
-        Ok(text) => Ok(text),
-        Err(fault) => Err(fault.into()),
-    }
 }

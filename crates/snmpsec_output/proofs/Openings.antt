@@ -1,14 +1,15 @@
 -- Rows of the table, for the function that opens a message.
+use Rattle.snmp_message.specs.Numbers.{in_table}
+use Rattle.usm_core.specs.Table.{refusal_answer}
+use Rattle.snmp_message.specs.declared.refusal.Refusal.TheVariants.{DecryptionError}
 use Rattle.std.proofs.Common.{◌≡◌, ℕ, List, Option, Some, None, sym, subst}
 use Rattle.std.specs.Prelude.{◌≢◌, Result, Ok, Err, IfOk, IfSome, IsSomeAnd}
 use Rattle.usm_users.specs.User.{User}
-use Rattle.usm_core.specs.declared.fault.UsmFault.{UsmFault}
-use Rattle.usm_core.specs.declared.fault.UsmFault.TheVariants as usm
+use Rattle.snmp_message.specs.declared.refused_at.RefusedAt.{RefusedAt}
+use Rattle.snmp_message.specs.declared.refusal.Refusal.TheVariants as usm
 use Rattle.usm_core.specs.Refusals.{number_of}
 use Rattle.usm_core.specs.Table.{holds, fails, gives, refuses}
 use Rattle.usm_core.specs.Verified.{Verified, Verifies, manager}
-use Rattle.snmp_incoming.specs.declared.fault.TakeFault.{TakeFault}
-use Rattle.snmp_incoming.specs.Refusals.{IsSameRefusal, answer_number}
 use Rattle.snmp_incoming.specs.Outcome.{Given, ReadsText}
 use Rattle.snmp_incoming.specs.Answers as outcome
 use Rattle.snmp_incoming.specs.Answers.{IsOpening}
@@ -22,15 +23,15 @@ told_number None n e = cc
 told_number (Some m) n e = cc
 
 -- refused down to the digest
-pub opens_refused : (users : List User) (w : List ℕ) (fault : UsmFault) (e : TakeFault) → fault ≢ usm.OutOfMemory → IsSameRefusal fault e → Verifies manager users w (Err (number_of fault))
-    → IfSome (refused (answer_number e)) (Opens users w)
+pub opens_refused : (users : List User) (w : List ℕ) (fault : RefusedAt) (e : RefusedAt) → fault ≢ usm.OutOfMemory → IsSameRefusal fault e → Verifies manager users w (Err (fault.refusal))
+    → IfSome (refusal_answer e.refusal) (Opens users w)
 unfolding Opens
 opens_refused users w fault e h same rows =
-    subst (λ (o : Option ℕ). IfSome (refused o) (Opens users w)) (sym (told_number (answer_number e) (number_of fault) (same_refused fault e h same))) (refuses (number_of fault) rows)
+    subst (λ (o : Option ℕ). IfSome (refused o) (Opens users w)) (sym (told_number (in_table e.refusal) (fault.refusal) (same_refused fault e h same))) (refuses (fault.refusal) rows)
 
 module _ (users : List User) (w : List ℕ) (v : Verified) (rows : Verifies manager users w (Ok v)) where
   -- the salt doesn't have 8 octets
-  pub opens_unopened : IsOpening users w v None → Opens users w (Err 11)
+  pub opens_unopened : IsOpening users w v None → Opens users w (Err DecryptionError)
   unfolding Opens
   opens_unopened opening = gives v rows (fails (λ salt. opening.1 (salt opening.0)))
 

@@ -4,11 +4,10 @@ use Rattle.std.specs.Prelude.{◌≢◌, IfSome}
 use Rattle.snmp_message.specs.Numbers.{refusal_number}
 use Rattle.snmp_message.specs.declared.refusal.Refusal.{Refusal}
 use Rattle.snmp_message.specs.declared.refusal.Refusal.TheVariants as refusals
-use Rattle.snmp_incoming.specs.Refusals.{number_in_table}
 use Rattle.usm_users.specs.User.{User}
 use Rattle.snmpsec_output.specs.Opening.{Opens, refused}
 
-in_table : (r : Refusal) → r ≢ refusals.OutOfMemory → number_in_table r ≡ Some (refusal_number r)
+in_table : (r : Refusal) → r ≢ refusals.OutOfMemory → in_table r ≡ Some (refusal_number r)
 in_table refusals.NotMessage h = refl
 in_table refusals.BadVersion h = refl
 in_table refusals.NotSecurity h = refl
@@ -29,5 +28,5 @@ in_table refusals.UnknownModel h = refl
 in_table refusals.InvalidFlags h = refl
 
 -- the refusal that is told is the table's answer
-cause : (users : List User) (w : List ℕ) (r : Refusal) → r ≢ refusals.OutOfMemory → IfSome (refused (number_in_table r)) (Opens users w) → Opens users w (Err (refusal_number r))
+cause : (users : List User) (w : List ℕ) (r : Refusal) → r ≢ refusals.OutOfMemory → IfSome (refusal_answer r) (Opens users w) → Opens users w (Err (refusal_number r))
 cause users w r h opens = subst (λ (o : Option ℕ). IfSome (refused o) (Opens users w)) (in_table r h) opens

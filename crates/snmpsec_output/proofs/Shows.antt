@@ -2,10 +2,9 @@
 use Rattle.std.proofs.Common.{◌≡◌, ℕ, List, [], ◌<◌, length, Result, Ok, Err, refl, inr}
 use Rattle.std.specs.Prelude.{◌≢◌, IfOk, OnOk}
 use Rattle.hex.specs.Hex.{decode_of}
-use Rattle.snmp_message.specs.declared.fault.MsgFault.{MsgFault}
-use Rattle.snmp_message.specs.declared.fault.MsgFault.TheVariants as faults
-use Rattle.snmp_message.specs.declared.fault.WriteFault.{WriteFault}
-use Rattle.snmp_message.specs.declared.fault.WriteFault.TheVariants as writes
+use Rattle.snmp_message.specs.declared.refused_at.RefusedAt.{RefusedAt}
+use Rattle.snmp_message.specs.declared.refusal.Refusal.TheVariants as faults
+use Rattle.snmp_message.specs.declared.refusal.Refusal.TheVariants as writes
 use Rattle.snmp_msg.specs.Canonical.{Whole, Says, whole_text}
 use Rattle.snmp_message.specs.Refusals.{msg_refusal, write_refusal}
 use Rattle.snmp_message.specs.declared.refusal.Refusal.TheVariants as refusals
@@ -14,14 +13,14 @@ use Rattle.snmpsec_output.specs.declared.refused.RefusedAt.{RefusedAt}
 use Rattle.snmpsec_output.specs.Refusals.{refused_line}
 use Rattle.snmpsec_output.specs.Show.{RefusesShow, ShowsDatagram, ShowsText}
 
-pub whole_refused : (w : List ℕ) (f : MsgFault) → RefusesWhole w f → RefusesShow w (msg_refusal f)
+pub whole_refused : (w : List ℕ) (f : RefusedAt) → RefusesWhole w f → RefusesShow w (msg_refusal f)
 whole_refused w (faults.NotMessage at) h = (at, h)
 whole_refused w faults.BadVersion h = h
 whole_refused w (faults.NotSecurity at) h = (at, h)
 whole_refused w (faults.NotScoped at) h = (at, h)
 whole_refused w (faults.NotPdu at) h = (at, h)
 
-pub write_refused : (w : List ℕ) (m : Whole) (f : WriteFault) → Says w m → (f ≡ writes.TooLarge → 65507 < length (whole_text m)) → RefusesShow w (write_refusal f)
+pub write_refused : (w : List ℕ) (m : Whole) (f : RefusedAt) → Says w m → (f ≡ writes.TooLarge → 65507 < length (whole_text m)) → RefusesShow w (write_refusal f)
 write_refused w m writes.TooLarge says large = (whole_text m, record { message = m; says = says; spelled = refl }, large refl)
 write_refused w m writes.OutOfMemory says large = tt
 

@@ -3,6 +3,9 @@
 -- `Opens users w answer`. The table of a manager without its time window, with the lines of the message in
 -- place of what is given on: `Verifies`, a row on the salt, and `ReadsMessage`. `TellsText`: the lines are
 -- those of the message and of the scoped PDU that the opened text begins with.
+use Rattle.usm_core.specs.Table.{refusal_answer}
+use Rattle.snmp_message.specs.declared.refusal.Refusal.TheVariants.{DecryptionError}
+use Rattle.snmp_message.specs.declared.refusal.Refusal.{Refusal}
 use Rattle.std.specs.Prelude.{◌≡◌, ℕ, List, ◌++◌, codes, length, true, Option, Some, None, Result, Ok, Err, String}
 use Rattle.std.specs.Prelude.{string_bytes}
 use Rattle.snmp_message.specs.Level.{level_of}
@@ -13,8 +16,7 @@ use Rattle.usm_core.specs.Table.{Needs, Then}
 use Rattle.usm_core.specs.Verified.{Verified, Verifies, manager}
 use Rattle.snmp_incoming.specs.Texts.{FrontOf, PduOf}
 use Rattle.snmp_incoming.specs.Outcome.{ReadsMessage}
-use Rattle.snmp_incoming.specs.declared.fault.TakeFault.{TakeFault}
-use Rattle.snmp_incoming.specs.Refusals.{answer_number}
+use Rattle.snmp_message.specs.declared.refused_at.RefusedAt.{RefusedAt}
 use Rattle.snmpsec_config.specs.Words.{level_word}
 use Rattle.snmpsec_output.specs.Lines.{message_lines, scoped_lines}
 
@@ -29,26 +31,26 @@ abbrev pub TellsText : Verified → List ℕ → List ℕ → Type 0
 TellsText v text lines = (s : FrontOf text) × (p : PduOf s.contexts.pdu) × (lines ≡ opened_lines v s.contexts p.pdu)
 
 -- No refusal comes where a text was given.
-abbrev pub Tells : Verified → List ℕ → Result (List ℕ) ℕ → Type 0
+abbrev pub Tells : Verified → List ℕ → Result (List ℕ) Refusal → Type 0
 Tells v text (Ok lines) = TellsText v text lines
 Tells v text (Err n) = ⊥
 
 -- The table of a manager without its time window (RFC 3412, section 7.2, and RFC 3414, section 3.2): the
 -- refusals down to the digest, the row on the salt, and those on the ScopedPDU that the message was opened
 -- to. Where none of them refuses the message, its lines are given.
-unfoldable pub Opens : List User → List ℕ → Result (List ℕ) ℕ → Type 0
+unfoldable pub Opens : List User → List ℕ → Result (List ℕ) Refusal → Type 0
 Opens users w =
     Then (Verifies manager users w) (λ v.
-    Needs (v.parts.header.privacy ≡ true → length v.fields.salt ≡ 8) 11 (λ _.
+    Needs (v.parts.header.privacy ≡ true → length v.fields.salt ≡ 8) DecryptionError (λ _.
     Then (ReadsMessage users w v) (λ given. Tells v given.text)))
 
 -- ---- the answer of the code
 
-abbrev pub refused : Option ℕ → Option (Result (List ℕ) ℕ)
+abbrev pub refused : Option ℕ → Option (Result (List ℕ) Refusal)
 refused None = None
 refused (Some n) = Some (Err n)
 
 -- None for want of memory, which is no answer of the table
-abbrev pub lines_answer : {Z : Type 0} → Result (String Z) TakeFault → Option (Result (List ℕ) ℕ)
+abbrev pub lines_answer : {Z : Type 0} → Result (String Z) RefusedAt → Option (Result (List ℕ) Refusal)
 lines_answer (Ok text) = Some (Ok (string_bytes text))
-lines_answer (Err fault) = refused (answer_number fault)
+lines_answer (Err fault) = refusal_answer fault.refusal

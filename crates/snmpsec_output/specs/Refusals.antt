@@ -1,22 +1,20 @@
 -- Refusals, as the program prints them, and those of the codec and of a manager among them.
 use Rattle.std.specs.Prelude.{ℕ, List, ◌++◌, codes, decimal, Option, Some, None}
-use Rattle.snmp_message.specs.declared.fault.MsgFault.{MsgFault}
+use Rattle.snmp_message.specs.declared.refused_at.RefusedAt.{RefusedAt}
 use Rattle.snmp_message.specs.declared.refusal.Refusal.{Refusal}
 use Rattle.snmp_message.specs.Numbers.{refusal_number, refusal_name}
 use Rattle.snmp_message.specs.Refusals.{msg_refusal, place_of}
-use Rattle.snmp_incoming.specs.declared.fault.TakeFault.{TakeFault}
-use Rattle.snmp_incoming.specs.Refusals as take
 use Rattle.snmpsec_output.specs.declared.refused.RefusedAt.{RefusedAt}
 
 -- a refusal without a place
 abbrev pub plain_refused : Refusal → RefusedAt
 plain_refused refusal = record { refusal = refusal; at = None }
 
-abbrev pub msg_refused : MsgFault → RefusedAt
-msg_refused fault = record { refusal = msg_refusal fault; at = place_of fault }
+abbrev pub msg_refused : RefusedAt → RefusedAt
+msg_refused fault = record { refusal = msg_refusal fault; at = fault.at }
 
-abbrev pub take_refused : TakeFault → RefusedAt
-take_refused fault = record { refusal = take.refusal_of fault; at = take.place_of fault }
+abbrev pub take_refused : RefusedAt → RefusedAt
+take_refused fault = record { refusal = fault.refusal; at = fault.at }
 
 -- " at PLACE", where there is one
 abbrev pub place_text : Option ℕ → List ℕ

@@ -15,7 +15,7 @@ use Rattle.snmp_msg.specs.declared.whole.Layer.{Layer}
 use Rattle.snmp_msg.specs.declared.whole.Layer.TheVariants as layers
 use Rattle.snmpsec_output.specs.Lines.{octets_line, message_lines, scoped_lines}
 use Rattle.snmp_msg.specs.Refusals.{RefusesWhole}
-use Rattle.snmp_message.specs.declared.fault.MsgFault.TheVariants as faults
+use Rattle.snmp_message.specs.declared.refusal.Refusal.TheVariants as faults
 use Rattle.snmp_message.specs.declared.refusal.Refusal.{Refusal}
 use Rattle.snmp_message.specs.declared.refusal.Refusal.TheVariants as refusals
 use Rattle.snmpsec_output.specs.declared.refused.RefusedAt.{RefusedAt as ARefused}

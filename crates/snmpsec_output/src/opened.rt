@@ -5,9 +5,10 @@ ghost use Rattle.usm_core.specs.Answers.{verified_of};
 ghost use Rattle.snmp_incoming.specs.Texts.{text_of};
 ghost use Rattle.snmpsec_output.specs.Opening.{TellsText, Opens, lines_answer};
 
+use snmp_msg::{Refusal, RefusedAt};
 use crate::lines::{message_lines, scoped_lines};
 use engine_clock::EngineId;
-use snmp_incoming::{TakeFault, Taken, read_text, scoped_octets};
+use snmp_incoming::{Taken, read_text, scoped_octets};
 use snmpsec_config::level_word;
 use std::alloc::{AllocError, Global};
 use usm_core::{Checked, Role, Users};
@@ -18,7 +19,7 @@ use usm_core::{Checked, Role, Users};
 /// The errors are, the first that applies: those of `Users::open_auth`, then OutOfMemory (14),
 /// DecryptionError (11), BadScoped (12) and BadPdu (13). The time window isn't looked at. OutOfMemory comes
 /// too where the lines find no memory.
-pub fn opened_lines(alloc: Global, users: &mut Users, datagram: &[u8]) -> Result<String, TakeFault>
+pub fn opened_lines(alloc: Global, users: &mut Users, datagram: &[u8]) -> Result<String, RefusedAt>
     ensures opens { IfSome (lines_answer result) (Opens users.old.users datagram.now) }
     ensures users { users.new.users ≡ users.old.users }
 {
@@ -27,15 +28,15 @@ pub fn opened_lines(alloc: Global, users: &mut Users, datagram: &[u8]) -> Result
         unreachable!();
     };
     let Ok(opening) = scoped_octets(users, datagram, &checked) else {
-        return Err(TakeFault::OutOfMemory);
+        return Err(RefusedAt::plain(Refusal::OutOfMemory));
     };
     let Some(text) = opening else {
-        return Err(TakeFault::DecryptionError);
+        return Err(RefusedAt::plain(Refusal::DecryptionError));
     };
     let taken = read_text(&checked, engine, text)?;
     match taken_lines(alloc, &checked, &taken) {
         Ok(lines) => Ok(lines),
-        Err(_) => Err(TakeFault::OutOfMemory),
+        Err(_) => Err(RefusedAt::plain(Refusal::OutOfMemory)),
     }
 }
 

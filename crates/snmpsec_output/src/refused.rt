@@ -5,8 +5,7 @@ ghost use Rattle.snmp_message.specs.declared.refusal.Refusal.TheVariants.{OutOfM
 ghost use Rattle.snmp_message.specs.Refusals.{write_refusal};
 ghost use Rattle.snmpsec_output.specs.Refusals.{msg_refused, take_refused, plain_refused};
 
-use snmp_incoming::TakeFault;
-use snmp_msg::{MsgFault, Refusal, WriteFault};
+use snmp_msg::{RefusedAt, Refusal, RefusedAt};
 use std::alloc::AllocError;
 use std::error::Error;
 use std::fmt;
@@ -45,10 +44,10 @@ impl fmt::Display for RefusedAt {
 
 impl Error for RefusedAt {}
 
-impl From<MsgFault> for RefusedAt {
+impl From<RefusedAt> for RefusedAt {
     ghost from_gives = { λ fault e. e ≡ msg_refused fault };
 
-    fn from(fault: MsgFault) -> RefusedAt {
+    fn from(fault: RefusedAt) -> RefusedAt {
         RefusedAt {
             refusal: fault.refusal(),
             at: fault.at(),
@@ -56,10 +55,10 @@ impl From<MsgFault> for RefusedAt {
     }
 }
 
-impl From<TakeFault> for RefusedAt {
+impl From<RefusedAt> for RefusedAt {
     ghost from_gives = { λ fault e. e ≡ take_refused fault };
 
-    fn from(fault: TakeFault) -> RefusedAt {
+    fn from(fault: RefusedAt) -> RefusedAt {
         RefusedAt {
             refusal: fault.refusal(),
             at: fault.place(),
@@ -67,10 +66,10 @@ impl From<TakeFault> for RefusedAt {
     }
 }
 
-impl From<WriteFault> for RefusedAt {
+impl From<RefusedAt> for RefusedAt {
     ghost from_gives = { λ fault e. e ≡ plain_refused (write_refusal fault) };
 
-    fn from(fault: WriteFault) -> RefusedAt {
+    fn from(fault: RefusedAt) -> RefusedAt {
         RefusedAt::plain(fault.refusal())
     }
 }

@@ -16,7 +16,6 @@ use Rattle.snmp_ber.specs.Splits.{Lacks}
 use Rattle.engine_clock.specs.Saved.{AreMarks, listing}
 use Rattle.snmp_manager.specs.declared.outcome.Outcome.{Outcome}
 use Rattle.snmp_manager.specs.declared.outcome.Outcome.TheVariants.{Accepted, Refused}
-use Rattle.snmp_incoming.specs.Refusals.{number_of, name_of}
 use Rattle.snmp_manager.specs.Views.{Held}
 use Rattle.snmp_manager.specs.Runs.{TakesOne}
 use Rattle.snmpsec_replay.specs.Log.{LogEntry, IsLine, AreLines, HasNoLine}
@@ -34,7 +33,7 @@ use Rattle.snmpsec_replay.specs.declared.replay.Step.TheVariants as step
 
 abbrev pub outcome_text : Outcome → List ℕ
 outcome_text (Accepted level tag) = codes "accepted " ++ (level_word level ++ (codes " " ++ encode_lower (tag ∷ [])))
-outcome_text (Refused why) = codes "refused " ++ (decimal (number_of why) ++ (codes " " ++ name_of why))
+outcome_text (Refused why) = codes "refused " ++ (decimal (why.refusal) ++ (codes " " ++ name_of why))
 
 -- the line for the datagram of line n
 unfoldable pub answer_line : ℕ → ℕ → Outcome → List ℕ

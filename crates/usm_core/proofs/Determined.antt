@@ -1,5 +1,7 @@
 -- The table down to the digest gives one answer, and says what was read where it refuses below the layout.
-use Rattle.std.proofs.Common.{◌≡◌, ◌≤◌, ℕ, List, [], Bool, true, false, Option, Some, None, refl, sym, ap, subst, ◌∙◌, arith}
+use Rattle.snmp_message.specs.declared.refusal.Refusal.TheVariants.{NotMessage, BadVersion, InvalidFlags, NotScoped, NotSecurity, UnknownEngine, UnknownModel, UnknownUser, UnsupportedLevel, WrongDigest, NotPdu, NotInWindow, DecryptionError, BadScoped, BadPdu, ClockExhausted, TooLarge}
+use Rattle.snmp_message.specs.declared.refusal.Refusal.{Refusal}
+use Rattle.std.proofs.Common.{◌≡◌, ℕ, List, [], Bool, true, false, Option, Some, None, refl, sym, ap, subst, ◌∙◌}
 use Rattle.std.specs.Prelude.{◌≢◌, Result, Ok, Err, IfOk, IfErr, IsSomeAnd, MatchBool, if◌then◌else◌}
 use Rattle.snmp_message.specs.Layout.{Parts, Outer}
 use Rattle.snmp_message.specs.Security.{Fields, SecText}
@@ -16,63 +18,75 @@ use Rattle.usm_core.specs.Authentic.{Authentic, IsMac}
 use Rattle.engine_clock.specs.Pairs.{BootsAndTime}
 use Rattle.usm_core.specs.Verified.{ReadsLayout, Verified, OuterOf, SecurityOf, Side, Judges, Verifies, IsReadAs, IsJudged}
 use Rattle.usm_core.specs.declared.checked.Checked.{Checked}
-use Rattle.usm_core.specs.declared.fault.UsmFault.{UsmFault}
-use Rattle.usm_core.specs.declared.fault.UsmFault.TheVariants.{OutOfMemory}
-use Rattle.usm_core.specs.Refusals.{number_of}
+use Rattle.snmp_message.specs.declared.refused_at.RefusedAt.{RefusedAt}
+use Rattle.snmp_message.specs.declared.refusal.Refusal.TheVariants.{OutOfMemory}
+use Rattle.usm_core.specs.Refusals.{IsOfRead}
 use Rattle.usm_core.specs.Answers.{checked_answer, verified_of}
 use Rattle.usm_core.specs.Sealed.{Sending, SendingFits, SealedText, IsSealable, UserKey, cipher, spelled_with, digest_of}
 use Rattle.usm_core.proofs.Tables.{has_privacy}
 
+-- no row of the table down to the digest has this refusal
+abbrev pub IsNoRow : Refusal → Type 0
+IsNoRow NotPdu = Unit {0}
+IsNoRow NotInWindow = Unit {0}
+IsNoRow DecryptionError = Unit {0}
+IsNoRow BadScoped = Unit {0}
+IsNoRow BadPdu = Unit {0}
+IsNoRow OutOfMemory = Unit {0}
+IsNoRow ClockExhausted = Unit {0}
+IsNoRow TooLarge = Unit {0}
+IsNoRow _ = ⊥
+
 -- one row gives one answer, if what stands below it does
-pub needs_one : {X : Type 0} (P : Type 0) (n : ℕ) (below : P → Result X ℕ → Type 0) → ((p q : P) (a b : Result X ℕ) → below p a → below q b → a ≡ b)
-    → (a b : Result X ℕ) → Needs P n below a → Needs P n below b → a ≡ b
+pub needs_one : {X : Type 0} (P : Type 0) (n : Refusal) (below : P → Result X Refusal → Type 0) → ((p q : P) (a b : Result X Refusal) → below p a → below q b → a ≡ b)
+    → (a b : Result X Refusal) → Needs P n below a → Needs P n below b → a ≡ b
 needs_one P n below one a b (holds p x) (holds q y) = one p q a b x y
 needs_one P n below one a b (holds p x) (fails never) = absurd (never p)
 needs_one P n below one a b (fails never) (holds q y) = absurd (never q)
 needs_one P n below one a b (fails x) (fails y) = refl
 
 -- one table after another gives one answer, if each of them does
-pub then_one : {X Y : Type 0} (first : Result X ℕ → Type 0) (below : X → Result Y ℕ → Type 0) → ((a b : Result X ℕ) → first a → first b → a ≡ b)
-    → ((x : X) (a b : Result Y ℕ) → below x a → below x b → a ≡ b) → (a b : Result Y ℕ) → Then first below a → Then first below b → a ≡ b
+pub then_one : {X Y : Type 0} (first : Result X Refusal → Type 0) (below : X → Result Y Refusal → Type 0) → ((a b : Result X Refusal) → first a → first b → a ≡ b)
+    → ((x : X) (a b : Result Y Refusal) → below x a → below x b → a ≡ b) → (a b : Result Y Refusal) → Then first below a → Then first below b → a ≡ b
 then_one {X} {Y} first below one next a b (gives x p q) (gives y r s) =
-    let e : ◌≡◌ {A = Result X ℕ} (Ok x) (Ok y) = one (Ok x) (Ok y) p r in
+    let e : ◌≡◌ {A = Result X Refusal} (Ok x) (Ok y) = one (Ok x) (Ok y) p r in
     let f : x ≡ y = cc in
     next y a b (subst (λ (z : X). below z a) f q) s
-then_one {X} {Y} first below one next a b (gives x p q) (refuses n r) = let e : ◌≡◌ {A = Result X ℕ} (Ok x) (Err n) = one (Ok x) (Err n) p r in absurd cc
-then_one {X} {Y} first below one next a b (refuses n r) (gives x p q) = let e : ◌≡◌ {A = Result X ℕ} (Err n) (Ok x) = one (Err n) (Ok x) r p in absurd cc
-then_one {X} {Y} first below one next a b (refuses n r) (refuses k s) = let e : ◌≡◌ {A = Result X ℕ} (Err n) (Err k) = one (Err n) (Err k) r s in cc
+then_one {X} {Y} first below one next a b (gives x p q) (refuses n r) = let e : ◌≡◌ {A = Result X Refusal} (Ok x) (Err n) = one (Ok x) (Err n) p r in absurd cc
+then_one {X} {Y} first below one next a b (refuses n r) (gives x p q) = let e : ◌≡◌ {A = Result X Refusal} (Err n) (Ok x) = one (Err n) (Ok x) r p in absurd cc
+then_one {X} {Y} first below one next a b (refuses n r) (refuses k s) = let e : ◌≡◌ {A = Result X Refusal} (Err n) (Err k) = one (Err n) (Err k) r s in cc
 
-gives_one : (v : Verified) (a b : Result Verified ℕ) → a ≡ Ok v → b ≡ Ok v → a ≡ b
+gives_one : (v : Verified) (a b : Result Verified Refusal) → a ≡ Ok v → b ≡ Ok v → a ≡ b
 gives_one v a b x y = x ∙ sym y
 
-judges_one : (side : Side) (users : List User) (w : List ℕ) (v : Verified) (a b : Result Verified ℕ) → Judges side users w v a → Judges side users w v b → a ≡ b
+judges_one : (side : Side) (users : List User) (w : List ℕ) (v : Verified) (a b : Result Verified Refusal) → Judges side users w v a → Judges side users w v b → a ≡ b
 unfolding Judges
 judges_one side users w v =
-    needs_one _ 6 _ (λ p q. needs_one _ 7 _ (λ r s. needs_one _ 8 _ (λ t u. needs_one _ 9 _ (λ x y. gives_one v))))
+    needs_one _ UnknownEngine _ (λ p q. needs_one _ UnknownUser _ (λ r s. needs_one _ UnsupportedLevel _ (λ t u. needs_one _ WrongDigest _ (λ x y. gives_one v))))
 
 -- the rows of the layout below Outer
-Below : List ℕ → Parts → Result Verified ℕ → Type 0
+Below : List ℕ → Parts → Result Verified Refusal → Type 0
 Below w p =
-    Needs (p.header.model ≡ 3) 17 (λ _.
-    Needs (p.header.privacy ≡ true → p.header.auth ≡ true) 18 (λ _.
-    Needs (AgreesWithPriv w p) 4 (λ _.
-    Needs (SecurityOf p) 3 (λ s.
+    Needs (p.header.model ≡ 3) UnknownModel (λ _.
+    Needs (p.header.privacy ≡ true → p.header.auth ≡ true) InvalidFlags (λ _.
+    Needs (AgreesWithPriv w p) NotScoped (λ _.
+    Needs (SecurityOf p) NotSecurity (λ s.
     Gives (record { parts = p; fields = s.fields })))))
 
 module _ (one : (w : List ℕ) (m n : Parts) → Outer w m → Outer w n → m ≡ n) (same : (at : ℕ) (x : List ℕ) (s t : Fields) → SecText at x s → SecText at x t → s ≡ t) where
-  below_one : (w : List ℕ) (p : Parts) (a b : Result Verified ℕ) → Below w p a → Below w p b → a ≡ b
+  below_one : (w : List ℕ) (p : Parts) (a b : Result Verified Refusal) → Below w p a → Below w p b → a ≡ b
   unfolding Below
   below_one w p =
-      needs_one _ 17 _ (λ x y. needs_one _ 18 _ (λ z u. needs_one _ 4 _ (λ v r. needs_one _ 3 _ (λ s t a b e f.
+      needs_one _ UnknownModel _ (λ x y. needs_one _ InvalidFlags _ (λ z u. needs_one _ NotScoped _ (λ v r. needs_one _ NotSecurity _ (λ s t a b e f.
       e ∙ ap (λ (g : Fields). Ok (record { parts = p; fields = g })) (same p.security_at p.security s.fields t.fields s.is t.is) ∙ sym f))))
 
-  layout_one : (w : List ℕ) (a b : Result Verified ℕ) → ReadsLayout w a → ReadsLayout w b → a ≡ b
+  layout_one : (w : List ℕ) (a b : Result Verified Refusal) → ReadsLayout w a → ReadsLayout w b → a ≡ b
   unfolding ReadsLayout Below
   layout_one w =
-      needs_one _ 2 _ (λ x y. needs_one (OuterOf w) 1 (λ o. Below w o.parts) (λ o q a b r s.
+      needs_one _ BadVersion _ (λ x y. needs_one (OuterOf w) NotMessage (λ o. Below w o.parts) (λ o q a b r s.
       below_one w q.parts a b (subst (λ (p : Parts). Below w p a) (one w o.parts q.parts o.is q.is) r) s))
 
-  pub answer_one : (side : Side) (users : List User) (w : List ℕ) (a b : Result Verified ℕ) → Verifies side users w a → Verifies side users w b → a ≡ b
+  pub answer_one : (side : Side) (users : List User) (w : List ℕ) (a b : Result Verified Refusal) → Verifies side users w a → Verifies side users w b → a ≡ b
   unfolding Verifies
   answer_one side users w = then_one (ReadsLayout w) (Judges side users w) (layout_one w) (judges_one side users w)
 
@@ -85,21 +99,21 @@ read_of w v (holds version (holds o (holds model (holds flags (holds agrees (hol
     let is : v ≡ (record { parts = o.parts; fields = s.fields }) = cc in
     subst (λ (u : Verified). IsReadAs w u) (sym is) made
 
--- no row of the layout has a number from 5 to 16
-not_layout : (w : List ℕ) (n : ℕ) → 5 ≤ n → n ≤ 16 → ReadsLayout w (Err n) → ⊥
+-- no row of the layout has a refusal of what was read
+not_layout : (w : List ℕ) (r : Refusal) → IsOfRead r → ReadsLayout w (Err r) → ⊥
 unfolding ReadsLayout
-not_layout w n least most (fails x) = omega arith
-not_layout w n least most (holds _ (fails x)) = omega arith
-not_layout w n least most (holds _ (holds _ (fails x))) = omega arith
-not_layout w n least most (holds _ (holds _ (holds _ (fails x)))) = omega arith
-not_layout w n least most (holds _ (holds _ (holds _ (holds _ (fails x))))) = omega arith
-not_layout w n least most (holds _ (holds _ (holds _ (holds _ (holds _ (fails x)))))) = omega arith
-not_layout w n least most (holds _ (holds _ (holds _ (holds _ (holds _ (holds s e)))))) = absurd cc
+not_layout w r read (fails x) = read
+not_layout w r read (holds _ (fails x)) = read
+not_layout w r read (holds _ (holds _ (fails x))) = read
+not_layout w r read (holds _ (holds _ (holds _ (fails x)))) = read
+not_layout w r read (holds _ (holds _ (holds _ (holds _ (fails x))))) = read
+not_layout w r read (holds _ (holds _ (holds _ (holds _ (holds _ (fails x)))))) = read
+not_layout w r read (holds _ (holds _ (holds _ (holds _ (holds _ (holds s e)))))) = absurd cc
 
-pub refused_read : (side : Side) (users : List User) (w : List ℕ) (n : ℕ) → 6 ≤ n → n ≤ 9 → Verifies side users w (Err n) → (v : Verified) × IsReadAs w v × Judges side users w v (Err n)
+pub refused_read : (side : Side) (users : List User) (w : List ℕ) (r : Refusal) → IsOfRead r → Verifies side users w (Err r) → (v : Verified) × IsReadAs w v × Judges side users w v (Err r)
 unfolding Verifies
-refused_read side users w n least most (gives v x y) = (v, read_of w v x, y)
-refused_read side users w n least most (refuses k r) = absurd (not_layout w k (omega (arith, least)) (omega (arith, most)) r)
+refused_read side users w r read (gives v x y) = (v, read_of w v x, y)
+refused_read side users w r read (refuses k rows) = absurd (not_layout w k read rows)
 
 judges_gave : (side : Side) (users : List User) (w : List ℕ) (v u : Verified) → Judges side users w v (Ok u) → u ≡ v
 unfolding Judges
@@ -117,35 +131,42 @@ accepted_judged : (side : Side) (users : List User) (w : List ℕ) (u : Verified
 unfolding Verifies
 accepted_judged side users w u (gives v x y) = subst (λ (z : Verified). IsJudged side users w z) (sym (judges_gave side users w v u y)) (judges_said side users w v u y)
 
-pub read_checked : (side : Side) (users : List User) (w : List ℕ) (result : Result Checked UsmFault) → Verifies side users w (checked_answer result) → IfOk result (λ c. IsReadAs w (verified_of c))
+pub read_checked : (side : Side) (users : List User) (w : List ℕ) (result : Result Checked RefusedAt) → Verifies side users w (checked_answer result) → IfOk result (λ c. IsReadAs w (verified_of c))
 read_checked side users w (Ok c) rows = accepted_read side users w (verified_of c) rows
 read_checked side users w (Err fault) rows = tt
 
-pub judged_checked : (side : Side) (users : List User) (w : List ℕ) (result : Result Checked UsmFault) → Verifies side users w (checked_answer result) → IfOk result (λ c. IsJudged side users w (verified_of c))
+pub judged_checked : (side : Side) (users : List User) (w : List ℕ) (result : Result Checked RefusedAt) → Verifies side users w (checked_answer result) → IfOk result (λ c. IsJudged side users w (verified_of c))
 judged_checked side users w (Ok c) rows = accepted_judged side users w (verified_of c) rows
 judged_checked side users w (Err fault) rows = tt
 
--- ---- want of memory is no answer of the table
+-- ---- out of memory, and what comes after the digest, is no answer of the table
 
-not_judges : (side : Side) (users : List User) (w : List ℕ) (v : Verified) (n : ℕ) → 10 ≤ n → n ≤ 16 → Judges side users w v (Err n) → ⊥
+layout_never : (w : List ℕ) (r : Refusal) → IsNoRow r → ReadsLayout w (Err r) → ⊥
+unfolding ReadsLayout
+layout_never w r is (fails x) = is
+layout_never w r is (holds _ (fails x)) = is
+layout_never w r is (holds _ (holds _ (fails x))) = is
+layout_never w r is (holds _ (holds _ (holds _ (fails x)))) = is
+layout_never w r is (holds _ (holds _ (holds _ (holds _ (fails x))))) = is
+layout_never w r is (holds _ (holds _ (holds _ (holds _ (holds _ (fails x)))))) = is
+layout_never w r is (holds _ (holds _ (holds _ (holds _ (holds _ (holds s e)))))) = absurd cc
+
+judges_never : (side : Side) (users : List User) (w : List ℕ) (v : Verified) (r : Refusal) → IsNoRow r → Judges side users w v (Err r) → ⊥
 unfolding Judges
-not_judges side users w v n least most (fails x) = omega arith
-not_judges side users w v n least most (holds _ (fails x)) = omega arith
-not_judges side users w v n least most (holds _ (holds _ (fails x))) = omega arith
-not_judges side users w v n least most (holds _ (holds _ (holds _ (fails x)))) = omega arith
-not_judges side users w v n least most (holds _ (holds _ (holds _ (holds _ e)))) = absurd cc
+judges_never side users w v r is (fails x) = is
+judges_never side users w v r is (holds _ (fails x)) = is
+judges_never side users w v r is (holds _ (holds _ (fails x))) = is
+judges_never side users w v r is (holds _ (holds _ (holds _ (fails x)))) = is
+judges_never side users w v r is (holds _ (holds _ (holds _ (holds _ e)))) = absurd cc
 
--- no row down to the digest has a number from 10 to 16
-pub no_row : (side : Side) (users : List User) (w : List ℕ) (n : ℕ) → 10 ≤ n → n ≤ 16 → Verifies side users w (Err n) → ⊥
+pub no_row : (side : Side) (users : List User) (w : List ℕ) (r : Refusal) → IsNoRow r → Verifies side users w (Err r) → ⊥
 unfolding Verifies
-no_row side users w n least most (gives v rows below) = not_judges side users w v n least most below
-no_row side users w n least most (refuses k rows) = not_layout w k (omega (arith, least)) most rows
+no_row side users w r is (gives v rows below) = judges_never side users w v r is below
+no_row side users w r is (refuses k rows) = layout_never w k is rows
 
-pub never_memory : (side : Side) (users : List User) (w : List ℕ) (result : Result Checked UsmFault) → Verifies side users w (checked_answer result) → IfErr result (λ e. e ≢ OutOfMemory)
+pub never_memory : (side : Side) (users : List User) (w : List ℕ) (result : Result Checked RefusedAt) → Verifies side users w (checked_answer result) → IfErr result (λ e. e.refusal ≢ OutOfMemory)
 never_memory side users w (Ok c) rows = tt
-never_memory side users w (Err fault) rows = λ is.
-    let number : number_of fault ≡ 14 = ap number_of is in
-    no_row side users w (number_of fault) (omega (arith, number)) (omega (arith, number)) rows
+never_memory side users w (Err fault) rows = λ is. no_row side users w OutOfMemory tt (subst (λ (r : Refusal). Verifies side users w (Err r)) is rows)
 
 -- ---- of the users, the one that is named
 

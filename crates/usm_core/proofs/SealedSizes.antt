@@ -1,6 +1,8 @@
 -- How long a sealed text is: no shorter than its scoped PDU, and not much longer than its parts.
+use Rattle.snmp_message.specs.declared.refusal.Refusal.TheVariants.{InvalidFlags, UnknownUser, UnsupportedLevel}
+use Rattle.snmp_message.specs.declared.refusal.Refusal.{Refusal}
 use Rattle.std.proofs.Common.{◌≡◌, ℕ, ◌+◌, ◌<◌, ◌≤◌, Bool, true, false, List, [], length, replicate, refl, sym, ap, subst, ◌∙◌, inl, inr, arith, Option, Some, None}
-use Rattle.std.specs.Prelude.{Result, Err, IfSome, IsErrOf, IsSomeAnd, MatchBool, if◌then◌else◌}
+use Rattle.std.specs.Prelude.{Result, Ok, Err, IfSome, IsSomeAnd, MatchBool, if◌then◌else◌}
 use Rattle.std.specs.Global.{Vec}
 use Rattle.std.proofs.lemmas.List.{length-append}
 use Rattle.snmp_ber.specs.Element.{IsElement, IsLength}
@@ -12,10 +14,11 @@ use Rattle.usm_keys.specs.Keys.{kul}
 use Rattle.usm_keys.specs.Protocols.{hash_of, mac_octets}
 use Rattle.usm_keys.proofs.Sizes.{length-mac, mac_octets-most}
 use Rattle.usm_users.specs.User.{User}
-use Rattle.usm_core.specs.declared.fault.UsmFault.{UsmFault}
-use Rattle.usm_core.specs.declared.fault.UsmFault.TheVariants.{TooLarge}
+use Rattle.snmp_message.specs.declared.refused_at.RefusedAt.{RefusedAt}
+use Rattle.snmp_message.specs.declared.refusal.Refusal.TheVariants.{TooLarge}
 use Rattle.usm_users.specs.Users.{user_named}
-use Rattle.usm_core.specs.Table.{Needs, holds, fails}
+use Rattle.usm_core.specs.Table.{Needs, holds, fails, refusal_answer}
+use Rattle.snmp_message.specs.Refusals.{IsRefused}
 use Rattle.usm_core.specs.Answers.{seal_answer}
 use Rattle.usm_core.specs.Sealed.{Sending, SendingFits, SealedText, Writes, Seals, IsSealable, IsSentData, IsSentText, sent_fields, spelled_with, digest_of}
 
@@ -92,26 +95,29 @@ module _ (least : (h : Header) (security : List ℕ) (tag : ℕ) (content : List
       let b = for_text (λ t. length t ≤ 150 + length m.engine + length m.user + length s.content) s.tag s.content (spelled_most fits s.tag s.content) text s.is_text in
       omega (arith, a.1, b)
 
--- ---- what refusal 16 says
+-- ---- what TooLarge says
 
 -- an answer that isn't the row's comes from below it
-below_row : {X : Type 0} (P : Type 0) (k n : ℕ) (below : P → Result X ℕ → Type 0) → (n ≡ k → ⊥) → Needs P k below (Err n) → (p : P) × below p (Err n)
-below_row P k n below other (holds p x) = (p, x)
-below_row P k n below other (fails never) = absurd (other refl)
+below_row : {X : Type 0} (P : Type 0) (k r : Refusal) (below : P → Result X Refusal → Type 0) → (r ≡ k → ⊥) → Needs P k below (Err r) → (p : P) × below p (Err r)
+below_row P k r below other (holds p x) = (p, x)
+below_row P k r below other (fails never) = absurd (other refl)
 
-pub refused_writes : (users : List User) (m : Sending) (n : ℕ) → n ≡ 16 → Seals users m (Err n) → IsSealable users m × Writes users m (Err n)
+pub refused_writes : (users : List User) (m : Sending) → Seals users m (Err TooLarge) → IsSealable users m × Writes users m (Err TooLarge)
 unfolding Seals
-refused_writes users m n e rows =
-    let flags = below_row _ 18 n _ (λ x. omega (arith, e, x)) rows in
-    let user = below_row _ 7 n _ (λ x. omega (arith, e, x)) flags.1 in
-    let level = below_row _ 8 n _ (λ x. omega (arith, e, x)) user.1 in
+refused_writes users m rows =
+    let flags = below_row _ InvalidFlags TooLarge _ (λ e. absurd cc) rows in
+    let user = below_row _ UnknownUser TooLarge _ (λ e. absurd cc) flags.1 in
+    let level = below_row _ UnsupportedLevel TooLarge _ (λ e. absurd cc) user.1 in
     (record { flags = flags.0; user = level.0 }, level.1)
 
+large_answer : (users : List User) (m : Sending) (result : Result (Vec ℕ) RefusedAt) → IfSome (seal_answer result) (Seals users m) → IsRefused result TooLarge → Seals users m (Err TooLarge)
+large_answer users m (Ok v) rows e = absurd e
+large_answer users m (Err fault) rows e = subst (λ (r : Refusal). IfSome (refusal_answer r) (Seals users m)) e rows
+
 pub too_large_long : (users : List User) (m : Sending) → (IsSealable users m → (text : List ℕ) × SealedText users m text) → ((text : List ℕ) → SealedText users m text → length text ≤ 150 + length m.engine + length m.user + length m.scoped)
-    → (result : Result (Vec ℕ) UsmFault) → IfSome (seal_answer result) (Seals users m) → IsErrOf result TooLarge → 65507 < 150 + length m.engine + length m.user + length m.scoped
+    → (result : Result (Vec ℕ) RefusedAt) → IfSome (seal_answer result) (Seals users m) → IsRefused result TooLarge → 65507 < 150 + length m.engine + length m.user + length m.scoped
 too_large_long users m some most result rows e =
-    let refused : Seals users m (Err 16) = subst (λ (r : Result (Vec ℕ) UsmFault). IfSome (seal_answer r) (Seals users m)) e rows in
-    let w = refused_writes users m 16 refl refused in
+    let w = refused_writes users m (large_answer users m result rows e) in
     let t = some w.0 in
     let above = w.1.1 t.0 t.1 in
     let below = most t.0 t.1 in

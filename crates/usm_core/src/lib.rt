@@ -2,17 +2,19 @@
 //! message that comes in or goes out.
 //!
 //! ```
-//! use usm_core::{Role, Users, UsmFault};
+//! use usm_core::{Role, Users};
 //!
 //! let mut users = Users::load(rt.alloc(), &[])?;
 //! let answer = users.open_auth(Role::Manager, &[0x30, 0x05]).err();
-//! assert_eq!(rt; answer, Some(UsmFault::NotMessage { at: 0 }));
+//! let answer = answer.map(|refused| (refused.name(), refused.at));
+//! assert_eq!(rt; answer, Some(("NotMessage", Some(0))));
 //! ```
 #![tactic(auto)]
 
+use snmp_message::RefusedAt;
+
 mod checked;
 mod digest;
-mod fault;
 mod laws;
 mod layout;
 mod privacy;
@@ -23,10 +25,11 @@ mod users;
 mod verify;
 
 pub use checked::{Checked, Role};
-pub use fault::UsmFault;
 pub use laws::{
     one_answer, one_authentic, one_sealed, sealed_is_authentic, sealed_is_opened, sealed_is_read,
     sealed_says, sealed_size, some_sealed, users_by_name, verified_was_read,
 };
 pub use users::Users;
+/// A refusal of the user-based security model: a `RefusedAt`.
+pub use snmp_message::RefusedAt as UsmFault;
 pub use usm_users::{UserFault, UserRow};

@@ -1,6 +1,6 @@
 //! The privacy of a message (RFC 3826, section 3.1).
 
-ghost use Rattle.std.specs.Prelude.{◌≡◌, ◌≢◌, ℕ, List, ◌++◌, Some, length, take, IfOk, IfErr, IsErrOf, ◌⊎◌};
+ghost use Rattle.std.specs.Prelude.{◌≡◌, ◌≢◌, ℕ, List, ◌++◌, Some, length, take, IfOk, IfErr, ◌⊎◌};
 ghost use Rattle.snmp_ber.specs.declared.level.Level.TheVariants.{AuthPriv};
 ghost use Rattle.snmp_message.specs.Message.{tag_of, content_of};
 ghost use Rattle.snmp_message.specs.Security.{fields_of};
@@ -12,12 +12,12 @@ ghost use Rattle.usm_users.specs.User.{User as UserOf};
 ghost use Rattle.usm_users.specs.Users.{HasUserAt, user_named};
 ghost use Rattle.usm_users.specs.Cache.{AreCached};
 ghost use Rattle.usm_core.specs.Sealed.{UserKey, IsPlaintext};
-ghost use Rattle.usm_core.specs.declared.fault.UsmFault.TheVariants.{DecryptionError, OutOfMemory};
+ghost use Rattle.snmp_message.specs.declared.refusal.Refusal.TheVariants.{DecryptionError, OutOfMemory};
+ghost use Rattle.snmp_message.specs.Refusals.{IsRefused};
 
 use crate::checked::Checked;
-use crate::fault::UsmFault;
 use crate::spell::Outgoing;
-use snmp_message::{ScopedPdu, Security};
+use snmp_message::{Refusal, RefusedAt, ScopedPdu, Security};
 use std::alloc::{AllocError, Global};
 use usm_aes::{Schedule, cfb_open, cfb_seal, iv};
 use usm_keys::{Key, localise};
@@ -107,22 +107,22 @@ pub(crate) fn open_for(
     users: &UserTable,
     cache: &mut KeyCache,
     checked: &Checked<'_>,
-) -> Result<Vec<u8>, UsmFault>
+) -> Result<Vec<u8>, RefusedAt>
     requires level { HasUserAt users.now checked.now.security.user.now AuthPriv }
     requires sealed { tag_of checked.now.message.body ≡ 4 }
     requires cache { AreCached users.now cache.old }
     ensures opened { IfOk result
         (λ v. IsPlaintext users.now (fields_of checked.now.security)
         (content_of checked.now.message.body) v.items) }
-    ensures salt { IsErrOf result UsmFault.DecryptionError → length checked.now.security.salt.now ≢ 8 }
+    ensures salt { IsRefused result DecryptionError → length checked.now.security.salt.now ≢ 8 }
     ensures salt_length { IfOk result (λ _. length checked.now.security.salt.now ≡ 8) }
-    ensures memory { IsErrOf result UsmFault.OutOfMemory → length checked.now.security.salt.now ≡ 8 }
-    ensures fault { IfErr result (λ e. (e ≡ DecryptionError) ⊎ (e ≡ OutOfMemory)) }
+    ensures memory { IsRefused result OutOfMemory → length checked.now.security.salt.now ≡ 8 }
+    ensures fault { IfErr result (λ e. (e.refusal ≡ DecryptionError) ⊎ (e.refusal ≡ OutOfMemory)) }
     ensures cache { AreCached users.now cache.new }
 {
     let security = &checked.security;
     let Some(salt) = security.salt.as_array::<8>() else {
-        return Err(UsmFault::DecryptionError);
+        return Err(RefusedAt::plain(Refusal::DecryptionError));
     };
     let schedule = user_schedule(users, cache, security.user, security.engine);
     let octets = checked.message.body.content();

@@ -1,7 +1,7 @@
 //! The users of an engine.
 
 ghost use Rattle.std.specs.Prelude.{◌+◌, ◌<◌, ◌≤◌, false, replicate, ◌≡◌, ◌≢◌, ◌↔◌, ◌⊎◌, ℕ, List, [], map, length};
-ghost use Rattle.std.specs.Prelude.{IfOk, IfErr, IfSome, OnOk, OnErr, IsErrOf};
+ghost use Rattle.std.specs.Prelude.{IfOk, IfErr, IfSome, OnOk, OnErr};
 ghost use Rattle.snmp_ber.specs.declared.level.Level.TheVariants.{AuthPriv};
 ghost use Rattle.snmp_message.specs.declared.message.TheConstants.{LARGEST};
 ghost use Rattle.snmp_message.specs.Message.{tag_of, content_of};
@@ -17,11 +17,12 @@ ghost use Rattle.usm_users.specs.Rows.{AreSound, IsTold, user_of};
 ghost use Rattle.usm_core.specs.Refusals.{Supports};
 ghost use Rattle.usm_core.specs.Sealed.{sending, Seals, IsSendable, IsSealable, IsPlaintext};
 ghost use Rattle.snmp_message.specs.Spelling.{HeaderFits};
-ghost use Rattle.usm_core.specs.Writing.{IsWriteFault};
-ghost use Rattle.usm_core.specs.declared.fault.UsmFault.TheVariants.{UnknownUser, DecryptionError, OutOfMemory};
+ghost use Rattle.snmp_message.specs.declared.refusal.Refusal.TheVariants.{UnknownUser, DecryptionError, OutOfMemory};
+ghost use Rattle.snmp_message.specs.declared.refusal.Refusal.TheVariants.{TooLarge};
+ghost use Rattle.snmp_message.specs.Refusals.{IsRefused};
+ghost use Rattle.snmp_message.specs.Refusals.{IsWriteRefusal};
 
 use crate::checked::{Checked, Role};
-use crate::fault::UsmFault;
 use crate::laws::{has_engine, sealed_size, some_sealed};
 use crate::privacy::open_for;
 use crate::seal::{seal_for, seal_open};
@@ -29,7 +30,7 @@ use crate::spell::Outgoing;
 use crate::verify::verify;
 use engine_clock::Pair;
 use snmp_ber::Level;
-use snmp_message::{Header, ScopedOctets, ScopedPdu, one_cut, one_message};
+use snmp_message::{Header, Refusal, RefusedAt, ScopedOctets, ScopedPdu, one_cut, one_message};
 use std::alloc::{AllocError, Global};
 use std::marker::Model;
 use usm_users::{KeyCache, Purpose, UserFault, UserRow, UserTable, places_of, table_of};
@@ -114,17 +115,17 @@ impl Users {
     /// Whether there is a user of this name with the keys that the level needs. The error is UnknownUser (7)
     /// where there is no user of the name, the empty one among them, and else UnsupportedLevel (8). It takes
     /// no memory.
-    pub fn supports(&self, user: &[u8], level: Level) -> Result<(), UsmFault>
+    pub fn supports(&self, user: &[u8], level: Level) -> Result<(), RefusedAt>
         ensures answer { Supports self.now.users user.now level result }
-        ensures empty { user.now ≡ [] → result ≡ Err UnknownUser }
+        ensures empty { user.now ≡ [] → IsRefused result UnknownUser }
 
         // What is true of all users that were loaded.
         ensures users { AreUsers self.now.users }
     {
         match self.table.user_named(user) {
             Some(user) if user.supports(level) => Ok(()),
-            Some(_) => Err(UsmFault::UnsupportedLevel),
-            None => Err(UsmFault::UnknownUser),
+            Some(_) => Err(RefusedAt::plain(Refusal::UnsupportedLevel)),
+            None => Err(RefusedAt::plain(Refusal::UnknownUser)),
         }
     }
 
@@ -139,7 +140,7 @@ impl Users {
         &mut self,
         role: Role<'_>,
         datagram: &'a [u8],
-    ) -> Result<Checked<'a>, UsmFault>
+    ) -> Result<Checked<'a>, RefusedAt>
         ensures rows { Verifies (side_of role.entry) self.old.users datagram.now (checked_answer result) }
 
         // A message with auth is accepted exactly where the datagram is authentic, and at an agent is of its
@@ -150,7 +151,7 @@ impl Users {
         ensures level { IfOk result (λ c. c.level ≡ level_of c.message.header) }
 
         // Want of memory is never the error.
-        ensures memory { IfErr result (λ e. e ≢ OutOfMemory) }
+        ensures memory { IfErr result (λ e. e.refusal ≢ OutOfMemory) }
 
         // What was read is the datagram's, and its engine, user and digest are as the rows ask.
         ensures read { IfOk result (λ c. IsReadAs datagram.now (verified_of c)) }
@@ -182,16 +183,16 @@ impl Users {
     /// asked for once.
     ///
     /// The error is DecryptionError (11), exactly where msgPrivacyParameters don't have 8 octets, or OutOfMemory.
-    pub fn open_priv(&mut self, checked: &Checked<'_>) -> Result<Vec<u8>, UsmFault>
+    pub fn open_priv(&mut self, checked: &Checked<'_>) -> Result<Vec<u8>, RefusedAt>
         requires level { HasUserAt self.old.users checked.now.security.user.now AuthPriv }
         requires sealed { tag_of checked.now.message.body ≡ 4 }
         ensures opened { IfOk result
             (λ v. IsPlaintext self.old.users (fields_of checked.now.security)
             (content_of checked.now.message.body) v.items) }
-        ensures salt { IsErrOf result UsmFault.DecryptionError → length checked.now.security.salt.now ≢ 8 }
+        ensures salt { IsRefused result DecryptionError → length checked.now.security.salt.now ≢ 8 }
         ensures salt_length { IfOk result (λ _. length checked.now.security.salt.now ≡ 8) }
-        ensures memory { IsErrOf result UsmFault.OutOfMemory → length checked.now.security.salt.now ≡ 8 }
-        ensures fault { IfErr result (λ e. (e ≡ DecryptionError) ⊎ (e ≡ OutOfMemory)) }
+        ensures memory { IsRefused result OutOfMemory → length checked.now.security.salt.now ≡ 8 }
+        ensures fault { IfErr result (λ e. (e.refusal ≡ DecryptionError) ⊎ (e.refusal ≡ OutOfMemory)) }
         ensures users { self.new.users ≡ self.old.users }
     {
         open_for(self.alloc, &self.table, &mut self.cache, checked)
@@ -213,15 +214,15 @@ impl Users {
         user: &[u8],
         salt: [u8; 8],
         scoped: &[u8],
-    ) -> Result<Vec<u8>, UsmFault>
+    ) -> Result<Vec<u8>, RefusedAt>
         requires { IsSendable header.now user.now scoped.now }
         ensures rows { IfSome (seal_answer result)
             (Seals self.old.users (sending header.now engine.now pair user.now salt scoped.now)) }
 
         // The refusals before the text come before want of memory.
-        ensures memory { IsErrOf result UsmFault.OutOfMemory
+        ensures memory { IsRefused result OutOfMemory
             → IsSealable self.old.users (sending header.now engine.now pair user.now salt scoped.now) }
-        ensures short { IsErrOf result UsmFault.TooLarge
+        ensures short { IsRefused result TooLarge
             → LARGEST < 150 + length engine.now + length user.now + length scoped.now }
         ensures users { self.new.users ≡ self.old.users }
     {
@@ -240,15 +241,15 @@ impl Users {
         user: &[u8],
         salt: [u8; 8],
         scoped: &S,
-    ) -> Result<Vec<u8>, UsmFault>
+    ) -> Result<Vec<u8>, RefusedAt>
         requires header { HeaderFits header.now }
         requires user { length user.now ≤ 32 }
         requires scoped { S.fits scoped.now }
         ensures rows { IfSome (seal_answer result)
             (Seals self.old.users (sending header.now engine.now pair user.now salt (S.octets scoped.now))) }
-        ensures memory { IsErrOf result UsmFault.OutOfMemory
+        ensures memory { IsRefused result OutOfMemory
             → IsSealable self.old.users (sending header.now engine.now pair user.now salt (S.octets scoped.now)) }
-        ensures short { IsErrOf result UsmFault.TooLarge
+        ensures short { IsRefused result TooLarge
             → LARGEST < 150 + length engine.now + length user.now + length (S.octets scoped.now) }
         ensures users { self.new.users ≡ self.old.users }
     {
@@ -276,7 +277,7 @@ impl Users {
         pair: Pair,
         user: &[u8],
         scoped: &S,
-    ) -> Result<Vec<u8>, UsmFault>
+    ) -> Result<Vec<u8>, RefusedAt>
         requires header { HeaderFits header.now }
         requires user { length user.now ≤ 32 }
         requires scoped { S.fits scoped.now }
@@ -285,8 +286,8 @@ impl Users {
         ensures rows { IfSome (seal_answer result)
             (Seals self.now.users
             (sending header.now engine.now pair user.now (replicate 8 0) (S.octets scoped.now))) }
-        ensures fault { IfErr result IsWriteFault }
-        ensures short { IsErrOf result UsmFault.TooLarge
+        ensures fault { IfErr result (λ e. IsWriteRefusal e.refusal) }
+        ensures short { IsRefused result TooLarge
             → LARGEST < 150 + length engine.now + length user.now + length (S.octets scoped.now) }
     {
         some_sealed();

@@ -11,9 +11,9 @@ ghost use Rattle.usm_users.specs.declared.cache.Purpose.TheVariants.{Authenticat
 
 use crate::checked::{Checked, Role};
 use crate::digest::is_digest_right;
-use crate::fault::UsmFault;
 use crate::layout::read_layout;
 use snmp_ber::Level;
+use snmp_message::{Refusal, RefusedAt};
 use usm_users::{CachedKey, KeyCache, UserTable};
 
 /// The engine's own identifier at an agent, and any of 5 to 32 octets at a manager.
@@ -45,7 +45,7 @@ pub(crate) fn verify<'a>(
     role: Role<'_>,
     datagram: &'a [u8],
     made: &mut Option<CachedKey>,
-) -> Result<Checked<'a>, UsmFault>
+) -> Result<Checked<'a>, RefusedAt>
     requires cache { AreCached users.now cache.now }
     requires none { made.old ≡ None }
     ensures rows { Verifies (side_of role.entry) users.now datagram.now (checked_answer result) }
@@ -56,20 +56,20 @@ pub(crate) fn verify<'a>(
     let layout = read_layout(datagram)?;
     let (message, security, level) = (layout.message, layout.security, layout.level);
     if !allows_engine(role, security.engine) {
-        return Err(UsmFault::UnknownEngine);
+        return Err(RefusedAt::plain(Refusal::UnknownEngine));
     }
     match users.user_named(security.user) {
         Some(user) => {
             if !user.supports(level) {
-                return Err(UsmFault::UnsupportedLevel);
+                return Err(RefusedAt::plain(Refusal::UnsupportedLevel));
             }
             if !is_digest_right(user, cache, datagram, &message, &security, made) {
-                return Err(UsmFault::WrongDigest);
+                return Err(RefusedAt::plain(Refusal::WrongDigest));
             }
         }
         None => {
             if !allows_no_user(role, security.user, level) {
-                return Err(UsmFault::UnknownUser);
+                return Err(RefusedAt::plain(Refusal::UnknownUser));
             }
         }
     }

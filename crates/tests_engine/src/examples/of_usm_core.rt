@@ -1,11 +1,12 @@
 //! `usm_core`: a datagram that is no message is refused, and where the fault stands is told.
 use std::test::Fail;
-use usm_core::{Role, Users, UsmFault};
+use usm_core::{Role, Users};
 
 #[test]
 fn what_is_no_message_is_refused(rt: HostRuntime) -> Result<(), Fail> {
     let mut users = Users::load(rt.alloc(), &[])?;
     let answer = users.open_auth(Role::Manager, &[0x30, 0x05]).err();
-    assert_eq!(rt; answer, Some(UsmFault::NotMessage { at: 0 }));
+    let answer = answer.map(|refused| (refused.name(), refused.at));
+    assert_eq!(rt; answer, Some(("NotMessage", Some(0))));
     Ok(())
 }

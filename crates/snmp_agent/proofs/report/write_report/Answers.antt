@@ -2,9 +2,9 @@ use Rattle.std.proofs.Common.{rules, ◌≡◌, ap, subst, ℕ, arith, Bool, w32
 use Rattle.std.specs.Prelude.{◌≢◌, Result, Err, None}
 use Rattle.std.specs.Global.{Vec}
 use Rattle.std.proofs.lemmas.Int.{to_z-of_z}
-use Rattle.snmp_incoming.specs.declared.fault.TakeFault.{TakeFault}
-use Rattle.snmp_incoming.specs.declared.fault.TakeFault.TheVariants.{TooLarge}
-use Rattle.snmp_incoming.specs.Refusals.{answer_number, MemoryIs}
+use Rattle.snmp_message.specs.declared.refused_at.RefusedAt.{RefusedAt}
+use Rattle.snmp_message.specs.declared.refusal.Refusal.TheVariants.{TooLarge}
+use Rattle.snmp_message.specs.Numbers.{in_table, MemoryIs}
 use Rattle.snmp_agent.specs.Report.{reporting_of}
 use Rattle.snmp_agent.proofs.Sizes.{scoped_most}
 use Rattle.snmp_agent.proofs.Reports.{seals_text, refusal_is, report_sealable}
@@ -22,10 +22,9 @@ unreachable-requires-then-not-is_memory c =
     let m = reporting_of c.args.engine.now c.args.own c.args.n c.args.asking.now c.args.value in
     let rows = rw (c.report_level.ensures, c.in-Some.ensures.value, c.counter_name.ensures, c.as_slice.ensures.value, to_z-of_z w32 c.args.asking.now.request_id fits) at c.in-Err.ensures.rows in
     let sealable = report_sealable c.args.users.now.users c.args.engine.now c.args.own c.args.n c.args.asking.now c.args.value c.requires.known in
-    let memory : answer_number c.in-Err.fault ≢ None = subst (λ (b : Bool). MemoryIs c.in-Err.fault b) c.if-not-is_memory.true c.is_memory.ensures in
-    let large : c.in-Err.fault ≡ TooLarge = refusal_is c.args.users.now.users m c.in-Err.fault sealable rows memory in
-    let is : ◌≡◌ {A = Result (Vec ℕ) TakeFault} (Err c.in-Err.fault) (Err TooLarge) = ap (λ (f : TakeFault). Err f) large in
-    let long = rw (c.in-Some.ensures.value, c.counter_name.ensures, c.as_slice.ensures.value, to_z-of_z w32 c.args.asking.now.request_id fits) at (c.in-Err.ensures.short is) in
+    let memory : in_table c.in-Err.fault.refusal ≢ None = subst (λ (b : Bool). MemoryIs c.in-Err.fault.refusal b) c.if-not-is_memory.true c.is_memory.ensures in
+    let large : c.in-Err.fault.refusal ≡ TooLarge = refusal_is c.args.users.now.users m c.in-Err.fault.refusal sealable rows memory in
+    let long = rw (c.in-Some.ensures.value, c.counter_name.ensures, c.as_slice.ensures.value, to_z-of_z w32 c.args.asking.now.request_id fits) at (c.in-Err.ensures.short large) in
     let engine = c.as_slice.ensures.bounds.at_most in
     let most = scoped_most c.args.engine.now c.args.asking.now.request_id c.args.n c.args.value engine in
     omega (arith, long, most, engine, c.args.asking.now.user_fits)

@@ -3,7 +3,8 @@ use Rattle.std.specs.Prelude.{map, IfOk, IfSome}
 use Rattle.snmp_msg.specs.Pdu.{PduParts, IsSpelled}
 use Rattle.usm_core.specs.Sealed.{Sending, Seals, IsSealable}
 use Rattle.snmp_incoming.specs.Answers.{given_of}
-use Rattle.snmp_outgoing.specs.Sends.{sent_with, send_answer}
+use Rattle.snmp_outgoing.specs.Sends.{sent_with}
+use Rattle.usm_core.specs.Answers.{seal_answer}
 use Rattle.snmp_agent.specs.Responses.{response}
 use Rattle.snmp_agent.proofs.Speeches.{speech_fits}
 use Rattle.snmp_agent.proofs.response.write_response.Goals as goal
@@ -12,7 +13,7 @@ pub returns-clause-rows : goal.returns-clause-rows
 returns-clause-rows g c s p front is_pdu =
     let vs = map g.B.Spelled.says c.args.bindings.now in
     let is = ap (sent_with c.envelope-envelope.result) (c.front-front.ensures.scoped s p vs front is_pdu) ∙ c.envelope-envelope.ensures.message s p vs in
-    subst (λ (m : Sending). IfSome (send_answer c.write_body_of.result) (Seals c.args.users.now.users m)) is c.write_body_of.ensures.rows
+    subst (λ (m : Sending). IfSome (seal_answer c.write_body_of.result) (Seals c.args.users.now.users m)) is c.write_body_of.ensures.rows
 
 pub returns-clause-memory : goal.returns-clause-memory
 returns-clause-memory g c s p front is_pdu memory =

@@ -3,7 +3,7 @@ use Rattle.std.specs.Prelude.{map, take}
 use Rattle.snmp_msg.specs.Pdu.{IsSpelled}
 use Rattle.snmp_msg.specs.Variables.{Variable}
 use Rattle.usm_core.specs.Sealed.{IsSealable}
-use Rattle.snmp_incoming.specs.declared.fault.TakeFault.{TakeFault}
+use Rattle.snmp_message.specs.declared.refused_at.RefusedAt.{RefusedAt}
 use Rattle.snmp_outgoing.specs.Speaks.{SpeechFits}
 use Rattle.snmp_incoming.specs.Answers.{given_of}
 use Rattle.snmp_outgoing.specs.Bodies.{pdu_after, scoped_after}
@@ -33,7 +33,7 @@ returns-clause-fits g c s p front is_pdu =
     let salt : length c.args.response.now.salt ≡ 8 = search rules in
     let of = λ (ws : List Variable). response c.args.engine.now c.args.own (given_of c.args.taken.now) s p c.args.response.now.status c.args.response.now.index ws c.args.response.now.salt in
     fits_by c.write_front.result (λ f. IsSpelled (pdu_after c.front-front.result (take f.count vs))) (λ f. SpeechFits (of (take f.count vs)))
-    (λ f spelled. speech_fits {E = TakeFault} (Ok f) (of (take f.count vs)) c.args.taken.now.id_fits c.envelope-envelope.ensures.bounds c.requires.pair c.args.taken.now.user_fits salt
+    (λ f spelled. speech_fits {E = RefusedAt} (Ok f) (of (take f.count vs)) c.args.taken.now.id_fits c.envelope-envelope.ensures.bounds c.requires.pair c.args.taken.now.user_fits salt
     (subst IsSpelled (c.front-front.ensures.pdu s p (take f.count vs) front is_pdu) spelled))
     c.write_front.ensures.spelled
 

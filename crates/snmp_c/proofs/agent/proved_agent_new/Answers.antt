@@ -1,6 +1,6 @@
 use Rattle.std.proofs.Common.{Err, refl, ◌∙◌, rules, w32, SFits}
 use Rattle.std.proofs.lemmas.Int.{to_z-of_z}
-use Rattle.snmp_incoming.specs.declared.fault.TakeFault.TheVariants.{OutOfMemory}
+use Rattle.snmp_message.specs.declared.refusal.Refusal.TheVariants.{OutOfMemory}
 use Rattle.snmp_handles.specs.declared.fault.CallFault.TheVariants.{Refused}
 use Rattle.snmp_c.proofs.agent.proved_agent_new.Goals as goal
 

@@ -1,3 +1,4 @@
+use Rattle.snmp_message.specs.declared.refusal.Refusal.{Refusal}
 use Rattle.std.proofs.Common.{◌≡◌, ℕ, List, Option, Some, None, Result, Ok, refl, subst}
 use Rattle.std.specs.Prelude.{IfSome, option_map}
 use Rattle.std.specs.Global.{Vec}
@@ -9,7 +10,7 @@ use Rattle.snmp_agent.specs.Agent.{AgentState}
 use Rattle.snmp_agent.specs.Dispatch.{Refuses, RefusalCanBeSent}
 use Rattle.snmp_agent.specs.Report.{report_of}
 use Rattle.snmp_handles.specs.Dispatch.{Reports, report_refusal}
-use Rattle.snmp_incoming.specs.declared.fault.TakeFault.TheVariants.{OutOfMemory}
+use Rattle.snmp_message.specs.declared.refusal.Refusal.TheVariants.{OutOfMemory}
 use Rattle.snmp_outgoing.proofs.Refusing.{err_is}
 use Rattle.snmp_handles.proofs.Told.{if_told}
 use Rattle.snmp_handles.proofs.dispatch.refusal.Goals as goal
@@ -32,7 +33,7 @@ returns-clause-answer c =
     let same : c.refuse.new.self ≡ c.args.agent.now = c.in-Err.ensures.err in
     let of_kept : R c.args.kept.now c.args.agent.now = subst (R c.args.kept.now) same (subst (λ (g : Given). R g c.refuse.new.self) c.taken-taken.ensures rows) in (
       if_told refused (λ a. Reports c.args.agent.now c.args.now c.args.kept.now c.args.why c.args.salt a c.args.agent.now)
-          (λ a is. λ k p f q. subst (λ (o : Option (Result (Option (List ℕ)) ℕ)). IfSome o (λ answer. Refuses c.args.agent.now c.args.now c.args.kept.now p c.args.why c.args.salt answer c.args.agent.now)) is (of_kept k p f q)),
+          (λ a is. λ k p f q. subst (λ (o : Option (Result (Option (List ℕ)) Refusal)). IfSome o (λ answer. Refuses c.args.agent.now c.args.now c.args.kept.now p c.args.why c.args.salt answer c.args.agent.now)) is (of_kept k p f q)),
       λ is. subst (λ (g : Given). (k : Contexts) (p : PduParts) → ScopedFront g.text k → PduText k.pdu p → RefusalCanBeSent c.args.agent.now c.args.now g p c.args.why c.args.salt) c.taken-taken.ensures
           (λ k p f q. c.in-Err.ensures.memory k p f q (err_is c.in-Err.unsent OutOfMemory is)),
     )

@@ -1,3 +1,4 @@
+use Rattle.snmp_message.specs.declared.refusal.Refusal.{Refusal}
 use Rattle.std.proofs.Common.{◌≡◌, ℕ, pos, List, Option, Result, Ok, Err, inr, true, map, subst, ap, rules, w32, to_z}
 use Rattle.std.specs.Prelude.{IfSome}
 use Rattle.snmp_message.specs.Scoped.{Contexts, ScopedFront}
@@ -33,7 +34,7 @@ returns-clause-answer c =
     let index : to_z w32 c.args.reply.now.index ≡ pos c.args.reply.now.index = search rules in
     let vs : List Variable = map bound_variable c.in_ok-bindings.bindings.items in
     let lent : map bound_variable c.deref.result.now ≡ vs = ap (λ (bs : List VariableBinding). map bound_variable bs) c.deref.ensures.value in
-    let refusal : Option (Result FrontText ℕ) = front_answer (Err c.in-Err.fault) in
+    let refusal : Option (Result FrontText Refusal) = front_answer (Err c.in-Err.fault) in
     let R : Given → List Variable → Type 0 = λ g xs. (k : Contexts) (p : PduParts) → ScopedFront g.text k → PduText k.pdu p → IfSome refusal (SendsFront c.args.agent.now c.args.now c.args.limit (λ own ys. responding c.args.agent.now.engine own g k p (pos c.args.reply.now.status) (pos c.args.reply.now.index) ys c.args.reply.now.salt) xs) in
     let rows : R (given_of c.taken-taken.result) (map bound_variable c.deref.result.now) = rw (status, index) at c.in-Err.ensures.answer in
     let can : CanSendAt c.args.agent.now c.args.now c.args.kept.now.user c.args.kept.now.level = search rules in
@@ -42,6 +43,6 @@ returns-clause-answer c =
       inr (
         can,
         if_told refusal (RespondsFront c.args.agent.now c.args.now c.args.kept.now c.args.reply.now.status c.args.reply.now.index c.args.reply.now.list.now c.args.reply.now.salt c.args.limit)
-            (λ a is. (vs, c.in_ok-bindings.ensures.all, λ k p f q. subst (λ (o : Option (Result FrontText ℕ)). IfSome o (SendsFront c.args.agent.now c.args.now c.args.limit (λ own ys. responding c.args.agent.now.engine own c.args.kept.now k p (pos c.args.reply.now.status) (pos c.args.reply.now.index) ys c.args.reply.now.salt) vs)) is (of_kept k p f q))),
+            (λ a is. (vs, c.in_ok-bindings.ensures.all, λ k p f q. subst (λ (o : Option (Result FrontText Refusal)). IfSome o (SendsFront c.args.agent.now c.args.now c.args.limit (λ own ys. responding c.args.agent.now.engine own c.args.kept.now k p (pos c.args.reply.now.status) (pos c.args.reply.now.index) ys c.args.reply.now.salt) vs)) is (of_kept k p f q))),
       ),
     )

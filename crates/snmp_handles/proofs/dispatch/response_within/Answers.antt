@@ -1,3 +1,4 @@
+use Rattle.snmp_message.specs.declared.refusal.Refusal.{Refusal}
 use Rattle.std.proofs.Common.{◌≡◌, ℕ, pos, List, Option, Result, Ok, inr, true, map, subst, ap, rules, w32, to_z}
 use Rattle.std.specs.Prelude.{IfSome}
 use Rattle.snmp_message.specs.Scoped.{Contexts, ScopedFront}
@@ -7,7 +8,7 @@ use Rattle.snmp_msg.specs.declared.variable.VariableBinding.{VariableBinding}
 use Rattle.snmp_incoming.specs.Outcome.{Given}
 use Rattle.snmp_incoming.specs.Answers.{given_of}
 use Rattle.snmp_outgoing.specs.Classes.{is_confirmed}
-use Rattle.snmp_outgoing.specs.Sends.{send_refusal}
+use Rattle.usm_core.specs.Table.{refusal_answer}
 use Rattle.snmp_outgoing.specs.UpTo.{UpTo}
 use Rattle.snmp_agent.specs.Responses.{responding}
 use Rattle.snmp_agent.specs.Sent.{Sends, CanSendAt}
@@ -34,7 +35,7 @@ returns-clause-answer c =
     let index : to_z w32 c.args.reply.now.index ≡ pos c.args.reply.now.index = search rules in
     let vs : List Variable = map bound_variable c.in_ok-bindings.bindings.items in
     let lent : map bound_variable c.deref.result.now ≡ vs = ap (λ (bs : List VariableBinding). map bound_variable bs) c.deref.ensures.value in
-    let refusal = send_refusal c.in-Err.fault in
+    let refusal = refusal_answer c.in-Err.fault.refusal in
     let R : Given → List Variable → Type 0 = λ g xs. (k : Contexts) (p : PduParts) → ScopedFront g.text k → PduText k.pdu p → IfSome refusal (UpTo c.args.limit (Sends c.args.agent.now c.args.now (λ own. responding c.args.agent.now.engine own g k p (pos c.args.reply.now.status) (pos c.args.reply.now.index) xs c.args.reply.now.salt))) in
     let rows : R (given_of c.taken-taken.result) (map bound_variable c.deref.result.now) = rw (status, index) at c.in-Err.ensures.answer in
     let can : CanSendAt c.args.agent.now c.args.now c.args.kept.now.user c.args.kept.now.level = search rules in
@@ -43,6 +44,6 @@ returns-clause-answer c =
       inr (
         can,
         if_told refusal (RespondsWithin c.args.agent.now c.args.now c.args.kept.now c.args.reply.now.status c.args.reply.now.index c.args.reply.now.list.now c.args.reply.now.salt c.args.limit)
-            (λ a is. (vs, c.in_ok-bindings.ensures.all, λ k p f q. subst (λ (o : Option (Result (List ℕ) ℕ)). IfSome o (UpTo c.args.limit (Sends c.args.agent.now c.args.now (λ own. responding c.args.agent.now.engine own c.args.kept.now k p (pos c.args.reply.now.status) (pos c.args.reply.now.index) vs c.args.reply.now.salt)))) is (of_kept k p f q))),
+            (λ a is. (vs, c.in_ok-bindings.ensures.all, λ k p f q. subst (λ (o : Option (Result (List ℕ) Refusal)). IfSome o (UpTo c.args.limit (Sends c.args.agent.now c.args.now (λ own. responding c.args.agent.now.engine own c.args.kept.now k p (pos c.args.reply.now.status) (pos c.args.reply.now.index) vs c.args.reply.now.salt)))) is (of_kept k p f q))),
       ),
     )

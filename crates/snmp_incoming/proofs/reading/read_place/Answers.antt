@@ -1,4 +1,4 @@
-use Rattle.std.proofs.Common.{◌≡◌, refl, sym, subst, ap, ◌∙◌, inl, inr, List, ℕ, ◌+◌, ◌-◌, length, rules, w32, SFits}
+use Rattle.std.proofs.Common.{◌≡◌, refl, sym, subst, ap, ◌∙◌, List, ℕ, ◌+◌, ◌-◌, length, rules, w32, SFits}
 use Rattle.std.specs.Prelude.{slice_range}
 use Rattle.std.proofs.lemmas.Int.{to_z-of_z}
 use Rattle.snmp_message.specs.Scoped.{contexts_there}
@@ -8,18 +8,14 @@ use Rattle.snmp_incoming.proofs.Placed.{list_there, stands_there}
 use Rattle.snmp_incoming.proofs.reading.read_place.Goals as goal
 
 pub returns-in-Err-clause-fault : goal.returns-in-Err-clause-fault
-returns-in-Err-clause-fault c = inl (refl, λ s. c.in-Err.ensures.none s.contexts s.is)
+returns-in-Err-clause-fault c = λ s. c.in-Err.ensures.none s.contexts s.is
 
 pub returns-in-Err-read_pdu-clause-fault : goal.returns-in-Err-read_pdu-clause-fault
 returns-in-Err-read_pdu-clause-fault c =
     let there = contexts_there c.args.text.now c.in-Ok.contexts in
-    let lent = c.lent-scoped.result.pdu.now in
-    inr (
-      refl,
-      (
-        record { contexts = there; is = c.in-Ok.ensures.exact },
-        λ p. c.in-Err-read_pdu.ensures.none p.pdu (subst (λ (t : List ℕ). PduText t p.pdu) (sym (c.lent-scoped.ensures.pdu) ∙ sym (c.whole_slice.ensures lent)) p.is),
-      ),
+    let lent = c.lent-scoped.result.pdu.now in (
+      record { contexts = there; is = c.in-Ok.ensures.exact },
+      λ p. c.in-Err-read_pdu.ensures.none p.pdu (subst (λ (t : List ℕ). PduText t p.pdu) (sym (c.lent-scoped.ensures.pdu) ∙ sym (c.whole_slice.ensures lent)) p.is),
     )
 
 pub returns-clause-tag : goal.returns-clause-tag

@@ -26,7 +26,7 @@ returns-then-version-ne3-clause-exact c =
     let w = c.args.datagram.now in
     let v = c.in-Ok.found in
     let other : v.0 ≢ pos 3 = λ e. c.if-version-ne3.true (ap (of_z w32) e) in
-    wrong_version_from w v.0 (slice_range w v.1 v.2) (slice_range w v.2 (length w)) other (sym c.in-Ok.ensures.value)
+    rw c.plain.ensures.refusal (wrong_version_from w v.0 (slice_range w v.1 v.2) (slice_range w v.2 (length w)) other (sym c.in-Ok.ensures.value))
 
 pub returns-in-Err-read_after_version-clause-exact : goal.returns-in-Err-read_after_version-clause-exact
 returns-in-Err-read_after_version-clause-exact c =
@@ -66,7 +66,11 @@ pub returns-in-Err-clause-none : goal.returns-in-Err-clause-none
 returns-in-Err-clause-none c = (returns-in-Err-clause-exact c).1
 
 pub returns-then-version-ne3-clause-none : goal.returns-then-version-ne3-clause-none
-returns-then-version-ne3-clause-none c = λ m o. not_both c.args.datagram.now m o (returns-then-version-ne3-clause-exact c)
+returns-then-version-ne3-clause-none c =
+    let w = c.args.datagram.now in
+    let v = c.in-Ok.found in
+    let other : v.0 ≢ pos 3 = λ e. c.if-version-ne3.true (ap (of_z w32) e) in
+    λ m o. not_both w m o (wrong_version_from w v.0 (slice_range w v.1 v.2) (slice_range w v.2 (length w)) other (sym c.in-Ok.ensures.value))
 
 pub returns-in-Err-read_after_version-clause-none : goal.returns-in-Err-read_after_version-clause-none
 returns-in-Err-read_after_version-clause-none c = (returns-in-Err-read_after_version-clause-exact c).1

@@ -19,7 +19,7 @@ returns-in-Ok-clause-exact c =
 none_some : (o : Option Fields) (s : Fields) → o ≡ None → o ≡ Some s → ⊥
 none_some o s e h = cc
 
-no_security : (c : goal.In-Err) (s : Fields) → SecText (parts c.args.message.now).security_at (parts c.args.message.now).security s → ⊥
+no_security : (c : goal.After-result-1) (s : Fields) → SecText (parts c.args.message.now).security_at (parts c.args.message.now).security s → ⊥
 no_security c s t =
     let m = parts c.args.message.now in
     let here = security_stands c.args.datagram.now m c.requires in

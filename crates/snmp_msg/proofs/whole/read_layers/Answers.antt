@@ -14,7 +14,7 @@ returns-in_err-security-clause-exact c =
     let w = c.args.datagram.now in
     let m = parts c.args.message.now in
     let agrees = agrees_from w m c.in_ok-scoped.scoped c.in_ok-scoped.ensures.exact in
-    refused_as c.from_residual-in_err-security.result _ _ c.in_err-security.field-0.0 c.from_residual-in_err-security.ensures.1 (security_refused w m c.in_err-security.field-0.0 c.requires agrees c.in_err-security.ensures.exact)
+    refused_as c.from_residual-in_err-security.result _ _ c.in_err-security.field-0.0 c.from_residual-in_err-security.ensures.1 (security_refused w m c.in_err-security.field-0.0.refusal c.requires agrees c.in_err-security.ensures.exact)
 
 pub returns-in_err-pdu-clause-exact : goal.returns-in_err-pdu-clause-exact
 returns-in_err-pdu-clause-exact c =
@@ -22,7 +22,7 @@ returns-in_err-pdu-clause-exact c =
     let m = parts c.args.message.now in
     let scoped = rw c.in-Some.is at c.in_ok-scoped.ensures.exact in
     let place = rw c.in-Some.is at c.in_ok-scoped.ensures.place in
-    refused_as c.from_residual-in_err-pdu.result _ _ c.in_err-pdu.field-0.0 c.from_residual-in_err-pdu.ensures.1 (pdu_refused w _ m (fields_of c.in_ok-security.security) (contexts_of c.in-Some.scoped) c.in_err-pdu.field-0.0 c.requires c.in_ok-security.ensures.exact scoped place c.in_err-pdu.ensures.exact)
+    refused_as c.from_residual-in_err-pdu.result _ _ c.in_err-pdu.field-0.0 c.from_residual-in_err-pdu.ensures.1 (pdu_refused w _ m (fields_of c.in_ok-security.security) (contexts_of c.in-Some.scoped) c.in_err-pdu.field-0.0.refusal c.requires c.in_ok-security.ensures.exact scoped place c.in_err-pdu.ensures.exact)
 
 pub returns-clause-exact : goal.returns-clause-exact
 returns-clause-exact c =

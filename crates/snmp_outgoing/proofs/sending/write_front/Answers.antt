@@ -1,32 +1,35 @@
 use Rattle.std.proofs.Common.{◌≡◌, inr, ℕ, List, [], length, map, take, refl, sym, subst, arith, rules}
 use Rattle.std.specs.Prelude.{Ok}
+use Rattle.snmp_message.specs.Numbers.{in_table}
 use Rattle.snmp_msg.specs.Pdu.{IsSpelled}
 use Rattle.snmp_msg.specs.Variables.{Variable}
 use Rattle.usm_core.specs.Sealed.{Sending, SendingFits, Seals, IsSealable}
-use Rattle.snmp_incoming.specs.Refusals.{answer_number}
 use Rattle.snmp_outgoing.specs.Bodies.{pdu_after, scoped_after}
 use Rattle.snmp_outgoing.specs.Sends.{sent_with}
 use Rattle.snmp_outgoing.specs.Fronts.{IsBeyond, IsWithin, IsLongestFront, SealsFront}
 use Rattle.snmp_outgoing.proofs.Levels.{flags_at, level_at}
 use Rattle.snmp_outgoing.proofs.Counting.{take_map}
 use Rattle.snmp_outgoing.proofs.Refusing.{sealable}
-use Rattle.snmp_outgoing.proofs.Fronting.{sealed_text, scoped_is, not_refused, if_none, sender_rows}
+use Rattle.snmp_outgoing.proofs.Fronting.{sealed_text, scoped_is, not_refused, if_none, sender_rows, front_refused}
 use Rattle.snmp_outgoing.proofs.sending.write_front.Goals as goal
 
-pub returns-in-Err-clause-rows : goal.returns-in-Err-clause-rows
-returns-in-Err-clause-rows g c =
-    sender_rows c.args.users.now.users c.args.envelope.now c.args.limit (scoped_after c.args.front.now) (map g.B.Spelled.says c.args.bindings.now) c.in-Err.fault c.in-Err.ensures
+pub returns-in_err-supports-clause-rows : goal.returns-in_err-supports-clause-rows
+returns-in_err-supports-clause-rows g c =
+    let fault = c.in_err-supports.field-0.0 in
+    front_refused c.args.users.now.users c.args.envelope.now c.args.limit (scoped_after c.args.front.now) (map g.B.Spelled.says c.args.bindings.now)
+    c.from_residual.result fault c.from_residual.ensures.1
+    (sender_rows c.args.users.now.users c.args.envelope.now c.args.limit (scoped_after c.args.front.now) (map g.B.Spelled.says c.args.bindings.now) fault.refusal c.in_err-supports.ensures)
 
-pub returns-in_default-count_within-clause-rows : goal.returns-in_default-count_within-clause-rows
-returns-in_default-count_within-clause-rows g c =
+pub returns-in_default-clause-rows : goal.returns-in_default-clause-rows
+returns-in_default-clause-rows g c =
     let e = c.args.envelope.now in
     let users = c.args.users.now.users in
     let m = sent_with e (scoped_after c.args.front.now []) in
-    let ok : IsSealable users m = sealable users m e.level (flags_at e.level) (level_at e.level e.id e.reportable) c.in_default.ensures in
-    inr (refl, ok, subst (λ (n : ℕ). IsBeyond users n m) c.room.ensures.is c.in_default-count_within.ensures.none)
+    let ok : IsSealable users m = sealable users m e.level (flags_at e.level) (level_at e.level e.id e.reportable) c.in_ok-supports.ensures in
+    rw c.plain.ensures.refusal (inr (refl, ok, subst (λ (n : ℕ). IsBeyond users n m) c.room.ensures.is c.in_default.ensures.none))
 
-pub returns-in-Ok-clause-rows : goal.returns-in-Ok-clause-rows
-returns-in-Ok-clause-rows g c =
+pub returns-clause-rows : goal.returns-clause-rows
+returns-clause-rows g c =
     let says = g.B.Spelled.says in
     let bs = c.args.bindings.now in
     let e = c.args.envelope.now in
@@ -35,16 +38,16 @@ returns-in-Ok-clause-rows g c =
     let n = c.in-Some.count in
     let message : List Variable → Sending = λ vs. sent_with e (scoped_after f vs) in
     let longest : IsLongestFront users c.room.result message (map says bs) n = c.in-Some.ensures.some in
-    let rows : Seals users (message (take n (map says bs))) (Ok c.in-Ok.text.items) = subst (λ (vs : List Variable). Seals users (message vs) (Ok c.in-Ok.text.items)) (sym (take_map says n bs)) c.in-Ok.ensures.rows in
-    let fits = longest.fits c.in-Ok.text.items (sealed_text users (message (take n (map says bs))) c.in-Ok.text.items rows) in
+    let rows : Seals users (message (take n (map says bs))) (Ok c.in_ok-text.text.items) = subst (λ (vs : List Variable). Seals users (message vs) (Ok c.in_ok-text.text.items)) (sym (take_map says n bs)) c.in_ok-text.ensures.rows in
+    let fits = longest.fits c.in_ok-text.text.items (sealed_text users (message (take n (map says bs))) c.in_ok-text.text.items rows) in
     (rows, omega (arith, fits, c.room.ensures.least), subst (λ (k : ℕ). IsLongestFront users k message (map says bs) n) c.room.ensures.is longest)
 
-pub returns-in-Ok-clause-spelled : goal.returns-in-Ok-clause-spelled
-returns-in-Ok-clause-spelled g c =
-    subst (λ (vs : List Variable). IsSpelled (pdu_after c.args.front.now vs)) (sym (take_map g.B.Spelled.says c.in-Some.count c.args.bindings.now)) c.in-Ok.ensures.spelled
+pub returns-clause-spelled : goal.returns-clause-spelled
+returns-clause-spelled g c =
+    subst (λ (vs : List Variable). IsSpelled (pdu_after c.args.front.now vs)) (sym (take_map g.B.Spelled.says c.in-Some.count c.args.bindings.now)) c.in_ok-text.ensures.spelled
 
-pub returns-in-Err-write_body_of-clause-rows : goal.returns-in-Err-write_body_of-clause-rows
-returns-in-Err-write_body_of-clause-rows g c =
+pub returns-in_err-text-clause-rows : goal.returns-in_err-text-clause-rows
+returns-in_err-text-clause-rows g c =
     let says = g.B.Spelled.says in
     let bs = c.args.bindings.now in
     let e = c.args.envelope.now in
@@ -52,7 +55,7 @@ returns-in-Err-write_body_of-clause-rows g c =
     let users = c.args.users.now.users in
     let n = c.in-Some.count in
     let m = sent_with e (scoped_after f (map says (take n bs))) in
-    let ok : IsSealable users m = sealable users m e.level (flags_at e.level) (level_at e.level e.id e.reportable) c.in_default.ensures in
+    let ok : IsSealable users m = sealable users m e.level (flags_at e.level) (level_at e.level e.id e.reportable) c.in_ok-supports.ensures in
     let salt : length e.salt ≡ 8 = search rules in
     let scoped = scoped_is f (map says (take n bs)) c.in-Some.ensures.scoped in
     let fits : SendingFits m = record {
@@ -68,5 +71,7 @@ returns-in-Err-write_body_of-clause-rows g c =
     let longest : IsLongestFront users c.room.result (λ vs. sent_with e (scoped_after f vs)) (map says bs) n = c.in-Some.ensures.some in
     let within = subst (λ (vs : List Variable). IsWithin users c.room.result (sent_with e (scoped_after f vs))) (take_map says n bs) longest.fits in
     let short = within some.0 some.1 in
-    if_none (answer_number c.in-Err-write_body_of.fault) (Seals users m) (SealsFront users c.args.limit (λ vs. sent_with e (scoped_after f vs)) (map says bs))
-    (not_refused users m ok some.0 some.1 (omega (arith, short, c.room.ensures.most))) c.in-Err-write_body_of.ensures.rows
+    let fault = c.in_err-text.field-0.0 in
+    front_refused users e c.args.limit (scoped_after f) (map says bs) c.from_residual-in_err-text.result fault c.from_residual-in_err-text.ensures.1
+    (if_none (in_table fault.refusal) (Seals users m) (SealsFront users c.args.limit (λ vs. sent_with e (scoped_after f vs)) (map says bs))
+    (not_refused users m ok some.0 some.1 (omega (arith, short, c.room.ensures.most))) c.in_err-text.ensures.rows)

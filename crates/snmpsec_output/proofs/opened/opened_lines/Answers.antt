@@ -1,7 +1,7 @@
+use Rattle.snmp_message.specs.Numbers.{in_table}
 use Rattle.std.proofs.lemmas.Result.{err_from_is_err_and}
 use Rattle.usm_core.specs.Answers.{verified_of}
 use Rattle.snmp_incoming.specs.Texts.{text_of}
-use Rattle.snmp_incoming.specs.Refusals.{answer_number}
 use Rattle.snmp_incoming.specs.Answers.{given_of}
 use Rattle.snmpsec_output.proofs.Openings.{opens_refused, opens_unopened, opens_unread, opens_read}
 use Rattle.snmpsec_output.proofs.opened.opened_lines.Goals as goal
@@ -21,7 +21,7 @@ returns-in_err-taken-clause-opens c =
     let p = err_from_is_err_and c.from_residual-in_err-taken.result c.from_residual-in_err-taken.ensures.1 in
     rw (p.1, p.2) (opens_unread c.args.users.now.users c.args.datagram.now (verified_of c.in_ok-checked.checked) c.in_ok-checked.ensures.rows (text_of c.in-Some-opening.text)
     (rw (c.in-Some-opening.is, c.in_ok-checked.ensures.users) at c.in-Ok.ensures.opened)
-    (answer_number c.in_err-taken.field-0.0) c.in_err-taken.ensures)
+    (in_table c.in_err-taken.field-0.0.refusal) c.in_err-taken.ensures)
 
 pub returns-in-Ok-taken_lines-clause-opens : goal.returns-in-Ok-taken_lines-clause-opens
 returns-in-Ok-taken_lines-clause-opens c =

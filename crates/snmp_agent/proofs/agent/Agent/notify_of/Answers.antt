@@ -1,7 +1,7 @@
 use Rattle.std.proofs.Common.{subst, ap, arith}
 use Rattle.std.specs.Prelude.{map, IfOk, IfSome}
 use Rattle.usm_core.specs.Table.{fails}
-use Rattle.snmp_outgoing.specs.Sends.{send_answer}
+use Rattle.usm_core.specs.Answers.{seal_answer}
 use Rattle.snmp_agent.specs.Agent.{AgentState}
 use Rattle.snmp_incoming.specs.Outcome.{own_pair}
 use Rattle.engine_clock.specs.Pairs.{BootsAndTime}
@@ -19,8 +19,8 @@ pub returns-clause-answer : goal.returns-clause-answer
 returns-clause-answer g c =
     let vs = map g.B.Spelled.says c.args.bindings.now in
     let agent : AgentState = record { engine = c.self.inside.engine.id; boots = c.self.inside.engine.boots; started = c.self.inside.engine.started; users = c.self.inside.users.users; tables = c.self.inside.vacm; counters = c.self.inside.counters; counts = c.self.inside.counts } in
-    subst (λ (a : AgentState). IfSome (send_answer c.write_notification.result) (Sends a c.args.now (λ own. notifying a.engine own c.args.id c.args.user.now c.args.level c.args.front.now vs c.args.salt))) c.self.view_is
-    (sends agent c.args.now (λ own. notifying c.self.inside.engine.id own c.args.id c.args.user.now c.args.level c.args.front.now vs c.args.salt) c.in-Some.own c.in-Some.ensures.0 c.in-Some.ensures.1 (send_answer c.write_notification.result) c.write_notification.ensures.rows)
+    subst (λ (a : AgentState). IfSome (seal_answer c.write_notification.result) (Sends a c.args.now (λ own. notifying a.engine own c.args.id c.args.user.now c.args.level c.args.front.now vs c.args.salt))) c.self.view_is
+    (sends agent c.args.now (λ own. notifying c.self.inside.engine.id own c.args.id c.args.user.now c.args.level c.args.front.now vs c.args.salt) c.in-Some.own c.in-Some.ensures.0 c.in-Some.ensures.1 (seal_answer c.write_notification.result) c.write_notification.ensures.rows)
 
 pub returns-clause-memory : goal.returns-clause-memory
 returns-clause-memory g c is =

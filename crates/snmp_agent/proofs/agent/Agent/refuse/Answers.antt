@@ -2,7 +2,7 @@ use Rattle.std.proofs.Common.{◌≡◌, subst}
 use Rattle.std.specs.Prelude.{IfSome, IsErrOf}
 use Rattle.snmp_msg.specs.Pdu.{PduParts, pdu_of}
 use Rattle.snmp_incoming.specs.Answers.{given_of}
-use Rattle.snmp_incoming.specs.declared.fault.TakeFault.TheVariants.{OutOfMemory}
+use Rattle.snmp_message.specs.declared.refusal.Refusal.TheVariants.{OutOfMemory}
 use Rattle.snmp_agent.specs.Dispatch.{Refuses, RefusalCanBeSent, refusing_answer}
 use Rattle.snmp_agent.proofs.agent.Agent.refuse.Goals as goal
 

@@ -1,12 +1,12 @@
+use Rattle.snmp_message.specs.Numbers.{in_table}
 use Rattle.std.proofs.Common.{rules, ◌≡◌, ℕ, List, true, refl, sym, subst, ap, arith, length, ◌∙◌}
 use Rattle.std.specs.Prelude.{Option, Some, Ok, IfSome}
 use Rattle.usm_users.specs.User.{User}
 use Rattle.snmp_msg.specs.Pdu.{pdu_of}
 use Rattle.usm_core.specs.Table.{fails}
 use Rattle.snmp_incoming.specs.Answers.{given_of}
-use Rattle.snmp_incoming.specs.Refusals.{answer_number}
 use Rattle.snmp_outgoing.specs.Classes.{is_confirmed}
-use Rattle.snmp_outgoing.specs.Sends.{send_refusal}
+use Rattle.usm_core.specs.Table.{refusal_answer}
 use Rattle.snmp_agent.specs.Agent.{AgentState}
 use Rattle.snmp_outgoing.specs.declared.counter.Counter.{Counter}
 use Rattle.snmp_agent.specs.Counts.{count_after, one_more}
@@ -50,6 +50,6 @@ returns-in-Err-clause-answer c =
     let eight : length c.self.inside.counts ≡ 8 = search rules in
     let value = counted_value c.self.inside.counts c.in-Some.counter eight in
     let rows = rw (c.place.ensures, c.one_more-counts.ensures, value) at c.in-Err.ensures.rows in
-    let sent = subst (λ (a : AgentState). IfSome (send_refusal c.in-Err.fault) (SendsRefusal a c.args.now (given_of c.args.taken.now) (pdu_of c.args.pdu.now) c.in-Some.counter c.args.salt)) c.self.view_is
-    (sends agent c.args.now (λ own. refusing agent.engine own (given_of c.args.taken.now) (pdu_of c.args.pdu.now) c.in-Some.counter (count_after agent.counts c.in-Some.counter) c.args.salt) c.in-Some-pair.own c.in-Some-pair.ensures.0 c.in-Some-pair.ensures.1 (send_refusal c.in-Err.fault) rows) in
-    some_other _ _ (answer_number c.in-Err.fault) (λ n x. ((c.in-Some.counter, reported, x), search rules)) sent
+    let sent = subst (λ (a : AgentState). IfSome (refusal_answer c.in-Err.fault.refusal) (SendsRefusal a c.args.now (given_of c.args.taken.now) (pdu_of c.args.pdu.now) c.in-Some.counter c.args.salt)) c.self.view_is
+    (sends agent c.args.now (λ own. refusing agent.engine own (given_of c.args.taken.now) (pdu_of c.args.pdu.now) c.in-Some.counter (count_after agent.counts c.in-Some.counter) c.args.salt) c.in-Some-pair.own c.in-Some-pair.ensures.0 c.in-Some-pair.ensures.1 (refusal_answer c.in-Err.fault.refusal) rows) in
+    some_other _ _ (in_table c.in-Err.fault.refusal) (λ n x. ((c.in-Some.counter, reported, x), search rules)) sent

@@ -3,7 +3,7 @@ use Rattle.std.specs.Prelude.{map, IfOk, IfSome}
 use Rattle.std.proofs.lemmas.Int.{to_z-of_z}
 use Rattle.usm_core.specs.Table.{fails}
 use Rattle.snmp_incoming.specs.Answers.{given_of}
-use Rattle.snmp_outgoing.specs.Sends.{send_answer}
+use Rattle.usm_core.specs.Answers.{seal_answer}
 use Rattle.snmp_agent.specs.Agent.{AgentState}
 use Rattle.snmp_incoming.specs.Outcome.{own_pair}
 use Rattle.snmp_outgoing.specs.Speaks.{SpeechFits}
@@ -25,8 +25,8 @@ returns-clause-answer g c s p front is_pdu =
     let fits_index : SFits w32 c.args.index = search rules in
     let rows = rw (to_z-of_z w32 c.args.status fits_status, to_z-of_z w32 c.args.index fits_index) at (c.write_response.ensures.rows s p front is_pdu) in
     let agent : AgentState = record { engine = c.self.inside.engine.id; boots = c.self.inside.engine.boots; started = c.self.inside.engine.started; users = c.self.inside.users.users; tables = c.self.inside.vacm; counters = c.self.inside.counters; counts = c.self.inside.counts } in
-    subst (λ (a : AgentState). IfSome (send_answer c.write_response.result) (Sends a c.args.now (λ own. responding a.engine own (given_of c.args.taken.now) s p c.args.status c.args.index (map g.B.Spelled.says c.args.bindings.now) c.args.salt))) c.self.view_is
-    (sends agent c.args.now (λ own. responding c.self.inside.engine.id own (given_of c.args.taken.now) s p c.args.status c.args.index (map g.B.Spelled.says c.args.bindings.now) c.args.salt) c.in-Some.own c.in-Some.ensures.0 c.in-Some.ensures.1 (send_answer c.write_response.result) rows)
+    subst (λ (a : AgentState). IfSome (seal_answer c.write_response.result) (Sends a c.args.now (λ own. responding a.engine own (given_of c.args.taken.now) s p c.args.status c.args.index (map g.B.Spelled.says c.args.bindings.now) c.args.salt))) c.self.view_is
+    (sends agent c.args.now (λ own. responding c.self.inside.engine.id own (given_of c.args.taken.now) s p c.args.status c.args.index (map g.B.Spelled.says c.args.bindings.now) c.args.salt) c.in-Some.own c.in-Some.ensures.0 c.in-Some.ensures.1 (seal_answer c.write_response.result) rows)
 
 pub returns-clause-memory : goal.returns-clause-memory
 returns-clause-memory g c s p front is_pdu is =

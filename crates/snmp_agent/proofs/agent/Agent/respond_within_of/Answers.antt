@@ -1,9 +1,9 @@
+use Rattle.snmp_message.specs.Numbers.{in_table}
 use Rattle.std.proofs.Common.{rules, ◌<◌, ◌≤◌, length, w32, SFits}
 use Rattle.std.specs.Prelude.{map}
 use Rattle.std.proofs.lemmas.Int.{to_z-of_z}
 use Rattle.std.proofs.lemmas.Result.{err_from_is_err_and}
 use Rattle.snmp_incoming.specs.Answers.{given_of}
-use Rattle.snmp_incoming.specs.Refusals.{answer_number}
 use Rattle.snmp_outgoing.specs.UpTo.{fits, longer}
 use Rattle.snmp_agent.specs.Responses.{responding}
 use Rattle.snmp_agent.specs.Sent.{Sends}
@@ -16,7 +16,7 @@ returns-in_err-text-clause-answer g c s p front is_pdu =
     let fits_index : SFits w32 c.args.index = search rules in
     let rows = rw (to_z-of_z w32 c.args.status fits_status, to_z-of_z w32 c.args.index fits_index) at (c.in_err-text.ensures.answer s p front is_pdu) in
     let r = err_from_is_err_and c.from_residual.result c.from_residual.ensures.1 in
-    rw (r.1, r.2) (some_refused c.args.limit (Sends c.args.self.now c.args.now (λ own. responding c.args.self.now.engine own (given_of c.args.taken.now) s p c.args.status c.args.index (map g.B.Spelled.says c.args.bindings.now) c.args.salt)) (answer_number c.in_err-text.field-0.0) rows)
+    rw (r.1, r.2) (some_refused c.args.limit (Sends c.args.self.now c.args.now (λ own. responding c.args.self.now.engine own (given_of c.args.taken.now) s p c.args.status c.args.index (map g.B.Spelled.says c.args.bindings.now) c.args.salt)) (in_table c.in_err-text.field-0.0.refusal) rows)
 
 pub returns-then-len-limit-clause-answer : goal.returns-then-len-limit-clause-answer
 returns-then-len-limit-clause-answer g c s p front is_pdu =

@@ -1,10 +1,9 @@
+use Rattle.usm_core.specs.Table.{refusal_answer}
 use Rattle.std.proofs.Common.{◌≡◌, ℕ, List, Option, Some, None, Ok, refl, subst}
 use Rattle.std.specs.Prelude.{IsSome}
 use Rattle.snmp_incoming.specs.Outcome.{Given}
-use Rattle.snmp_incoming.specs.declared.fault.TakeFault.{TakeFault}
-use Rattle.snmp_incoming.specs.declared.fault.TakeFault.TheVariants.{OutOfMemory}
-use Rattle.snmp_incoming.specs.Refusals.{answer_number}
-use Rattle.snmp_incoming.specs.Answers.{refused}
+use Rattle.snmp_message.specs.declared.refused_at.RefusedAt.{RefusedAt}
+use Rattle.snmp_message.specs.declared.refusal.Refusal.TheVariants.{OutOfMemory}
 use Rattle.snmp_manager.specs.Takes as manager
 use Rattle.snmp_handles.specs.Managers.{ManagerHeld}
 use Rattle.snmp_handles.proofs.manager.ManagerHandle.take.Goals as goal
@@ -22,5 +21,5 @@ returns-in-Err-clause-no_memory c =
     rw (← c.self.view_is) (λ t e.
     let some = c.in-Err.ensures.no_memory t in
     let is : c.in-Err.fault ≡ OutOfMemory = cc e in
-    let wrong = subst (λ (f : TakeFault). IsSome (refused (answer_number f))) is some in
+    let wrong = subst (λ (f : RefusedAt). IsSome (refusal_answer f.refusal)) is some in
     cc wrong)

@@ -1,4 +1,4 @@
-use Rattle.std.proofs.Common.{◌≤◌, arith, refl, pos, [], length, to_z, w32}
+use Rattle.std.proofs.Common.{◌≤◌, arith, pos, [], length, to_z, w32}
 use Rattle.snmp_message.specs.Scoped.{scoped_text}
 use Rattle.snmp_msg.specs.Variables.{variables_text}
 use Rattle.snmp_msg.specs.Pdu.{pdu_with, pdu_text}
@@ -9,7 +9,7 @@ use Rattle.snmp_manager.proofs.manager.Manager.discover.Goals as goal
 pub unreachable-requires : goal.unreachable-requires
 unfolding variables_text
 unreachable-requires c =
-    let short = c.in-Err-TooLarge.ensures.short (rw c.in-Err-TooLarge.field-0-is refl) in
+    let short = c.in-Err.ensures.short c.in-TooLarge.is in
     let pdu = pdu_with 160 (to_z w32 c.args.id) (pos 0) (pos 0) [] in
     let most : length (scoped_text [] [] (pdu_text pdu)) ≤ 72 = scoped_most [] [] pdu in
     omega (arith, short, most)
