@@ -1,6 +1,6 @@
 -- Refusals that have a counter.
 use Rattle.snmp_message.specs.declared.refusal.Refusal.{Refusal}
-use Rattle.std.proofs.Common.{◌≡◌, ◌⊎◌, ℕ, List, Bool, true, false, refl, sym, ap, subst, ◌∙◌, inl, inr, arith}
+use Rattle.std.proofs.Common.{◌≡◌, ◌⊎◌, ℕ, List, Bool, true, false, refl, sym, ap, subst, ◌∙◌, inl, inr}
 use Rattle.std.specs.Prelude.{◌≢◌, ◌&&◌, Option, Some, None, Result, Ok, Err, IfSome, IsSomeAnd, IsSome, is_some}
 use Rattle.snmp_ber.specs.declared.level.Level.{Level}
 use Rattle.snmp_ber.specs.declared.level.Level.TheVariants.{AuthNoPriv, AuthPriv}
@@ -13,8 +13,7 @@ use Rattle.usm_users.specs.Users.{user_named, HasUserAt}
 use Rattle.usm_core.specs.Table.{Needs, Then, holds, fails, gives, refuses, refused, refusal_answer}
 use Rattle.usm_core.proofs.Determined.{no_row}
 use Rattle.snmp_message.specs.Numbers.{in_table}
-use Rattle.usm_core.specs.Verified.{Side, agent, Verified, Verifies, ReadsLayout, Judges, IsReadAs}
-use Rattle.snmp_message.specs.declared.refused_at.RefusedAt.{RefusedAt}
+use Rattle.usm_core.specs.Verified.{Side, agent, Verified, Verifies, Judges, IsReadAs}
 use Rattle.snmp_message.specs.declared.refusal.Refusal.TheVariants.{NotMessage, BadVersion, NotSecurity, NotScoped, NotPdu, UnknownEngine, UnknownUser, UnsupportedLevel, WrongDigest, NotInWindow, DecryptionError, BadScoped, BadPdu, OutOfMemory, ClockExhausted, TooLarge, UnknownModel, InvalidFlags}
 use Rattle.snmp_incoming.specs.Outcome.{Given, Taker, as_agent, side_at, ClockRuns, ReadsText, ReadsMessage, Weighs, Outcome}
 use Rattle.snmp_agent.specs.declared.asking.ReportedMessage.{ReportedMessage}

@@ -6,7 +6,6 @@ use Rattle.std.specs.Prelude.{◌↔◌, ◌≢◌, Result, Ok, Err, IfSome, IsS
 use Rattle.engine_clock.specs.Pairs.{BootsAndTime}
 use Rattle.engine_clock.specs.Windows.{InAgentWindow}
 use Rattle.usm_users.specs.User.{User}
-use Rattle.snmp_message.specs.declared.refused_at.RefusedAt.{RefusedAt}
 use Rattle.usm_core.specs.Table.{holds, fails, gives, refuses, refusal_answer}
 use Rattle.usm_core.specs.Verified.{Verified, Verifies}
 use Rattle.snmp_incoming.specs.Outcome.{Given, Taker, side_at, ClockRuns, IsFresh, pair_in, ReadsText, Weighs, Outcome}

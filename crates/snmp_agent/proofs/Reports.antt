@@ -12,7 +12,6 @@ use Rattle.usm_users.specs.Users.{user_named, supports, HasUser, HasUserAt}
 use Rattle.usm_core.specs.Table.{Needs, holds, fails, refusal_answer}
 use Rattle.snmp_message.specs.Numbers.{in_table}
 use Rattle.usm_core.specs.Sealed.{Sending, SealedText, Seals, IsSealable}
-use Rattle.snmp_message.specs.declared.refused_at.RefusedAt.{RefusedAt}
 use Rattle.snmp_message.specs.declared.refusal.Refusal.TheVariants.{NotMessage, BadVersion, NotSecurity, NotScoped, NotPdu, UnknownEngine, UnknownUser, UnsupportedLevel, WrongDigest, NotInWindow, DecryptionError, BadScoped, BadPdu, OutOfMemory, ClockExhausted, TooLarge, UnknownModel, InvalidFlags}
 use Rattle.snmp_outgoing.specs.Bodies.{has_auth, has_privacy, header_at}
 use Rattle.snmp_agent.specs.declared.asking.ReportedMessage.{ReportedMessage}

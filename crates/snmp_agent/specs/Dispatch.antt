@@ -8,7 +8,7 @@
 -- sending `refusing`, the report with the counter after it.
 use Rattle.usm_core.specs.Table.{refusal_answer}
 use Rattle.snmp_message.specs.declared.refusal.Refusal.{Refusal}
-use Rattle.std.specs.Prelude.{◌≡◌, ◌⊎◌, ℕ, true, List, Option, Some, None, option_map, Result, Ok, Err}
+use Rattle.std.specs.Prelude.{◌≡◌, ◌⊎◌, ℕ, true, List, Option, Some, None, Result, Ok, Err}
 use Rattle.std.specs.Global.{Vec}
 use Rattle.snmp_message.specs.Scoped.{Contexts}
 use Rattle.snmp_msg.specs.Pdu.{PduParts}
@@ -90,10 +90,11 @@ Refuses old now g p why salt (Ok (Some text)) new =
     ((counter : Counter) × IsReported p why counter × SendsRefusal old now g p counter salt (Ok text))
     × (new ≡ agent_counted old why)
 Refuses old now g p why salt
-    (Err n) new = ((counter : Counter) × IsReported p why counter × SendsRefusal old now g p counter salt (Err n))
+    (Err refusal) new = ((counter : Counter) × IsReported p why counter
+    × SendsRefusal old now g p counter salt (Err refusal))
     × (new ≡ old)
 
 -- what the call answers; None for want of memory
 abbrev pub refusing_answer : Result (Option (Vec ℕ)) RefusedAt → Option (Result (Option (List ℕ)) Refusal)
 refusing_answer (Ok text) = Some (Ok (report_of text))
-refusing_answer (Err fault) = refusal_answer fault.refusal
+refusing_answer (Err e) = refusal_answer e.refusal

@@ -20,7 +20,6 @@ use Rattle.snmp_outgoing.specs.Accepts.{IsTakenInTime}
 use Rattle.snmp_outgoing.specs.Speaks.{Speech, spoken, spoken_contexts, HasSameUser}
 use Rattle.snmp_outgoing.specs.Sends.{CanSend, RefusesSender}
 use Rattle.snmp_outgoing.specs.Fronts.{FrontText, SealsFront}
-use Rattle.snmp_message.specs.declared.refused_at.RefusedAt.{RefusedAt}
 use Rattle.snmp_message.specs.declared.refusal.Refusal.TheVariants.{ClockExhausted}
 use Rattle.snmp_agent.specs.Agent.{AgentState}
 
@@ -45,7 +44,7 @@ notifying engine own id user level f vs salt = spoken (notification engine own i
 
 -- the answer to sending what an agent makes of its boots and time: first that its clock has run out
 abbrev pub Sends : AgentState → ℕ → (BootsAndTime → Sending) → Result (List ℕ) Refusal → Type 0
-Sends agent now message = Needs (now - agent.started ≤ pair_max) 15
+Sends agent now message = Needs (now - agent.started ≤ pair_max) ClockExhausted
     (λ _. Seals agent.users (message (own_pair agent.boots agent.started now)))
 
 -- None of the refusals before the text applies.
@@ -57,7 +56,7 @@ pub record CanBeSent (agent : AgentState) (now : ℕ) (message : BootsAndTime �
 -- its boots and time and of variables: first that its clock has run out
 abbrev pub SendsFront : AgentState → ℕ → ℕ → (BootsAndTime → List Variable → Sending) → List Variable
     → Result FrontText Refusal → Type 0
-SendsFront agent now limit message vs = Needs (now - agent.started ≤ pair_max) 15
+SendsFront agent now limit message vs = Needs (now - agent.started ≤ pair_max) ClockExhausted
     (λ _. SealsFront agent.users limit (message (own_pair agent.boots agent.started now)) vs)
 
 -- Messages of this user at this level can go out now.
@@ -65,10 +64,10 @@ abbrev pub CanSendAt : AgentState → ℕ → List ℕ → Level → Type 0
 CanSendAt agent now name level = (now - agent.started ≤ pair_max) × CanSend agent.users name level
 
 -- why none of them can: first that the agent's clock has run out
-abbrev pub RefusesSenderAt : AgentState → ℕ → List ℕ → Level → RefusedAt → Type 0
+abbrev pub RefusesSenderAt : AgentState → ℕ → List ℕ → Level → Refusal → Type 0
 RefusesSenderAt agent now name level ClockExhausted = pair_max < now - agent.started
-RefusesSenderAt agent now name level fault = (now - agent.started ≤ pair_max)
-    × RefusesSender agent.users name level fault
+RefusesSenderAt agent now name level refusal = (now - agent.started ≤ pair_max)
+    × RefusesSender agent.users name level refusal
 
 -- What is sent is accepted by each manager that has the sender's user, whatever it holds, exactly where the
 -- pair is in the window of what it holds once it has learned the pair; at noAuthNoPriv always. What it gives

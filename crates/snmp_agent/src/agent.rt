@@ -146,15 +146,22 @@ impl Agent {
             Err(why) => why,
         };
         let none = Refused {
-            why: TakeFault::OutOfMemory,
+            why: RefusedAt::plain(Refusal::OutOfMemory),
             report: None,
         };
         if why.is_memory() {
             return Err(none);
         }
-        let counters = count_refusal(self.counters, why);
-        let counts = one_more(self.counts, drop_counter_of(why));
-        match report(&mut self.users, &self.engine, now, &counters, why, datagram) {
+        let counters = count_refusal(self.counters, why.refusal);
+        let counts = one_more(self.counts, drop_counter_of(why.refusal));
+        match report(
+            &mut self.users,
+            &self.engine,
+            now,
+            &counters,
+            why.refusal,
+            datagram,
+        ) {
             Ok(report) => {
                 self.counters = counters;
                 self.counts = counts;
@@ -225,7 +232,7 @@ impl Agent {
     /// there is such a user UnsupportedLevel (8). It takes no memory.
     pub fn supports(&self, now: u64, user: &[u8], level: Level) -> Result<(), RefusedAt>
         ensures { MatchResult result (λ _. CanSendAt self.now now user.now level)
-            (RefusesSenderAt self.now now user.now level) }
+            (λ e. RefusesSenderAt self.now now user.now level e.refusal) }
     {
         if self.engine.pair(now).is_none() {
             return Err(RefusedAt::plain(Refusal::ClockExhausted));

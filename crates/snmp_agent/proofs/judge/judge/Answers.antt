@@ -10,7 +10,7 @@ use Rattle.snmp_agent.proofs.Judging.{not_both, inside, stopped, told_refused, l
 use Rattle.snmp_agent.proofs.judge.judge.Goals as goal
 
 pub returns-in_default-clause-rows : goal.returns-in_default-clause-rows
-returns-in_default-clause-rows c = stopped (taker_at c.args.engine.now) c.args.users.now.users c.args.now c.args.datagram.now (λ runs. let past = c.in_default.ensures in omega (arith, past, runs))
+returns-in_default-clause-rows c = rw c.plain.ensures.refusal (stopped (taker_at c.args.engine.now) c.args.users.now.users c.args.now c.args.datagram.now (λ runs. let past = c.in_default.ensures in omega (arith, past, runs)))
 
 pub returns-in_err-checked-clause-rows : goal.returns-in_err-checked-clause-rows
 returns-in_err-checked-clause-rows c =
@@ -20,15 +20,17 @@ returns-in_err-checked-clause-rows c =
 pub returns-then-not-is_in_window-clause-rows : goal.returns-then-not-is_in_window-clause-rows
 returns-then-not-is_in_window-clause-rows c =
     let v = verified_of c.in_ok-checked.checked in
-    late (taker_at c.args.engine.now) c.args.users.now.users c.args.now c.args.datagram.now c.in-Some.ensures.0 v c.in_ok-checked.ensures.rows
-    (λ fresh. not_both c.is_in_window.result _ c.is_in_window.ensures c.if-not-is_in_window.true (λ auth. subst (λ (p : BootsAndTime). InAgentWindow p (pair_in v)) (sym c.in-Some.ensures.1) (fresh auth)))
+    rw c.plain-then-not-is_in_window.ensures.refusal
+    (late (taker_at c.args.engine.now) c.args.users.now.users c.args.now c.args.datagram.now c.in-Some.ensures.0 v c.in_ok-checked.ensures.rows
+    (λ fresh. not_both c.is_in_window.result _ c.is_in_window.ensures c.if-not-is_in_window.true (λ auth. subst (λ (p : BootsAndTime). InAgentWindow p (pair_in v)) (sym c.in-Some.ensures.1) (fresh auth))))
 
 pub returns-in_default-opening-clause-rows : goal.returns-in_default-opening-clause-rows
 returns-in_default-opening-clause-rows c =
     let v = verified_of c.in_ok-checked.checked in
     let fresh = inside _ _ v c.in-Some.ensures.1 (c.is_in_window.ensures.0 c.if-not-is_in_window.false) in
-    unopened (taker_at c.args.engine.now) c.args.users.now.users c.args.now c.args.datagram.now c.in-Some.ensures.0 v c.in_ok-checked.ensures.rows fresh
-    (rw c.in_default-opening.is at c.in_ok-opening.ensures.opened)
+    rw c.plain-in_default-opening.ensures.refusal
+    (unopened (taker_at c.args.engine.now) c.args.users.now.users c.args.now c.args.datagram.now c.in-Some.ensures.0 v c.in_ok-checked.ensures.rows fresh
+    (rw c.in_default-opening.is at c.in_ok-opening.ensures.opened))
 
 pub returns-clause-rows : goal.returns-clause-rows
 returns-clause-rows c =

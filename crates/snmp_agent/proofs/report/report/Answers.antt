@@ -6,16 +6,16 @@ use Rattle.snmp_agent.proofs.Reports.{not_counted, not_asked, is_offered}
 use Rattle.snmp_agent.proofs.report.report.Goals as goal
 
 pub returns-in_default-clause-report : goal.returns-in_default-clause-report
-returns-in_default-clause-report c = not_counted c.args.users.now.users c.args.engine.now.id _ c.args.counters.now c.args.datagram.now c.args.why.refusal c.in_default.ensures.value
+returns-in_default-clause-report c = not_counted c.args.users.now.users c.args.engine.now.id _ c.args.counters.now c.args.datagram.now c.args.why c.in_default.ensures.value
 
 pub returns-in_default-asking-clause-report : goal.returns-in_default-asking-clause-report
-returns-in_default-asking-clause-report c = not_asked c.args.users.now.users c.args.engine.now.id _ c.args.counters.now c.args.datagram.now c.args.why.refusal c.in_default-asking.ensures
+returns-in_default-asking-clause-report c = not_asked c.args.users.now.users c.args.engine.now.id _ c.args.counters.now c.args.datagram.now c.args.why c.in_default-asking.ensures
 
 pub unreachable-requires : goal.unreachable-requires
 unreachable-requires c =
     let taker = taker_at c.args.engine.now in
-    let rows = answer_counted c.args.why.refusal c.in-Some.n (Outcome taker c.args.users.now.users c.args.now c.args.datagram.now) c.requires.rows c.in-Some.ensures.value in
-    let runs = clock_runs taker c.args.users.now.users c.args.now c.args.datagram.now c.args.why.refusal c.in-Some.n c.in-Some.ensures.value rows in
+    let rows = answer_counted c.args.why c.in-Some.n (Outcome taker c.args.users.now.users c.args.now c.args.datagram.now) c.requires.rows c.in-Some.ensures.value in
+    let runs = clock_runs taker c.args.users.now.users c.args.now c.args.datagram.now c.args.why c.in-Some.n c.in-Some.ensures.value rows in
     let past = c.in_default-pair.ensures in
     omega (arith, runs, past)
 
@@ -23,12 +23,12 @@ pub write_report-requires : goal.write_report-requires
 write_report-requires c = record {
   known = λ two.
       let taker = taker_at c.args.engine.now in
-      let rows = answer_counted c.args.why.refusal c.in-Some.n (Outcome taker c.args.users.now.users c.args.now c.args.datagram.now) c.requires.rows c.in-Some.ensures.value in
-      known c.verified_was_read.ensures.accepted c.one_message.ensures.one c.one_cut.ensures.one c.args.engine.now.id c.args.engine.now.boots c.args.engine.now.started c.args.now c.args.why.refusal
-      c.args.users.now.users c.args.datagram.now c.in-Some-asking.asking (second_is c.args.why.refusal c.in-Some.n c.in-Some.ensures.value two) rows c.in-Some-asking.ensures;
+      let rows = answer_counted c.args.why c.in-Some.n (Outcome taker c.args.users.now.users c.args.now c.args.datagram.now) c.requires.rows c.in-Some.ensures.value in
+      known c.verified_was_read.ensures.accepted c.one_message.ensures.one c.one_cut.ensures.one c.args.engine.now.id c.args.engine.now.boots c.args.engine.now.started c.args.now c.args.why
+      c.args.users.now.users c.args.datagram.now c.in-Some-asking.asking (second_is c.args.why c.in-Some.n c.in-Some.ensures.value two) rows c.in-Some-asking.ensures;
 }
 
 pub returns-clause-report : goal.returns-clause-report
 returns-clause-report c =
-    is_offered c.args.users.now.users c.args.engine.now.id _ c.args.counters.now c.args.datagram.now c.args.why.refusal c.in-Some.n c.in-Some.ensures.value
+    is_offered c.args.users.now.users c.args.engine.now.id _ c.args.counters.now c.args.datagram.now c.args.why c.in-Some.n c.in-Some.ensures.value
     c.in-Some-asking.asking c.in-Some-asking.ensures c.in_ok-text.text.items (rw (c.in-Some-pair.ensures.1, c.from.ensures) at c.in_ok-text.ensures.text)

@@ -1,8 +1,6 @@
-use Rattle.std.proofs.Common.{rules, ◌≡◌, ap, subst, ℕ, arith, Bool, w32, SFits}
-use Rattle.std.specs.Prelude.{◌≢◌, Result, Err, None}
-use Rattle.std.specs.Global.{Vec}
+use Rattle.std.proofs.Common.{rules, ◌≡◌, subst, arith, Bool, w32, SFits}
+use Rattle.std.specs.Prelude.{◌≢◌, None}
 use Rattle.std.proofs.lemmas.Int.{to_z-of_z}
-use Rattle.snmp_message.specs.declared.refused_at.RefusedAt.{RefusedAt}
 use Rattle.snmp_message.specs.declared.refusal.Refusal.TheVariants.{TooLarge}
 use Rattle.snmp_message.specs.Numbers.{in_table, MemoryIs}
 use Rattle.snmp_agent.specs.Report.{reporting_of}

@@ -23,7 +23,8 @@ returns-in_default-pair-clause-answer c =
     let started = ap (λ (a : AgentState). a.started) c.self.view_is in
     let counted = sym c.counter.ensures ∙ c.in-Some.is in
     let reported : IsReported (pdu_of c.args.pdu.now) c.args.why c.in-Some.counter = record { confirmed = confirmed; counted = counted } in
-    ((c.in-Some.counter, reported, fails (λ runs. let past = c.in_default-pair.ensures in absurd (omega (arith, past, runs, started)))), refl)
+    rw c.plain.ensures.refusal
+    (((c.in-Some.counter, reported, fails (λ runs. let past = c.in_default-pair.ensures in absurd (omega (arith, past, runs, started)))), refl))
 
 pub returns-in-Ok-clause-answer : goal.returns-in-Ok-clause-answer
 returns-in-Ok-clause-answer c =

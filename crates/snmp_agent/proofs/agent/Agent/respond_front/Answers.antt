@@ -18,7 +18,8 @@ use Rattle.snmp_agent.proofs.agent.Agent.respond_front.Goals as goal
 pub returns-in_default-clause-answer : goal.returns-in_default-clause-answer
 returns-in_default-clause-answer g c s p front is_pdu =
     let started = ap (λ (a : AgentState). a.started) c.self.view_is in
-    fails (λ runs. let past = c.in_default.ensures in absurd (omega (arith, past, runs, started)))
+    rw c.plain.ensures.refusal
+    (fails (λ runs. let past = c.in_default.ensures in absurd (omega (arith, past, runs, started))))
 
 pub returns-clause-answer : goal.returns-clause-answer
 returns-clause-answer g c s p front is_pdu =

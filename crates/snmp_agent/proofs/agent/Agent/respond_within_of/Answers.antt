@@ -23,7 +23,8 @@ returns-then-len-limit-clause-answer g c s p front is_pdu =
     let fits_status : SFits w32 c.args.status = search rules in
     let fits_index : SFits w32 c.args.index = search rules in
     let long : c.args.limit < length c.in_ok-text.text.items = search rules in
-    longer c.in_ok-text.text.items (rw (to_z-of_z w32 c.args.status fits_status, to_z-of_z w32 c.args.index fits_index) at (c.in_ok-text.ensures.answer s p front is_pdu)) long
+    rw c.plain.ensures.refusal
+    (longer c.in_ok-text.text.items (rw (to_z-of_z w32 c.args.status fits_status, to_z-of_z w32 c.args.index fits_index) at (c.in_ok-text.ensures.answer s p front is_pdu)) long)
 
 pub returns-clause-answer : goal.returns-clause-answer
 returns-clause-answer g c s p front is_pdu =
