@@ -7,6 +7,7 @@ ghost use Rattle.snmp_handles.specs.Agents.{AgentHeld};
 ghost use Rattle.snmp_c.specs.Calls.{Makes, ClearsAgent, Takes, Allows, May, Counter, RespondsTo, Notifies};
 ghost use Rattle.snmp_c.specs.Calls.{TellsPart, TellsMessage, TellsNumbers};
 
+use snmp_msg::{Refusal};
 use crate::agent_calls::{
     allows, clear, counter, may, message, notify, numbers, part, respond, take,
 };
@@ -40,7 +41,7 @@ pub extern "C" fn proved_agent_new(
             *out = Box::into_raw(handle) as *mut u8;
             0
         }
-        Err(_) => CallFault::Refused(TakeFault::OutOfMemory).code(),
+        Err(_) => CallFault::Refused(Refusal::OutOfMemory).code(),
     }
 }
 

@@ -7,6 +7,7 @@ ghost use Rattle.snmp_handles.specs.Managers.{ManagerHeld};
 ghost use Rattle.snmp_c.specs.ManagerCalls.{MakesAManager, Clears, ManagerTook, Answered, Requested, Discovered};
 ghost use Rattle.snmp_c.specs.ManagerCalls.{Absorbed, Saved, ToldPair, ManagerPart, ManagerMessage, ManagerNumbers};
 
+use snmp_msg::{Refusal};
 use crate::manager_calls::{
     absorb, answer, clear, discover, message, numbers, pair, part, request, save, take,
 };
@@ -36,7 +37,7 @@ pub extern "C" fn proved_manager_new(
             *out = Box::into_raw(handle) as *mut u8;
             0
         }
-        Err(_) => CallFault::Refused(TakeFault::OutOfMemory).code(),
+        Err(_) => CallFault::Refused(Refusal::OutOfMemory).code(),
     }
 }
 

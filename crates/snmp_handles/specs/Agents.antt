@@ -23,7 +23,6 @@ use Rattle.snmp_message.specs.Scoped.{Contexts, ScopedFront}
 use Rattle.snmp_msg.specs.Pdu.{PduParts, PduText, pdu_with}
 use Rattle.snmp_msg.specs.Variables.{Variable, AreBindings}
 use Rattle.snmp_incoming.specs.Outcome.{Given, Outcome}
-use Rattle.usm_core.specs.Table.{refused}
 use Rattle.snmp_outgoing.specs.Classes.{is_confirmed}
 use Rattle.usm_core.specs.Table.{refusal_answer}
 use Rattle.snmp_agent.specs.Agent.{AgentState, AgentTakes, IsOpened, taker_of}
@@ -42,7 +41,6 @@ use Rattle.vacm_core.specs.declared.access.Access.{Access}
 use Rattle.vacm_core.specs.declared.access.ViewType.{ViewType}
 use Rattle.snmpsec_config.specs.Refusals.{Loads, RefusesText}
 use Rattle.snmpsec_config.specs.declared.fault.ConfigFault.{ConfigFault}
-use Rattle.snmp_message.specs.declared.refused_at.RefusedAt.{RefusedAt}
 use Rattle.snmp_message.specs.declared.refusal.Refusal.TheVariants.{OutOfMemory}
 use Rattle.snmp_handles.specs.Numbers.{level_of, view_of}
 use Rattle.snmp_handles.specs.declared.fault.CallFault.{CallFault}
@@ -125,8 +123,8 @@ abbrev pub TakesHeld : {V : Type 0} → AgentHeld → ℕ → List ℕ → Resul
 TakesHeld old now w (Ok done) new =
     (g : Given) × (new.last ≡ Some g) × (new.message ≡ None) × AgentTakes old.agent now w (Some (Ok g)) new.agent
 TakesHeld old now w (Err (Refused fault)) new =
-    (new.last ≡ None) × AgentTakes old.agent now w (refusal_answer fault.refusal) new.agent
-    × AgentReports new.agent now w (in_table fault.refusal) new.message
+    (new.last ≡ None) × AgentTakes old.agent now w (refusal_answer fault) new.agent
+    × AgentReports new.agent now w (in_table fault) new.message
 TakesHeld old now w (Err _) new = ⊥
 
 -- ---- deciding
@@ -174,10 +172,10 @@ abbrev pub IsAsked : AgentHeld → Given → Type 0
 IsAsked held g = (held.last ≡ Some g) × (is_confirmed g.tag ≡ true)
 
 -- Nothing can be sent for its user at its level; or it can, and the Response is refused, or finds no memory.
-abbrev pub StopsResponse : AgentState → ℕ → Given → ℕ → ℕ → List ℕ → List ℕ → RefusedAt → Type 0
+abbrev pub StopsResponse : AgentState → ℕ → Given → ℕ → ℕ → List ℕ → List ℕ → Refusal → Type 0
 StopsResponse agent now g status index list salt fault =
     RefusesSenderAt agent now g.user g.level fault
-    ⊎ (CanSendAt agent now g.user g.level × IfSome (refusal_answer fault.refusal) (Responds agent now g status index list salt))
+    ⊎ (CanSendAt agent now g.user g.level × IfSome (refusal_answer fault) (Responds agent now g status index list salt))
 
 -- the octets aren't bindings, of a Response that can be sent
 abbrev pub HasNoBindings : AgentState → ℕ → Given → List ℕ → Type 0
@@ -186,7 +184,7 @@ HasNoBindings agent now g list = CanSendAt agent now g.user g.level × ((vs : Li
 -- Why what is kept isn't answered with the bindings that these octets are, the first that applies: the
 -- numbers are out of range, nothing is kept, it isn't asked for an answer; then what stops the answer itself,
 -- or that the octets aren't bindings.
-abbrev pub RefusesAnswer : AgentHeld → ℕ → ℕ → ℕ → List ℕ → (Given → RefusedAt → Type 0) → CallFault → Type 0
+abbrev pub RefusesAnswer : AgentHeld → ℕ → ℕ → ℕ → List ℕ → (Given → Refusal → Type 0) → CallFault → Type 0
 RefusesAnswer held now status index list Stops (Refused fault) = (g : Given) × IsAsked held g × Stops g fault
 RefusesAnswer held now status index list Stops BadArgument = (2147483647 < status) ⊎ (2147483647 < index)
 RefusesAnswer held now status index list Stops NothingTaken = held.last ≡ None
@@ -249,10 +247,10 @@ Notifies agent now n list salt answer = (at : Level) × (level_of n.level ≡ So
     × NotifiesAt agent now n at list salt answer
 
 -- Nothing can be sent for the user at this level; or it can, and the notification is refused, or finds no memory.
-abbrev pub StopsNotice : AgentState → ℕ → Notice → Level → List ℕ → List ℕ → RefusedAt → Type 0
+abbrev pub StopsNotice : AgentState → ℕ → Notice → Level → List ℕ → List ℕ → Refusal → Type 0
 StopsNotice agent now n level list salt fault =
     RefusesSenderAt agent now n.user level fault
-    ⊎ (CanSendAt agent now n.user level × IfSome (refusal_answer fault.refusal) (NotifiesAt agent now n level list salt))
+    ⊎ (CanSendAt agent now n.user level × IfSome (refusal_answer fault) (NotifiesAt agent now n level list salt))
 
 -- a number or the name is out of its range
 abbrev pub IsNoticeOutOfRange : Notice → Type 0

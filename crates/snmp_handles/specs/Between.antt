@@ -8,7 +8,7 @@ use Rattle.snmp_outgoing.specs.Classes.{is_confirmed}
 use Rattle.snmp_agent.specs.Agent.{AgentState}
 use Rattle.snmp_agent.specs.Sent.{CanSendAt, RefusesSenderAt}
 use Rattle.snmp_handles.specs.Agents.{Responds, StopsResponse, HasNoBindings, Notice, NotifiesAt, StopsNotice}
-use Rattle.snmp_message.specs.declared.refused_at.RefusedAt.{RefusedAt}
+use Rattle.snmp_message.specs.declared.refusal.Refusal.{Refusal}
 use Rattle.snmp_handles.specs.declared.agent.NoticeTo.{NoticeTo}
 use Rattle.snmp_handles.specs.declared.fault.CallFault.{CallFault}
 use Rattle.snmp_handles.specs.declared.fault.CallFault.TheVariants.{Refused, NotAsked, BadBindings}
@@ -22,7 +22,7 @@ CannotAnswer agent now g _ = ⊥
 
 -- What was given is answered so, or is refused: it isn't asked for an answer, or these octets aren't
 -- bindings, or the answer stops.
-abbrev pub Answering : {T : Type 0} → AgentState → ℕ → Given → List ℕ → (T → Type 0) → (RefusedAt → Type 0)
+abbrev pub Answering : {T : Type 0} → AgentState → ℕ → Given → List ℕ → (T → Type 0) → (Refusal → Type 0)
     → Result T CallFault → Type 0
 Answering agent now g list Told Stops (Ok told) = (is_confirmed g.tag ≡ true) × Told told
 Answering agent now g list Told Stops (Err (Refused fault)) = (is_confirmed g.tag ≡ true) × Stops fault

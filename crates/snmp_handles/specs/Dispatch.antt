@@ -8,11 +8,10 @@ use Rattle.snmp_message.specs.Scoped.{Contexts, ScopedFront}
 use Rattle.snmp_msg.specs.Pdu.{PduParts, PduText}
 use Rattle.snmp_msg.specs.Variables.{Variable, AreBindings}
 use Rattle.snmp_incoming.specs.Outcome.{Given}
-use Rattle.snmp_message.specs.declared.refused_at.RefusedAt.{RefusedAt}
 use Rattle.snmp_message.specs.declared.refusal.Refusal.TheVariants.{OutOfMemory}
 use Rattle.usm_core.specs.Table.{refusal_answer}
 use Rattle.snmp_outgoing.specs.UpTo.{UpTo}
-use Rattle.snmp_outgoing.specs.Fronts.{FrontText, front_answer}
+use Rattle.snmp_outgoing.specs.Fronts.{FrontText}
 use Rattle.snmp_outgoing.specs.declared.front.Fronted.{Fronted}
 use Rattle.snmp_agent.specs.Agent.{AgentState}
 use Rattle.snmp_agent.specs.Responses.{responding}
@@ -36,11 +35,11 @@ RespondsWithin agent now g status index list salt limit answer =
 
 -- Nothing can be sent for its user at its level; or it can, and the Response is refused or too long, or finds
 -- no memory.
-abbrev pub StopsWithin : AgentState → ℕ → Given → ℕ → ℕ → List ℕ → List ℕ → ℕ → RefusedAt → Type 0
+abbrev pub StopsWithin : AgentState → ℕ → Given → ℕ → ℕ → List ℕ → List ℕ → ℕ → Refusal → Type 0
 StopsWithin agent now g status index list salt limit fault =
     RefusesSenderAt agent now g.user g.level fault
     ⊎ (CanSendAt agent now g.user g.level
-    × IfSome (refusal_answer fault.refusal) (RespondsWithin agent now g status index list salt limit))
+    × IfSome (refusal_answer fault) (RespondsWithin agent now g status index list salt limit))
 
 abbrev pub RefusesWithin : AgentHeld → ℕ → ℕ → ℕ → List ℕ → List ℕ → ℕ → CallFault → Type 0
 RefusesWithin held now status index list salt limit fault =
@@ -66,11 +65,11 @@ RespondsFront agent now g status index list salt limit answer =
 
 -- Nothing can be sent for its user at its level; or it can, and the Response is refused, has no room even
 -- without bindings, or finds no memory.
-abbrev pub StopsFront : AgentState → ℕ → Given → ℕ → ℕ → List ℕ → List ℕ → ℕ → RefusedAt → Type 0
+abbrev pub StopsFront : AgentState → ℕ → Given → ℕ → ℕ → List ℕ → List ℕ → ℕ → Refusal → Type 0
 StopsFront agent now g status index list salt limit fault =
     RefusesSenderAt agent now g.user g.level fault
     ⊎ (CanSendAt agent now g.user g.level
-    × IfSome (front_answer (Err fault)) (RespondsFront agent now g status index list salt limit))
+    × IfSome (refusal_answer fault) (RespondsFront agent now g status index list salt limit))
 
 -- The Response to what is kept, with the longest front that has room, is to be sent, and its count is told. A
 -- refusal changes nothing.
@@ -116,8 +115,8 @@ Reports old now g why salt answer new =
     (c : Contexts) (p : PduParts) → ScopedFront g.text c → PduText c.pdu p → Refuses old now g p why salt answer new
 
 -- the refusal as a report's; None for want of memory
-abbrev pub report_refusal : RefusedAt → Option (Result (Option (List ℕ)) Refusal)
-report_refusal fault = refusal_answer fault.refusal
+abbrev pub report_refusal : Refusal → Option (Result (Option (List ℕ)) Refusal)
+report_refusal fault = refusal_answer fault
 
 -- There is a report, and none of the refusals before its text applies.
 abbrev pub CanReport : AgentState → ℕ → Given → Unhandled → List ℕ → Type 0
@@ -125,7 +124,7 @@ CanReport agent now g why salt = (c : Contexts) (p : PduParts) → ScopedFront g
     → RefusalCanBeSent agent now g p why salt
 
 -- The report is refused, or finds no memory where there is one that can be sent. Nothing changes.
-abbrev pub StopsWith : AgentState → ℕ → Given → Unhandled → List ℕ → RefusedAt → Type 0
+abbrev pub StopsWith : AgentState → ℕ → Given → Unhandled → List ℕ → Refusal → Type 0
 StopsWith agent now g why salt fault =
     IfSome (report_refusal fault) (λ answer. Reports agent now g why salt answer agent)
     × (fault ≡ OutOfMemory → CanReport agent now g why salt)

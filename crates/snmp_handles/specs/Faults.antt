@@ -9,6 +9,7 @@ use Rattle.vacm_core.specs.Numbers.{access_number}
 use Rattle.snmp_agent.specs.Statuses.{IsStatusOf, status_number}
 use Rattle.snmp_agent.specs.declared.status.Status.{Status}
 use Rattle.snmp_agent.specs.declared.unhandled.Unhandled.{Unhandled}
+use Rattle.snmp_message.specs.Numbers.{refusal_number}
 use Rattle.snmp_handles.specs.Numbers.{access_of, unhandled_number}
 use Rattle.snmp_handles.specs.declared.fault.CallFault.{CallFault}
 use Rattle.snmp_handles.specs.declared.fault.CallFault.TheVariants.{Refused, BadArgument, NothingTaken, NotAsked}
@@ -17,7 +18,7 @@ use Rattle.snmp_handles.specs.declared.fault.CallFault.TheVariants.{BadClocks}
 
 -- a refusal has its own number, and a fault of the call a negative one
 abbrev pub fault_code : CallFault → ℤ
-fault_code (Refused fault) = pos (fault.refusal)
+fault_code (Refused refusal) = pos (refusal_number refusal)
 fault_code BadArgument = negsuc 0
 fault_code NothingTaken = negsuc 1
 fault_code NotAsked = negsuc 2

@@ -19,8 +19,6 @@ use Rattle.usm_core.specs.Authentic.{HasEngineLength}
 use Rattle.usm_users.specs.User.{User}
 use Rattle.usm_core.specs.Sealed.{Sending, Seals}
 use Rattle.snmp_incoming.specs.Outcome.{Given}
-use Rattle.usm_core.specs.Table.{refused}
-use Rattle.snmp_message.specs.declared.refused_at.RefusedAt.{RefusedAt}
 use Rattle.snmp_message.specs.declared.refusal.Refusal.TheVariants.{OutOfMemory}
 use Rattle.snmp_outgoing.specs.Classes.{is_confirmed}
 use Rattle.snmp_outgoing.specs.Bodies.{header_at}
@@ -87,7 +85,7 @@ ManagerTakes old now w (Ok done) new =
     × manager.Takes old.manager now w (Some (Ok g)) new.manager
 ManagerTakes old now w (Err (Refused fault)) new =
     (new.last ≡ None) × (new.message ≡ None) × (new.pending ≡ old.pending)
-    × manager.Takes old.manager now w (refusal_answer fault.refusal) new.manager
+    × manager.Takes old.manager now w (refusal_answer fault) new.manager
 ManagerTakes old now w (Err _) new = ⊥
 
 -- ---- the request that is waited for
@@ -145,10 +143,10 @@ IsOutOfRange ask =
     ⊎ ((2147483647 < ask.request_id) ⊎ ((2147483647 < ask.second) ⊎ (2147483647 < ask.third)))))))
 
 -- Nothing can be sent for the user at this level; or it can, and the request is refused, or finds no memory.
-abbrev pub StopsRequest : Held → ℕ → Asking → Level → List ℕ → List ℕ → RefusedAt → Type 0
+abbrev pub StopsRequest : Held → ℕ → Asking → Level → List ℕ → List ℕ → Refusal → Type 0
 StopsRequest held now ask level list salt fault =
     RefusesSender held.users ask.user level fault
-    ⊎ (CanSend held.users ask.user level × IfSome (refusal_answer fault.refusal) (AsksAt held now ask level list salt))
+    ⊎ (CanSend held.users ask.user level × IfSome (refusal_answer fault) (AsksAt held now ask level list salt))
 
 abbrev pub RefusesRequest : ManagerHeld → ℕ → Asking → List ℕ → List ℕ → CallFault → Type 0
 RefusesRequest held now ask list salt (Refused fault) = (level : Level) × (level_of ask.level ≡ Some level)

@@ -21,6 +21,7 @@ use engine_clock::EngineId;
 use snmp_agent::Agent;
 use snmp_ber::Oid;
 use snmp_incoming::Kept;
+use snmp_msg::Refusal;
 use snmp_outgoing::Front;
 use snmpsec_config::{Config, ConfigFault};
 use std::alloc::Global;
@@ -107,7 +108,7 @@ fn response(
     let (status, index) = (reply.status as i32, reply.index as i32);
     match agent.respond_of(now, &taken, status, index, &bindings, reply.salt) {
         Ok(text) => Ok(text),
-        Err(fault) => Err(CallFault::Refused(fault)),
+        Err(fault) => Err(CallFault::Refused(fault.refusal)),
     }
 }
 
@@ -125,7 +126,7 @@ fn notice(
 {
     let NoticeInRange { to, level } = *notice;
     if let Err(fault) = agent.supports(now, to.user, level) {
-        return Err(CallFault::Refused(fault));
+        return Err(CallFault::Refused(fault.refusal));
     }
     let bindings = bindings_of(alloc, list)?;
     let front = Front {
@@ -138,7 +139,7 @@ fn notice(
     };
     match agent.notify_of(now, to.id, to.user, level, &front, &bindings, salt) {
         Ok(text) => Ok(text),
-        Err(fault) => Err(CallFault::Refused(fault)),
+        Err(fault) => Err(CallFault::Refused(fault.refusal)),
     }
 }
 
@@ -171,7 +172,7 @@ impl AgentHandle {
                 last: None,
                 message: None,
             }),
-            Err(ConfigFault::OutOfMemory) => Err(CallFault::Refused(TakeFault::OutOfMemory)),
+            Err(ConfigFault::OutOfMemory) => Err(CallFault::Refused(Refusal::OutOfMemory)),
             Err(_) => Err(CallFault::BadConfiguration),
         }
     }
@@ -192,10 +193,10 @@ impl AgentHandle {
             families: Vec::new(self.alloc),
         };
         let Ok(users) = Users::load(self.alloc, &users) else {
-            return Err(CallFault::Refused(TakeFault::OutOfMemory));
+            return Err(CallFault::Refused(Refusal::OutOfMemory));
         };
         let Ok(tables) = Vacm::load(self.alloc, &rows) else {
-            return Err(CallFault::Refused(TakeFault::OutOfMemory));
+            return Err(CallFault::Refused(Refusal::OutOfMemory));
         };
         self.agent = Agent::new(self.alloc, engine, 0, 0, users, tables);
         self.last = None;
@@ -211,7 +212,7 @@ impl AgentHandle {
     pub fn take(&mut self, now: u64, datagram: &[u8]) -> Result<(), CallFault>
         ensures takes { TakesHeld self.old now datagram.now result self.new }
         ensures no_memory { TakesNoMemory self.old.agent now datagram.now
-            → result ≢ Err (CallFault.Refused RefusedAt.OutOfMemory) }
+            → result ≢ Err (CallFault.Refused Refusal.OutOfMemory) }
     {
         self.last = None;
         self.message = None;
@@ -219,7 +220,7 @@ impl AgentHandle {
             Ok(taken) => taken,
             Err(refused) => {
                 self.message = refused.report;
-                return Err(CallFault::Refused(refused.why));
+                return Err(CallFault::Refused(refused.why.refusal));
             }
         };
         match Kept::of(self.alloc, &taken) {
@@ -227,7 +228,7 @@ impl AgentHandle {
                 self.last = Some(kept);
                 Ok(())
             }
-            Err(_) => Err(CallFault::Refused(TakeFault::OutOfMemory)),
+            Err(_) => Err(CallFault::Refused(Refusal::OutOfMemory)),
         }
     }
 

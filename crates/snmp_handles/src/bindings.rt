@@ -9,7 +9,7 @@ ghost use Rattle.snmp_handles.specs.Bindings.{RefusesBindings, ReadsAt, WritesBi
 use crate::fault::CallFault;
 use crate::parts::copy_to;
 use snmp_ber::{ObjectName, Oid, one_element, put_oid, put_tlv, read_oid, read_tlv};
-use snmp_msg::{LARGEST, VariableBinding, read_binding, whole_slice};
+use snmp_msg::{LARGEST, Refusal, VariableBinding, read_binding, whole_slice};
 use std::alloc::{AllocError, Global};
 
 /// How many elements the octets begin with, one after another: where they are bindings, how many they are.
@@ -40,7 +40,7 @@ pub fn bindings_of(alloc: Global, list: &[u8]) -> Result<Vec<VariableBinding<'_>
     whole_slice();
     one_element();
     let Ok(mut bindings) = Vec::with_capacity(alloc, outer_count(list)) else {
-        return Err(CallFault::Refused(TakeFault::OutOfMemory));
+        return Err(CallFault::Refused(Refusal::OutOfMemory));
     };
     let mut place = 0;
     while place < list.len() {
@@ -53,7 +53,7 @@ pub fn bindings_of(alloc: Global, list: &[u8]) -> Result<Vec<VariableBinding<'_>
             content: found.value.content,
         };
         if bindings.push(binding).is_err() {
-            return Err(CallFault::Refused(TakeFault::OutOfMemory));
+            return Err(CallFault::Refused(Refusal::OutOfMemory));
         }
         place = found.end;
     }
@@ -143,6 +143,6 @@ pub fn write_binding(
     }
     match binding_text(alloc, &name, tag as u8, content) {
         Ok(text) => copy_to(&text, out, written),
-        Err(_) => Err(CallFault::Refused(TakeFault::OutOfMemory)),
+        Err(_) => Err(CallFault::Refused(Refusal::OutOfMemory)),
     }
 }

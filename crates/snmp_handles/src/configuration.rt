@@ -7,6 +7,7 @@ ghost use Rattle.snmp_handles.specs.Configurations.{wrong_number as wrong_by};
 
 use crate::fault::CallFault;
 use crate::parts::copy_to;
+use snmp_msg::Refusal;
 use snmpsec_config::{AccessConfig, ConfigFault, ConfigKey, ConfigTable, KeyFault, LoadFault};
 use std::alloc::{AllocError, Global};
 
@@ -47,10 +48,10 @@ pub fn tell_config(
         Err(fault) => fault,
     };
     if fault.is_memory() {
-        return Err(CallFault::Refused(TakeFault::OutOfMemory));
+        return Err(CallFault::Refused(Refusal::OutOfMemory));
     }
     let Ok(text) = fault_text(alloc, &fault) else {
-        return Err(CallFault::Refused(TakeFault::OutOfMemory));
+        return Err(CallFault::Refused(Refusal::OutOfMemory));
     };
     numbers[..NUMBERS].copy_from_slice(&numbers_of(&fault));
     copy_to(&text, out, written)?;

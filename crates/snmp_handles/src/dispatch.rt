@@ -36,7 +36,7 @@ pub(crate) fn can_answer(agent: &Agent, now: u64, kept: &Kept) -> Result<(), Cal
     }
     match agent.supports(now, taken.user, taken.level) {
         Ok(()) => Ok(()),
-        Err(fault) => Err(CallFault::Refused(fault)),
+        Err(fault) => Err(CallFault::Refused(fault.refusal)),
     }
 }
 
@@ -67,7 +67,7 @@ fn response_within(
         limit as usize,
     ) {
         Ok(text) => Ok(text),
-        Err(fault) => Err(CallFault::Refused(fault)),
+        Err(fault) => Err(CallFault::Refused(fault.refusal)),
     }
 }
 
@@ -92,7 +92,7 @@ fn response_front(
     let limit = limit as usize;
     match agent.respond_front(now, &taken, status, index, &bindings, reply.salt, limit) {
         Ok(fronted) => Ok(fronted),
-        Err(fault) => Err(CallFault::Refused(fault)),
+        Err(fault) => Err(CallFault::Refused(fault.refusal)),
     }
 }
 
@@ -118,7 +118,7 @@ fn refusal(
     let taken = kept.taken();
     match agent.refuse(now, &taken, why, salt) {
         Ok(report) => Ok(report),
-        Err(unsent) => Err(CallFault::Refused(unsent)),
+        Err(unsent) => Err(CallFault::Refused(unsent.refusal)),
     }
 }
 

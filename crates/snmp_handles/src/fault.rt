@@ -4,17 +4,17 @@ ghost use Rattle.std.specs.Prelude.{◌≡◌};
 ghost use Rattle.snmp_handles.specs.Faults.{code, access_code, value_code, answer_code, fault_code, unhandled_code};
 ghost use Rattle.snmp_handles.specs.Faults.{IsStatusCode};
 
-use snmp_msg::{RefusedAt};
 use crate::numbers::{access_of, unhandled_number};
 use snmp_agent::{Unhandled, status_of};
 use snmp_manager::Answer;
+use snmp_msg::Refusal;
 use vacm_core::Access;
 
 /// Why a call of a handle isn't done.
 #[derive(Clone, Copy, Debug, PartialEq, Eq)]
 pub enum CallFault {
     /// The engine refuses the message that was taken, or that was to be written; want of memory is one of its refusals.
-    Refused(RefusedAt),
+    Refused(Refusal),
     /// An argument is outside of its range.
     BadArgument,
     /// No accepted message is kept.
@@ -38,7 +38,7 @@ impl CallFault {
         ensures { result ≡ fault_code self }
     {
         match self {
-            CallFault::Refused(fault) => i32::from(fault.number()),
+            CallFault::Refused(refusal) => i32::from(refusal.number()),
             CallFault::BadArgument => -1,
             CallFault::NothingTaken => -2,
             CallFault::NotAsked => -3,

@@ -19,6 +19,7 @@ use crate::parts::{Part, copied_message, copied_part, numbers_of};
 use engine_clock::{ClockFault, Clocks, EngineId, Pair};
 use snmp_incoming::Kept;
 use snmp_manager::{Answer, Manager, Pending, answer_of};
+use snmp_msg::Refusal;
 use snmp_outgoing::Front;
 use snmpsec_config::{Config, ConfigFault};
 use std::alloc::Global;
@@ -100,7 +101,7 @@ fn request(
     let AskedInRange { of, engine, level } = asked;
     let level = *level;
     if let Err(fault) = manager.supports(of.user, level) {
-        return Err(CallFault::Refused(fault));
+        return Err(CallFault::Refused(fault.refusal));
     }
     let bindings = bindings_of(alloc, list)?;
     let front = Front {
@@ -113,7 +114,7 @@ fn request(
     };
     match manager.request_of(now, of.id, engine, of.user, level, &front, &bindings, salt) {
         Ok(sent) => Ok(sent),
-        Err(fault) => Err(CallFault::Refused(fault)),
+        Err(fault) => Err(CallFault::Refused(fault.refusal)),
     }
 }
 
@@ -134,7 +135,7 @@ impl ManagerHandle {
             Ok(clocks) => clocks,
             Err(ClockFault::Line(_)) => return Err(CallFault::BadClocks),
             Err(ClockFault::OutOfMemory) => {
-                return Err(CallFault::Refused(TakeFault::OutOfMemory));
+                return Err(CallFault::Refused(Refusal::OutOfMemory));
             }
         };
         match Config::read(alloc, config) {
@@ -145,7 +146,7 @@ impl ManagerHandle {
                 message: None,
                 pending: None,
             }),
-            Err(ConfigFault::OutOfMemory) => Err(CallFault::Refused(TakeFault::OutOfMemory)),
+            Err(ConfigFault::OutOfMemory) => Err(CallFault::Refused(Refusal::OutOfMemory)),
             Err(_) => Err(CallFault::BadConfiguration),
         }
     }
@@ -156,7 +157,7 @@ impl ManagerHandle {
     {
         let users: Vec<UserRow> = Vec::new(self.alloc);
         let Ok(users) = Users::load(self.alloc, &users) else {
-            return Err(CallFault::Refused(TakeFault::OutOfMemory));
+            return Err(CallFault::Refused(Refusal::OutOfMemory));
         };
         self.manager = Manager::new(self.alloc, users, Clocks::new(self.alloc));
         self.last = None;
@@ -173,7 +174,7 @@ impl ManagerHandle {
     pub fn take(&mut self, now: u64, datagram: &[u8]) -> Result<(), CallFault>
         ensures takes { ManagerTakes self.old now datagram.now result self.new }
         ensures no_memory { TakesNoMemory self.old.manager now datagram.now
-            → result ≢ Err (CallFault.Refused RefusedAt.OutOfMemory) }
+            → result ≢ Err (CallFault.Refused Refusal.OutOfMemory) }
     {
         self.last = None;
         self.message = None;
@@ -182,7 +183,7 @@ impl ManagerHandle {
                 self.last = Some(kept);
                 Ok(())
             }
-            Err(fault) => Err(CallFault::Refused(fault)),
+            Err(fault) => Err(CallFault::Refused(fault.refusal)),
         }
     }
 
@@ -241,7 +242,7 @@ impl ManagerHandle {
                 self.pending = Some(pending);
                 Ok(())
             }
-            Err(_) => Err(CallFault::Refused(TakeFault::OutOfMemory)),
+            Err(_) => Err(CallFault::Refused(Refusal::OutOfMemory)),
         }
     }
 
@@ -254,12 +255,12 @@ impl ManagerHandle {
             Ok(clocks) => clocks,
             Err(ClockFault::Line(_)) => return Err(CallFault::BadClocks),
             Err(ClockFault::OutOfMemory) => {
-                return Err(CallFault::Refused(TakeFault::OutOfMemory));
+                return Err(CallFault::Refused(Refusal::OutOfMemory));
             }
         };
         match self.manager.absorb(&clocks) {
             Ok(()) => Ok(()),
-            Err(_) => Err(CallFault::Refused(TakeFault::OutOfMemory)),
+            Err(_) => Err(CallFault::Refused(Refusal::OutOfMemory)),
         }
     }
 
@@ -272,7 +273,7 @@ impl ManagerHandle {
                 self.message = Some(text);
                 Ok(())
             }
-            Err(_) => Err(CallFault::Refused(TakeFault::OutOfMemory)),
+            Err(_) => Err(CallFault::Refused(Refusal::OutOfMemory)),
         }
     }
 

@@ -1,33 +1,23 @@
 -- Rows of the table, for the function that opens a message.
-use Rattle.snmp_message.specs.Numbers.{in_table}
-use Rattle.usm_core.specs.Table.{refusal_answer}
-use Rattle.snmp_message.specs.declared.refusal.Refusal.TheVariants.{DecryptionError}
+use Rattle.usm_core.specs.Table.{refused, refusal_answer}
+use Rattle.snmp_message.specs.declared.refusal.Refusal.TheVariants.{DecryptionError, OutOfMemory}
+use Rattle.snmp_message.specs.declared.refusal.Refusal.{Refusal}
 use Rattle.std.proofs.Common.{◌≡◌, ℕ, List, Option, Some, None, sym, subst}
 use Rattle.std.specs.Prelude.{◌≢◌, Result, Ok, Err, IfOk, IfSome, IsSomeAnd}
 use Rattle.usm_users.specs.User.{User}
 use Rattle.snmp_message.specs.declared.refused_at.RefusedAt.{RefusedAt}
-use Rattle.snmp_message.specs.declared.refusal.Refusal.TheVariants as usm
-use Rattle.usm_core.specs.Refusals.{number_of}
 use Rattle.usm_core.specs.Table.{holds, fails, gives, refuses}
 use Rattle.usm_core.specs.Verified.{Verified, Verifies, manager}
 use Rattle.snmp_incoming.specs.Outcome.{Given, ReadsText}
-use Rattle.snmp_incoming.specs.Answers as outcome
 use Rattle.snmp_incoming.specs.Answers.{IsOpening}
-use Rattle.snmp_incoming.proofs.Rows.{same_refused}
+use Rattle.snmp_incoming.proofs.Rows.{is_in_table}
 use Rattle.snmp_incoming.specs.Texts.{FrontOf, PduOf}
-use Rattle.snmpsec_output.specs.Opening.{opened_lines, TellsText, Opens, refused}
-
--- what is told as a refusal has its number
-told_number : (o : Option ℕ) (n : ℕ) → outcome.refused o ≡ Some (Err n) → o ≡ Some n
-told_number None n e = cc
-told_number (Some m) n e = cc
+use Rattle.snmpsec_output.specs.Opening.{opened_lines, TellsText, Opens}
 
 -- refused down to the digest
-pub opens_refused : (users : List User) (w : List ℕ) (fault : RefusedAt) (e : RefusedAt) → fault ≢ usm.OutOfMemory → IsSameRefusal fault e → Verifies manager users w (Err (fault.refusal))
-    → IfSome (refusal_answer e.refusal) (Opens users w)
+pub opens_refused : (users : List User) (w : List ℕ) (r : Refusal) → r ≢ OutOfMemory → Verifies manager users w (Err r) → IfSome (refusal_answer r) (Opens users w)
 unfolding Opens
-opens_refused users w fault e h same rows =
-    subst (λ (o : Option ℕ). IfSome (refused o) (Opens users w)) (sym (told_number (in_table e.refusal) (fault.refusal) (same_refused fault e h same))) (refuses (fault.refusal) rows)
+opens_refused users w r other rows = subst (λ (o : Option Refusal). IfSome (refused o) (Opens users w)) (sym (is_in_table r other)) (refuses r rows)
 
 module _ (users : List User) (w : List ℕ) (v : Verified) (rows : Verifies manager users w (Ok v)) where
   -- the salt doesn't have 8 octets
@@ -37,7 +27,7 @@ module _ (users : List User) (w : List ℕ) (v : Verified) (rows : Verifies mana
 
   module _ (text : List ℕ) (opening : IsOpening users w v (Some text)) where
     -- the text has no PDU
-    pub opens_unread : (o : Option ℕ) → IsSomeAnd (outcome.refused o) (ReadsText v text) → IfSome (refused o) (Opens users w)
+    pub opens_unread : (o : Option Refusal) → IsSomeAnd (refused {X = Given} o) (ReadsText v text) → IfSome (refused o) (Opens users w)
     unfolding Opens
     opens_unread None read = tt
     opens_unread (Some n) read = gives v rows (holds opening.0 (refuses n (text, opening.1, read)))

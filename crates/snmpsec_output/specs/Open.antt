@@ -5,12 +5,11 @@
 -- answers.
 use Rattle.std.specs.Prelude.{◌≡◌, ◌⊎◌, ℕ, List, [], Ok, Err}
 use Rattle.hex.specs.Hex.{decode_of}
-use Rattle.snmp_message.specs.Numbers.{refusal_number}
 use Rattle.usm_users.specs.User.{User}
 use Rattle.vacm_core.specs.Tables.{Tables}
 use Rattle.snmpsec_config.specs.Refusals.{Loads}
 use Rattle.snmpsec_output.specs.Opening.{Opens}
-use Rattle.snmpsec_output.specs.declared.refused.RefusedAt.{RefusedAt as ARefused}
+use Rattle.snmp_message.specs.declared.refused_at.RefusedAt.{RefusedAt}
 use Rattle.snmpsec_output.specs.Refusals.{refused_line}
 use Rattle.snmpsec_output.specs.Show.{TellsNoHex}
 use Rattle.snmpsec_output.specs.Questions.{Printed, TellsRefused}
@@ -23,8 +22,8 @@ pub record Opened (users : List User) (w : List ℕ) (printed : Printed) : Type 
 
 -- The refusal of the message is told, at whatever place of it.
 pub record RefusesOpening (users : List User) (w : List ℕ) (printed : Printed) : Type 0 where
-  pub told : ARefused
-  pub cause : Opens users w (Err (refusal_number told.refusal))
+  pub told : RefusedAt
+  pub cause : Opens users w (Err told.refusal)
   pub out : printed.out ≡ refused_line told
   pub err : printed.err ≡ []
   pub status : printed.status ≡ 1

@@ -33,7 +33,7 @@ TellsText v text lines = (s : FrontOf text) × (p : PduOf s.contexts.pdu) × (li
 -- No refusal comes where a text was given.
 abbrev pub Tells : Verified → List ℕ → Result (List ℕ) Refusal → Type 0
 Tells v text (Ok lines) = TellsText v text lines
-Tells v text (Err n) = ⊥
+Tells v text (Err refusal) = ⊥
 
 -- The table of a manager without its time window (RFC 3412, section 7.2, and RFC 3414, section 3.2): the
 -- refusals down to the digest, the row on the salt, and those on the ScopedPDU that the message was opened
@@ -46,11 +46,7 @@ Opens users w =
 
 -- ---- the answer of the code
 
-abbrev pub refused : Option ℕ → Option (Result (List ℕ) Refusal)
-refused None = None
-refused (Some n) = Some (Err n)
-
--- None for want of memory, which is no answer of the table
+-- None for out of memory, which is no answer of the table
 abbrev pub lines_answer : {Z : Type 0} → Result (String Z) RefusedAt → Option (Result (List ℕ) Refusal)
 lines_answer (Ok text) = Some (Ok (string_bytes text))
-lines_answer (Err fault) = refusal_answer fault.refusal
+lines_answer (Err e) = refusal_answer e.refusal

@@ -1,20 +1,7 @@
--- Refusals, as the program prints them, and those of the codec and of a manager among them.
+-- Refusals, as the program prints them.
 use Rattle.std.specs.Prelude.{ℕ, List, ◌++◌, codes, decimal, Option, Some, None}
-use Rattle.snmp_message.specs.declared.refused_at.RefusedAt.{RefusedAt}
-use Rattle.snmp_message.specs.declared.refusal.Refusal.{Refusal}
 use Rattle.snmp_message.specs.Numbers.{refusal_number, refusal_name}
-use Rattle.snmp_message.specs.Refusals.{msg_refusal, place_of}
-use Rattle.snmpsec_output.specs.declared.refused.RefusedAt.{RefusedAt}
-
--- a refusal without a place
-abbrev pub plain_refused : Refusal → RefusedAt
-plain_refused refusal = record { refusal = refusal; at = None }
-
-abbrev pub msg_refused : RefusedAt → RefusedAt
-msg_refused fault = record { refusal = msg_refusal fault; at = fault.at }
-
-abbrev pub take_refused : RefusedAt → RefusedAt
-take_refused fault = record { refusal = fault.refusal; at = fault.at }
+use Rattle.snmp_message.specs.declared.refused_at.RefusedAt.{RefusedAt}
 
 -- " at PLACE", where there is one
 abbrev pub place_text : Option ℕ → List ℕ

@@ -1,7 +1,7 @@
 -- What `snmpsec show` prints, and why it refuses a datagram.
 --
 -- `Show`: the text is the lines of all layers, and of the canonical spelling. `Merge`: what is printed for
--- files of saved clocks. `Refusals`: the faults of the codec and of a manager as the program's.
+-- files of saved clocks. `Refusals`: refusals as the program prints them.
 use Rattle.std.specs.Prelude.{◌≡◌, ◌≢◌, ⊤, true, false, ℕ, ◌<◌, ◌⊎◌, List, [], ◌++◌, length, codes, Ok, IsErr}
 use Rattle.snmp_message.specs.declared.header.TheConstants.{USER_BASED}
 use Rattle.snmp_message.specs.declared.message.TheConstants.{LARGEST}
@@ -15,10 +15,9 @@ use Rattle.snmp_msg.specs.declared.whole.Layer.{Layer}
 use Rattle.snmp_msg.specs.declared.whole.Layer.TheVariants as layers
 use Rattle.snmpsec_output.specs.Lines.{octets_line, message_lines, scoped_lines}
 use Rattle.snmp_msg.specs.Refusals.{RefusesWhole}
-use Rattle.snmp_message.specs.declared.refusal.Refusal.TheVariants as faults
 use Rattle.snmp_message.specs.declared.refusal.Refusal.{Refusal}
 use Rattle.snmp_message.specs.declared.refusal.Refusal.TheVariants as refusals
-use Rattle.snmpsec_output.specs.declared.refused.RefusedAt.{RefusedAt as ARefused}
+use Rattle.snmp_message.specs.declared.refused_at.RefusedAt.{RefusedAt}
 use Rattle.snmpsec_output.specs.Refusals.{refused_line}
 use Rattle.snmpsec_output.specs.Questions.{Printed}
 
@@ -47,18 +46,13 @@ pub record Shows (datagram text : List ℕ) : Type 0 where
   pub says : Says datagram (whole_of layers)
   pub lines : text ≡ shown_text layers
 
--- The refusal is why the datagram isn't shown, at whatever place of it.
+-- The refusal is why the datagram isn't shown.
 abbrev pub RefusesShow : List ℕ → Refusal → Type 0
-RefusesShow w refusals.NotMessage = (at : ℕ) × RefusesWhole w (faults.NotMessage at)
-RefusesShow w refusals.BadVersion = RefusesWhole w faults.BadVersion
-RefusesShow w refusals.NotSecurity = (at : ℕ) × RefusesWhole w (faults.NotSecurity at)
-RefusesShow w refusals.NotScoped = (at : ℕ) × RefusesWhole w (faults.NotScoped at)
-RefusesShow w refusals.NotPdu = (at : ℕ) × RefusesWhole w (faults.NotPdu at)
 RefusesShow w refusals.UnknownModel = (m : Parts) × Outer w m × (m.header.model ≢ USER_BASED)
 RefusesShow w refusals.InvalidFlags = (m : Parts) × Outer w m × (m.header.privacy ≡ true) × (m.header.auth ≡ false)
 RefusesShow w refusals.TooLarge = (c : List ℕ) × IsCanonical w c × (LARGEST < length c)
 RefusesShow w refusals.OutOfMemory = ⊤
-RefusesShow w _ = ⊥
+RefusesShow w refusal = RefusesWhole w refusal
 
 -- The word isn't one or more pairs of hex digits.
 abbrev pub IsNoHex : List ℕ → Type 0
@@ -72,9 +66,9 @@ pub record Shown (w : List ℕ) (printed : Printed) : Type 0 where
   pub err : printed.err ≡ []
   pub status : printed.status ≡ 0
 
--- Why the datagram isn't shown is told, and this isn't want of memory.
+-- Why the datagram isn't shown is told, and this isn't out of memory.
 pub record TellsRefusal (w : List ℕ) (printed : Printed) : Type 0 where
-  pub told : ARefused
+  pub told : RefusedAt
   pub cause : RefusesShow w told.refusal
   pub no_memory : told.refusal ≢ refusals.OutOfMemory
   pub out : printed.out ≡ refused_line told

@@ -29,7 +29,7 @@ mod merge;
 mod open;
 mod opened;
 mod output;
-mod refused;
+mod refusal_text;
 mod sees;
 mod show;
 mod steps;

@@ -6,7 +6,6 @@ ghost use Rattle.snmpsec_output.specs.Open.{OpensBy, OpensText};
 
 use crate::opened::opened_lines;
 use crate::output::Output;
-use crate::refused::RefusedAt;
 use crate::show::{datagram_of, refused_output};
 use snmpsec_config::Config;
 use std::alloc::{AllocError, Global};
@@ -54,6 +53,6 @@ pub fn open_datagram(
 {
     match opened_lines(alloc, users, datagram) {
         Ok(lines) => Ok(Output::out(alloc, lines.into_bytes(), 0)),
-        Err(fault) => refused_output(alloc, RefusedAt::from(fault)),
+        Err(fault) => refused_output(alloc, fault),
     }
 }

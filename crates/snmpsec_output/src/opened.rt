@@ -27,17 +27,13 @@ pub fn opened_lines(alloc: Global, users: &mut Users, datagram: &[u8]) -> Result
     let Some(engine) = EngineId::of(checked.security.engine) else {
         unreachable!();
     };
-    let Ok(opening) = scoped_octets(users, datagram, &checked) else {
-        return Err(RefusedAt::plain(Refusal::OutOfMemory));
-    };
+    let opening = scoped_octets(users, datagram, &checked)?;
     let Some(text) = opening else {
         return Err(RefusedAt::plain(Refusal::DecryptionError));
     };
     let taken = read_text(&checked, engine, text)?;
-    match taken_lines(alloc, &checked, &taken) {
-        Ok(lines) => Ok(lines),
-        Err(_) => Err(RefusedAt::plain(Refusal::OutOfMemory)),
-    }
+    let lines = taken_lines(alloc, &checked, &taken)?;
+    Ok(lines)
 }
 
 /// The lines of a message that was checked and taken.

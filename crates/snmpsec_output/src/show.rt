@@ -12,9 +12,9 @@ ghost use Rattle.snmpsec_output.specs.Refusals.{refused_line};
 
 use crate::lines::{message_lines, octets_line, scoped_lines};
 use crate::output::Output;
-use crate::refused::RefusedAt;
+use crate::refusal_text::RefusalText;
 use hex::FromHexError;
-use snmp_msg::{Layer, Layers, Refusal, USER_BASED, read_layers, read_message, write_layers};
+use snmp_msg::{Layer, Layers, Refusal, RefusedAt, USER_BASED, read_layers, read_message, write_layers};
 use std::alloc::{AllocError, Global};
 
 /// The lines of msgData: sealed octets, or the contexts and the PDU.
@@ -132,6 +132,7 @@ pub(crate) fn refused_output(alloc: Global, refused: RefusedAt) -> Result<Output
     if refused.refusal == Refusal::OutOfMemory {
         return Err(AllocError);
     }
-    let line = format!(in alloc; "{refused}\n")?;
+    let text = RefusalText { refused };
+    let line = format!(in alloc; "{text}\n")?;
     Ok(Output::out(alloc, line.into_bytes(), 1))
 }

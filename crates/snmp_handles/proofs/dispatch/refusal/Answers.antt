@@ -10,8 +10,6 @@ use Rattle.snmp_agent.specs.Agent.{AgentState}
 use Rattle.snmp_agent.specs.Dispatch.{Refuses, RefusalCanBeSent}
 use Rattle.snmp_agent.specs.Report.{report_of}
 use Rattle.snmp_handles.specs.Dispatch.{Reports, report_refusal}
-use Rattle.snmp_message.specs.declared.refusal.Refusal.TheVariants.{OutOfMemory}
-use Rattle.snmp_outgoing.proofs.Refusing.{err_is}
 use Rattle.snmp_handles.proofs.Told.{if_told}
 use Rattle.snmp_handles.proofs.dispatch.refusal.Goals as goal
 
@@ -27,7 +25,7 @@ returns-in-Ok-clause-answer c =
 
 pub returns-clause-answer : goal.returns-clause-answer
 returns-clause-answer c =
-    let refused = report_refusal c.in-Err.unsent in
+    let refused = report_refusal c.in-Err.unsent.refusal in
     let R : Given → AgentState → Type 0 = λ g new. (k : Contexts) (p : PduParts) → ScopedFront g.text k → PduText k.pdu p → IfSome refused (λ answer. Refuses c.args.agent.now c.args.now g p c.args.why c.args.salt answer new) in
     let rows : R (given_of c.taken-taken.result) c.refuse.new.self = c.in-Err.ensures.answer in
     let same : c.refuse.new.self ≡ c.args.agent.now = c.in-Err.ensures.err in
@@ -35,5 +33,5 @@ returns-clause-answer c =
       if_told refused (λ a. Reports c.args.agent.now c.args.now c.args.kept.now c.args.why c.args.salt a c.args.agent.now)
           (λ a is. λ k p f q. subst (λ (o : Option (Result (Option (List ℕ)) Refusal)). IfSome o (λ answer. Refuses c.args.agent.now c.args.now c.args.kept.now p c.args.why c.args.salt answer c.args.agent.now)) is (of_kept k p f q)),
       λ is. subst (λ (g : Given). (k : Contexts) (p : PduParts) → ScopedFront g.text k → PduText k.pdu p → RefusalCanBeSent c.args.agent.now c.args.now g p c.args.why c.args.salt) c.taken-taken.ensures
-          (λ k p f q. c.in-Err.ensures.memory k p f q (err_is c.in-Err.unsent OutOfMemory is)),
+          (λ k p f q. c.in-Err.ensures.memory k p f q is),
     )

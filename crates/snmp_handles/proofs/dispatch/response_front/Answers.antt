@@ -1,5 +1,6 @@
+use Rattle.usm_core.specs.Table.{refusal_answer}
 use Rattle.snmp_message.specs.declared.refusal.Refusal.{Refusal}
-use Rattle.std.proofs.Common.{◌≡◌, ℕ, pos, List, Option, Result, Ok, Err, inr, true, map, subst, ap, rules, w32, to_z}
+use Rattle.std.proofs.Common.{◌≡◌, pos, List, Option, Result, Ok, inr, true, map, subst, ap, rules, w32, to_z}
 use Rattle.std.specs.Prelude.{IfSome}
 use Rattle.snmp_message.specs.Scoped.{Contexts, ScopedFront}
 use Rattle.snmp_msg.specs.Pdu.{PduParts, PduText}
@@ -8,7 +9,7 @@ use Rattle.snmp_msg.specs.declared.variable.VariableBinding.{VariableBinding}
 use Rattle.snmp_incoming.specs.Outcome.{Given}
 use Rattle.snmp_incoming.specs.Answers.{given_of}
 use Rattle.snmp_outgoing.specs.Classes.{is_confirmed}
-use Rattle.snmp_outgoing.specs.Fronts.{FrontText, front_answer}
+use Rattle.snmp_outgoing.specs.Fronts.{FrontText}
 use Rattle.snmp_agent.specs.Responses.{responding}
 use Rattle.snmp_agent.specs.Sent.{SendsFront, CanSendAt}
 use Rattle.snmp_handles.specs.Dispatch.{RespondsFront}
@@ -34,7 +35,7 @@ returns-clause-answer c =
     let index : to_z w32 c.args.reply.now.index ≡ pos c.args.reply.now.index = search rules in
     let vs : List Variable = map bound_variable c.in_ok-bindings.bindings.items in
     let lent : map bound_variable c.deref.result.now ≡ vs = ap (λ (bs : List VariableBinding). map bound_variable bs) c.deref.ensures.value in
-    let refusal : Option (Result FrontText Refusal) = front_answer (Err c.in-Err.fault) in
+    let refusal : Option (Result FrontText Refusal) = refusal_answer c.in-Err.fault.refusal in
     let R : Given → List Variable → Type 0 = λ g xs. (k : Contexts) (p : PduParts) → ScopedFront g.text k → PduText k.pdu p → IfSome refusal (SendsFront c.args.agent.now c.args.now c.args.limit (λ own ys. responding c.args.agent.now.engine own g k p (pos c.args.reply.now.status) (pos c.args.reply.now.index) ys c.args.reply.now.salt) xs) in
     let rows : R (given_of c.taken-taken.result) (map bound_variable c.deref.result.now) = rw (status, index) at c.in-Err.ensures.answer in
     let can : CanSendAt c.args.agent.now c.args.now c.args.kept.now.user c.args.kept.now.level = search rules in

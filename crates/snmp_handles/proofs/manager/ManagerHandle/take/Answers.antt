@@ -2,7 +2,7 @@ use Rattle.usm_core.specs.Table.{refusal_answer}
 use Rattle.std.proofs.Common.{◌≡◌, ℕ, List, Option, Some, None, Ok, refl, subst}
 use Rattle.std.specs.Prelude.{IsSome}
 use Rattle.snmp_incoming.specs.Outcome.{Given}
-use Rattle.snmp_message.specs.declared.refused_at.RefusedAt.{RefusedAt}
+use Rattle.snmp_message.specs.declared.refusal.Refusal.{Refusal}
 use Rattle.snmp_message.specs.declared.refusal.Refusal.TheVariants.{OutOfMemory}
 use Rattle.snmp_manager.specs.Takes as manager
 use Rattle.snmp_handles.specs.Managers.{ManagerHeld}
@@ -20,6 +20,6 @@ pub returns-in-Err-clause-no_memory : goal.returns-in-Err-clause-no_memory
 returns-in-Err-clause-no_memory c =
     rw (← c.self.view_is) (λ t e.
     let some = c.in-Err.ensures.no_memory t in
-    let is : c.in-Err.fault ≡ OutOfMemory = cc e in
-    let wrong = subst (λ (f : RefusedAt). IsSome (refusal_answer f.refusal)) is some in
+    let is : c.in-Err.fault.refusal ≡ OutOfMemory = cc e in
+    let wrong = subst (λ (r : Refusal). IsSome (refusal_answer {X = Given} r)) is some in
     cc wrong)
