@@ -7,11 +7,11 @@ ghost use Rattle.snmp_handles.specs.Agents.{AgentHeld};
 ghost use Rattle.snmp_c.specs.Calls.{Makes, ClearsAgent, Takes, Allows, May, Counter, RespondsTo, Notifies};
 ghost use Rattle.snmp_c.specs.Calls.{TellsPart, TellsMessage, TellsNumbers};
 
-use snmp_msg::{Refusal};
 use crate::agent_calls::{
     allows, clear, counter, may, message, notify, numbers, part, respond, take,
 };
 use snmp_handles::{AgentHandle, CallFault};
+use snmp_msg::Refusal;
 use std::alloc::Global;
 
 /// Makes an agent of this configuration, in TOML, with this engine ID and these boots, which started at the

@@ -7,11 +7,11 @@ ghost use Rattle.snmp_handles.specs.Managers.{ManagerHeld};
 ghost use Rattle.snmp_c.specs.ManagerCalls.{MakesAManager, Clears, ManagerTook, Answered, Requested, Discovered};
 ghost use Rattle.snmp_c.specs.ManagerCalls.{Absorbed, Saved, ToldPair, ManagerPart, ManagerMessage, ManagerNumbers};
 
-use snmp_msg::{Refusal};
 use crate::manager_calls::{
     absorb, answer, clear, discover, message, numbers, pair, part, request, save, take,
 };
 use snmp_handles::{CallFault, ManagerHandle};
+use snmp_msg::Refusal;
 use std::alloc::Global;
 
 /// Makes a manager with the users of this configuration, in TOML, that begins with the clocks of this saved

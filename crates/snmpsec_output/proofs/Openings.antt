@@ -5,7 +5,6 @@ use Rattle.snmp_message.specs.declared.refusal.Refusal.{Refusal}
 use Rattle.std.proofs.Common.{◌≡◌, ℕ, List, Option, Some, None, sym, subst}
 use Rattle.std.specs.Prelude.{◌≢◌, Result, Ok, Err, IfOk, IfSome, IsSomeAnd}
 use Rattle.usm_users.specs.User.{User}
-use Rattle.snmp_message.specs.declared.refused_at.RefusedAt.{RefusedAt}
 use Rattle.usm_core.specs.Table.{holds, fails, gives, refuses}
 use Rattle.usm_core.specs.Verified.{Verified, Verifies, manager}
 use Rattle.snmp_incoming.specs.Outcome.{Given, ReadsText}

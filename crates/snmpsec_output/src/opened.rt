@@ -5,10 +5,10 @@ ghost use Rattle.usm_core.specs.Answers.{verified_of};
 ghost use Rattle.snmp_incoming.specs.Texts.{text_of};
 ghost use Rattle.snmpsec_output.specs.Opening.{TellsText, Opens, lines_answer};
 
-use snmp_msg::{Refusal, RefusedAt};
 use crate::lines::{message_lines, scoped_lines};
 use engine_clock::EngineId;
 use snmp_incoming::{Taken, read_text, scoped_octets};
+use snmp_msg::{Refusal, RefusedAt};
 use snmpsec_config::level_word;
 use std::alloc::{AllocError, Global};
 use usm_core::{Checked, Role, Users};

@@ -7,6 +7,7 @@ use snmp_msg::RefusedAt;
 use std::fmt;
 
 /// The text of a refusal: its number and name, and its place where it has one, in octets from 0.
+#[derive(Drop)]
 pub(crate) struct RefusalText {
     pub(crate) refused: RefusedAt,
 }

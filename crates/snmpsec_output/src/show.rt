@@ -14,7 +14,9 @@ use crate::lines::{message_lines, octets_line, scoped_lines};
 use crate::output::Output;
 use crate::refusal_text::RefusalText;
 use hex::FromHexError;
-use snmp_msg::{Layer, Layers, Refusal, RefusedAt, USER_BASED, read_layers, read_message, write_layers};
+use snmp_msg::{
+    Layer, Layers, Refusal, RefusedAt, USER_BASED, read_layers, read_message, write_layers,
+};
 use std::alloc::{AllocError, Global};
 
 /// The lines of msgData: sealed octets, or the contexts and the PDU.
