@@ -8,6 +8,7 @@
 -- `StopsBy`. What was read, taken and written where a replay stops with a fault. `IsBad`: what comes next
 -- is no line of this number. `WriteFails`: of what answers the lines that were read a front was written,
 -- and not all.
+use Rattle.snmp_message.specs.Numbers.{refusal_number, refusal_name}
 use Rattle.std.specs.Prelude.{◌≡◌, ◌⊎◌, if◌then◌else◌, Bool, true, ℕ, ◌+◌, ◌<◌, List, [], ◌∷◌, ◌++◌, length, codes}
 use Rattle.std.specs.Prelude.{Option, Some, decimal}
 use Rattle.std.specs.Io.KnownBytes.{Appends, Consumes, IsAtEnd, Keeps}
@@ -33,7 +34,7 @@ use Rattle.snmpsec_replay.specs.declared.replay.Step.TheVariants as step
 
 abbrev pub outcome_text : Outcome → List ℕ
 outcome_text (Accepted level tag) = codes "accepted " ++ (level_word level ++ (codes " " ++ encode_lower (tag ∷ [])))
-outcome_text (Refused why) = codes "refused " ++ (decimal (why.refusal) ++ (codes " " ++ name_of why))
+outcome_text (Refused why) = codes "refused " ++ (decimal (refusal_number why.refusal) ++ (codes " " ++ refusal_name why.refusal))
 
 -- the line for the datagram of line n
 unfoldable pub answer_line : ℕ → ℕ → Outcome → List ℕ

@@ -3,6 +3,7 @@
 use super::users::{ENGINE, own, users_after_refusal};
 use snmp_ber::Level;
 use snmp_engine::*;
+use snmp_msg::{Refusal, RefusedAt};
 use std::alloc::{AllocError, Global};
 use std::process::Abort;
 use std::test::Fail;
@@ -12,7 +13,7 @@ use vacm_core::{Rows, Vacm, VacmFault};
 const SALT: [u8; 8] = [0, 1, 2, 3, 4, 5, 6, 7];
 
 /// What an agent accepts, or why it refuses it.
-fn accepted<'a>(agent: &mut Agent, now: u64, datagram: &'a [u8]) -> Result<Taken<'a>, TakeFault> {
+fn accepted<'a>(agent: &mut Agent, now: u64, datagram: &'a [u8]) -> Result<Taken<'a>, RefusedAt> {
     match agent.take(now, datagram) {
         Ok(taken) => Ok(taken),
         Err(refused) => Err(refused.why),
@@ -63,7 +64,7 @@ fn octets_after_refusal(alloc: Global, hex: &str) -> Result<Vec<u8>, Fail> {
 }
 
 /// Why an agent refuses a datagram, or None where it accepts it, and whether there is a report.
-fn refused(agent: &mut Agent, now: u64, datagram: &[u8]) -> (Option<TakeFault>, bool) {
+fn refused(agent: &mut Agent, now: u64, datagram: &[u8]) -> (Option<RefusedAt>, bool) {
     match agent.take(now, datagram) {
         Ok(_) => (None, false),
         Err(refused) => (Some(refused.why), refused.report.is_some()),
@@ -73,11 +74,11 @@ fn refused(agent: &mut Agent, now: u64, datagram: &[u8]) -> (Option<TakeFault>, 
 /// The agent reports on the discovery and counts it, and does neither where memory is wanting.
 fn assert_reported(rt: &impl Abort, agent: &mut Agent, discovery: &[u8]) {
     let mut answer = refused(agent, 1000, discovery);
-    if answer.0 == Some(TakeFault::OutOfMemory) {
+    if answer.0 == Some(RefusedAt::plain(Refusal::OutOfMemory)) {
         assert!(rt; !answer.1 && counters(agent) == [0; 6].map(Some));
         answer = refused(agent, 1000, discovery);
     }
-    assert!(rt; answer == (Some(TakeFault::UnknownEngine), true));
+    assert!(rt; answer == (Some(RefusedAt::plain(Refusal::UnknownEngine)), true));
     assert!(rt; counters(agent) == [0, 0, 0, 1, 0, 0].map(Some));
 }
 
@@ -106,15 +107,15 @@ fn decided(agent: &Agent, taken: &Taken<'_>) -> Result<usize, AllocError> {
 }
 
 /// A Response without bindings, asked for again where a growth was refused.
-fn response(agent: &mut Agent, taken: &Taken<'_>) -> Result<Vec<u8>, TakeFault> {
+fn response(agent: &mut Agent, taken: &Taken<'_>) -> Result<Vec<u8>, RefusedAt> {
     match agent.respond(1000, taken, 0, 0, &[], SALT) {
-        Err(TakeFault::OutOfMemory) => agent.respond(1000, taken, 0, 0, &[], SALT),
+        Err(refused) if refused.is_memory() => agent.respond(1000, taken, 0, 0, &[], SALT),
         answer => answer,
     }
 }
 
 /// A trap without bindings, asked for again where a growth was refused.
-fn trap(agent: &mut Agent) -> Result<Vec<u8>, TakeFault> {
+fn trap(agent: &mut Agent) -> Result<Vec<u8>, RefusedAt> {
     let body = Body {
         context_engine: &ENGINE,
         context_name: b"",
@@ -125,7 +126,7 @@ fn trap(agent: &mut Agent) -> Result<Vec<u8>, TakeFault> {
         bindings: &[],
     };
     match agent.notify(1000, 5, b"ann", Level::AuthPriv, &body, SALT) {
-        Err(TakeFault::OutOfMemory) => {
+        Err(refused) if refused.is_memory() => {
             agent.notify(1000, 5, b"ann", Level::AuthPriv, &body, SALT)
         }
         answer => answer,

@@ -4,7 +4,7 @@ ghost use Rattle.std.specs.Prelude.{◌≡◌, All, length, IfOk};
 ghost use Rattle.snmp_ber.specs.Element.{IsTag};
 ghost use Rattle.snmp_msg.specs.Variables.{CanBeWritten, variable_of};
 
-use snmp_msg::*;
+use snmp_msg::{Refusal, RefusedAt, *};
 use std::alloc::{AllocError, Global};
 use std::test::Fail;
 
@@ -48,7 +48,7 @@ fn a_refused_growth_writes_no_binding(rt: HostRuntime) -> Result<(), Fail> {
         Err(_) => collected(rt.alloc(), &pdu)?,
     };
     let written = match write_pdu(rt.alloc(), 0xA0, 2, 0, 0, &bindings) {
-        Err(WriteFault::OutOfMemory) => write_pdu(rt.alloc(), 0xA0, 2, 0, 0, &bindings)?,
+        Err(refused) if refused.is_memory() => write_pdu(rt.alloc(), 0xA0, 2, 0, 0, &bindings)?,
         other => other?,
     };
     assert_eq!(rt; written.as_slice(), &get_request()[72..]);
@@ -79,7 +79,7 @@ fn a_refused_growth_writes_no_binding_in_octets(rt: HostRuntime) -> Result<(), F
         Err(_) => collected_in_octets(rt.alloc(), &pdu)?,
     };
     let written = match write_pdu_of(rt.alloc(), 0xA0, 2, 0, 0, &bindings) {
-        Err(WriteFault::OutOfMemory) => write_pdu_of(rt.alloc(), 0xA0, 2, 0, 0, &bindings)?,
+        Err(refused) if refused.is_memory() => write_pdu_of(rt.alloc(), 0xA0, 2, 0, 0, &bindings)?,
         other => other?,
     };
     assert_eq!(rt; written.as_slice(), &get_request()[72..]);

@@ -3,7 +3,7 @@
 ghost use Rattle.std.specs.Prelude.{◌≤◌, length};
 
 use snmp_ber::*;
-use snmp_msg::{CanonFault, canonical};
+use snmp_msg::{Refusal, RefusedAt, canonical};
 use std::alloc::AllocError;
 use std::process::Abort;
 use std::test::Fail;
@@ -80,7 +80,7 @@ const DISCOVERY: [u8; 58] = [
 #[test]
 fn a_refused_growth_gives_no_other_spelling(rt: HostRuntime) -> Result<(), Fail> {
     let spelled = match canonical(rt.alloc(), &DISCOVERY) {
-        Err(CanonFault::OutOfMemory) => canonical(rt.alloc(), &DISCOVERY)?,
+        Err(refused) if refused.is_memory() => canonical(rt.alloc(), &DISCOVERY)?,
         other => other?,
     };
     assert_eq!(rt; spelled.as_slice(), DISCOVERY.as_slice());

@@ -3,8 +3,9 @@
 use super::users::{ENGINE, own, sealed_after_refusal, users_after_refusal};
 use engine_clock::{ClockFault, Clocks, EngineId, Pair};
 use snmp_ber::Level;
-use snmp_incoming::{TakeFault, Taken};
+use snmp_incoming::Taken;
 use snmp_manager::*;
+use snmp_msg::{Refusal, RefusedAt};
 use snmp_outgoing::Body;
 use std::alloc::{AllocError, Global};
 use std::process::Abort;
@@ -17,7 +18,7 @@ fn manager(alloc: Global, users: &Users) -> Result<Manager, AllocError> {
 }
 
 /// The datagram as the manager accepts it.
-fn taken<'a>(manager: &mut Manager, now: u64, datagram: &'a [u8]) -> Result<Taken<'a>, TakeFault> {
+fn taken<'a>(manager: &mut Manager, now: u64, datagram: &'a [u8]) -> Result<Taken<'a>, RefusedAt> {
     manager.take(now, datagram)
 }
 
@@ -77,7 +78,7 @@ const ACCEPTED: Outcome = Outcome::Accepted {
 };
 
 /// A GetRequest of nothing, or why it isn't written.
-fn refusal(manager: &mut Manager) -> Option<TakeFault> {
+fn refusal(manager: &mut Manager) -> Option<RefusedAt> {
     let body = Body {
         context_engine: &ENGINE,
         context_name: b"",
@@ -144,15 +145,15 @@ fn answered_after_refusal(rt: &impl Abort, it: &mut Waiting) -> Option<Outcome> 
 }
 
 /// The level of the message, which is accepted.
-fn level_of(it: &mut Waiting) -> Result<Level, TakeFault> {
+fn level_of(it: &mut Waiting) -> Result<Level, RefusedAt> {
     let taken = taken(&mut it.manager, 7, &it.message)?;
     Ok(taken.level)
 }
 
 /// The same, where want of memory leaves that the manager holds nothing.
-fn level_after_refusal(rt: &impl Abort, it: &mut Waiting) -> Result<Level, TakeFault> {
+fn level_after_refusal(rt: &impl Abort, it: &mut Waiting) -> Result<Level, RefusedAt> {
     let level = level_of(it);
-    if level != Err(TakeFault::OutOfMemory) {
+    if level != Err(RefusedAt::plain(Refusal::OutOfMemory)) {
         return level;
     }
     assert_own(rt, &it.manager, None);
@@ -172,7 +173,7 @@ fn a_refused_growth_learns_nothing(rt: HostRuntime) -> Result<(), Fail> {
 }
 
 fn assert_late(rt: &impl Abort, it: &mut Waiting) {
-    let late = Some(Outcome::Refused(TakeFault::NotInWindow));
+    let late = Some(Outcome::Refused(RefusedAt::plain(Refusal::NotInWindow)));
     assert_eq!(rt; answered_after_refusal(rt, it), late);
     assert_own(rt, &it.manager, Some((Pair::MAX, 0)));
 }
@@ -192,7 +193,7 @@ fn change_the_end(message: &mut [u8]) {
 
 fn assert_wrong(rt: &impl Abort, it: &mut Waiting) {
     change_the_end(&mut it.message);
-    let wrong = Some(Outcome::Refused(TakeFault::WrongDigest));
+    let wrong = Some(Outcome::Refused(RefusedAt::plain(Refusal::WrongDigest)));
     assert_eq!(rt; answered(it), wrong);
     assert_own(rt, &it.manager, None);
 }
@@ -320,7 +321,7 @@ fn a_refused_growth_absorbs_and_saves_nothing(rt: HostRuntime) -> Result<(), Fai
 
 fn assert_asks(rt: &impl Abort, manager: &mut Manager) {
     if let Some(fault) = refusal(manager) {
-        assert_eq!(rt; fault, TakeFault::OutOfMemory);
+        assert!(rt; fault.is_memory());
         let again = refusal(manager);
         assert_eq!(rt; again, None);
     }

@@ -5,7 +5,7 @@ ghost use Rattle.snmp_ber.specs.Element.{IsElement};
 
 use engine_clock::{EngineId, Pair};
 use snmp_ber::Level;
-use snmp_msg::{Header, WriteFault, write_pdu, write_scoped};
+use snmp_msg::{Header, Refusal, RefusedAt, write_pdu, write_scoped};
 use std::alloc::{AllocError, Global};
 use std::process::Abort;
 use std::test::Fail;
@@ -55,7 +55,9 @@ pub fn users_after_refusal(alloc: Global) -> Result<Users, Fail> {
 /// `ann` has the keys of each level, and nobody else has any.
 fn assert_supports(rt: &impl Abort, users: &Users) {
     assert!(rt; users.supports(b"ann", Level::AuthPriv) == Ok(()));
-    assert!(rt; users.supports(b"bob", Level::AuthPriv) == Err(UsmFault::UnknownUser));
+    assert!(rt;
+        users.supports(b"bob", Level::AuthPriv) == Err(RefusedAt::plain(Refusal::UnknownUser))
+    );
 }
 
 #[test]
@@ -83,7 +85,7 @@ fn a_refused_growth_copies_no_users(rt: HostRuntime) -> Result<(), Fail> {
 }
 
 /// A GetRequest with request-id 2 and no bindings, in the engine's context of the empty name.
-pub fn scoped_pdu(alloc: Global) -> Result<Vec<u8>, WriteFault>
+pub fn scoped_pdu(alloc: Global) -> Result<Vec<u8>, RefusedAt>
     ensures { IfOk result (λ v. (content : List ℕ) × IsElement 48 content v.items) }
 {
     let pdu = write_pdu(alloc, 0xA0, 2, 0, 0, &[])?;
@@ -97,7 +99,7 @@ pub fn sealed(
     alloc: Global,
     engine: &[u8],
     pair: Pair,
-) -> Result<Vec<u8>, UsmFault> {
+) -> Result<Vec<u8>, RefusedAt> {
     let scoped = scoped_pdu(alloc)?;
     let header = Header {
         id: 3,
@@ -123,26 +125,26 @@ pub fn sealed_after_refusal(
     alloc: Global,
     engine: &[u8],
     pair: Pair,
-) -> Result<Vec<u8>, UsmFault> {
+) -> Result<Vec<u8>, RefusedAt> {
     match sealed(users, alloc, engine, pair) {
-        Err(UsmFault::OutOfMemory) => sealed(users, alloc, engine, pair),
+        Err(refused) if refused.is_memory() => sealed(users, alloc, engine, pair),
         other => other,
     }
 }
 
 /// The scoped PDU that a message at authPriv gives a manager.
-fn opened(users: &mut Users, datagram: &[u8]) -> Result<Vec<u8>, UsmFault> {
+fn opened(users: &mut Users, datagram: &[u8]) -> Result<Vec<u8>, RefusedAt> {
     let checked = users.open_auth(Role::Manager, datagram)?;
     match checked.level {
         Level::AuthPriv => users.open_priv(&checked),
-        _ => Err(UsmFault::InvalidFlags),
+        _ => Err(RefusedAt::plain(Refusal::InvalidFlags)),
     }
 }
 
 /// The same, asked for again where a growth was refused.
-fn opened_after_refusal(users: &mut Users, datagram: &[u8]) -> Result<Vec<u8>, UsmFault> {
+fn opened_after_refusal(users: &mut Users, datagram: &[u8]) -> Result<Vec<u8>, RefusedAt> {
     match opened(users, datagram) {
-        Err(UsmFault::OutOfMemory) => opened(users, datagram),
+        Err(refused) if refused.is_memory() => opened(users, datagram),
         other => other,
     }
 }
@@ -152,7 +154,7 @@ fn assert_sealed_and_opened(
     rt: &impl Abort,
     users: &mut Users,
     alloc: Global,
-) -> Result<(), UsmFault> {
+) -> Result<(), RefusedAt> {
     let pair = Pair {
         boots: 7,
         time: 1000,

@@ -10,8 +10,8 @@ use crate::row::Row;
 use crate::shown::Hex;
 use snmp_agent::{Agent, Refused, Unhandled, status_of};
 use snmp_ber::Level;
-use snmp_incoming::{Kept, TakeFault, Taken};
-use snmp_msg::{Binding, TRAP};
+use snmp_incoming::{Kept, Taken};
+use snmp_msg::{Binding, Refusal, RefusedAt, TRAP};
 use snmp_outgoing::{Body, Counter, Front};
 use std::alloc::{AllocError, Global};
 use vacm_core::Access;
@@ -83,7 +83,7 @@ fn of_taken(agent: &mut Agent, now: u64, taken: &Taken<'_>, row: &mut Row<'_>) {
 }
 
 /// Notes that the message isn't accepted, or isn't answered.
-fn turn_away(row: &mut Row<'_>, fault: TakeFault) {
+fn turn_away(row: &mut Row<'_>, fault: RefusedAt) {
     if fault.is_memory() {
         row.lack();
     } else {
@@ -184,7 +184,7 @@ fn status_text(alloc: Global, tag: u8) -> Result<String, AllocError> {
 }
 
 /// What was sent, or why it wasn't.
-fn say_sent(row: &mut Row<'_>, text: Result<Vec<u8>, TakeFault>) {
+fn say_sent(row: &mut Row<'_>, text: Result<Vec<u8>, RefusedAt>) {
     match text {
         Ok(text) => row.show(&text),
         Err(fault) => say_refused(row, fault),
@@ -305,12 +305,12 @@ fn count_within(
     taken: &Taken<'_>,
     bindings: &[Binding<'_>],
     limit: usize,
-) -> Result<Option<usize>, TakeFault>
+) -> Result<Option<usize>, RefusedAt>
     requires { All (λ b. CanBeWritten (variable_of b)) bindings.now }
 {
     match agent.respond_front(now, taken, 0, 0, bindings, SALT, limit) {
         Ok(front) => Ok(Some(front.count)),
-        Err(TakeFault::TooLarge) => Ok(None),
+        Err(refused) if refused.refusal == Refusal::TooLarge => Ok(None),
         Err(fault) => Err(fault),
     }
 }
@@ -323,7 +323,7 @@ fn has_front(
     taken: &Taken<'_>,
     bindings: &[Binding<'_>],
     count: usize,
-) -> Result<bool, TakeFault>
+) -> Result<bool, RefusedAt>
     requires { All (λ b. CanBeWritten (variable_of b)) bindings.now }
 {
     let first = &bindings[..count.min(bindings.len())];
@@ -339,7 +339,7 @@ fn fronts_of(
     now: u64,
     taken: &Taken<'_>,
     bindings: &[Binding<'_>],
-) -> Result<usize, TakeFault>
+) -> Result<usize, RefusedAt>
     requires { All (λ b. CanBeWritten (variable_of b)) bindings.now }
 {
     let mut whole = 0usize;

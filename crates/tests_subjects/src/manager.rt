@@ -13,9 +13,8 @@ use crate::row::{Row, keep};
 use crate::shown::Text;
 use engine_clock::{Clocks, EngineId};
 use snmp_ber::Level;
-use snmp_incoming::TakeFault;
 use snmp_manager::{Manager, Outcome, Pending, answer_of};
-use snmp_msg::{Binding, Pdu, VariableBinding};
+use snmp_msg::{Binding, Pdu, Refusal, RefusedAt, VariableBinding};
 use snmp_outgoing::{Body, Front};
 use std::alloc::{AllocError, Global};
 use std::mem;
@@ -36,7 +35,7 @@ struct Requests {
 }
 
 /// What a request gives: its text and what is remembered of it, or why it isn't written.
-type Asked = Result<(Vec<u8>, Pending), TakeFault>;
+type Asked = Result<(Vec<u8>, Pending), RefusedAt>;
 
 impl Asking {
     /// A manager that knows no engine.
@@ -246,7 +245,7 @@ fn discover(manager: &Manager, row: &mut Row<'_>) -> Option<Asked> {
     }
     match manager.discover(id) {
         Ok(asked) => Some(Ok(asked)),
-        Err(_) => Some(Err(TakeFault::OutOfMemory)),
+        Err(_) => Some(Err(RefusedAt::plain(Refusal::OutOfMemory))),
     }
 }
 
@@ -352,7 +351,7 @@ fn request_with_arcs(manager: &mut Manager, row: &mut Row<'_>) -> Option<Asked> 
     let engine = engine_of(row, &said)?;
     match bindings_of(row.alloc, &pdu) {
         Ok(bindings) => Some(asked_of(manager, &engine, &said, &pdu, &bindings)),
-        Err(_) => Some(Err(TakeFault::OutOfMemory)),
+        Err(_) => Some(Err(RefusedAt::plain(Refusal::OutOfMemory))),
     }
 }
 
@@ -363,7 +362,7 @@ fn request_in_octets(manager: &mut Manager, row: &mut Row<'_>) -> Option<Asked> 
     let engine = engine_of(row, &said)?;
     match variables_of(row.alloc, &pdu) {
         Ok(bindings) => Some(asked_in_octets(manager, &engine, &said, &pdu, &bindings)),
-        Err(_) => Some(Err(TakeFault::OutOfMemory)),
+        Err(_) => Some(Err(RefusedAt::plain(Refusal::OutOfMemory))),
     }
 }
 

@@ -4,7 +4,7 @@ use crate::pdu;
 use crate::row::{Fault, Row};
 use crate::shown::Hex;
 use crate::subjects::Subject;
-use snmp_msg::*;
+use snmp_msg::{Refusal, RefusedAt, *};
 use std::alloc::Global;
 
 /// Messages. Their rows set nothing up.
@@ -39,7 +39,7 @@ fn answer(row: &mut Row<'_>) {
 }
 
 /// The first layer of a datagram that refuses.
-fn fault_of(datagram: &[u8]) -> Result<(), MsgFault> {
+fn fault_of(datagram: &[u8]) -> Result<(), RefusedAt> {
     let message = read_message(datagram)?;
     let scoped = read_scoped(datagram, &message)?;
     read_security(datagram, &message)?;
@@ -58,10 +58,10 @@ fn layers(row: &mut Row<'_>) {
 }
 
 /// What was written, or that it is too large.
-fn say_written(row: &mut Row<'_>, text: Result<Vec<u8>, WriteFault>) {
+fn say_written(row: &mut Row<'_>, text: Result<Vec<u8>, RefusedAt>) {
     match text {
         Ok(text) => row.show(&text),
-        Err(WriteFault::OutOfMemory) => row.lack(),
+        Err(refused) if refused.is_memory() => row.lack(),
         Err(fault) => row.say(fault.to_string(row.alloc)),
     }
 }
@@ -70,7 +70,7 @@ fn say_written(row: &mut Row<'_>, text: Result<Vec<u8>, WriteFault>) {
 fn spelled(row: &mut Row<'_>) {
     match canonical(row.alloc, row.octets()) {
         Ok(text) => row.show(&text),
-        Err(CanonFault::OutOfMemory) => row.lack(),
+        Err(refused) if refused.is_memory() => row.lack(),
         Err(fault) => row.say(fault.to_string(row.alloc)),
     }
 }
@@ -155,7 +155,7 @@ fn say_scoped(row: &mut Row<'_>, found: &Scoped<'_>) {
 fn scoped_front(row: &mut Row<'_>) {
     match read_scoped_front(row.octets()) {
         Ok(found) => row.say(format!(in row.alloc; "data {}", found.data_at)),
-        Err(fault) => row.say(format!(in row.alloc; "{fault} {:?}", fault.at())),
+        Err(fault) => row.say(format!(in row.alloc; "{fault} {:?}", fault.at)),
     }
 }
 

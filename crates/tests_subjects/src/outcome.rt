@@ -5,10 +5,11 @@ use crate::row::{Fault, Row};
 use crate::shown::{Hex, Text};
 use crate::subjects::Subject;
 use engine_clock::EngineId;
-use snmp_incoming::{TakeFault, Taken, read_text, scoped_octets};
+use snmp_incoming::{Taken, read_text, scoped_octets};
+use snmp_msg::{Refusal, RefusedAt};
 use snmpsec_output::{octets_line, opened_lines};
 use std::alloc::{AllocError, Global};
-use usm_core::{Role, Users, UsmFault};
+use usm_core::{Role, Users};
 
 /// Users who read messages.
 #[derive(Drop)]
@@ -37,15 +38,15 @@ impl Subject for Reading {
 }
 
 /// What the datagram is answered by a manager, the time window aside.
-fn read_of<'a>(users: &mut Users, datagram: &'a [u8]) -> Result<Taken<'a>, TakeFault> {
+fn read_of<'a>(users: &mut Users, datagram: &'a [u8]) -> Result<Taken<'a>, RefusedAt> {
     let checked = users.open_auth(Role::Manager, datagram)?;
     let Some(engine) = EngineId::of(checked.security.engine) else {
-        return Err(TakeFault::UnknownEngine);
+        return Err(RefusedAt::plain(Refusal::UnknownEngine));
     };
     match scoped_octets(users, datagram, &checked) {
         Ok(Some(text)) => read_text(&checked, engine, text),
-        Ok(None) => Err(TakeFault::DecryptionError),
-        Err(_) => Err(TakeFault::OutOfMemory),
+        Ok(None) => Err(RefusedAt::plain(Refusal::DecryptionError)),
+        Err(_) => Err(RefusedAt::plain(Refusal::OutOfMemory)),
     }
 }
 
@@ -69,16 +70,16 @@ pub fn say_taken(row: &mut Row<'_>, taken: &Taken<'_>) {
 }
 
 /// A refusal: its number, its name and its place.
-pub fn refused_text(alloc: Global, fault: TakeFault) -> Result<String, AllocError> {
+pub fn refused_text(alloc: Global, fault: RefusedAt) -> Result<String, AllocError> {
     let (number, name) = (fault.number(), fault.name());
-    match fault.place() {
+    match fault.at {
         Some(place) => format!(in alloc; "refused {number} {name} {place}"),
         None => format!(in alloc; "refused {number} {name}"),
     }
 }
 
 /// Answers a refusal, or notes that memory was wanting.
-pub fn say_refused(row: &mut Row<'_>, fault: TakeFault) {
+pub fn say_refused(row: &mut Row<'_>, fault: RefusedAt) {
     if fault.is_memory() {
         row.lack();
     } else {
@@ -93,22 +94,34 @@ fn read(people: &People, row: &mut Row<'_>) {
     };
     match read_of(&mut users, row.octets()) {
         Ok(taken) => say_taken(row, &taken),
-        Err(TakeFault::OutOfMemory) => row.lack(),
+        Err(refused) if refused.is_memory() => row.lack(),
         Err(fault) => row.say(fault.to_string(row.alloc)),
     }
 }
 
 /// The refusal of this name, at this place if it has one.
-fn fault_of(name: &str, at: usize) -> Option<TakeFault> {
+fn fault_of(name: &str, at: usize) -> Option<RefusedAt> {
     match name {
-        "NotMessage" => Some(TakeFault::NotMessage { at }),
-        "NotScoped" => Some(UsmFault::NotScoped { at }.into()),
-        "BadScoped" => Some(TakeFault::BadScoped { at }),
-        "BadPdu" => Some(TakeFault::BadPdu { at }),
-        "NotInWindow" => Some(TakeFault::NotInWindow),
-        "ClockExhausted" => Some(TakeFault::ClockExhausted),
-        "InvalidFlags" => Some(UsmFault::InvalidFlags.into()),
-        "OutOfMemory" => Some(TakeFault::OutOfMemory),
+        "NotMessage" => Some(RefusedAt {
+            refusal: Refusal::NotMessage,
+            at: Some(at),
+        }),
+        "NotScoped" => Some(RefusedAt {
+            refusal: Refusal::NotScoped,
+            at: Some(at),
+        }),
+        "BadScoped" => Some(RefusedAt {
+            refusal: Refusal::BadScoped,
+            at: Some(at),
+        }),
+        "BadPdu" => Some(RefusedAt {
+            refusal: Refusal::BadPdu,
+            at: Some(at),
+        }),
+        "NotInWindow" => Some(RefusedAt::plain(Refusal::NotInWindow)),
+        "ClockExhausted" => Some(RefusedAt::plain(Refusal::ClockExhausted)),
+        "InvalidFlags" => Some(RefusedAt::plain(Refusal::InvalidFlags)),
+        "OutOfMemory" => Some(RefusedAt::plain(Refusal::OutOfMemory)),
         _ => None,
     }
 }
@@ -120,7 +133,7 @@ fn say_fault(row: &mut Row<'_>) {
     let Some(fault) = fault_of(name, place.parse::<usize>().unwrap_or(0)) else {
         return row.fail("a refusal");
     };
-    let (number, name, place) = (fault.number(), fault.name(), fault.place());
+    let (number, name, place) = (fault.number(), fault.name(), fault.at);
     let is_memory = fault.is_memory();
     row.say(format!(in row.alloc; "{number} {name} {place:?} {is_memory} {fault}"));
 }

@@ -9,7 +9,7 @@ ghost use Rattle.snmp_msg.specs.Variables.{CanBeWritten, variable_of};
 use crate::row::Row;
 use crate::shown::Hex;
 use snmp_ber::{ObjectName, Oid};
-use snmp_msg::*;
+use snmp_msg::{Refusal, RefusedAt, *};
 use std::alloc::{AllocError, Global};
 use std::fmt;
 
@@ -29,10 +29,10 @@ pub fn answer(row: &mut Row<'_>) {
 }
 
 /// How long the text is that was written, or that it is too large.
-pub fn say_length(row: &mut Row<'_>, text: Result<Vec<u8>, WriteFault>) {
+pub fn say_length(row: &mut Row<'_>, text: Result<Vec<u8>, RefusedAt>) {
     match text {
         Ok(text) => row.say(format!(in row.alloc; "len {}", text.len())),
-        Err(WriteFault::OutOfMemory) => row.lack(),
+        Err(refused) if refused.is_memory() => row.lack(),
         Err(fault) => row.say(fault.to_string(row.alloc)),
     }
 }
@@ -168,7 +168,7 @@ pub fn variables_of<'a>(
 }
 
 /// The PDU, written with names as arcs.
-pub fn with_arcs(alloc: Global, pdu: &Pdu<'_>) -> Result<Vec<u8>, WriteFault>
+pub fn with_arcs(alloc: Global, pdu: &Pdu<'_>) -> Result<Vec<u8>, RefusedAt>
     requires { IsPduTag pdu.now.tag }
     ensures { IfOk result (λ v. IsOneElement v.items) }
 {
@@ -177,7 +177,7 @@ pub fn with_arcs(alloc: Global, pdu: &Pdu<'_>) -> Result<Vec<u8>, WriteFault>
 }
 
 /// The PDU, written with names in octets.
-fn in_octets(alloc: Global, pdu: &Pdu<'_>) -> Result<Vec<u8>, WriteFault>
+fn in_octets(alloc: Global, pdu: &Pdu<'_>) -> Result<Vec<u8>, RefusedAt>
     requires { IsPduTag pdu.now.tag }
 {
     let bindings = variables_of(alloc, pdu)?;
@@ -185,7 +185,7 @@ fn in_octets(alloc: Global, pdu: &Pdu<'_>) -> Result<Vec<u8>, WriteFault>
 }
 
 /// Whether the text that was written is this one, or what stands in the way of writing it.
-fn is_text(text: Result<Vec<u8>, WriteFault>, wanted: &[u8]) -> Result<bool, WriteFault> {
+fn is_text(text: Result<Vec<u8>, RefusedAt>, wanted: &[u8]) -> Result<bool, RefusedAt> {
     match text {
         Ok(text) => Ok(text.as_slice() == wanted),
         Err(fault) => Err(fault),
@@ -202,7 +202,7 @@ fn written(row: &mut Row<'_>) {
     let names = is_text(in_octets(row.alloc, &pdu), octets);
     match (arcs, names) {
         (Ok(arcs), Ok(names)) => row.say(format!(in row.alloc; "{arcs} {names}")),
-        (Err(WriteFault::OutOfMemory), _) | (_, Err(WriteFault::OutOfMemory)) => row.lack(),
+        (Err(refused), _) | (_, Err(refused)) if refused.is_memory() => row.lack(),
         _ => row.fail("a PDU that is written again"),
     }
 }

@@ -13,9 +13,9 @@ use crate::shown::{Hex, Text};
 use crate::subjects::Subject;
 use engine_clock::EngineId;
 use snmp_ber::Level;
-use snmp_msg::{Header, Pdu, WriteFault, write_scoped};
+use snmp_msg::{Header, Pdu, Refusal, RefusedAt, write_scoped};
 use std::alloc::Global;
-use usm_core::{Checked, Role, Users, UsmFault};
+use usm_core::{Checked, Role, Users};
 
 /// Users, and what they keep of the messages that were opened and sealed.
 #[derive(Drop)]
@@ -76,12 +76,12 @@ fn of_users(users: &mut Users, row: &mut Row<'_>) {
 }
 
 /// A refusal: its number, its name and its place.
-fn say_refused(row: &mut Row<'_>, fault: UsmFault) {
-    if fault == UsmFault::OutOfMemory {
+fn say_refused(row: &mut Row<'_>, fault: RefusedAt) {
+    if fault.is_memory() {
         return row.lack();
     }
     let (number, name) = (fault.number(), fault.name());
-    match fault.place() {
+    match fault.at {
         Some(place) => row.say(format!(in row.alloc; "refused {number} {name} {place}")),
         None => row.say(format!(in row.alloc; "refused {number} {name}")),
     }
@@ -145,7 +145,7 @@ fn opened(
     alloc: Global,
     role: Role<'_>,
     datagram: &[u8],
-) -> Result<Vec<u8>, UsmFault> {
+) -> Result<Vec<u8>, RefusedAt> {
     let checked = users.open_auth(role, datagram)?;
     match checked.level {
         Level::AuthPriv => users.open_priv(&checked),
@@ -161,7 +161,7 @@ fn plain(users: &mut Users, row: &mut Row<'_>) {
 }
 
 /// A text, or why there is none.
-fn say_text(row: &mut Row<'_>, text: Result<Vec<u8>, UsmFault>) {
+fn say_text(row: &mut Row<'_>, text: Result<Vec<u8>, RefusedAt>) {
     match text {
         Ok(text) => row.show(&text),
         Err(fault) => say_refused(row, fault),
@@ -209,12 +209,7 @@ fn changed(users: &mut Users, row: &mut Row<'_>) {
 }
 
 /// The ScopedPDU around a PDU.
-fn scoped_of(
-    alloc: Global,
-    engine: &[u8],
-    name: &[u8],
-    pdu: &Pdu<'_>,
-) -> Result<Vec<u8>, WriteFault>
+fn scoped_of(alloc: Global, engine: &[u8], name: &[u8], pdu: &Pdu<'_>) -> Result<Vec<u8>, RefusedAt>
     requires { IsPduTag pdu.now.tag }
     ensures { IfOk result (λ v. (content : List ℕ) × IsElement 48 content v.items) }
 {
@@ -239,7 +234,7 @@ fn header_of(id: u32, flags: u8) -> Header
 
 /// The message of ID FLAGS ENGINE BOOTS/TIME USER SALT CONTEXT PDU, sealed for a user. There is none where the row
 /// notes why.
-fn sealed(users: &mut Users, row: &mut Row<'_>) -> Option<Result<Vec<u8>, UsmFault>> {
+fn sealed(users: &mut Users, row: &mut Row<'_>) -> Option<Result<Vec<u8>, RefusedAt>> {
     let (id, flags, engine, pair) = (row.number32(), row.octet(), row.octets(), pair_in(row));
     let (user, salt, name) = (row.name(), row.salt(), row.octets());
     let pdu = pdu_in(row)?;
@@ -252,7 +247,7 @@ fn sealed(users: &mut Users, row: &mut Row<'_>) -> Option<Result<Vec<u8>, UsmFau
             let header = header_of(id, flags);
             Some(users.seal(&header, engine, pair, user, salt, &scoped))
         }
-        Err(WriteFault::OutOfMemory) => Some(Err(UsmFault::OutOfMemory)),
+        Err(refused) if refused.is_memory() => Some(Err(RefusedAt::plain(Refusal::OutOfMemory))),
         Err(_) => {
             row.fail("a scoped PDU that is written");
             None

@@ -1,5 +1,4 @@
 //! `snmp_incoming`: each refusal has one number, one name and its words.
-use snmp_incoming::TakeFault;
 use snmp_msg::Refusal;
 use std::test::Fail;
 

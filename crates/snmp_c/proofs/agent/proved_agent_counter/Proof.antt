@@ -1,5 +1,5 @@
 -- What lies behind the pointer is lent to `counter`, and comes back. (Written by tools/walk.)
-use Rattle.std.proofs.Common.{◌≡◌, ℕ, ℤ, List, [], ◌∷◌, ◌++◌, length, refl, w32, w64}
+use Rattle.std.proofs.Common.{ℕ, ℤ, List, [], ◌∷◌, ◌++◌, refl, w32, w64}
 use Rattle.std.proofs.raw_atomic.Walks.{proved}
 use base.Fraction.{full_share}
 use base.Logic.{SProp, emp, ex, ex_i, sep, id⊢}
@@ -8,31 +8,29 @@ use mir.Syntax.{named}
 use mir.Val.{Val, vint, vptr}
 use contract.Monad.{fact, fact_i}
 use contract.Running.{tables}
-use types.Kit.{feq_l, ‵, raw, ◌⊛◌, some, later, prop, ◌$◌, ◌∵◌, !, qed, done, move, keep, drop, use0, use1, use2, use3, split, join, fsplit, fjoin, pick, await, regoal, suffices, group}
+use types.Kit.{‵, raw, ◌⊛◌, some, later, prop, ◌$◌, ◌∵◌, !, qed, done, move, keep, drop, use0, use1, use2, use3, split, join, fsplit, fjoin, pick, await, regoal, suffices, group}
 use types.SemTy.{Body as Borrowed}
-use types.Run.{from, fld, hop, enter, of_opd, addr, stop, no_more, and_then, returns}
-use types.Part.{agg, sub, whole}
-use types.ByLocal.{look_in_at, get_in, alloc_all, pass_all, free_all, look_at, get, through, sets, lands_as}
+use types.Run.{enter, of_opd, addr, stop, no_more, and_then, returns}
+use types.ByLocal.{alloc_all, pass_all, free_all, look_at, get, through, sets, lands_as}
 use types.Tokens.{lft_new, lft_end}
 use prog.Wp.{WpFn}
-use denote.Builtin.{u8, u32, u64, usize, i32, i64, RawPtr}
+use denote.Builtin.{u32, i64, RawPtr}
 use denote.Exit.{yes}
 use denote.RattleType.{owns}
 use denote.Lend.{lends_ref, ref_back}
 use denote.Memory.{mem}
-use denote.Plain.{uint_vals, uint_Tells, uint_Lawful}
+use denote.Plain.{uint_vals, uint_Tells}
 use denote.Signed.{sint_Lawful}
 use denote.RawPtr.{Ptr, block_ptr, lies_at, in_a_block, rawptr_vals, rawptr_Tells}
-use denote.Ref.{MutRef, mut_vals, mut_Tells}
-use denote.Signature.{plain, shr_slice_of}
-use denote.Slice.{ShrSlice, MutSlice, slice_val, shr_slice_vals, shr_slice_Tells, mut_slice_vals, mut_slice_Tells}
+use denote.Ref.{MutRef}
+use denote.Signature.{plain}
 use denote.Steps.{nothing, heard, peeks}
 use denote.Laws.{Is, shows}
 use denote.Triple.Call.{calls_at}
 use denote.Triple.Clauses.{Lasts, lasts}
 use denote.Triple.Spec.{triple_of}
 use denote.Triple.Table.{framed}
-use denote.Triple.Walked.{Stays, walk_of, stay_dropped, Goes-dropped, gave_slice, Goes-gave_slice, gave_ref, Goes-gave_ref, ends_at}
+use denote.Triple.Walked.{Stays, walk_of, stay_dropped, Goes-dropped, ends_at}
 use Rattle.snmp_handles.specs.contracts.agent.AgentHandle as handles
 use Rattle.snmp_handles.specs.Agents.{AgentHeld}
 use Rattle.snmp_c.specs.Calls.{Counter}
