@@ -52,6 +52,6 @@ pub mod laws;
 pub mod world;
 
 pub use snmp_agent::{Agent, Decision, Refused};
-pub use snmp_incoming::{Kept, RefusedAt, Taken};
+pub use snmp_incoming::{Kept, TakeFault, Taken};
 pub use snmp_manager::{Answer, Manager, Outcome, Pending, Stopped, answer_of};
 pub use snmp_outgoing::{Body, Front};

@@ -1,4 +1,5 @@
 //! `snmp_incoming`: each refusal has one number, one name and its words.
+use snmp_incoming::TakeFault;
 use snmp_msg::Refusal;
 use std::test::Fail;
 
