@@ -12,8 +12,10 @@
 //! let mut manager = Manager::new(rt.alloc(), users, Clocks::new(rt.alloc()));
 //! let (datagram, _pending) = manager.discover(1)?;
 //! let outcome = manager.take_one(1700000000, &datagram)?;
-//! let refused = RefusedAt::plain(Refusal::UnknownEngine);
-//! assert_eq!(rt; outcome, Outcome::Refused(refused));
+//! assert_eq!(rt;
+//!     outcome,
+//!     Outcome::Refused(RefusedAt::plain(Refusal::UnknownEngine))
+//! );
 //! ```
 //!
 //! ```
