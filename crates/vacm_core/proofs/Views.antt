@@ -11,13 +11,14 @@ use Rattle.vacm_core.specs.Allowed.{Allowed, Requester, HasContext, HasView, IsI
 use Rattle.vacm_core.specs.RowOrder.{IsRunOf}
 use Rattle.vacm_core.specs.Place.{family_name}
 use Rattle.vacm_core.specs.View.{HasArcs, AnswersView}
+use Rattle.vacm_core.specs.Wildcard.{wildcard_order}
 use Rattle.vacm_core.proofs.First.{best_of_table, none_of_table}
 
 some_row : (rows : List FamilyRow) → 0 < length rows → (row : FamilyRow) × Contains rows row
 some_row [] h = absurd (omega (arith, h))
 some_row (row ∷ rows) h = (row, (0, omega arith, refl))
 
-module _ (xs ys xr yr : List FamilyRow) (view : List ℕ) (first : IsRunOf family_name family_order view xs xr) (second : IsRunOf family_name family_order view ys yr) where
+module _ (xs ys xr yr : List FamilyRow) (view : List ℕ) (first : IsRunOf family_name family_order view xs xr) (second : IsRunOf family_name wildcard_order view ys yr) where
   among : (row : FamilyRow) → Contains (xr ++ yr) row → Contains (xs ++ ys) row
   among row there = elim (Contains-append_cases xr yr row there) [
     | inl c ↦ Contains-append_left xs ys row (first.among row c)

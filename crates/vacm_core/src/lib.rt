@@ -54,6 +54,7 @@ mod access;
 mod ask;
 mod explain;
 mod fault;
+mod front;
 pub mod laws;
 mod mask;
 mod name;
@@ -65,6 +66,7 @@ mod steps;
 mod table;
 mod vacm;
 mod view;
+mod wildcard;
 
 pub use access::{Access, ViewType};
 pub use fault::{Table, VacmFault};

@@ -18,6 +18,7 @@ use crate::named_row::NamedRow;
 use crate::rows::{AccessRow, ContextRow, FamilyRow, GroupRow};
 use crate::steps::{Asking, Explained};
 use crate::table::OrderedTable;
+use crate::wildcard::WildcardRow;
 use crate::{Access, Rows, VacmFault, ViewType};
 use snmp_ber::{Level, Oid};
 use std::alloc::{AllocError, Global};
@@ -28,14 +29,16 @@ use std::marker::Model;
 /// The rows of each stand by a name: contexts by their own, groups by the security name, access rows by the
 /// group and family rows by the view. The rows of one name stand from the best down, so that the first that
 /// fits decides. Family rows whose masks compare each arc stand apart: they are found by the beginnings of a
-/// variable.
+/// variable. Family rows with a wildcard are grouped by length and mask, and each group is sorted by the arcs that
+/// its mask compares. A question searches each group of its view at most once, from the longest down. So its time
+/// grows with the number of different pairs of length and mask in the view, and with the logarithm of its rows.
 #[derive(Drop)]
 pub struct Vacm {
     contexts: OrderedTable<ContextRow>,
     groups: OrderedTable<GroupRow>,
     access: OrderedTable<AccessRow>,
     exact: OrderedTable<FamilyRow>,
-    others: OrderedTable<FamilyRow>,
+    others: OrderedTable<WildcardRow>,
 }
 
 impl Model for Vacm {
@@ -188,7 +191,7 @@ impl Vacm {
 fn families_of(
     alloc: Global,
     rows: &[FamilyRow],
-) -> Result<(OrderedTable<FamilyRow>, OrderedTable<FamilyRow>), AllocError>
+) -> Result<(OrderedTable<FamilyRow>, OrderedTable<WildcardRow>), AllocError>
     ensures same { IfOk result (λ made. IsPermutation rows.now (made.0 ++ made.1)) }
     ensures exact { IfOk result (λ made. AreExact made.0) }
 {
@@ -199,7 +202,10 @@ fn families_of(
 }
 
 /// Copies of the rows: those whose masks compare each arc, and the others.
-fn split(alloc: Global, rows: &[FamilyRow]) -> Result<(Vec<FamilyRow>, Vec<FamilyRow>), AllocError>
+fn split(
+    alloc: Global,
+    rows: &[FamilyRow],
+) -> Result<(Vec<FamilyRow>, Vec<WildcardRow>), AllocError>
     ensures same { IfOk result (λ made. IsPermutation rows.now (made.0.items ++ made.1.items)) }
     ensures exact { IfOk result (λ made. AreExact made.0.items) }
 {
@@ -209,7 +215,7 @@ fn split(alloc: Global, rows: &[FamilyRow]) -> Result<(Vec<FamilyRow>, Vec<Famil
         if row.is_exact() {
             exact.push(row.copy())?;
         } else {
-            others.push(row.copy())?;
+            others.push(WildcardRow::of(row.copy()))?;
         }
     }
     Ok((exact, others))
