@@ -24,10 +24,10 @@ use Rattle.vacm_core.specs.View.{IsExact, AreExact, HasArcs}
 use Rattle.vacm_core.proofs.First.{not_exceeded, then_equal}
 use Rattle.vacm_core.specs.Laws.{family_order-total}
 
-arcs_total : IsTotalOrder arcs_order
+pub arcs_total : IsTotalOrder arcs_order
 arcs_total = then_total (on_total (λ (xs : List ℕ). length xs) nat_cmp_total) nat_list_cmp_total
 
-arcs_exact : (xs ys : List ℕ) → arcs_order xs ys ≡ Equal → xs ≡ ys
+pub arcs_exact : (xs ys : List ℕ) → arcs_order xs ys ≡ Equal → xs ≡ ys
 arcs_exact xs ys h = exact_bytes xs ys (then_equal _ _ h).1
 
 -- ---- a search for one subtree
@@ -138,7 +138,7 @@ module _ (variable : List ℕ) (run : List FamilyRow) (exact : AreExact run) whe
   begins_by : (row : FamilyRow) → Contains run row → HasArcs variable row → row.subtree ≡ take (length row.subtree) variable
   begins_by row there fits = fits_begins variable row (exact row there) fits
 
-  none_here : (n : ℕ) → NoneFrom (n + 1) → ((row : FamilyRow) → Contains run row → row.subtree ≢ take n variable) → NoneFrom n
+  pub none_here : (n : ℕ) → NoneFrom (n + 1) → ((row : FamilyRow) → Contains run row → row.subtree ≢ take n variable) → NoneFrom n
   none_here n none nowhere row there long fits = elim (cases_lt n (length row.subtree)) [
     | inl more ↦ none row there (omega arith) fits
     | inr upto ↦

@@ -73,7 +73,7 @@ pub use fault::{Table, VacmFault};
 pub use mask::Mask;
 pub use name::Name;
 pub use named_row::NamedRow;
-pub use rows::{AccessRow, ContextRow, FamilyRow, GroupRow, Matching, Rows};
+pub use rows::{AccessRow, ContextRow, FamilyRow, GroupRow, Matching, Rows, arcs_order};
 pub use steps::{AccessStep, Asking, ContextStep, Explained, GroupStep, ViewStep};
 pub use table::OrderedTable;
 pub use vacm::Vacm;

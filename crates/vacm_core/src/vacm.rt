@@ -1,5 +1,5 @@
 //! The tables that answer (RFC 3415, section 3).
-ghost use Rattle.std.specs.Prelude.{◌↔◌, ◌++◌, ℕ, List, IsTrue, IfOk, IfErr, OnOk};
+ghost use Rattle.std.specs.Prelude.{◌≡◌, ◌≢◌, ◌↔◌, ◌++◌, [], ℕ, List, IsTrue, IfOk, IfErr, OnOk, MatchResult};
 ghost use Rattle.std.specs.List.Sorted.{IsPermutation};
 ghost use Rattle.vacm_core.specs.Tables.{tables_of, HaveSameRows};
 ghost use Rattle.vacm_core.specs.Faults.{AreSound, IsTold};
@@ -7,7 +7,8 @@ ghost use Rattle.vacm_core.specs.Distinct.{HasOneRowEach};
 ghost use Rattle.vacm_core.specs.declared.access.ViewType.{ViewType as Asked};
 ghost use Rattle.vacm_core.specs.declared.access.Access.{Access as Answer};
 ghost use Rattle.vacm_core.specs.Allowed as spec;
-ghost use Rattle.vacm_core.specs.Allowed.{Allowed, HasContext};
+ghost use Rattle.vacm_core.specs.declared.access.Access.TheVariants.{NotInView, AccessAllowed};
+ghost use Rattle.vacm_core.specs.Allowed.{Allowed, ByView, HasContext};
 ghost use Rattle.vacm_core.specs.View.{AreExact};
 ghost use Rattle.vacm_core.specs.Steps.{DecidesContext, TellsContext, requester_of};
 
@@ -19,7 +20,7 @@ use crate::rows::{AccessRow, ContextRow, FamilyRow, GroupRow};
 use crate::steps::{Asking, Explained};
 use crate::table::OrderedTable;
 use crate::wildcard::WildcardRow;
-use crate::{Access, Rows, VacmFault, ViewType};
+use crate::{Access, Name, Rows, VacmFault, ViewType};
 use snmp_ber::{Level, Oid};
 use std::alloc::{AllocError, Global};
 use std::marker::Model;
@@ -141,6 +142,35 @@ impl Vacm {
             variable: variable.as_slice(),
         };
         self.decide(&asking).answer
+    }
+
+    /// Returns the name of the view that such messages have, whatever the variable. It takes no memory.
+    ///
+    /// The name isn't empty; family rows may have it or not. The error is the answer to each question of such
+    /// messages, if no row names a view: `NoSuchContext`, `NoGroupName`, `NoAccessEntry` or `NoSuchView` (RFC
+    /// 3415, section 3.2). `asking.variable` isn't looked at.
+    pub fn view_of(&self, asking: &Asking<'_>) -> Result<&Name, Access>
+        ensures { MatchResult result
+            (λ name. (name.now ≢ [])
+            × ByView self.now (requester_of asking.now) asking.now.view (λ view. view ≡ name.now))
+            (λ answer. (answer ≢ NotInView) × (answer ≢ AccessAllowed) × ((variable : List ℕ)
+            → Allowed self.now (requester_of asking.now) asking.now.view variable answer)) }
+    {
+        let decided = self.decide(asking);
+        let Some(_context) = decided.context else {
+            return Err(Access::NoSuchContext);
+        };
+        let Some(_group) = decided.group else {
+            return Err(Access::NoGroupName);
+        };
+        let Some(row) = decided.access else {
+            return Err(Access::NoAccessEntry);
+        };
+        let name = row.view(asking.view);
+        if name.as_slice().is_empty() {
+            return Err(Access::NoSuchView);
+        }
+        Ok(name)
     }
 
     /// What decides on the question: its answer, and the rows that decide, by their positions. It takes no memory.
