@@ -1,19 +1,19 @@
 //! Loads rows of the four tables and asks questions again and again, for `bench/access` to time.
 //!
-//! `bench_access SHAPE ROWS WILD ARCS KIND LOADS ASKS` makes ROWS rows of each table, loads them LOADS times
+//! `bench_access SHAPE ROWS WILD MASKS ARCS KIND LOADS ASKS` makes ROWS rows of each table, loads them LOADS times
 //! and asks ASKS questions, 1,000 different ones in turn. It prints how many were allowed and how many were
 //! not in view.
 //!
 //! Under the SHAPE `many` a view has 20 family rows, and under `one` a single view has them all. A group has
-//! 5 access rows, of which the last in order matches. Each WILDth family row has a wildcard (0: none). A
-//! question is for a variable of ARCS arcs, which a row of 10 arcs has for the KIND `hit`; for `miss` no row
+//! 5 access rows, of which the last in order matches. Each WILDth family row has a wildcard (0: none), with MASKS
+//! different masks in turn, at most 127. A question is for a variable of ARCS arcs, which a row of 10 arcs has for the KIND `hit`; for `miss` no row
 //! has it, though one has all but the last of its own arcs.
 #![tactic(auto)]
 
 mod rows;
 
 use anyhow::{Context, Result, bail};
-use rows::{Shape, name_of, rows_of, variable_of};
+use rows::{Shape, Wild, name_of, rows_of, variable_of};
 use snmp_ber::{Level, Oid};
 use std::alloc::Global;
 use std::env;
@@ -78,7 +78,7 @@ fn ask(vacm: &Vacm, questions: &[Question], asks: usize) -> (u64, u64) {
 struct Wanted {
     shape: Shape,
     count: u32,
-    wild: u32,
+    wild: Wild,
     arcs: usize,
     is_hit: bool,
     loads: u64,
@@ -86,13 +86,16 @@ struct Wanted {
 }
 
 fn read_words(words: &[String]) -> Result<Wanted> {
-    let [_, shape, count, wild, arcs, kind, loads, asks] = words else {
-        bail!("usage: bench_access many|one ROWS WILD ARCS hit|miss LOADS ASKS");
+    let [_, shape, count, every, masks, arcs, kind, loads, asks] = words else {
+        bail!("usage: bench_access many|one ROWS WILD MASKS ARCS hit|miss LOADS ASKS");
     };
     Ok(Wanted {
         shape: shape.as_str().parse()?,
         count: count.as_str().parse().context("ROWS")?,
-        wild: wild.as_str().parse().context("WILD")?,
+        wild: Wild {
+            every: every.as_str().parse().context("WILD")?,
+            masks: masks.as_str().parse().context("MASKS")?,
+        },
         arcs: arcs.as_str().parse().context("ARCS")?,
         is_hit: kind.as_str() == "hit",
         loads: loads.as_str().parse().context("LOADS")?,

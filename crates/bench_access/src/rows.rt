@@ -16,6 +16,9 @@ const IN_GROUP: u32 = 5;
 /// How many family rows a view has, where there are many views.
 const IN_VIEW: u32 = 20;
 
+/// How many different masks there are at most.
+const MASKS_MAX: u32 = 127;
+
 /// How the family rows are spread over views.
 #[derive(Clone, Copy, PartialEq, Eq, Debug)]
 pub(crate) enum Shape {
@@ -42,6 +45,26 @@ impl FromStr for Shape {
             "one" => Ok(Shape::One),
             _ => Err(UnknownShape),
         }
+    }
+}
+
+/// Which family rows have a wildcard.
+#[derive(Clone, Copy)]
+pub(crate) struct Wild {
+    /// Each row whose number is a multiple of this; for 0 none.
+    pub(crate) every: u32,
+    /// How many different masks they have in turn, from 1 to 127.
+    pub(crate) masks: u32,
+}
+
+impl Wild {
+    /// The octet of the mask of the row of this number, where it has one. The last two arcs are compared.
+    fn octet(self, number: u32) -> Option<u8> {
+        if self.every == 0 || number % self.every != 0 {
+            return None;
+        }
+        let which = number / self.every % self.masks.max(1).min(MASKS_MAX);
+        Some(u8::MAX - 2 * (which as u8 + 1))
     }
 }
 
@@ -100,18 +123,24 @@ fn access_row(shape: Shape, number: u32) -> Result<AccessRow> {
     })
 }
 
-fn family_row(shape: Shape, number: u32, is_wild: bool) -> Result<FamilyRow> {
-    let mask: &[u8] = if is_wild { &[0xFD] } else { &[] };
+fn mask_of(wild: Wild, number: u32) -> Result<Mask> {
+    match wild.octet(number) {
+        Some(octet) => Mask::of(&[octet]).context("a mask"),
+        None => Mask::of(b"").context("a mask"),
+    }
+}
+
+fn family_row(shape: Shape, number: u32, wild: Wild) -> Result<FamilyRow> {
     Ok(FamilyRow {
         view: name_of(b'v', shape.view(number))?,
         subtree: Oid::of(&subtree_of(number)).context("arcs")?,
-        mask: Mask::of(mask).context("a mask")?,
+        mask: mask_of(wild, number)?,
         include: number % 2 == 0,
     })
 }
 
 /// So many rows of each table.
-pub(crate) fn rows_of(alloc: Global, shape: Shape, count: u32, wild: u32) -> Result<Rows>
+pub(crate) fn rows_of(alloc: Global, shape: Shape, count: u32, wild: Wild) -> Result<Rows>
     ensures contexts { IfOk result (λ rows. length rows.contexts.items ≡ count) }
     ensures groups { IfOk result (λ rows. length rows.groups.items ≡ count) }
     ensures access { IfOk result (λ rows. length rows.access.items ≡ count) }
@@ -133,8 +162,7 @@ pub(crate) fn rows_of(alloc: Global, shape: Shape, count: u32, wild: u32) -> Res
             group: name_of(b'g', number / IN_GROUP)?,
         })?;
         rows.access.push(access_row(shape, number)?)?;
-        let is_wild = wild != 0 && number % wild == 0;
-        rows.families.push(family_row(shape, number, is_wild)?)?;
+        rows.families.push(family_row(shape, number, wild)?)?;
     }
     Ok(rows)
 }

@@ -14,6 +14,8 @@ use Rattle.vacm_core.specs.Laws.{family_order-total}
 use Rattle.vacm_core.specs.Place.{family_name}
 use Rattle.vacm_core.specs.View.{HasArcs, AnswersView}
 use Rattle.vacm_core.proofs.First.{best_of_table, none_of_table}
+use Rattle.vacm_core.proofs.Exact.{arcs_exact}
+use Rattle.vacm_core.proofs.Uniqueness.{alike}
 use Rattle.snmpsec_access.specs.Seen.{fits, line_of, answer_of, rows_of}
 use Rattle.snmpsec_access.specs.Rising.{AreRising, saying}
 use Rattle.snmpsec_access.proofs.Members.{row_of, among_all, of_view, back}
@@ -101,11 +103,30 @@ said_upto rows variable rising (suc i) upto =
     element_at [] i within = absurd (omega (arith, within))
     element_at (row ∷ rows) i within = get_or_default (row ∷ rows) i row (get_or (row ∷ rows) i row) within
 
+said : (rows : List FamilyRow) (variable : List ℕ) → IsSorted family_order rows → IsSaid rows variable (saying rows variable)
+said rows variable rising = subst (λ (rs : List FamilyRow). IsSaid rs variable (saying rs variable)) (take_all (length rows) rows (omega arith)) (said_upto rows variable rising (length rows) (omega arith))
+
+-- rows that rise say what the best of them says, and nothing where none fits
+pub said_by_best : (rows : List FamilyRow) (variable : List ℕ) → IsSorted family_order rows → ((x y : FamilyRow) → Contains rows x → Contains rows y → x.subtree ≡ y.subtree → x ≡ y)
+    → (row : FamilyRow) → IsBestOf rows (HasArcs variable) family_order row → saying rows variable ≡ row.include
+said_by_best rows variable rising one_each row best = elim (said rows variable rising) [
+  | inl none ↦ absurd (none.0 row best.in_table best.fits)
+  | inr other ↦
+      let order = alike family_order family_order-total other.0 row (other.1.unexceeded row best.in_table best.fits) (best.unexceeded other.0 other.1.in_table other.1.fits) in
+      let same : other.0 ≡ row = one_each other.0 row other.1.in_table best.in_table (arcs_exact other.0.subtree row.subtree order) in
+      sym other.2 ∙ ap (λ (r : FamilyRow). r.include) same
+]
+
+pub said_by_none : (rows : List FamilyRow) (variable : List ℕ) → IsSorted family_order rows → NoneFits rows (HasArcs variable) → saying rows variable ≡ false
+said_by_none rows variable rising none = elim (said rows variable rising) [
+  | inl nothing ↦ nothing.1
+  | inr best ↦ absurd (none best.0 best.1.in_table best.1.fits)
+]
+
 -- the rows of a view decide as isAccessAllowed does
 pub decides : (families picked : List FamilyRow) (view variable : List ℕ) → AreRising families view picked → HasView families view → AnswersView families view variable (answer_of (saying picked variable))
 decides families picked view variable are has =
-    let said : IsSaid picked variable (saying picked variable) = subst (λ (rs : List FamilyRow). IsSaid rs variable (saying rs variable)) (take_all (length picked) picked (omega arith)) (said_upto picked variable are.rising (length picked) (omega arith)) in
-    by (saying picked variable) said
+    by (saying picked variable) (said picked variable are.rising)
   where
     among : (row : FamilyRow) → Contains picked row → Contains families row
     among row c = among_all families view row (back (rows_of families view) picked are.moved row c)

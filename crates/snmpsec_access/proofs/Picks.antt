@@ -16,7 +16,7 @@ use Rattle.snmpsec_access.proofs.Deciding.{above_earlier}
 
 -- ---- references and what they point to
 
-at_now : (items : List (Bor FamilyRow)) (k : ℕ) (d : Bor FamilyRow) → get_or (rows_at items) k d.now ≡ (get_or items k d).now
+pub at_now : (items : List (Bor FamilyRow)) (k : ℕ) (d : Bor FamilyRow) → get_or (rows_at items) k d.now ≡ (get_or items k d).now
 at_now [] zero d = refl
 at_now [] (suc k) d = refl
 at_now (x ∷ xs) zero d = refl

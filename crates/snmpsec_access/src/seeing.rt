@@ -257,8 +257,8 @@ fn put_level(
 /// the number of arcs and then by the arcs, without those that change no answer; of a view with a wildcard
 /// they are all. The error is want of memory.
 ///
-/// For c contexts 9c questions are asked. Each goes over the tables once, and over the lines of its view for
-/// each row of it.
+/// For c contexts 9c questions are asked. Each goes over the family rows once. It sorts those of its view, and
+/// for each of them looks up at most as many beginnings of its subtree as that has arcs.
 pub fn sees(
     alloc: Global,
     access: &Vacm,

@@ -1,6 +1,6 @@
 //! The rows of a view, from the least up, and those of them that decide.
 
-ghost use Rattle.std.specs.Prelude.{◌≡◌, IfOk, OnOk, MatchBool, Contains};
+ghost use Rattle.std.specs.Prelude.{◌≡◌, ◌≢◌, IfOk, OnOk, MatchBool, MatchOption, Contains};
 ghost use Rattle.std.specs.List.Sorted.{IsSorted, IsPermutation};
 ghost use Rattle.vacm_core.specs.declared.rows.FamilyRow.{FamilyRow as ARow};
 ghost use Rattle.vacm_core.specs.Allowed.{family_order as spec_order};
@@ -9,7 +9,7 @@ ghost use Rattle.snmpsec_access.specs.Seen.{rows_of};
 ghost use Rattle.snmpsec_access.specs.Rising.{AreRising, AreLeft, AreKept, IsNext, rows_at, saying};
 
 use std::alloc::{AllocError, Global};
-use vacm_core::FamilyRow;
+use vacm_core::{FamilyRow, arcs_order};
 
 /// Each mask compares each arc.
 fn are_exact(rows: &[&FamilyRow]) -> bool
@@ -61,23 +61,44 @@ pub(crate) fn rising_rows<'a>(
     Ok(picked)
 }
 
-/// What the last of the rows says whose subtree begins the variable.
+/// Returns the row with this subtree. A binary search finds it.
+fn row_at<'a>(rows: &[&'a FamilyRow], subtree: &[u32]) -> Option<&'a FamilyRow>
+    requires { IsSorted spec_order (rows_at rows.now) }
+    ensures { MatchOption result ((row : ARow) → Contains (rows_at rows.now) row → row.subtree ≢ subtree.now)
+        (λ row. Contains (rows_at rows.now) row.now × (row.now.subtree ≡ subtree.now)) }
+{
+    let found = rows.binary_search_by(|row| arcs_order(row.subtree.as_slice(), subtree));
+    match found {
+        Ok(place) => Some(rows[place]),
+        Err(_) => None,
+    }
+}
+
+/// Returns what the last row says whose subtree begins the variable. It is the longest, so the beginnings of the
+/// variable are looked up from the longest down.
 fn says(rows: &[&FamilyRow], variable: &[u32]) -> bool
-    requires { AreExact (rows_at rows.now) }
+    requires exact { AreExact (rows_at rows.now) }
+    requires rising { IsSorted spec_order (rows_at rows.now) }
+    requires one_each { (x y : ARow) → Contains (rows_at rows.now) x → Contains (rows_at rows.now) y
+        → x.subtree ≡ y.subtree → x ≡ y }
     ensures { result ≡ saying (rows_at rows.now) variable.now }
 {
-    let mut included = false;
-    for row in rows {
-        if variable.starts_with(row.subtree.as_slice()) {
-            included = row.include;
+    let mut left = variable.len() + 1;
+    while left > 0 {
+        left -= 1;
+        if let Some(row) = row_at(rows, &variable[..left]) {
+            return row.include;
         }
     }
-    included
+    false
 }
 
 /// Keeps the row, where it says something that those before it don't.
 fn keep_needed<'a>(kept: &mut Vec<&'a FamilyRow>, row: &'a FamilyRow) -> Result<(), AllocError>
-    requires { AreExact (rows_at kept.old.items) }
+    requires exact { AreExact (rows_at kept.old.items) }
+    requires rising { IsSorted spec_order (rows_at kept.old.items) }
+    requires one_each { (x y : ARow) → Contains (rows_at kept.old.items) x → Contains (rows_at kept.old.items) y
+        → x.subtree ≡ y.subtree → x ≡ y }
     ensures { OnOk result (IsNext (rows_at kept.old.items) row.now (rows_at kept.new.items)) }
 {
     if says(kept, row.subtree.as_slice()) == row.include {

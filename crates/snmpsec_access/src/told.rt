@@ -51,18 +51,8 @@ pub(crate) fn told_of<'a>(
     requires same_rows { HaveSameRows (tables_of rows.now) access.now }
     ensures { IfOk result (λ told. IsDecision (tables_of rows.now) (asker_of asking.now) (decision_of told)) }
 {
-    let explained = access.explain(rows, asking);
-    let Some(context) = explained.context else {
-        return Ok(Told::Refusal(Access::NoSuchContext));
-    };
-    let Some(group) = context.group else {
-        return Ok(Told::Refusal(Access::NoGroupName));
-    };
-    let Some(access) = group.access else {
-        return Ok(Told::Refusal(Access::NoAccessEntry));
-    };
-    let Some(view) = access.view else {
-        return Ok(Told::Refusal(Access::NoSuchView));
-    };
-    told_of_view(alloc, &rows.families, view.name.as_slice())
+    match access.view_of(asking) {
+        Ok(view) => told_of_view(alloc, &rows.families, view.as_slice()),
+        Err(answer) => Ok(Told::Refusal(answer)),
+    }
 }

@@ -21,19 +21,14 @@ use Rattle.vacm_core.specs.Allowed.{IsBestOf, family_order}
 use Rattle.vacm_core.specs.RowOrder.{AreFalling}
 use Rattle.vacm_core.specs.Place.{arcs_order}
 use Rattle.vacm_core.specs.View.{IsExact, AreExact, HasArcs}
-use Rattle.vacm_core.proofs.First.{not_exceeded}
+use Rattle.vacm_core.proofs.First.{not_exceeded, then_equal}
 use Rattle.vacm_core.specs.Laws.{family_order-total}
 
-arcs_total : IsTotalOrder arcs_order
+pub arcs_total : IsTotalOrder arcs_order
 arcs_total = then_total (on_total (λ (xs : List ℕ). length xs) nat_cmp_total) nat_list_cmp_total
 
-second_equal : (o p : Ordering) → ordering_then o p ≡ Equal → p ≡ Equal
-second_equal Less p h = cc
-second_equal Equal p h = h
-second_equal Greater p h = cc
-
-arcs_exact : (xs ys : List ℕ) → arcs_order xs ys ≡ Equal → xs ≡ ys
-arcs_exact xs ys h = exact_bytes xs ys (second_equal _ _ h)
+pub arcs_exact : (xs ys : List ℕ) → arcs_order xs ys ≡ Equal → xs ≡ ys
+arcs_exact xs ys h = exact_bytes xs ys (then_equal _ _ h).1
 
 -- ---- a search for one subtree
 
@@ -93,7 +88,7 @@ not_less x y p below less =
     let f : Greater ≡ Less = sym (ap (λ o. ordering_then o p) e) ∙ less in cc
 
 -- a row is not exceeded by a shorter one, nor by one of the same subtree
-longer : (a b : FamilyRow) → (length b.subtree < length a.subtree) ⊎ (b.subtree ≡ a.subtree) → family_order a b ≢ Less
+pub longer : (a b : FamilyRow) → (length b.subtree < length a.subtree) ⊎ (b.subtree ≡ a.subtree) → family_order a b ≢ Less
 longer a b (inl shorter) less = not_less (length a.subtree) (length b.subtree) _ shorter less
 longer a b (inr same) less =
     let e : family_order a b ≡ Equal = ap (λ xs. arcs_order a.subtree xs) same ∙ tied_itself arcs_total a.subtree in
@@ -143,7 +138,7 @@ module _ (variable : List ℕ) (run : List FamilyRow) (exact : AreExact run) whe
   begins_by : (row : FamilyRow) → Contains run row → HasArcs variable row → row.subtree ≡ take (length row.subtree) variable
   begins_by row there fits = fits_begins variable row (exact row there) fits
 
-  none_here : (n : ℕ) → NoneFrom (n + 1) → ((row : FamilyRow) → Contains run row → row.subtree ≢ take n variable) → NoneFrom n
+  pub none_here : (n : ℕ) → NoneFrom (n + 1) → ((row : FamilyRow) → Contains run row → row.subtree ≢ take n variable) → NoneFrom n
   none_here n none nowhere row there long fits = elim (cases_lt n (length row.subtree)) [
     | inl more ↦ none row there (omega arith) fits
     | inr upto ↦

@@ -1,7 +1,7 @@
 -- The first row of a run that fits is the best of its table.
 use Rattle.std.proofs.Common.{◌≡◌, ◌≢◌, ℕ, ◌+◌, ◌<◌, ◌≤◌, List, ◌++◌, true, false, length, get_or, Option, Some, None, MatchOption, Bor, Contains, sym, ap, subst, ◌∙◌, refl, inl, inr, arith}
 use Rattle.std.specs.Cmp.{IsTotalOrder}
-use Rattle.std.specs.Ordering.{is_lt}
+use Rattle.std.specs.Ordering.{is_lt, ordering_then}
 use Rattle.std.specs.declared.cmp.Ordering.{Ordering}
 use Rattle.std.specs.declared.cmp.Ordering.TheVariants.{Less, Equal, Greater}
 use Rattle.std.proofs.lemmas.Bool.{cases_lt}
@@ -11,6 +11,11 @@ use Rattle.std.proofs.lemmas.List.Elements.{Contains-append_left, Contains-appen
 use Rattle.std.proofs.lemmas.List.Sorted.{sorted_far, ranks_by}
 use Rattle.vacm_core.specs.Allowed.{IsBestOf, NoneFits}
 use Rattle.vacm_core.specs.RowOrder.{AreFalling}
+
+pub then_equal : (o p : Ordering) → ordering_then o p ≡ Equal → (o ≡ Equal) × (p ≡ Equal)
+then_equal Less p h = cc
+then_equal Equal p h = (refl, h)
+then_equal Greater p h = cc
 
 -- the best of a name's rows is the best of their table
 module _ {R : Type 0} (Fits Here : R → Type 0) (rank : R → R → Ordering) (name : R → List ℕ) (wanted : List ℕ) (rows those : List R)

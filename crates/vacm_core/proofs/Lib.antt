@@ -10,3 +10,4 @@ pub mod Uniqueness
 pub mod Views
 pub mod Places
 pub mod Runs
+pub mod Wildcards

@@ -13,12 +13,12 @@ use Rattle.std.proofs.lemmas.Map.Lookups.{exact_bytes}
 use Rattle.std.specs.Slice.{IsItemAt}
 use Rattle.vacm_core.specs.RowOrder.{side_of, AreInPlace, HasRowOf, IsRunOf}
 
-first_part : (o p : Ordering) → is_lt (ordering_then o p) ≡ false → is_lt o ≡ false
+pub first_part : (o p : Ordering) → is_lt (ordering_then o p) ≡ false → is_lt o ≡ false
 first_part Less p h = h
 first_part Equal p h = refl
 first_part Greater p h = refl
 
-second_part : (o p : Ordering) → o ≡ Equal → is_lt (ordering_then o p) ≡ false → is_lt p ≡ false
+pub second_part : (o p : Ordering) → o ≡ Equal → is_lt (ordering_then o p) ≡ false → is_lt p ≡ false
 second_part o p e h = subst (λ x. is_lt (ordering_then x p) ≡ false) e h
 
 there_only : (o : Ordering) → nat_lt (ordering_index o) 1 ≡ false → nat_lt (ordering_index o) 2 ≡ true → o ≡ Equal

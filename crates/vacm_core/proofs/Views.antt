@@ -1,23 +1,29 @@
 -- The rows of a view in two tables, and what they answer.
-use Rattle.std.proofs.Common.{◌≡◌, ◌≢◌, ℕ, ◌<◌, ◌⊎◌, List, [], ◌∷◌, ◌++◌, length, Contains, Bool, true, false, cond, sym, subst, refl, inl, inr, arith}
+use Rattle.std.proofs.Common.{◌≡◌, ◌≢◌, ℕ, ◌<◌, ◌⊎◌, List, [], ◌∷◌, ◌++◌, length, Contains, Bool, true, false, cond, Option, Some, None, MatchOption, Bor, sym, subst, refl, inl, inr, arith}
 use Rattle.std.proofs.lemmas.List.Elements.{Contains-append_left, Contains-append_right, Contains-append_cases}
 use Rattle.vacm_core.specs.declared.access.Access.{Access}
 use Rattle.vacm_core.specs.declared.access.Access.TheVariants.{NoSuchContext, NoGroupName, NoAccessEntry, NoSuchView, NotInView, AccessAllowed}
 use Rattle.vacm_core.specs.declared.access.ViewType.{ViewType}
+use Rattle.std.proofs.lemmas.Option.{MatchOption-at_some}
+use Rattle.vacm_core.specs.declared.rows.ContextRow.{ContextRow}
+use Rattle.vacm_core.specs.declared.rows.GroupRow.{GroupRow}
 use Rattle.vacm_core.specs.declared.rows.AccessRow.{AccessRow}
+use Rattle.vacm_core.specs.declared.ask.Deciding.{Deciding}
 use Rattle.vacm_core.specs.declared.rows.FamilyRow.{FamilyRow}
 use Rattle.vacm_core.specs.Tables.{Tables}
-use Rattle.vacm_core.specs.Allowed.{Allowed, Requester, HasContext, HasView, IsInGroup, IsBestOf, NoneFits, FitsMessage, FitsVariable, access_order, family_order, view_name}
+use Rattle.vacm_core.specs.Steps.{HasNoGroup, DecidesView, DecidesAccess, DecidesGroup, DecidesContext}
+use Rattle.vacm_core.specs.Allowed.{Allowed, ByView, Requester, HasContext, HasView, IsInGroup, IsGroupRow, IsBestOf, NoneFits, FitsMessage, FitsVariable, access_order, family_order, view_name}
 use Rattle.vacm_core.specs.RowOrder.{IsRunOf}
 use Rattle.vacm_core.specs.Place.{family_name}
 use Rattle.vacm_core.specs.View.{HasArcs, AnswersView}
+use Rattle.vacm_core.specs.Wildcard.{wildcard_order}
 use Rattle.vacm_core.proofs.First.{best_of_table, none_of_table}
 
 some_row : (rows : List FamilyRow) → 0 < length rows → (row : FamilyRow) × Contains rows row
 some_row [] h = absurd (omega (arith, h))
 some_row (row ∷ rows) h = (row, (0, omega arith, refl))
 
-module _ (xs ys xr yr : List FamilyRow) (view : List ℕ) (first : IsRunOf family_name family_order view xs xr) (second : IsRunOf family_name family_order view ys yr) where
+module _ (xs ys xr yr : List FamilyRow) (view : List ℕ) (first : IsRunOf family_name family_order view xs xr) (second : IsRunOf family_name wildcard_order view ys yr) where
   among : (row : FamilyRow) → Contains (xr ++ yr) row → Contains (xs ++ ys) row
   among row there = elim (Contains-append_cases xr yr row there) [
     | inl c ↦ Contains-append_left xs ys row (first.among row c)
@@ -84,3 +90,32 @@ by_view t q view variable group row context in_group best NoAccessEntry h = absu
 by_view t q view variable group row context in_group best NoSuchView h = record { context = context; group = group; in_group = in_group; row = row; best = best; so = h }
 by_view t q view variable group row context in_group best NotInView h = record { context = context; group = group; in_group = in_group; row = row; best = best; so = h }
 by_view t q view variable group row context in_group best AccessAllowed h = record { context = context; group = group; in_group = in_group; row = row; best = best; so = h }
+
+-- the rows that decide, from the context to the access row
+module _ (t : Tables) (q : Requester) (view : ViewType) (variable : List ℕ) (d : Deciding) (decides : DecidesContext t q view variable d)
+    (context : Bor ContextRow) (has_context : d.context ≡ Some context) where
+  group_of : DecidesGroup t q view variable d
+  group_of = (MatchOption-at_some _ _ context has_context decides).2
+
+  pub context_of : HasContext t.contexts q.context
+  context_of = let c = MatchOption-at_some _ _ context has_context decides in (context.now, c.0, c.1)
+
+  pub no_group_of : d.group ≡ None → (group : List ℕ) → ¬ IsInGroup t.groups q.model q.name group
+  no_group_of none = subst (λ (o : Option (Bor GroupRow)). MatchOption o (HasNoGroup t.groups q.model q.name) (λ row. Contains t.groups row.now × IsGroupRow q.model q.name row.now × DecidesAccess t q view variable row.now.group d)) none group_of
+
+  module _ (group : Bor GroupRow) (has_group : d.group ≡ Some group) where
+    access_of : DecidesAccess t q view variable group.now.group d
+    access_of = (MatchOption-at_some _ _ group has_group group_of).2
+
+    in_group_of : IsInGroup t.groups q.model q.name group.now.group
+    in_group_of = let g = MatchOption-at_some _ _ group has_group group_of in (group.now, g.0, g.1, refl)
+
+    pub no_access_of : d.access ≡ None → (variable : List ℕ) → Allowed t q view variable NoAccessEntry
+    no_access_of none variable' = (
+      context_of,
+      (group.now.group, in_group_of, subst (λ (o : Option (Bor AccessRow)). MatchOption o (NoneFits t.access (FitsMessage group.now.group q.model q.level q.context)) (λ row. IsBestOf t.access (FitsMessage group.now.group q.model q.level q.context) access_order row.now × DecidesView t.families (view_name view row.now) variable d.family)) none access_of),
+    )
+
+    pub view_of : (row : Bor AccessRow) → d.access ≡ Some row → (P : List ℕ → Type 0) → P (view_name view row.now) → ByView t q view P
+    view_of row has_row P so =
+        record { context = context_of; group = group.now.group; in_group = in_group_of; row = row.now; best = (MatchOption-at_some _ _ row has_row access_of).0; so = so }

@@ -12,6 +12,7 @@ use Rattle.std.proofs.lemmas.Cmp.{nat_cmp_total, nat_list_cmp_total, on_total, t
 use Rattle.std.proofs.lemmas.Cmp.{nat_list_eq_equiv}
 use Rattle.std.proofs.lemmas.Map.Text.{is_eq-slice_cmp}
 use Rattle.vacm_core.specs.Allowed.{access_order, family_order, specificity}
+use Rattle.vacm_core.specs.Wildcard.{compared_arcs, shape_order, wildcard_order}
 use Rattle.vacm_core.specs.Faults.{is_same_context, is_same_group, is_same_access, is_same_family}
 use Rattle.snmp_ber.specs.Level.{level_number}
 use Rattle.vacm_core.specs.declared.rows.ContextRow.{ContextRow}
@@ -29,6 +30,17 @@ pub family_order-total : IsTotalOrder family_order
 family_order-total =
     then_total (on_total (λ row. length row.subtree) nat_cmp_total)
     (on_total (λ row. row.subtree) (lists_total nat_cmp_total))
+
+pub shape_order-total : IsTotalOrder shape_order
+shape_order-total =
+    then_total (on_total (λ (row : FamilyRow). length row.subtree) nat_cmp_total)
+    (on_total (λ row. row.mask) nat_list_cmp_total)
+
+pub wildcard_order-total : IsTotalOrder wildcard_order
+wildcard_order-total =
+    then_total shape_order-total
+    (then_total (on_total (λ (row : FamilyRow). compared_arcs row.mask row.subtree) nat_list_cmp_total)
+    (on_total (λ row. row.subtree) nat_list_cmp_total))
 
 pub equal_total : {R : Type 0} → IsTotalOrder (λ (a b : R). Equal)
 equal_total = record { antisymm = λ x y. refl; trans = λ x y z a b. a; congr = λ x y z a. refl }

@@ -8,3 +8,4 @@ pub mod Laws
 pub mod Numbers
 pub mod Steps
 pub mod RowOrder
+pub mod Wildcard

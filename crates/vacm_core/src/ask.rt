@@ -11,6 +11,7 @@ use crate::rows::{AccessRow, ContextRow, FamilyRow, GroupRow};
 use crate::steps::Asking;
 use crate::table::OrderedTable;
 use crate::view::ask_view;
+use crate::wildcard::WildcardRow;
 use snmp_ber::Level;
 
 /// The row of the context of this name.
@@ -74,7 +75,7 @@ pub(crate) fn decide_over<'a>(
     groups: &'a OrderedTable<GroupRow>,
     access: &'a OrderedTable<AccessRow>,
     exact: &'a OrderedTable<FamilyRow>,
-    others: &'a OrderedTable<FamilyRow>,
+    others: &'a OrderedTable<WildcardRow>,
     asking: &Asking<'_>,
 ) -> Deciding<'a>
     requires { AreExact exact.now }

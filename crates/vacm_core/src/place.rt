@@ -3,12 +3,10 @@ ghost use Rattle.std.specs.Prelude.{◌≡◌, ◌<◌, ◌≤◌, length, nat_l
 ghost use Rattle.std.specs.List.Sorted.{IsPermutation, IsPartitionedBy, IsPartitionPoint};
 ghost use Rattle.vacm_core.specs.RowOrder.{place_order, side_of, AreInPlace};
 
+use crate::front::count_front;
 use crate::named_row::NamedRow;
 use std::alloc::{AllocError, Global};
 use std::cmp::Ordering;
-
-/// How much further each look for the end of a name's rows goes.
-const STRIDE: usize = 8;
 
 /// The order in which rows stand.
 fn place<R: NamedRow>(a: &R, b: &R) -> Ordering
@@ -26,40 +24,13 @@ fn is_upto<R: NamedRow>(row: &R, wanted: &[u8]) -> bool
 }
 
 /// How many of the rows are not past the name.
-fn count_upto<R: NamedRow>(rows: &[R], wanted: &[u8]) -> usize
+pub(crate) fn count_upto<R: NamedRow>(rows: &[R], wanted: &[u8]) -> usize
     requires { IsPartitionedBy (λ row. nat_lt (side_of R.name_of wanted.now row) 2) rows.now }
     ensures bound { result ≤ length rows.now }
     ensures parted { IsPartitionPoint (λ row. nat_lt (side_of R.name_of wanted.now row) 2 ≡ true)
         (λ row. nat_lt (side_of R.name_of wanted.now row) 2 ≡ false) rows.now result }
 {
-    rows.partition_point(|row| is_upto(row, wanted))
-}
-
-/// There is a row at the place, and it is not past the name.
-fn goes_on<R: NamedRow>(rows: &[R], place: usize, wanted: &[u8]) -> bool
-    ensures { MatchBool result (place < length rows.now)
-        ((d : R) → place < length rows.now
-        → nat_lt (side_of R.name_of wanted.now (get_or rows.now place d)) 2 ≡ false) }
-{
-    match rows.get(place) {
-        Some(row) => is_upto(row, wanted),
-        None => false,
-    }
-}
-
-/// The same, looked for near the first row, and then further and further away, since a name mostly has few rows.
-pub(crate) fn count_near<R: NamedRow>(rows: &[R], wanted: &[u8]) -> usize
-    requires { IsPartitionedBy (λ row. nat_lt (side_of R.name_of wanted.now row) 2) rows.now }
-    ensures bound { result ≤ length rows.now }
-    ensures parted { IsPartitionPoint (λ row. nat_lt (side_of R.name_of wanted.now row) 2 ≡ true)
-        (λ row. nat_lt (side_of R.name_of wanted.now row) 2 ≡ false) rows.now result }
-{
-    let mut near = 1;
-    while goes_on(rows, near, wanted) {
-        near = near.saturating_mul(STRIDE);
-    }
-    let near = near.min(rows.len());
-    count_upto(&rows[..near], wanted)
+    count_front(rows, |row| is_upto(row, wanted))
 }
 
 /// The same rows.

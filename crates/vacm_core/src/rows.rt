@@ -112,8 +112,8 @@ impl AccessRow {
     }
 }
 
-/// By the number of arcs, then by the arcs.
-pub(crate) fn arcs_order(first: &[u32], second: &[u32]) -> Ordering
+/// Compares two identifiers by the number of arcs, then by the arcs.
+pub fn arcs_order(first: &[u32], second: &[u32]) -> Ordering
     ensures { result ≡ arcs_order first.now second.now }
 {
     first.len().cmp(&second.len()).then(first.cmp(second))

@@ -6,7 +6,7 @@ ghost use Rattle.vacm_core.specs.RowOrder.{AreInPlace, AreRuns, IsRunOf};
 
 use crate::Name;
 use crate::named_row::NamedRow;
-use crate::place::{copies, count_near, sort};
+use crate::place::{copies, count_upto, sort};
 use std::alloc::{AllocError, Global};
 use std::collections::HashMap;
 use std::marker::Model;
@@ -59,7 +59,7 @@ fn run_at<R: NamedRow>(rows: &[R], first: usize) -> Run
         (slice_range rows.now result.first result.end) }
 {
     let wanted = rows[first].name().as_slice();
-    let count = count_near(&rows[first..], wanted);
+    let count = count_upto(&rows[first..], wanted);
     Run {
         first,
         end: first + count,

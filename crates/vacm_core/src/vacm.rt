@@ -1,5 +1,5 @@
 //! The tables that answer (RFC 3415, section 3).
-ghost use Rattle.std.specs.Prelude.{◌↔◌, ◌++◌, ℕ, List, IsTrue, IfOk, IfErr, OnOk};
+ghost use Rattle.std.specs.Prelude.{◌≡◌, ◌≢◌, ◌↔◌, ◌++◌, [], ℕ, List, IsTrue, IfOk, IfErr, OnOk, MatchResult};
 ghost use Rattle.std.specs.List.Sorted.{IsPermutation};
 ghost use Rattle.vacm_core.specs.Tables.{tables_of, HaveSameRows};
 ghost use Rattle.vacm_core.specs.Faults.{AreSound, IsTold};
@@ -7,7 +7,8 @@ ghost use Rattle.vacm_core.specs.Distinct.{HasOneRowEach};
 ghost use Rattle.vacm_core.specs.declared.access.ViewType.{ViewType as Asked};
 ghost use Rattle.vacm_core.specs.declared.access.Access.{Access as Answer};
 ghost use Rattle.vacm_core.specs.Allowed as spec;
-ghost use Rattle.vacm_core.specs.Allowed.{Allowed, HasContext};
+ghost use Rattle.vacm_core.specs.declared.access.Access.TheVariants.{NotInView, AccessAllowed};
+ghost use Rattle.vacm_core.specs.Allowed.{Allowed, ByView, HasContext};
 ghost use Rattle.vacm_core.specs.View.{AreExact};
 ghost use Rattle.vacm_core.specs.Steps.{DecidesContext, TellsContext, requester_of};
 
@@ -18,7 +19,8 @@ use crate::named_row::NamedRow;
 use crate::rows::{AccessRow, ContextRow, FamilyRow, GroupRow};
 use crate::steps::{Asking, Explained};
 use crate::table::OrderedTable;
-use crate::{Access, Rows, VacmFault, ViewType};
+use crate::wildcard::WildcardRow;
+use crate::{Access, Name, Rows, VacmFault, ViewType};
 use snmp_ber::{Level, Oid};
 use std::alloc::{AllocError, Global};
 use std::marker::Model;
@@ -28,14 +30,16 @@ use std::marker::Model;
 /// The rows of each stand by a name: contexts by their own, groups by the security name, access rows by the
 /// group and family rows by the view. The rows of one name stand from the best down, so that the first that
 /// fits decides. Family rows whose masks compare each arc stand apart: they are found by the beginnings of a
-/// variable.
+/// variable. Family rows with a wildcard are grouped by length and mask, and each group is sorted by the arcs that
+/// its mask compares. A question searches each group of its view at most once, from the longest down. So its time
+/// grows with the number of different pairs of length and mask in the view, and with the logarithm of its rows.
 #[derive(Drop)]
 pub struct Vacm {
     contexts: OrderedTable<ContextRow>,
     groups: OrderedTable<GroupRow>,
     access: OrderedTable<AccessRow>,
     exact: OrderedTable<FamilyRow>,
-    others: OrderedTable<FamilyRow>,
+    others: OrderedTable<WildcardRow>,
 }
 
 impl Model for Vacm {
@@ -140,6 +144,35 @@ impl Vacm {
         self.decide(&asking).answer
     }
 
+    /// Returns the name of the view that such messages have, whatever the variable. It takes no memory.
+    ///
+    /// The name isn't empty; family rows may have it or not. The error is the answer to each question of such
+    /// messages, if no row names a view: `NoSuchContext`, `NoGroupName`, `NoAccessEntry` or `NoSuchView` (RFC
+    /// 3415, section 3.2). `asking.variable` isn't looked at.
+    pub fn view_of(&self, asking: &Asking<'_>) -> Result<&Name, Access>
+        ensures { MatchResult result
+            (λ name. (name.now ≢ [])
+            × ByView self.now (requester_of asking.now) asking.now.view (λ view. view ≡ name.now))
+            (λ answer. (answer ≢ NotInView) × (answer ≢ AccessAllowed) × ((variable : List ℕ)
+            → Allowed self.now (requester_of asking.now) asking.now.view variable answer)) }
+    {
+        let decided = self.decide(asking);
+        let Some(_context) = decided.context else {
+            return Err(Access::NoSuchContext);
+        };
+        let Some(_group) = decided.group else {
+            return Err(Access::NoGroupName);
+        };
+        let Some(row) = decided.access else {
+            return Err(Access::NoAccessEntry);
+        };
+        let name = row.view(asking.view);
+        if name.as_slice().is_empty() {
+            return Err(Access::NoSuchView);
+        }
+        Ok(name)
+    }
+
     /// What decides on the question: its answer, and the rows that decide, by their positions. It takes no memory.
     ///
     /// The answer is that of `is_access_allowed`. The rows are those that the tables were made of, and each
@@ -188,7 +221,7 @@ impl Vacm {
 fn families_of(
     alloc: Global,
     rows: &[FamilyRow],
-) -> Result<(OrderedTable<FamilyRow>, OrderedTable<FamilyRow>), AllocError>
+) -> Result<(OrderedTable<FamilyRow>, OrderedTable<WildcardRow>), AllocError>
     ensures same { IfOk result (λ made. IsPermutation rows.now (made.0 ++ made.1)) }
     ensures exact { IfOk result (λ made. AreExact made.0) }
 {
@@ -199,7 +232,10 @@ fn families_of(
 }
 
 /// Copies of the rows: those whose masks compare each arc, and the others.
-fn split(alloc: Global, rows: &[FamilyRow]) -> Result<(Vec<FamilyRow>, Vec<FamilyRow>), AllocError>
+fn split(
+    alloc: Global,
+    rows: &[FamilyRow],
+) -> Result<(Vec<FamilyRow>, Vec<WildcardRow>), AllocError>
     ensures same { IfOk result (λ made. IsPermutation rows.now (made.0.items ++ made.1.items)) }
     ensures exact { IfOk result (λ made. AreExact made.0.items) }
 {
@@ -209,7 +245,7 @@ fn split(alloc: Global, rows: &[FamilyRow]) -> Result<(Vec<FamilyRow>, Vec<Famil
         if row.is_exact() {
             exact.push(row.copy())?;
         } else {
-            others.push(row.copy())?;
+            others.push(WildcardRow::of(row.copy()))?;
         }
     }
     Ok((exact, others))

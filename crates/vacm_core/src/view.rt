@@ -1,17 +1,18 @@
 //! The rows of one view, and the one of them that decides on a variable.
-ghost use Rattle.std.specs.Prelude.{◌≡◌, ◌≢◌, ◌⊎◌, [], ◌++◌, ℕ, ◌<◌, ◌≤◌, ◌↔◌, length, IsTrue, MatchOption};
-ghost use Rattle.std.specs.Prelude.{MatchResult, slice_index, get_or};
+ghost use Rattle.std.specs.Prelude.{◌≡◌, ◌≢◌, ◌⊎◌, [], ◌++◌, ℕ, ◌<◌, ◌≤◌, ◌↔◌, length, IsTrue};
+ghost use Rattle.std.specs.Prelude.{List, MatchBool, MatchResult, slice_index, get_or};
 ghost use Rattle.std.specs.declared.cmp.Ordering.TheVariants.{Less, Greater};
 ghost use Rattle.vacm_core.specs.RowOrder.{AreFalling};
 ghost use Rattle.vacm_core.specs.Place.{arcs_order};
 ghost use Rattle.vacm_core.specs.View.{AreExact, HasArcs, AnswersView};
 ghost use Rattle.vacm_core.specs.declared.rows.FamilyRow.{FamilyRow as Family};
 ghost use Rattle.vacm_core.specs.Steps.{DecidesView};
-ghost use Rattle.vacm_core.specs.Allowed.{IsBestOf, NoneFits, family_order, mask_bit};
+ghost use Rattle.vacm_core.specs.Wildcard.{wildcard_order, IsDecider};
+ghost use Rattle.vacm_core.specs.Allowed.{family_order, mask_bit};
 
-use crate::named_row::NamedRow;
 use crate::rows::{FamilyRow, arcs_order};
 use crate::table::OrderedTable;
+use crate::wildcard::{WildcardRow, best_of_alike, count_alike};
 use crate::{Access, Mask};
 
 /// The arcs that the mask compares are equal.
@@ -30,25 +31,11 @@ fn agrees(subtree: &[u32], mask: &Mask, variable: &[u32]) -> bool
 }
 
 /// The row's subtree has the variable.
-fn has_arcs(row: &FamilyRow, variable: &[u32]) -> bool
+pub(crate) fn has_arcs(row: &FamilyRow, variable: &[u32]) -> bool
     ensures { IsTrue result ↔ HasArcs variable.now row.now }
 {
     row.subtree.as_slice().len() <= variable.len()
         && agrees(row.subtree.as_slice(), &row.mask, variable)
-}
-
-/// The first of the rows that has the variable.
-fn best_of_others<'a>(rows: &'a [FamilyRow], variable: &[u32]) -> Option<&'a FamilyRow>
-    requires { AreFalling family_order rows.now }
-    ensures { MatchOption result (NoneFits rows.now (HasArcs variable.now))
-        (λ row. IsBestOf rows.now (HasArcs variable.now) family_order row.now) }
-{
-    for row in rows {
-        if has_arcs(row, variable) {
-            return Some(row);
-        }
-    }
-    None
 }
 
 /// Where the row of this subtree is, or else the first row after it, found by halving.
@@ -79,8 +66,7 @@ fn arcs_from(rows: &[FamilyRow], place: usize) -> usize
 fn best_of_exact<'a>(rows: &'a [FamilyRow], variable: &[u32]) -> Option<&'a FamilyRow>
     requires falling { AreFalling family_order rows.now }
     requires exact { AreExact rows.now }
-    ensures { MatchOption result (NoneFits rows.now (HasArcs variable.now))
-        (λ row. IsBestOf rows.now (HasArcs variable.now) family_order row.now) }
+    ensures { IsDecider variable.now rows.now result }
 {
     let mut left = arcs_from(rows, 0).min(variable.len() + 1);
     while left > 0 {
@@ -93,34 +79,63 @@ fn best_of_exact<'a>(rows: &'a [FamilyRow], variable: &[u32]) -> Option<&'a Fami
     None
 }
 
-/// The row that decides on the variable: the better of the two kinds' best.
-fn deciding_row<'a>(
-    exact: &'a [FamilyRow],
-    others: &'a [FamilyRow],
-    variable: &[u32],
-) -> Option<&'a FamilyRow>
-    requires exact_falling { AreFalling family_order exact.now }
-    requires others_falling { AreFalling family_order others.now }
-    requires are_exact { AreExact exact.now }
-    ensures { let rows = exact.now ++ others.now in
-        MatchOption result (NoneFits rows (HasArcs variable.now))
-        (λ row. IsBestOf rows (HasArcs variable.now) family_order row.now) }
+/// Returns the better of two rows: the first decides among some rows, the second among others.
+fn better<'a>(first: Option<&'a FamilyRow>, second: Option<&'a FamilyRow>) -> Option<&'a FamilyRow>
+    ensures { (variable : List ℕ) (rows others : List Family) → IsDecider variable rows first.entry
+        → IsDecider variable others second.entry → IsDecider variable (rows ++ others) result }
 {
-    let Some(first) = best_of_exact(exact, variable) else {
-        return best_of_others(others, variable);
+    let Some(one) = first else {
+        return second;
     };
-    let Some(second) = best_of_others(others, variable) else {
-        return Some(first);
+    let Some(other) = second else {
+        return Some(one);
     };
-    if first.ranking(second).is_lt() {
-        Some(second)
+    if one.order(other).is_lt() {
+        Some(other)
     } else {
-        Some(first)
+        Some(one)
     }
 }
 
+/// Returns true if no row of the rest can be better: there is none, or each is shorter than the row that was found.
+fn is_decided(found: Option<&FamilyRow>, rest: &[WildcardRow]) -> bool
+    requires { AreFalling wildcard_order rest.now }
+    ensures { MatchBool result ((variable : List ℕ) (rows : List Family) → IsDecider variable rows found.entry
+        → IsDecider variable (rows ++ rest.now) found.entry) (0 < length rest.now) }
+{
+    let Some(next) = rest.first() else {
+        return true;
+    };
+    match found {
+        Some(row) => next.length() < row.subtree.as_slice().len(),
+        None => false,
+    }
+}
+
+/// Returns the row that decides on the variable. The other rows are searched by length and mask, from the longest
+/// down. The search ends when all that is left is shorter than the best row so far.
+fn deciding_row<'a>(
+    exact: &'a [FamilyRow],
+    others: &'a [WildcardRow],
+    variable: &[u32],
+) -> Option<&'a FamilyRow>
+    requires exact_falling { AreFalling family_order exact.now }
+    requires others_falling { AreFalling wildcard_order others.now }
+    requires are_exact { AreExact exact.now }
+    ensures { IsDecider variable.now (exact.now ++ others.now) result }
+{
+    let mut found = best_of_exact(exact, variable);
+    let mut rest = others;
+    while !is_decided(found, rest) {
+        let (alike, shorter) = rest.split_at(count_alike(rest));
+        found = better(found, best_of_alike(alike, variable));
+        rest = shorter;
+    }
+    found
+}
+
 /// The view has a name, and a row of either kind.
-fn has_view(exact: &[FamilyRow], others: &[FamilyRow], view: &[u8]) -> bool
+fn has_view(exact: &[FamilyRow], others: &[WildcardRow], view: &[u8]) -> bool
     ensures { IsTrue result ↔ ((view.now ≢ []) × ((0 < length exact.now) ⊎ (0 < length others.now))) }
 {
     !view.is_empty() && !(exact.is_empty() && others.is_empty())
@@ -136,7 +151,7 @@ pub(crate) struct ViewAnswer<'a> {
 /// What the view of this name says of the variable.
 pub(crate) fn ask_view<'a>(
     exact: &'a OrderedTable<FamilyRow>,
-    others: &'a OrderedTable<FamilyRow>,
+    others: &'a OrderedTable<WildcardRow>,
     view: &[u8],
     variable: &[u32],
 ) -> ViewAnswer<'a>

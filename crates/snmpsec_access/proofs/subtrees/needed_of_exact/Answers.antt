@@ -3,7 +3,15 @@ use Rattle.snmpsec_access.proofs.Picks.{within_rows, item_at, taken_there, next_
 use Rattle.snmpsec_access.proofs.subtrees.needed_of_exact.Goals as goal
 
 pub keep_needed-requires : goal.keep_needed-requires
-keep_needed-requires c = λ row there. c.requires.exact row (taken_there (rows_at c.args.rows.now) c.rows.row-index row (c.rows.invariant.among row there))
+keep_needed-requires c =
+    let rows = rows_at c.args.rows.now in
+    let i = c.rows.row-index in
+    let left = c.rows.invariant in
+    record {
+      exact = λ row there. c.requires.exact row (taken_there rows i row (left.among row there));
+      rising = left.rising;
+      one_each = λ x y there_x there_y. c.requires.one_each x y (taken_there rows i x (left.among x there_x)) (taken_there rows i y (left.among y there_y));
+    }
 
 pub rows-preserved : goal.rows-preserved
 rows-preserved c =

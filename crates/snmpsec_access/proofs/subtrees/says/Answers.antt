@@ -1,21 +1,32 @@
-use Rattle.std.proofs.Common.{◌≡◌, List, take, true, false, sym, ap, ◌∙◌}
-use Rattle.vacm_core.specs.declared.rows.FamilyRow.{FamilyRow}
-use Rattle.snmpsec_access.specs.Rising.{rows_at, saying}
-use Rattle.snmpsec_access.proofs.Begins.{begins}
-use Rattle.snmpsec_access.proofs.Picks.{items_more, within_rows, item_at, says_more}
-use Rattle.snmpsec_access.proofs.subtrees.says.Goals.{then-starts_with, else-starts_with}
+use Rattle.std.proofs.Common.{◌≡◌, ◌+◌, ◌-◌, sym, subst, arith}
+use Rattle.vacm_core.proofs.Exact.{NoneFrom, none_here, longest_is_best}
+use Rattle.snmpsec_access.specs.Rising.{rows_at}
+use Rattle.snmpsec_access.proofs.Deciding.{said_by_best, said_by_none}
 use Rattle.snmpsec_access.proofs.subtrees.says.Goals as goal
 
-pub loop-row-preserved : goal.loop-row-preserved
-loop-row-preserved c =
-    let items = c.args.rows.now in
-    let i = c.loop-row.row-index in
-    let item = c.row-item.result in
+pub loop-left-init : goal.loop-left-init
+loop-left-init c = (omega arith, λ row there long fits. let l = fits.long in omega arith)
+
+pub loop-left-preserved : goal.loop-left-preserved
+loop-left-preserved c =
+    let rows = rows_at c.args.rows.now in
+    let some = c.loop-left-test.true in
+    let e : c.loop-left.left ≡ c.loop-left.left - 1 + 1 = omega arith in (
+      let upto = c.loop-left.invariant.0 in omega arith,
+      none_here c.args.variable.now rows c.requires.exact (c.loop-left.left - 1) (subst (NoneFrom c.args.variable.now rows c.requires.exact) e c.loop-left.invariant.1) c.in_default.ensures,
+    )
+
+pub returns-in-Some : goal.returns-in-Some
+returns-in-Some c =
+    let rows = rows_at c.args.rows.now in
     let variable = c.args.variable.now in
-    let exact = c.requires item.now (i, within_rows items i c.loop-row-test.true, sym (item_at items i item c.row-item.is)) in
-    let grown = ap (λ (rows : List FamilyRow). saying rows variable) (items_more items i item c.loop-row-test.true c.row-item.is) in
-    let value : c.starts_with.result ≡ begins item.now.subtree variable = c.starts_with.ensures.value ∙ ap (λ subtree. begins subtree variable) c.as_slice.ensures.value in
-    elim c.if-starts_with.branch [
-      | then-starts_with w ↦ w.included-is ∙ sym (grown ∙ says_more (take i (rows_at items)) item.now variable true exact (sym value ∙ w.if-starts_with.true))
-      | else-starts_with w ↦ w.included-is ∙ c.loop-row.invariant ∙ sym (grown ∙ says_more (take i (rows_at items)) item.now variable false exact (sym value ∙ w.if-starts_with.false))
-    ]
+    let some = c.loop-left-test.true in
+    let upto = c.loop-left.invariant.0 in
+    let e : c.loop-left.left ≡ c.loop-left.left - 1 + 1 = omega arith in
+    sym (said_by_best rows variable c.requires.rising c.requires.one_each c.in-Some.row.now
+    (longest_is_best variable rows c.requires.exact (c.loop-left.left - 1) c.in-Some.row.now (omega arith) (subst (NoneFrom variable rows c.requires.exact) e c.loop-left.invariant.1) c.in-Some.ensures.0 c.in-Some.ensures.1))
+
+pub returns : goal.returns
+returns c =
+    let none = c.loop-left-test.false in
+    sym (said_by_none (rows_at c.args.rows.now) c.args.variable.now c.requires.rising (λ row there. c.loop-left.invariant.1 row there (omega arith)))

@@ -16,7 +16,7 @@ loop-row-preserved c =
           let same : c.if-is_exact.others.items ≡ others = ap (λ v. v.items) w.others-is in
           rw (items, same) (first_more rows i row c.loop-row-test.true c.row-item.is exact others c.loop-row.invariant.0, exact_more exact row c.loop-row.invariant.1 (w.if-is_exact.ensures.0 refl))
       | else-is_exact+in_ok-push-2 w ↦
-          let items : c.if-is_exact.others.items ≡ others ++ row ∷ [] = ap (λ v. v.items) w.others-is ∙ w.in_ok-push-2.ensures.items ∙ ap (λ r. others ++ r ∷ []) w.copy-else-is_exact.ensures in
+          let items : c.if-is_exact.others.items ≡ others ++ row ∷ [] = ap (λ v. v.items) w.others-is ∙ w.in_ok-push-2.ensures.items ∙ ap (λ r. others ++ r ∷ []) (w.of.ensures ∙ w.copy-else-is_exact.ensures) in
           let same : c.if-is_exact.exact.items ≡ exact = ap (λ v. v.items) w.exact-is in
           rw (items, same) (second_more rows i row c.loop-row-test.true c.row-item.is exact others c.loop-row.invariant.0, c.loop-row.invariant.1)
     ]
