@@ -164,22 +164,27 @@ static int read_words(int argc, char **argv, struct words *words) {
     return len == 8 ? read_trap_words(word + 5, words) : -1;
 }
 
-/* Takes the boots, and makes the agent: 0, or the status to end with. */
-static int begin_agent(const struct words *words) {
-    uint8_t *config;
-    size_t config_len;
+/* Makes the agent with the boots of this start, and keeps them: 0, or the status to end with. A start that fails before costs no boots. */
+static int make_agent(const struct words *words, const uint8_t *config, size_t config_len) {
     uint32_t boots;
-    if (file_read(words->config, MOST_CONFIG, &config, &config_len)) return 2;
-    if (!config_len) { file_free(config, config_len); return bad_word("a configuration: the file is empty", words->config); }
-    if (boots_next(words->boots, words->must_exist, &boots)) { file_free(config, config_len); return 2; }
-    if (boots == BOOTS_LATCHED)
-        fprintf(stderr, "agent: %s: boots are used up, so each authenticated message is refused: give the engine another ID, or all its users "
-                        "other passwords, and remove the file\n", words->boots);
+    if (boots_next(words->boots, words->must_exist, &boots)) return 2;
     int answer = snmpsec_agent_new(config, config_len, words->engine, words->engine_len, boots, now_in_seconds(), &agent);
     if (answer == SNMPSEC_BAD_CONFIGURATION) config_told("agent", words->config, config, config_len);
     else if (answer) fprintf(stderr, "agent: %s: %s\n", words->engine_word, snmpsec_strerror(answer));
+    if (answer) return 1;
+    if (boots == BOOTS_LATCHED)
+        fprintf(stderr, "agent: %s: boots are used up, so each authenticated message is refused: give the engine another ID, or all its users "
+                        "other passwords, and remove the file\n", words->boots);
+    return boots_keep(words->boots, boots) ? 2 : 0;
+}
+
+static int begin_agent(const struct words *words) {
+    uint8_t *config;
+    size_t config_len;
+    if (file_read(words->config, MOST_CONFIG, &config, &config_len)) return 2;
+    int status = config_len ? make_agent(words, config, config_len) : bad_word("a configuration: the file is empty", words->config);
     file_free(config, config_len);
-    return answer ? 1 : 0;
+    return status;
 }
 
 /* The port is taken before the boots, so that a start that fails costs none. */

@@ -57,6 +57,16 @@ test_configurations() {
     refused_words "poll: W/clocks: the text saves no clocks" "$programs/poll" "$examples/agent.toml" "$work/clocks" "$port" sha 2 1.3.6.1
 }
 
+# A start that fails before anything can be answered costs no boots.
+test_free_starts() {
+    echo 41 > "$work/unspent"
+    "$programs/agent" "$work/misspelt.toml" "$examples/table.txt" $engine "$work/unspent" "$port" > /dev/null 2>&1
+    check "a refused configuration ends the agent with 1" 1 $?
+    check "and costs no boots" 41 "$(cat "$work/unspent")"
+    "${begun[@]}" $engine "$work/unspent" "$port" 0 md 3 > /dev/null 2>&1
+    check "nor does a word" 41 "$(cat "$work/unspent")"
+}
+
 test_tables() {
     local row
     for row in '1.3.6.1.99999999999 i 1' '1.3 i 1x' '1.3 i 2147483648' '1.3 u -1' '1.3 c 4294967296' '1.3 x 0' '1.3 o 3.1' '1.3 q 1' '1.3' '1.3 ss x'; do
@@ -147,6 +157,7 @@ aget() { PYTHONPATH=$here/python/src python3 "$here/python/examples/aget.py" "$e
 
 test_words
 test_configurations
+test_free_starts
 test_tables
 test_spelled_engines
 test_killed_agent
