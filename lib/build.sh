@@ -47,6 +47,7 @@ for test in calls manager_calls bindings keys exchange hostile; do
 done
 $cc "$@" "$here/tests/hold.c" "$out/words_of.o" $library -o "$out/hold"
 $cc "$@" -pthread "$here/tests/threads.c" $library -o "$out/threads"
+$cc "$@" -pthread "$here/tests/flood.c" -o "$out/flood"
 $cc "$@" "$here/tests/page.c" $library "$here/tests/cost.c" -o "$out/cost"
 $cc "$@" "$here/tests/page.c" $plain "$here/tests/cost.c" -o "$out/cost_plain"
 $cc "$@" "$here/tests/stack.c" $plain -o "$out/stack"

@@ -52,6 +52,9 @@ end_agent() {
     wait "$agent"
 }
 
+# a request by hand, which tests/raw.py describes
+raw() { PYTHONPATH=$here/python/src python3 "$here/tests/raw.py" "$port" "$@" 2>&1; }
+
 engine=80001f8804616263
 at=127.0.0.1:$port
 system=1.3.6.1.2.1.1
@@ -173,6 +176,7 @@ test_agent() {
     test_refusals
     end_agent
     test_counters
+    has "no request of these was over the budget" "over the budget: 0" "$(cat "$work/agent.out")"
     check "the agent says nothing wrong" "" "$(cat "$work/agent.err")"
 }
 
@@ -213,6 +217,6 @@ test_traps() {
 test_c
 test_agent
 test_traps
-for part in poll dispatch wrappers boots words memory captures install packages; do . "$here/tests/$part.sh"; done
+for part in poll dispatch flood wrappers boots words memory captures install packages; do . "$here/tests/$part.sh"; done
 echo "$passed passed, $failed failed"
 [ $failed = 0 ]

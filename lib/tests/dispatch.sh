@@ -2,8 +2,6 @@
 # sections 4.2.2 and 7; RFC 3413, section 3.2; RFC 3416, section 4.2). test.sh runs this.
 export SNMPSEC_LIBRARY=$OUT/libsnmpsec.so.0 PYTHONDONTWRITEBYTECODE=1
 
-raw() { PYTHONPATH=$here/python/src python3 "$here/tests/raw.py" "$port" "$@" 2>&1; }
-
 # A configuration with a user of no group, and a table of 300 rows.
 begin_dispatch() { # OPTIONS..
     { cat "$here/examples/agent.toml"; printf '\n[[user]]\nname = "nobody"\n'; } > "$work/dispatch.toml"
@@ -15,6 +13,7 @@ begin_dispatch() { # OPTIONS..
 }
 
 octets_in() { sed 's/.*: \([0-9]*\) octets,.*/\1/' <<< "$1"; }
+sent_in() { sed 's/^sent \([0-9]*\):.*/\1/' <<< "$1"; }
 bindings_in() { sed 's/.* \([0-9]*\) bindings.*/\1/' <<< "$1"; }
 
 as_level() { # LEVEL: the words of a user who has it
@@ -51,6 +50,15 @@ test_short_answers() { # of an agent that wasn't asked for long ones
     check "with it, more" 200 "$(bindings_in "$(raw user=sha level=2 tag=a5 third=200 $system.9.1.3)")"
     told=$(raw times=60 $system.1.0)
     check "or twice its request" 1 $(($(octets_in "$told") > 1472 && $(bindings_in "$told") == 60))
+}
+
+test_no_amplification() { # of an agent that was asked for it
+    local told
+    told=$(raw tag=a5 third=1 times=40 $system.9.1.3.1)
+    check "without authentication an answer is no longer than its request" 1 $(($(octets_in "$told") <= $(sent_in "$told") && $(bindings_in "$told") > 0))
+    has "where no variable fits it is tooBig" "status 1, index 0, context '', 0 bindings" "$(raw tag=a5 third=10 $system)"
+    has "so it is for a Get" "status 1, index 0, context '', 0 bindings" "$(raw $system.1.0)"
+    check "with authentication, more" 200 "$(bindings_in "$(raw user=sha level=2 tag=a5 third=200 $system.9.1.3)")"
 }
 
 test_authorization() {
@@ -178,6 +186,9 @@ else
     begin_dispatch --long-answers
     test_cut_bulks
     test_too_big
+    end_agent
+    begin_dispatch --no-amplification
+    test_no_amplification
     end_agent
     begin_dispatch
     test_short_answers

@@ -29,9 +29,12 @@ test_words() {
         refused_words "poll: $name: not a name in dotted decimal" "$programs/poll" "$examples/agent.toml" "$work/c" "$port" sha 2 "$name"
     done
     refused_words "poll: 3.1: an argument is outside of its range" "$programs/poll" "$examples/agent.toml" "$work/c" "$port" sha 2 3.1
-    refused_words "agent [--must-exist] [--long-answers] CONFIG TABLE ENGINE-ID BOOTS-FILE PORT [TRAP-PORT USER LEVEL]" "$programs/agent" x
-    refused_words "poll: 101: not a number of retries, 0 to 100" "$programs/poll" --retries 101 x
+    for bad in 0 101 x ""; do
+        refused_words "agent: $bad: not a share of the time in percent, 1 to 100" "$programs/agent" --unauthenticated "$bad" x
+        [ "$bad" = 0 ] || refused_words "poll: $bad: not a number of retries, 0 to 100" "$programs/poll" --retries "$bad" x
+    done
     refused_words "poll: 0: not a time in seconds, 1 to 3600" "$programs/poll" --timeout 0 x
+    refused_words "agent [OPTION..] CONFIG TABLE ENGINE-ID BOOTS-FILE PORT [TRAP-PORT USER LEVEL]" "$programs/agent" x
     refused_words "poll [OPTION..] CONFIG CLOCKS-FILE PORT USER LEVEL OID.." "$programs/poll" x
     check "no boots were taken" "" "$(ls "$work" | grep -E '^b(\.|$)')"
     check "the version" "$(sed -n 's/#define SNMPSEC_VERSION "\(.*\)"/\1/p' "$here/include/snmpsec.h")" "$("$programs/agent" --version)"
