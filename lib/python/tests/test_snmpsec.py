@@ -272,6 +272,17 @@ class Files(unittest.TestCase):
             with self.assertRaises(FileNotFoundError):
                 Agent.from_file(path.with_name("none"), ENGINE, 1, 0)
 
+    def test_what_can_be_written_to_is_handed_in_as_it_lies(self):
+        config = bytearray(CONFIG)
+        for lent in (config, memoryview(config), memoryview(config)[1:-1], memoryview(bytearray(8)).cast("I")):
+            octets, size = snmpsec._lent(lent)
+            octets[0] = b"#"
+            self.assertEqual((size, bytes(memoryview(lent).cast("B"))[:1]), (memoryview(lent).nbytes, b"#"))
+        for copied in (memoryview(CONFIG), memoryview(config)[::2]):
+            self.assertEqual(snmpsec._lent(copied), (copied.tobytes(), len(copied)))
+        self.assertIs(snmpsec._lent(CONFIG)[0], CONFIG)
+        Agent(memoryview(bytearray(CONFIG)), memoryview(ENGINE), 1, 0).close()
+
     def test_a_bytearray_is_handed_in_as_it_lies(self):
         Agent(bytearray(CONFIG), bytearray(ENGINE), 1, 0).close()
         with self.assertRaises(snmpsec.BadArgument):
