@@ -11,6 +11,9 @@
  * Secrets: what the library frees is wiped first, and so is the stack that its calls used. The caller wipes the configuration that it handed in.
  * Keys lie in memory as long as their handle does.
  *
+ * Stack: the calls that read a configuration need 52 KB of it, the two that free a handle 24 KB, and any other 16 KB. So a thread with 64 KB can make
+ * each of them.
+ *
  * The caller's duties, which nothing checks: a pointer is valid for its length and what is written overlaps nothing else; moments are seconds
  * from one beginning and don't go back; a salt never comes twice for a key, also not after a restart. A length of 0 may come with a null
  * pointer, and a null handle answers SNMPSEC_BAD_ARGUMENT.
@@ -125,7 +128,8 @@ typedef enum snmpsec_config_key {
  * that value. What isn't so is 0. */
 typedef struct snmpsec_config_place { size_t table, position, reason, key; } snmpsec_config_place;
 
-/* Why a text is refused as a configuration, as `snmpsec check-config` tells it. SNMPSEC_OK: it isn't, and *written is 0.
+/* Why a text is refused as a configuration, as `snmpsec check-config` tells it; only one whose keys, tables and arrays are nested more than 16 deep is
+ * refused as SNMPSEC_NO_TOML before it is read. SNMPSEC_OK: it isn't refused, and *written is 0.
  * SNMPSEC_BAD_CONFIGURATION: *place says where, and in the buffer are two lines, the refusal, and what is wrong and what is wanted; they name
  * keys of the text and no value. SNMPSEC_SHORT_BUFFER: *place says where, and *written how much is wanted. SNMPSEC_OUT_OF_MEMORY. */
 SNMPSEC_CHECK int snmpsec_config_fault(const uint8_t *config, size_t config_len, snmpsec_config_place *place, uint8_t *out, size_t out_len,
