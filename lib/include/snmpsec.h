@@ -14,6 +14,9 @@
  * Stack: the calls that read a configuration need 52 KB of it, the two that free a handle 24 KB, and any other 16 KB. So a thread with 64 KB can make
  * each of them.
  *
+ * Processor: on x86-64 one of the level x86-64-v2 (SSE4.2 and POPCNT). A program that loads the library on an older one ends with a line on standard
+ * error and the status 127.
+ *
  * The caller's duties, which nothing checks: a pointer is valid for its length and what is written overlaps nothing else; moments are seconds
  * from one beginning and don't go back; a salt never comes twice for a key, also not after a restart. A length of 0 may come with a null
  * pointer, and a null handle answers SNMPSEC_BAD_ARGUMENT.
