@@ -12,6 +12,7 @@ archive=$here/../crates/snmp_c/out/libsnmp_c.a
 mkdir -p "$out"
 [ -n "$NO_LIBRARY" ] || (cd "$here/.." && tools/build ${OVER_CI:+--over-ci} snmp_c)
 cc="${CC:-cc} -std=c11 -O2 -Wall -Wextra -Werror -I$here/include"
+bound="-Wl,-z,relro,-z,now"
 
 # listed NAME: the sources of this name in CMakeLists.txt
 listed() { sed -n "s/^set($1 \(.*\))\$/\1/p" "$here/CMakeLists.txt"; }
@@ -33,10 +34,10 @@ for source in $(listed example_sources); do
     beside="$beside $part"
 done
 for program in agent poll; do
-    $cc -Wconversion "$@" "$here/examples/$program.c" $beside $library -o "$out/$program"
+    $cc -Wconversion "$@" $bound "$here/examples/$program.c" $beside $library -o "$out/$program"
 done
 names="-Wl,-soname,libsnmpsec.so.0 -Wl,--version-script=$here/src/snmpsec.map"
-$cc -shared "$@" $library $names -o "$out/libsnmpsec.so.0"
+$cc -shared "$@" $bound $library $names -o "$out/libsnmpsec.so.0"
 # what a linker finds by -lsnmpsec
 echo 'INPUT(-l:libsnmpsec.so.0)' > "$out/libsnmpsec.so"
 
