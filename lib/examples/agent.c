@@ -10,6 +10,7 @@
 #include "budget.h"
 #include "config_told.h"
 #include "files.h"
+#include "peek.h"
 #include "table.h"
 #include "words_of.h"
 #include <arpa/inet.h>
@@ -87,13 +88,15 @@ static bool is_authenticated(int answer) {
 }
 
 /* Takes a datagram and answers it. What isn't authenticated, reports too, is answered as long as its budget lasts, so that whoever sends
- * much of it takes that share of the agent's time and not all. */
+ * much of it takes that share of the agent's time and not all. Over the budget a message that doesn't even say that it is authenticated isn't read. */
 static void answer_datagram(struct service *service, const struct sockaddr_in *from, const uint8_t *datagram, size_t len) {
     uint64_t now = now_in_seconds(), begun = now_in_nanoseconds();
+    bool has_budget = budget_has(&service->budget, begun);
+    if (!has_budget && !says_authenticated(datagram, len)) { service->over_budget++; return; }
     int answer = snmpsec_agent_take(agent, now, datagram, len);
     if (answer >= 0 && answer <= 18) service->told[answer]++;
     bool is_free = is_authenticated(answer);
-    if (!is_free && !budget_has(&service->budget, begun)) { service->over_budget++; return; }
+    if (!is_free && !has_budget) { service->over_budget++; return; }
     if (answer != SNMPSEC_OK || !answer_kept(agent, &table, now, len, service->size)) send_message(service->socket, from);
     if (!is_free) budget_spend(&service->budget, now_in_nanoseconds() - begun);
 }
