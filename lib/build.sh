@@ -46,6 +46,7 @@ for test in calls manager_calls bindings keys exchange hostile; do
     checks="$here/tests/checks.c $out/words_of.o"
     $cc "$@" -Wl,--wrap=malloc,--wrap=realloc "$here/tests/$test.c" $checks $library -o "$out/$test"
 done
+$cc "$@" "$here/tests/fuzz.c" $library -o "$out/fuzz_inputs"
 $cc "$@" "$here/tests/hold.c" "$out/words_of.o" $library -o "$out/hold"
 $cc "$@" -pthread "$here/tests/threads.c" $library -o "$out/threads"
 $cc "$@" -pthread "$here/tests/flood.c" -o "$out/flood"

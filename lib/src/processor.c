@@ -1,5 +1,5 @@
-/* What the archive wants of the processor, looked at when the library is loaded: its code is for x86-64-v2, and would end a program by SIGILL on an older
- * one. Code for any x86-64 would look up AES's table by octets of keys (docs/secrets.md). Not proved. */
+/* What the archive wants of the processor, looked at when the library is loaded: its code is for x86-64-v2, and would end a program by SIGILL
+ * on an older one. Code for any x86-64 would look up AES's table by octets of keys (docs/secrets.md). Not proved. */
 #define _DEFAULT_SOURCE
 #include <stddef.h>
 #include <stdio.h>

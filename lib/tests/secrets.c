@@ -1,6 +1,6 @@
-/* Under valgrind's memcheck, with passwords and keys marked as octets that were never written, so that it tells each branch and each address that
- * depends on them: secrets. The keys of handles are looked for on the heap and marked there, and all that is made of them follows. What was sent is public, and so
- * marked. secrets.py runs it, and knows which branches there may be in each of the functions below. Not proved. */
+/* Under valgrind's memcheck, with passwords and keys marked as octets that were never written, so that it tells each branch and each address
+ * that depends on them: secrets. The keys of handles are looked for on the heap and marked there, and all that is made of them follows. What was
+ * sent is public, and so marked. secrets.py runs it, and knows which branches there may be in each of the functions below. Not proved. */
 #define _GNU_SOURCE
 #include "snmpsec.h"
 #include <inttypes.h>
@@ -150,7 +150,8 @@ static int mark(uintptr_t begin, uintptr_t end, const uint8_t *octets, size_t oc
     int count = 0;
     for (uintptr_t from = begin, to; from < end; from = to + 16) {
         for (to = from; to < end && is_readable(to, 16); to += 16) {}
-        for (uint8_t *at = (uint8_t *)from; (at = memmem(at, to - (uintptr_t)at, octets, octets_len)); at += octets_len, count++) secret(at, octets_len);
+        for (uint8_t *at = (uint8_t *)from; (at = memmem(at, to - (uintptr_t)at, octets, octets_len)); at += octets_len, count++)
+            secret(at, octets_len);
     }
     return count;
 }
