@@ -18,10 +18,10 @@
  * the keys; it finds the user by halving the table. _part and _message copy. _respond and _respond_front read the list, write, hash and seal it once.
  * _access halves the tables; of the view's families it looks at each with a mask. On x86-64 that is at most so many instructions (tests/work.c):
  *
- *     _take                   40,000 and 140 for each octet of the datagram (without authentication 25,000 and 60)
+ *     _take                   50,000 and 140 for each octet of the datagram (without authentication 25,000 and 60)
  *     _part, _message          2,000 and 2 for each octet
  *     _respond                50,000 and 180 for each octet of the list
- *     _respond_front          60,000 and 60 for each octet of the list
+ *     _respond_front          80,000 and 60 for each octet of the list
  *     _access                  5,000 and 200 for each family with a mask, over 10,000 rows in each table
  *
  * How many variables an answer looks at is the program's: it asks _access for each. The example agent has a limit (examples/looks.h), and a budget for

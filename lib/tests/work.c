@@ -41,12 +41,12 @@ static void say(const char *form, int n) {
     if (config_len >= sizeof config) exit(2);
 }
 
-/* A configuration of so many rows in each table, where the view's families have a mask or none. Its user is in the middle. */
+/* A configuration of so many rows in each table, where the view's families have a mask or none. The user has the longest hash. */
 static void begin(int rows, const char *family) {
     snmpsec_agent_free(agent);
     snmpsec_manager_free(manager);
     config_len = 0;
-    say("[[user]]\nname = \"sha\"\nauth = \"sha1\"\nauth-password = \"maplesyrup\"\npriv-password = \"syrupmaple\"\n[[context]]\nname = \"\"\n", 0);
+    say("[[user]]\nname = \"sha\"\nauth = \"sha256\"\nauth-password = \"maplesyrup\"\npriv-password = \"syrupmaple\"\n[[context]]\nname = \"\"\n", 0);
     say("[[group]]\nmodel = 3\nname = \"sha\"\ngroup = \"g\"\n"
         "[[access]]\ngroup = \"g\"\nprefix = \"\"\nmodel = 3\nlevel = \"noAuthNoPriv\"\nmatch = \"exact\"\nread = \"v\"\n", 0);
     for (int i = 0; i < rows; i++) {

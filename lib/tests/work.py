@@ -9,9 +9,9 @@ import sys
 import tempfile
 
 # Instructions at most: whatever the size, and for each octet of the datagram, or list, beside.
-OF_OCTETS = {"take": (25000, 60), "take-signed": (40000, 140), "take-sealed": (40000, 140), "part": (2000, 2),
+OF_OCTETS = {"take": (25000, 60), "take-signed": (50000, 140), "take-sealed": (50000, 140), "part": (2000, 2),
              "respond": (50000, 180), "respond-signed": (50000, 180), "respond-sealed": (50000, 180),
-             "respond_front": (60000, 60), "respond_front-signed": (60000, 60), "respond_front-sealed": (60000, 60)}
+             "respond_front": (80000, 60), "respond_front-signed": (80000, 60), "respond_front-sealed": (80000, 60)}
 # The most for a number of rows, as a multiple of those for 10; and for each family with a mask.
 OF_ROWS = {"access": 2, "take-users": 1.2, "take-users-masked": 1.2}
 OF_MASKED = (5000, 200)
