@@ -2,7 +2,7 @@
 # Builds the Debian packages libsnmpsec0, libsnmpsec-dev, python3-snmpsec and snmpsec, and a wheel with the library in it, into a folder:
 # packages.sh OUT
 #
-# Two builds of the same sources are the same, octet for octet, in folders of the same name. Each package has a bill of materials (sbom.py).
+# Two builds of the same sources are the same, octet for octet. Each package has a bill of materials (sbom.py).
 # It proves and builds the library and the program first, where they aren't built from these sources; with NO_LIBRARY they are taken as they
 # lie there. It wants debhelper, dh-python, pybuild-plugin-pyproject, python3-hatchling and cmake. OUT lies outside of the repository, since
 # the packages' tree has symbolic links.

@@ -49,16 +49,15 @@ look_at_packages() {
     [ -x "$work/secrets_shared" ] && judge_secrets "the package's library" "$(dirname "$(find "$work/unpacked/libsnmpsec0" -name libsnmpsec.so.0)")"
 }
 
-# Two builds are the same, but for the files that name their time.
+# Two builds are the same, octet for octet, in folders of other names.
 test_reproducible() {
-    local file
-    mv "$work/packages" "$work/built-before"
-    NO_LIBRARY=1 bash "$here/packages.sh" "$work/packages" > "$work/again.log" 2>&1
+    local file other=$work/packages-in-another-folder
+    NO_LIBRARY=1 bash "$here/packages.sh" "$other" > "$work/again.log" 2>&1
     check "the packages are built again" 0 $?
-    for file in "$work"/built-before/*.deb "$work"/built-before/*.whl "$work"/built-before/*.orig.tar.gz; do
-        cmp "$file" "$work/packages/$(basename "$file")" > "$work/differs" 2>&1
+    for file in "$work"/packages/*.deb "$work"/packages/*.whl "$work"/packages/*.orig.tar.gz; do
+        cmp "$file" "$other/$(basename "$file")" > "$work/differs" 2>&1
         check "$(basename "$file") is the same when it is built again" "" "$(cat "$work/differs")"
-        if [ -s "$work/differs" ] && command -v diffoscope > /dev/null; then diffoscope --text - "$file" "$work/packages/$(basename "$file")" | head -40; fi
+        if [ -s "$work/differs" ] && command -v diffoscope > /dev/null; then diffoscope --text - "$file" "$other/$(basename "$file")" | head -40; fi
     done
 }
 
