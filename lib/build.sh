@@ -12,6 +12,7 @@ archive=$here/../crates/snmp_c/out/libsnmp_c.a
 mkdir -p "$out"
 [ -n "$NO_LIBRARY" ] || (cd "$here/.." && tools/build ${OVER_CI:+--over-ci} snmp_c)
 cc="${CC:-cc} -std=c11 -O2 -Wall -Wextra -Werror -I$here/include"
+bound="-Wl,-z,relro,-z,now"
 
 # listed NAME: the sources of this name in CMakeLists.txt
 listed() { sed -n "s/^set($1 \(.*\))\$/\1/p" "$here/CMakeLists.txt"; }
@@ -33,10 +34,10 @@ for source in $(listed example_sources); do
     beside="$beside $part"
 done
 for program in agent poll; do
-    $cc -Wconversion "$@" "$here/examples/$program.c" $beside $library -o "$out/$program"
+    $cc -Wconversion "$@" $bound "$here/examples/$program.c" $beside $library -o "$out/$program"
 done
 names="-Wl,-soname,libsnmpsec.so.0 -Wl,--version-script=$here/src/snmpsec.map"
-$cc -shared "$@" $library $names -o "$out/libsnmpsec.so.0"
+$cc -shared "$@" $bound $library $names -o "$out/libsnmpsec.so.0"
 # what a linker finds by -lsnmpsec
 echo 'INPUT(-l:libsnmpsec.so.0)' > "$out/libsnmpsec.so"
 
@@ -45,8 +46,10 @@ for test in calls manager_calls bindings keys exchange hostile; do
     checks="$here/tests/checks.c $out/words_of.o"
     $cc "$@" -Wl,--wrap=malloc,--wrap=realloc "$here/tests/$test.c" $checks $library -o "$out/$test"
 done
+$cc "$@" "$here/tests/fuzz.c" $library -o "$out/fuzz_inputs"
 $cc "$@" "$here/tests/hold.c" "$out/words_of.o" $library -o "$out/hold"
 $cc "$@" -pthread "$here/tests/threads.c" $library -o "$out/threads"
+$cc "$@" -pthread "$here/tests/flood.c" -o "$out/flood"
 $cc "$@" "$here/tests/page.c" $library "$here/tests/cost.c" -o "$out/cost"
 $cc "$@" "$here/tests/page.c" $plain "$here/tests/cost.c" -o "$out/cost_plain"
 $cc "$@" "$here/tests/stack.c" $plain -o "$out/stack"

@@ -52,6 +52,9 @@ end_agent() {
     wait "$agent"
 }
 
+# a request by hand, which tests/raw.py describes
+raw() { PYTHONPATH=$here/python/src python3 "$here/tests/raw.py" "$port" "$@" 2>&1; }
+
 engine=80001f8804616263
 at=127.0.0.1:$port
 system=1.3.6.1.2.1.1
@@ -76,6 +79,8 @@ fi
 
 test_c() {
     local name folder
+    mkdir -p "$work/corpus"
+    tar xzf "$here/tests/corpus.tar.gz" -C "$work/corpus"
     for folder in $(printf '%s\n' "$OUT" "$programs" | sort -u); do
         for name in calls manager_calls bindings keys exchange hostile; do
             "$folder/$name" "$replay/config.toml" "$replay/captured.log" "$replay/printed.txt" > "$work/$name.out" 2>&1
@@ -83,6 +88,9 @@ test_c() {
             grep -m 9 FAILED "$work/$name.out"
             echo "$name: $(tail -1 "$work/$name.out")"
         done
+        "$folder/fuzz_inputs" "$work"/corpus/* > "$work/fuzz.out" 2>&1
+        check "the fuzzer's inputs" 0 $?
+        echo "fuzz: $(tail -1 "$work/fuzz.out")"
     done
     if command -v c++ > /dev/null; then
         check "the header in C++" "" "$(echo '#include "snmpsec.h"' | c++ -std=c++11 -Wall -Wextra -Werror -fsyntax-only -I"$here/include" -x c++ - 2>&1)"
@@ -173,6 +181,7 @@ test_agent() {
     test_refusals
     end_agent
     test_counters
+    has "no request of these was over the budget" "over the budget: 0" "$(cat "$work/agent.out")"
     check "the agent says nothing wrong" "" "$(cat "$work/agent.err")"
 }
 
@@ -213,6 +222,6 @@ test_traps() {
 test_c
 test_agent
 test_traps
-for part in poll dispatch wrappers boots words memory captures install packages; do . "$here/tests/$part.sh"; done
+for part in poll dispatch flood wrappers boots words memory secrets processors captures install packages; do . "$here/tests/$part.sh"; done
 echo "$passed passed, $failed failed"
 [ $failed = 0 ]

@@ -1,5 +1,6 @@
 """The kit's command rt as a module, for the tools that prove many crates, or many wrong bodies, side by side."""
 import collections
+import contextlib
 import hashlib
 import importlib.machinery
 import importlib.util
@@ -7,6 +8,7 @@ import os
 import shutil
 import subprocess
 import sys
+import tempfile
 
 sys.dont_write_bytecode = True
 
@@ -66,6 +68,39 @@ def are_these(program):
     with open(f"{program}.sums", encoding="utf-8") as it:
         lines = [line.rstrip("\n").split("  ", 1) for line in it]
     return all(os.path.isfile(file) and sum_of(file) == sum for sum, file in lines)
+
+
+KEEPER = """#!/bin/sh
+[ ! -e module.bc ] || cp module.bc '{to}'
+exec '{clang}' "$@"
+"""
+
+
+def toolchain_with(rt, made, script):
+    """Makes the kit's toolchain again in the folder, with this script in the place of clang; in it {clang} is the kit's."""
+    real = f"{rt.rtlib.KIT}/toolchain"
+    os.makedirs(f"{made}/bin")
+    os.symlink(f"{real}/lib", f"{made}/lib")
+    for it in os.listdir(f"{real}/bin"):
+        if it != "clang":
+            os.symlink(f"{real}/bin/{it}", f"{made}/bin/{it}")
+    with open(f"{made}/bin/clang", "w", encoding="utf-8") as it:
+        it.write(script.replace("{clang}", f"{real}/bin/clang"))
+    os.chmod(f"{made}/bin/clang", 0o755)
+
+
+@contextlib.contextmanager
+def module_kept(rt, crate, to):
+    """While it lasts, the crate is compiled by a clang that first copies the module that it is given to the file."""
+    real, call = f"{rt.rtlib.KIT}/toolchain", crate.call
+    with tempfile.TemporaryDirectory(prefix="toolchain-") as room:
+        made = f"{room}/toolchain"
+        toolchain_with(rt, made, KEEPER.replace("{to}", os.path.abspath(to)))
+        crate.call = lambda *words: call(*(made if it == real else it for it in words))
+        try:
+            yield
+        finally:
+            del crate.call
 
 
 class Timed(subprocess.Popen):

@@ -1,4 +1,4 @@
-/* A small agent over UDP: agent [--must-exist] [--long-answers] CONFIG TABLE ENGINE-ID BOOTS-FILE PORT [TRAP-PORT USER LEVEL]
+/* A small agent over UDP: agent [OPTION..] CONFIG TABLE ENGINE-ID BOOTS-FILE PORT [TRAP-PORT USER LEVEL]
  *
  * It answers GetRequest, GetNextRequest, GetBulkRequest and SetRequest on 127.0.0.1 from a table in a file, as the configuration
  * allows, and sends a coldStart trap to a port where one is given. The library decides who sent a message, whether it is fresh, whether
@@ -7,8 +7,10 @@
 #define _GNU_SOURCE
 #include "snmpsec.h"
 #include "answer.h"
+#include "budget.h"
 #include "config_told.h"
 #include "files.h"
+#include "peek.h"
 #include "table.h"
 #include "words_of.h"
 #include <arpa/inet.h>
@@ -24,6 +26,8 @@
 
 /* the most octets of a configuration */
 #define MOST_CONFIG (16u << 20)
+/* of the agent's time, how much is spent on messages without authentication where no option says it */
+enum { SHARE_OF_UNAUTHENTICATED = 20 };
 
 static volatile sig_atomic_t ended;
 static struct table table;
@@ -40,8 +44,11 @@ static uint64_t now_in_seconds(void) {
 static void send_message(int socket, const struct sockaddr_in *to) {
     static uint8_t message[SNMPSEC_LARGEST];
     size_t len = 0;
-    if (!snmpsec_agent_message(agent, message, sizeof message, &len) && sendto(socket, message, len, 0, (const struct sockaddr *)to, sizeof *to) < 0)
-        perror("agent: send");
+    static int told;
+    if (snmpsec_agent_message(agent, message, sizeof message, &len)) return;
+    int fault = sendto(socket, message, len, 0, (const struct sockaddr *)to, sizeof *to) < 0 ? errno : 0;
+    if (fault && fault != told) fprintf(stderr, "agent: send: %s\n", strerror(fault)); /* a sender can't have it told for each datagram */
+    told = fault;
 }
 
 /* A coldStart trap (RFC 3418): sysUpTime.0, and snmpTrapOID.0 with coldStart. */
@@ -66,18 +73,42 @@ static void send_trap(int socket, uint16_t port, const char *user, snmpsec_level
     if (answer) fprintf(stderr, "agent: trap: %s\n", snmpsec_strerror(answer)); else send_message(socket, &to);
 }
 
-static int serve(int socket, long *told, bool long_answers) {
+/* How the agent answers, and what it told. */
+struct service {
+    int socket;
+    enum answer_size size;
+    struct budget budget;
+    long told[19], over_budget;
+};
+
+/* Whether what was taken came from a user whom the library has authenticated. */
+static bool is_authenticated(int answer) {
+    snmpsec_info info;
+    return answer == SNMPSEC_OK && !snmpsec_agent_info(agent, &info) && info.level != SNMPSEC_NO_AUTH_NO_PRIV;
+}
+
+/* Takes a datagram and answers it. What isn't authenticated, reports too, is answered as long as its budget lasts, so that whoever sends
+ * much of it takes that share of the agent's time and not all. Over the budget a message that doesn't even say that it is authenticated isn't read. */
+static void answer_datagram(struct service *service, const struct sockaddr_in *from, const uint8_t *datagram, size_t len) {
+    uint64_t now = now_in_seconds(), begun = now_in_nanoseconds();
+    bool has_budget = budget_has(&service->budget, begun);
+    if (!has_budget && !says_authenticated(datagram, len)) { service->over_budget++; return; }
+    int answer = snmpsec_agent_take(agent, now, datagram, len);
+    if (answer >= 0 && answer <= 18) service->told[answer]++;
+    bool is_free = is_authenticated(answer);
+    if (!is_free && !has_budget) { service->over_budget++; return; }
+    if (answer != SNMPSEC_OK || !answer_kept(agent, &table, now, len, service->size)) send_message(service->socket, from);
+    if (!is_free) budget_spend(&service->budget, now_in_nanoseconds() - begun);
+}
+
+static int serve(struct service *service) {
     static uint8_t datagram[65536];
     while (!ended) {
         struct sockaddr_in from;
         socklen_t from_len = sizeof from;
-        ssize_t len = recvfrom(socket, datagram, sizeof datagram, 0, (struct sockaddr *)&from, &from_len);
+        ssize_t len = recvfrom(service->socket, datagram, sizeof datagram, 0, (struct sockaddr *)&from, &from_len);
         if (len < 0) { if (errno == EINTR) continue; perror("agent: receive"); return 2; }
-        uint64_t now = now_in_seconds();
-        int answer = snmpsec_agent_take(agent, now, datagram, (size_t)len);
-        if (answer >= 0 && answer <= 18) told[answer]++;
-        if (answer == SNMPSEC_OK && answer_kept(agent, &table, now, (size_t)len, long_answers)) continue;
-        send_message(socket, &from);
+        if (from.sin_port) answer_datagram(service, &from, datagram, (size_t)len); /* nothing can be sent to port 0 (RFC 768) */
     }
     return 0;
 }
@@ -92,9 +123,10 @@ static void print_other_counts(void) {
     for (size_t i = 0; i < sizeof counts / sizeof *counts; i++) printf("%s: %u\n", counts[i].name, counts[i].value);
 }
 
-static void print_counts(const long *told) {
+static void print_counts(const struct service *service) {
     snmpsec_counters n;
-    for (int i = 0; i <= 18; i++) if (told[i]) printf("answer %d: %ld\n", i, told[i]);
+    for (int i = 0; i <= 18; i++) if (service->told[i]) printf("answer %d: %ld\n", i, service->told[i]);
+    printf("over the budget: %ld\n", service->over_budget);
     if (snmpsec_agent_counters(agent, &n)) return;
     printf("counter 1: %u\ncounter 2: %u\ncounter 3: %u\n", n.unsupported_levels, n.not_in_windows, n.unknown_users);
     printf("counter 4: %u\ncounter 5: %u\ncounter 6: %u\n", n.unknown_engines, n.wrong_digests, n.decryption_errors);
@@ -112,26 +144,34 @@ struct words {
     const char *config, *table, *engine_word, *boots, *user;
     uint8_t engine[32];
     size_t engine_len;
-    uint32_t port, trap_port, level;
-    bool must_exist, has_trap, long_answers;
+    uint32_t port, trap_port, level, percent;
+    enum answer_size size;
+    bool must_exist, has_trap;
 };
 
 static int print_usage(FILE *to, int status) {
-    fputs("agent [--must-exist] [--long-answers] CONFIG TABLE ENGINE-ID BOOTS-FILE PORT [TRAP-PORT USER LEVEL]\n"
-          "  --must-exist    a boots file that is absent is refused, in the place of boots 1\n"
-          "  --long-answers  an answer without authentication may be longer than 1472 octets and twice its request\n"
-          "  --version       the version of the library\n", to);
+    fputs("agent [OPTION..] CONFIG TABLE ENGINE-ID BOOTS-FILE PORT [TRAP-PORT USER LEVEL]\n"
+          "  --must-exist          refuse an absent boots file, instead of boots 1\n"
+          "  --long-answers        an answer without authentication may be longer than 1472 octets and twice its request\n"
+          "  --no-amplification    an answer without authentication is never longer than its request\n"
+          "  --unauthenticated PERCENT\n"
+          "                        the share of the time that messages without authentication may take, 1 to 100 (20)\n"
+          "  --version             print the version of the library\n"
+          "  --help                print this\n", to);
     return status;
 }
 
 /* Reads the options: -1 where the words follow, or the status to end with. */
 static int read_options(int argc, char **argv, struct words *words) {
-    static const struct option options[] = {{"must-exist", no_argument, NULL, 'm'}, {"long-answers", no_argument, NULL, 'l'}, {"version", no_argument, NULL, 'v'},
-                                            {"help", no_argument, NULL, 'h'}, {0}};
+    static const struct option options[] = {{"must-exist", no_argument, NULL, 'm'}, {"long-answers", no_argument, NULL, 'l'},
+                                            {"no-amplification", no_argument, NULL, 'n'}, {"unauthenticated", required_argument, NULL, 'u'},
+                                            {"version", no_argument, NULL, 'v'}, {"help", no_argument, NULL, 'h'}, {0}};
     for (int option; (option = getopt_long(argc, argv, "+", options, NULL)) != -1;)
         switch (option) {
         case 'm': words->must_exist = true; break;
-        case 'l': words->long_answers = true; break;
+        case 'l': words->size = OF_MAX_SIZE; break;
+        case 'n': words->size = OF_THE_REQUEST; break;
+        case 'u': if (number_of(optarg, 1, 100, &words->percent)) return bad_word("a share of the time in percent, 1 to 100", optarg); break;
         case 'v': puts(snmpsec_version()); return 0;
         case 'h': return print_usage(stdout, 0);
         default: return print_usage(stderr, 2);
@@ -164,22 +204,27 @@ static int read_words(int argc, char **argv, struct words *words) {
     return len == 8 ? read_trap_words(word + 5, words) : -1;
 }
 
-/* Takes the boots, and makes the agent: 0, or the status to end with. */
-static int begin_agent(const struct words *words) {
-    uint8_t *config;
-    size_t config_len;
+/* Makes the agent with the boots of this start, and keeps them: 0, or the status to end with. A start that fails before costs no boots. */
+static int make_agent(const struct words *words, const uint8_t *config, size_t config_len) {
     uint32_t boots;
-    if (file_read(words->config, MOST_CONFIG, &config, &config_len)) return 2;
-    if (!config_len) { file_free(config, config_len); return bad_word("a configuration: the file is empty", words->config); }
-    if (boots_next(words->boots, words->must_exist, &boots)) { file_free(config, config_len); return 2; }
-    if (boots == BOOTS_LATCHED)
-        fprintf(stderr, "agent: %s: boots are used up, so each authenticated message is refused: give the engine another ID, or all its users "
-                        "other passwords, and remove the file\n", words->boots);
+    if (boots_next(words->boots, words->must_exist, &boots)) return 2;
     int answer = snmpsec_agent_new(config, config_len, words->engine, words->engine_len, boots, now_in_seconds(), &agent);
     if (answer == SNMPSEC_BAD_CONFIGURATION) config_told("agent", words->config, config, config_len);
     else if (answer) fprintf(stderr, "agent: %s: %s\n", words->engine_word, snmpsec_strerror(answer));
+    if (answer) return 1;
+    if (boots == BOOTS_LATCHED)
+        fprintf(stderr, "agent: %s: boots are used up, so each authenticated message is refused: give the engine another ID, or all its users "
+                        "other passwords, and remove the file\n", words->boots);
+    return boots_keep(words->boots, boots) ? 2 : 0;
+}
+
+static int begin_agent(const struct words *words) {
+    uint8_t *config;
+    size_t config_len;
+    if (file_read(words->config, MOST_CONFIG, &config, &config_len)) return 2;
+    int status = config_len ? make_agent(words, config, config_len) : bad_word("a configuration: the file is empty", words->config);
     file_free(config, config_len);
-    return answer ? 1 : 0;
+    return status;
 }
 
 /* The port is taken before the boots, so that a start that fails costs none. */
@@ -192,23 +237,24 @@ static int begin_socket(uint32_t port) {
 }
 
 int main(int argc, char **argv) {
-    struct words words = {0};
-    long told[19] = {0};
+    struct words words = {.percent = SHARE_OF_UNAUTHENTICATED};
     keep_secrets();
     int status = read_words(argc, argv, &words);
     if (status != -1) return status;
     if (table_load(&table, words.table)) return 2;
-    int socket_in = begin_socket(words.port);
-    if (socket_in < 0) return 2;
+    struct service service = {.socket = begin_socket(words.port), .size = words.size};
+    if (service.socket < 0) return 2;
     if ((status = begin_agent(&words))) return status;
     struct sigaction action = {.sa_handler = end};
     sigaction(SIGTERM, &action, NULL);
     sigaction(SIGINT, &action, NULL);
-    if (words.has_trap) send_trap(socket_in, (uint16_t)words.trap_port, words.user, (snmpsec_level)words.level, words.engine, words.engine_len);
-    status = serve(socket_in, told, words.long_answers);
-    print_counts(told);
+    if (words.has_trap)
+        send_trap(service.socket, (uint16_t)words.trap_port, words.user, (snmpsec_level)words.level, words.engine, words.engine_len);
+    budget_begin(&service.budget, words.percent, now_in_nanoseconds());
+    status = serve(&service);
+    print_counts(&service);
     snmpsec_agent_free(agent);
     free(table.rows);
-    close(socket_in);
+    close(service.socket);
     return status;
 }

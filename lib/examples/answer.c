@@ -1,5 +1,6 @@
 #define _GNU_SOURCE
 #include "answer.h"
+#include "looks.h"
 #include <stdlib.h>
 #include <string.h>
 #include <sys/random.h>
@@ -13,16 +14,16 @@ enum { GREATEST = 2147483647 };
 enum { MOST_BINDINGS = SNMPSEC_LARGEST / 7 };
 /* what an answer without authentication may always have: a datagram on Ethernet */
 enum { SHORT_ANSWER = 1472 };
+/* the most repetitions of a GetBulkRequest that are answered */
+enum { MOST_REPETITIONS = 1000 };
 
 /* what is asked and answered */
 static snmpsec_agent *agent;
 static struct table *table;
+static struct looks looks;
 /* the bindings of the answer */
 static uint8_t list[SNMPSEC_LARGEST];
 static size_t list_len;
-/* the PDU that is answered, and whether its sender has no group, no access or no view for one of its variables */
-static snmpsec_pdu pdu;
-static bool is_unauthorized;
 
 uint64_t new_salt(void) {
     uint64_t salt;
@@ -30,53 +31,53 @@ uint64_t new_salt(void) {
     return salt;
 }
 
-/* Appends a binding: 0, or SNMPSEC_SHORT_BUFFER where the answer has no room for it. */
-static int put(const uint32_t *arcs, size_t arcs_len, uint8_t tag, const uint8_t *value, size_t value_len) {
+/* Appends a binding: an error-status, TOO_BIG where the answer has no room for it. */
+static uint32_t put(const uint32_t *arcs, size_t arcs_len, uint8_t tag, const uint8_t *value, size_t value_len) {
     size_t written = 0;
-    int answer = snmpsec_binding_write(arcs, arcs_len, tag, value, value_len, list + list_len, sizeof list - list_len, &written);
-    if (!answer) list_len += written;
-    return answer;
+    if (snmpsec_binding_write(arcs, arcs_len, tag, value, value_len, list + list_len, sizeof list - list_len, &written)) return TOO_BIG;
+    list_len += written;
+    return 0;
 }
 
-static int put_row(const struct row *row) { return put(row->arcs, row->arcs_len, row->tag, row->value, row->value_len); }
+static uint32_t put_row(const struct row *row) { return put(row->arcs, row->arcs_len, row->tag, row->value, row->value_len); }
 
-/* RFC 3413, section 3.2. */
-static bool may(snmpsec_view view, const uint32_t *arcs, size_t arcs_len) {
-    snmpsec_access access;
-    snmpsec_status status;
-    if (snmpsec_agent_access(agent, view, arcs, arcs_len, &access) || snmpsec_status_of(access, pdu, &status)) return false;
-    if (status == SNMPSEC_AUTHORIZATION_ERROR) is_unauthorized = true;
-    return status == SNMPSEC_NO_ERROR;
+/* the object that was looked for last, by its arcs, in the request that is answered, and whether a readable row is of it */
+static struct { uint32_t arcs[MOST_ARCS]; size_t len; bool is_there; } object;
+
+static bool find_object(const uint32_t *arcs, size_t arcs_len) {
+    const struct row *row = NULL;
+    size_t i = table_after(table, arcs, arcs_len);
+    while ((row = looks_readable(&looks, i, arcs, arcs_len)) && row->arcs_len != arcs_len + 1) i = (size_t)(row - table->rows) + 1;
+    return row;
 }
 
 /* Whether a readable row is of the same object: of the same name but for its last arc (RFC 3416, section 4.2.1). */
 static bool has_object(const uint32_t *arcs, size_t arcs_len) {
     if (arcs_len < 2) return false;
-    for (size_t i = table_after(table, arcs, arcs_len - 1); i < table->rows_len; i++) {
-        const struct row *row = &table->rows[i];
-        if (row->arcs_len < arcs_len || memcmp(row->arcs, arcs, (arcs_len - 1) * sizeof *arcs)) return false;
-        if (row->arcs_len == arcs_len && may(SNMPSEC_READ, row->arcs, row->arcs_len)) return true;
-    }
-    return false;
+    size_t size = (arcs_len - 1) * sizeof *arcs;
+    if (object.len == arcs_len - 1 && !memcmp(object.arcs, arcs, size)) return object.is_there;
+    memcpy(object.arcs, arcs, size);
+    object.len = arcs_len - 1;
+    return object.is_there = find_object(arcs, arcs_len - 1);
 }
 
-static int put_exact(const uint32_t *arcs, size_t arcs_len) {
+/* Appends the variable of this name: an error-status, GEN_ERR where the looks are used up. */
+static uint32_t put_exact(const uint32_t *arcs, size_t arcs_len) {
     const struct row *row = table_at(table, arcs, arcs_len);
-    if (may(SNMPSEC_READ, arcs, arcs_len) && row) return put_row(row);
-    return put(arcs, arcs_len, has_object(arcs, arcs_len) ? NO_SUCH_INSTANCE : NO_SUCH_OBJECT, (const uint8_t *)"", 0);
+    if (looks_may(&looks, SNMPSEC_READ, arcs, arcs_len) && row) return put_row(row);
+    uint8_t tag = has_object(arcs, arcs_len) ? NO_SUCH_INSTANCE : NO_SUCH_OBJECT;
+    return looks.are_used_up ? GEN_ERR : put(arcs, arcs_len, tag, (const uint8_t *)"", 0);
 }
 
-/* Appends the first readable row after a name, and makes it the name. */
-static int put_next(uint32_t *arcs, size_t *arcs_len) {
-    for (size_t i = table_after(table, arcs, *arcs_len); i < table->rows_len; i++) {
-        const struct row *row = &table->rows[i];
-        if (!may(SNMPSEC_READ, row->arcs, row->arcs_len)) continue;
-        int answer = put_row(row);
-        memcpy(arcs, row->arcs, row->arcs_len * sizeof *arcs);
-        *arcs_len = row->arcs_len;
-        return answer;
-    }
-    return put(arcs, *arcs_len, END_OF_MIB_VIEW, (const uint8_t *)"", 0);
+/* Appends the first readable row after the variable's name, and makes its name and tag the variable's: an error-status, likewise. */
+static uint32_t put_next(snmpsec_binding *one) {
+    const struct row *row = looks_readable(&looks, table_after(table, one->arcs, one->arcs_len), NULL, 0);
+    if (looks.are_used_up) return GEN_ERR;
+    one->tag = row ? row->tag : END_OF_MIB_VIEW;
+    if (!row) return put(one->arcs, one->arcs_len, END_OF_MIB_VIEW, (const uint8_t *)"", 0);
+    memcpy(one->arcs, row->arcs, row->arcs_len * sizeof *row->arcs);
+    one->arcs_len = row->arcs_len;
+    return put_row(row);
 }
 
 static snmpsec_binding asked[MOST_BINDINGS];
@@ -91,21 +92,36 @@ static long asked_of(const uint8_t *octets, size_t octets_len) {
     return len;
 }
 
-/* GetBulkRequest (RFC 3416, section 4.2.3): up to what surely doesn't fit. */
+/* A repetition of a GetBulkRequest: whether another may follow. One that can't be looked at whole is left out, and none follows one in which all
+ * variables are at their end (RFC 3416, section 4.2.3). */
+static bool repeat(snmpsec_binding *first, snmpsec_binding *end, size_t limit) {
+    bool are_at_end = true;
+    size_t begun = list_len;
+    for (snmpsec_binding *one = first; one < end; one++) {
+        if (list_len > limit) return false;
+        if (put_next(one)) {
+            if (looks.are_used_up) list_len = begun;
+            return false;
+        }
+        if (one->tag != END_OF_MIB_VIEW) are_at_end = false;
+    }
+    return !are_at_end;
+}
+
+/* GetBulkRequest: up to what surely doesn't fit. */
 static void bulk(long len, int32_t non_repeaters, int32_t repetitions, size_t limit) {
     long first = non_repeaters < 0 ? 0 : non_repeaters < len ? non_repeaters : len;
     for (long i = 0; i < first; i++)
-        if (put_next(asked[i].arcs, &asked[i].arcs_len)) return;
-    for (int32_t k = 0; k < repetitions && k < 1000 && first < len && !is_unauthorized; k++)
-        for (long i = first; i < len; i++)
-            if (list_len > limit || put_next(asked[i].arcs, &asked[i].arcs_len)) return;
+        if (list_len > limit || put_next(&asked[i])) return;
+    for (int32_t k = 0; k < repetitions && k < MOST_REPETITIONS && !looks.are_unauthorized; k++)
+        if (!repeat(asked + first, asked + len, limit)) return;
 }
 
 /* SetRequest (RFC 3416, section 4.2.5): all bindings are looked at before any is set. */
 static uint32_t set(long len, uint32_t *index) {
     for (long i = 0; i < len; i++) {
         *index = (uint32_t)i + 1;
-        if (!may(SNMPSEC_WRITE, asked[i].arcs, asked[i].arcs_len)) return NO_ACCESS;
+        if (!looks_may(&looks, SNMPSEC_WRITE, asked[i].arcs, asked[i].arcs_len)) return NO_ACCESS;
         const struct row *row = table_at(table, asked[i].arcs, asked[i].arcs_len);
         if (!row) return NOT_WRITABLE;
         if (row->tag != asked[i].tag) return WRONG_TYPE;
@@ -125,15 +141,15 @@ static uint32_t set(long len, uint32_t *index) {
 /* Fills the bindings of the answer: an error-status and an error-index. */
 static uint32_t fill(const snmpsec_info *info, const uint8_t *octets, size_t octets_len, uint32_t *index, size_t limit) {
     long len = asked_of(octets, octets_len);
-    list_len = 0;
-    is_unauthorized = false;
+    list_len = object.len = 0;
     *index = 0;
+    looks_begin(&looks, agent, table, (snmpsec_pdu)info->pdu, len < 0 ? 0 : (size_t)len);
     if (len < 0) return GEN_ERR;
     if (info->pdu == SNMPSEC_SET_REQUEST) return set(len, index);
     if (info->pdu == SNMPSEC_GET_BULK_REQUEST) { bulk(len, info->non_repeaters, info->max_repetitions, limit); return 0; }
     for (long i = 0; i < len; i++) {
-        int answer = info->pdu == SNMPSEC_GET_REQUEST ? put_exact(asked[i].arcs, asked[i].arcs_len) : put_next(asked[i].arcs, &asked[i].arcs_len);
-        if (answer) return TOO_BIG;
+        uint32_t status = info->pdu == SNMPSEC_GET_REQUEST ? put_exact(asked[i].arcs, asked[i].arcs_len) : put_next(&asked[i]);
+        if (status) { *index = status == TOO_BIG ? 0 : (uint32_t)i + 1; return status; }
     }
     return 0;
 }
@@ -145,11 +161,12 @@ static int respond_too_big(uint64_t now, uint32_t limit) {
     return answer;
 }
 
-/* The Response to a GetBulkRequest with as many of the bindings as have room (RFC 3416, section 4.2.3). */
+/* The Response to a GetBulkRequest with as many of the bindings as have room (RFC 3416, section 4.2.3). One without bindings would end a walk, so
+ * where not even the first has room it is tooBig. */
 static int respond_bulk(uint64_t now, uint32_t limit) {
-    size_t count;
+    size_t count = 0;
     int answer = snmpsec_agent_respond_front(agent, now, 0, 0, list, list_len, new_salt(), limit, &count);
-    return answer == SNMPSEC_TOO_LARGE ? respond_too_big(now, limit) : answer;
+    return answer == SNMPSEC_TOO_LARGE || (!answer && list_len && !count) ? respond_too_big(now, limit) : answer;
 }
 
 /* A SetRequest is looked at for its size before anything is set, with the longest error-status and error-index (RFC 3416, section 4.2.5). */
@@ -165,33 +182,33 @@ static int respond(uint64_t now, uint32_t limit) {
     uint32_t index = 0;
     if (snmpsec_agent_info(agent, &info) || snmpsec_agent_part(agent, SNMPSEC_BINDINGS, octets, sizeof octets, &octets_len))
         return SNMPSEC_NOTHING_TAKEN;
-    pdu = (snmpsec_pdu)info.pdu;
-    if (pdu == SNMPSEC_SET_REQUEST && set_is_too_big(now, octets, octets_len, limit)) return respond_too_big(now, limit);
+    if (info.pdu == SNMPSEC_SET_REQUEST && set_is_too_big(now, octets, octets_len, limit)) return respond_too_big(now, limit);
     uint32_t status = fill(&info, octets, octets_len, &index, limit);
-    if (is_unauthorized) { status = AUTHORIZATION_ERROR; index = 0; }
+    if (looks.are_unauthorized) { status = AUTHORIZATION_ERROR; index = 0; }
     if (status == TOO_BIG) return respond_too_big(now, limit);
-    if (pdu == SNMPSEC_GET_BULK_REQUEST && !status) return respond_bulk(now, limit);
+    if (info.pdu == SNMPSEC_GET_BULK_REQUEST && !status) return respond_bulk(now, limit);
     if (status) { memcpy(list, octets, octets_len); list_len = octets_len; }
     int answer = snmpsec_agent_respond_within(agent, now, status, index, list, list_len, new_salt(), limit);
     return answer == SNMPSEC_TOO_LARGE ? respond_too_big(now, limit) : answer;
 }
 
-/* How long an answer may be: as the sender says, and where anybody may have sent the request, no more than a short one or twice as long, so that
- * the agent can't be used to flood somebody else. */
-static uint32_t limit_of(size_t request_len, bool long_answers) {
+/* How long an answer may be. A request without authentication may come in somebody else's name, and its answer goes there. It amplifies: a short
+ * answer has up to 17 times the octets of its request, a longer one twice as many at most. With OF_THE_REQUEST it has no more of them. */
+static uint32_t limit_of(size_t request_len, enum answer_size size) {
     snmpsec_info info;
-    uint32_t limit = SHORT_ANSWER, twice = (uint32_t)(2 * request_len);
+    uint32_t limit = SHORT_ANSWER, most = (uint32_t)request_len;
     if (snmpsec_agent_max_size(agent, &limit) || snmpsec_agent_info(agent, &info)) return limit;
     if (limit > SNMPSEC_LARGEST) limit = SNMPSEC_LARGEST;
-    uint32_t most = twice > SHORT_ANSWER ? twice : SHORT_ANSWER;
-    return info.level == SNMPSEC_NO_AUTH_NO_PRIV && !long_answers && limit > most ? most : limit;
+    if (info.level != SNMPSEC_NO_AUTH_NO_PRIV || size == OF_MAX_SIZE) return limit;
+    if (size == SHORT_OR_TWICE) most = 2 * most > SHORT_ANSWER ? 2 * most : SHORT_ANSWER;
+    return limit > most ? most : limit;
 }
 
-int answer_kept(snmpsec_agent *of, struct table *values, uint64_t now, size_t request_len, bool long_answers) {
+int answer_kept(snmpsec_agent *of, struct table *values, uint64_t now, size_t request_len, enum answer_size size) {
     agent = of;
     table = values;
     snmpsec_unhandled why;
     int answer = snmpsec_agent_unhandled(agent, &why);
     if (answer) return answer;
-    return why == SNMPSEC_HANDLED ? respond(now, limit_of(request_len, long_answers)) : snmpsec_agent_refuse(agent, now, why, new_salt());
+    return why == SNMPSEC_HANDLED ? respond(now, limit_of(request_len, size)) : snmpsec_agent_refuse(agent, now, why, new_salt());
 }

@@ -6,7 +6,7 @@
 #include <stdint.h>
 
 /* Tells why the octets of the file at this path are refused, in the two lines of snmpsec_config_fault, each behind the program's name and the
- * path. */
+ * path. Control characters are printed as \xNN. */
 void config_told(const char *program, const char *path, const uint8_t *config, size_t config_len);
 
 #endif

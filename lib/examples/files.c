@@ -1,5 +1,6 @@
 #define _GNU_SOURCE
 #include "files.h"
+#include <dirent.h>
 #include <errno.h>
 #include <fcntl.h>
 #include <libgen.h>
@@ -89,8 +90,11 @@ static int write_all(int file, const uint8_t *octets, size_t octets_len) {
     return 0;
 }
 
-static int write_new(const char *name, const void *octets, size_t octets_len) {
-    int file = open(name, O_WRONLY | O_CREAT | O_TRUNC | O_NOFOLLOW | O_CLOEXEC, 0600);
+/* what mkostemp puts something else in the place of: a name that nobody can know before */
+static const char new_ending[] = ".new.XXXXXX";
+
+static int write_new(char *name, const void *octets, size_t octets_len) {
+    int file = mkostemp(name, O_CLOEXEC);
     if (file < 0) return -1;
     int bad = fchmod(file, 0600) || write_all(file, octets, octets_len) || fsync(file), why = errno;
     if (close(file) && !bad) return -1;
@@ -98,11 +102,18 @@ static int write_new(const char *name, const void *octets, size_t octets_len) {
     return bad ? -1 : 0;
 }
 
+/* The folder that the file is in, in a block of its own. */
+static char *folder_of(const char *path) {
+    char *name = strdup(path), *folder = name ? strdup(dirname(name)) : NULL;
+    free(name);
+    return folder;
+}
+
 /* The name's folder is synced: without that a crash of the machine could undo the rename. */
 static int sync_folder_of(const char *path) {
-    char *name = strdup(path);
+    char *name = folder_of(path);
     if (!name) return -1;
-    int folder = open(dirname(name), O_RDONLY | O_DIRECTORY | O_CLOEXEC);
+    int folder = open(name, O_RDONLY | O_DIRECTORY | O_CLOEXEC);
     free(name);
     if (folder < 0) return -1;
     int bad = fsync(folder), why = errno;
@@ -112,8 +123,8 @@ static int sync_folder_of(const char *path) {
 }
 
 int file_replace(const char *path, const void *octets, size_t octets_len) {
-    char *name = with_ending(path, ".new");
-    if (!name) return told(path, "no memory");
+    char *name = with_ending(path, new_ending);
+    if (!name) return told(path, "out of memory");
     int bad = 0;
     if (write_new(name, octets, octets_len) || rename(name, path)) {
         bad = told_errno(path);
@@ -123,17 +134,59 @@ int file_replace(const char *path, const void *octets, size_t octets_len) {
     return bad;
 }
 
+/* Whether nobody but this user, and root, may put files into the folder, rename them or remove them. */
+static int check_folder(int folder, const char *name) {
+    struct stat stat;
+    if (fstat(folder, &stat)) return told_errno(name);
+    if (stat.st_uid && stat.st_uid != geteuid()) return told(name, "the folder is another user's: name a file in a folder of your own");
+    if (stat.st_mode & (S_IWGRP | S_IWOTH))
+        return told(name, "other users may write to the folder: chmod go-w it, or name a file in a folder that only you may write to");
+    return 0;
+}
+
+/* Whether an entry of the file's folder is a new file of file_replace, which a process that was killed left. */
+static bool is_left_over(const char *entry, const char *base) {
+    size_t base_len = strlen(base);
+    return strlen(entry) == base_len + sizeof new_ending - 1 && !strncmp(entry, base, base_len) && !strncmp(entry + base_len, new_ending, 5);
+}
+
+static void remove_left_over(int folder, const char *base) {
+    int again = dup(folder);
+    DIR *entries = again < 0 ? NULL : fdopendir(again);
+    if (!entries) { if (again >= 0) close(again); return; }
+    for (struct dirent *entry; (entry = readdir(entries));)
+        if (is_left_over(entry->d_name, base)) unlinkat(folder, entry->d_name, 0);
+    closedir(entries);
+}
+
 /* The lock's file stays: one that is unlinked could be locked twice. */
-int file_lock(const char *path) {
-    char *name = with_ending(path, ".lock");
-    if (!name) return told(path, "no memory");
-    int file = open(name, O_RDWR | O_CREAT | O_NOFOLLOW | O_CLOEXEC, 0600), bad = 0;
-    if (file < 0) bad = told_errno(name);
-    else if (flock(file, LOCK_EX | LOCK_NB)) {
-        bad = told(path, errno == EWOULDBLOCK ? "another process uses it" : strerror(errno));
-        close(file);
+static int lock_name(const char *path, const char *name) {
+    int file = open(name, O_RDWR | O_CREAT | O_NOFOLLOW | O_NONBLOCK | O_CLOEXEC, 0600);
+    if (file < 0) return told_errno(name);
+    if (!flock(file, LOCK_EX | LOCK_NB)) return 0;
+    int bad = told(path, errno == EWOULDBLOCK ? "another process uses it" : strerror(errno));
+    close(file);
+    return bad;
+}
+
+/* Locks the file in its folder, which is checked before; what other processes left is removed. */
+static int lock_in(const char *path, const char *folder_name, const char *lock) {
+    int folder = open(folder_name, O_RDONLY | O_DIRECTORY | O_CLOEXEC);
+    if (folder < 0) return told_errno(folder_name);
+    int bad = check_folder(folder, folder_name) || lock_name(path, lock);
+    if (!bad) {
+        const char *slash = strrchr(path, '/');
+        remove_left_over(folder, slash ? slash + 1 : path);
     }
-    free(name);
+    close(folder);
+    return bad ? -1 : 0;
+}
+
+int file_lock(const char *path) {
+    char *folder = folder_of(path), *lock = with_ending(path, ".lock");
+    int bad = folder && lock ? lock_in(path, folder, lock) : told(path, "out of memory");
+    free(folder);
+    free(lock);
     return bad;
 }
 
@@ -170,9 +223,13 @@ static int boots_before(const char *path, bool must_exist, uint32_t *boots) {
 }
 
 int boots_next(const char *path, bool must_exist, uint32_t *boots) {
-    char text[16];
     if (file_lock(path) || boots_before(path, must_exist, boots)) return -1;
-    if (*boots == BOOTS_LATCHED) return 0;
-    int len = snprintf(text, sizeof text, "%u\n", ++*boots);
+    if (*boots != BOOTS_LATCHED) ++*boots;
+    return 0;
+}
+
+int boots_keep(const char *path, uint32_t boots) {
+    char text[16];
+    int len = snprintf(text, sizeof text, "%u\n", boots);
     return file_replace(path, text, (size_t)len);
 }

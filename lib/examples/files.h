@@ -18,22 +18,24 @@ int file_read(const char *path, size_t most, uint8_t **octets, size_t *octets_le
 void file_free(uint8_t *octets, size_t octets_len);
 
 /* Puts these octets in the place of the file: after a crash at any point, or on an error, the file has its old octets or these, whole. It is
- * readable by its owner alone. PATH.new is written first, so one process does this at a time: lock it. */
+ * readable by its owner alone. A new file, PATH.new. and six random characters, is written first. One process does this at a time: lock it. */
 int file_replace(const char *path, const void *octets, size_t octets_len);
 
 /* Whether there is nothing at the path, not even a link to nothing. */
 bool file_is_absent(const char *path);
 
-/* Locks PATH.lock until the process ends. Another process that has it is an error. */
+/* Locks PATH.lock until the process ends, and removes what file_replace left of PATH in a process that was killed. An error: another process has it,
+ * or other users may write to its folder, as to /tmp. They could put files of theirs under these names, or take these away. */
 int file_lock(const char *path);
 
 /* RFC 3414, section 2.2.2: here boots stay until the engine has another ID or its users other passwords. */
 #define BOOTS_LATCHED 2147483647u
 
-/* Locks the boots' file, and writes there and tells one more than its boots, or 1 where there is no file, which is refused where the file must
- * exist. Of BOOTS_LATCHED it tells the same
- * and leaves the file. What isn't a number from 0 to BOOTS_LATCHED and a line feed is refused, an empty file too: to begin at 1 again would have
- * old messages accepted. */
+/* Locks the boots' file, and tells one more than its boots, or 1 where there is no file, which is refused where the file must exist. Of BOOTS_LATCHED
+ * it tells the same. What isn't a number from 0 to BOOTS_LATCHED and a line feed is refused, an empty file too: to begin at 1 again would have old
+ * messages accepted. */
 int boots_next(const char *path, bool must_exist, uint32_t *boots);
+/* Writes these boots into the file, which boots_next has locked. Nothing is sent with them before. */
+int boots_keep(const char *path, uint32_t boots);
 
 #endif

@@ -1,21 +1,22 @@
-/* A poller: poll [--must-exist] CONFIG CLOCKS-FILE PORT USER LEVEL OID..
+/* A poller: poll [OPTION..] CONFIG CLOCKS-FILE PORT USER LEVEL OID..
  *
  * It discovers the agent on 127.0.0.1, asks it for the variables (GetRequest) and prints them, and keeps what it knows of engines'
- * clocks in a file. Level is 1, 2 or 3. Where the agent reports that the message isn't in the time window, it asks again with what
- * it learned. Not proved. */
+ * clocks in a file. Level is 1, 2 or 3. If the agent reports that the message isn't in the time window, it asks again with what
+ * it learned. Whatever else comes to its port, it waits for a reply until its time is over, and sends the request again. Not proved. */
 #define _GNU_SOURCE
 #include "snmpsec.h"
 #include "config_told.h"
 #include "files.h"
 #include "words_of.h"
 #include <arpa/inet.h>
+#include <errno.h>
 #include <getopt.h>
+#include <poll.h>
 #include <stdio.h>
 #include <stdlib.h>
 #include <string.h>
 #include <sys/random.h>
 #include <sys/socket.h>
-#include <sys/time.h>
 #include <time.h>
 #include <unistd.h>
 
@@ -34,18 +35,50 @@ static uint64_t random_octets(void) {
     return value;
 }
 
-/* Sends the message and takes what comes, up to what is a reply to the request: 0, or -1 and says why not. */
-static int exchange(int socket, snmpsec_reply *reply) {
-    size_t len = 0;
-    if (snmpsec_manager_message(manager, octets, sizeof octets, &len) || send(socket, octets, len, 0) < 0) { perror("poll: send"); return -1; }
-    for (int tries = 0; tries < 4; tries++) {
-        ssize_t got = recv(socket, octets, sizeof octets, 0);
-        if (got < 0) break;
-        int answer = snmpsec_manager_take(manager, now_in_seconds(), octets, (size_t)got);
-        if (answer) { fprintf(stderr, "poll: refused: %s\n", snmpsec_strerror(answer)); return -1; }
-        if (!snmpsec_manager_take_reply(manager, reply) && reply->kind != SNMPSEC_REPLY_OTHER) return 0;
+static int64_t now_in_milliseconds(void) {
+    struct timespec now;
+    clock_gettime(CLOCK_MONOTONIC, &now);
+    return (int64_t)now.tv_sec * 1000 + now.tv_nsec / 1000000;
+}
+
+/* How the poller asks: at which socket, how long it waits for each reply, and how often it sends a request that gets none. */
+struct asking { int socket; uint32_t seconds, tries; };
+
+/* Waits for a datagram until this moment: its length, or -1. Another system may have told that nobody listens there: the agent may yet. */
+static ssize_t receive(int socket, int64_t until) {
+    struct pollfd one = {.fd = socket, .events = POLLIN};
+    for (int64_t left; (left = until - now_in_milliseconds()) > 0;) {
+        if (poll(&one, 1, (int)left) <= 0) continue;
+        ssize_t got = recv(socket, octets, sizeof octets, MSG_DONTWAIT);
+        if (got >= 0) return got;
     }
-    fprintf(stderr, "poll: no answer\n");
+    return -1;
+}
+
+/* Takes what comes, up to a reply to the request, until this moment: 0, or -1. Anybody may send junk, old answers or the request itself to the
+ * port, so none of that ends the waiting; *refused is why the last of it was refused. */
+static int wait_for_reply(int socket, int64_t until, snmpsec_reply *reply, int *refused) {
+    for (ssize_t got; (got = receive(socket, until)) >= 0;) {
+        int answer = snmpsec_manager_take(manager, now_in_seconds(), octets, (size_t)got);
+        if (answer) *refused = answer;
+        else if (!snmpsec_manager_take_reply(manager, reply) && reply->kind != SNMPSEC_REPLY_OTHER) return 0;
+    }
+    return -1;
+}
+
+/* Sends the message until a reply comes: 0, or -1 and says why not. */
+static int exchange(const struct asking *asking, snmpsec_reply *reply) {
+    static uint8_t message[SNMPSEC_LARGEST];
+    size_t len = 0;
+    int refused = SNMPSEC_OK;
+    if (snmpsec_manager_message(manager, message, sizeof message, &len)) { fprintf(stderr, "poll: no request\n"); return -1; }
+    for (uint32_t tries = 0; tries < asking->tries; tries++) {
+        int64_t until = now_in_milliseconds() + (int64_t)asking->seconds * 1000;
+        if (send(asking->socket, message, len, 0) < 0 && errno != ECONNREFUSED) { perror("poll: send"); return -1; }
+        if (!wait_for_reply(asking->socket, until, reply, &refused)) return 0;
+    }
+    if (refused) fprintf(stderr, "poll: no answer; what came was refused: %s\n", snmpsec_strerror(refused));
+    else fprintf(stderr, "poll: no answer\n");
     return -1;
 }
 
@@ -91,12 +124,12 @@ static int tell_report(void) {
     return report.counter != SNMPSEC_NOT_IN_WINDOWS;
 }
 
-static int poll_once(int socket, const char *user, snmpsec_level level, const uint8_t *list, size_t list_len) {
+static int poll_once(const struct asking *asking, const char *user, snmpsec_level level, const uint8_t *list, size_t list_len) {
     uint8_t engine[32];
     size_t engine_len = 0;
     snmpsec_reply reply;
     uint32_t id = (uint32_t)(random_octets() & 0x3fffffff);
-    if (snmpsec_manager_discover(manager, id) || exchange(socket, &reply)) return 1;
+    if (snmpsec_manager_discover(manager, id) || exchange(asking, &reply)) return 1;
     if (reply.counter != SNMPSEC_UNKNOWN_ENGINES || snmpsec_manager_part(manager, SNMPSEC_ENGINE, engine, sizeof engine, &engine_len)) {
         fprintf(stderr, "poll: no engine\n");
         return 1;
@@ -108,7 +141,7 @@ static int poll_once(int socket, const char *user, snmpsec_level level, const ui
                                    .list = {list, list_len}, .salt = random_octets()};
         int answer = snmpsec_manager_request(manager, now_in_seconds(), &request);
         if (answer) { fprintf(stderr, "poll: request: %s\n", snmpsec_strerror(answer)); return 1; }
-        if (exchange(socket, &reply)) return 1;
+        if (exchange(asking, &reply)) return 1;
         if (reply.kind == SNMPSEC_REPLY_RESPONSE) return print_response();
         if (tell_report()) return 1;
     }
@@ -140,7 +173,7 @@ static int bad_word(const char *what, const char *word) {
 /* What the command line says, and the bindings that are asked for. */
 struct words {
     const char *config, *clocks, *user;
-    uint32_t port, level;
+    uint32_t port, level, seconds, retries;
     uint8_t list[SNMPSEC_LARGEST];
     size_t list_len;
     bool must_exist;
@@ -160,19 +193,25 @@ static int begin_manager(const struct words *words) {
 }
 
 static int print_usage(FILE *to, int status) {
-    fputs("poll [--must-exist] CONFIG CLOCKS-FILE PORT USER LEVEL OID..\n"
-          "  --must-exist  a clocks file that is absent is refused, in the place of no clocks\n"
-          "  --version     the version of the library\n", to);
+    fputs("poll [OPTION..] CONFIG CLOCKS-FILE PORT USER LEVEL OID..\n"
+          "  --must-exist       refuse an absent clocks file, instead of no clocks\n"
+          "  --timeout SECONDS  how long to wait for each reply, 1 to 3600 (2)\n"
+          "  --retries NUMBER   how often to send a request again that gets no reply, 0 to 100 (2)\n"
+          "  --version          print the version of the library\n"
+          "  --help             print this\n", to);
     return status;
 }
 
 /* Reads the options: -1 where the words follow, or the status to end with. */
 static int read_options(int argc, char **argv, struct words *words) {
-    static const struct option options[] = {{"must-exist", no_argument, NULL, 'm'}, {"version", no_argument, NULL, 'v'},
+    static const struct option options[] = {{"must-exist", no_argument, NULL, 'm'}, {"timeout", required_argument, NULL, 't'},
+                                            {"retries", required_argument, NULL, 'r'}, {"version", no_argument, NULL, 'v'},
                                             {"help", no_argument, NULL, 'h'}, {0}};
     for (int option; (option = getopt_long(argc, argv, "+", options, NULL)) != -1;)
         switch (option) {
         case 'm': words->must_exist = true; break;
+        case 't': if (number_of(optarg, 1, 3600, &words->seconds)) return bad_word("a time in seconds, 1 to 3600", optarg); break;
+        case 'r': if (number_of(optarg, 0, 100, &words->retries)) return bad_word("a number of retries, 0 to 100", optarg); break;
         case 'v': puts(snmpsec_version()); return 0;
         case 'h': return print_usage(stdout, 0);
         default: return print_usage(stderr, 2);
@@ -210,22 +249,21 @@ static int read_words(int argc, char **argv, struct words *words) {
 static int begin_socket(uint32_t port) {
     int made = socket(AF_INET, SOCK_DGRAM | SOCK_CLOEXEC, 0);
     struct sockaddr_in to = {.sin_family = AF_INET, .sin_port = htons((uint16_t)port), .sin_addr = {htonl(INADDR_LOOPBACK)}};
-    struct timeval wait = {.tv_sec = 2};
-    if (made >= 0 && !connect(made, (struct sockaddr *)&to, sizeof to) && !setsockopt(made, SOL_SOCKET, SO_RCVTIMEO, &wait, sizeof wait)) return made;
+    if (made >= 0 && !connect(made, (struct sockaddr *)&to, sizeof to)) return made;
     perror("poll");
     return -1;
 }
 
 int main(int argc, char **argv) {
-    static struct words words;
+    static struct words words = {.seconds = 2, .retries = 2};
     keep_secrets();
     int status = read_words(argc, argv, &words);
     if (status != -1) return status;
     if (begin_manager(&words)) return 2;
-    int at = begin_socket(words.port);
-    status = at < 0 ? 2 : poll_once(at, words.user, (snmpsec_level)words.level, words.list, words.list_len);
+    struct asking asking = {.socket = begin_socket(words.port), .seconds = words.seconds, .tries = 1 + words.retries};
+    status = asking.socket < 0 ? 2 : poll_once(&asking, words.user, (snmpsec_level)words.level, words.list, words.list_len);
     if (save(words.clocks)) status = 2;
     snmpsec_manager_free(manager);
-    if (at >= 0) close(at);
+    if (asking.socket >= 0) close(asking.socket);
     return status;
 }

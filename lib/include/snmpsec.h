@@ -11,6 +11,25 @@
  * Secrets: what the library frees is wiped first, and so is the stack that its calls used. The caller wipes the configuration that it handed in.
  * Keys lie in memory as long as their handle does.
  *
+ * Stack: the calls that read a configuration need 52 KB of it, the two that free a handle 24 KB, and any other 16 KB. So a thread with 64 KB can make
+ * each of them.
+ *
+ * Work: a datagram makes a call look at its own octets, and at a few rows. _take reads a datagram once, and hashes and opens it once if its user has
+ * the keys; it finds the user by halving the table. _part and _message copy. _respond and _respond_front read the list, write, hash and seal it once.
+ * _access halves the tables; of the view's families it looks at each with a mask. On x86-64 that is at most so many instructions (tests/work.c):
+ *
+ *     _take                   50,000 and 140 for each octet of the datagram (without authentication 25,000 and 60)
+ *     _part, _message          2,000 and 2 for each octet
+ *     _respond                50,000 and 180 for each octet of the list
+ *     _respond_front          80,000 and 60 for each octet of the list
+ *     _access                  5,000 and 200 for each family with a mask, over 10,000 rows in each table
+ *
+ * How many variables an answer looks at is the program's: it asks _access for each. The example agent has a limit (examples/looks.h), and a budget for
+ * messages without authentication (examples/budget.h).
+ *
+ * Processor: on x86-64 one of the level x86-64-v2 (SSE4.2 and POPCNT). A program that loads the library on an older one ends with a line on standard
+ * error and the status 127.
+ *
  * The caller's duties, which nothing checks: a pointer is valid for its length and what is written overlaps nothing else; moments are seconds
  * from one beginning and don't go back; a salt never comes twice for a key, also not after a restart. A length of 0 may come with a null
  * pointer, and a null handle answers SNMPSEC_BAD_ARGUMENT.
@@ -125,7 +144,8 @@ typedef enum snmpsec_config_key {
  * that value. What isn't so is 0. */
 typedef struct snmpsec_config_place { size_t table, position, reason, key; } snmpsec_config_place;
 
-/* Why a text is refused as a configuration, as `snmpsec check-config` tells it. SNMPSEC_OK: it isn't, and *written is 0.
+/* Why a text is refused as a configuration, as `snmpsec check-config` tells it; only one whose keys, tables and arrays are nested more than 16 deep is
+ * refused as SNMPSEC_NO_TOML before it is read. SNMPSEC_OK: it isn't refused, and *written is 0.
  * SNMPSEC_BAD_CONFIGURATION: *place says where, and in the buffer are two lines, the refusal, and what is wrong and what is wanted; they name
  * keys of the text and no value. SNMPSEC_SHORT_BUFFER: *place says where, and *written how much is wanted. SNMPSEC_OUT_OF_MEMORY. */
 SNMPSEC_CHECK int snmpsec_config_fault(const uint8_t *config, size_t config_len, snmpsec_config_place *place, uint8_t *out, size_t out_len,

@@ -28,8 +28,19 @@ static int done_deep(int32_t answer) {
 
 _Static_assert(sizeof(snmpsec_config_place) == 4 * sizeof(size_t), "the numbers of a fault lie one after another");
 
+/* What is told of a configuration that is nested too deep, as the archive tells of a text that isn't TOML. */
+static int told_deep(snmpsec_config_place *place, uint8_t *out, size_t out_len, size_t *written) {
+    static const char text[] = "refused config toml\nnested more than 16 deep: a configuration has rows of keys and values\n";
+    *place = (snmpsec_config_place){.reason = SNMPSEC_NO_TOML};
+    *written = sizeof text - 1;
+    if (out_len < *written) return SNMPSEC_SHORT_BUFFER;
+    memcpy(out, text, *written);
+    return SNMPSEC_BAD_CONFIGURATION;
+}
+
 int snmpsec_config_fault(const uint8_t *config, size_t config_len, snmpsec_config_place *place, uint8_t *out, size_t out_len, size_t *written) {
     if (!place || !written) return SNMPSEC_BAD_ARGUMENT;
+    if (snmpsec_inside_is_deep(config, config_len)) return told_deep(place, out, out_len, written);
     return done_deep(proved_config_fault(in(config, config_len), config_len, (size_t *)place, 4, room(out, out_len), out_len, written));
 }
 
@@ -38,6 +49,7 @@ int snmpsec_agent_new(const uint8_t *config, size_t config_len, const uint8_t *e
     void *handle = NULL;
     if (!out) return SNMPSEC_BAD_ARGUMENT;
     *out = NULL;
+    if (snmpsec_inside_is_deep(config, config_len)) return SNMPSEC_BAD_CONFIGURATION;
     int answer = done_deep(proved_agent_new(in(config, config_len), config_len, in(engine, engine_len), engine_len, boots, started, &handle));
     if (!answer) *out = handle;
     return answer;
@@ -188,6 +200,7 @@ static void forget_kept(snmpsec_manager *manager) {
 int snmpsec_manager_new(const uint8_t *config, size_t config_len, const uint8_t *clocks, size_t clocks_len, uint64_t now, snmpsec_manager **out) {
     if (!out) return SNMPSEC_BAD_ARGUMENT;
     *out = NULL;
+    if (snmpsec_inside_is_deep(config, config_len)) return SNMPSEC_BAD_CONFIGURATION;
     snmpsec_manager *manager = snmpsec_inside_block(sizeof *manager);
     if (!manager) return SNMPSEC_OUT_OF_MEMORY;
     *manager = (snmpsec_manager){0};

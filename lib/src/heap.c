@@ -120,5 +120,5 @@ void snmpsec_inside_free_handle(void *handle, int32_t (*clear)(void *handle)) {
     clear(handle);
     room = NULL;
     snmpsec_inside_free_block(handle);
-    snmpsec_inside_wipe_deep_stack();
+    snmpsec_inside_wipe_free_stack();
 }

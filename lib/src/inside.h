@@ -2,6 +2,7 @@
 #ifndef SNMPSEC_INSIDE_H
 #define SNMPSEC_INSIDE_H
 
+#include <stdbool.h>
 #include <stddef.h>
 #include <stdint.h>
 
@@ -12,14 +13,21 @@
 #define SNMPSEC_STACK 12288
 #endif
 #ifndef SNMPSEC_DEEP_STACK
-#define SNMPSEC_DEEP_STACK 65536
+#define SNMPSEC_DEEP_STACK 49152
+#endif
+#ifndef SNMPSEC_FREE_STACK
+#define SNMPSEC_FREE_STACK 20480
 #endif
 
 INSIDE void snmpsec_inside_wipe(void *octets, size_t octets_len);
-/* Wipes what a call may have left below the caller's frame, and in registers; the second after a configuration was read, and after a handle was
- * freed. */
+/* Wipes what a call may have left below the caller's frame, and in registers; the second after a configuration was read, and the third after a
+ * handle was freed. */
 INSIDE void snmpsec_inside_wipe_stack(void);
 INSIDE void snmpsec_inside_wipe_deep_stack(void);
+INSIDE void snmpsec_inside_wipe_free_stack(void);
+
+/* Whether a configuration is nested deeper than the stack that is wiped allows. */
+INSIDE bool snmpsec_inside_is_deep(const uint8_t *text, size_t len);
 
 /* A block of the heap that the archive has too, or NULL; and its end, wiped. */
 INSIDE void *snmpsec_inside_block(size_t size);

@@ -44,3 +44,9 @@ __attribute__((noinline)) WITHOUT_REGISTERS void snmpsec_inside_wipe_deep_stack(
     explicit_bzero(room, sizeof room);
     wipe_wide_registers();
 }
+
+__attribute__((noinline)) WITHOUT_REGISTERS void snmpsec_inside_wipe_free_stack(void) {
+    char room[SNMPSEC_FREE_STACK];
+    explicit_bzero(room, sizeof room);
+    wipe_wide_registers();
+}

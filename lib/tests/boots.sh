@@ -30,6 +30,7 @@ test_killed_at_each_call() {
         { strace -qq -o /dev/null -e trace="$name" -e inject="$name:signal=KILL:when=${seen[$name]}" "$boots" "$starts/b" once > "$starts/told" 2>&1; } 2> /dev/null
         told=$(cat "$starts/told")
         after=$("$boots" "$starts/b" once)
+        check "killed at $name ${seen[$name]}: nothing is left over" "b b.lock" "$(ls "$starts" | grep '^b' | paste -sd' ')"
         if { [ "$after" = 42 ] || [ "$after" = 43 ]; } && [ "${told:-0}" -lt "$after" ]; then n=$((n + 1)); else check "killed at $name ${seen[$name]}" "42 or 43" "$after after '$told'"; fi
     done
     check "kills at system calls" "$(wc -w <<< "$calls")" "$n"
@@ -78,7 +79,7 @@ CALLS
 
 test_full_disk() {
     mkdir -p "$starts/full"
-    if ! mount -t tmpfs -o size=16k none "$starts/full" 2> /dev/null; then echo "skipped: boots on a full disk, since only root may mount one"; return; fi
+    if ! mount -t tmpfs -o size=16k,mode=700 none "$starts/full" 2> /dev/null; then echo "skipped: boots on a full disk, since only root may mount one"; return; fi
     printf '41\n' > "$starts/full/b"
     touch "$starts/full/b.lock"
     dd if=/dev/zero of="$starts/full/fill" bs=4096 2> /dev/null
@@ -121,7 +122,43 @@ test_junk() {
     refused 1 "W/b: No such file or directory" "$boots" --must-exist "$starts/b" once
     check "a first start" 1 "$("$boots" "$starts/b" once)"
     check "one that must exist" 2 "$("$boots" --must-exist "$starts/b" once)"
-    refused 1 "W/none/b.lock: No such file or directory" "$boots" "$starts/none/b" once
+    refused 1 "W/none: No such file or directory" "$boots" "$starts/none/b" once
+}
+
+# A folder that others may write to: they could have the new file's name before, and keep it open.
+test_shared_folder() {
+    local mode remedy="other users may write to the folder: chmod go-w it, or name a file in a folder that only you may write to"
+    mkdir -p "$starts/shared"
+    for mode in 1777 777 775 720; do
+        chmod $mode "$starts/shared"
+        refused 1 "W/shared: $remedy" "$boots" "$starts/shared/b" once
+        check "a folder of mode $mode: nothing is made there" "" "$(ls "$starts/shared")"
+    done
+    check "the folder of the path is the one that counts" 1 "$(cd "$starts/shared" && chmod 755 . && "$boots" b once)"
+    if [ "$(id -u)" = 0 ]; then
+        chown 65534 "$starts/shared"
+        refused 1 "W/shared: the folder is another user's: name a file in a folder of your own" "$boots" "$starts/shared/b" once
+    fi
+    rm -r "$starts/shared"
+}
+
+# What stands under the names of new files: it isn't waited for, followed or written to, and what a killed start left is removed.
+test_names_taken() {
+    begin_with '41\n'
+    echo theirs > "$starts/theirs"
+    mkfifo "$starts/b.new"
+    ln -s "$starts/theirs" "$starts/b.new.linked"
+    echo 7 > "$starts/b.new.a1B2c3"
+    echo mine > "$starts/b.new.other-file"
+    check "names that are taken" 42 "$(timeout 5 "$boots" "$starts/b" once)"
+    check "what they lead to stays" theirs "$(cat "$starts/theirs")"
+    check "what was left over is gone" "b b.lock b.new b.new.other-file" "$(cd "$starts" && echo b*)"
+    rm -f "$starts"/b* "$starts/theirs"
+    ln -s "$starts/elsewhere" "$starts/b.lock"
+    refused 1 "W/b.lock: Too many levels of symbolic links" "$boots" "$starts/b" once
+    rm "$starts/b.lock"
+    mkfifo "$starts/b.lock"
+    check "a lock that is no file is waited for by nobody" 1 "$(timeout 5 "$boots" "$starts/b" once)"
 }
 
 test_latched() {
@@ -156,5 +193,7 @@ test_killed_at_random
 test_full_disk
 test_limit
 test_junk
+test_shared_folder
+test_names_taken
 test_latched
 test_locked

@@ -2,8 +2,6 @@
 # sections 4.2.2 and 7; RFC 3413, section 3.2; RFC 3416, section 4.2). test.sh runs this.
 export SNMPSEC_LIBRARY=$OUT/libsnmpsec.so.0 PYTHONDONTWRITEBYTECODE=1
 
-raw() { PYTHONPATH=$here/python/src python3 "$here/tests/raw.py" "$port" "$@" 2>&1; }
-
 # A configuration with a user of no group, and a table of 300 rows.
 begin_dispatch() { # OPTIONS..
     { cat "$here/examples/agent.toml"; printf '\n[[user]]\nname = "nobody"\n'; } > "$work/dispatch.toml"
@@ -15,6 +13,7 @@ begin_dispatch() { # OPTIONS..
 }
 
 octets_in() { sed 's/.*: \([0-9]*\) octets,.*/\1/' <<< "$1"; }
+sent_in() { sed 's/^sent \([0-9]*\):.*/\1/' <<< "$1"; }
 bindings_in() { sed 's/.* \([0-9]*\) bindings.*/\1/' <<< "$1"; }
 
 as_level() { # LEVEL: the words of a user who has it
@@ -51,6 +50,15 @@ test_short_answers() { # of an agent that wasn't asked for long ones
     check "with it, more" 200 "$(bindings_in "$(raw user=sha level=2 tag=a5 third=200 $system.9.1.3)")"
     told=$(raw times=60 $system.1.0)
     check "or twice its request" 1 $(($(octets_in "$told") > 1472 && $(bindings_in "$told") == 60))
+}
+
+test_no_amplification() { # of an agent that was asked for it
+    local told
+    told=$(raw tag=a5 third=1 times=40 $system.9.1.3.1)
+    check "without authentication an answer is no longer than its request" 1 $(($(octets_in "$told") <= $(sent_in "$told") && $(bindings_in "$told") > 0))
+    has "where no variable fits it is tooBig" "status 1, index 0, context '', 0 bindings" "$(raw tag=a5 third=10 $system)"
+    has "so it is for a Get" "status 1, index 0, context '', 0 bindings" "$(raw $system.1.0)"
+    check "with authentication, more" 200 "$(bindings_in "$(raw user=sha level=2 tag=a5 third=200 $system.9.1.3)")"
 }
 
 test_authorization() {
@@ -132,7 +140,7 @@ test_clients() {
 # What a client of the library prints of sysDescr: one in C, one in Python, one in Rust.
 asks() { # CLIENT
     case $1 in
-        poll) "$programs/poll" "$work/dispatch.toml" "$work/fake.clocks" "$port" sha 3 $system.1.0 ;;
+        poll) "$programs/poll" --timeout 1 --retries 1 "$work/dispatch.toml" "$work/fake.clocks" "$port" sha 3 $system.1.0 ;;
         aget) PYTHONPATH=$here/python/src python3 "$here/python/examples/aget.py" "$work/dispatch.toml" 127.0.0.1 "$port" sha 3 $system.1.0 ;;
         get) "$OUT/cargo/debug/examples/get" "$work/dispatch.toml" 127.0.0.1:"$port" sha 3 $system.1.0 ;;
     esac
@@ -145,19 +153,27 @@ build_get() {
     clients+=(get)
 }
 
-# Who checks a Response: an agent that answers at a lower level, in another context, with another request-id.
-test_fake() { # WRONG EXPECTED ERROR
-    local found client
-    PYTHONPATH=$here/python/src python3 "$here/tests/fake.py" "$port" "$1" > "$work/fake.out" 2>&1 &
+# A client's standard output, the last line of its standard error, and its status: asked_by CLIENT
+asked_by() {
+    asks "$1" > "$work/fake.$1.out" 2> "$work/fake.$1.err"
+    echo $? > "$work/fake.$1.status"
+}
+
+# What the clients make of a fake agent, which they ask at once: an agent that answers at a lower level, in another context, with another request-id;
+# and a right one among what anybody may send.
+test_fake() { # WRONG EXPECTED-STATUS ERROR CLIENT..
+    local client asking=() wrong=$1 status=$2 error=$3
+    shift 3
+    PYTHONPATH=$here/python/src python3 "$here/tests/fake.py" "$port" "$wrong" > "$work/fake.out" 2>&1 &
     fake=$!
     pids+=("$fake")
     bound "$port"
-    for client in "${clients[@]}"; do
-        found=$(asks "$client" 2> "$work/fake.err")
-        check "the status of $client with a fake agent, $1" "$2" $?
-        check "what $client prints, $1" "$([ "$2" = 0 ] && echo "$system.1.0 04 66616b65")" "$found"
-        has "what $client tells, $1" "$3" "$(tail -1 "$work/fake.err")"
-        [ "$client" = poll ] && poll_told=$(tail -1 "$work/fake.err")
+    for client; do asked_by "$client" & asking+=($!); done
+    wait "${asking[@]}"
+    for client; do
+        check "the status of $client with a fake agent, $wrong" "$status" "$(cat "$work/fake.$client.status")"
+        check "what $client prints, $wrong" "$([ "$status" = 0 ] && echo "$system.1.0 04 66616b65")" "$(cat "$work/fake.$client.out")"
+        has "what $client tells, $wrong" "$error" "$(tail -1 "$work/fake.$client.err")"
     done
     kill "$fake"
     wait "$fake" 2> /dev/null
@@ -170,6 +186,9 @@ else
     begin_dispatch --long-answers
     test_cut_bulks
     test_too_big
+    end_agent
+    begin_dispatch --no-amplification
+    test_no_amplification
     end_agent
     begin_dispatch
     test_short_answers
@@ -186,10 +205,11 @@ else
     check "the agent says nothing wrong of all this" "" "$(cat "$work/agent.err")"
     clients=(poll aget)
     build_get
-    test_fake nothing 0 ""
-    test_fake level 1 "no answer"
-    test_fake context 1 "no answer"
-    test_fake id 1 "no answer"
-    test_fake status=5 1 "error-status 5"
-    has "poll names it" "poll: genErr (error-status 5), error-index 0" "$poll_told"
+    test_fake nothing 0 "" "${clients[@]}"
+    for wrong in level context id; do test_fake $wrong 1 "no answer" "${clients[@]}"; done
+    test_fake status=5 1 "error-status 5" "${clients[@]}"
+    has "poll names it" "poll: genErr (error-status 5), error-index 0" "$(tail -1 "$work/fake.poll.err")"
+    for wrong in junk flipped echo old; do test_fake $wrong 0 "" "${clients[@]}"; done
+    test_fake late 0 "" poll
+    test_fake never 1 "poll: no answer; what came was refused: it is no SNMPv3 message" poll
 fi

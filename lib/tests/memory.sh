@@ -22,7 +22,7 @@ test_memory() {
     "$OUT/stack" "$replay/config.toml" > "$work/stack.out" 2>&1
     check "the stack of each call is less than what is wiped" 0 $?
     grep FAILED "$work/stack.out"
-    echo "stack: the deepest $(grep -v _new "$work/stack.out" | grep -o '[0-9]* octets' | sort -n | tail -1), while a configuration is read $(grep _new "$work/stack.out" | grep -o '[0-9]* octets' | sort -n | tail -1)"
+    echo "stack: the deepest $(grep -v -e _new -e config_fault "$work/stack.out" | grep -o '[0-9]* octets' | sort -n | tail -1), while a configuration is read $(grep -e _new -e config_fault "$work/stack.out" | grep -o '[0-9]* octets' | sort -n | tail -1)"
     if ! command -v python3 > /dev/null; then echo "skipped: looks for keys in memory: there is no python3"; return; fi
     core=()
     if ! command -v gcore > /dev/null; then
@@ -73,6 +73,7 @@ test_not_dumpable() {
 test_threads() {
     local tool
     printf '[[user]]\nname = "bob"\nauth = "sha1"\nauth-password = "maplesyrup"\npriv-password = "syrupmaple"\n' > "$work/one.toml"
+    check "threads with 64 KB of stack" ended "$("$OUT/threads" "$work/one.toml" small 20 2>&1)"
     if ! command -v valgrind > /dev/null; then echo "skipped: races between handles: there is no valgrind (apt-get install valgrind)"; return; fi
     for tool in helgrind drd; do
         if ! valgrind -q --tool=$tool true > /dev/null 2>&1; then echo "skipped: $tool doesn't run here"; continue; fi

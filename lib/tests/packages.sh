@@ -19,12 +19,45 @@ in_copy() {
 # Which of the system's files there are where a package may put some, but for those of dpkg and caches.
 LISTED="(cd / && find usr etc lib* -xdev ! -path '*/__pycache__*' ! -name ld.so.cache | sort)"
 
-# The example programs, built of what the package has.
-build_examples() { # FOLDER: an unpacked libsnmpsec-dev
-    local program
-    cd "$1/usr/share/doc/libsnmpsec-dev/examples" || return
-    for program in agent poll; do
-        cc -I"$1/usr/include" $program.c $(basename -a $(listed example_sources)) "$OUT/libsnmpsec.so.0" -o "$1/$program" || return
+# Of each file of the packages that the processor runs: what its linker was asked for.
+look_at_flags() {
+    local file told
+    while read -r file; do
+        told=$(readelf -hldW "$file" 2> /dev/null)
+        check "$(basename "$file"): its tables are read-only, its stack isn't executable, it lies anywhere" "BIND_NOW GNU_RELRO RW DYN" \
+            "$(grep -o -m 1 -w BIND_NOW <<< "$told") $(grep -o -m 1 GNU_RELRO <<< "$told") $(awk '/GNU_STACK/ { print $7 }' <<< "$told") $(awk '/ Type:/ { print $2 }' <<< "$told")"
+    done < <(find "$1" -type f -exec sh -c 'head -c 4 "$1" | grep -q ELF && echo "$1"' - {} \;)
+}
+
+# The bill of materials of a package has each of its files with its sum.
+look_at_bill() { # BILL FOLDER
+    check "$(basename "$1"): each file and its sum" "" "$(python3 -c 'import hashlib, json, pathlib, sys
+told = {file["fileName"][2:]: file["checksums"][1]["checksumValue"] for file in json.load(open(sys.argv[1]))["files"]}
+there = {str(path.relative_to(sys.argv[2])): hashlib.sha256(path.read_bytes()).hexdigest() for path in pathlib.Path(sys.argv[2]).rglob("*")
+         if path.is_file() and not path.is_symlink() and path.suffixes[-2:] != [".spdx", ".json"]}
+print(*sorted(set(told.items()) ^ set(there.items())), sep="\n", end="")' "$1" "$2" 2>&1)"
+}
+
+look_at_packages() {
+    local name
+    for name in libsnmpsec0 libsnmpsec-dev python3-snmpsec snmpsec; do
+        mkdir -p "$work/unpacked/$name"
+        dpkg-deb -x "$work/packages/$name"_*.deb "$work/unpacked/$name"
+        look_at_flags "$work/unpacked/$name"
+        look_at_bill "$work/unpacked/$name/usr/share/doc/$name/$name.spdx.json" "$work/unpacked/$name"
+    done
+    [ -x "$work/secrets_shared" ] && judge_secrets "the package's library" "$(dirname "$(find "$work/unpacked/libsnmpsec0" -name libsnmpsec.so.0)")"
+}
+
+# Two builds are the same, octet for octet, in folders of other names.
+test_reproducible() {
+    local file other=$work/packages-in-another-folder
+    NO_LIBRARY=1 bash "$here/packages.sh" "$other" > "$work/again.log" 2>&1
+    check "the packages are built again" 0 $?
+    for file in "$work"/packages/*.deb "$work"/packages/*.whl "$work"/packages/*.orig.tar.gz; do
+        cmp "$file" "$other/$(basename "$file")" > "$work/differs" 2>&1
+        check "$(basename "$file") is the same when it is built again" "" "$(cat "$work/differs")"
+        if [ -s "$work/differs" ] && command -v diffoscope > /dev/null; then diffoscope --text - "$file" "$other/$(basename "$file")" | head -40; fi
     done
 }
 
@@ -34,13 +67,10 @@ test_debian() {
         check "the package $name" 1 "$(find "$packages" -maxdepth 1 -name "${name}_*.deb" | wc -l)"
     done
     check "no licence is named" 4 "$(for name in "$packages"/*.deb; do dpkg-deb --fsys-tarfile "$name" | tar xO --wildcards '*/copyright' 2> /dev/null | grep -l 'names no licence yet'; done | wc -l)"
-    dpkg-deb -x "$packages"/libsnmpsec-dev_*.deb "$work/development"
-    (build_examples "$work/development") > "$work/examples.out" 2>&1
-    check "the package's examples build" 0 $?
+    look_at_packages
     if command -v lintian > /dev/null; then
         lintian --allow-root "$packages"/*.changes > "$work/lintian.out" 2>&1
-        check "lintian's errors" "" "$(grep '^E:' "$work/lintian.out")"
-        echo "lintian: $(grep -c '^W:' "$work/lintian.out") warnings"
+        check "lintian's errors and warnings" "" "$(grep '^[EW]:' "$work/lintian.out")"
     else
         echo "skipped: the packages judged by lintian (apt-get install lintian)"
     fi
@@ -61,6 +91,7 @@ cc -Wall -Wextra -Werror main.c \$(pkg-config --cflags --libs snmpsec) -o shared
 cc main.c \$(pkg-config --cflags snmpsec) -l:libsnmpsec.a -o static && echo "static: \$(./static)"
 echo "Python: \$(python3 main.py)"
 echo "agent: \$(snmpsec-agent --version)"
+cp -r /usr/share/doc/libsnmpsec-dev/examples examples && make -s -C examples > examples.out 2>&1 && echo "examples: \$(examples/agent --version) \$(examples/poll --version)"
 echo "program: \$(snmpsec show 3038020103300e020101020300ffe30401040201030410300e0400020100020100040004000400301104000400a00b0201010201000201003000 | head -1)"
 echo "pages: \$(man -w snmpsec snmpsec-agent snmpsec-poll 2> /dev/null | wc -l)"
 dpkg -P snmpsec python3-snmpsec libsnmpsec-dev libsnmpsec0 >> $work/dpkg.log 2>&1 || exit 9
@@ -69,7 +100,8 @@ SCRIPT
     in_copy "bash $work/installed.sh" > "$work/installed.out" 2>&1
     check "the packages are installed and removed" 0 $?
     local expected="discovered 80001f88046578616d706c65"
-    for name in "C: $expected" "static: $expected" "Python: $expected" "agent: $("$OUT/agent" --version)" "program: id 1"; do
+    for name in "C: $expected" "static: $expected" "Python: $expected" "agent: $("$OUT/agent" --version)" "examples: $("$OUT/agent" --version) $("$OUT/poll" --version)" \
+        "program: id 1"; do
         has "the packages' ${name%%:*}" "$name" "$(cat "$work/installed.out")"
     done
     if command -v man > /dev/null; then has "the packages' manual pages" "pages: 3" "$(cat "$work/installed.out")"; fi
@@ -79,11 +111,13 @@ SCRIPT
 test_wheel() {
     local wheel python=/usr/bin/python3
     wheel=$(find "$work/packages" -maxdepth 1 -name 'snmpsec-*-py3-none-manylinux_*.whl')
-    check "the wheel" 1 "$(wc -w <<< "$wheel")"
+    check "the wheel" "1 644" "$(wc -w <<< "$wheel") $(stat -c %a "$wheel")"
     command -v "$python" > /dev/null || python=python3
     if ! python3 -m venv "$work/venv" > "$work/venv.log" 2>&1; then echo "skipped: the wheel installed: there is no venv"; return; fi
     "$work/venv/bin/pip" install -q --no-index --disable-pip-version-check "$wheel" > "$work/venv.log" 2>&1
     check "is installed" 0 $?
+    look_at_bill "$work/venv"/lib/python*/site-packages/snmpsec/snmpsec.spdx.json "$work/packages/wheel"
+    [ -x "$work/secrets_shared" ] && judge_secrets "the wheel's library" "$(dirname "$work/venv"/lib/python*/site-packages/snmpsec/libsnmpsec.so.0)"
     example python > "$work/main.py"
     check "and used" "discovered 80001f88046578616d706c65" "$(unset SNMPSEC_LIBRARY PYTHONPATH; cd "$work" && "$work/venv/bin/python" main.py 2>&1)"
     "$work/venv/bin/pip" uninstall -q -y snmpsec > "$work/venv.log" 2>&1
@@ -112,6 +146,7 @@ test_packages() {
     test_debian
     test_debian_installed
     test_wheel
+    test_reproducible
 }
 
 test_abi

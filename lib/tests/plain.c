@@ -10,6 +10,7 @@ static char nothing[16] __attribute__((aligned(16)));
 void snmpsec_inside_wipe(void *octets, size_t octets_len) { (void)octets; (void)octets_len; }
 void snmpsec_inside_wipe_stack(void) {}
 void snmpsec_inside_wipe_deep_stack(void) {}
+void snmpsec_inside_wipe_free_stack(void) {}
 void *snmpsec_inside_block(size_t size) { return malloc(size); }
 void snmpsec_inside_free_block(void *block) { free(block); }
 

@@ -37,6 +37,40 @@ static void measure(const char *what, void (*of)(void), size_t wiped) {
     if (used > wiped / 8 * 7) { printf("FAILED %s uses too much stack\n", what); too_deep = 1; }
 }
 
+/* Texts in which the parser goes down: so many parts of keys, tables and arrays in one another, after a header of so many parts. */
+static char deep[1 << 14];
+static void config_fault(void) {
+    snmpsec_config_place place;
+    uint8_t told[4096];
+    size_t told_len = 0;
+    answer = snmpsec_config_fault((const uint8_t *)deep, strlen(deep), &place, told, sizeof told, &told_len);
+}
+
+static void repeat(const char *text, int times) { for (int i = 0; i < times; i++) strcat(deep, text); }
+
+static void nest(int header, const char *begin, const char *each, int times, const char *end, const char *each_end) {
+    deep[0] = 0;
+    if (header) { repeat("[", 1); repeat("h.", header); repeat("h]\n", 1); }
+    repeat(begin, 1);
+    repeat(each, times);
+    repeat(end, 1);
+    repeat(each_end, times);
+    repeat("\n", 1);
+    measure("config_fault", config_fault, SNMPSEC_DEEP_STACK);
+}
+
+static void nested_configurations(void) {
+    for (int times = 5; times <= 320; times *= 2)
+        for (int header = 0; header <= 12; header += 6) {
+            nest(header, "", "a.", times, "a = 1", "");
+            nest(header, "a = ", "[", times, "1", "]");
+            nest(header, "a = ", "{ a = ", times, "1", "}");
+            nest(header, "a = ", "[\n", times, "1", "]");
+            nest(header, "a = { ", "b.", times, "b = 1 }", "");
+            nest(header, "a = ", "{ b.b.b.b.b.b = ", times, "1", "}");
+        }
+}
+
 static uint32_t id;
 static snmpsec_level level = SNMPSEC_AUTH_PRIV;
 static const char *user = "bob";
@@ -66,6 +100,7 @@ int main(int argc, char **argv) {
     if (!file || !stack) return 2;
     config_len = fread(config, 1, sizeof config, file);
     fclose(file);
+    nested_configurations();
     measure("agent_new", agent_new, SNMPSEC_DEEP_STACK);
     measure("manager_new", manager_new, SNMPSEC_DEEP_STACK);
     for (uint32_t i = 0; i < 1500; i++) {
@@ -87,8 +122,8 @@ int main(int argc, char **argv) {
     measure("localise", localised, SNMPSEC_STACK);
     measure("mac", macced, SNMPSEC_STACK);
     measure("seal", sealed, SNMPSEC_STACK);
-    measure("agent_free", agent_free, SNMPSEC_DEEP_STACK);
-    measure("manager_free", manager_free, SNMPSEC_DEEP_STACK);
+    measure("agent_free", agent_free, SNMPSEC_FREE_STACK);
+    measure("manager_free", manager_free, SNMPSEC_FREE_STACK);
     free(stack);
     return too_deep;
 }

@@ -1,6 +1,7 @@
-/* Threads with handles of their own, or with one that they share: threads CONFIG own|shared ROUNDS
+/* Threads with handles of their own, or with one that they share: threads CONFIG own|small|shared ROUNDS
  *
- * For helgrind and drd: `own` has no race, and `shared` has them, which shows that they look. CONFIG has a user bob. Not proved. */
+ * For helgrind and drd: `own` has no race, and `shared` has them, which shows that they look. With `small` each has 64 KB of stack. CONFIG has a user
+ * bob. Not proved. */
 #define _GNU_SOURCE
 #include "snmpsec.h"
 #include <pthread.h>
@@ -50,14 +51,18 @@ static void *work(void *unused) {
 }
 
 int main(int argc, char **argv) {
+    enum { SMALL = 65536 };
     pthread_t threads[THREADS];
+    pthread_attr_t with;
+    pthread_attr_init(&with);
     FILE *file = argc == 4 ? fopen(argv[1], "rb") : NULL;
     if (!file) return 2;
     config_len = fread(config, 1, sizeof config, file);
     fclose(file);
     rounds = atoi(argv[3]);
     if (!strcmp(argv[2], "shared")) must(snmpsec_agent_new(config, config_len, engine, sizeof engine, 5, NOW - 100, &shared), 0, "agent");
-    for (int i = 0; i < THREADS; i++) pthread_create(&threads[i], NULL, work, NULL);
+    if (!strcmp(argv[2], "small")) must(pthread_attr_setstacksize(&with, SMALL), 0, "stack");
+    for (int i = 0; i < THREADS; i++) must(pthread_create(&threads[i], &with, work, NULL), 0, "thread");
     for (int i = 0; i < THREADS; i++) pthread_join(threads[i], NULL);
     snmpsec_agent_free(shared);
     puts("ended");

@@ -29,8 +29,13 @@ test_words() {
         refused_words "poll: $name: not a name in dotted decimal" "$programs/poll" "$examples/agent.toml" "$work/c" "$port" sha 2 "$name"
     done
     refused_words "poll: 3.1: an argument is outside of its range" "$programs/poll" "$examples/agent.toml" "$work/c" "$port" sha 2 3.1
-    refused_words "agent [--must-exist] [--long-answers] CONFIG TABLE ENGINE-ID BOOTS-FILE PORT [TRAP-PORT USER LEVEL]" "$programs/agent" x
-    refused_words "poll [--must-exist] CONFIG CLOCKS-FILE PORT USER LEVEL OID.." "$programs/poll" x
+    for bad in 0 101 x ""; do
+        refused_words "agent: $bad: not a share of the time in percent, 1 to 100" "$programs/agent" --unauthenticated "$bad" x
+        [ "$bad" = 0 ] || refused_words "poll: $bad: not a number of retries, 0 to 100" "$programs/poll" --retries "$bad" x
+    done
+    refused_words "poll: 0: not a time in seconds, 1 to 3600" "$programs/poll" --timeout 0 x
+    refused_words "agent [OPTION..] CONFIG TABLE ENGINE-ID BOOTS-FILE PORT [TRAP-PORT USER LEVEL]" "$programs/agent" x
+    refused_words "poll [OPTION..] CONFIG CLOCKS-FILE PORT USER LEVEL OID.." "$programs/poll" x
     check "no boots were taken" "" "$(ls "$work" | grep -E '^b(\.|$)')"
     check "the version" "$(sed -n 's/#define SNMPSEC_VERSION "\(.*\)"/\1/p' "$here/include/snmpsec.h")" "$("$programs/agent" --version)"
 }
@@ -49,12 +54,25 @@ test_configurations() {
     { cat "$examples/agent.toml"; printf '\n[[user]]\nname = "other"\nauht = "md5"\n'; } > "$work/misspelt.toml"
     check "a key that is no key" $'poll: W/misspelt.toml: refused config user 4 BadKey\npoll: W/misspelt.toml: user 4: auht: not a key of this table, the nearest is auth' \
         "$(told=$("$programs/poll" "$work/misspelt.toml" "$work/c" "$port" sha 2 1.3.6.1 2>&1); echo "${told//$work/W}")"
+    printf '[[user]]\n"a\\u001b[2Jb\\u009bc" = 1\n' > "$work/control.toml"
+    check "no control character of a key reaches the terminal" 'a\x1b[2Jb\x9bc: not a key of this table, the nearest is auth' \
+        "$("$programs/agent" "$work/control.toml" "$examples/table.txt" $engine "$work/b" "$port" 2>&1 | sed -n 's/.*user 0: //p')"
     refused_words "W/none: No such file or directory" "$programs/poll" "$work/none" "$work/c" "$port" sha 2 1.3.6.1
     refused_words "W/folder: not a regular file" "$programs/poll" "$examples/agent.toml" "$work/folder" "$port" sha 2 1.3.6.1
     refused_words "W/none: No such file or directory" "$programs/poll" --must-exist "$examples/agent.toml" "$work/none" "$port" sha 2 1.3.6.1
     refused_words "W/none: No such file or directory" "$programs/agent" --must-exist "$examples/agent.toml" "$examples/table.txt" $engine "$work/none" "$port"
     echo no > "$work/clocks"
     refused_words "poll: W/clocks: the text saves no clocks" "$programs/poll" "$examples/agent.toml" "$work/clocks" "$port" sha 2 1.3.6.1
+}
+
+# A start that fails before anything can be answered costs no boots.
+test_free_starts() {
+    echo 41 > "$work/unspent"
+    "$programs/agent" "$work/misspelt.toml" "$examples/table.txt" $engine "$work/unspent" "$port" > /dev/null 2>&1
+    check "a refused configuration ends the agent with 1" 1 $?
+    check "and costs no boots" 41 "$(cat "$work/unspent")"
+    "${begun[@]}" $engine "$work/unspent" "$port" 0 md 3 > /dev/null 2>&1
+    check "nor does a word" 41 "$(cat "$work/unspent")"
 }
 
 test_tables() {
@@ -147,6 +165,7 @@ aget() { PYTHONPATH=$here/python/src python3 "$here/python/examples/aget.py" "$e
 
 test_words
 test_configurations
+test_free_starts
 test_tables
 test_spelled_engines
 test_killed_agent

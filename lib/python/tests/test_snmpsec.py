@@ -272,6 +272,30 @@ class Files(unittest.TestCase):
             with self.assertRaises(FileNotFoundError):
                 Agent.from_file(path.with_name("none"), ENGINE, 1, 0)
 
+    def test_what_is_nested_deep_is_refused_and_brackets_in_texts_are_not(self):
+        many = b"[" * 12 + b"{" * 12
+        text = (b'# ' + many + b' "\n[[user]]\nname = "' + many + b'\\"]"\nauth = \'md5\' # \'\nauth-password = """\n' + many + b'"" ' + b"." * 99
+                + b"\n'''\"\"\"\npriv-password = '''" + many * 3 + b"'\n''' # \"\n")
+        self.assertIsNone(snmpsec.config_fault(text))
+        self.assertIsNone(snmpsec.config_fault(b"user = [" + b", ".join(b'{ name = "u%d" }' % n for n in range(99)) + b"]\n"))
+        for deep in (b"a." * 17 + b"a = 1\n", b"[" + b"b." * 9 + b"b]\n" + b"a." * 9 + b"a = 1", b"a = " + b"[\n" * 17, b"a = " + b"{ b.c = " * 9):
+            fault = snmpsec.config_fault(text + deep)
+            self.assertEqual((fault.reason, fault.text.partition(":")[0]), (snmpsec.ConfigReason.NO_TOML, "refused config toml\nnested more than 16 deep"))
+            with self.assertRaises(snmpsec.BadConfiguration):
+                Manager(text + deep)
+        self.assertEqual(snmpsec.config_fault(b"a." * 15 + b"a = 1\n").reason, snmpsec.ConfigReason.BAD_TOP)
+
+    def test_what_can_be_written_to_is_handed_in_as_it_lies(self):
+        config = bytearray(CONFIG)
+        for lent in (config, memoryview(config), memoryview(config)[1:-1], memoryview(bytearray(8)).cast("I")):
+            octets, size = snmpsec._lent(lent)
+            octets[0] = b"#"
+            self.assertEqual((size, bytes(memoryview(lent).cast("B"))[:1]), (memoryview(lent).nbytes, b"#"))
+        for copied in (memoryview(CONFIG), memoryview(config)[::2]):
+            self.assertEqual(snmpsec._lent(copied), (copied.tobytes(), len(copied)))
+        self.assertIs(snmpsec._lent(CONFIG)[0], CONFIG)
+        Agent(memoryview(bytearray(CONFIG)), memoryview(ENGINE), 1, 0).close()
+
     def test_a_bytearray_is_handed_in_as_it_lies(self):
         Agent(bytearray(CONFIG), bytearray(ENGINE), 1, 0).close()
         with self.assertRaises(snmpsec.BadArgument):

@@ -25,7 +25,8 @@ What a call doesn't do is an Error: Refused with its Refusal where a message can
 BadConfiguration or BadClocks. Want of memory is MemoryError, and a closed handle ValueError.
 
 Keys that these functions give back are Python's, which nothing wipes. A configuration's passwords are wiped where from_file reads it, or where
-it is a bytearray that you overwrite.
+it is a bytearray, or a memoryview of one, that you overwrite: no copy is made of what can be written to. bytes can't be wiped, nor can the copy
+that is made of a memoryview that is read-only or whose octets don't lie one after another.
 """
 from __future__ import annotations
 
@@ -339,10 +340,18 @@ def _done(answer: int) -> None:
         raise Refused(refusal)
 
 
+def _lent(octets: Buffer) -> tuple:
+    """What can be written to is handed in as it lies there, so that no copy is left of what its owner wipes; and how many octets it has."""
+    if isinstance(octets, bytes):
+        return octets, len(octets)
+    with memoryview(octets) as view:
+        if view.readonly or not view.c_contiguous:
+            return view.tobytes(), view.nbytes
+        return (ctypes.c_char * view.nbytes).from_buffer(octets), view.nbytes
+
+
 def _octets(*many: Buffer) -> list:
-    """A bytearray is handed in as it lies there, so that no copy is left of one that is wiped."""
-    return [part for octets in many for part in ((ctypes.c_char * len(octets)).from_buffer(octets) if isinstance(octets, bytearray) else bytes(octets),
-                                                 len(octets))]
+    return [part for octets in many for part in _lent(octets)]
 
 
 def _wiped(path: Path, use):
