@@ -1,17 +1,18 @@
 //! `snmpsec datagrams`: the datagrams of a capture, as a log.
 
 ghost use Rattle.std.specs.Prelude.{◌≡◌, ◌<◌, ◌≤◌, ◌^◌, ℕ, List, Option, length, decimal, map, IfErr, IfOk, IfSome};
-ghost use Rattle.std.specs.Prelude.{IfNone, OnOk, Some, string_bytes};
+ghost use Rattle.std.specs.Prelude.{OnOk, Some, string_bytes};
 ghost use Rattle.std.specs.Io.KnownBytes.{Appends, Consumes, IsAtEnd};
-ghost use Rattle.capture_datagrams.specs.Datagrams.{AskPorts, HasNoPort, IsPassedLine, LosesLine, LosesPassed, Tells};
-ghost use Rattle.capture_datagrams.specs.Datagrams.{TellsNot, TellsPassed, refused_line};
+ghost use Rattle.capture_datagrams.specs.Datagrams.{AskPorts, IsPassedLine, LosesLine, LosesPassed, Tells};
+ghost use Rattle.capture_datagrams.specs.Datagrams.{TellsNot, TellsNoPorts, TellsPassed, refused_line};
+ghost use Rattle.capture_datagrams.specs.declared.datagrams.PortsFault.TheVariants as no_ports;
 ghost use Rattle.capture_files.specs.Datagrams.{PrintsLine, streams};
 ghost use Rattle.capture_files.specs.Passed.{counts_of};
 
 use capture_files::{CaptureFault, HEADER, Lines, Printer, Tally, print_datagrams_behind};
 use snmp_ber::read_decimal;
 use snmpsec_io::{read_full, write_whole};
-use std::alloc::{AllocError, Global};
+use std::alloc::{AllocError, AllocFailed, Global};
 use std::io::{Read, Write};
 use thiserror::Error;
 
@@ -41,24 +42,49 @@ fn port_of(word: &str) -> Option<u16>
     Some(port as u16)
 }
 
-/// The ports that the words ask for: theirs, or 161 and 162 (RFC 3417, section 3.1) where there is no word.
-/// `None` where one is no port.
-pub fn ports_of(alloc: Global, words: &[&str]) -> Result<Option<Vec<u16>>, AllocError>
-    ensures found { IfOk result
-        (λ ports. IfSome ports (λ ports. AskPorts (map (λ word. word.now) words.now) ports.items)) }
-    ensures none { IfOk result (λ ports. IfNone ports (HasNoPort (map (λ word. word.now) words.now))) }
+/// Why the words ask for no ports.
+#[derive(Clone, Copy, Debug, PartialEq, Eq, Drop, Error)]
+pub enum PortsFault<'a> {
+    /// This word is the first that is no port.
+    #[error("a word is no port")]
+    NoPort(&'a str),
+    /// A growth of memory was refused.
+    #[error("out of memory")]
+    OutOfMemory,
+}
+
+impl From<AllocError> for PortsFault<'_> {
+    ghost from_gives = { λ _ e. e ≡ no_ports.OutOfMemory };
+
+    fn from(_fault: AllocError) -> Self {
+        PortsFault::OutOfMemory
+    }
+}
+
+impl<T: Drop> From<AllocFailed<T>> for PortsFault<'_> {
+    ghost from_gives = { λ _ e. e ≡ no_ports.OutOfMemory };
+
+    fn from(_fault: AllocFailed<T>) -> Self {
+        PortsFault::OutOfMemory
+    }
+}
+
+/// The ports that the words ask for: theirs, or 161 and 162 (RFC 3417, section 3.1) if there is no word.
+pub fn ports_of<'a>(alloc: Global, words: &[&'a str]) -> Result<Vec<u16>, PortsFault<'a>>
+    ensures found { IfOk result (λ ports. AskPorts (map (λ word. word.now) words.now) ports.items) }
+    ensures none { IfErr result (TellsNoPorts (map (λ word. word.now) words.now)) }
 {
     if words.is_empty() {
-        return Ok(Some(SNMP.to_vec(alloc)?));
+        return Ok(SNMP.to_vec(alloc)?);
     }
     let mut ports = Vec::new(alloc);
     for word in words {
         let Some(port) = port_of(word) else {
-            return Ok(None);
+            return Err(PortsFault::NoPort(*word));
         };
         ports.push(port)?;
     }
-    Ok(Some(ports))
+    Ok(ports)
 }
 
 /// What `snmpsec datagrams` does with a capture, with the status that it ends with: `write_datagrams`, and

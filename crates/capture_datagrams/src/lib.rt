@@ -19,7 +19,7 @@
 #![tactic(auto)]
 
 pub mod datagrams;
-mod dumped;
+mod dump_texts;
 pub mod forms;
 mod packets;
 pub mod shown;

@@ -10,7 +10,7 @@ ghost use Rattle.capture_datagrams.specs.Texts.{IsDumpText, IsHexOf, IsPlainText
 ghost use Rattle.capture_datagrams.specs.Texts.{refused_place};
 
 use crate::datagrams::Unread;
-use crate::dumped::dumps_told;
+use crate::dump_texts::dumps_told;
 use capture_dumps::{HexFault, dump_line, read_hex};
 use capture_files::Printer;
 use snmpsec_io::{FILE_LIMIT, FileFault, read_whole_behind, write_whole};
@@ -18,7 +18,7 @@ use std::alloc::{AllocError, Global};
 use std::io::{Read, Write};
 
 /// What a text comes to: what is printed, what is told beside, and the status that goes with it.
-#[derive(Drop)]
+#[derive(Debug, Drop)]
 pub(crate) struct Told {
     pub(crate) text: Vec<u8>,
     pub(crate) note: Vec<u8>,
@@ -111,7 +111,11 @@ fn told_of<P: Printer>(
 }
 
 /// Writes what a text comes to.
-fn write_told<L: Write, N: Write>(told: &Told, log: &mut L, notes: &mut N) -> Result<u8, Unread>
+pub(crate) fn write_told<L: Write, N: Write>(
+    told: &Told,
+    log: &mut L,
+    notes: &mut N,
+) -> Result<u8, Unread>
     ensures ok { IfOk result
         (λ status. (status ≡ told.now.status)
         × Appends (L.contents log.old) (L.contents log.new) told.now.text.items
