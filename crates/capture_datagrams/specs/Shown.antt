@@ -1,7 +1,7 @@
 -- What `snmpsec show --from` and `snmpsec open --from` print: of each datagram of a file what `show` and
 -- `open` do, behind a line of its own.
 --
--- `TellsPrintout printout asked name streams status`, `StopsPrintout`. The same for `show --from` and `open
+-- `TellsPrintout printout asked streams status`, `StopsPrintout`. The same for `show --from` and `open
 -- --from`: P is `PrintsShown` or `PrintsOpened`, a line `datagram N MOMENT` and behind it what `show` or
 -- `open` prints of the datagram, with names where they are asked for (`IsNamed`). The refusal of a
 -- configuration stands alone.
@@ -91,10 +91,10 @@ pub record RefusesUsers (config : List ℕ) (s : Streams)
   pub tells : TellsNote s.untold s.told note
 
 -- The line of a refused configuration is written, with status 1, or else the datagrams as its users open them.
-abbrev pub OpensFile : Bool → List ℕ → ReadOptions → List ℕ → Streams → ℕ → Type 0
-OpensFile names config a name s status =
+abbrev pub OpensFile : Bool → List ℕ → ReadOptions → Streams → ℕ → Type 0
+OpensFile names config a s status =
     ((status ≡ 1) × RefusesUsers config s Appends Appends)
-    ⊎ ((users : List User) × LoadsUsers config users × TellsFile (PrintsOpened names users) a name s status)
+    ⊎ ((users : List User) × LoadsUsers config users × TellsFile (PrintsOpened names users) a s status)
 
 -- where it stops before the file
 abbrev pub StopsBefore : List ℕ → Streams → Unread → Type 0
@@ -103,19 +103,19 @@ StopsBefore config s unread.CannotWrite =
     RefusesUsers config s WritesFront (λ old new note. Keeps old new) ⊎ RefusesUsers config s Appends WritesFront
 StopsBefore config s unread.OutOfMemory = (s.left ≡ s.unread) × Keeps s.held s.written × Keeps s.untold s.told
 
-abbrev pub StopsOpening : Bool → List ℕ → ReadOptions → List ℕ → Streams → Unread → Type 0
-StopsOpening names config a name s f =
+abbrev pub StopsOpening : Bool → List ℕ → ReadOptions → Streams → Unread → Type 0
+StopsOpening names config a s f =
     StopsBefore config s f
-    ⊎ ((users : List User) × LoadsUsers config users × StopsFile (PrintsOpened names users) a name s f)
+    ⊎ ((users : List User) × LoadsUsers config users × StopsFile (PrintsOpened names users) a s f)
 
 -- ---- each printout
 
-abbrev pub TellsPrintout : Printout → ReadOptions → List ℕ → Streams → ℕ → Type 0
-TellsPrintout printout.Log a name s status = TellsFile PrintsLine a name s status
-TellsPrintout (printout.Shown names) a name s status = TellsFile (PrintsShown names) a name s status
-TellsPrintout (printout.Opened config names) a name s status = OpensFile names config.now a name s status
+abbrev pub TellsPrintout : Printout → ReadOptions → Streams → ℕ → Type 0
+TellsPrintout printout.Log a s status = TellsFile PrintsLine a s status
+TellsPrintout (printout.Shown names) a s status = TellsFile (PrintsShown names) a s status
+TellsPrintout (printout.Opened config names) a s status = OpensFile names config.now a s status
 
-abbrev pub StopsPrintout : Printout → ReadOptions → List ℕ → Streams → Unread → Type 0
-StopsPrintout printout.Log a name s f = StopsFile PrintsLine a name s f
-StopsPrintout (printout.Shown names) a name s f = StopsFile (PrintsShown names) a name s f
-StopsPrintout (printout.Opened config names) a name s f = StopsOpening names config.now a name s f
+abbrev pub StopsPrintout : Printout → ReadOptions → Streams → Unread → Type 0
+StopsPrintout printout.Log a s f = StopsFile PrintsLine a s f
+StopsPrintout (printout.Shown names) a s f = StopsFile (PrintsShown names) a s f
+StopsPrintout (printout.Opened config names) a s f = StopsOpening names config.now a s f

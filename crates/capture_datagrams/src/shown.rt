@@ -176,22 +176,21 @@ fn open_datagrams<R: Read, L: Write, N: Write>(
     config: &[u8],
     names: bool,
     asked: ReadOptions<'_>,
-    name: &str,
     reader: &mut R,
     log: &mut L,
     notes: &mut N,
 ) -> Result<u8, Unread>
-    ensures ok { IfOk result (OpensFile names config.now asked.entry name.now
+    ensures ok { IfOk result (OpensFile names config.now asked.entry
         (streams (R.remaining reader.old) (R.remaining reader.new) (L.contents log.old) (L.contents log.new)
         (N.contents notes.old) (N.contents notes.new))) }
-    ensures err { IfErr result (StopsOpening names config.now asked.entry name.now
+    ensures err { IfErr result (StopsOpening names config.now asked.entry
         (streams (R.remaining reader.old) (R.remaining reader.new) (L.contents log.old) (L.contents log.new)
         (N.contents notes.old) (N.contents notes.new))) }
 {
     match users_of(alloc, config) {
         Ok(users) => {
             let mut printer = Opens { names, users };
-            print_datagrams(alloc, asked, name, &mut printer, reader, log, notes)
+            print_datagrams(alloc, asked, &mut printer, reader, log, notes)
         }
         Err(NoUsers::Refused(told)) => write_told(&told, log, notes),
         Err(NoUsers::OutOfMemory) => Err(Unread::OutOfMemory),
@@ -206,26 +205,25 @@ pub fn write_printout<R: Read, L: Write, N: Write>(
     alloc: Global,
     printout: Printout<'_>,
     asked: ReadOptions<'_>,
-    name: &str,
     reader: &mut R,
     log: &mut L,
     notes: &mut N,
 ) -> Result<u8, Unread>
-    ensures ok { IfOk result (TellsPrintout printout.entry asked.entry name.now
+    ensures ok { IfOk result (TellsPrintout printout.entry asked.entry
         (streams (R.remaining reader.old) (R.remaining reader.new) (L.contents log.old) (L.contents log.new)
         (N.contents notes.old) (N.contents notes.new))) }
-    ensures err { IfErr result (StopsPrintout printout.entry asked.entry name.now
+    ensures err { IfErr result (StopsPrintout printout.entry asked.entry
         (streams (R.remaining reader.old) (R.remaining reader.new) (L.contents log.old) (L.contents log.new)
         (N.contents notes.old) (N.contents notes.new))) }
 {
     match printout {
-        Printout::Log => print_datagrams(alloc, asked, name, &mut Lines, reader, log, notes),
+        Printout::Log => print_datagrams(alloc, asked, &mut Lines, reader, log, notes),
         Printout::Shown { names } => {
             let mut printer = Shows { names };
-            print_datagrams(alloc, asked, name, &mut printer, reader, log, notes)
+            print_datagrams(alloc, asked, &mut printer, reader, log, notes)
         }
         Printout::Opened { config, names } => {
-            open_datagrams(alloc, config, names, asked, name, reader, log, notes)
+            open_datagrams(alloc, config, names, asked, reader, log, notes)
         }
     }
 }

@@ -12,10 +12,10 @@ use std::alloc::Global;
 /// MOMENT, in whole seconds, or 0 if it is left out.
 pub(crate) fn moment_argument(alloc: Global, word: Option<&str>) -> Result<u64, Complaint> {
     let word = word.unwrap_or("0");
-    let wanted = "whole seconds from 0 to 18446744073709551615 are wanted, as 1700000000";
+    let why = "it isn't whole seconds from 0 to 18446744073709551615";
     match moment_of(word) {
         Some(moment) => Ok(moment),
-        None => Err(Complaint::word(alloc, "MOMENT", word, "it is none", wanted)),
+        None => Err(Complaint::word(alloc, "MOMENT", word, why, "write them as 1700000000")),
     }
 }
 
@@ -24,10 +24,10 @@ pub(crate) fn first_line_argument(alloc: Global, word: Option<&str>) -> Result<u
     ensures { IfOk result (λ first. first ≤ 1000000000000000) }
 {
     let word = word.unwrap_or("1");
-    let wanted = "a whole number from 1 to 1000000000000000 is wanted";
+    let why = "it isn't a number from 1 to 1000000000000000";
     match first_line_of(word) {
         Some(first) => Ok(first),
-        None => Err(Complaint::word(alloc, "N", word, "it is none", wanted)),
+        None => Err(Complaint::word(alloc, "N", word, why, "1 is the first line of a log")),
     }
 }
 
@@ -48,26 +48,26 @@ pub(crate) fn form_argument(
     if may_be_dumps(form) {
         return Ok(Some(Form::Packets));
     }
-    let (why, wanted) = ("--ip is for dumps", "dump is wanted, or no FORM");
+    let (why, wanted) = ("--ip is for dumps", "use dump, or leave FORM out");
     Err(Complaint::word(alloc, "FORM", word.unwrap_or(""), why, wanted))
 }
 
 /// The form of this name.
 fn named_form(alloc: Global, word: &str) -> Result<Form, Complaint> {
-    let wanted = "one of pcap, hex, dump is wanted";
+    let wanted = "use pcap, hex or dump";
     match form_of(word) {
         Some(form) => Ok(form),
-        None => Err(Complaint::word(alloc, "FORM", word, "it is none", wanted)),
+        None => Err(Complaint::word(alloc, "FORM", word, "unknown form", wanted)),
     }
 }
 
 /// Each PORT, or the ports of SNMP if there is none.
 pub(crate) fn ports_argument(alloc: Global, words: &[&str]) -> Result<Vec<u16>, Complaint> {
-    let wanted = "a whole number from 0 to 65535 is wanted, as 161";
+    let why = "it isn't a number from 0 to 65535";
     match ports_of(alloc, words) {
         Ok(ports) => Ok(ports),
         Err(PortsFault::NoPort(word)) => {
-            Err(Complaint::word(alloc, "PORT", word, "it is none", wanted))
+            Err(Complaint::word(alloc, "PORT", word, why, "161 is the port of agents"))
         }
         Err(PortsFault::OutOfMemory) => Err(Complaint::OutOfMemory),
     }

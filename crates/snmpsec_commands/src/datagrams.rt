@@ -21,12 +21,13 @@ struct Wanted {
 }
 
 impl Wanted {
-    /// The same, as the reader of a file is asked.
-    fn options(&self) -> ReadOptions<'_> {
+    /// The same, as the reader of the file of this name is asked.
+    fn options<'a>(&'a self, name: &'a str) -> ReadOptions<'a> {
         ReadOptions {
             form: self.form,
             moment: self.moment,
             ports: &self.ports,
+            name,
         }
     }
 }
@@ -124,15 +125,8 @@ fn print_read<R: Read + Drop, O: Write, E: Write>(
     let Ok(mut log) = BufWriter::new(alloc, out) else {
         return Err(Complaint::OutOfMemory);
     };
-    let answer = write_printout(
-        alloc,
-        printout,
-        wanted.options(),
-        name,
-        reader,
-        &mut log,
-        err,
-    );
+    let asked = wanted.options(name);
+    let answer = write_printout(alloc, printout, asked, reader, &mut log, err);
     if log.flush().is_err() {
         return Err(Complaint::line(alloc, "cannot write"));
     }

@@ -42,8 +42,8 @@ impl Argument {
                 alloc,
                 "MODEL",
                 word,
-                "it is none",
-                "a whole number from 1 to 2147483647 is wanted; 3 is the user-based model",
+                "it isn't a number from 1 to 2147483647",
+                "3 is the user-based model",
             ),
             Argument::Level => level_words(alloc, word),
             Argument::View => view_words(alloc, word),
@@ -105,23 +105,24 @@ fn variable_words(alloc: Global, word: &str) -> Result<String, AllocError> {
         Some(fault) => format!(in alloc; "{fault}")?,
         None => String::new(alloc),
     };
-    let wanted = "numbers with dots between are wanted, as 1.3.6.1.2.1.1.5.0";
+    let wanted = "write numbers with dots between, as 1.3.6.1.2.1.1.5.0";
     argument_words(alloc, "OID", word, &why, wanted)
 }
 
-/// What is wrong with a word that is none of three.
+/// What is wrong with a word that is none of three, which are of this kind.
 fn choice_words(
     alloc: Global,
     name: &str,
+    kind: &str,
     choices: [&str; 3],
     word: &str,
 ) -> Result<String, AllocError> {
     let why = match nearest(&choices, word) {
-        Some(near) => format!(in alloc; "it is none, the nearest is {near}")?,
-        None => String::from_str(alloc, "it is none")?,
+        Some(near) => format!(in alloc; "unknown {kind}, the nearest is {near}")?,
+        None => format!(in alloc; "unknown {kind}")?,
     };
     let [first, second, third] = choices;
-    let wanted = format!(in alloc; "one of {first}, {second}, {third} is wanted")?;
+    let wanted = format!(in alloc; "use {first}, {second} or {third}")?;
     argument_words(alloc, name, word, &why, &wanted)
 }
 
@@ -132,7 +133,7 @@ fn level_words(alloc: Global, word: &str) -> Result<String, AllocError> {
         level_word(Level::AuthNoPriv),
         level_word(Level::AuthPriv),
     ];
-    choice_words(alloc, "LEVEL", levels, word)
+    choice_words(alloc, "LEVEL", "level", levels, word)
 }
 
 /// What is wrong with a view.
@@ -142,5 +143,5 @@ fn view_words(alloc: Global, word: &str) -> Result<String, AllocError> {
         view_word(ViewType::Write),
         view_word(ViewType::Notify),
     ];
-    choice_words(alloc, "VIEW", views, word)
+    choice_words(alloc, "VIEW", "view", views, word)
 }

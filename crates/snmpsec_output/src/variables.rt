@@ -80,28 +80,25 @@ impl fmt::Display for VariableFault<'_> {
         match self {
             VariableFault::Empty => write!(f, "it is empty"),
             VariableFault::DotInFront { rest } => {
-                write!(f, "there is a dot in front, try {}", Quoted(rest))
+                write!(f, "it begins with a dot, try {}", Quoted(rest))
             }
             VariableFault::Missing { at } => write!(f, "number {at} is missing"),
             VariableFault::NoNumber { at, word } => {
                 let word = Quoted(word);
                 write!(
                     f,
-                    "number {at}, {word}, is none (`snmptranslate -On` prints those of a name)"
+                    "number {at}, {word}, isn't a number (`snmptranslate -On` prints those of a name)"
                 )
             }
             VariableFault::OutOfRange { at, word } => {
                 let word = Quoted(word);
                 write!(
                     f,
-                    "number {at}, {word}, is above 4294967295 or has a 0 in front"
+                    "number {at}, {word}, is above 4294967295 or begins with 0"
                 )
             }
             VariableFault::TooMany { count } => {
-                write!(
-                    f,
-                    "it has {count} numbers, and at most {NUMBERS} are wanted"
-                )
+                write!(f, "it has {count} numbers, and may have {NUMBERS} at most")
             }
         }
     }
