@@ -97,23 +97,23 @@ A port is a decimal up to 65535. The option may be repeated.
   ! snmpsec: passed over: another port 1
   $ snmpsec datagrams --port 65536 capture
   ! snmpsec: bad word PORT
-  ! snmpsec: PORT "65536": it is none; a whole number from 0 to 65535 is wanted, as 161
+  ! snmpsec: PORT "65536": it isn't a number from 0 to 65535; 161 is the port of agents
   [2]
   $ snmpsec datagrams --port 161 --port 0162 capture
   ! snmpsec: bad word PORT
-  ! snmpsec: PORT "0162": it is none; a whole number from 0 to 65535 is wanted, as 161
+  ! snmpsec: PORT "0162": it isn't a number from 0 to 65535; 161 is the port of agents
   [2]
   $ snmpsec datagrams --port '' capture
   ! snmpsec: bad word PORT
-  ! snmpsec: PORT "": it is none; a whole number from 0 to 65535 is wanted, as 161
+  ! snmpsec: PORT "": it isn't a number from 0 to 65535; 161 is the port of agents
   [2]
   $ snmpsec datagrams --port -1 capture
   ! snmpsec: bad word PORT
-  ! snmpsec: PORT "-1": it is none; a whole number from 0 to 65535 is wanted, as 161
+  ! snmpsec: PORT "-1": it isn't a number from 0 to 65535; 161 is the port of agents
   [2]
   $ snmpsec datagrams --port snmp --port 161 capture
   ! snmpsec: bad word PORT
-  ! snmpsec: PORT "snmp": it is none; a whole number from 0 to 65535 is wanted, as 161
+  ! snmpsec: PORT "snmp": it isn't a number from 0 to 65535; 161 is the port of agents
   [2]
 
 The file may be a capture, hex dumps, or pasted hex.

@@ -19,6 +19,13 @@ A file that is read whole has at most 16 MiB.
   ! snmpsec: largest: it is over 16777216 octets
   [2]
 
+So has pasted hex, from a pipe too.
+
+  $ yes 3038 | head -c 16777217 | snmpsec datagrams --form hex -
+  ! snmpsec: cannot read -
+  ! snmpsec: -: it is over 16777216 octets
+  [2]
+
 A line of a log has at most 131,072 octets.
 
   $ printf '5 %0131070d\n' 0 > log
@@ -49,14 +56,14 @@ An object identifier has at most 128 numbers.
   [1]
   $ snmpsec who-sees empty ${numbers}1.1
   ! snmpsec: bad word OID
-  ! snmpsec: OID "1.1.1.1.1.1.1.1.1.1.1.1.1.1.1.1.1.1.1.1."...: it has 129 numbers, and at most 128 are wanted; numbers with dots between are wanted, as 1.3.6.1.2.1.1.5.0
+  ! snmpsec: OID "1.1.1.1.1.1.1.1.1.1.1.1.1.1.1.1.1.1.1.1."...: it has 129 numbers, and may have 128 at most; write numbers with dots between, as 1.3.6.1.2.1.1.5.0
   [2]
 
 Of 128 numbers the first that isn't one is reported.
 
   $ snmpsec who-sees empty ${numbers}x
   ! snmpsec: bad word OID
-  ! snmpsec: OID "1.1.1.1.1.1.1.1.1.1.1.1.1.1.1.1.1.1.1.1."...: number 128, "x", is none (`snmptranslate -On` prints those of a name); numbers with dots between are wanted, as 1.3.6.1.2.1.1.5.0
+  ! snmpsec: OID "1.1.1.1.1.1.1.1.1.1.1.1.1.1.1.1.1.1.1.1."...: number 128, "x", isn't a number (`snmptranslate -On` prints those of a name); write numbers with dots between, as 1.3.6.1.2.1.1.5.0
   [2]
 
 A read may fail.

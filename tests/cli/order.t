@@ -47,7 +47,7 @@ The configuration is read before the other arguments are checked.
   [2]
   $ snmpsec who-sees --users /dev/null 1.
   ! snmpsec: bad word OID
-  ! snmpsec: OID "1.": number 2 is missing; numbers with dots between are wanted, as 1.3.6.1.2.1.1.5.0
+  ! snmpsec: OID "1.": number 2 is missing; write numbers with dots between, as 1.3.6.1.2.1.1.5.0
   [2]
   $ snmpsec who-sees /dev/null 1.3 read
   [1]
@@ -57,7 +57,7 @@ The configuration is read before the other arguments are checked.
   [2]
   $ snmpsec sees /dev/null 0 ann
   ! snmpsec: bad word MODEL
-  ! snmpsec: MODEL "0": it is none; a whole number from 1 to 2147483647 is wanted; 3 is the user-based model
+  ! snmpsec: MODEL "0": it isn't a number from 1 to 2147483647; 3 is the user-based model
   [2]
   $ snmpsec sees /dev/null 3 ann
   [1]
@@ -75,7 +75,7 @@ The options are checked before a file is opened. The configuration is read befor
 
   $ snmpsec show --from /no/such/file --form x
   ! snmpsec: bad word FORM
-  ! snmpsec: FORM "x": it is none; one of pcap, hex, dump is wanted
+  ! snmpsec: FORM "x": unknown form; use pcap, hex or dump
   [2]
   $ snmpsec show --from /no/such/file
   ! snmpsec: cannot read /no/such/file
@@ -86,7 +86,7 @@ The options are checked before a file is opened. The configuration is read befor
   [1]
   $ snmpsec open /no/such/config --from /no/such/file --port x
   ! snmpsec: bad word PORT
-  ! snmpsec: PORT "x": it is none; a whole number from 0 to 65535 is wanted, as 161
+  ! snmpsec: PORT "x": it isn't a number from 0 to 65535; 161 is the port of agents
   [2]
   $ snmpsec open /no/such/config --from /no/such/file
   ! snmpsec: cannot read /no/such/config
@@ -225,11 +225,11 @@ The ports are checked before the file is opened.
 
   $ snmpsec datagrams --port 161 --port 65536 /no/such/file
   ! snmpsec: bad word PORT
-  ! snmpsec: PORT "65536": it is none; a whole number from 0 to 65535 is wanted, as 161
+  ! snmpsec: PORT "65536": it isn't a number from 0 to 65535; 161 is the port of agents
   [2]
   $ snmpsec datagrams --port -1 /no/such/file
   ! snmpsec: bad word PORT
-  ! snmpsec: PORT "-1": it is none; a whole number from 0 to 65535 is wanted, as 161
+  ! snmpsec: PORT "-1": it isn't a number from 0 to 65535; 161 is the port of agents
   [2]
   $ snmpsec datagrams --port 0 /no/such/file
   ! snmpsec: cannot read /no/such/file
@@ -254,15 +254,15 @@ The form is checked first, then the ports, then the timestamp.
 
   $ snmpsec datagrams --form PCAP --port -1 --moment x /no/such/file
   ! snmpsec: bad word FORM
-  ! snmpsec: FORM "PCAP": it is none; one of pcap, hex, dump is wanted
+  ! snmpsec: FORM "PCAP": unknown form; use pcap, hex or dump
   [2]
   $ snmpsec datagrams --port -1 --moment x /no/such/file
   ! snmpsec: bad word PORT
-  ! snmpsec: PORT "-1": it is none; a whole number from 0 to 65535 is wanted, as 161
+  ! snmpsec: PORT "-1": it isn't a number from 0 to 65535; 161 is the port of agents
   [2]
   $ snmpsec datagrams --form hex --moment 18446744073709551616 /no/such/file
   ! snmpsec: bad word MOMENT
-  ! snmpsec: MOMENT "18446744073709551616": it is none; whole seconds from 0 to 18446744073709551615 are wanted, as 1700000000
+  ! snmpsec: MOMENT "18446744073709551616": it isn't whole seconds from 0 to 18446744073709551615; write them as 1700000000
   [2]
   $ snmpsec datagrams --form hex --moment 0 /no/such/file
   ! snmpsec: cannot read /no/such/file
@@ -281,17 +281,17 @@ With `--ip` another form is refused before the ports are checked.
 
   $ snmpsec datagrams --ip --form hex --port x /no/such/file
   ! snmpsec: bad word FORM
-  ! snmpsec: FORM "hex": --ip is for dumps; dump is wanted, or no FORM
+  ! snmpsec: FORM "hex": --ip is for dumps; use dump, or leave FORM out
   [2]
   $ snmpsec open /no/such/config --from /no/such/file --form pcap --ip
   ! snmpsec: bad word FORM
-  ! snmpsec: FORM "pcap": --ip is for dumps; dump is wanted, or no FORM
+  ! snmpsec: FORM "pcap": --ip is for dumps; use dump, or leave FORM out
   [2]
   $ snmpsec datagrams --ip --form x /no/such/file
   ! snmpsec: bad word FORM
-  ! snmpsec: FORM "x": it is none; one of pcap, hex, dump is wanted
+  ! snmpsec: FORM "x": unknown form; use pcap, hex or dump
   [2]
   $ snmpsec datagrams --ip --port 65536 /no/such/file
   ! snmpsec: bad word PORT
-  ! snmpsec: PORT "65536": it is none; a whole number from 0 to 65535 is wanted, as 161
+  ! snmpsec: PORT "65536": it isn't a number from 0 to 65535; 161 is the port of agents
   [2]

@@ -31,31 +31,31 @@ A message of 58 octets was cut after 45.
   [2]
   $ snmpsec check-access --why /dev/null usm ann none see @ 1
   ! snmpsec: bad word MODEL
-  ! snmpsec: MODEL "usm": it is none; a whole number from 1 to 2147483647 is wanted; 3 is the user-based model
+  ! snmpsec: MODEL "usm": it isn't a number from 1 to 2147483647; 3 is the user-based model
   [2]
   $ snmpsec check-access --why /dev/null 3 ann authpriv see @ 1
   ! snmpsec: bad word LEVEL
-  ! snmpsec: LEVEL "authpriv": it is none, the nearest is authPriv; one of noAuthNoPriv, authNoPriv, authPriv is wanted
+  ! snmpsec: LEVEL "authpriv": unknown level, the nearest is authPriv; use noAuthNoPriv, authNoPriv or authPriv
   [2]
   $ snmpsec check-access --why /dev/null 3 ann authPriv x @ 1
   ! snmpsec: bad word VIEW
-  ! snmpsec: VIEW "x": it is none; one of read, write, notify is wanted
+  ! snmpsec: VIEW "x": unknown view; use read, write or notify
   [2]
   $ snmpsec check-access --why /dev/null 3 ann authPriv read @ .1.3.6
   ! snmpsec: bad word OID
-  ! snmpsec: OID ".1.3.6": there is a dot in front, try "1.3.6"; numbers with dots between are wanted, as 1.3.6.1.2.1.1.5.0
+  ! snmpsec: OID ".1.3.6": it begins with a dot, try "1.3.6"; write numbers with dots between, as 1.3.6.1.2.1.1.5.0
   [2]
   $ snmpsec check-access --why /dev/null 3 ann authPriv read @ 1.3..6
   ! snmpsec: bad word OID
-  ! snmpsec: OID "1.3..6": number 3 is missing; numbers with dots between are wanted, as 1.3.6.1.2.1.1.5.0
+  ! snmpsec: OID "1.3..6": number 3 is missing; write numbers with dots between, as 1.3.6.1.2.1.1.5.0
   [2]
   $ snmpsec check-access --why /dev/null 3 ann authPriv read @ sysName
   ! snmpsec: bad word OID
-  ! snmpsec: OID "sysName": number 1, "sysName", is none (`snmptranslate -On` prints those of a name); numbers with dots between are wanted, as 1.3.6.1.2.1.1.5.0
+  ! snmpsec: OID "sysName": number 1, "sysName", isn't a number (`snmptranslate -On` prints those of a name); write numbers with dots between, as 1.3.6.1.2.1.1.5.0
   [2]
   $ snmpsec explain-access --why /dev/null 3 ann authPriv read @ 1.4294967296
   ! snmpsec: bad word OID
-  ! snmpsec: OID "1.4294967296": number 2, "4294967296", is above 4294967295 or has a 0 in front; numbers with dots between are wanted, as 1.3.6.1.2.1.1.5.0
+  ! snmpsec: OID "1.4294967296": number 2, "4294967296", is above 4294967295 or begins with 0; write numbers with dots between, as 1.3.6.1.2.1.1.5.0
   [2]
 
 An answer needs no explanation.
@@ -68,27 +68,27 @@ Newer commands explain without `--why`.
 
   $ snmpsec sees /dev/null 0 ann
   ! snmpsec: bad word MODEL
-  ! snmpsec: MODEL "0": it is none; a whole number from 1 to 2147483647 is wanted; 3 is the user-based model
+  ! snmpsec: MODEL "0": it isn't a number from 1 to 2147483647; 3 is the user-based model
   [2]
   $ snmpsec who-sees /dev/null 1.3 reed
   ! snmpsec: bad word VIEW
-  ! snmpsec: VIEW "reed": it is none, the nearest is read; one of read, write, notify is wanted
+  ! snmpsec: VIEW "reed": unknown view, the nearest is read; use read, write or notify
   [2]
   $ snmpsec datagrams --port 65536 /dev/null
   ! snmpsec: bad word PORT
-  ! snmpsec: PORT "65536": it is none; a whole number from 0 to 65535 is wanted, as 161
+  ! snmpsec: PORT "65536": it isn't a number from 0 to 65535; 161 is the port of agents
   [2]
   $ snmpsec datagrams --ip --form hex /dev/null
   ! snmpsec: bad word FORM
-  ! snmpsec: FORM "hex": --ip is for dumps; dump is wanted, or no FORM
+  ! snmpsec: FORM "hex": --ip is for dumps; use dump, or leave FORM out
   [2]
   $ snmpsec datagrams --ip --form jpeg /dev/null
   ! snmpsec: bad word FORM
-  ! snmpsec: FORM "jpeg": it is none; one of pcap, hex, dump is wanted
+  ! snmpsec: FORM "jpeg": unknown form; use pcap, hex or dump
   [2]
   $ snmpsec merge-clocks --why --moment 1.5 /dev/null
   ! snmpsec: bad word MOMENT
-  ! snmpsec: MOMENT "1.5": it is none; whole seconds from 0 to 18446744073709551615 are wanted, as 1700000000
+  ! snmpsec: MOMENT "1.5": it isn't whole seconds from 0 to 18446744073709551615; write them as 1700000000
   [2]
   $ snmpsec show --from /no/such/file
   ! snmpsec: cannot read /no/such/file
@@ -113,5 +113,33 @@ Newer commands explain without `--why`.
   line 0
   $ snmpsec replay --why --from-line 0 /dev/null /dev/null /dev/null
   ! snmpsec: bad word N
-  ! snmpsec: N "0": it is none; a whole number from 1 to 1000000000000000 is wanted
+  ! snmpsec: N "0": it isn't a number from 1 to 1000000000000000; 1 is the first line of a log
+  [2]
+
+Input from a pipe is explained too, since no file is read twice.
+
+  $ echo '[[user]]' | snmpsec check-access --why /dev/stdin 3 ann authPriv read @ 1.3
+  refused config user 0 BadKey
+  ! snmpsec: user 0: name: missing, a text
+  [1]
+  $ echo '[[user]]' | snmpsec open /dev/stdin --from /dev/null
+  refused config user 0 BadKey
+  ! snmpsec: user 0: name: missing, a text
+  [1]
+  $ echo 'snmp-clocks 3' | snmpsec merge-clocks --why /dev/stdin
+  refused clocks /dev/stdin line 1
+  ! snmpsec: line 1: snmp-clocks 2 is wanted
+  [1]
+  $ echo 'snmp-clocks 2' > clocks
+  $ echo '5 303' | snmpsec replay --why --from-line 7 /dev/null clocks /dev/stdin
+  ! snmpsec: log line 7
+  ! snmpsec: line 7: HEX "303": its 3 digits are an odd number
+  [2]
+  $ echo 'snmp-clocks 3' | snmpsec replay --why /dev/null /dev/stdin /dev/null
+  refused clocks /dev/stdin line 1
+  ! snmpsec: line 1: snmp-clocks 2 is wanted
+  [1]
+  $ snmpsec datagrams - < /
+  ! snmpsec: cannot read -
+  ! snmpsec: -: it is a folder
   [2]

@@ -162,19 +162,19 @@ MODEL is checked before the configuration.
   $ : > empty
   $ snmpsec sees broken 0 eve
   ! snmpsec: bad word MODEL
-  ! snmpsec: MODEL "0": it is none; a whole number from 1 to 2147483647 is wanted; 3 is the user-based model
+  ! snmpsec: MODEL "0": it isn't a number from 1 to 2147483647; 3 is the user-based model
   [2]
   $ snmpsec sees broken 03 eve
   ! snmpsec: bad word MODEL
-  ! snmpsec: MODEL "03": it is none; a whole number from 1 to 2147483647 is wanted; 3 is the user-based model
+  ! snmpsec: MODEL "03": it isn't a number from 1 to 2147483647; 3 is the user-based model
   [2]
   $ snmpsec sees empty 2147483648 eve
   ! snmpsec: bad word MODEL
-  ! snmpsec: MODEL "2147483648": it is none; a whole number from 1 to 2147483647 is wanted; 3 is the user-based model
+  ! snmpsec: MODEL "2147483648": it isn't a number from 1 to 2147483647; 3 is the user-based model
   [2]
   $ snmpsec sees empty '' eve
   ! snmpsec: bad word MODEL
-  ! snmpsec: MODEL "": it is none; a whole number from 1 to 2147483647 is wanted; 3 is the user-based model
+  ! snmpsec: MODEL "": it isn't a number from 1 to 2147483647; 3 is the user-based model
   [2]
 
 Without contexts there are no lines.

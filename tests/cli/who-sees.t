@@ -201,19 +201,19 @@ OID and VIEW are checked before the configuration.
   $ echo 'user = 1' > broken
   $ snmpsec who-sees broken 1. reads
   ! snmpsec: bad word OID
-  ! snmpsec: OID "1.": number 2 is missing; numbers with dots between are wanted, as 1.3.6.1.2.1.1.5.0
+  ! snmpsec: OID "1.": number 2 is missing; write numbers with dots between, as 1.3.6.1.2.1.1.5.0
   [2]
   $ snmpsec who-sees broken ''
   ! snmpsec: bad word OID
-  ! snmpsec: OID "": it is empty; numbers with dots between are wanted, as 1.3.6.1.2.1.1.5.0
+  ! snmpsec: OID "": it is empty; write numbers with dots between, as 1.3.6.1.2.1.1.5.0
   [2]
   $ snmpsec who-sees broken 1 Read
   ! snmpsec: bad word VIEW
-  ! snmpsec: VIEW "Read": it is none, the nearest is read; one of read, write, notify is wanted
+  ! snmpsec: VIEW "Read": unknown view, the nearest is read; use read, write or notify
   [2]
   $ snmpsec who-sees broken 1 ''
   ! snmpsec: bad word VIEW
-  ! snmpsec: VIEW "": it is none; one of read, write, notify is wanted
+  ! snmpsec: VIEW "": unknown view; use read, write or notify
   [2]
 
 Configurations are refused as by `check-config`.

@@ -1,3 +1,4 @@
 pub mod Tellings
 pub mod Beginnings
 pub mod Dumps
+pub mod Refusals

@@ -1,6 +1,6 @@
 -- What is told of a capture: the last line, and the ports that are asked for.
-use Rattle.std.proofs.Common.{◌≡◌, ℕ, ◌<◌, ◌≤◌, ◌^◌, List, [], ◌∷◌, ◌++◌, length, map, decimal, codes, Option, slice_index_or, refl, sym, subst, inl, inr}
-use Rattle.std.proofs.lemmas.List.{get_or-map, length-map}
+use Rattle.std.proofs.Common.{◌≡◌, ℕ, ◌<◌, ◌≤◌, ◌^◌, zero, suc, List, [], ◌∷◌, ◌++◌, length, take, drop, map, decimal, codes, Option, slice_index_or, refl, sym, ap, ◌∙◌, arith, subst, inl, inr}
+use Rattle.std.specs.List.{All}
 use Rattle.std.specs.Io.KnownBytes.{Appends, Consumes, IsAtEnd}
 use Rattle.std.proofs.KnownBytes.{Appends-nil, Keeps-refl}
 use Rattle.capture_files.specs.Datagrams.{Printing, StopsBy, Streams}
@@ -10,7 +10,7 @@ use Rattle.capture_datagrams.specs.declared.datagrams.Unread.{Unread}
 use Rattle.capture_datagrams.specs.declared.datagrams.Unread.TheVariants as unread
 use Rattle.capture_datagrams.specs.declared.texts.TextForm.{TextForm}
 use Rattle.capture_datagrams.specs.Texts.{IsTextOf, StopsText, TellsText, WritesBoth, WritesPart}
-use Rattle.capture_datagrams.specs.Datagrams.{IsWhole, Leaves, LosesLine, LosesPassed, Tells, TellsNot, line_of, refused_line, status_of, HasNoPort}
+use Rattle.capture_datagrams.specs.Datagrams.{IsWhole, Leaves, LosesLine, LosesPassed, Tells, TellsNot, line_of, refused_line, status_of, IsFirstNoPort, IsNoPort}
 
 -- ---- the last line
 
@@ -111,11 +111,20 @@ text_lost P form moment name s text line note told f read short is same wrote =
 
 -- ---- the ports
 
--- one of the words is no port
-pub no_port : {X : Type 0} (f : X → List ℕ) (xs : List X) (i : ℕ) (d : X) → i < length xs
-    → ((port : ℕ) → port < 2 ^ 16 → f (slice_index_or xs i d) ≡ decimal port → ⊥) → HasNoPort (map f xs)
-no_port f xs i d below none = (
-  f (slice_index_or xs i d),
-  (i, subst (λ n. i < n) (sym (length-map xs f)) below, get_or-map f xs i d (f (slice_index_or xs i d)) below),
-  none,
-)
+split : {X : Type 0} (f : X → List ℕ) (xs : List X) (i : ℕ) (d : X) → i < length xs
+    → map f xs ≡ map f (take i xs) ++ f (slice_index_or xs i d) ∷ map f (drop (suc i) xs)
+split f [] i d below = absurd (omega arith)
+split f (y ∷ ys) zero d below = refl
+split f (y ∷ ys) (suc i) d below = ap (λ (words : List (List ℕ)). f y ∷ words) (split f ys i d (omega arith))
+
+-- the words before are ports, and this one is none
+pub first_no_port : {X : Type 0} (f : X → List ℕ) (xs : List X) (i : ℕ) (d : X) (ports : List ℕ) → i < length xs
+    → map decimal ports ≡ map f (take i xs) → All (λ port. port < 2 ^ 16) ports → IsNoPort (f (slice_index_or xs i d))
+    → IsFirstNoPort (map f xs) (f (slice_index_or xs i d))
+first_no_port f xs i d ports below same are none = record {
+  before = ports;
+  after = map f (drop (suc i) xs);
+  parts = split f xs i d below ∙ ap (λ (words : List (List ℕ)). words ++ f (slice_index_or xs i d) ∷ map f (drop (suc i) xs)) (sym same);
+  ports = are;
+  none = none;
+}

@@ -5,9 +5,9 @@
 -- counts; or the log as far as it is one, and the line for the first octet that isn't. And where it stops
 -- with a fault: within the capture, or a front of that last line is written. `AskPorts`: the ports that
 -- words ask for.
-use Rattle.std.specs.Prelude.{◌≡◌, ◌⊎◌, ℕ, ◌<◌, ◌^◌, Bool, if◌then◌else◌, map, List, [], ◌∷◌, ◌++◌, codes, decimal}
+use Rattle.std.specs.Prelude.{◌≡◌, ◌⊎◌, ⊤, ℕ, ◌<◌, ◌^◌, Bool, if◌then◌else◌, map, List, [], ◌∷◌, ◌++◌, codes, decimal}
 use Rattle.std.specs.Prelude.{Option, IfSome}
-use Rattle.std.specs.List.{All, Contains}
+use Rattle.std.specs.List.{All}
 use Rattle.std.specs.Io.KnownBytes.{Appends, Keeps}
 use Rattle.snmpsec_io.specs.Transfer.{WritesFront}
 use Rattle.capture_files.specs.Passed.{Counts, IsPassedWords}
@@ -15,6 +15,8 @@ use Rattle.capture_files.specs.Datagrams.{IsLogOf, Printing, Streams, StopsBy}
 use Rattle.capture_files.specs.declared.fault.CaptureFault.TheVariants as capture
 use Rattle.capture_datagrams.specs.declared.datagrams.Unread.{Unread}
 use Rattle.capture_datagrams.specs.declared.datagrams.Unread.TheVariants as unread
+use Rattle.capture_datagrams.specs.declared.datagrams.PortsFault.{PortsFault}
+use Rattle.capture_datagrams.specs.declared.datagrams.PortsFault.TheVariants as no_ports
 
 -- ---- the ports
 
@@ -27,9 +29,22 @@ abbrev pub AskPorts : List (List ℕ) → List ℕ → Type 0
 AskPorts [] ports = ports ≡ 161 ∷ 162 ∷ []
 AskPorts (word ∷ words) ports = AreDecimals (word ∷ words) ports
 
--- one of the words is no port
-abbrev pub HasNoPort : List (List ℕ) → Type 0
-HasNoPort words = (word : List ℕ) × Contains words word × ((port : ℕ) → port < 2 ^ 16 → word ≡ decimal port → ⊥)
+-- the word is no port
+abbrev pub IsNoPort : List ℕ → Type 0
+IsNoPort word = (port : ℕ) → port < 2 ^ 16 → word ≡ decimal port → ⊥
+
+-- the words have a first that is no port, and this is it
+pub record IsFirstNoPort (words : List (List ℕ)) (word : List ℕ) : Type 0 where
+  pub before : List ℕ
+  pub after : List (List ℕ)
+  pub parts : words ≡ map decimal before ++ word ∷ after
+  pub ports : All (λ port. port < 2 ^ 16) before
+  pub none : IsNoPort word
+
+-- why there are no ports
+abbrev pub TellsNoPorts : List (List ℕ) → PortsFault → Type 0
+TellsNoPorts words (no_ports.NoPort word) = IsFirstNoPort words word.now
+TellsNoPorts words no_ports.OutOfMemory = ⊤
 
 -- ---- the last lines
 

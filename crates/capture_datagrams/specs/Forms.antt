@@ -1,6 +1,6 @@
 -- What `snmpsec datagrams`, `show --from` and `open --from` do with a file in any of its forms.
 --
--- `TellsFile P asked name streams status`, `StopsFile`. What `datagrams` does with a file of any form: with
+-- `TellsFile P asked streams status`, `StopsFile`. What `datagrams` does with a file of any form: with
 -- a capture `Tells`, with a text `TellsText` (`Texts`): of pasted hex what P prints of its octets, or the
 -- line that refuses it (`IsHexOf`); of dumps what P prints of the octets of each (`PrintsAll` in `Dumped`),
 -- or of the datagrams in them where they are packets (`PrintsPackets` in `Packets`), or the line of the
@@ -62,12 +62,12 @@ Reads form s Capture Text =
     (IfSome s.unread (λ octets. is_capture form octets ≡ true) × Capture)
     ⊎ (IfSome s.unread (λ octets. is_capture form octets ≡ false) × Text)
 
-abbrev pub TellsFile : Printing → ReadOptions → List ℕ → Streams → ℕ → Type 0
-TellsFile P a name s status = Reads a.form s (Tells P a.ports.now name s status)
-    (TellsText P (text_form a) a.moment name s status)
+abbrev pub TellsFile : Printing → ReadOptions → Streams → ℕ → Type 0
+TellsFile P a s status = Reads a.form s (Tells P a.ports.now a.name.now s status)
+    (TellsText P (text_form a) a.moment a.name.now s status)
 
 -- the first octets aren't read, or it stops behind them
-abbrev pub StopsFile : Printing → ReadOptions → List ℕ → Streams → Unread → Type 0
-StopsFile P a name s f =
+abbrev pub StopsFile : Printing → ReadOptions → Streams → Unread → Type 0
+StopsFile P a s f =
     ((f ≡ unread.CannotRead) × CannotBegin s capture.CannotRead)
-    ⊎ Reads a.form s (TellsNot P a.ports.now name s f) (StopsText P (text_form a) a.moment name s f)
+    ⊎ Reads a.form s (TellsNot P a.ports.now a.name.now s f) (StopsText P (text_form a) a.moment a.name.now s f)

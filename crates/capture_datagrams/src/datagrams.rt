@@ -1,17 +1,19 @@
 //! `snmpsec datagrams`: the datagrams of a capture, as a log.
 
 ghost use Rattle.std.specs.Prelude.{◌≡◌, ◌<◌, ◌≤◌, ◌^◌, ℕ, List, Option, length, decimal, map, IfErr, IfOk, IfSome};
-ghost use Rattle.std.specs.Prelude.{IfNone, OnOk, Some, string_bytes};
+ghost use Rattle.std.specs.Prelude.{OnOk, Some, string_bytes};
 ghost use Rattle.std.specs.Io.KnownBytes.{Appends, Consumes, IsAtEnd};
-ghost use Rattle.capture_datagrams.specs.Datagrams.{AskPorts, HasNoPort, IsPassedLine, LosesLine, LosesPassed, Tells};
-ghost use Rattle.capture_datagrams.specs.Datagrams.{TellsNot, TellsPassed, refused_line};
-ghost use Rattle.capture_files.specs.Datagrams.{PrintsLine, streams};
+ghost use Rattle.capture_datagrams.specs.Datagrams.{AskPorts, IsPassedLine, LosesLine, LosesPassed, Tells};
+ghost use Rattle.capture_datagrams.specs.Datagrams.{TellsNot, TellsNoPorts, TellsPassed, refused_line};
+ghost use Rattle.capture_datagrams.specs.declared.datagrams.PortsFault.TheVariants as no_ports;
+ghost use Rattle.capture_files.specs.Datagrams.{streams};
 ghost use Rattle.capture_files.specs.Passed.{counts_of};
 
-use capture_files::{CaptureFault, HEADER, Lines, Printer, Tally, print_datagrams_behind};
+use crate::forms::ReadOptions;
+use capture_files::{CaptureFault, Printer, Tally, print_datagrams_behind};
 use snmp_ber::read_decimal;
-use snmpsec_io::{read_full, write_whole};
-use std::alloc::{AllocError, Global};
+use snmpsec_io::write_whole;
+use std::alloc::{AllocError, AllocFailed, Global};
 use std::io::{Read, Write};
 use thiserror::Error;
 
@@ -41,69 +43,59 @@ fn port_of(word: &str) -> Option<u16>
     Some(port as u16)
 }
 
-/// The ports that the words ask for: theirs, or 161 and 162 (RFC 3417, section 3.1) where there is no word.
-/// `None` where one is no port.
-pub fn ports_of(alloc: Global, words: &[&str]) -> Result<Option<Vec<u16>>, AllocError>
-    ensures found { IfOk result
-        (λ ports. IfSome ports (λ ports. AskPorts (map (λ word. word.now) words.now) ports.items)) }
-    ensures none { IfOk result (λ ports. IfNone ports (HasNoPort (map (λ word. word.now) words.now))) }
+/// Why the words ask for no ports.
+#[derive(Clone, Copy, Debug, PartialEq, Eq, Drop, Error)]
+pub enum PortsFault<'a> {
+    /// This word is the first that is no port.
+    #[error("a word is no port")]
+    NoPort(&'a str),
+    /// A growth of memory was refused.
+    #[error("out of memory")]
+    OutOfMemory,
+}
+
+impl From<AllocError> for PortsFault<'_> {
+    ghost from_gives = { λ _ e. e ≡ no_ports.OutOfMemory };
+
+    fn from(_fault: AllocError) -> Self {
+        PortsFault::OutOfMemory
+    }
+}
+
+impl<T: Drop> From<AllocFailed<T>> for PortsFault<'_> {
+    ghost from_gives = { λ _ e. e ≡ no_ports.OutOfMemory };
+
+    fn from(_fault: AllocFailed<T>) -> Self {
+        PortsFault::OutOfMemory
+    }
+}
+
+/// The ports that the words ask for: theirs, or 161 and 162 (RFC 3417, section 3.1) if there is no word.
+pub fn ports_of<'a>(alloc: Global, words: &[&'a str]) -> Result<Vec<u16>, PortsFault<'a>>
+    ensures found { IfOk result (λ ports. AskPorts (map (λ word. word.now) words.now) ports.items) }
+    ensures none { IfErr result (TellsNoPorts (map (λ word. word.now) words.now)) }
 {
     if words.is_empty() {
-        return Ok(Some(SNMP.to_vec(alloc)?));
+        return Ok(SNMP.to_vec(alloc)?);
     }
     let mut ports = Vec::new(alloc);
     for word in words {
         let Some(port) = port_of(word) else {
-            return Ok(None);
+            return Err(PortsFault::NoPort(*word));
         };
         ports.push(port)?;
     }
-    Ok(Some(ports))
+    Ok(ports)
 }
 
-/// What `snmpsec datagrams` does with a capture, with the status that it ends with: `write_datagrams`, and
-/// then a line in `notes` for what was passed over, if anything was, and status 0. Where the capture is out
-/// of its form, a line in the log for the first octet that is, with status 1.
-///
-/// The errors are CannotRead, CannotWrite and OutOfMemory, as those of `write_datagrams`.
-pub fn datagrams<R: Read, L: Write, N: Write>(
-    alloc: Global,
-    ports: &[u16],
-    name: &str,
-    reader: &mut R,
-    log: &mut L,
-    notes: &mut N,
-) -> Result<u8, Unread>
-    ensures ok { IfOk result (Tells PrintsLine ports.now name.now
-        (streams (R.remaining reader.old) (R.remaining reader.new) (L.contents log.old) (L.contents log.new)
-        (N.contents notes.old) (N.contents notes.new))) }
-    ensures err { IfErr result (TellsNot PrintsLine ports.now name.now
-        (streams (R.remaining reader.old) (R.remaining reader.new) (L.contents log.old) (L.contents log.new)
-        (N.contents notes.old) (N.contents notes.new))) }
-{
-    let mut octets = [0u8; HEADER];
-    let Ok(count) = read_full(reader, &mut octets) else {
-        return Err(Unread::CannotRead);
-    };
-    datagrams_behind(
-        alloc,
-        &octets[..count],
-        ports,
-        name,
-        &mut Lines,
-        reader,
-        log,
-        notes,
-    )
-}
-
-/// The same for a capture of which the first 24 octets were read, or all where it has fewer, with what the
-/// printer makes of each datagram; the status is 1 too where that tells a refusal.
+/// What is done with a capture of which the first 24 octets were read, or all if it has fewer, with the status that it
+/// ends with: what the printer makes of each datagram is written, and then a line in `notes` for what was passed over,
+/// if anything was, with status 0, or 1 if a datagram is refused. If the capture is out of its form, a line in the log
+/// names the first octet that is, with status 1.
 pub(crate) fn datagrams_behind<P: Printer, R: Read, L: Write, N: Write>(
     alloc: Global,
     front: &[u8],
-    ports: &[u16],
-    name: &str,
+    asked: ReadOptions<'_>,
     printer: &mut P,
     reader: &mut R,
     log: &mut L,
@@ -112,20 +104,20 @@ pub(crate) fn datagrams_behind<P: Printer, R: Read, L: Write, N: Write>(
     requires short { length front.now ≤ 24 }
     requires end { length front.now < 24 → IsAtEnd (R.remaining reader.old) }
     ensures ok { (unread : Option (List ℕ)) → Consumes unread (R.remaining reader.old) front.now
-        → IfOk result (Tells (P.prints printer.old) ports.now name.now
+        → IfOk result (Tells (P.prints printer.old) asked.entry.ports.now asked.entry.name.now
         (streams unread (R.remaining reader.new) (L.contents log.old) (L.contents log.new) (N.contents notes.old)
         (N.contents notes.new))) }
     ensures err { (unread : Option (List ℕ)) → Consumes unread (R.remaining reader.old) front.now
-        → IfErr result (TellsNot (P.prints printer.old) ports.now name.now
+        → IfErr result (TellsNot (P.prints printer.old) asked.entry.ports.now asked.entry.name.now
         (streams unread (R.remaining reader.new) (L.contents log.old) (L.contents log.new) (N.contents notes.old)
         (N.contents notes.new))) }
 {
-    match print_datagrams_behind(alloc, front, ports, printer, reader, log, notes) {
+    match print_datagrams_behind(alloc, front, asked.ports, printer, reader, log, notes) {
         Ok(passed) => match tell_passed(alloc, &passed, notes) {
             Ok(()) => Ok(u8::from(passed.refused)),
             Err(fault) => Err(fault),
         },
-        Err(CaptureFault::Octet(place)) => match refuse(alloc, name, place, log) {
+        Err(CaptureFault::Octet(place)) => match refuse(alloc, asked.name, place, log) {
             Ok(()) => Ok(1),
             Err(fault) => Err(fault),
         },

@@ -61,6 +61,8 @@ pub struct ReadOptions<'a> {
     pub moment: u64,
     /// The ports that the datagrams of a capture, or of dumps of packets, are from or to.
     pub ports: &'a [u16],
+    /// The name of the file, in the line that refuses it.
+    pub name: &'a str,
 }
 
 /// The file that begins so is read as a capture: that is asked for, or it begins as one where no form is.
@@ -75,7 +77,7 @@ fn is_capture(form: Option<Form>, front: &[u8]) -> bool
 }
 
 /// How a text is read.
-fn text_form(asked: ReadOptions<'_>) -> TextForm<'_>
+pub(crate) fn text_form(asked: ReadOptions<'_>) -> TextForm<'_>
     ensures { result ≡ text_form asked.entry }
 {
     match asked.form {
@@ -94,19 +96,18 @@ fn text_form(asked: ReadOptions<'_>) -> TextForm<'_>
 pub fn datagrams_of<R: Read, L: Write, N: Write>(
     alloc: Global,
     asked: ReadOptions<'_>,
-    name: &str,
     reader: &mut R,
     log: &mut L,
     notes: &mut N,
 ) -> Result<u8, Unread>
-    ensures ok { IfOk result (TellsFile PrintsLine asked.entry name.now
+    ensures ok { IfOk result (TellsFile PrintsLine asked.entry
         (streams (R.remaining reader.old) (R.remaining reader.new) (L.contents log.old) (L.contents log.new)
         (N.contents notes.old) (N.contents notes.new))) }
-    ensures err { IfErr result (StopsFile PrintsLine asked.entry name.now
+    ensures err { IfErr result (StopsFile PrintsLine asked.entry
         (streams (R.remaining reader.old) (R.remaining reader.new) (L.contents log.old) (L.contents log.new)
         (N.contents notes.old) (N.contents notes.new))) }
 {
-    print_datagrams(alloc, asked, name, &mut Lines, reader, log, notes)
+    print_datagrams(alloc, asked, &mut Lines, reader, log, notes)
 }
 
 /// The same with what a printer makes of each datagram in the place of its line, and with status 1 too where
@@ -114,16 +115,15 @@ pub fn datagrams_of<R: Read, L: Write, N: Write>(
 pub fn print_datagrams<P: Printer, R: Read, L: Write, N: Write>(
     alloc: Global,
     asked: ReadOptions<'_>,
-    name: &str,
     printer: &mut P,
     reader: &mut R,
     log: &mut L,
     notes: &mut N,
 ) -> Result<u8, Unread>
-    ensures ok { IfOk result (TellsFile (P.prints printer.old) asked.entry name.now
+    ensures ok { IfOk result (TellsFile (P.prints printer.old) asked.entry
         (streams (R.remaining reader.old) (R.remaining reader.new) (L.contents log.old) (L.contents log.new)
         (N.contents notes.old) (N.contents notes.new))) }
-    ensures err { IfErr result (StopsFile (P.prints printer.old) asked.entry name.now
+    ensures err { IfErr result (StopsFile (P.prints printer.old) asked.entry
         (streams (R.remaining reader.old) (R.remaining reader.new) (L.contents log.old) (L.contents log.new)
         (N.contents notes.old) (N.contents notes.new))) }
 {
@@ -133,19 +133,8 @@ pub fn print_datagrams<P: Printer, R: Read, L: Write, N: Write>(
     };
     let front = &octets[..count];
     if is_capture(asked.form, front) {
-        datagrams_behind(alloc, front, asked.ports, name, printer, reader, log, notes)
+        datagrams_behind(alloc, front, asked, printer, reader, log, notes)
     } else {
-        let form = text_form(asked);
-        write_text(
-            alloc,
-            front,
-            form,
-            asked.moment,
-            name,
-            printer,
-            reader,
-            log,
-            notes,
-        )
+        write_text(alloc, front, asked, printer, reader, log, notes)
     }
 }

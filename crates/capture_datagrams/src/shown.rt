@@ -5,17 +5,16 @@ ghost use Rattle.std.specs.Prelude.{◌≡◌, IfErr, IfOk, string_bytes};
 ghost use Rattle.capture_files.specs.Datagrams.{streams};
 ghost use Rattle.capture_datagrams.specs.Shown.{IsNamed, LoadsUsers, OpensFile, PrintsOpened, PrintsShown};
 ghost use Rattle.capture_datagrams.specs.Shown.{StandsBehind, StopsOpening, StopsPrintout, TellsNoUsers};
-ghost use Rattle.capture_datagrams.specs.Shown.{TellsPrintout, head_line};
+ghost use Rattle.capture_datagrams.specs.Shown.{TellsConfig, TellsPrintout, head_line};
 ghost use Rattle.capture_datagrams.specs.declared.shown.NoUsers.TheVariants as none;
 ghost use Rattle.snmpsec_output.specs.Questions.{Printed as PrintedIs};
 
 use crate::datagrams::Unread;
 use crate::forms::{ReadOptions, print_datagrams};
+use crate::texts::{Told, write_told};
 use capture_files::{Lines, Printed, Printer};
-use snmpsec_config::Config;
-use snmpsec_io::write_whole;
-use snmpsec_notes::with_names;
-use snmpsec_output::{Output, open_datagram, show_datagram};
+use snmpsec_config::{Config, ConfigFault};
+use snmpsec_output::{Output, open_datagram, refusal_and_why, show_datagram, with_names};
 use std::alloc::{AllocError, Global};
 use std::io::{Read, Write};
 use thiserror::Error;
@@ -126,9 +125,9 @@ pub enum Printout<'a> {
 /// Why there are no users.
 #[derive(Debug, Drop, Error)]
 enum NoUsers {
-    /// The configuration is refused by this line.
+    /// The configuration is refused, by these lines.
     #[error("the configuration is refused")]
-    Refused(Vec<u8>),
+    Refused(Told),
     /// A growth of memory was refused.
     #[error("out of memory")]
     OutOfMemory,
@@ -150,13 +149,26 @@ fn users_of(alloc: Global, config: &[u8]) -> Result<Users, NoUsers>
     match Config::read(alloc, config) {
         Ok(config) => Ok(config.users),
         Err(fault) if fault.is_memory() => Err(NoUsers::OutOfMemory),
-        Err(fault) => Err(NoUsers::Refused(Output::refusal(alloc, &fault)?.out)),
+        Err(fault) => Err(NoUsers::Refused(refused_config(alloc, &fault)?)),
     }
 }
 
+/// The line of a configuration that is refused, what is wrong with it beside, and status 1.
+fn refused_config(alloc: Global, fault: &ConfigFault) -> Result<Told, AllocError>
+    ensures { IfOk result
+        (λ told. TellsConfig fault.now told.text.items told.note.items × (told.status ≡ 1)) }
+{
+    let output = refusal_and_why(alloc, fault)?;
+    Ok(Told {
+        text: output.out,
+        note: output.err,
+        status: output.status,
+    })
+}
+
 /// What `snmpsec open CONFIG --from FILE` does, with the status that it ends with: the line of the
-/// configuration, where that is refused, with status 1, and nothing is read; or else of each datagram of the
-/// file what `open` prints, as `print_datagrams` says.
+/// configuration, if that is refused, with what is wrong in `notes` and status 1, and nothing is read; or else
+/// of each datagram of the file what `open` prints, as `print_datagrams` says.
 ///
 /// The errors are CannotRead, CannotWrite and OutOfMemory.
 fn open_datagrams<R: Read, L: Write, N: Write>(
@@ -164,27 +176,23 @@ fn open_datagrams<R: Read, L: Write, N: Write>(
     config: &[u8],
     names: bool,
     asked: ReadOptions<'_>,
-    name: &str,
     reader: &mut R,
     log: &mut L,
     notes: &mut N,
 ) -> Result<u8, Unread>
-    ensures ok { IfOk result (OpensFile names config.now asked.entry name.now
+    ensures ok { IfOk result (OpensFile names config.now asked.entry
         (streams (R.remaining reader.old) (R.remaining reader.new) (L.contents log.old) (L.contents log.new)
         (N.contents notes.old) (N.contents notes.new))) }
-    ensures err { IfErr result (StopsOpening names config.now asked.entry name.now
+    ensures err { IfErr result (StopsOpening names config.now asked.entry
         (streams (R.remaining reader.old) (R.remaining reader.new) (L.contents log.old) (L.contents log.new)
         (N.contents notes.old) (N.contents notes.new))) }
 {
     match users_of(alloc, config) {
         Ok(users) => {
             let mut printer = Opens { names, users };
-            print_datagrams(alloc, asked, name, &mut printer, reader, log, notes)
+            print_datagrams(alloc, asked, &mut printer, reader, log, notes)
         }
-        Err(NoUsers::Refused(line)) => match write_whole(log, &line) {
-            Ok(()) => Ok(1),
-            Err(_) => Err(Unread::CannotWrite),
-        },
+        Err(NoUsers::Refused(told)) => write_told(&told, log, notes),
         Err(NoUsers::OutOfMemory) => Err(Unread::OutOfMemory),
     }
 }
@@ -197,26 +205,25 @@ pub fn write_printout<R: Read, L: Write, N: Write>(
     alloc: Global,
     printout: Printout<'_>,
     asked: ReadOptions<'_>,
-    name: &str,
     reader: &mut R,
     log: &mut L,
     notes: &mut N,
 ) -> Result<u8, Unread>
-    ensures ok { IfOk result (TellsPrintout printout.entry asked.entry name.now
+    ensures ok { IfOk result (TellsPrintout printout.entry asked.entry
         (streams (R.remaining reader.old) (R.remaining reader.new) (L.contents log.old) (L.contents log.new)
         (N.contents notes.old) (N.contents notes.new))) }
-    ensures err { IfErr result (StopsPrintout printout.entry asked.entry name.now
+    ensures err { IfErr result (StopsPrintout printout.entry asked.entry
         (streams (R.remaining reader.old) (R.remaining reader.new) (L.contents log.old) (L.contents log.new)
         (N.contents notes.old) (N.contents notes.new))) }
 {
     match printout {
-        Printout::Log => print_datagrams(alloc, asked, name, &mut Lines, reader, log, notes),
+        Printout::Log => print_datagrams(alloc, asked, &mut Lines, reader, log, notes),
         Printout::Shown { names } => {
             let mut printer = Shows { names };
-            print_datagrams(alloc, asked, name, &mut printer, reader, log, notes)
+            print_datagrams(alloc, asked, &mut printer, reader, log, notes)
         }
         Printout::Opened { config, names } => {
-            open_datagrams(alloc, config, names, asked, name, reader, log, notes)
+            open_datagrams(alloc, config, names, asked, reader, log, notes)
         }
     }
 }

@@ -8,9 +8,11 @@ ghost use Rattle.capture_files.specs.Datagrams.{streams};
 ghost use Rattle.capture_datagrams.specs.declared.datagrams.Unread.TheVariants as unread;
 ghost use Rattle.capture_datagrams.specs.Texts.{IsDumpText, IsHexOf, IsPlainText, IsTextOf, StopsText, TellsText};
 ghost use Rattle.capture_datagrams.specs.Texts.{refused_place};
+ghost use Rattle.capture_datagrams.specs.Forms.{text_form};
 
 use crate::datagrams::Unread;
-use crate::dumped::dumps_told;
+use crate::dump_texts::dumps_told;
+use crate::forms::{ReadOptions, text_form};
 use capture_dumps::{HexFault, dump_line, read_hex};
 use capture_files::Printer;
 use snmpsec_io::{FILE_LIMIT, FileFault, read_whole_behind, write_whole};
@@ -18,7 +20,7 @@ use std::alloc::{AllocError, Global};
 use std::io::{Read, Write};
 
 /// What a text comes to: what is printed, what is told beside, and the status that goes with it.
-#[derive(Drop)]
+#[derive(Debug, Drop)]
 pub(crate) struct Told {
     pub(crate) text: Vec<u8>,
     pub(crate) note: Vec<u8>,
@@ -111,7 +113,11 @@ fn told_of<P: Printer>(
 }
 
 /// Writes what a text comes to.
-fn write_told<L: Write, N: Write>(told: &Told, log: &mut L, notes: &mut N) -> Result<u8, Unread>
+pub(crate) fn write_told<L: Write, N: Write>(
+    told: &Told,
+    log: &mut L,
+    notes: &mut N,
+) -> Result<u8, Unread>
     ensures ok { IfOk result
         (λ status. (status ≡ told.now.status)
         × Appends (L.contents log.old) (L.contents log.new) told.now.text.items
@@ -143,9 +149,7 @@ fn write_told<L: Write, N: Write>(told: &Told, log: &mut L, notes: &mut N) -> Re
 pub(crate) fn write_text<P: Printer, R: Read, L: Write, N: Write>(
     alloc: Global,
     front: &[u8],
-    form: TextForm<'_>,
-    moment: u64,
-    name: &str,
+    asked: ReadOptions<'_>,
     printer: &mut P,
     reader: &mut R,
     log: &mut L,
@@ -153,11 +157,11 @@ pub(crate) fn write_text<P: Printer, R: Read, L: Write, N: Write>(
 ) -> Result<u8, Unread>
     requires { length front.now ≤ 24 }
     ensures ok { (unread : Option (List ℕ)) → Consumes unread (R.remaining reader.old) front.now
-        → IfOk result (TellsText (P.prints printer.old) form.entry moment name.now
+        → IfOk result (TellsText (P.prints printer.old) (text_form asked.entry) asked.entry.moment asked.entry.name.now
         (streams unread (R.remaining reader.new) (L.contents log.old) (L.contents log.new) (N.contents notes.old)
         (N.contents notes.new))) }
     ensures err { (unread : Option (List ℕ)) → Consumes unread (R.remaining reader.old) front.now
-        → IfErr result (StopsText (P.prints printer.old) form.entry moment name.now
+        → IfErr result (StopsText (P.prints printer.old) (text_form asked.entry) asked.entry.moment asked.entry.name.now
         (streams unread (R.remaining reader.new) (L.contents log.old) (L.contents log.new) (N.contents notes.old)
         (N.contents notes.new))) }
 {
@@ -166,7 +170,8 @@ pub(crate) fn write_text<P: Printer, R: Read, L: Write, N: Write>(
         Err(FileFault::CannotRead) => return Err(Unread::CannotRead),
         Err(FileFault::OutOfMemory) => return Err(Unread::OutOfMemory),
     };
-    let Ok(told) = told_of(alloc, form, moment, name, printer, &text) else {
+    let form = text_form(asked);
+    let Ok(told) = told_of(alloc, form, asked.moment, asked.name, printer, &text) else {
         return Err(Unread::OutOfMemory);
     };
     write_told(&told, log, notes)

@@ -1,6 +1,6 @@
 -- What `snmpsec replay` does with a configuration, a clocks file and a log.
 --
--- `ReplayAnswers printing handed streams status`, `ReplayStopsBy`. What `replay` has read and written where
+-- `ReplayAnswers printing handed streams end`, `ReplayStopsBy`. What `replay` has read and written where
 -- it ends, and where it stops with a fault. `Begins`: the manager has the users that the configuration
 -- loads to (`Loads`) and the marks that the clocks file saves. `Refuses`: the line for the configuration,
 -- or, where that loads, for the clocks file.
@@ -18,6 +18,9 @@ use Rattle.vacm_core.specs.Tables.{Tables}
 use Rattle.snmpsec_config.specs.Refusals.{Loads, RefusesText, refusal_line}
 use Rattle.snmpsec_config.specs.declared.fault.ConfigFault.{ConfigFault}
 use Rattle.snmpsec_output.specs.Merge.{refused_line}
+use Rattle.snmpsec_commands.specs.declared.replay.Beginning.{Beginning}
+use Rattle.snmpsec_commands.specs.declared.replay.ReplayEnd.{ReplayEnd}
+use Rattle.snmpsec_commands.specs.declared.replay.ReplayEnd.TheVariants as ends
 use Rattle.snmpsec_commands.specs.declared.replay.NoManager.{NoManager}
 use Rattle.snmpsec_commands.specs.declared.replay.NoManager.TheVariants.{Refused, OutOfMemory}
 
@@ -27,6 +30,9 @@ pub record Handed : Type 0 where
   pub config : List ℕ
   pub name : List ℕ
   pub clocks : List ℕ
+
+abbrev pub handed_of : Beginning → Handed
+handed_of b = record { moment = b.moment; config = b.config.now; name = b.clocks_name.now; clocks = b.clocks.now }
 
 -- The manager has the users of the configuration, and the marks that the clocks file saves.
 pub record Begins (h : Handed) (begin : Held) : Type 0 where
@@ -54,7 +60,7 @@ Refuses h line = RefusesConfig h line ⊎ RefusesClocks h line
 
 -- why no manager begins
 abbrev pub TellsNoManager : Handed → NoManager → Type 0
-TellsNoManager h (Refused line) = Refuses h line.items
+TellsNoManager h (Refused output) = Refuses h output.out.items
 TellsNoManager h OutOfMemory = ⊤
 
 -- The log is replayed whole by the manager that the two texts give, and what is written is its text.
@@ -70,13 +76,14 @@ pub record Refusing (h : Handed) (s : Streams) : Type 0 where
   pub unread : s.left ≡ s.unread
   pub wrote : Appends s.held s.written line
 
--- what is written, and the status, by which lines are wanted
-abbrev pub ReplayAnswers : Printing → Handed → Streams → ℕ → Type 0
-ReplayAnswers p h s status = ((status ≡ 0) × Replayed p h s) ⊎ ((status ≡ 1) × Refusing h s)
+-- what is written where it ends, by which lines are wanted
+abbrev pub ReplayAnswers : Printing → Handed → Streams → ReplayEnd → Type 0
+ReplayAnswers p h s ends.Replayed = Replayed p h s
+ReplayAnswers p h s (ends.Refused why) = Refusing h s
 
 -- what is written before the log is read: a front of the line of a refusal, or nothing where memory is refused
 abbrev pub RefusalStopsBy : Handed → Streams → ReplayFault → Type 0
-RefusalStopsBy h s (faults.LogLine n) = ⊥
+RefusalStopsBy h s (faults.LogLine n why) = ⊥
 RefusalStopsBy h s faults.CannotRead = ⊥
 RefusalStopsBy h s faults.CannotWrite = (line : List ℕ) × Refuses h line × WritesFront s.held s.written line
 RefusalStopsBy h s faults.OutOfMemory = s.written ≡ s.held

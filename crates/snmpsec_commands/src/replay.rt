@@ -2,8 +2,8 @@
 //! saved clocks.
 
 ghost use Rattle.std.specs.Prelude.{◌≡◌, ◌≤◌, ℕ, decimal, IfErr, IfOk, IfSome, Some};
-ghost use Rattle.snmpsec_replay.specs.Replay.{from_line_1};
-ghost use Rattle.snmpsec_commands.specs.Replay.{Begins, Handed, ReplayAnswers, ReplayStopsBy, TellsNoManager};
+ghost use Rattle.snmpsec_replay.specs.Replay.{streams};
+ghost use Rattle.snmpsec_commands.specs.Replay.{Begins, ReplayAnswers, ReplayStopsBy, TellsNoManager, handed_of};
 ghost use Rattle.snmpsec_commands.specs.declared.replay.NoManager.TheVariants as none;
 
 use engine_clock::Clocks;
@@ -12,7 +12,7 @@ use snmp_manager::Manager;
 use snmpsec_config::Config;
 use snmpsec_io::write_whole;
 use snmpsec_output::{Output, refused_clocks};
-use snmpsec_replay::{Printing, ReplayFault};
+use snmpsec_replay::{Printing, ReplayFault, replay_as};
 use std::alloc::{AllocError, Global};
 use std::io::{BufRead, Write};
 use thiserror::Error;
@@ -20,9 +20,9 @@ use thiserror::Error;
 /// Why no manager begins.
 #[derive(Debug, Drop, Error)]
 enum NoManager {
-    /// A text is refused by this line.
+    /// A text is refused, by this line and what explains it.
     #[error("a text is refused")]
-    Refused(Vec<u8>),
+    Refused(Output),
     /// A growth of memory was refused.
     #[error("out of memory")]
     OutOfMemory,
@@ -37,7 +37,7 @@ impl From<AllocError> for NoManager {
 }
 
 /// The greatest number that the first line of a log may have.
-pub(crate) const GREATEST_FIRST: u64 = 1_000_000_000_000_000;
+const GREATEST_FIRST: u64 = 1_000_000_000_000_000;
 
 /// The number of a log's first line, 1 to 10^15, in decimal without sign or leading zeros.
 pub fn first_line_of(word: &str) -> Option<u64>
@@ -50,108 +50,58 @@ pub fn first_line_of(word: &str) -> Option<u64>
     }
 }
 
-/// What `snmpsec replay` does, with the status that it ends with: `replay_log` by a manager with the users of the
-/// configuration, which begins with the clocks that the clocks file saves, and status 0. The marks of a clocks file of
-/// version 1 were seen at `moment`, in seconds.
-///
-/// The configuration is looked at first, then the clocks file, then the log. One of the first two that is
-/// refused is told on the writer by one line, with status 1, and nothing is read of the log. The errors are
-/// those of `replay_log`.
-pub fn replay<R: BufRead, W: Write>(
-    alloc: Global,
-    moment: u64,
-    config: &[u8],
-    clocks_name: &str,
-    clocks: &[u8],
-    reader: &mut R,
-    writer: &mut W,
-) -> Result<u8, ReplayFault>
-    ensures ok { let handed : Handed = record {
-      moment = moment;
-      config = config.now;
-      name = clocks_name.now;
-      clocks = clocks.now;
-    } in
-        IfOk result (ReplayAnswers from_line_1 handed record {
-          unread = R.remaining reader.old;
-          left = R.remaining reader.new;
-          held = W.contents writer.old;
-          written = W.contents writer.new;
-        }) }
-    ensures err { let handed : Handed = record {
-      moment = moment;
-      config = config.now;
-      name = clocks_name.now;
-      clocks = clocks.now;
-    } in
-        IfErr result (ReplayStopsBy from_line_1 handed record {
-          unread = R.remaining reader.old;
-          left = R.remaining reader.new;
-          held = W.contents writer.old;
-          written = W.contents writer.new;
-        }) }
-{
-    let printing = Printing {
-        first: 1,
-        lines: true,
-    };
-    replay_as(
-        alloc,
-        moment,
-        printing,
-        config,
-        clocks_name,
-        clocks,
-        reader,
-        writer,
-    )
+/// The texts that a replay begins with.
+#[derive(Clone, Copy)]
+pub struct Beginning<'a> {
+    /// When the marks of a clocks file of version 1 were seen, in seconds.
+    pub moment: u64,
+    /// The configuration.
+    pub config: &'a [u8],
+    /// The name of the clocks file.
+    pub clocks_name: &'a str,
+    /// The clocks file.
+    pub clocks: &'a [u8],
 }
 
-/// The same with lines numbered from `printing.first`, at most 10^15; and where no lines are wanted, with the
-/// saved text alone.
-pub fn replay_as<R: BufRead, W: Write>(
+/// How a replay ends.
+#[derive(Debug, Drop)]
+pub enum ReplayEnd {
+    /// The log was replayed whole.
+    Replayed,
+    /// A text is refused, by the line that was written. With what is wrong and what is wanted, for `--why`.
+    Refused { why: Option<String> },
+}
+
+/// What `snmpsec replay` does: `snmpsec_replay::replay_as` by a manager with the users of the configuration, which
+/// begins with the clocks that the clocks file saves. Lines are numbered from `printing.first`, at most 10^15; if no
+/// lines are wanted, the saved text alone is written.
+///
+/// The configuration is looked at first, then the clocks file, then the log. If one of the first two is refused, one
+/// line is written, and nothing is read of the log. The errors are those of `snmpsec_replay::replay_as`.
+pub fn replay<R: BufRead, W: Write>(
     alloc: Global,
-    moment: u64,
+    beginning: Beginning<'_>,
     printing: Printing,
-    config: &[u8],
-    clocks_name: &str,
-    clocks: &[u8],
     reader: &mut R,
     writer: &mut W,
-) -> Result<u8, ReplayFault>
+) -> Result<ReplayEnd, ReplayFault>
     requires { printing.first ≤ 1000000000000000 }
-    ensures ok { let handed : Handed = record {
-      moment = moment;
-      config = config.now;
-      name = clocks_name.now;
-      clocks = clocks.now;
-    } in
-        IfOk result (ReplayAnswers printing handed record {
-          unread = R.remaining reader.old;
-          left = R.remaining reader.new;
-          held = W.contents writer.old;
-          written = W.contents writer.new;
-        }) }
-    ensures err { let handed : Handed = record {
-      moment = moment;
-      config = config.now;
-      name = clocks_name.now;
-      clocks = clocks.now;
-    } in
-        IfErr result (ReplayStopsBy printing handed record {
-          unread = R.remaining reader.old;
-          left = R.remaining reader.new;
-          held = W.contents writer.old;
-          written = W.contents writer.new;
-        }) }
+    ensures ok { IfOk result
+        (ReplayAnswers printing (handed_of beginning.entry)
+        (streams (R.remaining reader.old) (R.remaining reader.new) (W.contents writer.old)
+        (W.contents writer.new))) }
+    ensures err { IfErr result
+        (ReplayStopsBy printing (handed_of beginning.entry)
+        (streams (R.remaining reader.old) (R.remaining reader.new) (W.contents writer.old)
+        (W.contents writer.new))) }
 {
-    match manager_of(alloc, moment, config, clocks_name, clocks) {
-        Ok(manager) => match snmpsec_replay::replay_as(alloc, manager, printing, reader, writer) {
-            Ok(()) => Ok(0),
+    match manager_of(alloc, beginning) {
+        Ok(manager) => match replay_as(alloc, manager, printing, reader, writer) {
+            Ok(()) => Ok(ReplayEnd::Replayed),
             Err(fault) => Err(fault),
         },
-        Err(NoManager::Refused(line)) => match write_whole(writer, &line) {
-            Ok(()) => Ok(1),
+        Err(NoManager::Refused(output)) => match write_whole(writer, &output.out) {
+            Ok(()) => Ok(ReplayEnd::Refused { why: output.why }),
             Err(_) => Err(ReplayFault::CannotWrite),
         },
         Err(NoManager::OutOfMemory) => Err(ReplayFault::OutOfMemory),
@@ -159,35 +109,21 @@ pub fn replay_as<R: BufRead, W: Write>(
 }
 
 /// The manager with the users of the configuration and the clocks of the clocks file.
-fn manager_of(
-    alloc: Global,
-    moment: u64,
-    config: &[u8],
-    clocks_name: &str,
-    clocks: &[u8],
-) -> Result<Manager, NoManager>
-    ensures begins { let handed : Handed = record {
-      moment = moment;
-      config = config.now;
-      name = clocks_name.now;
-      clocks = clocks.now;
-    } in
-        IfOk result (λ manager. Begins handed manager) }
-    ensures refused { let handed : Handed = record {
-      moment = moment;
-      config = config.now;
-      name = clocks_name.now;
-      clocks = clocks.now;
-    } in
-        IfErr result (TellsNoManager handed) }
+fn manager_of(alloc: Global, beginning: Beginning<'_>) -> Result<Manager, NoManager>
+    ensures begins { IfOk result (Begins (handed_of beginning.entry)) }
+    ensures refused { IfErr result (TellsNoManager (handed_of beginning.entry)) }
 {
-    let config = match Config::read(alloc, config) {
+    let config = match Config::read(alloc, beginning.config) {
         Ok(config) => config,
         Err(fault) if fault.is_memory() => return Err(NoManager::OutOfMemory),
-        Err(fault) => return Err(NoManager::Refused(Output::refusal(alloc, &fault)?.out)),
+        Err(fault) => return Err(NoManager::Refused(Output::refusal(alloc, &fault)?)),
     };
-    match Clocks::read_saved(alloc, clocks, moment) {
+    let clocks = beginning.clocks;
+    match Clocks::read_saved(alloc, clocks, beginning.moment) {
         Ok(clocks) => Ok(Manager::new(alloc, config.users, clocks)),
-        Err(fault) => Err(NoManager::Refused(refused_clocks(alloc, clocks_name, fault)?.out)),
+        Err(fault) => {
+            let refused = refused_clocks(alloc, beginning.clocks_name, fault, clocks)?;
+            Err(NoManager::Refused(refused))
+        }
     }
 }

@@ -1,8 +1,10 @@
 //! `snmpsec import-snmpd`: the configuration that files of snmpd.conf come to.
 
 use snmpd_import::{Imported, Sources, TextFault, follow, import, is_serious, notes_text};
+use snmpd_tables::read_items;
 use snmpsec_cli::ImportWords;
-use snmpsec_commands::run::unread;
+use snmpsec_commands::Complaint;
+use snmpsec_io::load_file;
 use snmpsec_output::Output;
 use std::alloc::{AllocError, Global};
 use std::rt::Files;
@@ -26,29 +28,53 @@ fn contexts_of(alloc: Global, names: &[&str]) -> Result<Option<Vec<ContextRow>>,
     Ok(Some(contexts))
 }
 
+/// Puts the lines of a file behind those that are there.
+fn read_source<R: Files + AllocGlobal>(
+    rt: &R,
+    sources: &mut Sources,
+    name: &str,
+) -> Result<(), Complaint> {
+    match load_file(rt, name) {
+        Ok(text) => Ok(put_source(rt.alloc(), sources, name, &text)?),
+        Err(fault) => Err(Complaint::unread(rt.alloc(), name, fault)),
+    }
+}
+
+/// Puts the lines of a text behind those that are there.
+fn put_source(
+    alloc: Global,
+    sources: &mut Sources,
+    name: &str,
+    text: &[u8],
+) -> Result<(), AllocError> {
+    let mut items = read_items(alloc, sources.names.len(), text)?;
+    sources.names.push(String::from_str(alloc, name)?)?;
+    sources.items.append(&mut items)?;
+    Ok(())
+}
+
 /// Looks at the names of contexts before it opens a file, reads the files in their order and those that they
 /// name, and then prints the configuration. The first file that isn't read ends it.
 pub(crate) fn import_snmpd<R: Files + AllocGlobal>(
     rt: &R,
     words: &ImportWords<'_>,
-) -> Result<Output, AllocError> {
+) -> Result<Output, Complaint> {
     let alloc = rt.alloc();
     let Some(contexts) = contexts_of(alloc, words.contexts)? else {
-        return Output::complaint(alloc, "bad word NAME");
+        return Err(Complaint::line(alloc, "bad word NAME"));
     };
     let mut sources = Sources::new(alloc);
     for name in words.files {
-        if let Err(fault) = sources.read(rt, name) {
-            return unread(alloc, fault, name);
-        }
+        read_source(rt, &mut sources, name)?;
     }
     let Sources { names, items } = follow(rt, sources, words.no_include)?;
     match import(alloc, &names, items, contexts) {
-        Ok(done) => import_output(alloc, &names, done, words.strict),
-        Err(TextFault::OutOfMemory) => Err(AllocError),
-        Err(TextFault::NotReadBack) => {
-            Output::complaint(alloc, "the configuration isn't read back as it was written")
-        }
+        Ok(done) => Ok(import_output(alloc, &names, done, words.strict)?),
+        Err(TextFault::OutOfMemory) => Err(Complaint::OutOfMemory),
+        Err(TextFault::NotReadBack) => Err(Complaint::line(
+            alloc,
+            "the configuration isn't read back as it was written",
+        )),
     }
 }
 
@@ -65,5 +91,6 @@ fn import_output(
         out: done.text,
         err,
         status: if strict && is_told { 1 } else { 0 },
+        why: None,
     })
 }

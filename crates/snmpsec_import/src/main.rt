@@ -1,4 +1,5 @@
-//! `snmpsec import-snmpd`: prints the configuration that files of snmpd.conf make. It is a program of its own, which `snmpsec` starts.
+//! `snmpsec import-snmpd`: prints the configuration that files of snmpd.conf make. It is a program of its own, which
+//! `snmpsec` starts.
 #![tactic(auto)]
 
 use std::process::ExitCode;

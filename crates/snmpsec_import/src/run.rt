@@ -2,8 +2,8 @@
 
 use crate::import::import_snmpd;
 use clap::ArgMatches;
-use snmpsec_cli::{Command, arguments, asked_by, import_words, parse, words_of};
-use snmpsec_commands::run::{finish, usage, with_file_fault};
+use snmpsec_cli::{Command, arguments, asked_by, import_words, parse};
+use snmpsec_commands::run::{explain, finish, output_of, usage};
 use snmpsec_output::Output;
 use std::alloc::AllocError;
 use std::io::Write;
@@ -53,6 +53,7 @@ fn answer_matches<R: Files + AllocGlobal>(
             _ => Output::complaint(
                 rt.alloc(),
                 "this program has import-snmpd alone; run snmpsec",
+                None,
             ),
         },
         Err(fault) => usage(rt.alloc(), fault),
@@ -61,9 +62,7 @@ fn answer_matches<R: Files + AllocGlobal>(
 
 /// What import-snmpd prints, and after a file that can't be read why it can't.
 fn import<R: Files + AllocGlobal>(rt: &R, words: &ArgMatches<'_>) -> Result<Output, AllocError> {
-    let output = import_snmpd(rt, &import_words(words))?;
-    if output.status == 0 {
-        return Ok(output);
-    }
-    with_file_fault(rt, output, words_of(words, "FILE"))
+    let answered = import_snmpd(rt, &import_words(words));
+    let output = output_of(rt.alloc(), answered)?;
+    explain(rt.alloc(), output)
 }

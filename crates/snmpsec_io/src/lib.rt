@@ -19,10 +19,18 @@
 //! ```
 #![tactic(auto)]
 
+mod digits;
+mod fault;
 mod files;
+mod quoted;
 mod transfer;
+mod watched;
 mod whole;
 
-pub use files::{open_log, read_file};
+pub use digits::{DigitsFault, digits_fault, octet_digits_fault};
+pub use fault::ReadFault;
+pub use files::{load_file, open_log, read_file};
+pub use quoted::{Excerpt, Quoted};
 pub use transfer::{Failed, TRIES, read_full, read_octet, read_some, write_whole};
+pub use watched::Watched;
 pub use whole::{FILE_LIMIT, FileFault, read_whole, read_whole_behind};

@@ -6,3 +6,5 @@ pub mod Whos
 pub mod Seens
 pub mod Openings
 pub mod Determined
+pub mod NamedLines
+pub mod DottedParts

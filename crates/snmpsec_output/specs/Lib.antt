@@ -10,3 +10,5 @@ pub mod WhoSees
 pub mod Sees
 pub mod Lines
 pub mod Opening
+pub mod Variables
+pub mod Names

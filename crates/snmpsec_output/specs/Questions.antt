@@ -13,8 +13,8 @@ use Rattle.vacm_core.specs.Allowed.{Requester, Allowed}
 use Rattle.vacm_core.specs.Tables.{Tables}
 use Rattle.vacm_core.specs.declared.access.ViewType.{ViewType}
 use Rattle.vacm_core.specs.declared.access.Access.{Access}
-use Rattle.snmpsec_output.specs.declared.check.Argument.{Argument}
-use Rattle.snmpsec_output.specs.declared.check.Argument.TheVariants.{Model, Level as LevelWord, View, Oid}
+use Rattle.snmpsec_output.specs.declared.arguments.Argument.{Argument}
+use Rattle.snmpsec_output.specs.declared.arguments.Argument.TheVariants.{Model, Level as LevelWord, View, Oid}
 use Rattle.usm_users.specs.declared.load.UserRow.{UserRow}
 use Rattle.snmpsec_config.specs.declared.fault.ConfigFault.{ConfigFault}
 use Rattle.snmpsec_config.specs.Refusals.{SaysSound, RefusesText, refusal_line}

@@ -12,8 +12,8 @@ use Rattle.vacm_core.specs.declared.access.ViewType.TheVariants.{Read, Write, No
 use Rattle.snmpsec_config.specs.Refusals.{SaysSound}
 use Rattle.snmpsec_access.specs.Words.{view_word}
 use Rattle.snmpsec_access.specs.WhoSees.{TellsWho}
-use Rattle.snmpsec_output.specs.declared.check.Argument.{Argument}
-use Rattle.snmpsec_output.specs.declared.check.Argument.TheVariants.{Model, Level as LevelWord, View, Oid}
+use Rattle.snmpsec_output.specs.declared.arguments.Argument.{Argument}
+use Rattle.snmpsec_output.specs.declared.arguments.Argument.TheVariants.{Model, Level as LevelWord, View, Oid}
 use Rattle.snmpsec_output.specs.CheckConfig.{Explains}
 use Rattle.snmpsec_output.specs.Questions.{Printed, IsNoOid, IsNoView, argument_name}
 

@@ -4,11 +4,12 @@ ghost use Rattle.std.specs.Prelude.{◌≡◌, ◌++◌, [], IfOk, IfErr, codes,
 ghost use Rattle.std.specs.Str.{IsUtf8};
 ghost use Rattle.toml.specs.Parse.{parse_document};
 ghost use Rattle.vacm_core.specs.Allowed.{Requester, Allowed};
-ghost use Rattle.snmpsec_output.specs.Questions.{argument_name, Asked, Asks, IsContextWord, IsFirstWrong};
+ghost use Rattle.snmpsec_output.specs.Questions.{Asked, Asks, IsContextWord, IsFirstWrong};
 ghost use Rattle.snmpsec_output.specs.Questions.{ChecksAccess, Printed};
 ghost use Rattle.snmpsec_access.specs.Words.{access_word};
 ghost use Rattle.snmpsec_output.specs.Words.{access_status};
 
+use crate::arguments::{Argument, bad_word};
 use crate::output::Output;
 use crate::words::{model_of, status_of, view_of};
 use snmp_ber::{Level, Oid};
@@ -26,29 +27,6 @@ pub(crate) struct Question<'a> {
     pub(crate) view: ViewType,
     pub(crate) context: &'a str,
     pub(crate) variable: Oid,
-}
-
-/// An argument whose word has a form.
-#[derive(Clone, Copy, Debug, PartialEq, Eq)]
-pub(crate) enum Argument {
-    Model,
-    Level,
-    View,
-    Oid,
-}
-
-impl Argument {
-    /// Its name on the command line.
-    fn name(self) -> &'static str
-        ensures { result.now ≡ argument_name self }
-    {
-        match self {
-            Argument::Model => "MODEL",
-            Argument::Level => "LEVEL",
-            Argument::View => "VIEW",
-            Argument::Oid => "OID",
-        }
-    }
 }
 
 /// What `snmpsec check-access` prints for a configuration and the words MODEL, NAME, LEVEL, VIEW, CONTEXT and
@@ -72,7 +50,7 @@ pub fn check_text(alloc: Global, config: &[u8], words: &[&str; 6]) -> Result<Out
 {
     let question = match question_of(words) {
         Ok(question) => question,
-        Err(argument) => return bad_word(alloc, argument),
+        Err(argument) => return bad_word(alloc, argument, word_of(argument, words)),
     };
     match AccessConfig::read(alloc, config) {
         Ok(config) => answer_output(alloc, answer_of(&config.access, &question)),
@@ -124,17 +102,14 @@ fn context_of(word: &str) -> &str
     if word == "@" { "" } else { word }
 }
 
-/// The complaint of a word that is out of its form.
-pub(crate) fn bad_word(alloc: Global, argument: Argument) -> Result<Output, AllocError>
-    ensures out { IfOk result (λ output. output.out.items ≡ []) }
-    ensures err { IfOk result
-        (λ output. output.err.items
-        ≡ codes "snmpsec: " ++ ((codes "bad word " ++ argument_name argument) ++ codes "\n")) }
-    ensures status { IfOk result (λ output. output.status ≡ 2) }
-{
-    let name = argument.name();
-    let text = format!(in alloc; "bad word {name}")?;
-    Output::complaint(alloc, &text)
+/// The word of an argument.
+pub(crate) fn word_of<'a>(argument: Argument, words: &[&'a str; 6]) -> &'a str {
+    match argument {
+        Argument::Model => words[0],
+        Argument::Level => words[2],
+        Argument::View => words[3],
+        Argument::Oid => words[5],
+    }
 }
 
 /// The answer of these tables.

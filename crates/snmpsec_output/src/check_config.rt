@@ -67,6 +67,7 @@ fn counts_and_hints(alloc: Global, text: &[u8], rows: &ConfigRows) -> Result<Out
         out: counts.out,
         err: hints,
         status: counts.status,
+        why: None,
     })
 }
 
@@ -89,8 +90,8 @@ fn counts(alloc: Global, rows: &ConfigRows) -> Result<Output, AllocError>
     Ok(Output::out(alloc, text.into_bytes(), 0))
 }
 
-/// The line of a refusal, and what is wrong beside it.
-pub(crate) fn refusal_and_why(alloc: Global, fault: &ConfigFault) -> Result<Output, AllocError>
+/// The line of a refusal, and what is wrong beside it, on standard error, with status 1.
+pub fn refusal_and_why(alloc: Global, fault: &ConfigFault) -> Result<Output, AllocError>
     ensures out { IfOk result (λ output. output.out.items ≡ refusal_line fault.now ++ codes "\n") }
     ensures err { IfOk result
         (λ output. (why : List ℕ) × IsWhy fault.now why
@@ -104,5 +105,6 @@ pub(crate) fn refusal_and_why(alloc: Global, fault: &ConfigFault) -> Result<Outp
         out: out.into_bytes(),
         err: err.into_bytes(),
         status: 1,
+        why: None,
     })
 }

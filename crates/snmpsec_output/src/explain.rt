@@ -9,7 +9,8 @@ ghost use Rattle.snmpsec_output.specs.Steps.{context_lines};
 ghost use Rattle.snmpsec_access.specs.Words.{access_word};
 ghost use Rattle.snmpsec_output.specs.Words.{access_status};
 
-use crate::check::{Question, bad_word, question_of};
+use crate::arguments::bad_word;
+use crate::check::{Question, question_of, word_of};
 use crate::output::Output;
 use crate::steps::put_steps;
 use crate::words::status_of;
@@ -34,7 +35,7 @@ pub fn explain_text(alloc: Global, config: &[u8], words: &[&str; 6]) -> Result<O
 {
     let question = match question_of(words) {
         Ok(question) => question,
-        Err(argument) => return bad_word(alloc, argument),
+        Err(argument) => return bad_word(alloc, argument, word_of(argument, words)),
     };
     match AccessConfig::read(alloc, config) {
         Ok(config) => {

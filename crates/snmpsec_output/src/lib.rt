@@ -20,12 +20,18 @@
 //! ```
 #![tactic(auto)]
 
+mod arguments;
 mod check;
 mod check_config;
+mod choices;
+mod clocks;
+mod counters;
 mod explain;
 mod laws;
 mod lines;
 mod merge;
+mod messages;
+mod names;
 mod open;
 mod opened;
 mod output;
@@ -33,15 +39,18 @@ mod refusal_text;
 mod sees;
 mod show;
 mod steps;
+mod variables;
 mod who_sees;
 mod words;
 
+pub use arguments::argument_words;
 pub use check::check_text;
-pub use check_config::{check_config_hinted, check_config_text};
+pub use check_config::{check_config_hinted, check_config_text, refusal_and_why};
 pub use explain::explain_text;
 pub use laws::one_opening;
 pub use lines::{message_lines, octets_line, scoped_lines};
 pub use merge::{merge_text, refused_clocks};
+pub use names::with_names;
 pub use open::{open_datagram, open_text};
 pub use opened::opened_lines;
 pub use output::Output;

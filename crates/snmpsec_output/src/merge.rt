@@ -4,6 +4,7 @@ ghost use Rattle.std.specs.Prelude.{map, IfOk, string_bytes};
 ghost use Rattle.snmpsec_output.specs.Merge.{TellsFault, MergeAnswers};
 ghost use Rattle.snmpsec_output.specs.Questions.{Printed};
 
+use crate::clocks::clocks_words;
 use crate::output::Output;
 use engine_clock::laws::absorbing_each_text_merges;
 use engine_clock::{ClockFault, Clocks};
@@ -31,15 +32,21 @@ pub fn merge_text(
     'files: for file in files {
         let clocks = match Clocks::read_saved(alloc, &file.1, moment) {
             Ok(clocks) => clocks,
-            Err(fault) => return refused_clocks(alloc, &file.0, fault),
+            Err(fault) => return refused_clocks(alloc, &file.0, fault, &file.1),
         };
         joined.absorb(&clocks)?;
     }
     Ok(Output::out(alloc, joined.save()?, 0))
 }
 
-/// The line for a file that isn't a saved text, on standard output, and status 1.
-pub fn refused_clocks(alloc: Global, name: &str, fault: ClockFault) -> Result<Output, AllocError>
+/// The line for a file that isn't the saved text that it should be, on standard output, with what is wrong with its
+/// faulty line, and status 1.
+pub fn refused_clocks(
+    alloc: Global,
+    name: &str,
+    fault: ClockFault,
+    octets: &[u8],
+) -> Result<Output, AllocError>
     ensures { IfOk result
         (λ output. let printed : Printed = record {
           out = output.out.items;
@@ -50,8 +57,9 @@ pub fn refused_clocks(alloc: Global, name: &str, fault: ClockFault) -> Result<Ou
 {
     match fault {
         ClockFault::Line(line) => {
+            let why = clocks_words(alloc, octets, line)?;
             let text = format!(in alloc; "refused clocks {name} line {line}\n")?;
-            Ok(Output::out(alloc, text.into_bytes(), 1))
+            Ok(Output::refuse(alloc, text, Some(why)))
         }
         ClockFault::OutOfMemory => Err(AllocError),
     }

@@ -4,6 +4,7 @@ ghost use Rattle.std.specs.Prelude.{◌≡◌, IfOk};
 ghost use Rattle.snmpsec_output.specs.Questions.{Printed};
 ghost use Rattle.snmpsec_output.specs.Open.{OpensBy, OpensText};
 
+use crate::arguments::bad_digits;
 use crate::opened::opened_lines;
 use crate::output::Output;
 use crate::show::{datagram_of, refused_output};
@@ -27,7 +28,7 @@ pub fn open_text(alloc: Global, config: &[u8], digits: &str) -> Result<Output, A
         OpensText config.now digits.now printed) }
 {
     let Some(datagram) = datagram_of(alloc, digits)? else {
-        return Output::complaint(alloc, "bad word HEX");
+        return bad_digits(alloc, digits);
     };
     match Config::read(alloc, config) {
         Ok(mut config) => open_datagram(alloc, &mut config.users, &datagram),
@@ -53,6 +54,6 @@ pub fn open_datagram(
 {
     match opened_lines(alloc, users, datagram) {
         Ok(lines) => Ok(Output::out(alloc, lines.into_bytes(), 0)),
-        Err(fault) => refused_output(alloc, fault),
+        Err(fault) => refused_output(alloc, fault, datagram),
     }
 }

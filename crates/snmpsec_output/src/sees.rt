@@ -7,7 +7,7 @@ ghost use Rattle.snmpsec_access.specs.Seen.{TellsSeen};
 ghost use Rattle.snmpsec_output.specs.Questions.{Printed};
 ghost use Rattle.snmpsec_output.specs.Sees.{PrintsSeen};
 
-use crate::check::{Argument, bad_word};
+use crate::arguments::{Argument, bad_word};
 use crate::check_config::refusal_and_why;
 use crate::output::Output;
 use crate::words::model_of;
@@ -36,11 +36,11 @@ pub fn sees_text(
         } in
         PrintsSeen config.now model.now name.now printed) }
 {
-    let Some(model) = model_of(model) else {
-        return bad_word(alloc, Argument::Model);
+    let Some(number) = model_of(model) else {
+        return bad_word(alloc, Argument::Model, model);
     };
     match AccessConfig::read(alloc, config) {
-        Ok(config) => list_seen(alloc, &config, model, name.as_bytes()),
+        Ok(config) => list_seen(alloc, &config, number, name.as_bytes()),
         Err(fault) if fault.is_memory() => Err(AllocError),
         Err(fault) => refusal_and_why(alloc, &fault),
     }

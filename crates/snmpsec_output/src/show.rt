@@ -10,7 +10,9 @@ ghost use Rattle.snmpsec_output.specs.Show.{contents_lines};
 ghost use Rattle.snmpsec_output.specs.Questions.{Printed};
 ghost use Rattle.snmpsec_output.specs.Refusals.{refused_line};
 
+use crate::arguments::bad_digits;
 use crate::lines::{message_lines, octets_line, scoped_lines};
+use crate::messages::cut_message;
 use crate::output::Output;
 use crate::refusal_text::RefusalText;
 use hex::FromHexError;
@@ -103,7 +105,7 @@ pub fn show_text(alloc: Global, digits: &str) -> Result<Output, AllocError>
         ShowsText digits.now printed) }
 {
     let Some(datagram) = datagram_of(alloc, digits)? else {
-        return Output::complaint(alloc, "bad word HEX");
+        return bad_digits(alloc, digits);
     };
     show_datagram(alloc, &datagram)
 }
@@ -120,12 +122,17 @@ pub fn show_datagram(alloc: Global, datagram: &[u8]) -> Result<Output, AllocErro
 {
     match message_text(alloc, datagram) {
         Ok(text) => Ok(Output::out(alloc, text.into_bytes(), 0)),
-        Err(refused) => refused_output(alloc, refused),
+        Err(refused) => refused_output(alloc, refused, datagram),
     }
 }
 
-/// The line for a refused message. Want of memory is handed on.
-pub(crate) fn refused_output(alloc: Global, refused: RefusedAt) -> Result<Output, AllocError>
+/// The line for a refused message, explained where the message says more octets than the datagram has. Want of memory
+/// is handed on.
+pub(crate) fn refused_output(
+    alloc: Global,
+    refused: RefusedAt,
+    datagram: &[u8],
+) -> Result<Output, AllocError>
     ensures line { IfOk result (λ output. output.out.items ≡ refused_line refused) }
     ensures err { IfOk result (λ output. output.err.items ≡ []) }
     ensures status { IfOk result (λ output. output.status ≡ 1) }
@@ -134,7 +141,11 @@ pub(crate) fn refused_output(alloc: Global, refused: RefusedAt) -> Result<Output
     if refused.refusal == Refusal::OutOfMemory {
         return Err(AllocError);
     }
+    let why = match cut_message(datagram) {
+        Some(cut) => Some(format!(in alloc; "{cut}")?),
+        None => None,
+    };
     let text = RefusalText { refused };
     let line = format!(in alloc; "{text}\n")?;
-    Ok(Output::out(alloc, line.into_bytes(), 1))
+    Ok(Output::refuse(alloc, line, why))
 }

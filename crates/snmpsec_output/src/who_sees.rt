@@ -7,7 +7,7 @@ ghost use Rattle.snmpsec_access.specs.WhoSees.{AnswerFor, TellsWho};
 ghost use Rattle.snmpsec_output.specs.Questions.{Printed};
 ghost use Rattle.snmpsec_output.specs.WhoSees.{PrintsWho, WhoWords, AsksWho, IsFirstWrong, views_of, line_status};
 
-use crate::check::{Argument, bad_word};
+use crate::arguments::{Argument, bad_word};
 use crate::check_config::refusal_and_why;
 use crate::output::Output;
 use crate::words::view_of;
@@ -43,7 +43,8 @@ pub fn who_text(
 {
     let asked = match asked_of(variable, view) {
         Ok(asked) => asked,
-        Err(argument) => return bad_word(alloc, argument),
+        Err(Argument::View) => return bad_word(alloc, Argument::View, view.unwrap_or("")),
+        Err(argument) => return bad_word(alloc, argument, variable),
     };
     match AccessConfig::read(alloc, config) {
         Ok(config) => list_askers(alloc, &config, &asked, only_users),

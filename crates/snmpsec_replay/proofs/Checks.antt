@@ -62,5 +62,5 @@ pub stops : (unread left : Option (List ℕ)) (k : ℕ) → ReadsLog unread left
     → StopsLog unread left' fault
 stops unread left k r left' faults.CannotRead h = ends unread left k r left' (λ es part. Lacks 10 part) h.0 h.2 (λ es n. h.1)
 stops unread left k r left' faults.OutOfMemory h = tt
-stops unread left k r left' (faults.LogLine n) h = absurd h
+stops unread left k r left' (faults.LogLine n why) h = absurd h
 stops unread left k r left' faults.CannotWrite h = absurd h

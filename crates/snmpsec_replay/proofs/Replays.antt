@@ -224,7 +224,7 @@ saves {begin = begin} {now = now} {unread = unread} {left = left} {held = held} 
 pub save_fails : {p : Printing} {begin now : Held} {unread left held written : Option (List ℕ)}
     → Stands p begin (streams unread left held written) (IsEnd left) now
     → (written' : Option (List ℕ)) (e : ReplayFault) → SavesUnless (listing now.clocks) written written' e → StopsBy p begin (streams unread left held written') e
-save_fails s written' (fault.LogLine m) h = absurd h
+save_fails s written' (fault.LogLine m why) h = absurd h
 save_fails s written' fault.CannotRead h = absurd h
 save_fails {now = now} s written' fault.CannotWrite (front, rest, cut, some, a) = record {
   text = s.text;
@@ -247,7 +247,7 @@ pub ends_write_fails : (p : Printing) (begin now : Held) (unread left held writt
     → Ends p begin now (streams unread left held written) waiting e
     → (written' : Option (List ℕ)) → WritesFront written written' waiting → WriteFails p begin (streams unread left held written')
 ends_write_fails p begin now unread left held written waiting ending.Whole h written' w = write_fails h (λ es part is. part_none part is.0) written' w
-ends_write_fails p begin now unread left held written waiting (ending.LogLine n) h written' w = write_fails h.1 (λ es part is. is.line) written' w
+ends_write_fails p begin now unread left held written waiting (ending.LogLine n why) h written' w = write_fails h.1 (λ es part is. is.line) written' w
 ends_write_fails p begin now unread left held written waiting ending.CannotRead h written' w = write_fails h.1 (λ es part is. part_plain part is) written' w
 ends_write_fails p begin now unread left held written waiting ending.OutOfMemory h written' w = write_fails h.1 (λ es part is. wanted_part left es part is) written' w
 
@@ -269,7 +269,7 @@ pub ends_behind : {p : Printing} {begin now : Held} {unread left held written : 
     → Waits p begin (streams unread left held written) waiting (IsNext k) now
     → k ≡ 1000000 → (left' : Option (List ℕ)) (e : Ending) → EndsBehind (p.first + 1000000) left left' e → Ends p begin now (streams unread left' held written) waiting e
 ends_behind w past left' ending.Whole h = reads_part w left' (IsEnd left') [] _ h.0 refl (λ es n. (refl, h.1))
-ends_behind {p = p} {now = now} {k = k} w past left' (ending.LogLine m) h =
+ends_behind {p = p} {now = now} {k = k} w past left' (ending.LogLine m why) h =
     (now, rw h.1 (reads_part w left' (IsBad p left' (p.first + 1000000)) (h.0 ∷ []) _ h.2 refl (bad_number p left' k h.0 (cases_eq h.0 10) past)))
 ends_behind {now = now} {left = left} w past left' ending.CannotRead h =
     (now, reads_part w left' (λ es part. Lacks 10 part) [] _ (kept_none left left' h) refl (λ es n. tt))

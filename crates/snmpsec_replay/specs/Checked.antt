@@ -37,7 +37,7 @@ TellsLog unread left (logs.Faulty n why) = ReadsLog unread left (IsBad from_line
 abbrev pub StopsLog : Option (List ℕ) → Option (List ℕ) → ReplayFault → Type 0
 StopsLog unread left faults.CannotRead = ReadsLog unread left (λ es part. Lacks 10 part)
 StopsLog unread left faults.OutOfMemory = ⊤
-StopsLog unread left (faults.LogLine n) = ⊥
+StopsLog unread left (faults.LogLine n why) = ⊥
 StopsLog unread left faults.CannotWrite = ⊥
 
 -- ---- one line
@@ -46,7 +46,7 @@ StopsLog unread left faults.CannotWrite = ⊥
 abbrev pub StopsLine : Option (List ℕ) → Option (List ℕ) → ReplayFault → Type 0
 StopsLine unread left faults.CannotRead = ReadsPart unread left
 StopsLine unread left faults.OutOfMemory = ⊤
-StopsLine unread left (faults.LogLine n) = ⊥
+StopsLine unread left (faults.LogLine n why) = ⊥
 StopsLine unread left faults.CannotWrite = ⊥
 
 -- A line with its line feed says something, or is faulty.

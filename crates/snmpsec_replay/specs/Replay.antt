@@ -131,7 +131,7 @@ MayWant left es part = ((part ≡ []) × ((es ≡ []) ⊎ IsAtEnd left))
 
 -- what a replay by the manager `begin` has done where it stops with a fault
 abbrev pub StopsBy : Printing → Held → Streams → ReplayFault → Type 0
-StopsBy p begin s (fault.LogLine n) = (after : Held) × Stands p begin s (IsBad p s.left n) after
+StopsBy p begin s (fault.LogLine n why) = (after : Held) × Stands p begin s (IsBad p s.left n) after
 StopsBy p begin s fault.CannotRead = (after : Held) × Stands p begin s (λ es part. Lacks 10 part) after
 StopsBy p begin s fault.CannotWrite = WriteFails p begin s
 StopsBy p begin s fault.OutOfMemory = (after : Held) × Stands p begin s (MayWant s.left) after
@@ -150,7 +150,7 @@ pub record Waits (p : Printing) (begin : Held) (s : Streams) (waiting : List ℕ
 -- where the lines end, with what is not yet written
 abbrev pub Ends : Printing → Held → Held → Streams → List ℕ → Ending → Type 0
 Ends p begin now s waiting ending.Whole = Waits p begin s waiting (IsEnd s.left) now
-Ends p begin now s waiting (ending.LogLine n) = (after : Held) × Waits p begin s waiting (IsBad p s.left n) after
+Ends p begin now s waiting (ending.LogLine n why) = (after : Held) × Waits p begin s waiting (IsBad p s.left n) after
 Ends p begin now s waiting ending.CannotRead = (after : Held) × Waits p begin s waiting (λ es part. Lacks 10 part) after
 Ends p begin now s waiting ending.OutOfMemory = (after : Held) × Waits p begin s waiting (MayWant s.left) after
 
@@ -158,7 +158,7 @@ Ends p begin now s waiting ending.OutOfMemory = (after : Held) × Waits p begin 
 -- of line n.
 abbrev pub EndsBehind : ℕ → Option (List ℕ) → Option (List ℕ) → Ending → Type 0
 EndsBehind n unread left ending.Whole = Consumes unread left [] × IsAtEnd left
-EndsBehind n unread left (ending.LogLine m) = (x : ℕ) × (m ≡ n) × Consumes unread left (x ∷ [])
+EndsBehind n unread left (ending.LogLine m why) = (x : ℕ) × (m ≡ n) × Consumes unread left (x ∷ [])
 EndsBehind n unread left ending.CannotRead = Keeps unread left
 EndsBehind n unread left ending.OutOfMemory = ⊥
 
@@ -167,12 +167,12 @@ abbrev pub AnswersLine : Bool → Held → ℕ → List ℕ → List ℕ → Hel
 AnswersLine lines old n line waited new waits step.Answered =
     (e : LogEntry) × (outcome : Outcome) × IsLine line e × TakesOne old e.moment e.datagram outcome new
     × (waits ≡ waited ++ printed_line lines n e.moment outcome)
-AnswersLine lines old n line waited new waits step.OutOfForm = ((e : LogEntry) → IsLine line e → ⊥) × (waits ≡ waited)
+AnswersLine lines old n line waited new waits (step.OutOfForm why) = ((e : LogEntry) → IsLine line e → ⊥) × (waits ≡ waited)
 AnswersLine lines old n line waited new waits step.OutOfMemory = waits ≡ waited
 
 -- what the saved text has done where it stops
 abbrev pub SavesUnless : List ℕ → Option (List ℕ) → Option (List ℕ) → ReplayFault → Type 0
-SavesUnless text old new (fault.LogLine m) = ⊥
+SavesUnless text old new (fault.LogLine m why) = ⊥
 SavesUnless text old new fault.CannotRead = ⊥
 SavesUnless text old new fault.CannotWrite = WritesFront old new text
 SavesUnless text old new fault.OutOfMemory = Keeps old new

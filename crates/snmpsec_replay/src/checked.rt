@@ -5,31 +5,30 @@ ghost use Rattle.snmpsec_replay.specs.Checked.{TellsLog, TellsLine, TellsEntry, 
 ghost use Rattle.snmpsec_replay.specs.declared.fault.ReplayFault.TheVariants as faults;
 
 use crate::fault::ReplayFault;
-use crate::line_fault::{LineFault, line_fault};
+use crate::line_fault::{LogLineFault, line_fault};
 use crate::log::{LINE_LIMIT, LINES_LIMIT, NextLine, read_entry, read_line};
 use snmpsec_io::read_octet;
-use snmpsec_notes::text_of;
 use std::alloc::Global;
 use std::io::BufRead;
 
 /// What a text is to `replay_log`.
-#[derive(Debug, PartialEq, Eq, Drop)]
+#[derive(Clone, Copy, Debug, PartialEq, Eq, Drop)]
 pub enum CheckedLog {
     /// A log of so many lines.
     Whole(u64),
     /// The line of this number, from 1, is the first that is none; and what is wrong with it.
-    Faulty { number: u64, why: String },
+    Faulty { number: u64, why: LogLineFault },
 }
 
 /// What is next in a log.
-#[derive(Drop)]
+#[derive(Clone, Copy, Drop)]
 pub(crate) enum CheckedLine {
     /// A line.
     Sound,
     /// Nothing.
     End,
     /// What is no line, and why.
-    Faulty(String),
+    Faulty(LogLineFault),
 }
 
 /// Reads a log line by line as `replay_log` does, and takes nothing of it: how many lines it has, or which is
@@ -58,8 +57,8 @@ pub fn check_log<R: BufRead>(alloc: Global, reader: &mut R) -> Result<CheckedLog
         return Err(ReplayFault::CannotRead);
     };
     if next.is_some() {
-        let why = fault_text(alloc, LineFault::TooManyLines)?;
         let number = LINES_LIMIT + 1;
+        let why = LogLineFault::TooManyLines;
         return Ok(CheckedLog::Faulty { number, why });
     }
     Ok(CheckedLog::Whole(LINES_LIMIT))
@@ -82,14 +81,8 @@ fn check_line<R: BufRead>(
     match next {
         NextLine::Whole => check_entry(alloc, line),
         NextLine::End => Ok(CheckedLine::End),
-        NextLine::TooLong => {
-            let why = fault_text(alloc, LineFault::TooLong)?;
-            Ok(CheckedLine::Faulty(why))
-        }
-        NextLine::NoLineFeed => {
-            let why = why_line(alloc, line, LineFault::NoLineFeed)?;
-            Ok(CheckedLine::Faulty(why))
-        }
+        NextLine::TooLong => Ok(CheckedLine::Faulty(LogLineFault::TooLong)),
+        NextLine::NoLineFeed => Ok(CheckedLine::Faulty(line_fault(line))),
     }
 }
 
@@ -104,29 +97,5 @@ fn check_entry(alloc: Global, line: &[u8]) -> Result<CheckedLine, ReplayFault>
     if entry.is_some() {
         return Ok(CheckedLine::Sound);
     }
-    let why = why_line(alloc, line, LineFault::Words)?;
-    Ok(CheckedLine::Faulty(why))
-}
-
-/// What is wrong with the words of a line, or else this.
-fn why_line(alloc: Global, line: &[u8], other: LineFault<'_>) -> Result<String, ReplayFault>
-    ensures err { IfErr result (λ fault. fault ≡ faults.OutOfMemory) }
-{
-    let Ok(text) = text_of(alloc, line) else {
-        return Err(ReplayFault::OutOfMemory);
-    };
-    match line_fault(&text) {
-        Some(fault) => fault_text(alloc, fault),
-        None => fault_text(alloc, other),
-    }
-}
-
-/// A fault in words.
-fn fault_text(alloc: Global, fault: LineFault<'_>) -> Result<String, ReplayFault>
-    ensures err { IfErr result (λ fault. fault ≡ faults.OutOfMemory) }
-{
-    match format!(in alloc; "{fault}") {
-        Ok(why) => Ok(why),
-        Err(_) => Err(ReplayFault::OutOfMemory),
-    }
+    Ok(CheckedLine::Faulty(line_fault(line)))
 }

@@ -1,14 +1,15 @@
 //! Why a replay stops.
 
+use crate::line_fault::LogLineFault;
 use thiserror::Error;
 
 /// Why a replay stops before its end.
 #[derive(Clone, Copy, Debug, PartialEq, Eq, Drop, Error)]
 pub enum ReplayFault {
     /// The line of this number is the first out of its form, or past the limits. Lines are numbered from 1,
-    /// or from the number that was asked for.
+    /// or from the number that was asked for. Beside it stands what is wrong with it.
     #[error("log line {0}")]
-    LogLine(u64),
+    LogLine(u64, LogLineFault),
     /// A read failed.
     #[error("cannot read the log")]
     CannotRead,

@@ -28,5 +28,6 @@ mod replay;
 pub use checked::{CheckedLog, check_log};
 pub use fault::ReplayFault;
 pub use laws::{one_log, pieces_of_logs_are_joined};
+pub use line_fault::LogLineFault;
 pub use printing::Printing;
 pub use replay::{replay_as, replay_log};

@@ -1,63 +1,71 @@
 //! Why a line is no line of a log, in words for whoever wrote it.
 
 use crate::log::{LINE_LIMIT, LINES_LIMIT};
-use snmp_ber::read_decimal;
-use snmpsec_notes::{DigitsFault, Quoted, digits_fault};
+use snmp_ber::{read_decimal, split_once};
+use snmpsec_io::{DigitsFault, Excerpt, octet_digits_fault};
 use std::fmt;
 
-/// Why a line of a log is out of its form.
+/// Why a line of a log is out of its form. It has the beginning of the value that is at fault, and no memory.
 #[derive(Clone, Copy, Debug, PartialEq, Eq, Drop)]
-pub(crate) enum LineFault<'a> {
+pub enum LogLineFault {
+    /// The log has over 1,000,000 lines.
     TooManyLines,
+    /// The line has over 131,072 octets.
     TooLong,
+    /// A carriage return stands before the line feed.
     CarriageReturn,
+    /// It isn't two words with one blank between.
     Words,
-    Moment(&'a str),
-    Digits(&'a str, DigitsFault),
+    /// The first word is no moment.
+    Moment(Excerpt),
+    /// The second word isn't pairs of hex digits.
+    Digits(Excerpt, DigitsFault),
+    /// The last line has no line feed.
     NoLineFeed,
 }
 
-/// What is wrong with a line, given without its line feed. None where nothing is.
-pub(crate) fn line_fault(line: &str) -> Option<LineFault<'_>> {
-    if line.ends_with('\r') {
-        return Some(LineFault::CarriageReturn);
+/// What is wrong with a line that says nothing, given without its line feed: the first fault from its beginning, and
+/// that its line feed is missing if there is no other.
+pub(crate) fn line_fault(line: &[u8]) -> LogLineFault {
+    if line.ends_with(b"\r") {
+        return LogLineFault::CarriageReturn;
     }
-    let Some((moment, digits)) = line.split_once(' ') else {
-        return Some(LineFault::Words);
+    let Some((moment, digits)) = split_once(line, b' ') else {
+        return LogLineFault::Words;
     };
-    if digits.contains(' ') {
-        return Some(LineFault::Words);
+    if digits.contains(&b' ') {
+        return LogLineFault::Words;
     }
-    if read_decimal(moment.as_bytes(), u64::MAX).is_none() {
-        return Some(LineFault::Moment(moment));
+    if read_decimal(moment, u64::MAX).is_none() {
+        return LogLineFault::Moment(Excerpt::of(moment));
     }
-    match digits_fault(digits) {
-        Some(fault) => Some(LineFault::Digits(digits, fault)),
-        None => None,
+    match octet_digits_fault(digits) {
+        Some(fault) => LogLineFault::Digits(Excerpt::of(digits), fault),
+        None => LogLineFault::NoLineFeed,
     }
 }
 
-impl fmt::Display for LineFault<'_> {
+impl fmt::Display for LogLineFault {
     fn fmt<W: fmt::Write>(&self, f: &mut fmt::Formatter<W>) -> fmt::Result {
         match self {
-            LineFault::TooManyLines => {
+            LogLineFault::TooManyLines => {
                 write!(
                     f,
                     "a log has at most {LINES_LIMIT} lines: split it, and merge the clocks"
                 )
             }
-            LineFault::TooLong => write!(f, "it has over {LINE_LIMIT} octets"),
-            LineFault::CarriageReturn => write!(f, "a carriage return before the line feed"),
-            LineFault::Words => write!(f, "MOMENT, one blank and HEX are wanted"),
-            LineFault::Moment(word) => {
-                let (word, most) = (Quoted(word), u64::MAX);
+            LogLineFault::TooLong => write!(f, "it has over {LINE_LIMIT} octets"),
+            LogLineFault::CarriageReturn => write!(f, "a carriage return before the line feed"),
+            LogLineFault::Words => write!(f, "MOMENT, one blank and HEX are wanted"),
+            LogLineFault::Moment(word) => {
+                let most = u64::MAX;
                 write!(
                     f,
                     "MOMENT {word}: whole seconds from 0 to {most} are wanted, without 0 in front"
                 )
             }
-            LineFault::Digits(word, fault) => write!(f, "HEX {}: {fault}", Quoted(word)),
-            LineFault::NoLineFeed => write!(f, "it has no line feed at its end"),
+            LogLineFault::Digits(word, fault) => write!(f, "HEX {word}: {fault}"),
+            LogLineFault::NoLineFeed => write!(f, "it has no line feed at its end"),
         }
     }
 }

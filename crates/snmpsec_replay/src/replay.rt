@@ -8,6 +8,7 @@ ghost use Rattle.snmpsec_replay.specs.Replay.{WriteFails, WritesSome, answer_lin
 ghost use Rattle.snmpsec_replay.specs.Replay.{printed_line, streams};
 
 use crate::fault::ReplayFault;
+use crate::line_fault::{LogLineFault, line_fault};
 use crate::log::{LINE_LIMIT, LINES_LIMIT, NextLine, read_entry, read_line};
 use crate::printing::Printing;
 use snmp_manager::{Manager, Outcome};
@@ -24,8 +25,8 @@ const PIECE: usize = 8_192;
 pub(crate) enum Ending {
     /// Each line was taken.
     Whole,
-    /// The line of this number is out of its form or past the limits.
-    LogLine(u64),
+    /// The line of this number is out of its form or past the limits, and why.
+    LogLine(u64, LogLineFault),
     /// A read failed.
     CannotRead,
     /// A growth of memory was refused.
@@ -37,8 +38,8 @@ pub(crate) enum Ending {
 pub(crate) enum Step {
     /// Its datagram was taken.
     Answered,
-    /// It is no line of a log.
-    OutOfForm,
+    /// It is no line of a log, and why.
+    OutOfForm(LogLineFault),
     /// A growth of memory was refused.
     OutOfMemory,
 }
@@ -110,7 +111,7 @@ fn answer(
         return Step::OutOfMemory;
     };
     let Some(entry) = entry else {
-        return Step::OutOfForm;
+        return Step::OutOfForm(line_fault(line));
     };
     let Ok(outcome) = manager.take_one(entry.moment, &entry.datagram) else {
         return Step::OutOfMemory;
@@ -143,7 +144,7 @@ fn end_behind<R: BufRead>(reader: &mut R, number: u64) -> Ending
 {
     match read_octet(reader) {
         Ok(None) => Ending::Whole,
-        Ok(Some(_)) => Ending::LogLine(number),
+        Ok(Some(_)) => Ending::LogLine(number, LogLineFault::TooManyLines),
         Err(_) => Ending::CannotRead,
     }
 }
@@ -179,12 +180,12 @@ fn answer_lines<R: BufRead, W: Write>(
         match next {
             NextLine::Whole => {}
             NextLine::End => return Ok(Ending::Whole),
-            NextLine::TooLong => return Ok(Ending::LogLine(number)),
-            NextLine::NoLineFeed => return Ok(Ending::LogLine(number)),
+            NextLine::TooLong => return Ok(Ending::LogLine(number, LogLineFault::TooLong)),
+            NextLine::NoLineFeed => return Ok(Ending::LogLine(number, line_fault(&line))),
         }
         match answer(alloc, manager, printing.lines, number, &line, waiting) {
             Step::Answered => {}
-            Step::OutOfForm => return Ok(Ending::LogLine(number)),
+            Step::OutOfForm(why) => return Ok(Ending::LogLine(number, why)),
             Step::OutOfMemory => return Ok(Ending::OutOfMemory),
         }
         let Ok(()) = write_piece(writer, waiting) else {
@@ -214,7 +215,7 @@ fn save<W: Write>(manager: &Manager, writer: &mut W) -> Result<(), ReplayFault>
 /// what the manager holds. It holds one line at a time, of at most 131,072 octets, and reads at most
 /// 1,000,000. A reader that doesn't read ahead is given in a `BufReader`.
 ///
-/// The errors are LogLine(n), where line n is the first that is out of its form or past these limits;
+/// The errors are LogLine(n, why), where line n is the first that is out of its form or past these limits;
 /// CannotRead and CannotWrite, where a read or a write fails, or is interrupted 1,000 times in a row; and
 /// OutOfMemory. Before each of them but CannotWrite the lines of all datagrams that were taken are written,
 /// and no saved text.
@@ -241,7 +242,7 @@ pub fn replay_log<R: BufRead, W: Write>(
     replay_as(alloc, manager, printing, reader, writer)
 }
 
-/// The same with lines numbered from `printing.first`, at most 10^15, in what is written and in LogLine(n);
+/// The same with lines numbered from `printing.first`, at most 10^15, in what is written and in LogLine;
 /// and where no lines are wanted, with the saved text alone. So a log of more lines can be replayed in
 /// pieces, whose lines go on in number.
 pub fn replay_as<R: BufRead, W: Write>(
@@ -272,7 +273,7 @@ pub fn replay_as<R: BufRead, W: Write>(
     };
     match ending {
         Ending::Whole => save(&manager, writer),
-        Ending::LogLine(number) => Err(ReplayFault::LogLine(number)),
+        Ending::LogLine(number, why) => Err(ReplayFault::LogLine(number, why)),
         Ending::CannotRead => Err(ReplayFault::CannotRead),
         Ending::OutOfMemory => Err(ReplayFault::OutOfMemory),
     }

@@ -1,7 +1,7 @@
 //! Captures and pasted texts that are read and written by readers and writers that are interrupted or fail.
 
 use super::streams::{Calls, Choppy, Slow};
-use capture_datagrams::datagrams::{Unread, datagrams};
+use capture_datagrams::datagrams::Unread;
 use capture_datagrams::forms::{Form, ReadOptions, datagrams_of};
 use capture_datagrams::shown::{Printout, write_printout};
 use std::alloc::{AllocError, Global};
@@ -51,7 +51,13 @@ fn read_capture(
     log: &mut Choppy<'_>,
     notes: &mut Choppy<'_>,
 ) -> Result<Result<u8, Unread>, AllocError> {
-    without_memory_faults(datagrams(alloc, ports, "c", reader, log, notes))
+    let asked = ReadOptions {
+        form: Some(Form::Pcap),
+        moment: 0,
+        ports,
+        name: "c",
+    };
+    without_memory_faults(datagrams_of(alloc, asked, reader, log, notes))
 }
 
 const SNMP: [u16; 2] = [161, 162];
@@ -182,12 +188,13 @@ datagram 2 1700000002
 refused 1 NotMessage at 5
 ";
 
-/// Asks for the datagrams of port 161, at the timestamp 7.
+/// Asks for the datagrams of port 161 of the file `f`, at the timestamp 7.
 const fn asked(form: Option<Form>) -> ReadOptions<'static> {
     ReadOptions {
         form,
         moment: 7,
         ports: &[161],
+        name: "f",
     }
 }
 
@@ -199,7 +206,7 @@ fn show(
     notes: &mut Choppy<'_>,
 ) -> Result<Result<u8, Unread>, AllocError> {
     let shown = Printout::Shown { names: false };
-    without_memory_faults(write_printout(alloc, shown, asked(None), "f", reader, out, notes))
+    without_memory_faults(write_printout(alloc, shown, asked(None), reader, out, notes))
 }
 
 const PASSED_OVER: &[u8] = b"snmpsec: passed over: another port 1\n";
@@ -250,7 +257,7 @@ fn read_text(
     log: &mut Choppy<'_>,
     notes: &mut Choppy<'_>,
 ) -> Result<Result<u8, Unread>, AllocError> {
-    without_memory_faults(datagrams_of(alloc, asked(form), "f", reader, log, notes))
+    without_memory_faults(datagrams_of(alloc, asked(form), reader, log, notes))
 }
 
 #[test]

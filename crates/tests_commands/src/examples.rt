@@ -17,5 +17,4 @@ mod of_snmpsec_cli;
 mod of_snmpsec_commands;
 mod of_snmpsec_io;
 mod of_snmpsec_io_files;
-mod of_snmpsec_notes;
 mod of_snmpsec_output;

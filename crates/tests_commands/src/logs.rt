@@ -1,8 +1,8 @@
 //! Logs that are replayed by readers and writers that are interrupted or fail.
 
 use super::streams::{Calls, Choppy, Slow};
-use snmpsec_commands::replay::replay;
-use snmpsec_replay::ReplayFault;
+use snmpsec_commands::replay::{Beginning, ReplayEnd, replay};
+use snmpsec_replay::{Printing, ReplayFault};
 use std::alloc::{AllocError, Global};
 use std::io::{BufRead, BufReader};
 use std::test::Fail;
@@ -35,18 +35,29 @@ const TEN_ANSWERS: &[u8] = b"1 0 refused 1 NotMessage
 snmp-clocks 2
 ";
 
-/// Replays a log without clocks. Out of memory is an error of its own.
+/// Replays a log without clocks, and says whether it was replayed. Out of memory is an error of its own.
 fn answer_of<R: BufRead>(
     alloc: Global,
     config: &[u8],
     reader: &mut R,
     writer: &mut Choppy<'_>,
-) -> Result<Result<u8, ReplayFault>, AllocError> {
-    let answer = replay(alloc, 9, config, "c", b"snmp-clocks 1\n", reader, writer);
-    if answer == Err(ReplayFault::OutOfMemory) {
-        return Err(AllocError);
+) -> Result<Result<bool, ReplayFault>, AllocError> {
+    let beginning = Beginning {
+        moment: 9,
+        config,
+        clocks_name: "c",
+        clocks: b"snmp-clocks 1\n",
+    };
+    let printing = Printing {
+        first: 1,
+        lines: true,
+    };
+    match replay(alloc, beginning, printing, reader, writer) {
+        Ok(ReplayEnd::Replayed) => Ok(Ok(true)),
+        Ok(ReplayEnd::Refused { .. }) => Ok(Ok(false)),
+        Err(ReplayFault::OutOfMemory) => Err(AllocError),
+        Err(fault) => Ok(Err(fault)),
     }
-    Ok(answer)
 }
 
 /// Replays a log without users, that a slow reader gives.
@@ -55,7 +66,7 @@ fn replayed(
     log: &[u8],
     reads: Calls,
     writer: &mut Choppy<'_>,
-) -> Result<Result<u8, ReplayFault>, Fail> {
+) -> Result<Result<bool, ReplayFault>, Fail> {
     let mut reader = BufReader::new(alloc, Slow::new(log, reads))?;
     Ok(answer_of(alloc, b"", &mut reader, writer)?)
 }
@@ -63,10 +74,10 @@ fn replayed(
 #[test]
 fn interruptions_change_nothing_up_to_the_thousandth(rt: HostRuntime) -> Result<(), Fail> {
     for (reads, writes, wanted) in [
-        (0, 0, Ok(0)),
-        (1, 1, Ok(0)),
-        (999, 0, Ok(0)),
-        (0, 999, Ok(0)),
+        (0, 0, Ok(true)),
+        (1, 1, Ok(true)),
+        (999, 0, Ok(true)),
+        (0, 999, Ok(true)),
         (1000, 0, Err(ReplayFault::CannotRead)),
         (0, 1000, Err(ReplayFault::CannotWrite)),
     ] {
@@ -114,7 +125,7 @@ fn a_write_that_fails_leaves_the_beginning(rt: HostRuntime) -> Result<(), Fail> 
         let wanted = if write < 89 {
             Err(ReplayFault::CannotWrite)
         } else {
-            Ok(0)
+            Ok(true)
         };
         let is_written = writer.has_beginning() && writer.has_all() == wanted.is_ok();
         assert!(rt; answer == wanted && is_written, "write {write}");

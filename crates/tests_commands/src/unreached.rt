@@ -3,8 +3,7 @@
 use capture_dumps::dump_line;
 use capture_files::{Lines, packets_log};
 use snmpd_lines::{Hash, Subtree, go_on, hash_of, subtree_of, take_token, take_word};
-use snmpsec_notes::with_names;
-use snmpsec_output::merge_text;
+use snmpsec_output::{merge_text, with_names};
 use std::alloc::Global;
 use std::test::Fail;
 

@@ -27,7 +27,7 @@ returns-else-is_capture-clause-ok g c =
     let bound = c.in-Ok.ensures.bound in
     let long = length-take-le c.in-Ok.count c.read_full.new.buf bound in
     let end = λ (short : length (take c.in-Ok.count c.read_full.new.buf) < 24). c.in-Ok.ensures.end (omega (arith, short, long, room)) in
-    IfOk-weaker c.write_text.result _ _ (λ status t. inr (form_tells c.args.asked.form _ _ _ _ c.in-Ok.ensures.ok end (sym c.if-is_capture.false ∙ c.is_capture.ensures), rw c.text_form-form.ensures at t))
+    IfOk-weaker c.write_text.result _ _ (λ status t. inr (form_tells c.args.asked.form _ _ _ _ c.in-Ok.ensures.ok end (sym c.if-is_capture.false ∙ c.is_capture.ensures), t))
     (c.write_text.ensures.ok _ c.in-Ok.ensures.ok)
 
 pub returns-else-is_capture-clause-err : goal.returns-else-is_capture-clause-err
@@ -36,5 +36,5 @@ returns-else-is_capture-clause-err g c =
     let bound = c.in-Ok.ensures.bound in
     let long = length-take-le c.in-Ok.count c.read_full.new.buf bound in
     let end = λ (short : length (take c.in-Ok.count c.read_full.new.buf) < 24). c.in-Ok.ensures.end (omega (arith, short, long, room)) in
-    IfErr-weaker c.write_text.result _ _ (λ fault t. inr (inr (form_tells c.args.asked.form _ _ _ _ c.in-Ok.ensures.ok end (sym c.if-is_capture.false ∙ c.is_capture.ensures), rw c.text_form-form.ensures at t)))
+    IfErr-weaker c.write_text.result _ _ (λ fault t. inr (inr (form_tells c.args.asked.form _ _ _ _ c.in-Ok.ensures.ok end (sym c.if-is_capture.false ∙ c.is_capture.ensures), t)))
     (c.write_text.ensures.err _ c.in-Ok.ensures.ok)

@@ -1,2 +1,0 @@
-pub mod NamedLines
-pub mod DottedParts

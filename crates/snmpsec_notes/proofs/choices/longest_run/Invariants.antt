@@ -1,6 +1,0 @@
-use Rattle.std.proofs.Common.{◌≤◌, ◌+◌, length}
-use Rattle.snmpsec_notes.proofs.choices.longest_run.Given as goal
-
-abbrev pub invariant-loop-at : goal.invariant-loop-at
-invariant-loop-at l =
-    (l.longest.first + l.longest.len ≤ length l.first) × (l.longest.second + l.longest.len ≤ length l.second)
