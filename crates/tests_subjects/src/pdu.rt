@@ -202,8 +202,17 @@ fn written(row: &mut Row<'_>) {
     let names = is_text(in_octets(row.alloc, &pdu), octets);
     match (arcs, names) {
         (Ok(arcs), Ok(names)) => row.say(format!(in row.alloc; "{arcs} {names}")),
-        (Err(refused), _) | (_, Err(refused)) if refused.is_memory() => row.lack(),
-        _ => row.fail("a PDU that is written again"),
+        (Err(refused), _) => say_unwritten(row, refused),
+        (_, Err(refused)) => say_unwritten(row, refused),
+    }
+}
+
+/// A PDU that wasn't written, for lack of memory or for another cause.
+fn say_unwritten(row: &mut Row<'_>, refused: RefusedAt) {
+    if refused.is_memory() {
+        row.lack();
+    } else {
+        row.fail("a PDU that is written again");
     }
 }
 
