@@ -21,7 +21,7 @@ struct Wanted {
 }
 
 impl Wanted {
-    /// The same, as the reader of the file of this name is asked.
+    /// These options for the reader of the file of this name.
     fn options<'a>(&'a self, name: &'a str) -> ReadOptions<'a> {
         ReadOptions {
             form: self.form,

@@ -145,7 +145,7 @@ fn says_why(asked: &Invocation<'_, '_>) -> bool {
     }
 }
 
-/// The same, with names after the lines of standard output that have one.
+/// This output with a name after each line of standard output that has one.
 fn add_names(alloc: Global, output: Output) -> Result<Output, AllocError>
     ensures out { IfOk result (λ told. AddsNames output.out.items told.out.items) }
     ensures err { IfOk result (λ told. told.err.items ≡ output.err.items) }
@@ -160,7 +160,7 @@ fn add_names(alloc: Global, output: Output) -> Result<Output, AllocError>
     })
 }
 
-/// The same, and after what is on standard error the line that explains it, if there is one.
+/// This output with its explanation, if it has one, as the last line of standard error.
 pub fn explain(alloc: Global, mut output: Output) -> Result<Output, AllocError>
     ensures out { IfOk result (λ told. told.out.items ≡ output.out.items) }
     ensures err { IfOk result (λ told. told.err.items ≡ output.err.items ++ why_line output.why) }

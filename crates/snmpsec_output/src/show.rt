@@ -126,8 +126,8 @@ pub fn show_datagram(alloc: Global, datagram: &[u8]) -> Result<Output, AllocErro
     }
 }
 
-/// The line for a refused message, explained where the message says more octets than the datagram has. Want of memory
-/// is handed on.
+/// The line for a refused message, explained where the message says more octets than the datagram has.
+/// `AllocError` if memory runs out.
 pub(crate) fn refused_output(
     alloc: Global,
     refused: RefusedAt,
