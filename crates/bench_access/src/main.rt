@@ -6,8 +6,8 @@
 //!
 //! Under the SHAPE `many` a view has 20 family rows, and under `one` a single view has them all. A group has
 //! 5 access rows, of which the last in order matches. Each WILDth family row has a wildcard (0: none), with MASKS
-//! different masks in turn, at most 127. A question is for a variable of ARCS arcs, which a row of 10 arcs has for the KIND `hit`; for `miss` no row
-//! has it, though one has all but the last of its own arcs.
+//! different masks in turn, at most 127. A question is for a variable of ARCS arcs, which a row of 10 arcs has for
+//! the KIND `hit`; for `miss` no row has it, though one has all but the last of its own arcs.
 #![tactic(auto)]
 
 mod rows;

@@ -64,8 +64,8 @@ pub fn write_body(
     write_body_of(users, envelope, &body.front(), body.bindings)
 }
 
-/// Writes the text of the message with bindings in any form that can be written: `VariableBinding` is the quick one, of which only
-/// the tags are asked.
+/// Writes the text of the message with bindings in any form that can be written: `VariableBinding` is the quick one, of
+/// which only the tags are asked.
 ///
 /// The errors are those of `write_body`, in its order.
 pub fn write_body_of<B: Spelled>(
