@@ -242,9 +242,9 @@ pub fn replay_log<R: BufRead, W: Write>(
     replay_as(alloc, manager, printing, reader, writer)
 }
 
-/// The same with lines numbered from `printing.first`, at most 10^15, in what is written and in LogLine;
-/// and where no lines are wanted, with the saved text alone. So a log of more lines can be replayed in
-/// pieces, whose lines go on in number.
+/// Replays a log as `replay_log` does, with lines numbered from `printing.first`, at most 10^15, in what is
+/// written and in LogLine; and where no lines are wanted, with the saved text alone. So a log of more lines
+/// can be replayed in pieces, whose lines go on in number.
 pub fn replay_as<R: BufRead, W: Write>(
     alloc: Global,
     mut manager: Manager,
