@@ -3,8 +3,7 @@
 --
 -- `TellsPrintout printout asked streams status`, `StopsPrintout`. The same for `show --from` and `open
 -- --from`: P is `PrintsShown` or `PrintsOpened`, a line `datagram N MOMENT` and behind it what `show` or
--- `open` prints of the datagram, with names where they are asked for (`IsNamed`). The refusal of a
--- configuration stands alone.
+-- `open` prints of the datagram, with names if they are asked for. The refusal of a configuration stands alone.
 use Rattle.std.specs.Prelude.{◌≡◌, ◌⊎◌, ⊤, ℕ, ◌==◌, not, Bool, true, false, List, ◌++◌, codes, decimal, Option}
 use Rattle.std.specs.Io.KnownBytes.{Appends, Keeps}
 use Rattle.snmpsec_io.specs.Transfer.{WritesFront}
@@ -14,7 +13,6 @@ use Rattle.capture_files.specs.Datagrams.{PrintsLine, Streams}
 use Rattle.snmpsec_config.specs.declared.fault.ConfigFault.{ConfigFault}
 use Rattle.snmpsec_config.specs.Refusals.{Loads, RefusesText, refusal_line}
 use Rattle.snmpsec_config.specs.Told.{IsWhy}
-use Rattle.snmpsec_output.specs.Names.{AddsNames}
 use Rattle.snmpsec_output.specs.Open.{OpensBy}
 use Rattle.snmpsec_output.specs.Questions.{Printed}
 use Rattle.snmpsec_output.specs.Show.{ShowsDatagram}
@@ -31,29 +29,21 @@ use Rattle.capture_datagrams.specs.declared.shown.NoUsers.TheVariants as none
 abbrev pub head_line : ℕ → ℕ → List ℕ
 head_line n moment = codes "datagram " ++ (decimal n ++ (codes " " ++ (decimal moment ++ codes "\n")))
 
--- The text as it is, or with names behind its lines where these are asked for. The line of a refusal has none.
-abbrev pub IsNamed : Bool → Bool → List ℕ → List ℕ → Type 0
-IsNamed true false text told = AddsNames text told
-IsNamed true true text told = told ≡ text
-IsNamed false refused text told = told ≡ text
-
 -- what a command prints, behind the line of the datagram; a status other than 0 is a refusal
-pub record StandsBehind (names : Bool) (n moment : ℕ) (printed : Printed) (text : List ℕ)
+pub record StandsBehind (n moment : ℕ) (printed : Printed) (text : List ℕ)
     (refused : Bool) : Type 0 where
-  pub told : List ℕ
   pub status : refused ≡ not (printed.status == 0)
-  pub named : IsNamed names refused printed.out told
-  pub is : text ≡ head_line n moment ++ told
+  pub is : text ≡ head_line n moment ++ printed.out
 
 -- as `show` prints it
 abbrev pub PrintsShown : Bool → ℕ → ℕ → List ℕ → List ℕ → Bool → Type 0
-PrintsShown names n moment datagram text refused = (printed : Printed) × ShowsDatagram datagram printed
-    × StandsBehind names n moment printed text refused
+PrintsShown names n moment datagram text refused = (printed : Printed) × ShowsDatagram names datagram printed
+    × StandsBehind n moment printed text refused
 
 -- as `open` prints it, by these users
 abbrev pub PrintsOpened : Bool → List User → ℕ → ℕ → List ℕ → List ℕ → Bool → Type 0
-PrintsOpened names users n moment datagram text refused = (printed : Printed) × OpensBy users datagram printed
-    × StandsBehind names n moment printed text refused
+PrintsOpened names users n moment datagram text refused = (printed : Printed) × OpensBy names users datagram printed
+    × StandsBehind n moment printed text refused
 
 -- ---- a file of datagrams, opened by the users of a configuration
 

@@ -3,7 +3,7 @@
 
 ghost use Rattle.std.specs.Prelude.{◌≡◌, IfErr, IfOk, string_bytes};
 ghost use Rattle.capture_files.specs.Datagrams.{streams};
-ghost use Rattle.capture_datagrams.specs.Shown.{IsNamed, LoadsUsers, OpensFile, PrintsOpened, PrintsShown};
+ghost use Rattle.capture_datagrams.specs.Shown.{LoadsUsers, OpensFile, PrintsOpened, PrintsShown};
 ghost use Rattle.capture_datagrams.specs.Shown.{StandsBehind, StopsOpening, StopsPrintout, TellsNoUsers};
 ghost use Rattle.capture_datagrams.specs.Shown.{TellsConfig, TellsPrintout, head_line};
 ghost use Rattle.capture_datagrams.specs.declared.shown.NoUsers.TheVariants as none;
@@ -14,7 +14,7 @@ use crate::forms::{ReadOptions, print_datagrams};
 use crate::texts::{Told, write_told};
 use capture_files::{Lines, Printed, Printer};
 use snmpsec_config::{Config, ConfigFault};
-use snmpsec_output::{Output, open_datagram, refusal_and_why, show_datagram, with_names};
+use snmpsec_output::{Output, open_datagram, refusal_and_why, show_datagram};
 use std::alloc::{AllocError, Global};
 use std::io::{Read, Write};
 use thiserror::Error;
@@ -23,14 +23,14 @@ use usm_core::Users;
 /// Prints each datagram as `show` does, behind a line `datagram N MOMENT`.
 #[derive(Clone, Copy, Debug)]
 pub struct Shows {
-    /// Whether names stand behind the lines that have one.
+    /// Whether names follow the lines that have one.
     pub names: bool,
 }
 
 /// Prints each datagram as `open` does, behind a line `datagram N MOMENT`.
 #[derive(Drop)]
 pub struct Opens {
-    /// Whether names stand behind the lines that have one.
+    /// Whether names follow the lines that have one.
     pub names: bool,
     /// By whose keys it is opened.
     pub users: Users,
@@ -43,26 +43,9 @@ fn head_line(alloc: Global, number: u64, moment: u64) -> Result<String, AllocErr
     format!(in alloc; "datagram {number} {moment}\n")
 }
 
-/// The text, with names behind its lines where these are asked for and it tells no refusal.
-fn add_names(
-    alloc: Global,
-    names: bool,
-    refused: bool,
-    text: Vec<u8>,
-) -> Result<Vec<u8>, AllocError>
-    ensures { IfOk result (λ told. IsNamed names refused text.items told.items) }
-{
-    if names && !refused {
-        with_names(alloc, &text)
-    } else {
-        Ok(text)
-    }
-}
-
 /// What a command prints, behind the line of the datagram.
 fn behind_head(
     alloc: Global,
-    names: bool,
     number: u64,
     moment: u64,
     output: Output,
@@ -72,12 +55,11 @@ fn behind_head(
       err = output.err.items;
       status = output.status;
     } in
-        IfOk result (λ printed. StandsBehind names number moment told printed.text.items printed.refused) }
+        IfOk result (λ printed. StandsBehind number moment told printed.text.items printed.refused) }
 {
     let refused = output.status != 0;
-    let told = add_names(alloc, names, refused, output.out)?;
     let mut text = head_line(alloc, number, moment)?.into_bytes();
-    text.extend_from_slice(&told)?;
+    text.extend_from_slice(&output.out)?;
     Ok(Printed { text, refused })
 }
 
@@ -91,8 +73,8 @@ impl Printer for Shows {
         moment: u64,
         datagram: &[u8],
     ) -> Result<Printed, AllocError> {
-        let output = show_datagram(alloc, datagram)?;
-        behind_head(alloc, self.names, number, moment, output)
+        let output = show_datagram(alloc, self.names, datagram)?;
+        behind_head(alloc, number, moment, output)
     }
 }
 
@@ -106,8 +88,8 @@ impl Printer for Opens {
         moment: u64,
         datagram: &[u8],
     ) -> Result<Printed, AllocError> {
-        let output = open_datagram(alloc, &mut self.users, datagram)?;
-        behind_head(alloc, self.names, number, moment, output)
+        let output = open_datagram(alloc, self.names, &mut self.users, datagram)?;
+        behind_head(alloc, number, moment, output)
     }
 }
 

@@ -5,8 +5,8 @@ use crate::files::octets_of;
 use clap::ArgMatches;
 use snmpsec_cli::{AccessWords, word_of};
 use snmpsec_output::{
-    Output, check_config_hinted, check_config_text, check_text, explain_text, open_text, sees_text,
-    who_text,
+    Output, check_config_hinted, check_config_text, check_text, explain_text, open_named,
+    sees_text, who_text,
 };
 use std::rt::Files;
 
@@ -57,14 +57,15 @@ pub(crate) fn list_seen<R: Files + AllocGlobal>(
     Ok(sees_text(rt.alloc(), &config, words.model, words.name)?)
 }
 
-/// What a message says, opened by the users of the configuration.
+/// What a message says, opened by the users of the configuration, with names if they are asked for.
 pub(crate) fn open_message<R: Files + AllocGlobal>(
     rt: &R,
+    names: bool,
     name: &str,
     digits: &str,
 ) -> Result<Output, Complaint> {
     let config = octets_of(rt, name)?;
-    Ok(open_text(rt.alloc(), &config, digits)?)
+    Ok(open_named(rt.alloc(), names, &config, digits)?)
 }
 
 /// How many rows the configuration has or what is wrong with it, with what is probably a mistake if that is wanted.

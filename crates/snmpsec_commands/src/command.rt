@@ -12,7 +12,7 @@ use snmpsec_cli::{
     Command, Invocation, access_words, datagrams_words, manual_text, replay_words, version_text,
     word_of, words_of,
 };
-use snmpsec_output::{Output, show_text};
+use snmpsec_output::{Output, show_named};
 use std::alloc::{AllocError, Global};
 use std::io::{Input, Write};
 use std::rt::Files;
@@ -46,7 +46,7 @@ fn show<R: Files + Input + AllocGlobal, O: Write, E: Write>(
     err: &mut E,
 ) -> Result<Output, Complaint> {
     match asked.words.get_str("HEX") {
-        Some(digits) => Ok(show_text(rt.alloc(), digits)?),
+        Some(digits) => Ok(show_named(rt.alloc(), asked.names, digits)?),
         None => show_file(rt, &datagrams_words(asked.words), asked.names, out, err),
     }
 }
@@ -60,7 +60,7 @@ fn open<R: Files + Input + AllocGlobal, O: Write, E: Write>(
 ) -> Result<Output, Complaint> {
     let (config, names) = (word_of(asked.words, "CONFIG"), asked.names);
     match asked.words.get_str("HEX") {
-        Some(digits) => open_message(rt, config, digits),
+        Some(digits) => open_message(rt, names, config, digits),
         None => open_file(rt, config, &datagrams_words(asked.words), names, out, err),
     }
 }

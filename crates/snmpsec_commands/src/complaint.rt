@@ -1,5 +1,7 @@
 //! Why a command stops, and what explains it.
 
+ghost use Rattle.std.specs.Prelude.{◌≡◌, [], IfOk};
+
 use snmpsec_io::ReadFault;
 use snmpsec_output::{Output, argument_words};
 use std::alloc::{AllocError, AllocFailed, Global};
@@ -64,7 +66,10 @@ impl Complaint {
     }
 
     /// What is printed: the line on standard error, with status 2.
-    pub fn output(self, alloc: Global) -> Result<Output, AllocError> {
+    pub fn output(self, alloc: Global) -> Result<Output, AllocError>
+        ensures out { IfOk result (λ output. output.out.items ≡ []) }
+        ensures status { IfOk result (λ output. output.status ≡ 2) }
+    {
         match self {
             Complaint::Told { line, why } => Output::complaint(alloc, &line, why),
             Complaint::OutOfMemory => Err(AllocError),

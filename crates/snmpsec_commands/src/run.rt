@@ -1,7 +1,6 @@
 //! From the command line to what is written.
 
-ghost use Rattle.std.specs.Prelude.{◌≡◌, ◌++◌, IfOk};
-ghost use Rattle.snmpsec_output.specs.Names.{AddsNames};
+ghost use Rattle.std.specs.Prelude.{◌≡◌, ◌++◌, [], Ok, IfErr, IfOk};
 ghost use Rattle.snmpsec_commands.specs.Run.{why_line};
 
 use crate::command::command;
@@ -10,7 +9,7 @@ use clap::ArgMatches;
 use clap::error::ErrorKind;
 use snmpsec_cli::{Command, Invocation, arguments, asked_by, parse};
 use snmpsec_io::write_whole;
-use snmpsec_output::{Output, with_names};
+use snmpsec_output::Output;
 use std::alloc::{AllocError, Global};
 use std::io::{Input, IsTerminal, Write};
 use std::rt::{Env, Files};
@@ -106,7 +105,7 @@ fn answer_matches<R: Files + Input + AllocGlobal, O: Write, E: Write + IsTermina
     }
 }
 
-/// What the command that was given prints, with names if they are asked for, and what explains a refusal.
+/// What the command that was given prints, and what explains a refusal.
 fn answer_asked<R: Files + Input + AllocGlobal, O: Write, E: Write>(
     rt: &R,
     asked: &Invocation<'_, '_>,
@@ -115,17 +114,18 @@ fn answer_asked<R: Files + Input + AllocGlobal, O: Write, E: Write>(
 ) -> Result<Output, AllocError> {
     let answered = command(rt, asked, out, err);
     let output = output_of(rt.alloc(), answered)?;
-    if asked.names && output.status == 0 {
-        return add_names(rt.alloc(), output);
-    }
     if asked.why || says_why(asked) {
         return explain(rt.alloc(), output);
     }
     Ok(output)
 }
 
-/// What is printed for the answer of a command.
-pub fn output_of(alloc: Global, answered: Result<Output, Complaint>) -> Result<Output, AllocError> {
+/// What is printed for the answer of a command: its output, or its complaint on standard error with status 2.
+pub fn output_of(alloc: Global, answered: Result<Output, Complaint>) -> Result<Output, AllocError>
+    ensures ok { IfOk answered (λ output. result ≡ Ok output) }
+    ensures err { IfErr answered
+        (λ complaint. IfOk result (λ output. (output.out.items ≡ []) × (output.status ≡ 2))) }
+{
     match answered {
         Ok(output) => Ok(output),
         Err(complaint) => complaint.output(alloc),
@@ -145,21 +145,6 @@ fn says_why(asked: &Invocation<'_, '_>) -> bool {
     }
 }
 
-/// This output with a name after each line of standard output that has one.
-fn add_names(alloc: Global, output: Output) -> Result<Output, AllocError>
-    ensures out { IfOk result (λ told. AddsNames output.out.items told.out.items) }
-    ensures err { IfOk result (λ told. told.err.items ≡ output.err.items) }
-    ensures status { IfOk result (λ told. told.status ≡ output.status) }
-{
-    let out = with_names(alloc, &output.out)?;
-    Ok(Output {
-        out,
-        err: output.err,
-        status: output.status,
-        why: output.why,
-    })
-}
-
 /// This output with its explanation, if it has one, as the last line of standard error.
 pub fn explain(alloc: Global, mut output: Output) -> Result<Output, AllocError>
     ensures out { IfOk result (λ told. told.out.items ≡ output.out.items) }
@@ -174,14 +159,20 @@ pub fn explain(alloc: Global, mut output: Output) -> Result<Output, AllocError>
 }
 
 /// The parser's text, on standard error whatever was asked, with status 2.
-pub fn usage(alloc: Global, fault: clap::Error) -> Result<Output, AllocError> {
+pub fn usage(alloc: Global, fault: clap::Error) -> Result<Output, AllocError>
+    ensures out { IfOk result (λ output. output.out.items ≡ []) }
+    ensures status { IfOk result (λ output. output.status ≡ 2) }
+{
     let output = usage_of(alloc, &fault);
     drop(fault);
     output
 }
 
-/// The same, of a fault that the caller keeps.
-fn usage_of(alloc: Global, fault: &clap::Error) -> Result<Output, AllocError> {
+/// The parser's text, with status 2. The caller keeps the fault.
+fn usage_of(alloc: Global, fault: &clap::Error) -> Result<Output, AllocError>
+    ensures out { IfOk result (λ output. output.out.items ≡ []) }
+    ensures status { IfOk result (λ output. output.status ≡ 2) }
+{
     if fault.kind() == ErrorKind::OutOfMemory {
         return Err(AllocError);
     }

@@ -1,5 +1,5 @@
 -- Which refusal of `show` comes of which fault of the codec.
-use Rattle.std.proofs.Common.{◌≡◌, ℕ, List, [], ◌<◌, length, Result, Ok, Err, ◌⊎◌, refl, sym, subst, inl, inr}
+use Rattle.std.proofs.Common.{◌≡◌, ℕ, Bool, List, [], ◌<◌, length, Result, Ok, Err, ◌⊎◌, refl, sym, subst, inl, inr}
 use Rattle.std.specs.Prelude.{◌≢◌, IfOk, OnOk}
 use Rattle.hex.specs.Hex.{decode_of}
 use Rattle.snmp_message.specs.declared.refused_at.RefusedAt.{RefusedAt}
@@ -35,15 +35,15 @@ write_refused w m r says (inl is) large = subst (RefusesShow w) (sym is) (whole_
 write_refused w m r says (inr is) large = subst (RefusesShow w) (sym is) tt
 
 -- the refusal of the datagram was printed
-pub if_told : {A E : Type 0} (r : Result A E) (out err : A → List ℕ) (status : A → ℕ) (datagram : List ℕ) (told : RefusedAt) → RefusesShow datagram told.refusal
+pub if_told : {A E : Type 0} (r : Result A E) (out err : A → List ℕ) (status : A → ℕ) (names : Bool) (datagram : List ℕ) (told : RefusedAt) → RefusesShow datagram told.refusal
     → OnOk r (told.refusal ≢ OutOfMemory) → IfOk r (λ x. out x ≡ refused_line told) → IfOk r (λ x. err x ≡ []) → IfOk r (λ x. status x ≡ 1)
-    → IfOk r (λ x. ShowsDatagram datagram (record { out = out x; err = err x; status = status x }))
-if_told (Ok x) out err status datagram told why no_memory o e s = inr (record { told = told; cause = why; no_memory = no_memory; out = o; err = e; status = s })
-if_told (Err x) out err status datagram told why no_memory o e s = tt
+    → IfOk r (λ x. ShowsDatagram names datagram (record { out = out x; err = err x; status = status x }))
+if_told (Ok x) out err status names datagram told why no_memory o e s = inr (record { told = told; cause = why; no_memory = no_memory; out = o; err = e; status = s })
+if_told (Err x) out err status names datagram told why no_memory o e s = tt
 
 -- the datagram of the word was shown
-pub if_shown : {A E : Type 0} (r : Result A E) (out err : A → List ℕ) (status : A → ℕ) (digits datagram : List ℕ) → decode_of digits ≡ Ok datagram
-    → IfOk r (λ x. ShowsDatagram datagram (record { out = out x; err = err x; status = status x }))
-    → IfOk r (λ x. ShowsText digits (record { out = out x; err = err x; status = status x }))
-if_shown (Ok x) out err status digits datagram decoded shows = inr (record { datagram = datagram; decoded = decoded; told = shows })
-if_shown (Err x) out err status digits datagram decoded shows = tt
+pub if_shown : {A E : Type 0} (r : Result A E) (out err : A → List ℕ) (status : A → ℕ) (names : Bool) (digits datagram : List ℕ) → decode_of digits ≡ Ok datagram
+    → IfOk r (λ x. ShowsDatagram names datagram (record { out = out x; err = err x; status = status x }))
+    → IfOk r (λ x. ShowsText names digits (record { out = out x; err = err x; status = status x }))
+if_shown (Ok x) out err status names digits datagram decoded shows = inr (record { datagram = datagram; decoded = decoded; told = shows })
+if_shown (Err x) out err status names digits datagram decoded shows = tt

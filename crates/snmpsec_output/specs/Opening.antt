@@ -2,11 +2,12 @@
 --
 -- `Opens users w answer`. The table of a manager without its time window, with the lines of the message in
 -- place of what is given on: `Verifies`, a row on the salt, and `ReadsMessage`. `TellsText`: the lines are
--- those of the message and of the scoped PDU that the opened text begins with.
+-- those of the message and of the scoped PDU that the opened text begins with. `OpensWith names users w answer`:
+-- the same, with names after the lines if these are asked for.
 use Rattle.usm_core.specs.Table.{refusal_answer}
 use Rattle.snmp_message.specs.declared.refusal.Refusal.TheVariants.{DecryptionError}
 use Rattle.snmp_message.specs.declared.refusal.Refusal.{Refusal}
-use Rattle.std.specs.Prelude.{◌≡◌, ℕ, List, ◌++◌, codes, length, true, Option, Some, Result, Ok, Err, String}
+use Rattle.std.specs.Prelude.{◌≡◌, ℕ, Bool, List, ◌++◌, codes, length, true, Option, Some, Result, Ok, Err, String}
 use Rattle.std.specs.Prelude.{string_bytes}
 use Rattle.snmp_message.specs.Level.{level_of}
 use Rattle.snmp_message.specs.Scoped.{Contexts}
@@ -19,6 +20,7 @@ use Rattle.snmp_incoming.specs.Outcome.{ReadsMessage}
 use Rattle.snmp_message.specs.declared.refused_at.RefusedAt.{RefusedAt}
 use Rattle.snmpsec_config.specs.Words.{level_word}
 use Rattle.snmpsec_output.specs.Lines.{message_lines, scoped_lines}
+use Rattle.snmpsec_output.specs.Names.{IsNamed}
 
 -- the lines of the message, of its level, and of the ScopedPDU in it
 abbrev pub opened_lines : Verified → Contexts → PduParts → List ℕ
@@ -43,6 +45,17 @@ Opens users w =
     Then (Verifies manager users w) (λ v.
     Needs (v.parts.header.privacy ≡ true → length v.fields.salt ≡ 8) DecryptionError (λ _.
     Then (ReadsMessage users w v) (λ given. Tells v given.text)))
+
+-- ---- with names
+
+-- The lines are those of `TellsText`, with names after them if these are asked for.
+abbrev pub TellsWith : Bool → Verified → List ℕ → List ℕ → Type 0
+TellsWith names v text lines = (plain : List ℕ) × TellsText v text plain × IsNamed names plain lines
+
+-- The answer of `Opens`, its lines with names after them if these are asked for.
+abbrev pub OpensWith : Bool → List User → List ℕ → Result (List ℕ) Refusal → Type 0
+OpensWith names users w (Ok lines) = (plain : List ℕ) × Opens users w (Ok plain) × IsNamed names plain lines
+OpensWith names users w (Err refusal) = Opens users w (Err refusal)
 
 -- ---- the answer of the code
 

@@ -1,8 +1,9 @@
 -- What `snmpsec show` prints, and why it refuses a datagram.
 --
--- `Show`: the text is the lines of all layers, and of the canonical spelling. `Merge`: what is printed for
--- files of saved clocks. `Refusals`: refusals as the program prints them.
-use Rattle.std.specs.Prelude.{◌≡◌, ◌≢◌, ⊤, true, false, ℕ, ◌<◌, ◌⊎◌, List, [], ◌++◌, length, codes, Ok, IsErr}
+-- `Show`: the text is the lines of all layers, and of the canonical spelling, with names after them if these
+-- are asked for. `Merge`: what is printed for files of saved clocks. `Refusals`: refusals as the program prints
+-- them.
+use Rattle.std.specs.Prelude.{◌≡◌, ◌≢◌, ⊤, Bool, true, false, ℕ, ◌<◌, ◌⊎◌, List, [], ◌++◌, length, codes, Ok, IsErr}
 use Rattle.snmp_message.specs.declared.header.TheConstants.{USER_BASED}
 use Rattle.snmp_message.specs.declared.message.TheConstants.{LARGEST}
 use Rattle.hex.specs.Hex.{encode_lower, decode_of}
@@ -14,6 +15,7 @@ use Rattle.snmp_msg.specs.declared.whole.Layers.{Layers}
 use Rattle.snmp_msg.specs.declared.whole.Layer.{Layer}
 use Rattle.snmp_msg.specs.declared.whole.Layer.TheVariants as layers
 use Rattle.snmpsec_output.specs.Lines.{octets_line, message_lines, scoped_lines}
+use Rattle.snmpsec_output.specs.Names.{IsNamed}
 use Rattle.snmp_msg.specs.Refusals.{RefusesWhole}
 use Rattle.snmp_message.specs.declared.refusal.Refusal.{Refusal}
 use Rattle.snmp_message.specs.declared.refusal.Refusal.TheVariants as refusals
@@ -39,12 +41,13 @@ shown_text m =
     message_lines m.header (fields_of m.security)
     ++ (contents_lines m.contents ++ (codes "canonical " ++ (encode_lower (whole_text (whole_of m)) ++ codes "\n")))
 
--- The datagram is such a message, and the text is the lines of what it says and of its canonical spelling.
-pub record Shows (datagram text : List ℕ) : Type 0 where
+-- The datagram is such a message, and the text is the lines of what it says and of its canonical spelling, with
+-- names after them if these are asked for.
+pub record Shows (names : Bool) (datagram text : List ℕ) : Type 0 where
   pub usm : IsUsmMessage datagram
   pub layers : Layers
   pub says : Says datagram (whole_of layers)
-  pub lines : text ≡ shown_text layers
+  pub lines : IsNamed names (shown_text layers) text
 
 -- The refusal is why the datagram isn't shown.
 abbrev pub RefusesShow : List ℕ → Refusal → Type 0
@@ -61,8 +64,8 @@ IsNoHex digits = (digits ≡ []) ⊎ IsErr (decode_of digits)
 -- ---- what is printed
 
 -- The lines of the datagram are printed.
-pub record Shown (w : List ℕ) (printed : Printed) : Type 0 where
-  pub shows : Shows w printed.out
+pub record Shown (names : Bool) (w : List ℕ) (printed : Printed) : Type 0 where
+  pub shows : Shows names w printed.out
   pub err : printed.err ≡ []
   pub status : printed.status ≡ 0
 
@@ -83,15 +86,15 @@ pub record TellsNoHex (digits : List ℕ) (printed : Printed) : Type 0 where
   pub status : printed.status ≡ 2
 
 -- The datagram is shown, or why it isn't is told.
-abbrev pub ShowsDatagram : List ℕ → Printed → Type 0
-ShowsDatagram w printed = Shown w printed ⊎ TellsRefusal w printed
+abbrev pub ShowsDatagram : Bool → List ℕ → Printed → Type 0
+ShowsDatagram names w printed = Shown names w printed ⊎ TellsRefusal w printed
 
--- The same for the datagram of the word.
-pub record ShowsWord (digits : List ℕ) (printed : Printed) : Type 0 where
+-- The datagram that the word's digits write is shown, or why it isn't is told.
+pub record ShowsWord (names : Bool) (digits : List ℕ) (printed : Printed) : Type 0 where
   pub datagram : List ℕ
   pub decoded : decode_of digits ≡ Ok datagram
-  pub told : ShowsDatagram datagram printed
+  pub told : ShowsDatagram names datagram printed
 
 -- A word out of its form is told first.
-abbrev pub ShowsText : List ℕ → Printed → Type 0
-ShowsText digits printed = TellsNoHex digits printed ⊎ ShowsWord digits printed
+abbrev pub ShowsText : Bool → List ℕ → Printed → Type 0
+ShowsText names digits printed = TellsNoHex digits printed ⊎ ShowsWord names digits printed

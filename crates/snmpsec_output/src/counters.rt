@@ -1,9 +1,11 @@
 //! The counters that reports tell.
 
+use snmp_ber::read_unsigned;
+use snmp_msg::Binding;
 use std::alloc::{AllocError, Global};
 
-/// The tag of a Counter32, in two hex digits.
-const COUNTER: &str = "41";
+/// The tag of a Counter32 (RFC 2578, section 2).
+const COUNTER: u8 = 0x41;
 
 /// The counters of RFC 3411, section 5 (snmpMPDMIB of RFC 3412), of targets (RFC 3413, section 4.1.2) and of
 /// the user-based security model (RFC 3414, section 5).
@@ -21,17 +23,15 @@ static COUNTERS: [(&str, &str); 11] = [
     ("1.3.6.1.6.3.12.1.5.0", "snmpUnknownContexts"),
 ];
 
-/// The name of the counter that a binding tells, given as its name, its tag and its content, with its value
-/// where it is a Counter32; or nothing.
-pub(crate) fn counter_name(alloc: Global, binding: &str) -> Result<String, AllocError> {
-    let none = String::new(alloc);
-    let Some((variable, value)) = binding.split_once(' ') else {
-        return Ok(none);
+/// The name of the counter that a binding tells, with its value if that is a Counter32. It is empty for any other
+/// variable.
+pub(crate) fn counter_name(alloc: Global, binding: &Binding<'_>) -> Result<String, AllocError> {
+    let variable = &binding.name;
+    let variable = format!(in alloc; "{variable}")?;
+    let Some(name) = name_of(&variable) else {
+        return Ok(String::new(alloc));
     };
-    let Some(name) = name_of(variable) else {
-        return Ok(none);
-    };
-    match value_of(value) {
+    match value_of(binding) {
         Some(value) => format!(in alloc; "{name} {value}"),
         None => String::from_str(alloc, name),
     }
@@ -47,10 +47,11 @@ fn name_of(variable: &str) -> Option<&'static str> {
     None
 }
 
-/// The value of a Counter32, given as its tag and its content in hex.
-fn value_of(value: &str) -> Option<u64> {
-    match value.split_once(' ') {
-        Some((COUNTER, digits)) => u64::from_str_radix(digits, 16).ok(),
-        _ => None,
+/// The value of a binding, if it is a Counter32.
+fn value_of(binding: &Binding<'_>) -> Option<u32> {
+    if binding.tag == COUNTER {
+        read_unsigned(binding.content)
+    } else {
+        None
     }
 }

@@ -1,6 +1,6 @@
 //! The fields of a message, a line each.
 
-ghost use Rattle.std.specs.Prelude.{◌≡◌, IfOk, string_bytes};
+ghost use Rattle.std.specs.Prelude.{◌≡◌, ◌++◌, IfOk, string_bytes};
 ghost use Rattle.std.specs.List.{flat_map};
 ghost use Rattle.snmp_message.specs.Security.{fields_of};
 ghost use Rattle.snmp_msg.specs.Variables.{variable_of, variables_of};
@@ -8,7 +8,9 @@ ghost use Rattle.snmp_msg.specs.Pdu.{pdu_of};
 ghost use Rattle.snmpsec_output.specs.Lines as spec;
 ghost use Rattle.snmpsec_output.specs.Lines.{octets_text, flag_text, flags_line, header_lines, security_lines};
 ghost use Rattle.snmpsec_output.specs.Lines.{binding_line, pdu_line};
+ghost use Rattle.snmpsec_output.specs.Names.{IsNamed};
 
+use crate::names::{binding_note, octets_note, pdu_note};
 use snmp_msg::{Binding, Header, Pdu, Scoped, Security};
 use std::alloc::{AllocError, Global};
 
@@ -28,6 +30,15 @@ pub fn octets_line(alloc: Global, name: &str, octets: &[u8]) -> Result<String, A
 {
     let octets = octets_text(alloc, octets)?;
     format!(in alloc; "{name} {octets}\n")
+}
+
+/// A line with a name and octets that may be text, with the text as a note if names are asked for.
+fn text_line(alloc: Global, names: bool, name: &str, octets: &[u8]) -> Result<String, AllocError>
+    ensures { IfOk result (λ text. IsNamed names (spec.octets_line name.now octets.now) (string_bytes text)) }
+{
+    let digits = octets_text(alloc, octets)?;
+    let note = octets_note(alloc, names, octets)?;
+    format!(in alloc; "{name} {digits}{note}\n")
 }
 
 /// The word, where the flag is set.
@@ -58,73 +69,86 @@ fn header_lines(alloc: Global, header: &Header) -> Result<String, AllocError>
     format!(in alloc; "id {id}\nmax-size {max_size}\n{flags}")
 }
 
-/// The fields of msgSecurityParameters (RFC 3414, section 2.4).
-fn security_lines(alloc: Global, security: &Security<'_>) -> Result<String, AllocError>
-    ensures { IfOk result (λ text. string_bytes text ≡ security_lines (fields_of security.now)) }
+/// The fields of msgSecurityParameters (RFC 3414, section 2.4), with names if they are asked for.
+fn security_lines(alloc: Global, names: bool, security: &Security<'_>) -> Result<String, AllocError>
+    ensures { IfOk result
+        (λ text. IsNamed names (security_lines (fields_of security.now)) (string_bytes text)) }
 {
     let engine = octets_line(alloc, "engine", security.engine)?;
     let (boots, time) = (security.boots, security.time);
-    let user = octets_line(alloc, "user", security.user)?;
+    let user = text_line(alloc, names, "user", security.user)?;
     let auth = octets_line(alloc, "auth", security.auth)?;
     let privacy = octets_line(alloc, "privacy", security.salt)?;
     format!(in alloc; "{engine}boots {boots}\ntime {time}\n{user}{auth}{privacy}")
 }
 
 /// The lines of msgGlobalData and msgSecurityParameters: `id`, `max-size`, `flags`, `engine`, `boots`,
-/// `time`, `user`, `auth` and `privacy`. The error is want of memory.
+/// `time`, `user`, `auth` and `privacy`, with names after them if these are asked for. `AllocError` if memory
+/// runs out.
 pub fn message_lines(
     alloc: Global,
+    names: bool,
     header: &Header,
     security: &Security<'_>,
 ) -> Result<String, AllocError>
-    ensures { IfOk result (λ text. string_bytes text ≡ spec.message_lines header.now (fields_of security.now)) }
+    ensures { IfOk result
+        (λ text. IsNamed names (spec.message_lines header.now (fields_of security.now)) (string_bytes text)) }
 {
     let header = header_lines(alloc, header)?;
-    let security = security_lines(alloc, security)?;
+    let security = security_lines(alloc, names, security)?;
     format!(in alloc; "{header}{security}")
 }
 
 /// A variable binding: its name, and the tag and the content of its value.
-fn binding_line(alloc: Global, binding: &Binding<'_>) -> Result<String, AllocError>
-    ensures { IfOk result (λ text. string_bytes text ≡ binding_line (variable_of binding.now)) }
+fn binding_line(alloc: Global, names: bool, binding: &Binding<'_>) -> Result<String, AllocError>
+    ensures { IfOk result (λ text. IsNamed names (binding_line (variable_of binding.now)) (string_bytes text)) }
 {
     let name = &binding.name;
     let tag = hex::encode(alloc, [binding.tag].as_slice())?;
     let content = octets_text(alloc, binding.content)?;
-    format!(in alloc; "binding {name} {tag} {content}\n")
+    let note = binding_note(alloc, names, binding)?;
+    format!(in alloc; "binding {name} {tag} {content}{note}\n")
 }
 
 /// The tag of a PDU, and its three numbers.
-fn pdu_line(alloc: Global, pdu: &Pdu<'_>) -> Result<String, AllocError>
-    ensures { IfOk result (λ text. string_bytes text ≡ pdu_line (pdu_of pdu.now)) }
+fn pdu_line(alloc: Global, names: bool, pdu: &Pdu<'_>) -> Result<String, AllocError>
+    ensures { IfOk result (λ text. IsNamed names (pdu_line (pdu_of pdu.now)) (string_bytes text)) }
 {
     let tag = hex::encode(alloc, [pdu.tag].as_slice())?;
     let (id, second, third) = (pdu.id, pdu.second, pdu.third);
-    format!(in alloc; "pdu {tag} {id} {second} {third}\n")
+    let note = pdu_note(alloc, names, pdu)?;
+    format!(in alloc; "pdu {tag} {id} {second} {third}{note}\n")
 }
 
-/// The bindings of a PDU, a line each.
-fn binding_lines(alloc: Global, pdu: &Pdu<'_>) -> Result<String, AllocError>
-    ensures { IfOk result (λ text. string_bytes text ≡ flat_map binding_line (variables_of pdu.now.list.now)) }
+/// The line of a PDU, and its bindings, a line each.
+fn pdu_lines(alloc: Global, names: bool, pdu: &Pdu<'_>) -> Result<String, AllocError>
+    ensures { IfOk result
+        (λ text. IsNamed names (pdu_line (pdu_of pdu.now) ++ flat_map binding_line (variables_of pdu.now.list.now))
+        (string_bytes text)) }
 {
-    let mut text = String::new(alloc);
+    let mut text = pdu_line(alloc, names, pdu)?;
     for binding in pdu.bindings() {
-        let line = binding_line(alloc, &binding)?;
+        let line = binding_line(alloc, names, &binding)?;
         text.push_str(&line)?;
     }
     Ok(text)
 }
 
 /// The lines of a ScopedPDU (RFC 3412, section 6.8) and of the PDU in it: `context-engine`, `context`, `pdu`,
-/// and `binding` for each variable binding. The error is want of memory.
-pub fn scoped_lines(alloc: Global, scoped: &Scoped<'_>, pdu: &Pdu<'_>) -> Result<String, AllocError>
+/// and `binding` for each variable binding, with names after them if these are asked for. `AllocError` if memory
+/// runs out.
+pub fn scoped_lines(
+    alloc: Global,
+    names: bool,
+    scoped: &Scoped<'_>,
+    pdu: &Pdu<'_>,
+) -> Result<String, AllocError>
     ensures { IfOk result
-        (λ text. string_bytes text
-        ≡ spec.scoped_lines scoped.now.engine.now scoped.now.name.now (pdu_of pdu.now)) }
+        (λ text. IsNamed names (spec.scoped_lines scoped.now.engine.now scoped.now.name.now (pdu_of pdu.now))
+        (string_bytes text)) }
 {
     let engine = octets_line(alloc, "context-engine", scoped.engine)?;
-    let name = octets_line(alloc, "context", scoped.name)?;
-    let line = pdu_line(alloc, pdu)?;
-    let bindings = binding_lines(alloc, pdu)?;
-    format!(in alloc; "{engine}{name}{line}{bindings}")
+    let name = text_line(alloc, names, "context", scoped.name)?;
+    let pdu = pdu_lines(alloc, names, pdu)?;
+    format!(in alloc; "{engine}{name}{pdu}")
 }

@@ -1,97 +1,86 @@
-//! Names behind the lines that `show` and `open` print.
+//! Names after the lines that `show` and `open` print.
 
-ghost use Rattle.std.specs.Prelude.{◌≡◌, ◌++◌, ℕ, List, IfOk, OnOk};
-ghost use Rattle.snmpsec_output.specs.Names.{AddsNames, IsNote};
+ghost use Rattle.std.specs.Prelude.{IfOk, string_bytes};
+ghost use Rattle.snmpsec_output.specs.Names.{IsNoteIf};
 
 use crate::counters::counter_name;
-use hex::FromHexError;
 use snmp_ber::split_once;
+use snmp_msg::{Binding, Pdu};
 use snmpsec_access::put_quoted;
 use std::alloc::{AllocError, Global};
 
-/// The text with the name behind each line that has one: ` # NAME`. Each line stands as it was.
-///
-/// The line of a PDU has the name of its type (RFC 3416, section 3), and that of a binding the name of the
-/// counter that a report tells (RFC 3412 and RFC 3414, section 5), with its value. Those of a user and of a
-/// context have the octets as text between quotes, where they are UTF-8.
-pub fn with_names(alloc: Global, text: &[u8]) -> Result<Vec<u8>, AllocError>
-    ensures { IfOk result (λ named. AddsNames text.now named.items) }
+/// What follows a line that has this name: ` # NAME` if names are asked for, and else nothing. An empty name,
+/// and one with a line feed, are left out.
+fn note(alloc: Global, names: bool, name: &str) -> Result<String, AllocError>
+    ensures { IfOk result (λ note. IsNoteIf names (string_bytes note)) }
 {
-    let mut named = Vec::new(alloc);
-    let mut rest = text;
-    'lines: while let Some((line, behind)) = split_once(rest, b'\n') {
-        named.extend_from_slice(line)?;
-        push_note(alloc, &mut named, line)?;
-        named.extend_from_slice(b"\n")?;
-        rest = behind;
+    if !names || name.is_empty() {
+        return Ok(String::new(alloc));
     }
-    named.extend_from_slice(rest)?;
-    Ok(named)
+    let None = split_once(name.as_bytes(), b'\n') else {
+        return Ok(String::new(alloc));
+    };
+    format!(in alloc; " # {name}")
 }
 
-/// Appends ` # ` and the name of a line, where it has one.
-fn push_note(alloc: Global, out: &mut Vec<u8>, line: &[u8]) -> Result<(), AllocError>
-    ensures { OnOk result ((note : List ℕ) × IsNote note × (out.new.items ≡ out.old.items ++ note)) }
+/// The note after a line of octets: these as text between quotes, if they are UTF-8.
+pub(crate) fn octets_note(alloc: Global, names: bool, octets: &[u8]) -> Result<String, AllocError>
+    ensures { IfOk result (λ note. IsNoteIf names (string_bytes note)) }
 {
-    let name = name_of(alloc, line)?;
-    if name.is_empty() {
-        return Ok(());
+    if !names || octets.is_empty() {
+        return note(alloc, names, "");
     }
-    let None = split_once(&name, b'\n') else {
-        return Ok(());
-    };
-    out.extend_from_slice(b" # ")?;
-    out.extend_from_slice(&name)?;
-    Ok(())
+    let text = quoted_text(alloc, octets)?;
+    note(alloc, names, &text)
 }
 
-/// The name of a line, or nothing.
-fn name_of(alloc: Global, line: &[u8]) -> Result<Vec<u8>, AllocError> {
-    let none = Vec::new(alloc);
-    let Ok(line) = std::str::from_utf8(line) else {
+/// The octets as a TOML basic string, or an empty text if they aren't UTF-8.
+fn quoted_text(alloc: Global, octets: &[u8]) -> Result<String, AllocError> {
+    let none = String::new(alloc);
+    if std::str::from_utf8(octets).is_err() {
         return Ok(none);
-    };
-    let Some((what, words)) = line.split_once(' ') else {
-        return Ok(none);
-    };
-    match what {
-        "user" | "context" => text_name(alloc, words),
-        "pdu" => pdu_name(words.get(..2).unwrap_or(""))
-            .as_bytes()
-            .to_vec(alloc),
-        "binding" => Ok(counter_name(alloc, words)?.into_bytes()),
-        _ => Ok(none),
+    }
+    let mut quoted = Vec::new(alloc);
+    put_quoted(&mut quoted, octets)?;
+    match String::from_utf8(quoted) {
+        Ok(text) => Ok(text),
+        Err(_fault) => Ok(none),
     }
 }
 
-/// The octets of these digits as a TOML basic string, if they are UTF-8.
-fn text_name(alloc: Global, digits: &str) -> Result<Vec<u8>, AllocError> {
-    let mut name = Vec::new(alloc);
-    if digits == "-" {
-        return Ok(name);
-    }
-    let octets = match hex::decode(alloc, digits) {
-        Ok(octets) => octets,
-        Err(FromHexError::OutOfMemory) => return Err(AllocError),
-        Err(_) => return Ok(name),
-    };
-    if std::str::from_utf8(&octets).is_ok() {
-        put_quoted(&mut name, &octets)?;
-    }
-    Ok(name)
+/// The note after the line of a PDU: its type (RFC 3416, section 3).
+pub(crate) fn pdu_note(alloc: Global, names: bool, pdu: &Pdu<'_>) -> Result<String, AllocError>
+    ensures { IfOk result (λ note. IsNoteIf names (string_bytes note)) }
+{
+    note(alloc, names, pdu_name(pdu.tag))
 }
 
-/// The type of the PDU with this tag, in two hex digits (RFC 3416, section 3).
-fn pdu_name(tag: &str) -> &'static str {
+/// The note after the line of a variable binding: the counter that a report tells with its value.
+pub(crate) fn binding_note(
+    alloc: Global,
+    names: bool,
+    binding: &Binding<'_>,
+) -> Result<String, AllocError>
+    ensures { IfOk result (λ note. IsNoteIf names (string_bytes note)) }
+{
+    if !names {
+        return note(alloc, names, "");
+    }
+    let name = counter_name(alloc, binding)?;
+    note(alloc, names, &name)
+}
+
+/// The type of the PDU with this tag (RFC 3416, section 3).
+fn pdu_name(tag: u8) -> &'static str {
     match tag {
-        "a0" => "GetRequest",
-        "a1" => "GetNextRequest",
-        "a2" => "Response",
-        "a3" => "SetRequest",
-        "a5" => "GetBulkRequest",
-        "a6" => "InformRequest",
-        "a7" => "SNMPv2-Trap",
-        "a8" => "Report",
+        0xa0 => "GetRequest",
+        0xa1 => "GetNextRequest",
+        0xa2 => "Response",
+        0xa3 => "SetRequest",
+        0xa5 => "GetBulkRequest",
+        0xa6 => "InformRequest",
+        0xa7 => "SNMPv2-Trap",
+        0xa8 => "Report",
         _ => "",
     }
 }

@@ -3,7 +3,7 @@
 ghost use Rattle.std.specs.Prelude.{◌≡◌, IfOk, IfSome, string_bytes};
 ghost use Rattle.usm_core.specs.Answers.{verified_of};
 ghost use Rattle.snmp_incoming.specs.Texts.{text_of};
-ghost use Rattle.snmpsec_output.specs.Opening.{TellsText, Opens, lines_answer};
+ghost use Rattle.snmpsec_output.specs.Opening.{TellsWith, OpensWith, lines_answer};
 
 use crate::lines::{message_lines, scoped_lines};
 use engine_clock::EngineId;
@@ -14,13 +14,18 @@ use std::alloc::{AllocError, Global};
 use usm_core::{Checked, Role, Users};
 
 /// The lines of a message that is opened by the keys of these users, as a manager does that has no clocks: those of
-/// `message_lines`, a line `level`, and those of `scoped_lines`.
+/// `message_lines`, a line `level`, and those of `scoped_lines`, with names after them if these are asked for.
 ///
 /// The errors are, the first that applies: those of `Users::open_auth`, then OutOfMemory (14),
 /// DecryptionError (11), BadScoped (12) and BadPdu (13). The time window isn't looked at. OutOfMemory comes
-/// too where the lines find no memory.
-pub fn opened_lines(alloc: Global, users: &mut Users, datagram: &[u8]) -> Result<String, RefusedAt>
-    ensures opens { IfSome (lines_answer result) (Opens users.old.users datagram.now) }
+/// too if the lines find no memory.
+pub fn opened_lines(
+    alloc: Global,
+    names: bool,
+    users: &mut Users,
+    datagram: &[u8],
+) -> Result<String, RefusedAt>
+    ensures opens { IfSome (lines_answer result) (OpensWith names users.old.users datagram.now) }
     ensures users { users.new.users ≡ users.old.users }
 {
     let checked = users.open_auth(Role::Manager, datagram)?;
@@ -32,21 +37,23 @@ pub fn opened_lines(alloc: Global, users: &mut Users, datagram: &[u8]) -> Result
         return Err(RefusedAt::plain(Refusal::DecryptionError));
     };
     let taken = read_text(&checked, engine, text)?;
-    let lines = taken_lines(alloc, &checked, &taken)?;
+    let lines = taken_lines(alloc, names, &checked, &taken)?;
     Ok(lines)
 }
 
 /// The lines of a message that was checked and taken.
 fn taken_lines(
     alloc: Global,
+    names: bool,
     checked: &Checked<'_>,
     taken: &Taken<'_>,
 ) -> Result<String, AllocError>
-    ensures { IfOk result (λ text. TellsText (verified_of checked.now) (text_of taken.now.text) (string_bytes text)) }
+    ensures { IfOk result
+        (λ text. TellsWith names (verified_of checked.now) (text_of taken.now.text) (string_bytes text)) }
 {
-    let message = message_lines(alloc, &checked.message.header, &checked.security)?;
+    let message = message_lines(alloc, names, &checked.message.header, &checked.security)?;
     let level = level_word(checked.level);
     let (scoped, pdu) = (taken.scoped(), taken.pdu());
-    let scoped = scoped_lines(alloc, &scoped, &pdu)?;
+    let scoped = scoped_lines(alloc, names, &scoped, &pdu)?;
     format!(in alloc; "{message}level {level}\n{scoped}")
 }

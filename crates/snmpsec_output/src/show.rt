@@ -1,12 +1,13 @@
 //! `snmpsec show`: what a message says, a field a line, and its canonical spelling.
 
-ghost use Rattle.std.specs.Prelude.{◌≡◌, ◌≢◌, [], Ok, IfOk, OnOk, IsNone, MatchOption, MatchResult, string_bytes};
+ghost use Rattle.std.specs.Prelude.{◌≡◌, ◌≢◌, [], false, Ok, IfOk, OnOk, IsNone, MatchOption, MatchResult, string_bytes};
 ghost use Rattle.hex.specs.Hex.{decode_of};
 ghost use Rattle.snmp_msg.specs.Canonical.{Says, WholeFits, IsReadLayer, whole_of};
 ghost use Rattle.snmp_message.specs.declared.refusal.Refusal.TheVariants as refusals;
 ghost use Rattle.hex.specs.declared.FromHexError.TheVariants as hex_faults;
 ghost use Rattle.snmpsec_output.specs.Show.{IsUsmMessage, Shows, RefusesShow, IsNoHex, ShowsDatagram, ShowsText};
 ghost use Rattle.snmpsec_output.specs.Show.{contents_lines};
+ghost use Rattle.snmpsec_output.specs.Names.{IsNamed};
 ghost use Rattle.snmpsec_output.specs.Questions.{Printed};
 ghost use Rattle.snmpsec_output.specs.Refusals.{refused_line};
 
@@ -22,12 +23,12 @@ use snmp_msg::{
 use std::alloc::{AllocError, Global};
 
 /// The lines of msgData: sealed octets, or the contexts and the PDU.
-fn contents_lines(alloc: Global, contents: &Layer<'_>) -> Result<String, AllocError>
-    ensures { IfOk result (λ text. string_bytes text ≡ contents_lines contents.now) }
+fn contents_lines(alloc: Global, names: bool, contents: &Layer<'_>) -> Result<String, AllocError>
+    ensures { IfOk result (λ text. IsNamed names (contents_lines contents.now) (string_bytes text)) }
 {
     match contents {
         Layer::Sealed(octets) => octets_line(alloc, "sealed", octets),
-        Layer::Plain(scoped, pdu) => scoped_lines(alloc, scoped, pdu),
+        Layer::Plain(scoped, pdu) => scoped_lines(alloc, names, scoped, pdu),
     }
 }
 
@@ -51,13 +52,13 @@ fn read_shown(datagram: &[u8]) -> Result<Layers<'_>, RefusedAt>
 }
 
 /// The lines of what the datagram says, and of its canonical spelling.
-fn message_text(alloc: Global, datagram: &[u8]) -> Result<String, RefusedAt>
-    ensures { MatchResult result (λ text. Shows datagram.now (string_bytes text))
+fn message_text(alloc: Global, names: bool, datagram: &[u8]) -> Result<String, RefusedAt>
+    ensures { MatchResult result (λ text. Shows names datagram.now (string_bytes text))
         (λ refused. RefusesShow datagram.now refused.refusal) }
 {
     let layers = read_shown(datagram)?;
-    let message = message_lines(alloc, &layers.header, &layers.security)?;
-    let contents = contents_lines(alloc, &layers.contents)?;
+    let message = message_lines(alloc, names, &layers.header, &layers.security)?;
+    let contents = contents_lines(alloc, names, &layers.contents)?;
     let spelling = write_layers(alloc, &layers)?;
     let digits = hex::encode(alloc, spelling.as_slice())?;
     let text = format!(in alloc; "{message}{contents}canonical {digits}\n")?;
@@ -89,7 +90,7 @@ fn no_octets(fault: FromHexError) -> Result<Option<Vec<u8>>, AllocError>
     }
 }
 
-/// What `snmpsec show HEX` prints.
+/// What `snmpsec show HEX` prints, without names: `show_named` prints them too.
 ///
 /// A message is refused in this order: its outer layout (1, 2), a security model other than the user-based
 /// one (17), priv without auth (18), msgData (4), msgSecurityParameters (3), the PDU (5), and a canonical
@@ -102,25 +103,40 @@ pub fn show_text(alloc: Global, digits: &str) -> Result<Output, AllocError>
           err = output.err.items;
           status = output.status;
         } in
-        ShowsText digits.now printed) }
+        ShowsText false digits.now printed) }
 {
-    let Some(datagram) = datagram_of(alloc, digits)? else {
-        return bad_digits(alloc, digits);
-    };
-    show_datagram(alloc, &datagram)
+    show_named(alloc, false, digits)
 }
 
-/// What `snmpsec show` prints of a datagram: its lines with status 0, or the line of its refusal with status 1.
-pub fn show_datagram(alloc: Global, datagram: &[u8]) -> Result<Output, AllocError>
+/// What `snmpsec show HEX` prints, with names after the lines if these are asked for. The refusals are those of
+/// `show_text`.
+pub fn show_named(alloc: Global, names: bool, digits: &str) -> Result<Output, AllocError>
     ensures { IfOk result
         (λ output. let printed : Printed = record {
           out = output.out.items;
           err = output.err.items;
           status = output.status;
         } in
-        ShowsDatagram datagram.now printed) }
+        ShowsText names digits.now printed) }
 {
-    match message_text(alloc, datagram) {
+    let Some(datagram) = datagram_of(alloc, digits)? else {
+        return bad_digits(alloc, digits);
+    };
+    show_datagram(alloc, names, &datagram)
+}
+
+/// What `snmpsec show` prints of a datagram: its lines with status 0, with names if these are asked for, or the
+/// line of its refusal with status 1.
+pub fn show_datagram(alloc: Global, names: bool, datagram: &[u8]) -> Result<Output, AllocError>
+    ensures { IfOk result
+        (λ output. let printed : Printed = record {
+          out = output.out.items;
+          err = output.err.items;
+          status = output.status;
+        } in
+        ShowsDatagram names datagram.now printed) }
+{
+    match message_text(alloc, names, datagram) {
         Ok(text) => Ok(Output::out(alloc, text.into_bytes(), 0)),
         Err(refused) => refused_output(alloc, refused, datagram),
     }

@@ -3,16 +3,9 @@
 use capture_dumps::dump_line;
 use capture_files::{Lines, packets_log};
 use snmpd_lines::{Hash, Subtree, go_on, hash_of, subtree_of, take_token, take_word};
-use snmpsec_output::{merge_text, with_names};
+use snmpsec_output::merge_text;
 use std::alloc::Global;
 use std::test::Fail;
-
-#[test]
-fn a_line_without_its_end_has_no_name(rt: HostRuntime) -> Result<(), Fail> {
-    let named = with_names(rt.alloc(), b"user 61")?;
-    assert!(rt; named.as_slice() == b"user 61".as_slice());
-    Ok(())
-}
 
 #[test]
 fn no_files_are_merged(rt: HostRuntime) -> Result<(), Fail> {

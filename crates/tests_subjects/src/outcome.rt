@@ -148,7 +148,7 @@ fn opened(people: &People, row: &mut Row<'_>) {
     let Some(mut users) = people.users(row) else {
         return;
     };
-    match opened_lines(row.alloc, &mut users, row.octets()) {
+    match opened_lines(row.alloc, false, &mut users, row.octets()) {
         Ok(text) => say_text(row, &text),
         Err(fault) => say_refused(row, fault),
     }
