@@ -1,0 +1,4 @@
+mod Told
+mod InTime
+mod Twice
+mod Begun

@@ -1,0 +1,22 @@
+//! What a caller can conclude from public contracts.
+//!
+//! Each function here calls the engine as a program does, and its own contract is the conclusion. Its proof knows
+//! of the calls only what their contracts say, and of the definitions only what the public laws say. So a contract
+//! that gets too weak to be of use is refused here.
+#![tactic(auto)]
+
+mod agents;
+mod managers;
+mod replays;
+mod requests;
+mod responses;
+mod sealing;
+mod worlds;
+
+pub use agents::same_answer;
+pub use managers::{take_all_the_same, take_one};
+pub use replays::accept_twice;
+pub use requests::ask;
+pub use responses::answer;
+pub use sealing::seal_and_open;
+pub use worlds::run_replicas;

@@ -1,0 +1,40 @@
+//! Managers that share saved clocks.
+
+ghost use Rattle.std.specs.Prelude.{◌≡◌, ℕ, List, [], IfSome, Some, map, slice_get};
+ghost use Rattle.engine_clock.specs.Marks.{Marks};
+ghost use Rattle.usm_users.specs.User.{User};
+ghost use Rattle.snmp_manager.specs.Views.{Held, held_by};
+ghost use Rattle.snmp_manager.specs.State.{WorldState};
+ghost use Rattle.snmp_manager.specs.Knowledge.{SameKnowledge, at_first, knows_after_all};
+ghost use Rattle.tests_callers.specs.Begun.{begun};
+
+use engine_clock::Clocks;
+use snmp_manager::{Event, World, equal_knowledge_equal_marks};
+use std::alloc::Global;
+use usm_core::Users;
+
+/// Makes a manager of each of these clocks, all with the same users, and lets the events happen: datagrams that they
+/// take, files that they save, absorb, or go on from. Two managers to which the same knowledge came hold equal
+/// marks at the end, whatever the order and however often it came. None if an event names what isn't there, or memory
+/// ran out.
+pub fn run_replicas(
+    alloc: Global,
+    users: &Users,
+    clocks: &[Clocks],
+    events: &[Event],
+) -> Option<World>
+    ensures { IfSome result (λ world. (i j : ℕ) (a b : Held)
+        → slice_get world.managers i ≡ Some a → slice_get world.managers j ≡ Some b
+        → SameKnowledge ((knows_after_all users.now.users events.now (at_first (begun users.now.users clocks.now))).managers i)
+        ((knows_after_all users.now.users events.now (at_first (begun users.now.users clocks.now))).managers j)
+        → a.clocks ≡ b.clocks) }
+{
+    equal_knowledge_equal_marks();
+    let Ok(mut world) = World::new(alloc, users, clocks) else {
+        return None;
+    };
+    let Ok(()) = world.run(events) else {
+        return None;
+    };
+    Some(world)
+}
