@@ -1,12 +1,11 @@
 -- What a caller writes to use the law of replicas.
-use Rattle.std.proofs.Common.{◌≡◌, ◌∙◌, ℕ, List, [], ◌∷◌, Some, None, Result, Ok, refl, sym, ap, subst, zero, suc}
+use Rattle.std.proofs.Common.{◌≡◌, ◌∙◌, ℕ, List, [], ◌∷◌, Some, None, sym, ap, zero, suc}
 use Rattle.std.specs.Prelude.{map, slice_get}
 use Rattle.engine_clock.specs.Marks.{Marks}
 use Rattle.usm_users.specs.User.{User}
 use Rattle.snmp_manager.specs.Views.{Held, held_by}
 use Rattle.snmp_manager.specs.State.{WorldState}
-use Rattle.snmp_manager.specs.Knowledge.{HaveUsers, HasGreatest, at_first, counted, knows_after_all}
-use Rattle.snmp_manager.specs.declared.event.Event.{Event}
+use Rattle.snmp_manager.specs.Knowledge.{HaveUsers}
 use Rattle.tests_callers.specs.Begun.{begun}
 
 abbrev users_of : Held → List User

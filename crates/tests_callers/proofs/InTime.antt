@@ -1,11 +1,8 @@
 -- What a caller writes to use the law of requests.
-use Rattle.std.proofs.Common.{◌≡◌, ◌∙◌, sym, ◌⊎◌, ℕ, List, [], ◌∷◌, Option, Some, None, refl, inl, inr}
-use Rattle.std.specs.Prelude.{◌↔◌, ◌≢◌, ◌≤◌, ◌-◌, Result, Ok, Err, length}
-use Rattle.snmp_ber.specs.declared.level.Level.{Level}
-use Rattle.engine_clock.specs.Pairs.{pair_max}
+use Rattle.std.proofs.Common.{◌≡◌, ℕ, List, Option, Some, None, refl}
+use Rattle.std.specs.Prelude.{◌≢◌, Ok, Err}
 use Rattle.usm_users.specs.User.{User}
-use Rattle.usm_core.specs.Verified.{agent}
-use Rattle.usm_core.specs.Sealed.{Sending, Seals}
+use Rattle.usm_core.specs.Sealed.{Sending}
 use Rattle.snmp_message.specs.Scoped.{Contexts}
 use Rattle.snmp_msg.specs.Pdu.{PduParts}
 use Rattle.usm_core.specs.Table.{refused}
@@ -13,7 +10,7 @@ use Rattle.snmp_message.specs.declared.refusal.Refusal.{Refusal}
 use Rattle.snmp_incoming.specs.Outcome.{Given, Taker, as_agent, as_manager, Outcome}
 use Rattle.snmp_manager.specs.Views.{Held}
 use Rattle.snmp_manager.specs.Takes.{Takes}
-use Rattle.snmp_agent.specs.Agent.{AgentState, AgentTakes, taker_of}
+use Rattle.snmp_agent.specs.Agent.{AgentState, AgentTakes}
 use Rattle.snmp_outgoing.specs.Accepts.{IsInTime, IsTakenInTime}
 
 pub accepted : (taker : Taker) (users : List User) (now : ℕ) (w : List ℕ) (m : Sending) (c : Contexts) (p : PduParts) (g : Given) → IsTakenInTime taker users now w m c p → Outcome taker users now w (Ok g) → (IsInTime taker now m → ⊥) → ⊥

@@ -2,3 +2,4 @@ mod Told
 mod InTime
 mod Twice
 mod Begun
+mod Twins

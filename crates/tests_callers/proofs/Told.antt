@@ -1,6 +1,6 @@
 -- What a caller writes to use the laws.
-use Rattle.std.proofs.Common.{◌≡◌, ◌⊎◌, ℕ, List, [], ◌∷◌, Option, Some, None, refl, inl, inr}
-use Rattle.std.specs.Prelude.{◌↔◌, ◌≢◌, Result, Ok, Err, Contains}
+use Rattle.std.proofs.Common.{ℕ, List, [], ◌∷◌, Option, Some, None, refl, inl, inr}
+use Rattle.std.specs.Prelude.{◌↔◌, ◌≢◌, Result, Err, Contains}
 use Rattle.std.proofs.lemmas.List.Elements.{Contains-append_left, Contains-append_right, Contains-append_cases}
 use Rattle.usm_core.specs.Table.{refused}
 use Rattle.snmp_message.specs.declared.refusal.Refusal.{Refusal}

@@ -1,5 +1,5 @@
 -- What a caller writes to use the law of replays.
-use Rattle.std.proofs.Common.{◌≡◌, refl, sym, ℕ, List, subst, ◌∙◌}
+use Rattle.std.proofs.Common.{◌≡◌, sym, ℕ, List, subst, ◌∙◌}
 use Rattle.std.specs.Prelude.{Result, Ok, ◌≢◌}
 use Rattle.snmp_ber.specs.declared.level.Level.{Level}
 use Rattle.snmp_ber.specs.declared.level.Level.TheVariants.{NoAuthNoPriv, AuthPriv}

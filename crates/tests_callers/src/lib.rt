@@ -6,6 +6,7 @@
 #![tactic(auto)]
 
 mod agents;
+mod keys;
 mod managers;
 mod replays;
 mod requests;
@@ -14,6 +15,7 @@ mod sealing;
 mod worlds;
 
 pub use agents::same_answer;
+pub use keys::two_keys_one_code;
 pub use managers::{take_all_the_same, take_one};
 pub use replays::accept_twice;
 pub use requests::ask;

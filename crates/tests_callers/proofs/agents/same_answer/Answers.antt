@@ -1,4 +1,3 @@
-use Rattle.std.proofs.Common.{◌≡◌}
 use Rattle.vacm_core.specs.Tables.{tables_of}
 use Rattle.tests_callers.proofs.agents.same_answer.Goals as goal
 

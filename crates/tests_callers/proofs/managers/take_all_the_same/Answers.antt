@@ -1,4 +1,4 @@
-use Rattle.std.proofs.Common.{◌≡◌, refl, [], ◌++◌}
+use Rattle.std.proofs.Common.{[]}
 use Rattle.std.specs.Prelude.{◌∷◌, List, ℕ}
 use Rattle.tests_callers.proofs.Told.{swapped}
 use Rattle.tests_callers.proofs.managers.take_all_the_same.Goals as goal

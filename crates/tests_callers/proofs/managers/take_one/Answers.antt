@@ -1,4 +1,3 @@
-use Rattle.std.proofs.Common.{◌≡◌}
 use Rattle.tests_callers.proofs.Told.{told}
 use Rattle.tests_callers.proofs.managers.take_one.Goals as goal
 

@@ -1,4 +1,3 @@
-use Rattle.std.proofs.Common.{◌≡◌, refl, sym}
 use Rattle.std.specs.Prelude.{Ok}
 use Rattle.snmp_incoming.specs.Answers.{given_of}
 use Rattle.tests_callers.proofs.Twice.{again, sealed}

@@ -1,8 +1,4 @@
-use Rattle.std.proofs.Common.{◌≡◌, refl, sym}
-use Rattle.std.specs.Prelude.{List, ℕ, Result, Ok, Err}
 use Rattle.engine_clock.specs.Marks.{mark_at}
-use Rattle.snmp_agent.specs.Agent.{taker_of}
-use Rattle.snmp_incoming.specs.Outcome.{Given, Outcome, as_agent}
 use Rattle.snmp_outgoing.specs.Bodies.{front_in}
 use Rattle.tests_callers.proofs.InTime.{given_in_time, refused_late}
 use Rattle.tests_callers.proofs.requests.ask.Goals as goal

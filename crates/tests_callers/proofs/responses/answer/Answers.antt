@@ -1,5 +1,4 @@
-use Rattle.std.proofs.Common.{◌≡◌, refl}
-use Rattle.snmp_incoming.specs.Answers.{given_of}
+use Rattle.std.proofs.Common.{refl}
 use Rattle.tests_callers.proofs.InTime.{given_to_manager, refused_by_manager}
 use Rattle.tests_callers.proofs.responses.answer.Goals as goal
 

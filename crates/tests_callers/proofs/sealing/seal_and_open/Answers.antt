@@ -1,4 +1,4 @@
-use Rattle.std.proofs.Common.{◌≡◌, ◌≤◌, ℕ, List, rules, subst, ◌∙◌}
+use Rattle.std.proofs.Common.{◌≤◌, ℕ, List, rules, subst, ◌∙◌}
 use Rattle.snmp_message.specs.Layout.{Outer}
 use Rattle.usm_users.specs.User.{User}
 use Rattle.usm_core.specs.Answers.{verified_of}

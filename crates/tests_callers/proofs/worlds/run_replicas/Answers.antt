@@ -1,4 +1,4 @@
-use Rattle.std.proofs.Common.{◌≡◌, Result, subst, sym}
+use Rattle.std.proofs.Common.{Result, subst, sym}
 use Rattle.snmp_manager.specs.State.{WorldState}
 use Rattle.snmp_manager.specs.Knowledge.{HaveUsers, HasGreatest, at_first, counted, knows_after_all}
 use Rattle.snmp_manager.specs.declared.event.WorldStopped.{WorldStopped}
