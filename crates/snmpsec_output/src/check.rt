@@ -115,7 +115,12 @@ pub(crate) fn word_of<'a>(argument: Argument, words: &[&'a str; 6]) -> &'a str {
 /// The answer of these tables.
 pub(crate) fn answer_of(access: &Vacm, question: &Question<'_>) -> Access
     ensures { let q = question.entry.now in
-        let message : Requester = record { model = q.model; name = q.name.now; level = q.level; context = q.context.now } in
+        let message : Requester = record {
+          model = q.model;
+          name = q.name.now;
+          level = q.level;
+          context = q.context.now;
+        } in
         Allowed access.now message q.view q.variable result }
 {
     access.is_access_allowed(

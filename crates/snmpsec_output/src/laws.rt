@@ -9,7 +9,8 @@ use snmp_msg::{one_content, one_pdu};
 
 /// A datagram that is opened by the keys of users has one answer at most: its lines, or one refusal.
 pub fn one_opening()
-    ensures { (users : List User) (w : List ℕ) (a b : Result (List ℕ) Refusal) → Opens users w a → Opens users w b → a ≡ b }
+    ensures { (users : List User) (w : List ℕ) (a b : Result (List ℕ) Refusal)
+        → Opens users w a → Opens users w b → a ≡ b }
 {
     usm_core::one_answer();
     one_content();

@@ -1,6 +1,7 @@
 //! `snmpsec show`: what a message says, a field a line, and its canonical spelling.
 
-ghost use Rattle.std.specs.Prelude.{◌≡◌, ◌≢◌, [], false, Ok, IfOk, OnOk, IsNone, MatchOption, MatchResult, string_bytes};
+ghost use Rattle.std.specs.Prelude.{◌≡◌, ◌≢◌, [], false, Ok, IfOk, OnOk, IsNone, MatchOption, MatchResult};
+ghost use Rattle.std.specs.Prelude.{string_bytes};
 ghost use Rattle.hex.specs.Hex.{decode_of};
 ghost use Rattle.snmp_msg.specs.Canonical.{Says, WholeFits, IsReadLayer, whole_of};
 ghost use Rattle.snmp_message.specs.declared.refusal.Refusal.TheVariants as refusals;

@@ -26,9 +26,10 @@ pub struct Reply<'a> {
     pub salt: [u8; 8],
 }
 
-/// Writes an agent's Response to an accepted request at the moment `now`, and hands it to a manager at the moment `at`.
-/// If the manager has the request's user, it accepts the Response if and only if the agent's pair is in the time window
-/// of what the manager then holds; without authentication always. None if the Response isn't written, or memory ran out.
+/// Writes an agent's Response to an accepted request at the moment `now`, and hands it to a manager at the moment
+/// `at`. If the manager has the request's user, it accepts the Response if and only if the agent's pair is in the
+/// time window of what the manager then holds; without authentication always. None if the Response isn't written, or
+/// memory ran out.
 pub fn answer(
     agent: &mut Agent,
     manager: &mut Manager,

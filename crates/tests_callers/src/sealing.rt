@@ -20,8 +20,9 @@ pub struct Letter<'a> {
     pub scoped: &'a [u8],
 }
 
-/// Seals a message of this pair with privacy by the keys of users, and opens it by those of other users that are the same. What it is
-/// opened to is the ScopedPDU that was sealed, octet for octet. None if a step refuses it, or memory ran out.
+/// Seals a message of this pair with privacy by the keys of users, and opens it by those of other users that are the
+/// same. What it is opened to is the ScopedPDU that was sealed, octet for octet. None if a step refuses it, or memory
+/// ran out.
 pub fn seal_and_open(
     sender: &mut Users,
     receiver: &mut Users,

@@ -5,8 +5,8 @@ ghost use Rattle.engine_clock.specs.Marks.{Marks};
 ghost use Rattle.usm_users.specs.User.{User};
 ghost use Rattle.snmp_manager.specs.Views.{Held, held_by};
 ghost use Rattle.snmp_manager.specs.State.{WorldState};
-ghost use Rattle.snmp_manager.specs.Knowledge.{SameKnowledge, at_first, knows_after_all};
-ghost use Rattle.tests_callers.specs.Begun.{begun};
+ghost use Rattle.snmp_manager.specs.Knowledge.{SameKnowledge};
+ghost use Rattle.tests_callers.specs.Begun.{known_to};
 
 use engine_clock::Clocks;
 use snmp_manager::{Event, World, equal_knowledge_equal_marks};
@@ -25,8 +25,8 @@ pub fn run_replicas(
 ) -> Option<World>
     ensures { IfSome result (λ world. (i j : ℕ) (a b : Held)
         → slice_get world.managers i ≡ Some a → slice_get world.managers j ≡ Some b
-        → SameKnowledge ((knows_after_all users.now.users events.now (at_first (begun users.now.users clocks.now))).managers i)
-        ((knows_after_all users.now.users events.now (at_first (begun users.now.users clocks.now))).managers j)
+        → SameKnowledge (known_to users.now.users clocks.now events.now i)
+        (known_to users.now.users clocks.now events.now j)
         → a.clocks ≡ b.clocks) }
 {
     equal_knowledge_equal_marks();
