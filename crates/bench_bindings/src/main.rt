@@ -15,7 +15,7 @@ ghost use Rattle.snmp_msg.specs.Variables.{CanBeWritten, variable_of};
 
 use anyhow::{Context, Result, bail};
 use pdus::{in_octets, read, response, with_arcs};
-use snmp_msg::{Binding, Pdu, RESPONSE, VariableBinding, write_pdu, write_pdu_of};
+use snmp_msg::{Binding, Pdu, PduType, VariableBinding, write_pdu, write_pdu_of};
 use std::alloc::Global;
 use std::env;
 
@@ -38,14 +38,14 @@ fn walked_in_octets(pdu: &Pdu<'_>) -> u64 {
 fn written_with_arcs(alloc: Global, bindings: &[Binding<'_>]) -> Result<u64>
     requires { All (λ b. CanBeWritten (variable_of b)) bindings.now }
 {
-    let text = write_pdu(alloc, RESPONSE, 1, 0, 0, bindings)?;
+    let text = write_pdu(alloc, PduType::Response.tag(), 1, 0, 0, bindings)?;
     Ok(text.len() as u64)
 }
 
 fn written_in_octets(alloc: Global, bindings: &[VariableBinding<'_>]) -> Result<u64>
     requires { All (λ b. IsTag b.tag) bindings.now }
 {
-    let text = write_pdu_of(alloc, RESPONSE, 1, 0, 0, bindings)?;
+    let text = write_pdu_of(alloc, PduType::Response.tag(), 1, 0, 0, bindings)?;
     Ok(text.len() as u64)
 }
 

@@ -6,7 +6,7 @@ ghost use Rattle.snmp_msg.specs.Variables.{CanBeWritten, variable_of};
 
 use anyhow::{Context, Result, bail};
 use snmp_ber::Oid;
-use snmp_msg::{Binding, Pdu, RESPONSE, VariableBinding, read_pdu, write_pdu};
+use snmp_msg::{Binding, Pdu, PduType, VariableBinding, read_pdu, write_pdu};
 use std::alloc::Global;
 
 /// The bindings of ifInOctets.1 and on, so many.
@@ -31,7 +31,7 @@ fn counters(alloc: Global, count: u32) -> Result<Vec<Binding<'static>>>
 /// A Response with these bindings.
 pub(crate) fn response(alloc: Global, count: u32) -> Result<Vec<u8>> {
     let bindings = counters(alloc, count)?;
-    let text = write_pdu(alloc, RESPONSE, 1, 0, 0, &bindings)?;
+    let text = write_pdu(alloc, PduType::Response.tag(), 1, 0, 0, &bindings)?;
     Ok(text)
 }
 

@@ -2,7 +2,7 @@
 
 ghost use Rattle.std.specs.Prelude.{All, IfOk};
 ghost use Rattle.snmp_ber.specs.Element.{IsTag};
-ghost use Rattle.snmp_msg.specs.Pdu.{IsPduTag};
+ghost use Rattle.snmp_msg.specs.PduTypes.{IsPduTag};
 ghost use Rattle.snmp_msg.specs.Variables.{CanBeWritten, variable_of};
 
 use crate::operation::{MOMENT, SALT, end_of};

@@ -22,3 +22,8 @@ AreAccepted users s =
 pub accepted : (r : Result (Vec ℕ) RefusedAt) (users : List User) (s : Speech) → AreAccepted users s → IfOk r (λ _. SpeechFits s) → IfSome (seal_answer r) (Seals users (spoken s)) → IfOk r (λ text. IsAcceptedByManagers users s text.items)
 accepted (Err e) users s law fits seals = tt
 accepted (Ok text) users s law fits seals = λ others held now same. law others held now text.items fits same seals
+
+-- the same of a text, whatever the other answers are
+pub accepted_text : (r : Result (Vec ℕ) RefusedAt) (users : List User) (s : Speech) → AreAccepted users s → IfOk r (λ _. SpeechFits s) → IfOk r (λ text. Seals users (spoken s) (Ok text.items)) → IfOk r (λ text. IsAcceptedByManagers users s text.items)
+accepted_text (Err e) users s law fits seals = tt
+accepted_text (Ok text) users s law fits seals = λ others held now same. law others held now text.items fits same seals

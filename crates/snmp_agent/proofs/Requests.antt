@@ -4,7 +4,7 @@ use Rattle.snmp_message.specs.Layout.{Parts, Outer}
 use Rattle.snmp_message.specs.Security.{Fields, SecText}
 use Rattle.snmp_message.specs.Scoped.{Contexts, HasScoped}
 use Rattle.snmp_msg.specs.Pdu.{PduParts, PduText}
-use Rattle.snmp_outgoing.specs.Classes.{is_confirmed}
+use Rattle.snmp_msg.specs.PduTypes.{is_confirmed}
 use Rattle.snmp_agent.specs.Report.{PlainPdu, AsksForReport}
 
 module _ (w : List ℕ)
@@ -29,6 +29,3 @@ module _ (w : List ℕ) (one : (w : List ℕ) (m n : Parts) → Outer w m → Ou
   not_answered m outer plain never a =
       let confirmed : (p : PlainPdu w m) → is_confirmed p.pdu.tag ≡ true = subst (λ (n : Parts). (p : PlainPdu w n) → is_confirmed p.pdu.tag ≡ true) (same_parts m outer a) a.confirmed in
       let e : true ≡ false = sym (confirmed plain) ∙ never in absurd cc
-
-pub no_fields : (w : List ℕ) → ((n : Parts) (s : Fields) → Outer w n → SecText n.security_at n.security s → ⊥) → AsksForReport w → ⊥
-no_fields w none a = none a.outer.parts a.security.fields a.outer.is a.security.is

@@ -10,6 +10,8 @@ use Rattle.snmp_ber.specs.declared.level.Level.TheVariants.{NoAuthNoPriv, AuthNo
 use Rattle.snmp_ber.specs.Spelling.{integer}
 use Rattle.snmp_message.specs.Scoped.{scoped_text}
 use Rattle.snmp_msg.specs.Variables.{Variable}
+use Rattle.snmp_msg.specs.PduTypes.{pdu_tag}
+use Rattle.snmp_msg.specs.declared.pdu_type.PduType.TheVariants.{Report}
 use Rattle.snmp_msg.specs.Pdu.{PduParts, pdu_with, pdu_text}
 use Rattle.engine_clock.specs.Pairs.{BootsAndTime}
 use Rattle.usm_core.specs.Sealed.{Sending}
@@ -29,7 +31,7 @@ counter_variable n value = record { name = counter_name n; tag = 65; content = i
 abbrev pub counter_scoped : List ℕ → ℤ → List ℕ → ℕ → List ℕ
 counter_scoped engine request_id name value =
     scoped_text engine []
-    (pdu_text (pdu_with 168 request_id (pos 0) (pos 0)
+    (pdu_text (pdu_with (pdu_tag Report) request_id (pos 0) (pos 0)
     (record { name = name; tag = 65; content = integer (pos value) } ∷ [])))
 
 -- usmStatsNotInTimeWindows, whose number is 2, is reported with authentication (RFC 3414, section 3.2, step
@@ -67,7 +69,7 @@ count_report engine own g p counter value salt = record {
   salt = salt;
   context_engine = engine;
   context_name = [];
-  pdu = pdu_with 168 p.id (pos 0) (pos 0) (count_variable counter value ∷ []);
+  pdu = pdu_with (pdu_tag Report) p.id (pos 0) (pos 0) (count_variable counter value ∷ []);
 }
 
 abbrev pub refusing : List ℕ → BootsAndTime → Given → PduParts → Counter → ℕ → List ℕ → Sending

@@ -8,6 +8,8 @@ use Rattle.std.specs.List.{AllZip}
 use Rattle.snmp_ber.specs.declared.level.Level.{Level}
 use Rattle.snmp_message.specs.Scoped.{Contexts}
 use Rattle.snmp_msg.specs.Variables.{Variable, AreBindings}
+use Rattle.snmp_msg.specs.PduTypes.{pdu_tag}
+use Rattle.snmp_msg.specs.declared.pdu_type.PduType.TheVariants.{GetRequest, SetRequest}
 use Rattle.snmp_msg.specs.Pdu.{PduParts}
 use Rattle.vacm_core.specs.Tables.{Tables, HaveSameRows}
 use Rattle.vacm_core.specs.Allowed.{Requester, Allowed}
@@ -29,14 +31,15 @@ question_of g c = question g.user g.level c.name
 
 -- A GetRequest is decided by the read view, and a SetRequest by the write view.
 abbrev pub IsDecidedBy : ℕ → ViewType → Type 0
-IsDecidedBy tag view = ((tag ≡ 160) × (view ≡ Read)) ⊎ ((tag ≡ 163) × (view ≡ Write))
+IsDecidedBy tag view = ((tag ≡ pdu_tag GetRequest) × (view ≡ Read))
+    ⊎ ((tag ≡ pdu_tag SetRequest) × (view ≡ Write))
 
 -- the answer for the name of each variable, in their order
 abbrev pub AreAnswers : Tables → Requester → ViewType → List Variable → List Access → Type 0
 AreAnswers tables message view vs answers = AllZip (λ v answer. Allowed tables message view v.name answer) vs answers
 
 abbrev pub IsDecision : Tables → Given → Contexts → PduParts → Decision → Type 0
-IsDecision tables g c p NotByName = (p.tag ≢ 160) × (p.tag ≢ 163)
+IsDecision tables g c p NotByName = (p.tag ≢ pdu_tag GetRequest) × (p.tag ≢ pdu_tag SetRequest)
 IsDecision tables g c p (ByName answers) =
     (view : ViewType) × IsDecidedBy p.tag view
     × ((vs : List Variable) × AreBindings vs p.list × AreAnswers tables (question_of g c) view vs answers.items)

@@ -11,12 +11,12 @@ use Rattle.snmp_message.specs.declared.refusal.Refusal.{Refusal}
 use Rattle.std.specs.Prelude.{◌≡◌, ◌⊎◌, ℕ, true, List, Option, Some, None, Result, Ok, Err}
 use Rattle.std.specs.Global.{Vec}
 use Rattle.snmp_message.specs.Scoped.{Contexts}
+use Rattle.snmp_msg.specs.PduTypes.{IsRead, IsResponse, IsWrite, is_confirmed}
 use Rattle.snmp_msg.specs.Pdu.{PduParts}
 use Rattle.vacm_core.specs.Tables.{Tables}
 use Rattle.vacm_core.specs.Allowed.{HasContext}
 use Rattle.snmp_message.specs.declared.refused_at.RefusedAt.{RefusedAt}
 use Rattle.snmp_incoming.specs.Outcome.{Given}
-use Rattle.snmp_outgoing.specs.Classes.{is_confirmed}
 use Rattle.snmp_outgoing.specs.declared.counter.Counter.{Counter}
 use Rattle.snmp_outgoing.specs.declared.counter.Counter.TheVariants as counters
 use Rattle.snmp_agent.specs.CounterReports.{refusing}
@@ -30,14 +30,10 @@ use Rattle.snmp_agent.specs.Report.{report_of}
 
 -- ---- which are answered
 
--- the PDUs that a command responder is registered for: GetRequest, GetNextRequest, SetRequest and GetBulkRequest
+-- the PDUs that a command responder is registered for, those of the Read and the Write Class: GetRequest,
+-- GetNextRequest, GetBulkRequest and SetRequest
 abbrev pub IsCommand : ℕ → Type 0
-IsCommand tag = (tag ≡ 160) ⊎ ((tag ≡ 161) ⊎ ((tag ≡ 163) ⊎ (tag ≡ 165)))
-
--- the PDUs of the Response Class (RFC 3411, section 2.8), a Response and a Report: they go to the request
--- that waits for them
-abbrev pub IsAnswer : ℕ → Type 0
-IsAnswer tag = (tag ≡ 162) ⊎ (tag ≡ 168)
+IsCommand tag = IsRead tag ⊎ IsWrite tag
 
 -- A command responder is registered for the PDU at this contextEngineID: the engine's own, and no other.
 abbrev pub IsRegistered : List ℕ → Contexts → PduParts → Type 0
@@ -46,8 +42,9 @@ IsRegistered engine c p = (c.engine ≡ engine) × IsCommand p.tag
 -- None where it is to be answered; else the first that applies
 abbrev pub HandledBy : List ℕ → Tables → Contexts → PduParts → Option Unhandled → Type 0
 HandledBy engine tables c p None = IsRegistered engine c p × HasContext tables.contexts c.name
-HandledBy engine tables c p (Some NoRequest) = IsAnswer p.tag
-HandledBy engine tables c p (Some UnknownPduHandlers) = (IsAnswer p.tag → ⊥) × (IsRegistered engine c p → ⊥)
+-- a PDU of the Response Class goes to the request that waits for it
+HandledBy engine tables c p (Some NoRequest) = IsResponse p.tag
+HandledBy engine tables c p (Some UnknownPduHandlers) = (IsResponse p.tag → ⊥) × (IsRegistered engine c p → ⊥)
 HandledBy engine tables c p (Some UnknownContexts) = IsRegistered engine c p × (HasContext tables.contexts c.name → ⊥)
 HandledBy engine tables c p (Some UnavailableContexts) = ⊥
 

@@ -16,7 +16,7 @@ use Rattle.usm_users.specs.User.{User}
 use Rattle.usm_core.specs.Verified.{OuterOf, SecurityOf}
 use Rattle.usm_core.specs.Sealed.{Sending, SealedText}
 use Rattle.snmp_incoming.specs.Outcome.{Taker, own_pair, Outcome}
-use Rattle.snmp_outgoing.specs.Classes.{is_confirmed}
+use Rattle.snmp_msg.specs.PduTypes.{is_confirmed}
 use Rattle.snmp_agent.specs.CounterReports.{reporting}
 use Rattle.snmp_agent.specs.declared.asking.ReportedMessage.{ReportedMessage}
 use Rattle.snmp_agent.specs.Counting.{counter_of, counter_at}

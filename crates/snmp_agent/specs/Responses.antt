@@ -6,6 +6,8 @@
 use Rattle.std.specs.Prelude.{ℕ, ℤ, false, List}
 use Rattle.snmp_message.specs.Scoped.{Contexts}
 use Rattle.snmp_msg.specs.Variables.{Variable}
+use Rattle.snmp_msg.specs.PduTypes.{pdu_tag}
+use Rattle.snmp_msg.specs.declared.pdu_type.PduType.TheVariants.{Response}
 use Rattle.snmp_msg.specs.Pdu.{PduParts, pdu_with}
 use Rattle.engine_clock.specs.Pairs.{BootsAndTime}
 use Rattle.usm_core.specs.Sealed.{Sending}
@@ -26,7 +28,7 @@ response engine own g c p status index vs salt = record {
   salt = salt;
   context_engine = c.engine;
   context_name = c.name;
-  pdu = pdu_with 162 p.id status index vs;
+  pdu = pdu_with (pdu_tag Response) p.id status index vs;
 }
 
 abbrev pub responding : List ℕ → BootsAndTime → Given → Contexts → PduParts → ℤ → ℤ → List Variable → List ℕ → Sending

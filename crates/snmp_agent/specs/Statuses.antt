@@ -3,6 +3,8 @@
 -- `IsStatusOf` (RFC 3413, section 3.2). The answer on access and the tag of the PDU for which each status
 -- is due.
 use Rattle.std.specs.Prelude.{◌≡◌, ◌≢◌, ◌⊎◌, ℕ}
+use Rattle.snmp_msg.specs.PduTypes.{pdu_tag}
+use Rattle.snmp_msg.specs.declared.pdu_type.PduType.TheVariants.{GetRequest, SetRequest}
 use Rattle.vacm_core.specs.declared.access.Access.{Access}
 use Rattle.vacm_core.specs.declared.access.Access.TheVariants.{NoSuchContext, NoGroupName, NoAccessEntry, NoSuchView}
 use Rattle.vacm_core.specs.declared.access.Access.TheVariants.{NotInView, AccessAllowed}
@@ -15,9 +17,10 @@ abbrev pub IsStatusOf : Access → ℕ → Status → Type 0
 IsStatusOf access tag NoError = access ≡ AccessAllowed
 IsStatusOf access tag UnknownContext = access ≡ NoSuchContext
 IsStatusOf access tag AuthorizationError = (access ≡ NoGroupName) ⊎ ((access ≡ NoAccessEntry) ⊎ (access ≡ NoSuchView))
-IsStatusOf access tag NoAccess = (access ≡ NotInView) × (tag ≡ 163)
-IsStatusOf access tag NoSuchObject = (access ≡ NotInView) × (tag ≡ 160)
-IsStatusOf access tag NotSeen = (access ≡ NotInView) × (tag ≢ 160) × (tag ≢ 163)
+IsStatusOf access tag NoAccess = (access ≡ NotInView) × (tag ≡ pdu_tag SetRequest)
+IsStatusOf access tag NoSuchObject = (access ≡ NotInView) × (tag ≡ pdu_tag GetRequest)
+IsStatusOf access tag NotSeen = (access ≡ NotInView) × (tag ≢ pdu_tag GetRequest)
+    × (tag ≢ pdu_tag SetRequest)
 
 -- the error-status (RFC 3416, section 3), or the exception's tag, or one that no message has
 abbrev pub status_number : Status → ℕ

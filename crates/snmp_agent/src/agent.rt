@@ -1,6 +1,7 @@
 //! The agent.
 
 ghost use Rattle.std.specs.Prelude.{◌≡◌, ◌≤◌, ◌<◌, ◌⊎◌, replicate, IfErr, IsSome, MatchOption, MatchResult};
+ghost use Rattle.snmp_ber.specs.declared.number.TheConstants.{MAX_INTEGER32};
 ghost use Rattle.engine_clock.specs.Pairs.{pair_max};
 ghost use Rattle.snmp_agent.specs.Counting.{counter_at};
 ghost use Rattle.snmp_agent.specs.Agent.{taker_of, taken_answer, AgentTakes, IsOpened};
@@ -28,7 +29,7 @@ use snmp_msg::{Binding, Refusal, RefusedAt, Spelled, USER_BASED, one_content, on
 use snmp_outgoing::{Body, Front, supports};
 use std::alloc::{AllocError, Global};
 use std::marker::Model;
-use usm_core::Users;
+use usm_core::{Users, read_layout};
 use vacm_core::{Access, Vacm, ViewType};
 
 /// An authoritative engine (RFC 3414, section 1.5.1), with its users, its view-based access (RFC 3415) and
@@ -64,6 +65,8 @@ impl Model for Agent {
 impl Agent {
     ghost use Rattle.std.specs.Prelude.{◌≢◌, All, map, length, IfOk, IsOk, IfSome, IsErrOf};
     ghost use Rattle.snmp_message.specs.Scoped.{Contexts, ScopedFront};
+    ghost use Rattle.snmp_msg.specs.PduTypes.{pdu_tag};
+    ghost use Rattle.snmp_msg.specs.declared.pdu_type.PduType.TheVariants.{GetRequest, SetRequest, SNMPv2Trap};
     ghost use Rattle.snmp_msg.specs.Pdu.{PduParts, PduText};
     ghost use Rattle.snmp_msg.specs.Variables.{CanBeWritten, variable_of};
     ghost use Rattle.vacm_core.specs.Allowed.{Allowed};
@@ -141,7 +144,8 @@ impl Agent {
             → (OffersOnAnswer (taker_of self.old) self.old.users now datagram.now → ⊥)
             → IsSome (taken_answer result) }
     {
-        let why = match judge(&mut self.users, &self.engine, now, datagram) {
+        let read = read_layout(datagram);
+        let why = match judge(&mut self.users, &self.engine, now, datagram, &read) {
             Ok(taken) => return Ok(taken),
             Err(why) => why,
         };
@@ -161,6 +165,7 @@ impl Agent {
             &counters,
             why.refusal,
             datagram,
+            &read,
         ) {
             Ok(report) => {
                 self.counters = counters;
@@ -213,7 +218,7 @@ impl Agent {
         ensures decision { IfOk result
             (λ d. (c : Contexts) (p : PduParts) → ScopedFront (text_of taken.now.text) c → PduText c.pdu p
             → IsDecision self.now.tables (given_of taken.now) c p d) }
-        ensures no_memory { taken.now.tag ≢ 160 → taken.now.tag ≢ 163 → IsOk result }
+        ensures no_memory { taken.now.tag ≢ pdu_tag GetRequest → taken.now.tag ≢ pdu_tag SetRequest → IsOk result }
     {
         one_content();
         one_pdu();
@@ -340,9 +345,9 @@ impl Agent {
         body: &Body<'_>,
         salt: [u8; 8],
     ) -> Result<Vec<u8>, RefusedAt>
-        requires id { id ≤ 2147483647 }
+        requires id { id ≤ MAX_INTEGER32 }
         requires user { length user.now ≤ 32 }
-        requires tag { body.now.tag ≡ 167 }
+        requires tag { body.now.tag ≡ pdu_tag SNMPv2Trap }
         requires body { BodyFits body.now }
         ensures answer { IfSome (seal_answer result)
             (Sends self.old now (λ own. notifying self.old.engine own id user.now level (front_in body.now)
@@ -374,9 +379,9 @@ impl Agent {
         bindings: &[B],
         salt: [u8; 8],
     ) -> Result<Vec<u8>, RefusedAt>
-        requires id { id ≤ 2147483647 }
+        requires id { id ≤ MAX_INTEGER32 }
         requires user { length user.now ≤ 32 }
-        requires tag { front.now.tag ≡ 167 }
+        requires tag { front.now.tag ≡ pdu_tag SNMPv2Trap }
         requires fit { All (λ b. B.fits b) bindings.now }
         ensures answer { IfSome (seal_answer result)
             (Sends self.old now (λ own. notifying self.old.engine own id user.now level front.now

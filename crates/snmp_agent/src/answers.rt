@@ -1,21 +1,23 @@
 //! Answers for each variable that a PDU names.
 
 ghost use Rattle.std.specs.Prelude.{◌≢◌, List, IfOk, MatchOption};
+ghost use Rattle.snmp_msg.specs.PduTypes.{pdu_tag};
 ghost use Rattle.snmp_msg.specs.Variables.{Variable, AreBindings};
 ghost use Rattle.snmp_agent.specs.Decides.{question, IsDecidedBy, AreAnswers};
 
 use snmp_incoming::Taken;
-use snmp_msg::{GET_REQUEST, Pdu, SET_REQUEST, USER_BASED};
+use snmp_msg::{Pdu, PduType, USER_BASED};
 use std::alloc::{AllocError, Global};
 use vacm_core::{Access, Vacm, ViewType};
 
 /// The view by which a PDU with this tag is decided: the read view for a GetRequest, the write view for a SetRequest.
 pub(crate) fn view_for(tag: u8) -> Option<ViewType>
-    ensures { MatchOption result ((tag ≢ 160) × (tag ≢ 163)) (IsDecidedBy tag) }
+    ensures { MatchOption result ((tag ≢ pdu_tag PduType.GetRequest) × (tag ≢ pdu_tag PduType.SetRequest))
+        (IsDecidedBy tag) }
 {
-    if tag == GET_REQUEST {
+    if tag == PduType::GetRequest.tag() {
         Some(ViewType::Read)
-    } else if tag == SET_REQUEST {
+    } else if tag == PduType::SetRequest.tag() {
         Some(ViewType::Write)
     } else {
         None

@@ -11,7 +11,7 @@ ghost use Rattle.snmp_message.specs.Refusals.{IsRefused};
 
 use engine_clock::EngineId;
 use snmp_ber::{Oid, int_content};
-use snmp_msg::{Binding, COUNTER32, LARGEST, REPORT, RefusedAt};
+use snmp_msg::{Binding, COUNTER32, LARGEST, PduType, RefusedAt};
 use snmp_outgoing::{Body, Envelope, write_body};
 use usm_core::Users;
 
@@ -45,7 +45,7 @@ pub fn write_counter_report(
     let body = Body {
         context_engine: engine.as_slice(),
         context_name: &[],
-        tag: REPORT,
+        tag: PduType::Report.tag(),
         id: request_id,
         second: 0,
         third: 0,

@@ -10,7 +10,7 @@ ghost use Rattle.snmp_incoming.specs.Answers.{given_of};
 ghost use Rattle.snmp_incoming.specs.Outcome.{own_pair};
 ghost use Rattle.usm_core.specs.Answers.{seal_answer};
 ghost use Rattle.snmp_outgoing.specs.UpTo.{UpTo};
-ghost use Rattle.snmp_outgoing.specs.Fronts.{front_answer};
+ghost use Rattle.snmp_outgoing.specs.Fronts.{IsBeyond, front_answer, room};
 ghost use Rattle.snmp_agent.specs.Counts.{count_at, one_more};
 ghost use Rattle.snmp_agent.specs.Responses.{response, responding};
 ghost use Rattle.snmp_agent.specs.Sent.{Sends, SendsFront, CanBeSent, IsAcceptedByManagers};
@@ -20,15 +20,17 @@ ghost use Rattle.snmp_message.specs.declared.refusal.Refusal.TheVariants.{OutOfM
 ghost use Rattle.snmp_message.specs.Refusals.{IsRefused};
 
 use crate::agent::Agent;
-use crate::commands::{is_answer, is_command};
+use crate::commands::{is_command, is_response};
 use crate::counter::one_more;
 use crate::refusal::{Counted, write_refusal_report};
-use crate::response::{Response, write_response_front};
+use crate::response::{Response, write_response_front, write_response_within};
 use crate::response_laws::response_is_accepted;
 use crate::unhandled::Unhandled;
 use snmp_incoming::Taken;
-use snmp_msg::{Binding, Pdu, Refusal, RefusedAt, Scoped, Spelled, one_content, one_pdu};
-use snmp_outgoing::{Counter, Fronted, is_confirmed};
+use snmp_msg::{
+    Binding, Pdu, Refusal, RefusedAt, Scoped, Spelled, is_confirmed, one_content, one_pdu,
+};
+use snmp_outgoing::{Counter, Fronted};
 
 impl Agent {
     /// How many messages this counter has counted.
@@ -65,7 +67,7 @@ impl Agent {
     fn handled_by(&self, scoped: &Scoped<'_>, pdu: &Pdu<'_>) -> Option<Unhandled>
         ensures { HandledBy self.now.engine self.now.tables (contexts_of scoped.now) (pdu_of pdu.now) result }
     {
-        if is_answer(pdu.tag) {
+        if is_response(pdu.tag) {
             return Some(Unhandled::NoRequest);
         }
         if scoped.engine != self.engine.id.as_slice() {
@@ -150,7 +152,8 @@ impl Agent {
     }
 
     /// What `respond` gives where that has at most `limit` octets, as the sender's msgMaxSize
-    /// (`Taken::max_size`) or a local constraint, and else TooLarge (16).
+    /// (`Taken::max_size`) or a local constraint, and else TooLarge (16). The length is counted before any key is
+    /// looked for, so what is too large costs no sealing and takes no memory.
     ///
     /// The errors are those of `respond`, in its order. Where it is TooLarge, a tooBig is sent by calling
     /// this again with status 1 and no bindings (RFC 3416, section 4.2.1); a limit of 484 octets is enough
@@ -178,6 +181,13 @@ impl Agent {
             → CanBeSent self.old now
             (λ own. responding self.old.engine own (given_of taken.now) c p status index
             (map variable_of bindings.now) salt) }
+
+        // What is too long is told before memory is asked for.
+        ensures counted { (c : Contexts) (p : PduParts) → ScopedFront (text_of taken.now.text) c → PduText c.pdu p
+            → IsRefused result OutOfMemory
+            → IsBeyond self.old.users (room limit)
+            (responding self.old.engine (own_pair self.old.boots self.old.started now) (given_of taken.now) c p
+            status index (map variable_of bindings.now) salt) → ⊥ }
         ensures accepted { (c : Contexts) (p : PduParts) → ScopedFront (text_of taken.now.text) c → PduText c.pdu p
             → IfOk result (λ text. IsAcceptedByManagers self.old.users
             (response self.old.engine (own_pair self.old.boots self.old.started now)
@@ -211,17 +221,37 @@ impl Agent {
             → CanBeSent self.old now
             (λ own. responding self.old.engine own (given_of taken.now) c p status index
             (map B.says bindings.now) salt) }
+
+        // What is too long is told before memory is asked for.
+        ensures counted { (c : Contexts) (p : PduParts) → ScopedFront (text_of taken.now.text) c → PduText c.pdu p
+            → IsRefused result OutOfMemory
+            → IsBeyond self.old.users (room limit)
+            (responding self.old.engine (own_pair self.old.boots self.old.started now) (given_of taken.now) c p
+            status index (map B.says bindings.now) salt) → ⊥ }
         ensures accepted { (c : Contexts) (p : PduParts) → ScopedFront (text_of taken.now.text) c → PduText c.pdu p
             → IfOk result (λ text. IsAcceptedByManagers self.old.users
             (response self.old.engine (own_pair self.old.boots self.old.started now)
             (given_of taken.now) c p status index (map B.says bindings.now) salt) text.items) }
         ensures same { self.new ≡ self.old }
     {
-        let text = self.respond_of(now, taken, status, index, bindings, salt)?;
-        if text.len() > limit {
-            return Err(RefusedAt::plain(Refusal::TooLarge));
-        }
-        Ok(text)
+        response_is_accepted();
+        let Some(own) = self.engine.pair(now) else {
+            return Err(RefusedAt::plain(Refusal::ClockExhausted));
+        };
+        let response = Response {
+            status,
+            index,
+            salt,
+        };
+        write_response_within(
+            &mut self.users,
+            &self.engine.id,
+            own,
+            taken,
+            &response,
+            bindings,
+            limit,
+        )
     }
 
     /// The Response with the longest front of the bindings whose text has at most `limit` octets, as a

@@ -37,14 +37,4 @@ impl Engine {
             time: time as u32,
         })
     }
-
-    /// Its identifier. This takes no memory.
-    pub(crate) fn id(&self) -> EngineId
-        ensures { result ≡ self.now.id }
-    {
-        let Some(id) = EngineId::of(self.id.as_slice()) else {
-            unreachable!();
-        };
-        id
-    }
 }

@@ -24,14 +24,17 @@
 //!
 //! ```
 //! use snmp_agent::{Status, status_of};
-//! use snmp_msg::{GET_REQUEST, SET_REQUEST};
+//! use snmp_msg::PduType;
 //! use vacm_core::Access;
 //!
 //! assert_eq!(rt;
-//!     status_of(Access::NotInView, GET_REQUEST),
+//!     status_of(Access::NotInView, PduType::GetRequest.tag()),
 //!     Status::NoSuchObject
 //! );
-//! assert_eq!(rt; status_of(Access::NotInView, SET_REQUEST), Status::NoAccess);
+//! assert_eq!(rt;
+//!     status_of(Access::NotInView, PduType::SetRequest.tag()),
+//!     Status::NoAccess
+//! );
 //! ```
 #![tactic(auto)]
 
@@ -63,7 +66,7 @@ pub use decision::Decision;
 pub use laws::{agents_decide_alike, notification_is_accepted};
 pub use refusal::{Counted, write_refusal_report};
 pub use refused::Refused;
-pub use response::{Response, write_response, write_response_front};
+pub use response::{Response, write_response, write_response_front, write_response_within};
 pub use response_laws::{
     refusal_is_short, report_is_short, response_is_accepted, too_big_is_short,
 };

@@ -1,8 +1,9 @@
 //! Notifications.
 
 ghost use Rattle.std.specs.Prelude.{◌≡◌, ◌≤◌, All, length, map, IfOk, IfSome, IsErrOf};
+ghost use Rattle.snmp_ber.specs.declared.number.TheConstants.{MAX_INTEGER32};
 ghost use Rattle.engine_clock.specs.Pairs.{IsPair};
-ghost use Rattle.snmp_msg.specs.Pdu.{IsPduTag};
+ghost use Rattle.snmp_msg.specs.PduTypes.{IsPduTag};
 ghost use Rattle.usm_core.specs.Sealed.{Seals, IsSealable};
 ghost use Rattle.usm_core.specs.Answers.{seal_answer};
 ghost use Rattle.snmp_outgoing.specs.Speaks.{SpeechFits};
@@ -25,7 +26,7 @@ pub(crate) struct Recipient<'a> {
     pub(crate) user: &'a [u8],
     pub(crate) level: Level,
     pub(crate) salt: [u8; 8],
-    pub(crate) ghost id_fits: { id ≤ 2147483647 },
+    pub(crate) ghost id_fits: { id ≤ MAX_INTEGER32 },
     pub(crate) ghost user_fits: { length user.now ≤ 32 },
 }
 

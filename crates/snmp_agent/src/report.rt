@@ -1,8 +1,9 @@
 //! Reports (RFC 3414, section 3.2).
 
-ghost use Rattle.std.specs.Prelude.{◌≡◌, Some, IfOk, OnErr, IfSome};
+ghost use Rattle.std.specs.Prelude.{◌≡◌, Some, None, IfOk, IsErr, OnErr, IfSome};
 ghost use Rattle.snmp_ber.specs.declared.level.Level.TheVariants.{AuthNoPriv};
 ghost use Rattle.usm_users.specs.Users.{HasUserAt};
+ghost use Rattle.usm_core.specs.Layouts.{IsLayoutOf};
 ghost use Rattle.usm_core.specs.Sealed.{SealedText};
 ghost use Rattle.snmp_incoming.specs.Outcome.{Outcome, own_pair};
 ghost use Rattle.usm_core.specs.Table.{refusal_answer};
@@ -18,12 +19,13 @@ use crate::counting::counter_of;
 use crate::engine::Engine;
 use engine_clock::{EngineId, Pair};
 use snmp_ber::{Level, Oid};
-use snmp_msg::{Refusal, one_cut, one_message};
+use snmp_msg::{Refusal, RefusedAt, one_cut, one_message};
 use snmp_outgoing::{Envelope, counter_name};
 use std::alloc::AllocError;
-use usm_core::{Users, verified_was_read};
+use usm_core::{Layout, Users, verified_was_read};
 
-/// The report on a refusal of the datagram, or None where none is offered. These are the counters after the refusal.
+/// The report on a refusal of the datagram, or None where none is offered: by what was read of it before, and the
+/// counters after the refusal.
 ///
 /// The error is want of memory. Where no report is offered, no memory is taken.
 pub(crate) fn report(
@@ -33,9 +35,12 @@ pub(crate) fn report(
     counters: &[u32; 6],
     why: Refusal,
     datagram: &[u8],
+    read: &Result<Layout<'_>, RefusedAt>,
 ) -> Result<Option<Vec<u8>>, AllocError>
     requires rows { IfSome (refusal_answer why)
         (Outcome (taker_at engine.now) users.old.users now datagram.now) }
+    requires layout { IfOk read.now (IsLayoutOf datagram.now) }
+    requires unread { IsErr read.now → counter_of why ≡ None }
     ensures users { users.new.users ≡ users.old.users }
     ensures report { IfOk result
         (λ r. IsReport users.old.users engine.now.id
@@ -49,7 +54,10 @@ pub(crate) fn report(
     let Some(n) = counter_of(why) else {
         return Ok(None);
     };
-    let Some(asking) = asking(datagram) else {
+    let Ok(layout) = read else {
+        return Ok(None);
+    };
+    let Some(asking) = asking(datagram, layout) else {
         return Ok(None);
     };
     let Some(own) = engine.pair(now) else {

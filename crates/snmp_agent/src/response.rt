@@ -1,9 +1,10 @@
 //! Responses.
 
-ghost use Rattle.std.specs.Prelude.{◌≡◌, List, [], All, map, take, IfOk, IfSome, IsErrOf};
+ghost use Rattle.std.specs.Prelude.{◌≡◌, List, [], All, map, take, IfOk, IfSome, Ok};
 ghost use Rattle.engine_clock.specs.Engines.{IsEngine};
 ghost use Rattle.engine_clock.specs.Pairs.{IsPair};
 ghost use Rattle.snmp_message.specs.Scoped.{Contexts, ScopedFront, scoped_text};
+ghost use Rattle.snmp_msg.specs.PduTypes.{pdu_tag};
 ghost use Rattle.snmp_msg.specs.Pdu.{PduParts, PduText, pdu_with, pdu_text};
 ghost use Rattle.snmp_msg.specs.Variables.{Variable};
 ghost use Rattle.usm_core.specs.Sealed.{Seals, IsSealable};
@@ -12,16 +13,17 @@ ghost use Rattle.snmp_incoming.specs.Answers.{given_of};
 ghost use Rattle.snmp_outgoing.specs.Bodies.{pdu_after, scoped_after};
 ghost use Rattle.snmp_outgoing.specs.Sends.{sent_with};
 ghost use Rattle.usm_core.specs.Answers.{seal_answer};
-ghost use Rattle.snmp_outgoing.specs.Fronts.{SealsFront, front_answer};
+ghost use Rattle.snmp_outgoing.specs.Fronts.{IsBeyond, SealsFront, front_answer, room};
 ghost use Rattle.snmp_outgoing.specs.Speaks.{SpeechFits};
+ghost use Rattle.snmp_outgoing.specs.UpTo.{UpTo};
 ghost use Rattle.snmp_agent.specs.Responses.{response as speech, responding};
 ghost use Rattle.snmp_message.specs.declared.refusal.Refusal.TheVariants.{OutOfMemory};
 ghost use Rattle.snmp_message.specs.Refusals.{IsRefused};
 
 use engine_clock::{EngineId, Pair};
 use snmp_incoming::Taken;
-use snmp_msg::{RESPONSE, RefusedAt, Spelled, one_content, one_pdu};
-use snmp_outgoing::{Envelope, Front, Fronted, write_body_of, write_front};
+use snmp_msg::{PduType, RefusedAt, Spelled, one_content, one_pdu};
+use snmp_outgoing::{Envelope, Front, Fronted, write_body_of, write_front, write_within};
 use usm_core::Users;
 
 /// What a Response says besides what it copies and its bindings.
@@ -49,7 +51,7 @@ fn envelope<'a>(
     ensures user { result.user.now ≡ taken.now.user.now }
     ensures message { (c : Contexts) (p : PduParts) (vs : List Variable)
         → sent_with result (scoped_text c.engine c.name
-        (pdu_text (pdu_with 162 p.id response.now.status response.now.index vs)))
+        (pdu_text (pdu_with (pdu_tag PduType.Response) p.id response.now.status response.now.index vs)))
         ≡ responding engine.now own
         (given_of taken.now) c p response.now.status response.now.index vs response.now.salt }
 {
@@ -66,14 +68,15 @@ fn envelope<'a>(
 
 /// What it says besides its bindings: the contexts and the request-id of what was taken.
 fn front<'a>(taken: &'a Taken<'_>, response: &Response) -> Front<'a>
-    ensures tag { result.tag ≡ 162 }
+    ensures tag { result.tag ≡ pdu_tag PduType.Response }
     ensures pdu { (c : Contexts) (p : PduParts) (vs : List Variable) → ScopedFront (text_of taken.now.text) c
         → PduText c.pdu p
-        → pdu_after result vs ≡ pdu_with 162 p.id response.now.status response.now.index vs }
+        → pdu_after result vs ≡ pdu_with (pdu_tag PduType.Response) p.id response.now.status response.now.index vs }
     ensures scoped { (c : Contexts) (p : PduParts) (vs : List Variable) → ScopedFront (text_of taken.now.text) c
         → PduText c.pdu p
         → scoped_after result vs
-        ≡ scoped_text c.engine c.name (pdu_text (pdu_with 162 p.id response.now.status response.now.index vs)) }
+        ≡ scoped_text c.engine c.name
+        (pdu_text (pdu_with (pdu_tag PduType.Response) p.id response.now.status response.now.index vs)) }
 {
     one_content();
     one_pdu();
@@ -82,7 +85,7 @@ fn front<'a>(taken: &'a Taken<'_>, response: &Response) -> Front<'a>
     Front {
         context_engine: scoped.engine,
         context_name: scoped.name,
-        tag: RESPONSE,
+        tag: PduType::Response.tag(),
         id: pdu.id,
         second: response.status,
         third: response.index,
@@ -92,7 +95,7 @@ fn front<'a>(taken: &'a Taken<'_>, response: &Response) -> Front<'a>
 /// The Response to what was taken, with these bindings, from this engine with its own boots and time, each at
 /// most 2147483647.
 ///
-/// The errors are those of `send_of`, in its order.
+/// The errors are those of `write_body_of`, in its order.
 pub fn write_response<B: Spelled>(
     users: &mut Users,
     engine: &EngineId,
@@ -124,10 +127,54 @@ pub fn write_response<B: Spelled>(
     write_body_of(users, &envelope, &front, bindings)
 }
 
+/// The same Response, where it has at most `limit` octets. Its length is counted before any key is looked for.
+///
+/// The errors are those of `write_within`, in its order.
+pub fn write_response_within<B: Spelled>(
+    users: &mut Users,
+    engine: &EngineId,
+    own: Pair,
+    taken: &Taken<'_>,
+    response: &Response,
+    bindings: &[B],
+    limit: usize,
+) -> Result<Vec<u8>, RefusedAt>
+    requires bindings { All (λ b. B.fits b) bindings.now }
+    requires pair { IsPair own }
+    ensures rows { (c : Contexts) (p : PduParts) → ScopedFront (text_of taken.now.text) c → PduText c.pdu p
+        → IfSome (seal_answer result)
+        (UpTo limit (Seals users.old.users
+        (responding engine.now own (given_of taken.now) c p response.now.status response.now.index
+        (map B.says bindings.now) response.now.salt))) }
+    ensures sealed { (c : Contexts) (p : PduParts) → ScopedFront (text_of taken.now.text) c → PduText c.pdu p
+        → IfOk result (λ text. Seals users.old.users
+        (responding engine.now own (given_of taken.now) c p response.now.status response.now.index
+        (map B.says bindings.now) response.now.salt) (Ok text.items)) }
+    ensures memory { (c : Contexts) (p : PduParts) → ScopedFront (text_of taken.now.text) c → PduText c.pdu p
+        → IsRefused result OutOfMemory
+        → IsSealable users.old.users
+        (responding engine.now own (given_of taken.now) c p response.now.status response.now.index
+        (map B.says bindings.now) response.now.salt) }
+    ensures counted { (c : Contexts) (p : PduParts) → ScopedFront (text_of taken.now.text) c → PduText c.pdu p
+        → IsRefused result OutOfMemory
+        → IsBeyond users.old.users (room limit)
+        (responding engine.now own (given_of taken.now) c p response.now.status response.now.index
+        (map B.says bindings.now) response.now.salt) → ⊥ }
+    ensures fits { (c : Contexts) (p : PduParts) → ScopedFront (text_of taken.now.text) c → PduText c.pdu p
+        → IfOk result (λ _. SpeechFits
+        (speech engine.now own (given_of taken.now) c p response.now.status response.now.index
+        (map B.says bindings.now) response.now.salt)) }
+    ensures users { users.new.users ≡ users.old.users }
+{
+    let envelope = envelope(engine, own, taken, response);
+    let front = front(taken, response);
+    write_within(users, &envelope, &front, bindings, limit)
+}
+
 /// The Response to what was taken, with the longest front of these bindings whose text has at most `limit`
 /// octets, and how many bindings that has.
 ///
-/// The errors are those of `send_front`, in its order.
+/// The errors are those of `write_front`, in its order.
 pub fn write_response_front<B: Spelled>(
     users: &mut Users,
     engine: &EngineId,

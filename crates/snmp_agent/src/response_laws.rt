@@ -1,8 +1,11 @@
 //! Laws of Responses and reports. Each function does nothing: its contract is the law.
 
 ghost use Rattle.std.specs.Prelude.{◌≡◌, ◌≤◌, ℕ, ℤ, List, [], length, Ok};
+ghost use Rattle.snmp_ber.specs.declared.number.TheConstants.{MAX_INTEGER32};
 ghost use Rattle.snmp_message.specs.Scoped.{Contexts};
 ghost use Rattle.snmp_msg.specs.Variables.{Variable};
+ghost use Rattle.snmp_msg.specs.PduTypes.{pdu_tag};
+ghost use Rattle.snmp_msg.specs.declared.pdu_type.PduType.TheVariants.{Response};
 ghost use Rattle.snmp_msg.specs.Pdu.{PduParts, pdu_with};
 ghost use Rattle.engine_clock.specs.Pairs.{BootsAndTime, IsPair};
 ghost use Rattle.engine_clock.specs.Marks.{Marks};
@@ -29,7 +32,8 @@ pub fn response_is_accepted()
         → SpeechFits (response engine own g c p status index vs salt) → HasSameUser manager senders users g.user g.level
         → Seals senders (responding engine own g c p status index vs salt) (Ok text)
         → IsTakenInTime (as_manager held) users now text (responding engine own g c p status index vs salt)
-        (spoken_contexts (response engine own g c p status index vs salt)) (pdu_with 162 p.id status index vs) }
+        (spoken_contexts (response engine own g c p status index vs salt))
+        (pdu_with (pdu_tag Response) p.id status index vs) }
 {
     spoken_is_accepted();
 }
@@ -38,7 +42,7 @@ pub fn response_is_accepted()
 pub fn report_is_short()
     ensures { (users : List User) (engine : List ℕ) (own : BootsAndTime) (id : ℕ) (user : List ℕ) (request_id : ℤ)
         (n value : ℕ) (text : List ℕ)
-        → length engine ≤ 32 → IsPair own → id ≤ 2147483647 → length user ≤ 32
+        → length engine ≤ 32 → IsPair own → id ≤ MAX_INTEGER32 → length user ≤ 32
         → SealedText users (reporting engine own id user request_id n value) text → length text ≤ 484 }
 {
     one_element();
@@ -49,7 +53,7 @@ pub fn report_is_short()
 pub fn refusal_is_short()
     ensures { (users : List User) (engine : List ℕ) (own : BootsAndTime) (g : Given) (p : PduParts) (counter : Which)
         (value : ℕ) (salt text : List ℕ)
-        → length engine ≤ 32 → IsPair own → g.id ≤ 2147483647 → length g.user ≤ 32 → length salt ≡ 8
+        → length engine ≤ 32 → IsPair own → g.id ≤ MAX_INTEGER32 → length g.user ≤ 32 → length salt ≡ 8
         → SealedText users (refusing engine own g p counter value salt) text → length text ≤ 484 }
 {
     one_element();
@@ -61,7 +65,7 @@ pub fn refusal_is_short()
 pub fn too_big_is_short()
     ensures { (users : List User) (engine : List ℕ) (own : BootsAndTime) (g : Given) (c : Contexts) (p : PduParts)
         (status index : ℤ) (salt text : List ℕ)
-        → length engine ≤ 32 → IsPair own → g.id ≤ 2147483647 → length g.user ≤ 32 → length salt ≡ 8
+        → length engine ≤ 32 → IsPair own → g.id ≤ MAX_INTEGER32 → length g.user ≤ 32 → length salt ≡ 8
         → length c.engine ≤ 32 → length c.name ≤ 32
         → SealedText users (responding engine own g c p status index [] salt) text → length text ≤ 484 }
 {

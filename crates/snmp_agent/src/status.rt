@@ -3,7 +3,7 @@
 ghost use Rattle.std.specs.Prelude.{◌≡◌};
 ghost use Rattle.snmp_agent.specs.Statuses.{IsStatusOf, status_number};
 
-use snmp_msg::{GET_REQUEST, SET_REQUEST};
+use snmp_msg::PduType;
 use vacm_core::Access;
 
 /// What becomes of a variable of a request, or of the whole request, by the answer of isAccessAllowed on it.
@@ -52,9 +52,9 @@ pub fn status_of(access: Access, tag: u8) -> Status
             Status::AuthorizationError
         }
         Access::NotInView => {
-            if tag == SET_REQUEST {
+            if tag == PduType::SetRequest.tag() {
                 Status::NoAccess
-            } else if tag == GET_REQUEST {
+            } else if tag == PduType::GetRequest.tag() {
                 Status::NoSuchObject
             } else {
                 Status::NotSeen

@@ -6,6 +6,7 @@ ghost use Rattle.snmp_ber.specs.Number.{IsInteger32};
 ghost use Rattle.snmp_ber.specs.Element.{IsTag, IsElement};
 ghost use Rattle.snmp_ber.specs.Spelling.{element, integer};
 ghost use Rattle.snmp_ber.specs.Oid.{AreArcs, IsObjectId, IsIdentifier, identifier};
+ghost use Rattle.snmp_ber.specs.declared.number.TheConstants.{MAX_INTEGER32};
 
 /// No spelling of an element begins another's, so a text begins with one element at most. The canonical spelling is a
 /// spelling, and none is shorter (X.690, sections 8.1.3 and 10.1).
@@ -22,9 +23,9 @@ pub fn one_element()
 /// The numbers of 32 bits with sign are those that two's complement spells in at most 4 octets and no fewer
 /// than needed, and each has one such content (X.690, section 8.3).
 pub fn one_integer()
-    ensures spelled { (z : ℤ) → negsuc 2147483647 ≤ℤ z → z ≤ℤ pos 2147483647 → IsInteger32 z (integer z) }
+    ensures spelled { (z : ℤ) → negsuc MAX_INTEGER32 ≤ℤ z → z ≤ℤ pos MAX_INTEGER32 → IsInteger32 z (integer z) }
     ensures range { (z : ℤ) (content : List ℕ) → AreOctets content → IsInteger32 z content
-        → (negsuc 2147483647 ≤ℤ z) × (z ≤ℤ pos 2147483647) }
+        → (negsuc MAX_INTEGER32 ≤ℤ z) × (z ≤ℤ pos MAX_INTEGER32) }
     ensures one { (z : ℤ) (a b : List ℕ) → AreOctets a → AreOctets b → IsInteger32 z a → IsInteger32 z b → a ≡ b }
 {}
 

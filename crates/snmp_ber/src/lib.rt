@@ -31,7 +31,7 @@ pub use fault::BerFault;
 pub use identifier::{is_oid, oid_len, put_oid, read_oid};
 pub use laws::{one_element, one_identifier, one_integer};
 pub use level::{Level, levels_rise};
-pub use number::{int_content, is_unsigned64, put_int, read_int, read_unsigned};
+pub use number::{MAX_INTEGER32, int_content, is_unsigned64, put_int, read_int, read_unsigned};
 pub use object_name::ObjectName;
 pub use oid::Oid;
 pub use split::{find, split_once};

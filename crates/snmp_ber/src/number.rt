@@ -10,6 +10,11 @@ use crate::element::{number_of, put_tlv};
 use arrayvec::ArrayVec;
 use std::alloc::AllocError;
 
+/// The greatest number of 31 bits: of an Integer32 (RFC 2578, section 7.1.1), of the numbers in msgGlobalData
+/// (RFC 3412, section 6), and of boots and time (RFC 3414, section 2.2). The least Integer32 is one below its
+/// negative.
+pub const MAX_INTEGER32: u32 = 2_147_483_647;
+
 /// No shorter content spells the same number.
 fn is_fewest(content: &[u8]) -> bool
     ensures { result ≡ has_fewest content.now }
@@ -95,7 +100,7 @@ pub fn is_unsigned64(content: &[u8]) -> bool
 
 /// How many octets a number takes in two's complement.
 fn count_octets(value: i64) -> usize
-    requires least { negsuc 2147483647 ≤ℤ value }
+    requires least { negsuc MAX_INTEGER32 ≤ℤ value }
     requires most { value ≤ℤ pos 4294967295 }
     ensures count { result ≡ octet_count value }
     ensures most { result ≤ 5 }
@@ -117,7 +122,7 @@ fn count_octets(value: i64) -> usize
 /// high octet first.
 #[tactic(auto, unfolding(crate::specs::Spelling::integer))]
 pub fn int_content(value: i64) -> ArrayVec<u8, 5>
-    requires least { negsuc 2147483647 ≤ℤ value }
+    requires least { negsuc MAX_INTEGER32 ≤ℤ value }
     requires most { value ≤ℤ pos 4294967295 }
     ensures spelled { IsInteger value result.items }
     ensures octets { result.items ≡ integer value }

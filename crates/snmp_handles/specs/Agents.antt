@@ -19,11 +19,13 @@ use Rattle.snmp_message.specs.declared.refusal.Refusal.{Refusal}
 use Rattle.std.specs.Prelude.{◌≡◌, ◌<◌, ◌≤◌, ◌⊎◌, All, ℕ, pos, List, [], length, replicate, Option, Some, None}
 use Rattle.std.specs.Prelude.{Result, Ok, Err, IfSome, false, true}
 use Rattle.snmp_ber.specs.declared.level.Level.{Level}
+use Rattle.snmp_ber.specs.declared.number.TheConstants.{MAX_INTEGER32}
 use Rattle.snmp_message.specs.Scoped.{Contexts, ScopedFront}
 use Rattle.snmp_msg.specs.Pdu.{PduParts, PduText, pdu_with}
 use Rattle.snmp_msg.specs.Variables.{Variable, AreBindings}
 use Rattle.snmp_incoming.specs.Outcome.{Given, Outcome}
-use Rattle.snmp_outgoing.specs.Classes.{is_confirmed}
+use Rattle.snmp_msg.specs.PduTypes.{is_confirmed, pdu_tag}
+use Rattle.snmp_msg.specs.declared.pdu_type.PduType.TheVariants.{SNMPv2Trap}
 use Rattle.usm_core.specs.Table.{refusal_answer}
 use Rattle.snmp_agent.specs.Agent.{AgentState, AgentTakes, IsOpened, taker_of}
 use Rattle.snmp_agent.specs.Report.{AgentReports, OffersOnAnswer}
@@ -186,7 +188,7 @@ HasNoBindings agent now g list = CanSendAt agent now g.user g.level × ((vs : Li
 -- or that the octets aren't bindings.
 abbrev pub RefusesAnswer : AgentHeld → ℕ → ℕ → ℕ → List ℕ → (Given → Refusal → Type 0) → CallFault → Type 0
 RefusesAnswer held now status index list Stops (Refused fault) = (g : Given) × IsAsked held g × Stops g fault
-RefusesAnswer held now status index list Stops BadArgument = (2147483647 < status) ⊎ (2147483647 < index)
+RefusesAnswer held now status index list Stops BadArgument = (MAX_INTEGER32 < status) ⊎ (MAX_INTEGER32 < index)
 RefusesAnswer held now status index list Stops NothingTaken = held.last ≡ None
 RefusesAnswer held now status index list Stops NotAsked = (g : Given) × (held.last ≡ Some g)
     × (is_confirmed g.tag ≡ false)
@@ -233,7 +235,7 @@ trap engine own n level vs salt = record {
   salt = salt;
   context_engine = n.context_engine;
   context_name = n.context_name;
-  pdu = pdu_with 167 (pos n.request_id) (pos 0) (pos 0) vs;
+  pdu = pdu_with (pdu_tag SNMPv2Trap) (pos n.request_id) (pos 0) (pos 0) vs;
 }
 
 -- the notification at this level
@@ -255,7 +257,7 @@ StopsNotice agent now n level list salt fault =
 -- a number or the name is out of its range
 abbrev pub IsNoticeOutOfRange : Notice → Type 0
 IsNoticeOutOfRange n = (level_of n.level ≡ None)
-    ⊎ ((2147483647 < n.id) ⊎ ((2147483647 < n.request_id) ⊎ (32 < length n.user)))
+    ⊎ ((MAX_INTEGER32 < n.id) ⊎ ((MAX_INTEGER32 < n.request_id) ⊎ (32 < length n.user)))
 
 abbrev pub RefusesNotice : AgentHeld → ℕ → Notice → List ℕ → List ℕ → CallFault → Type 0
 RefusesNotice held now n list salt (Refused fault) = (at : Level) × (level_of n.level ≡ Some at)

@@ -4,7 +4,7 @@ use Rattle.std.specs.Global.{Vec}
 use Rattle.snmp_ber.specs.declared.level.Level.{Level}
 use Rattle.snmp_msg.specs.Variables.{Variable, AreBindings}
 use Rattle.snmp_incoming.specs.Outcome.{Given}
-use Rattle.snmp_outgoing.specs.Classes.{is_confirmed}
+use Rattle.snmp_msg.specs.PduTypes.{is_confirmed}
 use Rattle.snmp_agent.specs.Agent.{AgentState}
 use Rattle.snmp_agent.specs.Sent.{CanSendAt, RefusesSenderAt}
 use Rattle.snmp_handles.specs.Agents.{Responds, StopsResponse, HasNoBindings, Notice, NotifiesAt, StopsNotice}

@@ -9,8 +9,10 @@ use Rattle.std.specs.FinMap as map
 use Rattle.std.specs.Prelude.{◌≡◌, ◌<◌, ◌⊎◌, ℕ, pos, List, [], length, Option, Some, None, Result, Ok, Err, IfSome}
 use Rattle.snmp_ber.specs.declared.level.Level.{Level}
 use Rattle.snmp_ber.specs.declared.level.Level.TheVariants.{NoAuthNoPriv}
+use Rattle.snmp_ber.specs.declared.number.TheConstants.{MAX_INTEGER32}
 use Rattle.snmp_message.specs.Scoped.{Contexts, ScopedFront, scoped_text}
-use Rattle.snmp_msg.specs.Pdu.{PduParts, PduText, IsPduTag, pdu_with, pdu_text}
+use Rattle.snmp_msg.specs.Pdu.{PduParts, PduText, pdu_with, pdu_text}
+use Rattle.snmp_msg.specs.PduTypes.{IsPduTag, is_confirmed}
 use Rattle.snmp_msg.specs.Variables.{Variable, AreBindings}
 use Rattle.engine_clock.specs.Pairs.{BootsAndTime}
 use Rattle.engine_clock.specs.Marks.{Marks, SeenPair, mark_at, pair_at, IsMarkJoinOf}
@@ -20,7 +22,6 @@ use Rattle.usm_users.specs.User.{User}
 use Rattle.usm_core.specs.Sealed.{Sending, Seals}
 use Rattle.snmp_incoming.specs.Outcome.{Given}
 use Rattle.snmp_message.specs.declared.refusal.Refusal.TheVariants.{OutOfMemory}
-use Rattle.snmp_outgoing.specs.Classes.{is_confirmed}
 use Rattle.snmp_outgoing.specs.Bodies.{header_at}
 use Rattle.snmp_outgoing.specs.Sends.{CanSend, RefusesSender}
 use Rattle.usm_core.specs.Table.{refusal_answer}
@@ -139,8 +140,8 @@ AsksAt held now ask level list salt answer =
 abbrev pub IsOutOfRange : Asking → Type 0
 IsOutOfRange ask =
     (level_of ask.level ≡ None) ⊎ ((HasEngineLength ask.engine → ⊥) ⊎ ((IsPduTag ask.tag → ⊥) ⊎ ((32 < length ask.user)
-    ⊎ ((2147483647 < ask.id)
-    ⊎ ((2147483647 < ask.request_id) ⊎ ((2147483647 < ask.second) ⊎ (2147483647 < ask.third)))))))
+    ⊎ ((MAX_INTEGER32 < ask.id)
+    ⊎ ((MAX_INTEGER32 < ask.request_id) ⊎ ((MAX_INTEGER32 < ask.second) ⊎ (MAX_INTEGER32 < ask.third)))))))
 
 -- Nothing can be sent for the user at this level; or it can, and the request is refused, or finds no memory.
 abbrev pub StopsRequest : Held → ℕ → Asking → Level → List ℕ → List ℕ → Refusal → Type 0
@@ -175,7 +176,7 @@ abbrev pub DiscoversHeld : {V : Type 0} → ManagerHeld → ℕ → Result V Cal
 DiscoversHeld old id (Ok done) new =
     (text : List ℕ) × (a : Pending) × Seals old.manager.users (discovering id) (Ok text)
     × Remembers a id [] [] NoAuthNoPriv [] [] (pos id) × Waits old text a new
-DiscoversHeld old id (Err BadArgument) new = (2147483647 < id) × (new ≡ old)
+DiscoversHeld old id (Err BadArgument) new = (MAX_INTEGER32 < id) × (new ≡ old)
 DiscoversHeld old id (Err (Refused fault)) new = (fault ≡ OutOfMemory) × (new ≡ old)
 DiscoversHeld old id (Err _) new = ⊥
 

@@ -14,14 +14,14 @@ ghost use Rattle.snmp_handles.specs.Between.{AnswersResponse, AnswersNotice, not
 use crate::bindings::bindings_of;
 use crate::dispatch::can_answer;
 use crate::fault::CallFault;
-use crate::in_range::{GREATEST, NoticeInRange, Reply};
+use crate::in_range::{NoticeInRange, Reply};
 use crate::numbers::{level_of, view_of};
 use crate::parts::{Part, copied_message, copied_part, numbers_of};
 use engine_clock::EngineId;
 use snmp_agent::Agent;
-use snmp_ber::Oid;
+use snmp_ber::{MAX_INTEGER32, Oid};
 use snmp_incoming::Kept;
-use snmp_msg::Refusal;
+use snmp_msg::{PduType, Refusal};
 use snmp_outgoing::Front;
 use snmpsec_config::{Config, ConfigFault};
 use std::alloc::Global;
@@ -132,7 +132,7 @@ fn notice(
     let front = Front {
         context_engine: to.context_engine,
         context_name: to.context_name,
-        tag: snmp_msg::TRAP,
+        tag: PduType::SNMPv2Trap.tag(),
         id: to.request_id as i32,
         second: 0,
         third: 0,
@@ -162,7 +162,7 @@ impl AgentHandle {
         let Some(engine) = own_engine(engine) else {
             return Err(CallFault::BadArgument);
         };
-        if boots > GREATEST {
+        if boots > MAX_INTEGER32 {
             return Err(CallFault::BadArgument);
         }
         match Config::read(alloc, config) {
@@ -223,7 +223,7 @@ impl AgentHandle {
                 return Err(CallFault::Refused(refused.why.refusal));
             }
         };
-        match Kept::of(self.alloc, &taken) {
+        match Kept::of(self.alloc, taken) {
             Ok(kept) => {
                 self.last = Some(kept);
                 Ok(())

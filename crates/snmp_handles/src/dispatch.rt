@@ -6,7 +6,7 @@ ghost use Rattle.std.specs.Prelude.{◌≡◌, IfErr, IfOk, OnErr, Some, true};
 ghost use Rattle.std.specs.Int.{to_be_bytes, w64};
 ghost use Rattle.snmp_agent.specs.Counts.{count_at, one_more};
 ghost use Rattle.snmp_agent.specs.Sent.{CanSendAt};
-ghost use Rattle.snmp_outgoing.specs.Classes.{is_confirmed};
+ghost use Rattle.snmp_msg.specs.PduTypes.{is_confirmed};
 ghost use Rattle.snmp_outgoing.specs.declared.counter.Counter.TheVariants.{SilentDrops};
 ghost use Rattle.snmp_handles.specs.Between.{CannotAnswer};
 ghost use Rattle.snmp_handles.specs.Parts.{TellsMaxSize};
@@ -20,7 +20,8 @@ use crate::in_range::Reply;
 use crate::parts::max_size_of;
 use snmp_agent::{Agent, Unhandled};
 use snmp_incoming::Kept;
-use snmp_outgoing::{Counter, Fronted, is_confirmed};
+use snmp_msg::is_confirmed;
+use snmp_outgoing::{Counter, Fronted};
 use std::alloc::Global;
 
 /// Whether what was kept can be answered at all. The errors are NotAsked, where its PDU isn't of the

@@ -2,16 +2,14 @@
 
 ghost use Rattle.std.specs.Prelude.{◌≡◌, ◌<◌, ◌≤◌, ◌⊎◌, ◌↔◌, IsTrue, MatchOption, Some, length};
 ghost use Rattle.std.specs.Int.{to_be_bytes, w64};
-ghost use Rattle.snmp_msg.specs.Pdu.{IsPduTag};
+ghost use Rattle.snmp_ber.specs.declared.number.TheConstants.{MAX_INTEGER32};
+ghost use Rattle.snmp_msg.specs.PduTypes.{IsPduTag};
 
 use crate::agent::NoticeTo;
 use crate::manager::AskedOf;
 use crate::numbers::level_of;
 use engine_clock::EngineId;
-use snmp_ber::Level;
-
-/// The greatest number of 31 bits, as of msgID (RFC 3412, section 6) and of snmpEngineBoots.
-pub(crate) const GREATEST: u32 = 2_147_483_647;
+use snmp_ber::{Level, MAX_INTEGER32};
 
 /// What a Response says besides what it copies.
 #[derive(Clone, Copy)]
@@ -23,18 +21,18 @@ pub(crate) struct Reply<'a> {
     /// The octets of its bindings, one after another.
     pub(crate) list: &'a [u8],
     pub(crate) salt: [u8; 8],
-    pub(crate) ghost status_fits: { status ≤ 2147483647 },
-    pub(crate) ghost index_fits: { index ≤ 2147483647 },
+    pub(crate) ghost status_fits: { status ≤ MAX_INTEGER32 },
+    pub(crate) ghost index_fits: { index ≤ MAX_INTEGER32 },
 }
 
 impl<'a> Reply<'a> {
     /// None where a number is above 2147483647.
     pub(crate) fn of(status: u32, index: u32, list: &'a [u8], salt: u64) -> Option<Reply<'a>>
-        ensures { MatchOption result ((2147483647 < status) ⊎ (2147483647 < index))
+        ensures { MatchOption result ((MAX_INTEGER32 < status) ⊎ (MAX_INTEGER32 < index))
             (λ reply. (reply.status ≡ status) × (reply.index ≡ index) × (reply.list.now ≡ list.now)
             × (reply.salt ≡ to_be_bytes w64 salt)) }
     {
-        if status > GREATEST || index > GREATEST {
+        if status > MAX_INTEGER32 || index > MAX_INTEGER32 {
             return None;
         }
         Some(Reply {
@@ -51,8 +49,8 @@ impl<'a> Reply<'a> {
 pub(crate) struct NoticeInRange<'a> {
     pub(crate) to: NoticeTo<'a>,
     pub(crate) level: Level,
-    pub(crate) ghost id_fits: { to.id ≤ 2147483647 },
-    pub(crate) ghost request_fits: { to.request_id ≤ 2147483647 },
+    pub(crate) ghost id_fits: { to.id ≤ MAX_INTEGER32 },
+    pub(crate) ghost request_fits: { to.request_id ≤ MAX_INTEGER32 },
     pub(crate) ghost user_fits: { length to.user.now ≤ 32 },
 }
 
@@ -69,7 +67,7 @@ impl<'a> NoticeInRange<'a> {
         let Some(level) = level_of(to.level) else {
             return None;
         };
-        if to.id > GREATEST || to.request_id > GREATEST || to.user.len() > 32 {
+        if to.id > MAX_INTEGER32 || to.request_id > MAX_INTEGER32 || to.user.len() > 32 {
             return None;
         }
         Some(NoticeInRange { to: *to, level })
@@ -93,12 +91,12 @@ pub(crate) struct AskedInRange<'a> {
     pub(crate) engine: EngineId,
     pub(crate) level: Level,
     pub(crate) ghost engine_is: { engine ≡ of.engine.now },
-    pub(crate) ghost id_fits: { of.id ≤ 2147483647 },
+    pub(crate) ghost id_fits: { of.id ≤ MAX_INTEGER32 },
     pub(crate) ghost user_fits: { length of.user.now ≤ 32 },
     pub(crate) ghost tag_fits: { IsPduTag of.tag },
-    pub(crate) ghost request_fits: { of.request_id ≤ 2147483647 },
-    pub(crate) ghost second_fits: { of.second ≤ 2147483647 },
-    pub(crate) ghost third_fits: { of.third ≤ 2147483647 },
+    pub(crate) ghost request_fits: { of.request_id ≤ MAX_INTEGER32 },
+    pub(crate) ghost second_fits: { of.second ≤ MAX_INTEGER32 },
+    pub(crate) ghost third_fits: { of.third ≤ MAX_INTEGER32 },
 }
 
 impl<'a> AskedInRange<'a> {
@@ -114,10 +112,10 @@ impl<'a> AskedInRange<'a> {
         let (Some(level), Some(engine)) = (level_of(of.level), EngineId::of(of.engine)) else {
             return None;
         };
-        if !is_pdu_tag(of.tag) || of.user.len() > 32 || of.id > GREATEST {
+        if !is_pdu_tag(of.tag) || of.user.len() > 32 || of.id > MAX_INTEGER32 {
             return None;
         }
-        if of.request_id > GREATEST || of.second > GREATEST || of.third > GREATEST {
+        if of.request_id > MAX_INTEGER32 || of.second > MAX_INTEGER32 || of.third > MAX_INTEGER32 {
             return None;
         }
         Some(AskedInRange {

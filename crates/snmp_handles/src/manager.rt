@@ -14,9 +14,10 @@ ghost use Rattle.snmp_handles.specs.Asked.{AnswersRequest, asking_of};
 
 use crate::bindings::bindings_of;
 use crate::fault::CallFault;
-use crate::in_range::{AskedInRange, GREATEST};
+use crate::in_range::AskedInRange;
 use crate::parts::{Part, copied_message, copied_part, numbers_of};
 use engine_clock::{ClockFault, Clocks, EngineId, Pair};
+use snmp_ber::MAX_INTEGER32;
 use snmp_incoming::Kept;
 use snmp_manager::{Answer, Manager, Pending, answer_of};
 use snmp_msg::Refusal;
@@ -233,7 +234,7 @@ impl ManagerHandle {
     pub fn discover(&mut self, id: u32) -> Result<(), CallFault>
         ensures { DiscoversHeld self.old id result self.new }
     {
-        if id > GREATEST {
+        if id > MAX_INTEGER32 {
             return Err(CallFault::BadArgument);
         }
         match self.manager.discover(id) {

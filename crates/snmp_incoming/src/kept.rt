@@ -28,6 +28,7 @@ pub struct Kept {
 
 impl Model for Kept {
     ghost use Rattle.std.specs.Prelude.{◌≤◌, length};
+    ghost use Rattle.snmp_ber.specs.declared.number.TheConstants.{MAX_INTEGER32};
     ghost use Rattle.snmp_incoming.specs.Outcome.{Given};
     ghost use Rattle.snmp_incoming.specs.Texts.{ContextsThere, HasTag, StandsThere};
 
@@ -43,30 +44,39 @@ impl Model for Kept {
       text = k.text.items;
     } };
 
-    ghost invariant = { λ k. (length k.user.items ≤ 32) × (k.id ≤ 2147483647) × (484 ≤ k.max_size)
-        × (k.max_size ≤ 2147483647) × ∥ HasTag k.text.items k.tag ∥₁
+    ghost invariant = { λ k. (length k.user.items ≤ 32) × (k.id ≤ MAX_INTEGER32) × (484 ≤ k.max_size)
+        × (k.max_size ≤ MAX_INTEGER32) × ∥ HasTag k.text.items k.tag ∥₁
         × ContextsThere k.text.items k.contexts × StandsThere k.text.items k.tag k.pdu × (k.pdu.list_at ≤ k.pdu.end)
         × (k.pdu.end ≤ length k.text.items) };
 }
 
 impl Kept {
-    /// A copy of an accepted datagram. The error is want of memory.
-    pub fn of(alloc: Global, taken: &Taken<'_>) -> Result<Kept, AllocError>
-        ensures { IfOk result (λ kept. kept ≡ given_of taken.now) }
+    /// An accepted datagram with octets of its own: what was decrypted is moved, and what is lent is copied.
+    /// The error is want of memory.
+    pub fn of(alloc: Global, taken: Taken<'_>) -> Result<Kept, AllocError>
+        ensures { IfOk result (λ kept. kept ≡ given_of taken.entry) }
     {
-        let Some(engine) = EngineId::of(taken.engine.as_slice()) else {
-            unreachable!();
-        };
+        let Taken {
+            engine,
+            user,
+            level,
+            id,
+            max_size,
+            tag,
+            text,
+            contexts,
+            pdu,
+        } = taken;
         Ok(Kept {
             engine,
-            user: taken.user.to_vec(alloc)?,
-            level: taken.level,
-            id: taken.id,
-            max_size: taken.max_size,
-            tag: taken.tag,
-            text: taken.text.as_slice().to_vec(alloc)?,
-            contexts: taken.contexts,
-            pdu: taken.pdu,
+            user: user.to_vec(alloc)?,
+            level,
+            id,
+            max_size,
+            tag,
+            text: text.into_vec(alloc)?,
+            contexts,
+            pdu,
         })
     }
 
@@ -74,11 +84,8 @@ impl Kept {
     pub fn taken(&self) -> Taken<'_>
         ensures { given_of result ≡ self.now }
     {
-        let Some(engine) = EngineId::of(self.engine.as_slice()) else {
-            unreachable!();
-        };
         Taken {
-            engine,
+            engine: self.engine.copy(),
             user: self.user.as_slice(),
             level: self.level,
             id: self.id,

@@ -14,7 +14,6 @@ ghost use Rattle.snmp_incoming.specs.Answers.{answer_of, IsOpening, RefusesText}
 use crate::octets::Octets;
 use crate::place::PduPlace;
 use crate::taken::Taken;
-use engine_clock::EngineId;
 use snmp_ber::Level;
 use snmp_msg::{
     Refusal, RefusedAt, ScopedPlace, place_scoped_front, plain_from_data, read_pdu, whole_slice,
@@ -63,12 +62,7 @@ fn place(fault: RefusedAt, base: usize) -> usize {
 ///
 /// The error is BadScoped (12), exactly where the octets don't begin with a ScopedPDU, or BadPdu (13),
 /// exactly where its data is no PDU. It takes no memory.
-pub fn read_text<'a>(
-    checked: &Checked<'a>,
-    engine: EngineId,
-    text: Octets<'a>,
-) -> Result<Taken<'a>, RefusedAt>
-    requires engine { engine ≡ checked.now.security.engine.now }
+pub fn read_text<'a>(checked: &Checked<'a>, text: Octets<'a>) -> Result<Taken<'a>, RefusedAt>
     ensures { IsSomeAnd (answer_of result) (ReadsText (verified_of checked.now) (text_of text.entry)) }
 {
     let base = match text {
@@ -78,7 +72,7 @@ pub fn read_text<'a>(
     let found = read_place(text.as_slice(), base)?;
     let (tag, contexts, pdu) = found;
     Ok(Taken {
-        engine,
+        engine: checked.engine.copy(),
         user: checked.security.user,
         level: checked.level,
         id: checked.message.header.id,

@@ -2,6 +2,7 @@
 
 ghost use Rattle.std.specs.Prelude.{◌≤◌, length};
 ghost use Rattle.std.proofs.Props.{props};
+ghost use Rattle.snmp_ber.specs.declared.number.TheConstants.{MAX_INTEGER32};
 ghost use Rattle.snmp_incoming.specs.Texts.{text_of, ContextsThere, HasTag, StandsThere};
 
 use crate::octets::Octets;
@@ -28,8 +29,8 @@ pub struct Taken<'a> {
     pub(crate) contexts: ScopedPlace,
     pub(crate) pdu: PduPlace,
     pub ghost user_fits: { length user.now ≤ 32 },
-    pub ghost id_fits: { id ≤ 2147483647 },
-    pub ghost size_fits: { (484 ≤ max_size) × (max_size ≤ 2147483647) },
+    pub ghost id_fits: { id ≤ MAX_INTEGER32 },
+    pub ghost size_fits: { (484 ≤ max_size) × (max_size ≤ MAX_INTEGER32) },
     pub ghost is_read: { ∥ HasTag (text_of text) tag ∥₁ },
     pub ghost contexts_stand: { ContextsThere (text_of text) contexts } by { Prim.hlevel props },
     pub ghost stands: { StandsThere (text_of text) tag pdu } by { Prim.hlevel props },

@@ -11,6 +11,8 @@ use Rattle.snmp_ber.specs.Number.{IsUnsigned}
 use Rattle.snmp_ber.specs.declared.level.Level.TheVariants.{NoAuthNoPriv}
 use Rattle.snmp_message.specs.Scoped.{Contexts}
 use Rattle.snmp_msg.specs.Variables.{Variable, AreBindings}
+use Rattle.snmp_msg.specs.PduTypes.{pdu_tag}
+use Rattle.snmp_msg.specs.declared.pdu_type.PduType.TheVariants as types
 use Rattle.snmp_msg.specs.Pdu.{PduParts}
 use Rattle.snmp_incoming.specs.Outcome.{Given}
 use Rattle.snmp_outgoing.specs.Counters.{counter_name, name_of}
@@ -30,11 +32,11 @@ pub record IsResponseTo (a : Pending) (g : Given) (c : Contexts) (p : PduParts) 
   pub context_engine : c.engine ≡ a.context_engine.items
   pub context_name : c.name ≡ a.context_name.items
   pub request_id : p.id ≡ a.request_id
-  pub tag : p.tag ≡ 162
+  pub tag : p.tag ≡ pdu_tag types.Response
 
 -- a Report: it has no more in common than msgID
 abbrev pub IsReportTo : Pending → Given → PduParts → Type 0
-IsReportTo a g p = (g.id ≡ a.id) × (p.tag ≡ 168)
+IsReportTo a g p = (g.id ≡ a.id) × (p.tag ≡ pdu_tag types.Report)
 
 -- the only binding names counter n; its value isn't looked at
 abbrev pub NamesCounter : List Variable → ℕ → Type 0

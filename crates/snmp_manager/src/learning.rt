@@ -6,19 +6,9 @@ ghost use Rattle.usm_core.specs.Answers.{verified_of};
 ghost use Rattle.snmp_incoming.specs.Outcome.{IsFresh, pair_in, as_manager};
 ghost use Rattle.snmp_manager.specs.Learning.{LearnsChecked};
 
-use engine_clock::{Clocks, EngineId, Mark, Pair, in_window_manager};
+use engine_clock::{Clocks, Mark, Pair, in_window_manager};
 use std::alloc::AllocError;
 use usm_core::Checked;
-
-/// The engine of a message. This takes no memory.
-pub(crate) fn engine_of(checked: &Checked<'_>) -> EngineId
-    ensures { result ≡ checked.now.security.engine.now }
-{
-    let Some(engine) = EngineId::of(checked.security.engine) else {
-        unreachable!();
-    };
-    engine
-}
 
 /// The pair that a message says.
 fn pair_of(checked: &Checked<'_>) -> Pair
@@ -42,7 +32,7 @@ pub(crate) fn learn(clocks: &mut Clocks, checked: &Checked<'_>, now: u64) -> Res
         return Ok(());
     }
     let pair = pair_of(checked);
-    clocks.learn(engine_of(checked), pair, now)
+    clocks.learn(checked.engine.copy(), pair, now)
 }
 
 /// Whether a message is in the time window once its pair is learned, which isn't done yet (RFC 3414, section
@@ -56,6 +46,6 @@ pub(crate) fn is_fresh_once_learned(clocks: &Clocks, checked: &Checked<'_>, now:
         return true;
     }
     let pair = pair_of(checked);
-    let held = Mark { pair, seen: now }.joined_to(clocks.mark(&engine_of(checked)));
+    let held = Mark { pair, seen: now }.joined_to(clocks.mark(&checked.engine));
     in_window_manager(held.pair, held.notion(now), pair)
 }

@@ -8,10 +8,12 @@ ghost use Rattle.engine_clock.specs.Marks.{HoldsAll, SeenPair, mark_at, pair_at,
 ghost use Rattle.engine_clock.specs.Saved.{AreMarks, listing};
 ghost use Rattle.engine_clock.specs.Windows.{notion_at};
 ghost use Rattle.snmp_ber.specs.declared.level.Level.TheVariants.{NoAuthNoPriv};
+ghost use Rattle.snmp_ber.specs.declared.number.TheConstants.{MAX_INTEGER32};
 ghost use Rattle.usm_core.specs.Verified.{manager};
 ghost use Rattle.usm_core.specs.Sealed.{Seals, IsSealable};
 ghost use Rattle.snmp_incoming.specs.Answers.{answer_of, IsPlain};
-ghost use Rattle.snmp_msg.specs.Pdu.{IsPduTag, IsSpelled};
+ghost use Rattle.snmp_msg.specs.Pdu.{IsSpelled};
+ghost use Rattle.snmp_msg.specs.PduTypes.{IsPduTag};
 ghost use Rattle.snmp_outgoing.specs.Bodies.{BodyFits, front_in, variables_in, pdu_in, pdu_after};
 ghost use Rattle.snmp_outgoing.specs.Requests.{requesting, discovering};
 ghost use Rattle.snmp_outgoing.specs.Sends.{CanSend, RefusesSender};
@@ -30,8 +32,8 @@ use crate::weighing::{weigh, weigh_kept};
 use engine_clock::{Clocks, EngineId, Mark, Pair};
 use snmp_ber::Level;
 use snmp_incoming::{Kept, Taken};
-use snmp_msg::{GET_REQUEST, Refusal, RefusedAt, Spelled};
-use snmp_outgoing::{Body, Envelope, Front, is_confirmed, supports, write_body_of, write_plain};
+use snmp_msg::{PduType, Refusal, RefusedAt, Spelled, is_confirmed};
+use snmp_outgoing::{Body, Envelope, Front, supports, write_body_of, write_plain};
 use std::alloc::{AllocError, Global};
 use std::marker::Model;
 use usm_core::{Role, Users};
@@ -241,7 +243,7 @@ impl Manager {
         body: &Body<'_>,
         salt: [u8; 8],
     ) -> Result<(Vec<u8>, Pending), RefusedAt>
-        requires id { id ≤ 2147483647 }
+        requires id { id ≤ MAX_INTEGER32 }
         requires user { length user.now ≤ 32 }
         requires body { BodyFits body.now }
         ensures text { IfSome (request_answer result)
@@ -286,7 +288,7 @@ impl Manager {
         bindings: &[B],
         salt: [u8; 8],
     ) -> Result<(Vec<u8>, Pending), RefusedAt>
-        requires id { id ≤ 2147483647 }
+        requires id { id ≤ MAX_INTEGER32 }
         requires user { length user.now ≤ 32 }
         requires tag { IsPduTag front.now.tag }
         requires fit { All (λ b. B.fits b) bindings.now }
@@ -320,14 +322,14 @@ impl Manager {
     /// it: a GetRequest of nothing with this msgID and request-id, for no engine and no user. An agent
     /// answers with a Report that has its engine ID. The error is want of memory.
     pub fn discover(&self, id: u32) -> Result<(Vec<u8>, Pending), AllocError>
-        requires { id ≤ 2147483647 }
+        requires { id ≤ MAX_INTEGER32 }
         ensures text { IfOk result (λ sent. Seals self.now.users (discovering id) (Ok sent.0.items)) }
         ensures pending { IfOk result (λ sent. Remembers sent.1 id [] [] NoAuthNoPriv [] [] (pos id)) }
     {
         let body = Body {
             context_engine: &[],
             context_name: &[],
-            tag: GET_REQUEST,
+            tag: PduType::GetRequest.tag(),
             id: id as i32,
             second: 0,
             third: 0,

@@ -12,7 +12,7 @@ ghost use Rattle.snmp_manager.specs.Replies.{TellsCounter, IsReport, still_waiti
 use crate::pending::{Answer, Pending};
 use snmp_ber::{Level, read_unsigned};
 use snmp_incoming::Taken;
-use snmp_msg::{Binding, COUNTER32, Pdu, REPORT, RESPONSE, Scoped, one_content, one_pdu};
+use snmp_msg::{Binding, COUNTER32, Pdu, PduType, Scoped, one_content, one_pdu};
 use snmp_outgoing::{Counter, counter_name};
 
 /// What a Report tells.
@@ -62,7 +62,7 @@ fn is_response(pending: &Pending, taken: &Taken<'_>, scoped: &Scoped<'_>, pdu: &
     if taken.id != pending.id {
         return false;
     }
-    if pdu.tag != RESPONSE {
+    if pdu.tag != PduType::Response.tag() {
         return false;
     }
     if taken.engine.as_slice() != pending.engine.as_slice() {
@@ -105,7 +105,7 @@ pub fn answer_of(pending: &Pending, taken: &Taken<'_>) -> Answer
     if taken.id != pending.id {
         return Answer::NotForIt;
     }
-    if pdu.tag != REPORT {
+    if pdu.tag != PduType::Report.tag() {
         return Answer::NotForIt;
     }
     Answer::Report(counter_in(&pdu))
@@ -162,7 +162,7 @@ pub fn report_of(pending: &Pending, taken: &Taken<'_>) -> Option<Report>
     if taken.id != pending.id {
         return None;
     }
-    if pdu.tag != REPORT {
+    if pdu.tag != PduType::Report.tag() {
         return None;
     }
     let (counter, value) = told_in(&pdu);

@@ -12,7 +12,7 @@ ghost use Rattle.snmp_incoming.specs.Outcome.{Given, Weighs, as_manager};
 ghost use Rattle.snmp_manager.specs.Learning.{LearnsChecked};
 ghost use Rattle.snmp_manager.specs.Takes.{kept_answer};
 
-use crate::learning::{engine_of, is_fresh_once_learned};
+use crate::learning::is_fresh_once_learned;
 use engine_clock::Clocks;
 use snmp_incoming::{Kept, Taken, read_text, scoped_octets};
 use snmp_msg::{Refusal, RefusedAt};
@@ -46,7 +46,7 @@ pub(crate) fn weigh<'a>(
     let Some(text) = opening else {
         return Ok(Err(RefusedAt::plain(Refusal::DecryptionError)));
     };
-    Ok(read_text(checked, engine_of(checked), text))
+    Ok(read_text(checked, text))
 }
 
 /// The same, with a copy of what is accepted. Memory is taken for the copy too.
@@ -72,7 +72,7 @@ pub(crate) fn weigh_kept(
         (Weighs (as_manager learned) users.old.users now datagram.now (verified_of checked.now))) }
 {
     match weigh(users, clocks, now, datagram, checked)? {
-        Ok(taken) => Ok(Ok(Kept::of(alloc, &taken)?)),
+        Ok(taken) => Ok(Ok(Kept::of(alloc, taken)?)),
         Err(fault) => Ok(Err(fault)),
     }
 }

@@ -13,6 +13,7 @@ use Rattle.std.specs.Prelude.{◌≡◌, ◌≢◌, ◌⊎◌, ℕ, ℤ, pos, �
 use Rattle.std.specs.Prelude.{bit_and}
 use Rattle.snmp_ber.specs.Number.{IsInteger32}
 use Rattle.snmp_ber.specs.Element.{IsHead, IsElement, Begins}
+use Rattle.snmp_ber.specs.declared.number.TheConstants.{MAX_INTEGER32}
 use Rattle.snmp_message.specs.declared.header.Header.{Header}
 
 -- The text is an INTEGER with this number, which is from the least that is allowed here to 2147483647.
@@ -21,7 +22,7 @@ pub record IsNumber (least n : ℕ) (text : List ℕ) : Type 0 where
   pub is_element : IsElement 2 content text
   pub is_integer : IsInteger32 (pos n) content
   pub at_least : least ≤ n
-  pub at_most : n ≤ 2147483647
+  pub at_most : n ≤ MAX_INTEGER32
 
 abbrev pub has_bit : ℕ → ℕ → Bool
 has_bit octet bit = not (nat_eq (bit_and octet bit) 0)

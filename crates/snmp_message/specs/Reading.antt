@@ -2,6 +2,7 @@
 use Rattle.std.specs.Prelude.{ℕ, ℤ, pos, negsuc, ◌+◌, ◌-◌, ◌||◌, nat_lt, ◌==◌, if◌then◌else◌, List, [], ◌∷◌, length}
 use Rattle.std.specs.Prelude.{Option, Some, None}
 use Rattle.snmp_ber.specs.Reading.{Front, front_of, integer32_of}
+use Rattle.snmp_ber.specs.declared.number.TheConstants.{MAX_INTEGER32}
 use Rattle.snmp_message.specs.Steps.{◌>>=◌}
 use Rattle.snmp_message.specs.Layout.{Parts, has_bit}
 use Rattle.snmp_message.specs.declared.header.Header.{Header}
@@ -14,7 +15,7 @@ unfoldable pub element_in : ℕ → List ℕ → Option Front
 element_in tag octets = front_of octets >>= with_tag tag
 
 abbrev pub from_least : ℕ → ℤ → Option ℕ
-from_least least (pos n) = if nat_lt n least || nat_lt 2147483647 n then None else Some n
+from_least least (pos n) = if nat_lt n least || nat_lt MAX_INTEGER32 n then None else Some n
 from_least least (negsuc n) = None
 
 -- an INTEGER that is not below the least, and the octets after it

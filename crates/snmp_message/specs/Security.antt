@@ -13,6 +13,7 @@ use Rattle.snmp_message.specs.Layout.{IsNumber, Parts, Outer}
 use Rattle.snmp_message.specs.Reading.{element_in, number_in}
 use Rattle.snmp_message.specs.declared.security.Security.{Security}
 use Rattle.snmp_ber.specs.Spelling.{head_of, element}
+use Rattle.snmp_ber.specs.declared.number.TheConstants.{MAX_INTEGER32}
 use Rattle.snmp_message.specs.Spelling.{number}
 
 -- What msgSecurityParameters say.
@@ -109,8 +110,8 @@ pub record IsCut (w : List ℕ) (m : Parts) (s : Fields) (front back : List ℕ)
 
 -- the ranges of the fields
 pub record FieldsFit (s : Fields) : Type 0 where
-  pub boots : s.boots ≤ 2147483647
-  pub time : s.time ≤ 2147483647
+  pub boots : s.boots ≤ MAX_INTEGER32
+  pub time : s.time ≤ MAX_INTEGER32
   pub user : length s.user ≤ 32
 
 -- fields that can stand in a datagram

@@ -4,16 +4,17 @@
 -- `PduFits` are the ranges of what can be written.
 use Rattle.std.specs.Prelude.{ℕ, ℤ, pos, ◌+◌, ◌≤◌, if◌then◌else◌, List, [], ◌∷◌, ◌++◌, length}
 use Rattle.snmp_ber.specs.Spelling.{head_of, head_size, element, integer}
+use Rattle.snmp_ber.specs.declared.number.TheConstants.{MAX_INTEGER32}
 use Rattle.snmp_message.specs.Layout.{Parts}
 use Rattle.snmp_message.specs.declared.header.Header.{Header}
 
 -- the ranges of a header's fields
 pub record HeaderFits (h : Header) : Type 0 where
-  pub id : h.id ≤ 2147483647
+  pub id : h.id ≤ MAX_INTEGER32
   pub least_size : 484 ≤ h.max_size
-  pub most_size : h.max_size ≤ 2147483647
+  pub most_size : h.max_size ≤ MAX_INTEGER32
   pub least_model : 1 ≤ h.model
-  pub most_model : h.model ≤ 2147483647
+  pub most_model : h.model ≤ MAX_INTEGER32
 
 abbrev pub number : ℕ → List ℕ
 number n = element 2 (integer (pos n))

@@ -4,6 +4,7 @@ ghost use Rattle.std.specs.Prelude.{◌≡◌, ◌+◌, ◌-◌, ◌<◌, ◌≤
 ghost use Rattle.std.specs.Result.{result_ok};
 ghost use Rattle.snmp_ber.specs.Tlv.{front_at};
 ghost use Rattle.snmp_ber.specs.Spelling.{head_size};
+ghost use Rattle.snmp_ber.specs.declared.number.TheConstants.{MAX_INTEGER32};
 ghost use Rattle.snmp_message.specs.Reading.{element_in, number_in};
 ghost use Rattle.snmp_message.specs.Spelling.{signed};
 ghost use Rattle.snmp_message.specs.Reading.{signed_in};
@@ -50,7 +51,7 @@ pub fn read_number(
     ensures value { option_map (λ x. (x.0, slice_range bytes.now x.1 end)) (result_ok result)
         ≡ number_in least (slice_range bytes.now at end) }
     ensures ordered { IfOk result (λ x. (at < x.1) × (x.1 ≤ end)) }
-    ensures range { IfOk result (λ x. (least ≤ x.0) × (x.0 ≤ 2147483647)) }
+    ensures range { IfOk result (λ x. (least ≤ x.0) × (x.0 ≤ MAX_INTEGER32)) }
 {
     let tlv = read_element(bytes, at, end, INTEGER)?;
     match read_int(tlv.content) {
@@ -77,7 +78,7 @@ pub fn read_signed(bytes: &[u8], at: usize, end: usize) -> Result<(i32, usize), 
 
 /// How many octets an element with a content of `size` octets is written in.
 pub fn element_len(size: usize) -> usize
-    requires { size ≤ 2147483647 }
+    requires { size ≤ MAX_INTEGER32 }
     ensures size { result ≡ head_size size + size }
     ensures most { result ≤ size + 6 }
 {

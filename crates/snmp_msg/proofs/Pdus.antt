@@ -19,7 +19,8 @@ use Rattle.snmp_message.specs.Reading.{element_in}
 use Rattle.snmp_msg.specs.Variables.{Variable, AreBindings, variables_of, after_variables, variables_text}
 use Rattle.snmp_message.specs.Spelling.{signed}
 use Rattle.snmp_message.specs.Reading.{signed_in}
-use Rattle.snmp_msg.specs.Pdu.{IsPduTag, IsInRange, IsSigned, AreInRange, PduParts, PduContent, PduText, PduFits, SaysPdu, IsSpelled, with_variables, respelled, pdu_content_text, pdu_text, pdu_content_size, pdu_front_text, with_list, pdu_content_in, with_pdu_tag, pdu_in}
+use Rattle.snmp_msg.specs.Pdu.{IsInRange, IsSigned, AreInRange, PduParts, PduContent, PduText, PduFits, SaysPdu, IsSpelled, with_variables, respelled, pdu_content_text, pdu_text, pdu_content_size, pdu_front_text, with_list, pdu_content_in, with_pdu_tag, pdu_in}
+use Rattle.snmp_msg.specs.PduTypes.{IsPduTag, is_pdu_tag}
 use Rattle.snmp_message.proofs.Steps.{after_some, same_some, guard_then, element_in-is, element_in-again, begins_from_element}
 use Rattle.snmp_message.proofs.Headers.{ended}
 use Rattle.snmp_message.proofs.Scopeds.{whole_element}
@@ -105,15 +106,15 @@ pdu_content_in-again content p t =
     let empty : ltb 0 (length (after_variables p.list)) ≡ false = le-ltb 0 (length (after_variables p.list)) (omega (arith, ap length none)) in
     ap (pdu_content_in p.tag) t.joined ∙ rw (r1, r2, r3, r4, empty) refl
 
-pdu_tag-is : (tag : ℕ) → (nat_le 160 tag && nat_le tag 168 && not (tag == 164)) ≡ true → IsPduTag tag
+pdu_tag-is : (tag : ℕ) → is_pdu_tag tag ≡ true → IsPduTag tag
 pdu_tag-is tag e = search rules
 
-pdu_tag-again : (tag : ℕ) → IsPduTag tag → (nat_le 160 tag && nat_le tag 168 && not (tag == 164)) ≡ true
+pdu_tag-again : (tag : ℕ) → IsPduTag tag → is_pdu_tag tag ≡ true
 pdu_tag-again tag h = search rules
 
 pdu_last : (z : List ℕ) (p q : PduParts) (any f : Front) → AreInRange p → Octets z → front_of z ≡ Some any → with_pdu_tag any ≡ Some f → pdu_content_in f.tag f.content ≡ Some q → when_ended f.rest q ≡ Some p → PduText z p
 pdu_last z p q any f numbers bytes e1 e2 e3 e4 =
-    let g = guard_then (nat_le 160 any.tag && nat_le any.tag 168 && not (any.tag == 164)) any f e2 in
+    let g = guard_then (is_pdu_tag any.tag) any f e2 in
     let allowed = pdu_tag-is any.tag g.0 in
     let g2 = guard_some (ltb 0 (length f.rest)) (Some q) p e4 in
     let none = ended f.rest g2.0 in

@@ -8,27 +8,23 @@
 -- that octets begin with. `variable_of` and `bound_variable`: what a binding says, with the arcs of its
 -- name and with that name's octets. `CanBeWritten` and `VariableFits`: what can be written. `SaysPdu` has
 -- the list in its canonical spelling.
-use Rattle.std.specs.Prelude.{◌≡◌, ◌≢◌, ℕ, ℤ, pos, negsuc, ◌+◌, ◌≤◌, ◌≤ℤ◌, ◌&&◌, not, nat_le, nat_lt, ◌==◌}
+use Rattle.std.specs.Prelude.{◌≡◌, ℕ, ℤ, pos, negsuc, ◌+◌, ◌≤ℤ◌, nat_lt}
 use Rattle.std.specs.Prelude.{if◌then◌else◌, List, ◌++◌, length, Option, Some, None}
 use Rattle.snmp_ber.specs.Number.{IsInteger32}
 use Rattle.snmp_ber.specs.Element.{IsElement}
 use Rattle.snmp_ber.specs.Reading.{Front, front_of}
 use Rattle.snmp_ber.specs.Spelling.{head_of, head_size, element}
+use Rattle.snmp_ber.specs.declared.number.TheConstants.{MAX_INTEGER32}
 use Rattle.snmp_message.specs.Steps.{◌>>=◌, when_ended}
 use Rattle.snmp_message.specs.Reading.{element_in, signed_in}
 use Rattle.snmp_message.specs.Spelling.{signed}
 use Rattle.snmp_msg.specs.Variables.{Variable, AreBindings, AllFit, variables_of, after_variables, variables_text}
+use Rattle.snmp_msg.specs.PduTypes.{IsPduTag, is_pdu_tag}
 use Rattle.snmp_msg.specs.declared.pdu.Pdu.{Pdu}
-
--- The tag of a GetRequest, GetNextRequest, Response, SetRequest, GetBulkRequest, InformRequest, SNMPv2-Trap or Report.
-pub record IsPduTag (tag : ℕ) : Type 0 where
-  pub least : 160 ≤ tag
-  pub most : tag ≤ 168
-  pub used : tag ≢ 164
 
 -- A number of 32 bits with sign.
 abbrev pub IsInRange : ℤ → Type 0
-IsInRange n = (negsuc 2147483647 ≤ℤ n) × (n ≤ℤ pos 2147483647)
+IsInRange n = (negsuc MAX_INTEGER32 ≤ℤ n) × (n ≤ℤ pos MAX_INTEGER32)
 
 -- The text is the INTEGER of a number of 32 bits with sign.
 pub record IsSigned (n : ℤ) (text : List ℕ) : Type 0 where
@@ -95,7 +91,7 @@ pdu_content_in tag content = do
   with_list tag id.0 second.0 third.0 list
 
 abbrev pub with_pdu_tag : Front → Option Front
-with_pdu_tag f = if nat_le 160 f.tag && nat_le f.tag 168 && not (f.tag == 164) then Some f else None
+with_pdu_tag f = if is_pdu_tag f.tag then Some f else None
 
 unfoldable pub pdu_in : List ℕ → Option PduParts
 pdu_in octets = do

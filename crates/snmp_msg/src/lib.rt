@@ -6,14 +6,14 @@
 //! had here under the same names.
 //!
 //! ```
-//! use snmp_msg::{GET_REQUEST, read_pdu};
+//! use snmp_msg::{PduType, read_pdu};
 //!
 //! /// A GetRequest of sysName.0.
 //! static REQUEST: &[u8] =
 //!     b"\xa0\x19\x02\x01\x07\x02\x01\x00\x02\x01\x00\x30\x0e\x30\x0c\x06\x08\x2b\x06\x01\x02\x01\x01\x05\x00\x05\x00";
 //!
 //! let pdu = read_pdu(REQUEST, 0, REQUEST.len())?;
-//! assert_eq!(rt; (pdu.tag, pdu.id), (GET_REQUEST, 7));
+//! assert_eq!(rt; (pdu.tag, pdu.id), (PduType::GetRequest.tag(), 7));
 //! let variable = pdu.bindings().next().ok_or("a binding")?;
 //! assert_eq!(rt;
 //!     variable.name.as_slice(),
@@ -35,10 +35,7 @@ pub use binding::{Binding, Bindings, VarBind, read_binding};
 pub use laws::{canonical_again, one_pdu, one_whole, pdu_written_again};
 pub use list::{Spelled, binding_len, bindings_len};
 pub use pdu::{Pdu, put_pdu_of, read_pdu, write_pdu, write_pdu_of, written_pdu_len};
-pub use pdu_type::{
-    GET_BULK_REQUEST, GET_NEXT_REQUEST, GET_REQUEST, INFORM_REQUEST, REPORT, RESPONSE, SET_REQUEST,
-    TRAP, is_pdu_tag,
-};
+pub use pdu_type::{PduType, is_confirmed, is_pdu_tag};
 pub use snmp_message::{
     Cut, Data, Header, LARGEST, Message, Refusal, RefusedAt, Scoped, ScopedPlace, Security,
     USER_BASED, cut, field_filled, longer_whole, message_size, one_content, one_cut, one_message,

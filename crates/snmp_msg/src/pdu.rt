@@ -4,7 +4,8 @@ ghost use Rattle.std.specs.Prelude.{◌≡◌, ℕ, List, [], ◌+◌, ◌*◌, 
 ghost use Rattle.std.specs.Prelude.{IfErr, IfOk, OnOk, OnErr, MatchResult, All, map};
 ghost use Rattle.std.specs.Result.{result_ok};
 ghost use Rattle.snmp_ber.specs.Spelling.{head_size};
-ghost use Rattle.snmp_msg.specs.Pdu.{IsPduTag, PduParts, PduText, PduFits, pdu_in, pdu_content_in, pdu_of, pdu_with};
+ghost use Rattle.snmp_msg.specs.Pdu.{PduParts, PduText, PduFits, pdu_in, pdu_content_in, pdu_of, pdu_with};
+ghost use Rattle.snmp_msg.specs.PduTypes.{IsPduTag};
 ghost use Rattle.snmp_msg.specs.Pdu.{with_variables, pdu_content_size, pdu_front_text, pdu_text};
 ghost use Rattle.snmp_msg.specs.Variables.{Variable, AreBindings, CanBeWritten, variable_of, variables_of};
 ghost use Rattle.snmp_msg.specs.Variables.{bindings_left, variables_left, variables_text};
@@ -15,7 +16,7 @@ ghost use Rattle.snmp_msg.specs.Refusals.{RefusesPdu};
 
 use crate::binding::{Binding, Bindings, check_bindings};
 use crate::list::{Spelled, bindings_len, put_bindings};
-use crate::pdu_type::{GET_REQUEST, is_pdu_tag};
+use crate::pdu_type::{PduType, is_pdu_tag};
 use crate::variable::VariableBindings;
 use snmp_ber::{BerFault, put_head, put_int, read_tlv};
 use snmp_message::{
@@ -26,7 +27,7 @@ use std::alloc::{AllocError, Global};
 /// What a PDU says.
 #[derive(Clone, Copy, Debug, PartialEq, Eq)]
 pub struct Pdu<'a> {
-    /// One of the eight types of PDUs, as `GET_REQUEST`.
+    /// The tag of its type, one of the eight of `PduType`.
     pub tag: u8,
     /// request-id.
     pub id: i32,
@@ -146,7 +147,10 @@ pub fn written_pdu_len(id: i32, second: i32, third: i32, list_len: usize) -> usi
         → result ≡ length (pdu_text (record { tag = tag; id = id; second = second; third = third; list = list })) }
     ensures most { result ≤ 3 * LARGEST }
 {
-    pdu_len(&bare_pdu(GET_REQUEST, id, second, third), list_len)
+    pdu_len(
+        &bare_pdu(PduType::GetRequest.tag(), id, second, third),
+        list_len,
+    )
 }
 
 /// Appends what stands in a PDU before the content of its list, which has `list_len` octets.

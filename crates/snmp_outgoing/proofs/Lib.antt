@@ -6,3 +6,4 @@ pub mod Spoken
 pub mod Whole
 pub mod Counting
 pub mod Fronting
+pub mod Limits

@@ -8,10 +8,12 @@
 use Rattle.std.specs.Prelude.{ℕ, Bool, true, false, List, map, All}
 use Rattle.snmp_ber.specs.declared.level.Level.{Level}
 use Rattle.snmp_ber.specs.declared.level.Level.TheVariants.{NoAuthNoPriv, AuthNoPriv, AuthPriv}
+use Rattle.snmp_message.specs.declared.message.TheConstants.{LARGEST}
 use Rattle.snmp_message.specs.declared.header.Header.{Header}
 use Rattle.snmp_message.specs.Scoped.{contexts_text, scoped_text}
 use Rattle.snmp_msg.specs.Variables.{Variable, CanBeWritten, variable_of}
-use Rattle.snmp_msg.specs.Pdu.{PduParts, IsPduTag, pdu_with, pdu_text}
+use Rattle.snmp_msg.specs.Pdu.{PduParts, pdu_with, pdu_text}
+use Rattle.snmp_msg.specs.PduTypes.{IsPduTag}
 use Rattle.snmp_outgoing.specs.declared.body.Body.{Body}
 use Rattle.snmp_outgoing.specs.declared.front.Front.{Front}
 
@@ -32,7 +34,7 @@ has_privacy AuthPriv = true
 abbrev pub header_at : Level → ℕ → Bool → Header
 header_at level id reportable = record {
   id = id;
-  max_size = 65507;
+  max_size = LARGEST;
   auth = has_auth level;
   privacy = has_privacy level;
   reportable = reportable;

@@ -3,6 +3,7 @@
 -- `IsLongestFront` and `SealsFront`. So many bindings from the first on that no text of the message with
 -- these has more octets than the limit, and each with one more has; the text with these and their number,
 -- or a refusal: those before the text, and TooLarge where each text without bindings is longer.
+use Rattle.snmp_message.specs.declared.message.TheConstants.{LARGEST}
 use Rattle.snmp_message.specs.declared.refusal.Refusal.{Refusal}
 use Rattle.std.specs.Prelude.{◌≡◌, ◌⊎◌, ◌+◌, ◌<◌, ◌≤◌, ℕ, nat_le, if◌then◌else◌, List, [], length, take, Option, Some}
 use Rattle.std.specs.Prelude.{Result, Ok, Err}
@@ -32,7 +33,7 @@ pub record IsLongestFront (users : List User) (limit : ℕ) (message : List Vari
 
 -- the most octets of a datagram within a limit
 abbrev pub room : ℕ → ℕ
-room limit = if nat_le limit 65507 then limit else 65507
+room limit = if nat_le limit LARGEST then limit else LARGEST
 
 -- A text with the variables at the front of a list.
 pub record FrontText : Type 0 where

@@ -1,4 +1,3 @@
-pub mod Classes
 pub mod Counters
 pub mod Bodies
 pub mod Scopeds

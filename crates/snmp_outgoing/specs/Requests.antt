@@ -6,16 +6,18 @@
 use Rattle.std.specs.Prelude.{◌≡◌, ◌≤◌, ℕ, pos, true, List, [], length, replicate, Option, Some, None}
 use Rattle.snmp_ber.specs.declared.level.Level.{Level}
 use Rattle.snmp_ber.specs.declared.level.Level.TheVariants.{NoAuthNoPriv, AuthNoPriv, AuthPriv}
+use Rattle.snmp_ber.specs.declared.number.TheConstants.{MAX_INTEGER32}
 use Rattle.snmp_message.specs.Scoped.{scoped_text}
 use Rattle.snmp_msg.specs.Variables.{Variable, AllFit}
-use Rattle.snmp_msg.specs.Pdu.{IsPduTag, AreInRange, pdu_with, pdu_text}
+use Rattle.snmp_msg.specs.Pdu.{AreInRange, pdu_with, pdu_text}
+use Rattle.snmp_msg.specs.PduTypes.{IsPduTag, is_confirmed, pdu_tag}
+use Rattle.snmp_msg.specs.declared.pdu_type.PduType.TheVariants.{GetRequest}
 use Rattle.engine_clock.specs.Pairs.{BootsAndTime, IsPair}
 use Rattle.engine_clock.specs.Marks.{SeenPair}
 use Rattle.engine_clock.specs.Windows.{notion_at}
 use Rattle.usm_core.specs.Authentic.{HasEngineLength}
 use Rattle.usm_core.specs.Sealed.{Sending}
 use Rattle.snmp_outgoing.specs.declared.front.Front.{Front}
-use Rattle.snmp_outgoing.specs.Classes.{is_confirmed}
 use Rattle.snmp_outgoing.specs.Bodies.{header_at, pdu_after, scoped_after}
 use Rattle.snmp_outgoing.specs.Speaks.{Speech}
 
@@ -60,7 +62,7 @@ request held now id engine user level f vs salt = record {
 -- The request's numbers, names, bindings and held pair are in their ranges.
 pub record RequestFits (held : Option SeenPair) (number : ℕ) (identifier name octets : List ℕ) (f : Front)
     (vs : List Variable) : Type 0 where
-  pub id : number ≤ 2147483647
+  pub id : number ≤ MAX_INTEGER32
   pub pair : (mark : SeenPair) → held ≡ Some mark → IsPair mark.pair
   pub engine : HasEngineLength identifier
   pub user : length name ≤ 32
@@ -77,5 +79,5 @@ discovering id = record {
   pair = no_pair;
   user = [];
   salt = replicate 8 0;
-  scoped = scoped_text [] [] (pdu_text (pdu_with 160 (pos id) (pos 0) (pos 0) []));
+  scoped = scoped_text [] [] (pdu_text (pdu_with (pdu_tag GetRequest) (pos id) (pos 0) (pos 0) []));
 }

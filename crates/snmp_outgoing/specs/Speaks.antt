@@ -5,9 +5,11 @@
 use Rattle.std.specs.Prelude.{◌≡◌, ◌≤◌, ℕ, Bool, true, List, length}
 use Rattle.snmp_ber.specs.declared.level.Level.{Level}
 use Rattle.snmp_ber.specs.Spelling.{head_size}
+use Rattle.snmp_ber.specs.declared.number.TheConstants.{MAX_INTEGER32}
 use Rattle.snmp_message.specs.Scoped.{Contexts, contexts_text, contexts_placed, scoped_text}
 use Rattle.snmp_msg.specs.Variables.{Variable, AllFit, variables_text}
-use Rattle.snmp_msg.specs.Pdu.{PduParts, IsPduTag, AreInRange, pdu_text}
+use Rattle.snmp_msg.specs.Pdu.{PduParts, AreInRange, pdu_text}
+use Rattle.snmp_msg.specs.PduTypes.{IsPduTag}
 use Rattle.engine_clock.specs.Pairs.{BootsAndTime, IsPair}
 use Rattle.usm_users.specs.User.{User}
 use Rattle.usm_users.specs.Users.{user_named, HasUser, HasUserAt}
@@ -48,7 +50,7 @@ spoken_contexts s = contexts_placed
 
 -- Its numbers and lengths are in their ranges, and its PDU has bindings that fit.
 pub record SpeechFits (s : Speech) : Type 0 where
-  pub id : s.id ≤ 2147483647
+  pub id : s.id ≤ MAX_INTEGER32
   pub engine : HasEngineLength s.engine
   pub pair : IsPair s.pair
   pub user : length s.user ≤ 32

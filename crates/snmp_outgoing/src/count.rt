@@ -6,7 +6,7 @@ ghost use Rattle.snmp_msg.specs.Variables.{Variable, variables_text};
 ghost use Rattle.usm_core.specs.Sizes.{data_size};
 ghost use Rattle.snmp_outgoing.specs.Bodies.{scoped_after};
 ghost use Rattle.snmp_outgoing.specs.Sends.{sent_with};
-ghost use Rattle.snmp_outgoing.specs.Fronts.{IsBeyond, IsLongestFront};
+ghost use Rattle.snmp_outgoing.specs.Fronts.{IsBeyond, IsLongestFront, IsWithin};
 ghost use Rattle.snmp_outgoing.specs.Outlines.{OutlineFits, HasAtMost, content_size};
 
 use crate::envelope::Envelope;
@@ -84,6 +84,35 @@ impl<'a> Outline<'a> {
         }
         count
     }
+}
+
+/// Whether a message of this envelope and this front has at most `limit` octets, at most 65,507, with a list of
+/// bindings of `list_len` octets. Nothing is written, and it takes no memory.
+pub(crate) fn is_within(
+    users: &Users,
+    envelope: &Envelope<'_>,
+    front: &Front<'_>,
+    list_len: usize,
+    limit: usize,
+) -> bool
+    requires engine { length envelope.now.engine.now ≤ 32 }
+    requires context_engine { length front.now.context_engine.now ≤ LARGEST }
+    requires context_name { length front.now.context_name.now ≤ LARGEST }
+    requires list { list_len ≤ LARGEST }
+    requires limit { limit ≤ LARGEST }
+    ensures yes { IsTrue result → (vs : List Variable) → length (variables_text vs) ≡ list_len
+        → IsWithin users.now.users limit (sent_with envelope.now (scoped_after front.now vs)) }
+    ensures no { result ≡ false → (vs : List Variable) → length (variables_text vs) ≡ list_len
+        → IsBeyond users.now.users limit (sent_with envelope.now (scoped_after front.now vs)) }
+{
+    sealed_size();
+    let header = envelope.header();
+    let outline = Outline {
+        header,
+        security_len: users.security_len(&header, envelope.engine, envelope.pair, envelope.user),
+        front,
+    };
+    outline.is_within(list_len, limit)
 }
 
 /// How many of the bindings, from the first on, a message of this envelope and this front has room for within

@@ -1,6 +1,7 @@
 //! Envelopes: to whom and how messages are sent.
 
 ghost use Rattle.std.specs.Prelude.{◌≡◌, ◌≤◌, length};
+ghost use Rattle.snmp_ber.specs.declared.number.TheConstants.{MAX_INTEGER32};
 ghost use Rattle.snmp_outgoing.specs.Bodies.{header_at};
 
 use engine_clock::Pair;
@@ -23,7 +24,7 @@ pub struct Envelope<'a> {
     pub user: &'a [u8],
     /// msgPrivacyParameters at authPriv; the other levels send none.
     pub salt: [u8; 8],
-    pub ghost id_fits: { id ≤ 2147483647 },
+    pub ghost id_fits: { id ≤ MAX_INTEGER32 },
     pub ghost user_fits: { length user.now ≤ 32 },
 }
 

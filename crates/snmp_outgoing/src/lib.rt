@@ -1,17 +1,14 @@
 //! What goes out: the body of a message and its envelope, and the one way of writing them.
 //!
 //! ```
-//! use snmp_msg::{GET_REQUEST, RESPONSE};
-//! use snmp_outgoing::{Counter, is_confirmed};
+//! use snmp_outgoing::Counter;
 //!
-//! assert!(rt; is_confirmed(GET_REQUEST) && !is_confirmed(RESPONSE));
 //! let name = Counter::UnknownPduHandlers.name();
 //! assert_eq!(rt; name, [1, 3, 6, 1, 6, 3, 11, 2, 1, 3, 0].as_slice());
 //! ```
 #![tactic(auto)]
 
 mod body;
-mod class;
 mod count;
 mod counter;
 mod envelope;
@@ -21,10 +18,9 @@ mod measured;
 mod sending;
 
 pub use body::Body;
-pub use class::is_confirmed;
 pub use count::count_within;
 pub use counter::{Counter, counter_name};
 pub use envelope::Envelope;
 pub use front::{Front, Fronted};
 pub use laws::{request_is_accepted, sealed_is_accepted, spoken_is_accepted};
-pub use sending::{supports, write_body, write_body_of, write_front, write_plain};
+pub use sending::{supports, write_body, write_body_of, write_front, write_plain, write_within};

@@ -1,7 +1,8 @@
 //! ScopedPDUs that are spelled where they stand.
 
 ghost use Rattle.std.specs.Prelude.{◌≡◌, ◌<◌, All, length, map, IfSome, IfNone};
-ghost use Rattle.snmp_msg.specs.Pdu.{IsPduTag, IsSpelled};
+ghost use Rattle.snmp_msg.specs.Pdu.{IsSpelled};
+ghost use Rattle.snmp_msg.specs.PduTypes.{IsPduTag};
 ghost use Rattle.snmp_outgoing.specs.Bodies.{scoped_after, pdu_after};
 ghost use Rattle.snmp_outgoing.specs.Scopeds.{IsMeasured};
 
@@ -16,7 +17,8 @@ use std::alloc::AllocError;
 pub(crate) struct Measured<'a, B> {
     front: Front<'a>,
     bindings: &'a [B],
-    list_len: usize,
+    /// How many octets its list of bindings has.
+    pub(crate) list_len: usize,
     content_len: usize,
 }
 

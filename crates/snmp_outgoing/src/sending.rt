@@ -1,27 +1,29 @@
 //! Messages that go out.
 
 ghost use Rattle.std.specs.Prelude.{◌≡◌, ◌+◌, ◌<◌, ◌≤◌, All, [], length, map, take, IfOk, IfSome, MatchResult, OnOk};
-ghost use Rattle.std.specs.Prelude.{OnErr, true};
+ghost use Rattle.std.specs.Prelude.{Ok, OnErr, true};
 ghost use Rattle.snmp_ber.specs.declared.level.Level.TheVariants.{NoAuthNoPriv};
 ghost use Rattle.engine_clock.specs.Pairs.{IsPair};
 ghost use Rattle.usm_users.specs.Users.{HasUserAt};
 ghost use Rattle.usm_core.specs.Answers.{seal_answer};
 ghost use Rattle.usm_core.specs.Sealed.{Seals, IsSealable};
 ghost use Rattle.snmp_outgoing.specs.Sends.{sent, sent_with, CanSend, RefusesSender};
-ghost use Rattle.snmp_outgoing.specs.Fronts.{SealsFront, front_answer, room};
-ghost use Rattle.snmp_msg.specs.Pdu.{IsPduTag, IsSpelled};
+ghost use Rattle.snmp_outgoing.specs.Fronts.{IsBeyond, SealsFront, front_answer, room};
+ghost use Rattle.snmp_outgoing.specs.UpTo.{UpTo};
+ghost use Rattle.snmp_msg.specs.Pdu.{IsSpelled};
+ghost use Rattle.snmp_msg.specs.PduTypes.{IsPduTag};
 ghost use Rattle.snmp_outgoing.specs.Bodies.{has_auth, scoped_of, pdu_in, scoped_after, pdu_after, BodyFits};
 ghost use Rattle.snmp_message.specs.declared.refusal.Refusal.TheVariants.{OutOfMemory, TooLarge};
 ghost use Rattle.snmp_message.specs.Refusals.{IsRefused};
 
 use crate::body::Body;
-use crate::count::count_within;
+use crate::count::{count_within, is_within};
 use crate::envelope::Envelope;
 use crate::front::{Front, Fronted};
 use crate::measured::Measured;
 use snmp_ber::Level;
 use snmp_msg::{LARGEST, Refusal, RefusedAt, Spelled};
-use usm_core::{Users, sealed_size, some_sealed};
+use usm_core::{Users, one_sealed, sealed_size, some_sealed};
 
 /// Whether messages of this user at this level can go out (RFC 3414, section 3.1): at levels with
 /// authentication there is a user of this name that supports the level. At noAuthNoPriv no user is looked
@@ -108,6 +110,57 @@ fn room(limit: usize) -> usize
     ensures most { result ≤ LARGEST }
 {
     limit.min(LARGEST)
+}
+
+/// The text of the message with these bindings, where that has at most `limit` octets. Its length is counted
+/// before any key is looked for, so that nothing is sealed that is too long.
+///
+/// The errors are those of `write_body` before the text; then TooLarge (16), exactly where the text has more
+/// octets than `limit`, or than 65,507; and OutOfMemory.
+pub fn write_within<B: Spelled>(
+    users: &mut Users,
+    envelope: &Envelope<'_>,
+    front: &Front<'_>,
+    bindings: &[B],
+    limit: usize,
+) -> Result<Vec<u8>, RefusedAt>
+    requires engine { length envelope.now.engine.now ≤ 32 }
+    requires pair { IsPair envelope.now.pair }
+    requires tag { IsPduTag front.now.tag }
+    requires fit { All (λ b. B.fits b) bindings.now }
+    ensures rows { IfSome (seal_answer result) (UpTo limit
+        (Seals users.old.users (sent_with envelope.now (scoped_after front.now (map B.says bindings.now))))) }
+    ensures sealed { IfOk result (λ text.
+        Seals users.old.users (sent_with envelope.now (scoped_after front.now (map B.says bindings.now)))
+        (Ok text.items)) }
+    ensures memory { IsRefused result OutOfMemory
+        → IsSealable users.old.users (sent_with envelope.now (scoped_after front.now (map B.says bindings.now))) }
+
+    // What is too long is told before memory is asked for.
+    ensures counted { IsRefused result OutOfMemory
+        → IsBeyond users.old.users (room limit)
+        (sent_with envelope.now (scoped_after front.now (map B.says bindings.now))) → ⊥ }
+    ensures spelled { IfOk result (λ _. IsSpelled (pdu_after front.now (map B.says bindings.now))) }
+    ensures users { users.new.users ≡ users.old.users }
+{
+    sealed_size();
+    some_sealed();
+    one_sealed();
+    supports(users, envelope.user, envelope.level)?;
+    let Some(measured) = Measured::of(front, bindings) else {
+        return Err(RefusedAt::plain(Refusal::TooLarge));
+    };
+    if !is_within(users, envelope, front, measured.list_len, room(limit)) {
+        return Err(RefusedAt::plain(Refusal::TooLarge));
+    }
+    users.seal_of(
+        &envelope.header(),
+        envelope.engine,
+        envelope.pair,
+        envelope.user,
+        envelope.salt,
+        &measured,
+    )
 }
 
 /// The text of the message with the longest front of the bindings that has at most `limit` octets, and how

@@ -16,6 +16,7 @@ use Rattle.snmpsec_config.specs.declared.table.ConfigKey.{ConfigKey}
 use Rattle.snmpsec_config.specs.declared.table.ConfigKey.TheVariants as keys
 use Rattle.snmp_ber.specs.Oid.{AreArcs, dotted}
 use Rattle.snmp_ber.specs.declared.level.Level.{Level}
+use Rattle.snmp_ber.specs.declared.number.TheConstants.{MAX_INTEGER32}
 use Rattle.usm_keys.specs.declared.auth.Auth.{Auth}
 use Rattle.vacm_core.specs.declared.rows.Matching.{Matching}
 use Rattle.snmpsec_config.specs.Words.{level_word, auth_word, matching_word}
@@ -43,7 +44,7 @@ IsNameOrEmpty value name = IsTextOrEmpty value name × (length name ≤ 32)
 
 -- the number of a security model, or 0
 abbrev pub IsModel : Option Data → ℕ → Type 0
-IsModel value model = (value ≡ Some (integer (pos model))) × (model ≤ 2147483647)
+IsModel value model = (value ≡ Some (integer (pos model))) × (model ≤ MAX_INTEGER32)
 
 abbrev pub IsLevel : Option Data → Level → Type 0
 IsLevel value level = IsText value (level_word level)

@@ -15,8 +15,8 @@ ghost use Rattle.snmpsec_config.specs.Words.{auth_word};
 ghost use Rattle.usm_keys.specs.declared.auth.Auth.{Auth as AnAuth};
 
 use crate::table::ConfigKey;
-use crate::words::{MODEL_MAX, auth_of, level_of, matching_of};
-use snmp_ber::{Level, Oid};
+use crate::words::{auth_of, level_of, matching_of};
+use snmp_ber::{Level, MAX_INTEGER32, Oid};
 use toml::{Table, Value};
 use usm_keys::Auth;
 use vacm_core::{Mask, Matching, Name};
@@ -149,7 +149,7 @@ fn number(row: &Table, key: ConfigKey) -> Option<u32>
 {
     let number = value(row, key)?.as_integer()?;
     let model = u32::try_from(number).ok()?;
-    if model > MODEL_MAX {
+    if model > MAX_INTEGER32 {
         return None;
     }
     Some(model)

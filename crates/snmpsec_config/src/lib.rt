@@ -28,4 +28,4 @@ pub use fault::{ConfigFault, KeyFault, LoadFault};
 pub use laws::one_configuration;
 pub use table::{ConfigKey, ConfigTable};
 pub use wanted::Wanted;
-pub use words::{MODEL_MAX, level_of, level_word};
+pub use words::{level_of, level_word};

@@ -10,9 +10,6 @@ use snmp_ber::Level;
 use usm_keys::Auth;
 use vacm_core::Matching;
 
-/// The greatest number of a security model (SnmpSecurityModel, RFC 3411, section 5).
-pub const MODEL_MAX: u32 = 2_147_483_647;
-
 /// The word for a level.
 pub fn level_word(level: Level) -> &'static str
     ensures { result.now ≡ level_word level }

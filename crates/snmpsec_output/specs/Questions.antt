@@ -9,6 +9,7 @@
 use Rattle.std.specs.Prelude.{◌≡◌, ◌≢◌, ◌⊎◌, ℕ, ◌≤◌, List, [], ◌++◌, codes, decimal, slice_index_or, Option}
 use Rattle.snmp_ber.specs.Oid.{AreArcs, dotted}
 use Rattle.snmp_ber.specs.declared.level.Level.{Level}
+use Rattle.snmp_ber.specs.declared.number.TheConstants.{MAX_INTEGER32}
 use Rattle.vacm_core.specs.Allowed.{Requester, Allowed}
 use Rattle.vacm_core.specs.Tables.{Tables}
 use Rattle.vacm_core.specs.declared.access.ViewType.{ViewType}
@@ -35,7 +36,7 @@ word_at words k = slice_index_or words k []
 -- a decimal, without sign or leading zeros, of the number of a security model
 pub record IsModelWord (word : List ℕ) (model : ℕ) : Type 0 where
   pub some : 1 ≤ model
-  pub most : model ≤ 2147483647
+  pub most : model ≤ MAX_INTEGER32
   pub text : word ≡ decimal model
 
 -- `@` is the empty name of a context

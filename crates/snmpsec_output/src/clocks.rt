@@ -1,7 +1,7 @@
 //! What is wrong with a line of saved clocks: the heading, or `ENGINE BOOTS TIME` and, after the heading
 //! `snmp-clocks 2`, the moment `SEEN`.
 
-use snmp_ber::{read_decimal, split_once};
+use snmp_ber::{MAX_INTEGER32, read_decimal, split_once};
 use snmpsec_io::Excerpt;
 use std::alloc::{AllocError, Global};
 use std::fmt;
@@ -13,7 +13,7 @@ const WITH_SEEN: &str = "snmp-clocks 2";
 const WITHOUT_SEEN: &str = "snmp-clocks 1";
 
 /// The greatest number of boots and of seconds (RFC 3414, section 2.2).
-const GREATEST: u64 = 2_147_483_647;
+const GREATEST: u64 = MAX_INTEGER32 as u64;
 
 /// Why a line of saved clocks is out of its form.
 #[derive(Clone, Copy)]

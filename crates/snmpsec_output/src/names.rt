@@ -5,7 +5,7 @@ ghost use Rattle.snmpsec_output.specs.Names.{IsNoteIf};
 
 use crate::counters::counter_name;
 use snmp_ber::split_once;
-use snmp_msg::{Binding, Pdu};
+use snmp_msg::{Binding, Pdu, PduType};
 use snmpsec_access::put_quoted;
 use std::alloc::{AllocError, Global};
 
@@ -52,7 +52,10 @@ fn quoted_text(alloc: Global, octets: &[u8]) -> Result<String, AllocError> {
 pub(crate) fn pdu_note(alloc: Global, names: bool, pdu: &Pdu<'_>) -> Result<String, AllocError>
     ensures { IfOk result (λ note. IsNoteIf names (string_bytes note)) }
 {
-    note(alloc, names, pdu_name(pdu.tag))
+    match PduType::of(pdu.tag) {
+        Some(pdu_type) => note(alloc, names, pdu_name(pdu_type)),
+        None => note(alloc, names, ""),
+    }
 }
 
 /// The note after the line of a variable binding: the counter that a report tells with its value.
@@ -70,17 +73,16 @@ pub(crate) fn binding_note(
     note(alloc, names, &name)
 }
 
-/// The type of the PDU with this tag (RFC 3416, section 3).
-fn pdu_name(tag: u8) -> &'static str {
-    match tag {
-        0xa0 => "GetRequest",
-        0xa1 => "GetNextRequest",
-        0xa2 => "Response",
-        0xa3 => "SetRequest",
-        0xa5 => "GetBulkRequest",
-        0xa6 => "InformRequest",
-        0xa7 => "SNMPv2-Trap",
-        0xa8 => "Report",
-        _ => "",
+/// The name of a type of PDUs (RFC 3416, section 3).
+fn pdu_name(pdu_type: PduType) -> &'static str {
+    match pdu_type {
+        PduType::GetRequest => "GetRequest",
+        PduType::GetNextRequest => "GetNextRequest",
+        PduType::Response => "Response",
+        PduType::SetRequest => "SetRequest",
+        PduType::GetBulkRequest => "GetBulkRequest",
+        PduType::InformRequest => "InformRequest",
+        PduType::SNMPv2Trap => "SNMPv2-Trap",
+        PduType::Report => "Report",
     }
 }

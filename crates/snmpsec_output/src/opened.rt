@@ -6,7 +6,6 @@ ghost use Rattle.snmp_incoming.specs.Texts.{text_of};
 ghost use Rattle.snmpsec_output.specs.Opening.{TellsWith, OpensWith, lines_answer};
 
 use crate::lines::{message_lines, scoped_lines};
-use engine_clock::EngineId;
 use snmp_incoming::{Taken, read_text, scoped_octets};
 use snmp_msg::{Refusal, RefusedAt};
 use snmpsec_config::level_word;
@@ -29,14 +28,11 @@ pub fn opened_lines(
     ensures users { users.new.users ≡ users.old.users }
 {
     let checked = users.open_auth(Role::Manager, datagram)?;
-    let Some(engine) = EngineId::of(checked.security.engine) else {
-        unreachable!();
-    };
     let opening = scoped_octets(users, datagram, &checked)?;
     let Some(text) = opening else {
         return Err(RefusedAt::plain(Refusal::DecryptionError));
     };
-    let taken = read_text(&checked, engine, text)?;
+    let taken = read_text(&checked, text)?;
     let lines = taken_lines(alloc, names, &checked, &taken)?;
     Ok(lines)
 }

@@ -1,12 +1,12 @@
 //! The words for views, the status of answers, numbers of security models, and moments.
 
 ghost use Rattle.std.specs.Prelude.{◌≡◌, ℕ, ◌<◌, ◌≤◌, ◌^◌, decimal, IfSome, Some};
+ghost use Rattle.snmp_ber.specs.declared.number.TheConstants.{MAX_INTEGER32};
 ghost use Rattle.vacm_core.specs.declared.access.ViewType.{ViewType as AView};
 ghost use Rattle.snmpsec_access.specs.Words.{view_word};
 ghost use Rattle.snmpsec_output.specs.Words.{access_status};
 
-use snmp_ber::read_decimal;
-use snmpsec_config::MODEL_MAX;
+use snmp_ber::{MAX_INTEGER32, read_decimal};
 use vacm_core::{Access, ViewType};
 
 /// The view that is asked for.
@@ -38,10 +38,10 @@ pub fn status_of(access: Access) -> u8
 
 /// The number of a message's security model, 1 to 2,147,483,647, in decimal without sign or leading zeros.
 pub fn model_of(word: &str) -> Option<u32>
-    ensures found { IfSome result (λ model. (1 ≤ model) × (model ≤ 2147483647) × (word.now ≡ decimal model)) }
-    ensures all { (model : ℕ) → 1 ≤ model → model ≤ 2147483647 → word.now ≡ decimal model → result ≡ Some model }
+    ensures found { IfSome result (λ model. (1 ≤ model) × (model ≤ MAX_INTEGER32) × (word.now ≡ decimal model)) }
+    ensures all { (model : ℕ) → 1 ≤ model → model ≤ MAX_INTEGER32 → word.now ≡ decimal model → result ≡ Some model }
 {
-    match read_decimal(word.as_bytes(), u64::from(MODEL_MAX))? {
+    match read_decimal(word.as_bytes(), u64::from(MAX_INTEGER32))? {
         0 => None,
         model => Some(model as u32),
     }

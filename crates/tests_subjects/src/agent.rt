@@ -11,7 +11,7 @@ use crate::shown::Hex;
 use snmp_agent::{Agent, Refused, Unhandled, status_of};
 use snmp_ber::Level;
 use snmp_incoming::{Kept, Taken};
-use snmp_msg::{Binding, Refusal, RefusedAt, TRAP};
+use snmp_msg::{Binding, PduType, Refusal, RefusedAt};
 use snmp_outgoing::{Body, Counter, Front};
 use std::alloc::{AllocError, Global};
 use vacm_core::Access;
@@ -59,6 +59,7 @@ pub fn answer(agent: &mut Agent, row: &mut Row<'_>) {
 fn of_datagram(agent: &mut Agent, row: &mut Row<'_>) {
     let (now, datagram) = (row.number(), row.octets());
     match agent.take(now, datagram) {
+        Ok(taken) if row.kind == "respond_kept" => respond_kept(agent, now, taken, row),
         Ok(taken) => of_taken(agent, now, &taken, row),
         Err(refused) if row.kind == "agent_take" => say_refusal(row, &refused),
         Err(refused) => turn_away(row, refused.why),
@@ -76,7 +77,6 @@ fn of_taken(agent: &mut Agent, now: u64, taken: &Taken<'_>, row: &mut Row<'_>) {
         "allows" => allows(agent, taken, row),
         "respond" => respond(agent, now, taken, row),
         "respond_of" => respond_of(agent, now, taken, row),
-        "respond_kept" => respond_kept(agent, now, taken, row),
         "fronts" => fronts(agent, now, taken, row),
         _ => row.fail_kind(),
     }
@@ -229,7 +229,7 @@ fn notify(agent: &mut Agent, row: &mut Row<'_>) {
     let body = Body {
         context_engine: said.engine,
         context_name: said.context,
-        tag: TRAP,
+        tag: PduType::SNMPv2Trap.tag(),
         id: pdu.id,
         second: pdu.second,
         third: pdu.third,
@@ -256,7 +256,7 @@ fn notify_of(agent: &mut Agent, row: &mut Row<'_>) {
     let front = Front {
         context_engine: said.engine,
         context_name: said.context,
-        tag: TRAP,
+        tag: PduType::SNMPv2Trap.tag(),
         id: pdu.id,
         second: pdu.second,
         third: pdu.third,
@@ -291,7 +291,7 @@ fn respond_of(agent: &mut Agent, now: u64, taken: &Taken<'_>, row: &mut Row<'_>)
 }
 
 /// `respond_kept NOW DATAGRAM PDU`: the Response to the message as it is kept.
-fn respond_kept(agent: &mut Agent, now: u64, taken: &Taken<'_>, row: &mut Row<'_>) {
+fn respond_kept(agent: &mut Agent, now: u64, taken: Taken<'_>, row: &mut Row<'_>) {
     match Kept::of(row.alloc, taken) {
         Ok(kept) => respond(agent, now, &kept.taken(), row),
         Err(_) => row.lack(),

@@ -2,7 +2,8 @@
 
 ghost use Rattle.std.specs.Prelude.{◌≤◌, All, IfSome, length};
 ghost use Rattle.snmp_ber.specs.Element.{IsTag};
-ghost use Rattle.snmp_msg.specs.Pdu.{IsPduTag};
+ghost use Rattle.snmp_ber.specs.declared.number.TheConstants.{MAX_INTEGER32};
+ghost use Rattle.snmp_msg.specs.PduTypes.{IsPduTag};
 ghost use Rattle.snmp_msg.specs.Variables.{CanBeWritten, variable_of};
 
 use crate::clocks::{clocks_in, engine_in, say_mark, say_notion, say_pair};
@@ -263,7 +264,7 @@ struct Said<'a> {
 
 /// What NOW ID ENGINE USER LEVEL CONTEXT SALT says. There is none where the row notes why.
 fn said_in<'a>(row: &mut Row<'a>) -> Option<Said<'a>>
-    ensures id { IfSome result (λ said. said.id ≤ 2147483647) }
+    ensures id { IfSome result (λ said. said.id ≤ MAX_INTEGER32) }
     ensures user { IfSome result (λ said. length said.user.now ≤ 32) }
 {
     let said = Said {
@@ -290,7 +291,7 @@ fn asked_of(
     pdu: &Pdu<'_>,
     bindings: &[Binding<'_>],
 ) -> Asked
-    requires id { said.now.id ≤ 2147483647 }
+    requires id { said.now.id ≤ MAX_INTEGER32 }
     requires user { length said.now.user.now ≤ 32 }
     requires tag { IsPduTag pdu.now.tag }
     requires fit { All (λ b. CanBeWritten (variable_of b)) bindings.now }
@@ -317,7 +318,7 @@ fn asked_in_octets(
     pdu: &Pdu<'_>,
     bindings: &[VariableBinding<'_>],
 ) -> Asked
-    requires id { said.now.id ≤ 2147483647 }
+    requires id { said.now.id ≤ MAX_INTEGER32 }
     requires user { length said.now.user.now ≤ 32 }
     requires tag { IsPduTag pdu.now.tag }
     requires fit { All (λ b. IsTag b.tag) bindings.now }

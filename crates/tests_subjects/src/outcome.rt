@@ -4,7 +4,6 @@ use crate::people::People;
 use crate::row::{Fault, Row};
 use crate::shown::{Hex, Text};
 use crate::subjects::Subject;
-use engine_clock::EngineId;
 use snmp_incoming::{Taken, read_text, scoped_octets};
 use snmp_msg::{Refusal, RefusedAt};
 use snmpsec_output::{octets_line, opened_lines};
@@ -40,11 +39,8 @@ impl Subject for Reading {
 /// What the datagram is answered by a manager, the time window aside.
 fn read_of<'a>(users: &mut Users, datagram: &'a [u8]) -> Result<Taken<'a>, RefusedAt> {
     let checked = users.open_auth(Role::Manager, datagram)?;
-    let Some(engine) = EngineId::of(checked.security.engine) else {
-        return Err(RefusedAt::plain(Refusal::UnknownEngine));
-    };
     match scoped_octets(users, datagram, &checked) {
-        Ok(Some(text)) => read_text(&checked, engine, text),
+        Ok(Some(text)) => read_text(&checked, text),
         Ok(None) => Err(RefusedAt::plain(Refusal::DecryptionError)),
         Err(_) => Err(RefusedAt::plain(Refusal::OutOfMemory)),
     }

@@ -3,7 +3,7 @@
 ghost use Rattle.std.specs.Prelude.{All, IfOk, IfSome};
 ghost use Rattle.snmp_ber.specs.Element.{IsTag};
 ghost use Rattle.snmp_message.specs.Scoped.{IsOneElement};
-ghost use Rattle.snmp_msg.specs.Pdu.{IsPduTag};
+ghost use Rattle.snmp_msg.specs.PduTypes.{IsPduTag};
 ghost use Rattle.snmp_msg.specs.Variables.{CanBeWritten, variable_of};
 
 use crate::row::Row;
@@ -249,11 +249,11 @@ fn written_value(row: &mut Row<'_>) {
     match (form, with_arcs_of(content), in_octets_of(content)) {
         ("arcs", Some(binding), _) => say_length(
             row,
-            write_pdu(alloc, GET_REQUEST, 0, 0, 0, &[binding]),
+            write_pdu(alloc, PduType::GetRequest.tag(), 0, 0, 0, &[binding]),
         ),
         ("octets", _, Some(binding)) => say_length(
             row,
-            write_pdu_of(alloc, GET_REQUEST, 0, 0, 0, &[binding]),
+            write_pdu_of(alloc, PduType::GetRequest.tag(), 0, 0, 0, &[binding]),
         ),
         _ => row.fail("a form is arcs or octets"),
     }

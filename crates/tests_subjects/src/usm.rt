@@ -2,8 +2,9 @@
 
 ghost use Rattle.std.specs.Prelude.{◌≤◌, ℕ, List, IfOk};
 ghost use Rattle.snmp_ber.specs.Element.{IsElement};
+ghost use Rattle.snmp_ber.specs.declared.number.TheConstants.{MAX_INTEGER32};
 ghost use Rattle.snmp_message.specs.Spelling.{HeaderFits};
-ghost use Rattle.snmp_msg.specs.Pdu.{IsPduTag};
+ghost use Rattle.snmp_msg.specs.PduTypes.{IsPduTag};
 
 use crate::clocks::pair_in;
 use crate::pdu::{pdu_in, with_arcs};
@@ -219,7 +220,7 @@ fn scoped_of(alloc: Global, engine: &[u8], name: &[u8], pdu: &Pdu<'_>) -> Result
 
 /// The header with this msgID and these flags: 1 auth, 2 priv, 4 reportable.
 fn header_of(id: u32, flags: u8) -> Header
-    requires { id ≤ 2147483647 }
+    requires { id ≤ MAX_INTEGER32 }
     ensures { HeaderFits result }
 {
     Header {

@@ -20,7 +20,7 @@ use Rattle.usm_core.specs.Verified.{ReadsLayout, Verified, OuterOf, SecurityOf, 
 use Rattle.usm_core.specs.declared.checked.Checked.{Checked}
 use Rattle.snmp_message.specs.declared.refused_at.RefusedAt.{RefusedAt}
 use Rattle.snmp_message.specs.declared.refusal.Refusal.TheVariants.{OutOfMemory}
-use Rattle.usm_core.specs.Refusals.{IsOfRead}
+use Rattle.usm_core.specs.Refusals.{IsOfLayout, IsOfRead}
 use Rattle.usm_core.specs.Answers.{checked_answer, verified_of}
 use Rattle.usm_core.specs.Sealed.{Sending, SendingFits, SealedText, IsSealable, UserKey, cipher, spelled_with, digest_of}
 use Rattle.usm_core.proofs.Tables.{has_privacy}
@@ -109,6 +109,17 @@ not_layout w r read (holds _ (holds _ (holds _ (fails x)))) = read
 not_layout w r read (holds _ (holds _ (holds _ (holds _ (fails x))))) = read
 not_layout w r read (holds _ (holds _ (holds _ (holds _ (holds _ (fails x)))))) = read
 not_layout w r read (holds _ (holds _ (holds _ (holds _ (holds _ (holds s e)))))) = absurd cc
+
+-- the rows of the layout have its refusals alone
+pub of_layout : (w : List ℕ) (r : Refusal) → ReadsLayout w (Err r) → IsOfLayout r
+unfolding ReadsLayout
+of_layout w r (fails x) = tt
+of_layout w r (holds _ (fails x)) = tt
+of_layout w r (holds _ (holds _ (fails x))) = tt
+of_layout w r (holds _ (holds _ (holds _ (fails x)))) = tt
+of_layout w r (holds _ (holds _ (holds _ (holds _ (fails x))))) = tt
+of_layout w r (holds _ (holds _ (holds _ (holds _ (holds _ (fails x)))))) = tt
+of_layout w r (holds _ (holds _ (holds _ (holds _ (holds _ (holds s e)))))) = absurd cc
 
 pub refused_read : (side : Side) (users : List User) (w : List ℕ) (r : Refusal) → IsOfRead r → Verifies side users w (Err r) → (v : Verified) × IsReadAs w v × Judges side users w v (Err r)
 unfolding Verifies

@@ -3,6 +3,7 @@ pub mod Table
 pub mod Authentic
 pub mod Verified
 pub mod Answers
+pub mod Layouts
 pub mod Sealed
 pub mod Sizes
 pub mod Writing

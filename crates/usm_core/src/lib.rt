@@ -29,6 +29,7 @@ pub use laws::{
     one_answer, one_authentic, one_sealed, sealed_is_authentic, sealed_is_opened, sealed_is_read,
     sealed_says, sealed_size, some_sealed, users_by_name, verified_was_read,
 };
+pub use layout::{Layout, read_layout};
 pub use users::Users;
 /// A refusal of the user-based security model: a `RefusedAt`.
 pub use snmp_message::RefusedAt as UsmFault;

@@ -13,6 +13,7 @@ ghost use Rattle.usm_users.specs.Cache.{AreCached};
 ghost use Rattle.usm_core.specs.Authentic.{Authentic};
 ghost use Rattle.usm_core.specs.Verified.{Verifies, AllowsEngine, IsReadAs, IsJudged};
 ghost use Rattle.usm_core.specs.Answers.{side_of, checked_answer, verified_of, seal_answer, IsAuthenticatedAs};
+ghost use Rattle.usm_core.specs.Layouts.{IsLayoutOf};
 ghost use Rattle.usm_users.specs.Rows.{AreSound, IsTold, user_of};
 ghost use Rattle.usm_core.specs.Refusals.{Supports};
 ghost use Rattle.usm_core.specs.Sealed.{sending, Seals, IsSendable, IsSealable, IsPlaintext};
@@ -24,6 +25,7 @@ ghost use Rattle.snmp_message.specs.Refusals.{IsWriteRefusal};
 
 use crate::checked::{Checked, Role};
 use crate::laws::{has_engine, sealed_size, some_sealed};
+use crate::layout::{Layout, read_layout};
 use crate::privacy::open_for;
 use crate::seal::{seal_for, seal_open};
 use crate::spell::Outgoing;
@@ -169,8 +171,40 @@ impl Users {
         one_message();
         one_cut();
         has_engine(role);
+        let layout = read_layout(datagram)?;
+        self.open_layout(role, datagram, &layout)
+    }
+
+    /// The same, of a datagram whose layout was read already, by `read_layout`.
+    ///
+    /// The errors are, the first that applies: UnknownEngine (6), UnknownUser (7), UnsupportedLevel (8),
+    /// WrongDigest (9).
+    pub fn open_layout<'a>(
+        &mut self,
+        role: Role<'_>,
+        datagram: &'a [u8],
+        layout: &Layout<'a>,
+    ) -> Result<Checked<'a>, RefusedAt>
+        requires { IsLayoutOf datagram.now layout.now }
+        ensures rows { Verifies (side_of role.entry) self.old.users datagram.now (checked_answer result) }
+        ensures authentic { (engine : List ℕ) (pair : BootsAndTime) →
+            (Authentic self.old.users datagram.now engine pair × AllowsEngine (side_of role.entry) engine)
+            ↔ IsAuthenticatedAs (checked_answer result) engine pair }
+        ensures level { IfOk result (λ c. c.level ≡ level_of c.message.header) }
+        ensures memory { IfErr result (λ e. e.refusal ≢ OutOfMemory) }
+        ensures read { IfOk result (λ c. IsReadAs datagram.now (verified_of c)) }
+        ensures judged { IfOk result (λ c. IsJudged (side_of role.entry) self.old.users datagram.now (verified_of c)) }
+        ensures private { IfOk result
+            (λ c. c.level ≡ AuthPriv
+            → HasUserAt self.old.users c.security.user.now AuthPriv × (tag_of c.message.body ≡ 4)) }
+        ensures users { self.new.users ≡ self.old.users }
+        ensures cache { OnErr result (self.new.cache ≡ self.old.cache) }
+    {
+        one_message();
+        one_cut();
+        has_engine(role);
         let mut made = None;
-        let checked = verify(&self.table, &self.cache, role, datagram, &mut made)?;
+        let checked = verify(&self.table, &self.cache, role, datagram, layout, &mut made)?;
         if checked.message.header.auth {
             let (user, engine) = (checked.security.user, checked.security.engine);
             self.cache

@@ -15,11 +15,8 @@ ghost use Rattle.vacm_core.specs.declared.rows.GroupRow.{GroupRow as Group};
 use crate::name::Name;
 use crate::named_row::NamedRow;
 use crate::rows::{AccessRow, ContextRow, FamilyRow, GroupRow};
-use snmp_ber::Oid;
+use snmp_ber::{MAX_INTEGER32, Oid};
 use std::cmp::Ordering;
-
-/// The greatest number of a security model.
-const MODEL_MAX: u32 = 2147483647;
 
 /// A row of one of the four tables: what makes it bad, and its index.
 pub(crate) trait TableRow: Drop {
@@ -111,7 +108,7 @@ impl TableRow for GroupRow {
 
     fn is_bad(&self) -> bool {
         self.model == 0
-            || self.model > MODEL_MAX
+            || self.model > MAX_INTEGER32
             || self.name.as_slice().is_empty()
             || self.group.as_slice().is_empty()
     }
@@ -163,7 +160,7 @@ impl TableRow for AccessRow {
     ghost same_itself = { access_itself };
 
     fn is_bad(&self) -> bool {
-        self.group.as_slice().is_empty() || self.model > MODEL_MAX
+        self.group.as_slice().is_empty() || self.model > MAX_INTEGER32
     }
 
     fn index(&self) -> (Name, (Name, (u32, u8))) {

@@ -1,5 +1,5 @@
 //! `snmp_msg`: a PDU is read, with the names of its variables as they lie.
-use snmp_msg::{GET_REQUEST, read_pdu};
+use snmp_msg::{PduType, read_pdu};
 use std::test::Fail;
 
 /// A GetRequest of sysName.0.
@@ -9,7 +9,7 @@ static REQUEST: &[u8] =
 #[test]
 fn a_request_is_read(rt: HostRuntime) -> Result<(), Fail> {
     let pdu = read_pdu(REQUEST, 0, REQUEST.len())?;
-    assert_eq!(rt; (pdu.tag, pdu.id), (GET_REQUEST, 7));
+    assert_eq!(rt; (pdu.tag, pdu.id), (PduType::GetRequest.tag(), 7));
     let variable = pdu.bindings().next().ok_or("a binding")?;
     assert_eq!(rt;
         variable.name.as_slice(),

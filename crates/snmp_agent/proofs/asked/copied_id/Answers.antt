@@ -2,14 +2,14 @@ use Rattle.std.proofs.Common.{rules, ◌≡◌, true, sym, subst, ◌∙◌, ap,
 use Rattle.std.proofs.lemmas.Int.{to_z-of_z}
 use Rattle.snmp_message.specs.Message.{parts}
 use Rattle.snmp_msg.specs.Pdu.{PduParts}
-use Rattle.snmp_outgoing.specs.Classes.{is_confirmed}
+use Rattle.snmp_msg.specs.PduTypes.{is_confirmed}
 use Rattle.snmp_agent.proofs.Requests.{same_pdu}
 use Rattle.snmp_agent.proofs.asked.copied_id.Goals as goal
 
 pub returns-then-is_confirmed : goal.returns-then-is_confirmed
 returns-then-is_confirmed c =
     let w = c.args.datagram.now in
-    let m = parts c.args.message.now in
+    let m = parts c.args.layout.now.message in
     let plain = c.in-Some.ensures.0 in
     let fits : SFits w32 c.in-Some.pdu.id = search rules in
     let round : to_z w32 (of_z w32 c.in-Some.pdu.id) ≡ plain.pdu.id = to_z-of_z w32 c.in-Some.pdu.id fits ∙ sym (ap (λ (p : PduParts). p.id) c.in-Some.ensures.1) in

@@ -6,11 +6,27 @@ use Rattle.usm_core.specs.Answers.{verified_of}
 use Rattle.snmp_incoming.specs.Texts.{text_of}
 use Rattle.snmp_incoming.specs.Outcome.{pair_in}
 use Rattle.snmp_agent.specs.Agent.{taker_at}
-use Rattle.snmp_agent.proofs.Judging.{not_both, inside, stopped, told_refused, late, unopened, reads}
+use Rattle.snmp_agent.proofs.Judging.{not_both, inside, stopped, told_refused, unread_refused, no_memory, uncounted, late, unopened, reads}
 use Rattle.snmp_agent.proofs.judge.judge.Goals as goal
 
 pub returns-in_default-clause-rows : goal.returns-in_default-clause-rows
 returns-in_default-clause-rows c = rw c.plain.ensures.refusal (stopped (taker_at c.args.engine.now) c.args.users.now.users c.args.now c.args.datagram.now (λ runs. let past = c.in_default.ensures in omega (arith, past, runs)))
+
+pub returns-in-Err-clause-rows : goal.returns-in-Err-clause-rows
+returns-in-Err-clause-rows c =
+    let rows = rw c.in-Err.is at c.requires.rows in
+    let of = c.verified_was_read.ensures.unread c.args.datagram.now c.in-Err.why.refusal rows in
+    unread_refused (taker_at c.args.engine.now) c.args.users.now.users c.args.now c.args.datagram.now c.in-Some.ensures.0 c.in-Err.why.refusal of rows
+
+pub returns-in-Err-clause-memory : goal.returns-in-Err-clause-memory
+returns-in-Err-clause-memory c is =
+    let rows = rw c.in-Err.is at c.requires.rows in
+    absurd (no_memory c.in-Err.why.refusal (c.verified_was_read.ensures.unread c.args.datagram.now c.in-Err.why.refusal rows) is)
+
+pub returns-in-Err-clause-unread : goal.returns-in-Err-clause-unread
+returns-in-Err-clause-unread c _ =
+    let rows = rw c.in-Err.is at c.requires.rows in
+    uncounted c.in-Err.why.refusal (c.verified_was_read.ensures.unread c.args.datagram.now c.in-Err.why.refusal rows)
 
 pub returns-in_err-checked-clause-rows : goal.returns-in_err-checked-clause-rows
 returns-in_err-checked-clause-rows c =

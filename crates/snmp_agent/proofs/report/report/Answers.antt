@@ -1,12 +1,19 @@
-use Rattle.std.proofs.Common.{arith}
+use Rattle.std.proofs.Common.{arith, refl, sym, subst}
+use Rattle.std.specs.Prelude.{IsErr, OnErr, Result, Ok, Err}
 use Rattle.snmp_incoming.specs.Outcome.{Outcome}
 use Rattle.snmp_agent.specs.Agent.{taker_at}
+use Rattle.snmp_agent.specs.Report.{Offers}
 use Rattle.snmp_agent.proofs.CountedAgents.{answer_counted, second_is, clock_runs, known}
 use Rattle.snmp_agent.proofs.Reports.{not_counted, not_asked, is_offered}
 use Rattle.snmp_agent.proofs.report.report.Goals as goal
 
 pub returns-in_default-clause-report : goal.returns-in_default-clause-report
 returns-in_default-clause-report c = not_counted c.args.users.now.users c.args.engine.now.id _ c.args.counters.now c.args.datagram.now c.args.why c.in_default.ensures.value
+
+pub returns-in_default-read-clause-report : goal.returns-in_default-read-clause-report
+returns-in_default-read-clause-report c =
+    not_counted c.args.users.now.users c.args.engine.now.id _ c.args.counters.now c.args.datagram.now c.args.why
+    (sym (c.requires.unread (subst IsErr (sym c.in_default-read.is) refl)))
 
 pub returns-in_default-asking-clause-report : goal.returns-in_default-asking-clause-report
 returns-in_default-asking-clause-report c = not_asked c.args.users.now.users c.args.engine.now.id _ c.args.counters.now c.args.datagram.now c.args.why c.in_default-asking.ensures
@@ -32,3 +39,13 @@ pub returns-clause-report : goal.returns-clause-report
 returns-clause-report c =
     is_offered c.args.users.now.users c.args.engine.now.id _ c.args.counters.now c.args.datagram.now c.args.why c.in-Some.n c.in-Some.ensures.value
     c.in-Some-asking.asking c.in-Some-asking.ensures c.in_ok-text.text.items (rw (c.in-Some-pair.ensures.1, c.from.ensures) at c.in_ok-text.ensures.text)
+
+always : {T E P : Type 0} (r : Result T E) → P → OnErr r P
+always (Ok x) p = tt
+always (Err e) p = p
+
+-- a report that finds no memory was offered
+pub returns-in_err-text-clause-memory : goal.returns-in_err-text-clause-memory
+returns-in_err-text-clause-memory c =
+    let offer : Offers c.args.datagram.now c.args.why = record { counter = c.in-Some.n; counter_is = sym c.in-Some.ensures.value; asks = c.in-Some-asking.ensures.asks } in
+    always c.from_residual.result offer

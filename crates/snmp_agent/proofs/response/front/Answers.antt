@@ -13,7 +13,7 @@ returns-clause-pdu c = λ s p vs front is_pdu.
     let fits : SFits w32 c.pdu-pdu.result.id = search rules in
     let fits_status : SFits w32 status = search rules in
     let fits_index : SFits w32 index = search rules in
-    rw (to_z-of_z w32 c.pdu-pdu.result.id fits, to_z-of_z w32 status fits_status, to_z-of_z w32 index fits_index) (ap (λ (q : PduParts). pdu_with 162 q.id status index vs) same_pdu)
+    rw (c.tag.ensures.value, to_z-of_z w32 c.pdu-pdu.result.id fits, to_z-of_z w32 status fits_status, to_z-of_z w32 index fits_index) (ap (λ (q : PduParts). pdu_with 162 q.id status index vs) same_pdu)
 
 pub returns-clause-scoped : goal.returns-clause-scoped
 returns-clause-scoped c = λ s p vs front is_pdu.
@@ -24,6 +24,6 @@ returns-clause-scoped c = λ s p vs front is_pdu.
     let fits : SFits w32 c.pdu-pdu.result.id = search rules in
     let fits_status : SFits w32 status = search rules in
     let fits_index : SFits w32 index = search rules in
-    rw (to_z-of_z w32 c.pdu-pdu.result.id fits, to_z-of_z w32 status fits_status, to_z-of_z w32 index fits_index)
+    rw (c.tag.ensures.value, to_z-of_z w32 c.pdu-pdu.result.id fits, to_z-of_z w32 status fits_status, to_z-of_z w32 index fits_index)
     (ap (λ (k : Contexts). scoped_text k.engine k.name (pdu_text (pdu_with 162 c.pdu-pdu.result.id status index vs))) same
     ∙ ap (λ (q : PduParts). scoped_text s.engine s.name (pdu_text (pdu_with 162 q.id status index vs))) same_pdu)

@@ -17,7 +17,7 @@ returns-in-Ok-clause-answer c =
     let vs : List Variable = map bound_variable c.in_ok-bindings.bindings.items in
     let lent : map bound_variable c.deref.result.now ≡ vs = ap (λ (bs : List VariableBinding). map bound_variable bs) c.deref.ensures.value in
     let R : List Variable → Type 0 = λ xs. Sends c.args.agent.now c.args.now (λ own. spoken (trap c.args.agent.now.engine own (notice_of c.args.notice.now.to) c.args.notice.now.level xs c.args.salt)) (Ok c.in-Ok.text.items) in
-    let rows : R (map bound_variable c.deref.result.now) = rw request at c.in-Ok.ensures.answer in
+    let rows : R (map bound_variable c.deref.result.now) = rw (c.tag.ensures.value, request) at c.in-Ok.ensures.answer in
     (vs, c.in_ok-bindings.ensures.all, subst R lent rows)
 
 pub returns-clause-answer : goal.returns-clause-answer
@@ -27,7 +27,7 @@ returns-clause-answer c =
     let lent : map bound_variable c.deref.result.now ≡ vs = ap (λ (bs : List VariableBinding). map bound_variable bs) c.deref.ensures.value in
     let refusal = refusal_answer c.in-Err-notify_of.fault.refusal in
     let S : List Variable → Result (List ℕ) Refusal → Type 0 = λ xs. Sends c.args.agent.now c.args.now (λ own. spoken (trap c.args.agent.now.engine own (notice_of c.args.notice.now.to) c.args.notice.now.level xs c.args.salt)) in
-    let rows : IfSome refusal (S (map bound_variable c.deref.result.now)) = rw request at c.in-Err-notify_of.ensures.answer in
+    let rows : IfSome refusal (S (map bound_variable c.deref.result.now)) = rw (c.tag.ensures.value, request) at c.in-Err-notify_of.ensures.answer in
     let can : CanSendAt c.args.agent.now c.args.now c.args.notice.now.to.user.now c.args.notice.now.level = search rules in
     let of_list : IfSome refusal (S vs) = subst (λ (xs : List Variable). IfSome refusal (S xs)) lent rows in
     inr (

@@ -7,7 +7,7 @@ use Rattle.snmp_msg.specs.Variables.{Variable, bound_variable}
 use Rattle.snmp_msg.specs.declared.variable.VariableBinding.{VariableBinding}
 use Rattle.snmp_incoming.specs.Outcome.{Given}
 use Rattle.snmp_incoming.specs.Answers.{given_of}
-use Rattle.snmp_outgoing.specs.Classes.{is_confirmed}
+use Rattle.snmp_msg.specs.PduTypes.{is_confirmed}
 use Rattle.usm_core.specs.Table.{refusal_answer}
 use Rattle.snmp_agent.specs.Responses.{responding}
 use Rattle.snmp_agent.specs.Sent.{Sends, CanSendAt}

@@ -1,4 +1,4 @@
-use Rattle.std.proofs.Common.{◌≤◌, ℕ, List, length, refl, subst}
+use Rattle.std.proofs.Common.{◌≤◌, ◌∙◌, ℕ, List, length, refl, subst}
 use Rattle.std.proofs.lemmas.Grind.{merely}
 use Rattle.std.proofs.lemmas.Result.{err_from_is_err_and}
 use Rattle.usm_core.specs.Answers.{verified_of}
@@ -17,4 +17,4 @@ invariant_of-result c = record { user_fits = c.args.checked.now.user_fits; id_fi
 
 pub returns : goal.returns
 returns c =
-    text_read (verified_of c.args.checked.now) (text_of c.args.text) _ (subst (λ text. HasTag text c.in_ok-found.found.0) c.as_slice.ensures c.in_ok-found.ensures.tag) c.requires.engine refl c.args.checked.now.level_is refl refl refl
+    text_read (verified_of c.args.checked.now) (text_of c.args.text) _ (subst (λ text. HasTag text c.in_ok-found.found.0) c.as_slice.ensures c.in_ok-found.ensures.tag) (c.copy.ensures ∙ c.args.checked.now.engine_is) refl c.args.checked.now.level_is refl refl refl

@@ -8,6 +8,6 @@ returns c =
     λ learned l.
     fresh_once_learned (verified_of c.args.checked.now) c.args.now c.args.clocks.now learned c.joined_to-held.result c.held.inside.pair c.notion.result c.in_window_manager.result
     (cc c.if-not-checked.false)
-    (rw (c.joined_to-held.ensures, c.mark.ensures, c.engine_of.ensures, c.pair_of-pair.ensures) refl)
+    (rw (c.joined_to-held.ensures, c.mark.ensures, c.args.checked.now.engine_is, c.pair_of-pair.ensures) refl)
     (ap (λ m. m.pair) c.held.view_is) c.notion.ensures
     (rw c.pair_of-pair.ensures at c.in_window_manager.ensures) l

@@ -5,7 +5,7 @@ use Rattle.usm_users.specs.User.{User}
 use Rattle.snmp_msg.specs.Pdu.{pdu_of}
 use Rattle.usm_core.specs.Table.{fails}
 use Rattle.snmp_incoming.specs.Answers.{given_of}
-use Rattle.snmp_outgoing.specs.Classes.{is_confirmed}
+use Rattle.snmp_msg.specs.PduTypes.{is_confirmed}
 use Rattle.usm_core.specs.Table.{refusal_answer}
 use Rattle.snmp_agent.specs.Agent.{AgentState}
 use Rattle.snmp_outgoing.specs.declared.counter.Counter.{Counter}

@@ -19,3 +19,9 @@ returns-clause-accepted c s p front is_pdu =
     let status : SFits w32 c.args.status = search rules in
     let index : SFits w32 c.args.index = search rules in
     rw (to_z-of_z w32 c.args.status status, to_z-of_z w32 c.args.index index) at (c.respond_within_of.ensures.accepted s p front is_pdu)
+
+pub returns-clause-counted : goal.returns-clause-counted
+returns-clause-counted c s p front is_pdu =
+    let status : SFits w32 c.args.status = search rules in
+    let index : SFits w32 c.args.index = search rules in
+    rw (to_z-of_z w32 c.args.status status, to_z-of_z w32 c.args.index index) at (c.respond_within_of.ensures.counted s p front is_pdu)

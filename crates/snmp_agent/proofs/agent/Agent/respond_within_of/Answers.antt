@@ -1,47 +1,67 @@
-use Rattle.snmp_message.specs.Numbers.{in_table}
-use Rattle.std.proofs.Common.{rules, ◌<◌, ◌≤◌, length, w32, SFits}
-use Rattle.std.specs.Prelude.{map}
+use Rattle.std.proofs.Common.{subst, ap, arith, w32, SFits, rules}
+use Rattle.std.specs.Prelude.{map, IfOk, IfSome}
 use Rattle.std.proofs.lemmas.Int.{to_z-of_z}
-use Rattle.std.proofs.lemmas.Result.{err_from_is_err_and}
+use Rattle.usm_core.specs.Table.{fails}
 use Rattle.snmp_incoming.specs.Answers.{given_of}
-use Rattle.snmp_outgoing.specs.UpTo.{fits, longer}
-use Rattle.snmp_agent.specs.Responses.{responding}
-use Rattle.snmp_agent.specs.Sent.{Sends}
-use Rattle.snmp_agent.proofs.UpTos.{some_refused}
+use Rattle.usm_core.specs.Answers.{seal_answer}
+use Rattle.snmp_agent.specs.Agent.{AgentState}
+use Rattle.snmp_incoming.specs.Outcome.{own_pair}
+use Rattle.snmp_message.specs.declared.refusal.Refusal.TheVariants.{ClockExhausted}
+use Rattle.snmp_outgoing.specs.Fronts.{IsBeyond, room}
+use Rattle.snmp_outgoing.specs.UpTo.{UpTo, refuses}
+use Rattle.snmp_outgoing.specs.Speaks.{SpeechFits}
+use Rattle.snmp_agent.specs.Responses.{response, responding}
+use Rattle.snmp_agent.specs.Sent.{Sends, CanBeSent, IsAcceptedByManagers}
+use Rattle.engine_clock.specs.Pairs.{BootsAndTime}
+use Rattle.snmp_agent.proofs.Accepted.{AreAccepted, accepted_text}
+use Rattle.snmp_agent.proofs.Clocked.{sends_up_to, can_be_sent}
 use Rattle.snmp_agent.proofs.agent.Agent.respond_within_of.Goals as goal
 
-pub returns-in_err-text-clause-answer : goal.returns-in_err-text-clause-answer
-returns-in_err-text-clause-answer g c s p front is_pdu =
-    let fits_status : SFits w32 c.args.status = search rules in
-    let fits_index : SFits w32 c.args.index = search rules in
-    let rows = rw (to_z-of_z w32 c.args.status fits_status, to_z-of_z w32 c.args.index fits_index) at (c.in_err-text.ensures.answer s p front is_pdu) in
-    let r = err_from_is_err_and c.from_residual.result c.from_residual.ensures.1 in
-    rw (r.1, r.2) (some_refused c.args.limit (Sends c.args.self.now c.args.now (λ own. responding c.args.self.now.engine own (given_of c.args.taken.now) s p c.args.status c.args.index (map g.B.Spelled.says c.args.bindings.now) c.args.salt)) (in_table c.in_err-text.field-0.0.refusal) rows)
-
-pub returns-then-len-limit-clause-answer : goal.returns-then-len-limit-clause-answer
-returns-then-len-limit-clause-answer g c s p front is_pdu =
-    let fits_status : SFits w32 c.args.status = search rules in
-    let fits_index : SFits w32 c.args.index = search rules in
-    let long : c.args.limit < length c.in_ok-text.text.items = search rules in
+pub returns-in_default-clause-answer : goal.returns-in_default-clause-answer
+returns-in_default-clause-answer g c s p front is_pdu =
+    let started = ap (λ (a : AgentState). a.started) c.self.view_is in
     rw c.plain.ensures.refusal
-    (longer c.in_ok-text.text.items (rw (to_z-of_z w32 c.args.status fits_status, to_z-of_z w32 c.args.index fits_index) at (c.in_ok-text.ensures.answer s p front is_pdu)) long)
+    (refuses ClockExhausted (fails (λ runs. let past = c.in_default.ensures in absurd (omega (arith, past, runs, started)))))
 
 pub returns-clause-answer : goal.returns-clause-answer
 returns-clause-answer g c s p front is_pdu =
     let fits_status : SFits w32 c.args.status = search rules in
     let fits_index : SFits w32 c.args.index = search rules in
-    let short : length c.in_ok-text.text.items ≤ c.args.limit = search rules in
-    fits c.in_ok-text.text.items (rw (to_z-of_z w32 c.args.status fits_status, to_z-of_z w32 c.args.index fits_index) at (c.in_ok-text.ensures.answer s p front is_pdu)) short
+    let rows = rw (to_z-of_z w32 c.args.status fits_status, to_z-of_z w32 c.args.index fits_index) at (c.write_response_within.ensures.rows s p front is_pdu) in
+    let agent : AgentState = record { engine = c.self.inside.engine.id; boots = c.self.inside.engine.boots; started = c.self.inside.engine.started; users = c.self.inside.users.users; tables = c.self.inside.vacm; counters = c.self.inside.counters; counts = c.self.inside.counts } in
+    subst (λ (a : AgentState). IfSome (seal_answer c.write_response_within.result) (UpTo c.args.limit (Sends a c.args.now (λ own. responding a.engine own (given_of c.args.taken.now) s p c.args.status c.args.index (map g.B.Spelled.says c.args.bindings.now) c.args.salt)))) c.self.view_is
+    (sends_up_to agent c.args.now (λ own. responding c.self.inside.engine.id own (given_of c.args.taken.now) s p c.args.status c.args.index (map g.B.Spelled.says c.args.bindings.now) c.args.salt) c.in-Some.own c.in-Some.ensures.0 c.in-Some.ensures.1 c.args.limit (seal_answer c.write_response_within.result) rows)
 
-pub returns-in_err-text-clause-memory : goal.returns-in_err-text-clause-memory
-returns-in_err-text-clause-memory g c s p front is_pdu is =
+pub returns-clause-memory : goal.returns-clause-memory
+returns-clause-memory g c s p front is_pdu is =
     let fits_status : SFits w32 c.args.status = search rules in
     let fits_index : SFits w32 c.args.index = search rules in
-    let r = err_from_is_err_and c.from_residual.result c.from_residual.ensures.1 in
-    rw (to_z-of_z w32 c.args.status fits_status, to_z-of_z w32 c.args.index fits_index) at (c.in_err-text.ensures.memory s p front is_pdu (rw (r.1, r.2) at is))
+    let sealable = rw (to_z-of_z w32 c.args.status fits_status, to_z-of_z w32 c.args.index fits_index) at (c.write_response_within.ensures.memory s p front is_pdu is) in
+    subst (λ (a : AgentState). CanBeSent a c.args.now (λ own. responding a.engine own (given_of c.args.taken.now) s p c.args.status c.args.index (map g.B.Spelled.says c.args.bindings.now) c.args.salt)) c.self.view_is
+    (can_be_sent _ c.args.now (λ own. responding c.self.inside.engine.id own (given_of c.args.taken.now) s p c.args.status c.args.index (map g.B.Spelled.says c.args.bindings.now) c.args.salt) c.in-Some.own c.in-Some.ensures.0 c.in-Some.ensures.1 sealable)
 
 pub returns-clause-accepted : goal.returns-clause-accepted
 returns-clause-accepted g c s p front is_pdu =
     let fits_status : SFits w32 c.args.status = search rules in
     let fits_index : SFits w32 c.args.index = search rules in
-    rw (to_z-of_z w32 c.args.status fits_status, to_z-of_z w32 c.args.index fits_index) at (c.in_ok-text.ensures.accepted s p front is_pdu)
+    let engine = c.self.inside.engine.id in
+    let users = c.self.inside.users.users in
+    let vs = map g.B.Spelled.says c.args.bindings.now in
+    let of = λ (own : BootsAndTime). response engine own (given_of c.args.taken.now) s p c.args.status c.args.index vs c.args.salt in
+    let rows = rw (to_z-of_z w32 c.args.status fits_status, to_z-of_z w32 c.args.index fits_index) at (c.write_response_within.ensures.sealed s p front is_pdu) in
+    let fits : IfOk c.write_response_within.result (λ _. SpeechFits (of c.in-Some.own)) = rw (to_z-of_z w32 c.args.status fits_status, to_z-of_z w32 c.args.index fits_index) at (c.write_response_within.ensures.fits s p front is_pdu) in
+    let law : AreAccepted users (of c.in-Some.own) = λ others held now text fits same seals. c.response_is_accepted.ensures users others held now engine c.in-Some.own (given_of c.args.taken.now) s p c.args.status c.args.index vs c.args.salt text fits same seals in
+    let told = accepted_text c.write_response_within.result users (of c.in-Some.own) law fits rows in
+    subst (λ (a : AgentState). IfOk c.write_response_within.result (λ text. IsAcceptedByManagers a.users (response a.engine (own_pair a.boots a.started c.args.now) (given_of c.args.taken.now) s p c.args.status c.args.index vs c.args.salt) text.items)) c.self.view_is
+    (subst (λ (q : BootsAndTime). IfOk c.write_response_within.result (λ text. IsAcceptedByManagers users (of q) text.items)) c.in-Some.ensures.1 told)
+
+pub returns-clause-counted : goal.returns-clause-counted
+returns-clause-counted g c s p front is_pdu is =
+    let fits_status : SFits w32 c.args.status = search rules in
+    let fits_index : SFits w32 c.args.index = search rules in
+    let engine = c.self.inside.engine.id in
+    let users = c.self.inside.users.users in
+    let vs = map g.B.Spelled.says c.args.bindings.now in
+    let never = rw (to_z-of_z w32 c.args.status fits_status, to_z-of_z w32 c.args.index fits_index) at (c.write_response_within.ensures.counted s p front is_pdu is) in
+    subst (λ (a : AgentState). IsBeyond a.users (room c.args.limit) (responding a.engine (own_pair a.boots a.started c.args.now) (given_of c.args.taken.now) s p c.args.status c.args.index vs c.args.salt) → ⊥) c.self.view_is
+    (subst (λ (q : BootsAndTime). IsBeyond users (room c.args.limit) (responding engine q (given_of c.args.taken.now) s p c.args.status c.args.index vs c.args.salt) → ⊥) c.in-Some.ensures.1 never)

@@ -10,6 +10,6 @@ pub unreachable-requires : goal.unreachable-requires
 unfolding variables_text
 unreachable-requires c =
     let short = c.in-Err.ensures.short c.in-TooLarge.is in
-    let pdu = pdu_with 160 (to_z w32 c.args.id) (pos 0) (pos 0) [] in
+    let pdu = pdu_with c.tag.result (to_z w32 c.args.id) (pos 0) (pos 0) [] in
     let most : length (scoped_text [] [] (pdu_text pdu)) ≤ 72 = scoped_most [] [] pdu in
     omega (arith, short, most)
