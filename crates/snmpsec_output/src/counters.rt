@@ -1,11 +1,8 @@
 //! The counters that reports tell.
 
 use snmp_ber::read_unsigned;
-use snmp_msg::Binding;
+use snmp_msg::{Binding, COUNTER32};
 use std::alloc::{AllocError, Global};
-
-/// The tag of a Counter32 (RFC 2578, section 2).
-const COUNTER: u8 = 0x41;
 
 /// The counters of RFC 3411, section 5 (snmpMPDMIB of RFC 3412), of targets (RFC 3413, section 4.1.2) and of
 /// the user-based security model (RFC 3414, section 5).
@@ -49,7 +46,7 @@ fn name_of(variable: &str) -> Option<&'static str> {
 
 /// The value of a binding, if it is a Counter32.
 fn value_of(binding: &Binding<'_>) -> Option<u32> {
-    if binding.tag == COUNTER {
+    if binding.tag == COUNTER32 {
         read_unsigned(binding.content)
     } else {
         None
