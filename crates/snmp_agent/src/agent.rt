@@ -133,7 +133,7 @@ impl Agent {
     ///
     /// The errors are, the first that applies: ClockExhausted (15), where the engine's time would be above
     /// 2147483647; those of `Users::open_auth`; NotInWindow (10), DecryptionError (11), BadScoped (12) and
-    /// BadPdu (13). OutOfMemory (14), from opening a message or in the place of a refusal whose report finds
+    /// BadPdu (13). OutOfMemory (14), from opening a message or instead of a refusal whose report finds
     /// no memory, leaves all as before. Memory is taken to open a sealed message that is in the window, and
     /// for a report.
     pub fn take<'a>(&mut self, now: u64, datagram: &'a [u8]) -> Result<Taken<'a>, Refused>

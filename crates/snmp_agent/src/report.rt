@@ -27,7 +27,7 @@ use usm_core::{Layout, Users, verified_was_read};
 /// The report on a refusal of the datagram, or None where none is offered: by what was read of it before, and the
 /// counters after the refusal.
 ///
-/// The error is want of memory. Where no report is offered, no memory is taken.
+/// The error is out of memory. Where no report is offered, no memory is taken.
 pub(crate) fn report(
     users: &mut Users,
     engine: &Engine,
@@ -80,7 +80,7 @@ fn report_level(n: u8) -> Level
 }
 
 /// The report of counter n. A report is short, and at a level with authentication its user has been
-/// authenticated; so the error is want of memory.
+/// authenticated; so the error is out of memory.
 fn write_report(
     users: &mut Users,
     engine: &EngineId,

@@ -15,7 +15,7 @@ pub enum Status {
     NoAccess,
     /// authorizationError: the Response has error-index 0 and the bindings as they came.
     AuthorizationError,
-    /// The exception noSuchObject stands in the place of the value.
+    /// The exception noSuchObject replaces the value.
     NoSuchObject,
     /// A walk doesn't see the variable, and goes on to the next one.
     NotSeen,

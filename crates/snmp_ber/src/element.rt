@@ -172,7 +172,7 @@ fn head(tag: u8, size: u32) -> ArrayVec<u8, 6>
 
 /// Appends the tag and the shortest length of a content of `size` octets, which is to follow.
 ///
-/// The error is want of memory: it comes only where the room that is left is too small, and changes nothing.
+/// The error is out of memory: it comes only where the room that is left is too small, and changes nothing.
 #[tactic(auto, unfolding(crate::specs::Spelling::shortest_length))]
 pub fn put_head(out: &mut Vec<u8>, tag: u8, size: usize) -> Result<(), AllocError>
     requires { size < 2 ^ 32 }
@@ -194,7 +194,7 @@ pub fn put_head(out: &mut Vec<u8>, tag: u8, size: usize) -> Result<(), AllocErro
 /// Appends the element with this tag and content, in its shortest spelling.
 ///
 /// Its tag has a clear bit among the low five, and its content at most 4,294,967,295 octets. The error is
-/// want of memory: it comes only where the room that is left is too small, and changes nothing.
+/// out of memory: it comes only where the room that is left is too small, and changes nothing.
 pub fn put_tlv(out: &mut Vec<u8>, tag: u8, content: &[u8]) -> Result<(), AllocError>
     requires is_tag { IsTag tag }
     requires fits { length content.now < 2 ^ 32 }

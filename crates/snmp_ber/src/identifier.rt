@@ -241,7 +241,7 @@ pub fn oid_len(oid: &Oid) -> usize
 
 /// Appends the OBJECT IDENTIFIER of an identifier with `is_object_id`, in its shortest spelling.
 ///
-/// The error is want of memory: it comes only where the room that is left is too small, and changes nothing.
+/// The error is out of memory: it comes only where the room that is left is too small, and changes nothing.
 pub fn put_oid(out: &mut Vec<u8>, oid: &Oid) -> Result<(), AllocError>
     requires { IsObjectId oid.now }
     ensures ok { OnOk result (out.new.items ≡ out.old.items ++ element 6 (identifier oid.now)) }

@@ -138,7 +138,7 @@ pub fn int_content(value: i64) -> ArrayVec<u8, 5>
 
 /// Appends the INTEGER of a number, in its shortest spelling.
 ///
-/// The error is want of memory: it comes only where the room that is left is too small, and changes nothing.
+/// The error is out of memory: it comes only where the room that is left is too small, and changes nothing.
 pub fn put_int(out: &mut Vec<u8>, value: i32) -> Result<(), AllocError>
     ensures ok { OnOk result (out.new.items ≡ out.old.items ++ element 2 (integer value)) }
     ensures err { OnErr result (out.new.items ≡ out.old.items) }

@@ -46,7 +46,7 @@ pub extern "C" fn proved_agent_new(
 }
 
 /// Gives back all memory but the block at the pointer, for which the caller then calls the heap's
-/// `rattle_dealloc`: it answers 14, and nothing is given back, for want of memory.
+/// `rattle_dealloc`: it answers 14, and nothing is given back, if memory runs out.
 #[unsafe(no_mangle)]
 pub unsafe extern "C" fn proved_agent_clear(at: *mut u8) -> i32
     ghost held: { AgentHeld }

@@ -24,7 +24,7 @@ pub extern "C" fn proved_binding_read(
 
 /// Writes a binding of these arcs, with this tag and this content of its value, to the front of the buffer,
 /// and writes how many octets it has. It answers -1 where the arcs are no identifier's, the tag's low five
-/// bits are all ones or it is above 255, or the content has more than 65,507 octets; 14 for want of memory;
+/// bits are all ones or it is above 255, or the content has more than 65,507 octets; 14 if memory runs out;
 /// and -5 where there is no room, and the octets are counted too.
 #[unsafe(no_mangle)]
 pub extern "C" fn proved_binding_write(

@@ -16,7 +16,7 @@ use std::alloc::Global;
 /// 12 notify, 13 view, 14 subtree, 15 include, 16 mask). The front of the buffer has two lines: the refusal,
 /// and what is wrong and what is wanted.
 ///
-/// It answers -1 where there are fewer than four numbers and 14 for want of memory, and nothing is written
+/// It answers -1 where there are fewer than four numbers and 14 if memory runs out, and nothing is written
 /// then; and -5 where the text is longer than the buffer: then the numbers are told, and how many octets the
 /// text has.
 #[unsafe(no_mangle)]

@@ -17,7 +17,7 @@ use std::alloc::Global;
 /// Makes a manager with the users of this configuration, in TOML, that begins with the clocks of this saved
 /// text, where the marks of version 1 were seen at the moment `now`, in seconds, and writes the pointer to
 /// it. Where it answers another number than 0, nothing is written: -7 where the text saves no clocks, -6
-/// where the configuration is refused, 14 for want of memory.
+/// where the configuration is refused, 14 if memory runs out.
 #[unsafe(no_mangle)]
 pub extern "C" fn proved_manager_new(
     alloc: Global,
@@ -42,7 +42,7 @@ pub extern "C" fn proved_manager_new(
 }
 
 /// Gives back all memory but the block at the pointer, for which the caller then calls the heap's
-/// `rattle_dealloc`: it answers 14, and nothing is given back, for want of memory.
+/// `rattle_dealloc`: it answers 14, and nothing is given back, if memory runs out.
 #[unsafe(no_mangle)]
 pub unsafe extern "C" fn proved_manager_clear(at: *mut u8) -> i32
     ghost held: { ManagerHeld }
@@ -134,7 +134,7 @@ pub unsafe extern "C" fn proved_manager_request(
 }
 
 /// Writes the request by which an engine is discovered, with this msgID, leaves it as the message to be sent
-/// and waits for its answer. It answers -1 where the msgID is above 2147483647, and 14 for want of memory.
+/// and waits for its answer. It answers -1 where the msgID is above 2147483647, and 14 if memory runs out.
 #[unsafe(no_mangle)]
 pub unsafe extern "C" fn proved_manager_discover(at: *mut u8, id: u32) -> i32
     ghost held: { ManagerHeld }
@@ -146,7 +146,7 @@ pub unsafe extern "C" fn proved_manager_discover(at: *mut u8, id: u32) -> i32
 }
 
 /// Joins in the clocks of this saved text, where the marks of version 1 were seen at the moment `now`. It
-/// answers -7 where the text saves none, and 14 for want of memory; then nothing changes.
+/// answers -7 where the text saves none, and 14 if memory runs out; then nothing changes.
 #[unsafe(no_mangle)]
 pub unsafe extern "C" fn proved_manager_absorb(at: *mut u8, text: &[u8], now: u64) -> i32
     ghost held: { ManagerHeld }
@@ -157,7 +157,7 @@ pub unsafe extern "C" fn proved_manager_absorb(at: *mut u8, text: &[u8], now: u6
     absorb(&mut *(at as *mut ManagerHandle), text, now)
 }
 
-/// Leaves the saved text of the clocks as the message. It answers 14 for want of memory, and then nothing changes.
+/// Leaves the saved text of the clocks as the message. It answers 14 if memory runs out, and then nothing changes.
 #[unsafe(no_mangle)]
 pub unsafe extern "C" fn proved_manager_save(at: *mut u8) -> i32
     ghost held: { ManagerHeld }

@@ -110,7 +110,8 @@ TellsUnhandled held (Err _) = ⊥
 -- ---- reports
 
 -- what becomes of a message that is refused so: the report on it, where there is one, or its refusal
-abbrev pub Reports : AgentState → ℕ → Given → Unhandled → List ℕ → Result (Option (List ℕ)) Refusal → AgentState → Type 0
+abbrev pub Reports : AgentState → ℕ → Given → Unhandled → List ℕ → Result (Option (List ℕ)) Refusal → AgentState
+    → Type 0
 Reports old now g why salt answer new =
     (c : Contexts) (p : PduParts) → ScopedFront g.text c → PduText c.pdu p → Refuses old now g p why salt answer new
 

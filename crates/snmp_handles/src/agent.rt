@@ -207,7 +207,7 @@ impl AgentHandle {
     /// Takes a datagram at the moment `now`, as `Agent::take` does. What is accepted is kept, for the calls
     /// below; of what is refused the report is left to be sent, where there is one.
     ///
-    /// The errors are the refusals of `Agent::take`, and want of memory for what is kept, which leaves the
+    /// The errors are the refusals of `Agent::take`, and out of memory for what is kept, which leaves the
     /// agent as it was.
     pub fn take(&mut self, now: u64, datagram: &[u8]) -> Result<(), CallFault>
         ensures takes { TakesHeld self.old now datagram.now result self.new }
@@ -287,7 +287,7 @@ impl AgentHandle {
     ///
     /// The errors are, the first that applies: BadArgument, where status or index are above 2147483647;
     /// NothingTaken; NotAsked, where the PDU isn't of the Confirmed Class; those of `Agent::supports`; then
-    /// BadBindings, TooLarge (16), or want of memory, whichever is met first.
+    /// BadBindings, TooLarge (16), or out of memory, whichever is met first.
     pub fn respond(
         &mut self,
         now: u64,

@@ -31,7 +31,7 @@ fn outer_count(list: &[u8]) -> usize
 }
 
 /// The bindings whose texts the octets are, one after another, with their names in these octets. The error is
-/// BadBindings, exactly where they aren't bindings, or want of memory, which is asked for once.
+/// BadBindings, exactly where they aren't bindings, or out of memory, which is asked for once.
 pub fn bindings_of(alloc: Global, list: &[u8]) -> Result<Vec<VariableBinding<'_>>, CallFault>
     ensures all { IfOk result (λ v. AreBindings (map bound_variable v.items) list.now) }
     ensures written { IfOk result (λ v. All (λ b. IsTag b.tag) v.items) }
@@ -102,7 +102,7 @@ pub fn read_binding_at(
     Ok(())
 }
 
-/// The text of a binding. The error is want of memory.
+/// The text of a binding. The error is out of memory.
 #[tactic(auto, unfolding(snmp_msg::specs::Variables::variable_text, snmp_msg::specs::Variables::variable_content))]
 fn binding_text(alloc: Global, name: &Oid, tag: u8, content: &[u8]) -> Result<Vec<u8>, AllocError>
     requires name { IsObjectId name.now }
@@ -123,7 +123,7 @@ fn binding_text(alloc: Global, name: &Oid, tag: u8, content: &[u8]) -> Result<Ve
 /// the front of the buffer, and tells how many octets it has.
 ///
 /// The errors are BadArgument, where the arcs are no identifier's that can be spelled, the tag's low five
-/// bits are all ones or it is above 255, or the content has more than 65,507 octets; want of memory; and
+/// bits are all ones or it is above 255, or the content has more than 65,507 octets; out of memory; and
 /// ShortBuffer, which tells the octets too. They leave the buffer as it was.
 pub fn write_binding(
     alloc: Global,

@@ -25,7 +25,7 @@ const NUMBERS: usize = 4;
 /// group, 7 prefix, 8 level, 9 match, 10 read, 11 write, 12 notify, 13 view, 14 subtree, 15 include, 16
 /// mask). The buffer has two lines: the refusal, and what is wrong and what is wanted.
 ///
-/// The other errors are BadArgument, where there are fewer than four numbers; want of memory, which writes
+/// The other errors are BadArgument, where there are fewer than four numbers; out of memory, which writes
 /// nothing; and ShortBuffer, where the text is longer than the buffer: then the numbers are told, and how
 /// many octets the text has.
 pub fn tell_config(

@@ -13,7 +13,7 @@ use vacm_core::Access;
 /// Why a call of a handle isn't done.
 #[derive(Clone, Copy, Debug, PartialEq, Eq)]
 pub enum CallFault {
-    /// The engine refuses the message that was taken, or that was to be written; want of memory is one of its refusals.
+    /// The engine refuses the message that was taken, or that was to be written; out of memory is one of its refusals.
     Refused(Refusal),
     /// An argument is outside of its range.
     BadArgument,

@@ -123,7 +123,7 @@ impl ManagerHandle {
     /// A manager with the users of this configuration, in TOML, that begins with the clocks of this saved
     /// text, where the marks of version 1 were seen at the moment `now`.
     ///
-    /// The errors are BadClocks, then BadConfiguration, or want of memory.
+    /// The errors are BadClocks, then BadConfiguration, or out of memory.
     pub fn of(
         alloc: Global,
         config: &[u8],
@@ -152,7 +152,7 @@ impl ManagerHandle {
         }
     }
 
-    /// Gives back the memory of all that is held. The error is want of memory, and changes nothing.
+    /// Gives back the memory of all that is held. The error is out of memory, and changes nothing.
     pub fn clear(&mut self) -> Result<(), CallFault>
         ensures { ClearsManager self.old result self.new }
     {
@@ -170,7 +170,7 @@ impl ManagerHandle {
     /// Takes a datagram at the moment `now`, as `Manager::take` does, and keeps it where it is accepted. The
     /// request that is waited for stays.
     ///
-    /// The errors are the refusals of `Manager::take`, and want of memory, which leaves the manager as it
+    /// The errors are the refusals of `Manager::take`, and out of memory, which leaves the manager as it
     /// was: nothing is learned.
     pub fn take(&mut self, now: u64, datagram: &[u8]) -> Result<(), CallFault>
         ensures takes { ManagerTakes self.old now datagram.now result self.new }
@@ -204,7 +204,7 @@ impl ManagerHandle {
     ///
     /// The errors are, the first that applies: BadArgument, where a number of `of` is out of its range, the
     /// engine ID hasn't 5 to 32 octets or the name is longer than 32; those of `Manager::supports`; then
-    /// BadBindings, TooLarge (16), or want of memory, whichever is met first.
+    /// BadBindings, TooLarge (16), or out of memory, whichever is met first.
     pub fn request(
         &mut self,
         now: u64,
@@ -230,7 +230,7 @@ impl ManagerHandle {
 
     /// Writes the request by which an engine is discovered (RFC 3414, section 4), leaves it to be sent and
     /// waits for its answer. On an error nothing changes. The errors are BadArgument, where the msgID is
-    /// above 2147483647, and want of memory.
+    /// above 2147483647, and out of memory.
     pub fn discover(&mut self, id: u32) -> Result<(), CallFault>
         ensures { DiscoversHeld self.old id result self.new }
     {
@@ -248,7 +248,7 @@ impl ManagerHandle {
     }
 
     /// Joins in the clocks of this saved text, where the marks of version 1 were seen at the moment `now`. On
-    /// an error nothing changes. The errors are BadClocks and want of memory.
+    /// an error nothing changes. The errors are BadClocks and out of memory.
     pub fn absorb(&mut self, text: &[u8], now: u64) -> Result<(), CallFault>
         ensures { AbsorbsHeld self.old text.now now result self.new }
     {
@@ -265,7 +265,7 @@ impl ManagerHandle {
         }
     }
 
-    /// Leaves the saved text of the clocks as the message. The error is want of memory, and changes nothing.
+    /// Leaves the saved text of the clocks as the message. The error is out of memory, and changes nothing.
     pub fn save(&mut self) -> Result<(), CallFault>
         ensures { SavesHeld self.old result self.new }
     {

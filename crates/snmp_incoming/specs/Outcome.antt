@@ -7,7 +7,8 @@
 -- datagram, and the first that fails gives its number. `Given` is what is given on of an accepted one,
 -- msgMaxSize too. `IsTextOf`: the octets that begin with the scoped PDU are what msgData is opened to, or
 -- the datagram from msgData on. The place of a fault isn't part of it.
-use Rattle.snmp_message.specs.declared.refusal.Refusal.TheVariants.{BadPdu, BadScoped, ClockExhausted, DecryptionError, NotInWindow}
+use Rattle.snmp_message.specs.declared.refusal.Refusal.TheVariants.{BadPdu, BadScoped, ClockExhausted}
+use Rattle.snmp_message.specs.declared.refusal.Refusal.TheVariants.{DecryptionError, NotInWindow}
 use Rattle.snmp_message.specs.declared.refusal.Refusal.{Refusal}
 use Rattle.std.specs.Prelude.{◌≡◌, ◌≤◌, ◌-◌, ℕ, List, length, drop, true, Result, Some, MatchBool}
 use Rattle.snmp_ber.specs.declared.level.Level.{Level}

@@ -52,7 +52,7 @@ impl Model for Kept {
 
 impl Kept {
     /// An accepted datagram with octets of its own: what was decrypted is moved, and what is lent is copied.
-    /// The error is want of memory.
+    /// The error is out of memory.
     pub fn of(alloc: Global, taken: Taken<'_>) -> Result<Kept, AllocError>
         ensures { IfOk result (λ kept. kept ≡ given_of taken.entry) }
     {

@@ -16,7 +16,7 @@ pub enum Octets<'a> {
 
 impl<'a> Octets<'a> {
     /// The octets in memory of their own: what was decrypted is moved, and a part of the datagram is copied. The error
-    /// is want of memory.
+    /// is out of memory.
     pub(crate) fn into_vec(self, alloc: Global) -> Result<Vec<u8>, AllocError>
         ensures { IfOk result (λ octets. octets.items ≡ text_of self.entry) }
     {

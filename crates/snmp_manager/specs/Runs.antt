@@ -23,7 +23,8 @@ Tells (Refused e) (Ok given) = ⊥
 
 -- a take of one datagram, told by an outcome
 abbrev pub TakesOne : Held → ℕ → List ℕ → Outcome → Held → Type 0
-TakesOne old now w outcome new = (answer : Result Given Refusal) × Tells outcome answer × Takes old now w (Some answer) new
+TakesOne old now w outcome new =
+    (answer : Result Given Refusal) × Tells outcome answer × Takes old now w (Some answer) new
 
 -- the outcomes of datagrams taken one after another
 abbrev pub Runs : Held → List (ℕ × Vec ℕ) → List Outcome → Held → Type 0

@@ -93,7 +93,7 @@ impl Manager {
         self.clocks.notion(engine, now)
     }
 
-    /// Joins the marks of `clocks` in. On an error, which is want of memory, all is as before.
+    /// Joins the marks of `clocks` in. On an error, which is out of memory, all is as before.
     ///
     /// No memory is wanted where each engine of the clocks is held.
     pub fn absorb(&mut self, clocks: &Clocks) -> Result<(), AllocError>
@@ -115,7 +115,7 @@ impl Manager {
         self.clocks = clocks;
     }
 
-    /// The saved text of the marks, which `Clocks::read_saved` reads again. The error is want of memory.
+    /// The saved text of the marks, which `Clocks::read_saved` reads again. The error is out of memory.
     pub fn save(&self) -> Result<Vec<u8>, AllocError>
         ensures text { IfOk result (λ text. text.items ≡ listing self.now.clocks) }
         ensures fits { AreMarks self.now.clocks }
@@ -189,7 +189,7 @@ impl Manager {
     /// Takes datagrams one after another, each at its moment. Then the pair of each engine is the greatest that was
     /// authenticated in what was taken, or that was held before. The memory for the outcomes is asked for first.
     ///
-    /// The error says how many of the datagrams were taken before there was want of memory: never all, so
+    /// The error says how many of the datagrams were taken before memory ran out: never all, so
     /// that a run over no datagram succeeds.
     pub fn run(&mut self, datagrams: &[(u64, Vec<u8>)]) -> Result<Vec<Outcome>, Stopped>
         ensures outcomes { IfOk result (λ outcomes. Runs self.old datagrams.now outcomes.items self.new) }
@@ -320,7 +320,7 @@ impl Manager {
 
     /// The request by which an engine is discovered (RFC 3414, section 4), and what is to be remembered of
     /// it: a GetRequest of nothing with this msgID and request-id, for no engine and no user. An agent
-    /// answers with a Report that has its engine ID. The error is want of memory.
+    /// answers with a Report that has its engine ID. The error is out of memory.
     pub fn discover(&self, id: u32) -> Result<(Vec<u8>, Pending), AllocError>
         requires { id ≤ MAX_INTEGER32 }
         ensures text { IfOk result (λ sent. Seals self.now.users (discovering id) (Ok sent.0.items)) }

@@ -13,7 +13,7 @@ pub enum Outcome {
     Refused(RefusedAt),
 }
 
-/// A run that stopped for want of memory, when the first so many of its datagrams were taken.
+/// A run that stopped because memory ran out, when the first so many of its datagrams were taken.
 #[derive(Clone, Copy, Debug, PartialEq, Eq, Drop, Error)]
 #[error("out of memory after {taken} datagrams")]
 pub struct Stopped {

@@ -35,7 +35,7 @@ pub enum Answer {
 }
 
 impl Pending {
-    /// What is remembered of the message with this envelope and this front. The error is want of memory.
+    /// What is remembered of the message with this envelope and this front. The error is out of memory.
     pub(crate) fn of(
         alloc: Global,
         envelope: &Envelope<'_>,

@@ -21,7 +21,7 @@ use usm_core::{Checked, Users};
 
 /// What the message that `open_auth` gave of this datagram is answered once its pair is learned, which isn't
 /// done yet: the rows of the table from the time window on (RFC 3414, section 3.2, steps 7 and 8). The error
-/// is want of memory, which is taken at authPriv alone, to decrypt.
+/// is out of memory, which is taken at authPriv alone, to decrypt.
 pub(crate) fn weigh<'a>(
     users: &mut Users,
     clocks: &Clocks,

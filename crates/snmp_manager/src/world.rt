@@ -41,7 +41,7 @@ impl Model for World {
 
 impl World {
     /// A manager for each of the clocks, in their order, with its marks and these users, and no file. The
-    /// error is want of memory.
+    /// error is out of memory.
     pub fn new(alloc: Global, users: &Users, clocks: &[Clocks]) -> Result<World, AllocError>
         ensures managers { IfOk result (λ world. world.managers ≡ map (held_by users.now.users) clocks.now) }
         ensures files { IfOk result (λ world. world.files ≡ []) }

@@ -177,7 +177,7 @@ pub fn message_len(header: &Header, security_len: usize, data_len: usize) -> usi
 /// Appends what stands in a message before the content of msgSecurityParameters (RFC 3412, section 6), the
 /// sizes as for `message_len`.
 ///
-/// The error is want of memory, and a front of this may have been appended.
+/// The error is out of memory, and a front of this may have been appended.
 #[tactic(auto, unfolding(crate::specs::Spelling::front_text))]
 pub fn put_front(
     out: &mut Vec<u8>,
@@ -224,7 +224,7 @@ fn spell_message(
 /// The message, in the shortest spelling, around the content of msgSecurityParameters and of msgData.
 ///
 /// The header's fields are in their ranges. The error TooLarge (16) comes exactly where the text would be longer than
-/// 65,507 octets, unless there is want of memory, which is the other error.
+/// 65,507 octets, unless memory runs out, which is the other error.
 pub fn write_message(
     alloc: Global,
     header: &Header,

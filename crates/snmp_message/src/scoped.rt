@@ -1,6 +1,7 @@
 //! ScopedPDU (RFC 3412, section 6.8).
 
-ghost use Rattle.std.specs.Prelude.{◌≡◌, ℕ, List, ◌+◌, ◌*◌, ◌<◌, ◌≤◌, ◌++◌, length, slice_range, option_map, IfErr, IfOk};
+ghost use Rattle.std.specs.Prelude.{◌≡◌, ℕ, List, ◌+◌, ◌*◌, ◌<◌, ◌≤◌, ◌++◌, length, slice_range, option_map};
+ghost use Rattle.std.specs.Prelude.{IfErr, IfOk};
 ghost use Rattle.std.specs.Prelude.{IfSome, OnOk, OnErr, MatchOption, MatchResult};
 ghost use Rattle.std.specs.Result.{result_ok};
 ghost use Rattle.snmp_ber.specs.Element.{IsElement};
@@ -181,7 +182,8 @@ pub fn place_scoped_front(plaintext: &[u8]) -> Result<ScopedPlace, RefusedAt>
 /// The error is NotScoped, exactly where no front of the octets is a ScopedPDU; its place counts in the plaintext. No
 /// memory is taken.
 pub fn read_scoped_front(plaintext: &[u8]) -> Result<Scoped<'_>, RefusedAt>
-    ensures exact { MatchResult result (λ s. ScopedFront plaintext.now (contexts_of s)) (λ e. RefusesFront plaintext.now e.refusal) }
+    ensures exact { MatchResult result (λ s. ScopedFront plaintext.now (contexts_of s))
+        (λ e. RefusesFront plaintext.now e.refusal) }
     ensures none { OnErr result ((s : Contexts) → ScopedFront plaintext.now s → ⊥) }
     ensures within { IfOk result (λ s. s.data_at + length s.pdu.now ≤ length plaintext.now) }
     ensures place { IfOk result (λ s. s.pdu.now ≡ slice_range plaintext.now s.data_at (s.data_at + length s.pdu.now)) }
@@ -202,7 +204,7 @@ pub fn contexts_len(engine: &[u8], name: &[u8], pdu_len: usize) -> usize
     element_len(engine.len()) + element_len(name.len()) + pdu_len
 }
 
-/// Appends contextEngineID and contextName. The error is want of memory, and a front of these may have been appended.
+/// Appends contextEngineID and contextName. The error is out of memory, and a front of these may have been appended.
 pub fn put_contexts(out: &mut Vec<u8>, engine: &[u8], name: &[u8]) -> Result<(), AllocError>
     requires engine { length engine.now ≤ LARGEST }
     requires name { length name.now ≤ LARGEST }
@@ -236,7 +238,7 @@ fn spell_scoped(
 /// A ScopedPDU, in the shortest spelling, around its data, which is one whole element.
 ///
 /// The error TooLarge (16) comes exactly where the text would be longer than 65,507 octets, unless there is
-/// want of memory, which is the other error.
+/// out of memory, which is the other error.
 pub fn write_scoped(
     alloc: Global,
     engine: &[u8],

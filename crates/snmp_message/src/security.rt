@@ -175,7 +175,7 @@ pub fn security_len(security: &Security<'_>) -> usize
 }
 
 /// Appends the fields as UsmSecurityParameters (RFC 3414, section 2.4), in the shortest spelling. The error
-/// is want of memory, and a front of these may have been appended.
+/// is out of memory, and a front of these may have been appended.
 #[tactic(auto, unfolding(crate::specs::Security::security_text))]
 pub fn put_security(out: &mut Vec<u8>, security: &Security<'_>) -> Result<(), AllocError>
     requires fits { FieldsFit (fields_of security.now) }
@@ -204,7 +204,7 @@ fn spell_security(
 /// The fields, in the shortest spelling. Their `auth_at` isn't looked at.
 ///
 /// Boots and time are at most 2,147,483,647 and the user name has at most 32 octets. The error TooLarge (16)
-/// comes exactly where the text would be longer than 65,507 octets, unless there is want of memory, which is
+/// comes exactly where the text would be longer than 65,507 octets, unless memory runs out, which is
 /// the other error.
 pub fn write_security(alloc: Global, security: &Security<'_>) -> Result<Vec<u8>, RefusedAt>
     requires { FieldsFit (fields_of security.now) }

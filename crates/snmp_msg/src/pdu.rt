@@ -194,7 +194,7 @@ fn put_spelled<B: Spelled>(
 /// Appends a PDU with these numbers and bindings, in the shortest spelling. The content of its list has
 /// `list_len` octets, as `bindings_len` tells.
 ///
-/// The error is want of memory, and a front of the PDU may have been appended.
+/// The error is out of memory, and a front of the PDU may have been appended.
 pub fn put_pdu_of<B: Spelled>(
     out: &mut Vec<u8>,
     tag: u8,
@@ -279,7 +279,7 @@ fn bare_pdu(tag: u8, id: i32, second: i32, third: i32) -> Pdu<'static>
 /// is an identifier with `is_object_id`, and no value's tag has low five bits that are all ones.
 ///
 /// The error TooLarge (16) comes exactly where the text would be longer than 65,507 octets, unless there is
-/// want of memory, which is the other error.
+/// out of memory, which is the other error.
 pub fn write_pdu(
     alloc: Global,
     tag: u8,

@@ -57,7 +57,8 @@ pub(crate) enum Measured<'a> {
 /// NotPdu. No memory is taken.
 pub fn read_layers<'a>(datagram: &'a [u8], message: &Message<'a>) -> Result<Layers<'a>, RefusedAt>
     requires { Outer datagram.now (parts message.now) }
-    ensures exact { MatchResult result (λ m. Says datagram.now (whole_of m)) (λ e. RefusesWhole datagram.now e.refusal) }
+    ensures exact { MatchResult result (λ m. Says datagram.now (whole_of m))
+        (λ e. RefusesWhole datagram.now e.refusal) }
     ensures fits { IfOk result (λ m. WholeFits (whole_of m)) }
     ensures list { IfOk result (λ m. IsReadLayer m.contents) }
 {
@@ -218,7 +219,8 @@ pub fn write_layers(alloc: Global, layers: &Layers<'_>) -> Result<Vec<u8>, Refus
 /// (16) comes exactly where the spelling is longer than 65,507 octets, and OutOfMemory only where there is a
 /// spelling that isn't. Neither the security model nor priv without auth is looked at.
 pub fn canonical(alloc: Global, datagram: &[u8]) -> Result<Vec<u8>, RefusedAt>
-    ensures exact { MatchResult result (λ v. IsCanonical datagram.now v.items) (λ e. RefusesCanonical datagram.now e.refusal) }
+    ensures exact { MatchResult result (λ v. IsCanonical datagram.now v.items)
+        (λ e. RefusesCanonical datagram.now e.refusal) }
     ensures size { IfOk result (λ v. length v.items ≤ LARGEST) }
 {
     let message = read_message(datagram)?;

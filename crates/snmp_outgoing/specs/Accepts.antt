@@ -70,4 +70,5 @@ pub record IsTakenInTime (taker : Taker) (users : List User) (now : ℕ) (w : Li
     (p : PduParts) : Type 0 where
   pub accepted : IsInTime taker now m → IsAccepted taker users now w m c p
   pub late : (IsInTime taker now m → ⊥) → Outcome taker users now w (Err NotInWindow)
-  pub only : (answer : Result Given Refusal) → Outcome taker users now w answer → IsAnsweredInTime taker now m c p answer
+  pub only : (answer : Result Given Refusal) → Outcome taker users now w answer
+      → IsAnsweredInTime taker now m c p answer

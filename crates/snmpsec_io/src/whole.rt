@@ -72,7 +72,7 @@ pub fn read_whole_behind<R: Read>(
     }
 }
 
-/// Want of memory, or else that a file can't be read.
+/// Out of memory, or else that a file can't be read.
 impl From<io::Error> for FileFault {
     fn from(fault: io::Error) -> FileFault {
         if fault.kind() == io::ErrorKind::OutOfMemory {

@@ -111,7 +111,7 @@ fn put_code(text: &mut Vec<u8>, at: usize, size: usize, local: &KeptKey)
     text[at..at + size].copy_from_slice(code.as_slice());
 }
 
-/// Puts the code in the place of the zeros, in the text itself, under the key localised to the message's
+/// Puts the code in place of the zeros, in the text itself, under the key localised to the message's
 /// engine. The content of its msgData has `data_len` octets.
 pub(crate) fn fill<S: ScopedPdu>(
     text: &mut Vec<u8>,

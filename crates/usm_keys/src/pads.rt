@@ -12,7 +12,7 @@ use md5::Md5;
 use sha1::Sha1;
 use sha2::Sha256;
 
-/// The most zero octets in the place of a message's code.
+/// The most zero octets instead of a message's code.
 const MAX_ZEROS: usize = 24;
 
 static ZEROS: [u8; MAX_ZEROS] = [0; MAX_ZEROS];
