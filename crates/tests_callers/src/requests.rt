@@ -1,6 +1,7 @@
 //! A manager's request, as it is taken by an agent.
 
 ghost use Rattle.std.specs.Prelude.{◌≡◌, ◌≤◌, ◌-◌, length, IfSome, MatchBool};
+ghost use Rattle.snmp_ber.specs.declared.number.TheConstants.{MAX_INTEGER32};
 ghost use Rattle.engine_clock.specs.Pairs.{pair_max};
 ghost use Rattle.engine_clock.specs.Marks.{mark_at};
 ghost use Rattle.usm_core.specs.Authentic.{HasEngineLength};
@@ -41,7 +42,7 @@ pub fn ask(
     at: u64,
     asking: &Asking<'_>,
 ) -> Option<bool>
-    requires id { asking.now.id ≤ 2147483647 }
+    requires id { asking.now.id ≤ MAX_INTEGER32 }
     requires user { length asking.now.user.now ≤ 32 }
     requires body { BodyFits asking.now.body.now }
     requires engine { agent.old.engine ≡ asking.now.engine.now }
