@@ -1,6 +1,6 @@
 //! Requests that wait for their answers.
 
-ghost use Rattle.std.specs.Prelude.{◌≡◌, ◌≢◌, IfOk, OnErr, OnOk, Some, None};
+ghost use Rattle.std.specs.Prelude.{◌≡◌, IfOk, OnErr, OnOk, Some, None};
 ghost use Rattle.std.specs.HashMap.{IsEmpty, IsUnchanged, Updates, get};
 
 use std::alloc::{AllocError, Global};

@@ -1,6 +1,6 @@
 -- A datagram that the authoritative engine sent is judged in one way.
-use Rattle.std.proofs.Common.{◌≡◌, ℕ, List, Bool, true, false, Some, refl, sym, ap, subst, ◌∙◌, inl, inr}
-use Rattle.std.specs.Prelude.{Result, Ok, Err}
+use Rattle.std.proofs.Common.{◌≡◌, ℕ, List, Bool, true, false, refl, sym, subst, ◌∙◌, inl, inr}
+use Rattle.std.specs.Prelude.{Result, Ok}
 use Rattle.snmp_message.specs.declared.refusal.Refusal.{Refusal}
 use Rattle.snmp_message.specs.declared.refusal.Refusal.TheVariants.{DecryptionError}
 use Rattle.snmp_message.specs.Scoped.{Contexts, ScopedFront}
@@ -14,7 +14,7 @@ use Rattle.snmp_incoming.specs.Outcome.{Given, Outcome, as_manager}
 use Rattle.snmp_incoming.proofs.Determined.{message_one, outcome_one}
 use Rattle.snmp_manager.specs.Views.{Held}
 use Rattle.snmp_manager.specs.Learning.{Learns, LearnsFrom}
-use Rattle.diagnose_judge.specs.Judging.{Judgement, sent_by, Opens, Reads, IsSentBy, window_answer}
+use Rattle.diagnose_judge.specs.Judging.{sent_by, Opens, Reads, IsSentBy, window_answer}
 
 module _ (same_marks : (a b : Marks) → ((engine : List ℕ) → mark_at a engine ≡ mark_at b engine) → a ≡ b) where
   learned_alike : (e f : List ℕ) (p q : BootsAndTime) (now : ℕ) (old new other : Marks) → f ≡ e → q ≡ p → Learns e p now old new → Learns f q now old other → new ≡ other

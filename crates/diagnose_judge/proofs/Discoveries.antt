@@ -1,5 +1,5 @@
 -- A message is a discovery exactly where it says no engine and has no authentication.
-use Rattle.std.proofs.Common.{◌≡◌, ℕ, List, [], Bool, true, false, length, refl, sym, ap, subst, ◌∙◌}
+use Rattle.std.proofs.Common.{◌≡◌, ℕ, List, [], Bool, true, false, length, sym, ap, subst, ◌∙◌}
 use Rattle.std.proofs.lemmas.Bool.{eqb-true, eqb-false}
 use Rattle.std.specs.Prelude.{◌==◌, MatchBool}
 use Rattle.std.proofs.lemmas.List.{nil_from_length}

@@ -1,6 +1,6 @@
 -- What a datagram is judged to be, for the function that judges it.
-use Rattle.std.proofs.Common.{◌≡◌, ◌≢◌, ℕ, ◌≤◌, List, Bool, true, false, Option, Some, None, refl, sym, ap, subst, ◌∙◌, inl, inr}
-use Rattle.std.specs.Prelude.{◌⊎◌, ◌↔◌, Ok, Err, IsTrue, IsSomeAnd, option_map}
+use Rattle.std.proofs.Common.{◌≡◌, ◌≢◌, ℕ, ◌≤◌, List, Bool, true, false, Option, Some, None, sym, ap, subst, ◌∙◌, inl, inr}
+use Rattle.std.specs.Prelude.{◌↔◌, Ok, Err, IsTrue, IsSomeAnd, option_map}
 use Rattle.snmp_message.specs.Numbers.{in_table}
 use Rattle.snmp_message.specs.declared.refusal.Refusal.{Refusal}
 use Rattle.snmp_message.specs.declared.refusal.Refusal.TheVariants.{OutOfMemory, UnknownEngine}
@@ -15,7 +15,7 @@ use Rattle.snmp_manager.specs.Views.{Held}
 use Rattle.snmp_manager.specs.Learning.{LearnsChecked}
 use Rattle.snmp_manager.proofs.Takes.{IsExact}
 use Rattle.diagnose_judge.specs.Clocks.{IsTold}
-use Rattle.diagnose_judge.specs.Judging.{Judgement, unread, discovery, IsDiscovery, IsUnread, IsJudged, IsSentBy, IsSentTo, Opens, Reads}
+use Rattle.diagnose_judge.specs.Judging.{Judgement, unread, IsUnread, IsJudged, IsSentBy, IsSentTo, Opens, Reads}
 use Rattle.diagnose_judge.specs.declared.judged.Verdict.{Verdict}
 use Rattle.diagnose_judge.proofs.Verdicts.{told, unweighed_at, weighed_at, reads_message, reads_fault, reads_refused, takes_own}
 

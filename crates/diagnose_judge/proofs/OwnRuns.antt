@@ -1,5 +1,5 @@
 -- Runs over the messages that authoritative engines sent, and over others between them.
-use Rattle.std.proofs.Common.{◌≡◌, ℕ, List, [], ◌∷◌, Bool, refl, sym, ap, subst, ◌∙◌}
+use Rattle.std.proofs.Common.{◌≡◌, ℕ, List, [], ◌∷◌, Bool, refl, sym, subst, ◌∙◌}
 use Rattle.snmp_incoming.specs.Outcome.{Given}
 use Rattle.snmp_manager.specs.Views.{Held}
 use Rattle.diagnose_judge.specs.Judging.{Judgement, unread, discovery, sent_by, sent_to, IsSentBy}

@@ -1,18 +1,18 @@
 -- What an agent of the message's engine answers, and what a manager does.
-use Rattle.std.proofs.Common.{◌≡◌, ◌≢◌, ℕ, ◌-◌, ◌≤◌, List, [], Bool, true, false, Option, Some, None, refl, sym, ap, subst, ◌∙◌, inl, inr, arith}
+use Rattle.std.proofs.Common.{◌≡◌, ◌≢◌, ℕ, ◌-◌, ◌≤◌, List, Bool, true, false, Option, Some, None, refl, sym, ap, subst, ◌∙◌, inl, inr, arith}
 use Rattle.std.specs.Prelude.{◌⊎◌, ◌↔◌, Result, Ok, Err, IsTrue, IsSomeAnd}
 use Rattle.snmp_ber.specs.declared.level.Level.{Level}
 use Rattle.snmp_message.specs.Level.{level_of}
 use Rattle.snmp_message.specs.declared.refusal.Refusal.{Refusal}
 use Rattle.snmp_message.specs.declared.refusal.Refusal.TheVariants.{NotMessage, BadVersion, NotSecurity, NotScoped, NotPdu, UnknownEngine, UnknownUser, UnsupportedLevel, WrongDigest, NotInWindow, DecryptionError, BadScoped, BadPdu, OutOfMemory, ClockExhausted, TooLarge, UnknownModel, InvalidFlags}
-use Rattle.engine_clock.specs.Pairs.{BootsAndTime, IsPair, pair_max}
+use Rattle.engine_clock.specs.Pairs.{BootsAndTime, pair_max}
 use Rattle.engine_clock.specs.Marks.{SeenPair, Marks, mark_at}
-use Rattle.engine_clock.specs.Windows.{InAgentWindow, notion_at}
+use Rattle.engine_clock.specs.Windows.{InAgentWindow}
 use Rattle.usm_users.specs.User.{User}
 use Rattle.usm_users.specs.Users.{HasUser, HasUserAt, supports, user_named}
 use Rattle.usm_core.specs.Table.{holds, fails, gives, refuses}
 use Rattle.usm_core.specs.Refusals.{RefusesUser}
-use Rattle.usm_core.specs.Verified.{Verified, Verifies, Judges, ReadsLayout, AllowsUser, IsJudged, agent, manager}
+use Rattle.usm_core.specs.Verified.{Verified, Verifies, Judges, ReadsLayout, IsJudged, agent, manager}
 use Rattle.snmp_incoming.specs.Answers.{IsOpening}
 use Rattle.snmp_incoming.specs.Outcome.{Given, Outcome, ReadsText, Weighs, IsFresh, ClockRuns, own_pair, pair_in, as_agent, as_manager}
 use Rattle.snmp_manager.specs.Views.{Held}

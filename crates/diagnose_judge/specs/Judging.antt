@@ -7,7 +7,7 @@
 -- time counted on (`clock_for`), and it teaches nothing. `discovery`: a request without authentication and
 -- without an engine (RFC 3414, section 4). `unread`: the refusal before the time window for which its PDU
 -- isn't read, so that its sender isn't known; it teaches nothing.
-use Rattle.std.specs.Prelude.{◌≡◌, ◌≢◌, ℕ, List, [], Bool, true, false, length, Option, Some, None, Result, Ok, Err, IsSomeAnd}
+use Rattle.std.specs.Prelude.{◌≡◌, ◌≢◌, ℕ, List, [], Bool, true, false, length, Option, Some, None, Result, Ok, Err}
 use Rattle.std.specs.Prelude.{◌⊎◌, option_map}
 use Rattle.snmp_message.specs.Layout.{Parts, Outer}
 use Rattle.snmp_message.specs.Security.{Fields, SecText}

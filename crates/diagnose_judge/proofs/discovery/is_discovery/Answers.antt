@@ -1,4 +1,3 @@
-use Rattle.std.proofs.Common.{◌≡◌}
 use Rattle.snmp_message.specs.Message.{parts}
 use Rattle.snmp_message.specs.Security.{fields_of}
 use Rattle.diagnose_judge.proofs.Discoveries.{not_plain, by_engine}

@@ -1,4 +1,3 @@
-use Rattle.std.proofs.Common.{◌≡◌, ◌∙◌}
 use Rattle.usm_core.specs.Answers.{verified_of}
 use Rattle.diagnose_judge.proofs.Verdicts.{told_by}
 use Rattle.diagnose_judge.proofs.observer.verdict_at.Goals as goal

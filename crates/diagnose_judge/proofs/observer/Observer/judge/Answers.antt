@@ -1,4 +1,4 @@
-use Rattle.std.proofs.Common.{◌≡◌, refl, ◌∙◌}
+use Rattle.std.proofs.Common.{refl, ◌∙◌}
 use Rattle.usm_core.specs.Answers.{verified_of}
 use Rattle.snmp_incoming.specs.Answers.{given_of}
 use Rattle.diagnose_judge.proofs.Judgings.{judges_unread, judges_unopened, judges_sent_to, judges_sent_by}
