@@ -5,7 +5,7 @@ _snmpsec_place() {
   local at=2 place=1
   while [ "$at" -lt "$COMP_CWORD" ]; do
     case ${COMP_WORDS[at]} in
-      --context | --form | --from | --from-line | --moment | --port) at=$((at + 1)) ;;
+      --clocks | --context | --form | --from | --from-line | --moment | --port) at=$((at + 1)) ;;
       --*) ;;
       *) place=$((place + 1)) ;;
     esac
@@ -18,14 +18,14 @@ _snmpsec() {
   local word=${COMP_WORDS[COMP_CWORD]} command=${COMP_WORDS[1]-} choices='' files=''
   COMPREPLY=()
   if [ "$COMP_CWORD" -eq 1 ]; then
-    choices='show open check-access explain-access who-sees sees check-config import-snmpd replay merge-clocks check-clocks check-log datagrams manual version'
+    choices='show open check-access explain-access who-sees sees check-config import-snmpd replay merge-clocks check-clocks check-log datagrams diagnose manual version'
   else
     case ${COMP_WORDS[COMP_CWORD - 1]} in
-      --from)
+      --clocks | --from)
         mapfile -t COMPREPLY < <(compgen -f -- "$word")
         return
         ;;
-      --context | --form | --from | --from-line | --moment | --port) return ;;
+      --clocks | --context | --form | --from | --from-line | --moment | --port) return ;;
     esac
     case $command:$(_snmpsec_place) in
       open:1) files=yes ;;
@@ -52,7 +52,9 @@ _snmpsec() {
       check-clocks:*) files=yes ;;
       check-log:1) files=yes ;;
       datagrams:1) files=yes ;;
-      manual:1) choices='show open check-access explain-access who-sees sees check-config import-snmpd replay merge-clocks check-clocks check-log datagrams manual version' ;;
+      diagnose:1) files=yes ;;
+      diagnose:2) files=yes ;;
+      manual:1) choices='show open check-access explain-access who-sees sees check-config import-snmpd replay merge-clocks check-clocks check-log datagrams diagnose manual version' ;;
     esac
     case $command in
       show) choices="$choices --names --why --from --form --port --moment --ip" ;;
@@ -68,6 +70,7 @@ _snmpsec() {
       check-clocks) choices="$choices --why" ;;
       check-log) choices="$choices --why" ;;
       datagrams) choices="$choices --form --why --port --moment --ip" ;;
+      diagnose) choices="$choices --form --why --port --moment --ip --clocks" ;;
       manual) choices="$choices --why" ;;
       version) choices="$choices --why" ;;
     esac

@@ -240,6 +240,27 @@ The help of each command. `manual` prints on standard output what `--help` print
   Example: snmpsec datagrams examples/replay/captured.pcap | snmpsec replay examples/replay/config.toml examples/replay/begin.clocks /dev/stdin
   Status: 0 read, 1 refused (a line 'refused datagrams FILE octet N' behind what came before, or of hex 'refused datagrams FILE line N column M', of a dump 'refused datagrams FILE line N'),
   2 a fault of the command line or a file that can't be read.
+  $ snmpsec manual diagnose
+  Print what became of each request in a capture: answered, refused and why, or no answer
+  
+  Usage: snmpsec diagnose [OPTIONS] <CONFIG> <FILE>
+  
+  Arguments:
+    <CONFIG>  TOML file with the users of the messages
+    <FILE>    A capture in the format of libpcap or pcapng, as tcpdump -w and Wireshark write it, pasted hex, or a dump, as hexdump -C prints it; - is standard input
+  
+  Options:
+        --form <FORM>      What FILE is: pcap (or pcapng), hex or dump; found by its octets if left out
+        --why              Say behind a refusal, on standard error, what is wrong and what is wanted
+        --port <PORT>      A port that the datagrams are from or to, 0 to 65535; may be given again; 161 and 162 if left out
+        --moment <MOMENT>  When pasted hex or a dump was received, in whole seconds; 0 if left out
+        --ip               FILE is dumps of packets, each from its IP header on, as tcpdump -x prints them; their UDP datagrams are taken
+        --clocks <CLOCKS>  Saved clocks of engines that are known before the capture begins
+    -h, --help             Print help
+  
+  A request is judged as the agent judges it, and an answer as the manager does; only what an engine sent teaches its clock.
+  Example: snmpsec diagnose examples/replay/config.toml examples/replay/captured.pcap
+  Status: 0 each request was answered without an error, 1 something failed, or the configuration, the clocks or FILE is refused, 2 a fault of the command line or a file that can't be read.
   $ snmpsec manual manual
   Print the help of a command, or of all, on standard output
   

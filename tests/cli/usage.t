@@ -4,7 +4,7 @@ A command is needed, with its arguments.
 
   $ snmpsec
   ! error: 'snmpsec' requires a subcommand but one was not provided
-  !   [subcommands: show, open, check-access, explain-access, who-sees, sees, check-config, import-snmpd, replay, merge-clocks, check-clocks, check-log, datagrams, manual, version, help]
+  !   [subcommands: show, open, check-access, explain-access, who-sees, sees, check-config, import-snmpd, replay, merge-clocks, check-clocks, check-log, datagrams, diagnose, manual, version, help]
   !
   ! Usage: snmpsec [OPTIONS] <COMMAND>
   !
@@ -99,6 +99,7 @@ Help is on standard error, with status 2. It names each command.
   !   check-clocks    Print how many engines each file of saved clocks has, or what is wrong with it
   !   check-log       Print how many lines a log has, or what is wrong with its first faulty line
   !   datagrams       Print the UDP datagrams of a capture as a log for replay, a line MOMENT HEX for each
+  !   diagnose        Print what became of each request in a capture: answered, refused and why, or no answer
   !   manual          Print the help of a command, or of all, on standard output
   !   version         Print the name and the version of the program
   !   help            Print this message or the help of the given subcommand(s)

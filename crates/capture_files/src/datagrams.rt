@@ -184,6 +184,7 @@ pub(crate) fn write_record<P: Printer, L: Write, N: Write>(
 {
     match sort_record(captured, ports) {
         Sorted::Logged(moment, datagram) => {
+            printer.see(captured.head.link, captured.head.micros, captured.packet);
             write_datagram(alloc, printer, moment, datagram, passed, log)
         }
         Sorted::Told(why) => {

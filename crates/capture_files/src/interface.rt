@@ -39,6 +39,24 @@ impl Interface {
         };
         add_offset(seconds, self.offset)
     }
+
+    /// How many microseconds below a second the time of a packet has, less than 1,000,000. They are 0 for units of
+    /// which 2^64 or more make a second.
+    pub(crate) fn micros(self, time: u64) -> u32 {
+        match units(self.resolution) {
+            Some(units) => micros_of(time, units),
+            None => 0,
+        }
+    }
+}
+
+/// The microseconds below a second of a time in these units.
+fn micros_of(time: u64, units: u64) -> u32 {
+    if units == 0 {
+        return 0;
+    }
+    let micros = u128::from(time % units) * 1_000_000 / u128::from(units);
+    micros.min(999_999) as u32
 }
 
 /// How many units a second has, where they are below 2^64.

@@ -7,6 +7,8 @@ pub(crate) struct Head {
     pub(crate) link: u16,
     /// When it was captured, in whole seconds, where that is known.
     pub(crate) moment: Option<u64>,
+    /// How many microseconds after that, below 1,000,000.
+    pub(crate) micros: u32,
     /// Where it begins in the room that it was read into.
     pub(crate) at: usize,
     /// How many octets of it were captured.

@@ -24,6 +24,7 @@
 
 mod blocks;
 mod datagrams;
+mod endpoints;
 mod fault;
 mod field;
 mod format;
@@ -37,6 +38,7 @@ mod pcapng;
 mod printer;
 
 pub use datagrams::{log_line, print_datagrams_behind, write_datagrams};
+pub use endpoints::{Address, Endpoint, Route, route_of};
 pub use fault::CaptureFault;
 pub use field::{Order, read_16_by, read_32, read_64};
 pub use format::begins_capture;

@@ -64,7 +64,7 @@ pub fn find_datagram(link: u32, packet: &[u8], whole: bool) -> Found<'_>
 }
 
 /// What the frame of a link has in it.
-fn unframe(link: u32, packet: &[u8]) -> Network<'_>
+pub(crate) fn unframe(link: u32, packet: &[u8]) -> Network<'_>
     ensures { IsNetwork link packet.now result }
 {
     match link {

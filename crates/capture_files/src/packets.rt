@@ -47,6 +47,7 @@ fn write_packet<P: Printer>(
     let head = Head {
         link: RAW_IP,
         moment: Some(moment),
+        micros: 0,
         at: 0,
         size: packet.len(),
         original: packet.len().min(u32::MAX as usize) as u32,

@@ -32,6 +32,8 @@ pub(crate) struct Header {
     pub(crate) order: Order,
     /// The type of the link, a number of LINKTYPE.
     pub(crate) link: u16,
+    /// What is below a second is told in nanoseconds, and not in microseconds.
+    pub(crate) nanoseconds: bool,
 }
 
 /// The octets begin with the number of a capture, in this order.
@@ -95,7 +97,21 @@ pub(crate) fn read_header(octets: &[u8]) -> Result<Header, u64>
     Ok(Header {
         order,
         link: link as u16,
+        nanoseconds: read_32(order, octets, 0) == NANOSECONDS,
     })
+}
+
+/// How many microseconds the header of a record tells below a second, less than 1,000,000.
+fn micros(header: Header, octets: &[u8]) -> u32
+    requires { length octets.now ≡ 16 }
+{
+    let below = read_32(header.order, octets, 4);
+    let micros = if header.nanoseconds {
+        below / 1_000
+    } else {
+        below
+    };
+    micros.min(999_999)
 }
 
 /// What the header of a record says, or `None` where its packet is over the limit.
@@ -112,6 +128,7 @@ fn read_head(header: Header, octets: &[u8]) -> Option<Head>
     Some(Head {
         link: header.link,
         moment: Some(u64::from(read_32(order, octets, 0))),
+        micros: micros(header, octets),
         at: 0,
         size,
         original: read_32(order, octets, 12),

@@ -143,6 +143,7 @@ fn block_kind(order: Order, octets: &[u8]) -> Kind
 const UNDATED: Head = Head {
     link: 0,
     moment: None,
+    micros: 0,
     at: 0,
     size: 0,
     original: 0,
@@ -225,6 +226,7 @@ impl Section {
         Some(Head {
             link: interface.link,
             moment: interface.moment(high * 4_294_967_296 + low),
+            micros: interface.micros(high * 4_294_967_296 + low),
             at: 28,
             size,
             original: read_32(head.order, front, 24),

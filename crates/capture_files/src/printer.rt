@@ -21,6 +21,12 @@ pub trait Printer {
     /// a refusal or doesn't.
     ghost prints: { Self → ℕ → ℕ → List ℕ → List ℕ → Bool → Type 0 };
 
+    /// Shows the packet of the datagram that is printed next, before `print`: the type of its link, a number of
+    /// LINKTYPE, and when it was captured, in microseconds after the whole second. The text is the same without it.
+    fn see(&mut self, _link: u16, _micros: u32, _packet: &[u8])
+        ensures { PrintsAs (prints self.new) (prints self.old) }
+    {}
+
     /// What is printed of a datagram with this number, that was received at this moment, in seconds. The
     /// error is want of memory.
     fn print(

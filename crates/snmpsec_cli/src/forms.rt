@@ -1,6 +1,6 @@
 //! The parser of the command line, which is made of the tables of the commands.
 
-use crate::{Command, access, capture, import, messages, own, replay, saved, wide};
+use crate::{Command, access, capture, diagnose, import, messages, own, replay, saved, wide};
 use clap::{Arg, ArgAction};
 use std::alloc::{AllocError, Global};
 
@@ -50,7 +50,7 @@ pub(crate) struct Form {
 }
 
 /// How many commands there are.
-const FORMS: usize = 15;
+const FORMS: usize = 16;
 
 /// The command at this place of the list that help prints, from 0. At each place after the last stands the last.
 fn form_at(at: usize) -> &'static Form {
@@ -68,7 +68,8 @@ fn form_at(at: usize) -> &'static Form {
         10 => &saved::CHECK_CLOCKS,
         11 => &saved::CHECK_LOG,
         12 => &capture::DATAGRAMS,
-        13 => &own::MANUAL,
+        13 => &diagnose::DIAGNOSE,
+        14 => &own::MANUAL,
         _ => &own::VERSION_FORM,
     }
 }

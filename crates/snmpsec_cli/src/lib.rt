@@ -52,6 +52,8 @@ pub enum Command {
     CheckLog,
     /// `datagrams [--form FORM] [--port PORT].. [--moment MOMENT] [--ip] FILE`
     Datagrams,
+    /// `diagnose [--form FORM] [--port PORT].. [--moment MOMENT] [--ip] [--clocks CLOCKS] CONFIG FILE`
+    Diagnose,
     /// `manual [COMMAND]`
     Manual,
     /// `version`
@@ -121,6 +123,7 @@ pub fn not_text(alloc: Global) -> Result<Error, AllocError>
 mod access;
 mod asked;
 mod capture;
+mod diagnose;
 mod forms;
 mod given;
 mod import;
@@ -133,6 +136,7 @@ mod wide;
 pub use access::{AccessWords, access_words};
 pub use asked::{Invocation, asked_by};
 pub use capture::{DatagramsWords, datagrams_words};
+pub use diagnose::{DiagnoseWords, diagnose_words};
 pub use given::{word_of, words_of};
 pub use import::{ImportWords, import_words};
 pub use own::{VERSION, manual_text, version_text};

@@ -4,13 +4,14 @@ use crate::access::{answer_on_access, check_config, list_seen, open_message, who
 use crate::checks::{check_clocks_files, check_log_file};
 use crate::complaint::Complaint;
 use crate::datagrams::{log_file, open_file, show_file};
+use crate::diagnose::diagnose_file;
 use crate::log::replay_log;
 use crate::merge::merge_clocks;
 use crate::run::usage;
 use clap::ArgMatches;
 use snmpsec_cli::{
-    Command, Invocation, access_words, datagrams_words, manual_text, replay_words, version_text,
-    word_of, words_of,
+    Command, Invocation, access_words, datagrams_words, diagnose_words, manual_text, replay_words,
+    version_text, word_of, words_of,
 };
 use snmpsec_output::{Output, show_named};
 use std::alloc::{AllocError, Global};
@@ -32,6 +33,7 @@ pub(crate) fn command<R: Files + Input + AllocGlobal, O: Write, E: Write>(
         Command::Show => show(rt, asked, out, err),
         Command::Open => open(rt, asked, out, err),
         Command::Datagrams => log_file(rt, &datagrams_words(words), out, err),
+        Command::Diagnose => diagnose_file(rt, &diagnose_words(words), out, err),
         Command::Replay => replay_log(rt, &replay_words(words), out),
         Command::CheckConfig => check_config(rt, word_of(words, "CONFIG"), asked.why),
         named => command_of_texts(rt, named, words),

@@ -14,7 +14,7 @@ use std::rt::Files;
 
 /// What the words ask of a file.
 #[derive(Drop)]
-struct Wanted {
+pub(crate) struct Wanted {
     form: Option<Form>,
     ports: Vec<u16>,
     moment: u64,
@@ -22,7 +22,7 @@ struct Wanted {
 
 impl Wanted {
     /// These options for the reader of the file of this name.
-    fn options<'a>(&'a self, name: &'a str) -> ReadOptions<'a> {
+    pub(crate) fn options<'a>(&'a self, name: &'a str) -> ReadOptions<'a> {
         ReadOptions {
             form: self.form,
             moment: self.moment,
@@ -33,7 +33,7 @@ impl Wanted {
 }
 
 /// Looks at the form, the ports and the moment, in this order.
-fn wanted_of(alloc: Global, words: &DatagramsWords<'_>) -> Result<Wanted, Complaint> {
+pub(crate) fn wanted_of(alloc: Global, words: &DatagramsWords<'_>) -> Result<Wanted, Complaint> {
     let form = form_argument(alloc, words.form, words.ip)?;
     let ports = ports_argument(alloc, words.ports)?;
     let moment = moment_argument(alloc, words.moment)?;

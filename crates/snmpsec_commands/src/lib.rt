@@ -29,6 +29,7 @@ mod checks;
 mod command;
 mod complaint;
 mod datagrams;
+mod diagnose;
 mod files;
 mod log;
 mod merge;

@@ -1,0 +1,5 @@
+pub mod Determined
+pub mod Discoveries
+pub mod Judgings
+pub mod OwnRuns
+pub mod Verdicts

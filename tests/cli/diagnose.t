@@ -1,0 +1,62 @@
+What `snmpsec diagnose` prints of a capture.
+
+A capture of a manager and an agent, made with Python's hmac. Each exchange is a block, in the order of first datagrams.
+Datagram 5 has boots ahead and a right code: the agent refuses it, and the good request after it is accepted.
+The user eve isn't in the configuration, and the password of datagram 9 is wrong. 17 is sent again as 18. 20 has no answer:
+the answer to the same msgID goes to another port. 26 is a copy of 3, ten minutes later.
+
+  $ snmpsec diagnose "$TOP/examples/no-answer.toml" "$TOP/examples/diagnose.pcap"
+  1  22:13:20.001000  10.0.0.9:40001 > 10.0.0.5:161  discovery
+      answered after 0.4 ms: engine 80001f88046b6f77616e7169
+  3  22:13:20.002000  10.0.0.9:40001 > 10.0.0.5:161  bob authNoPriv  Get 1.3.6.1.2.1.1.5.0
+      window not judged: nothing is known of the engine's clock yet
+      answered after 0.8 ms: 1.3.6.1.2.1.1.5.0 = STRING "router-7"
+  5  22:13:25.000000  10.0.0.9:40001 > 10.0.0.5:161  bob authNoPriv  Get 1.3.6.1.2.1.1.5.0
+      refused by the agent after 0.5 ms: usmStatsNotInTimeWindows is 1
+      NotInWindow: the boots or the time in the message aren't the engine's: a restart, a wrong clock, or a message that was kept
+  7  22:13:26.000000  10.0.0.9:40001 > 10.0.0.5:161  bob authNoPriv  Get 1.3.6.1.2.1.1.1.0
+      answered after 0.7 ms: 1.3.6.1.2.1.1.1.0 = STRING "a router"
+  9  22:13:30.000000  10.0.0.9:40001 > 10.0.0.5:161  bob authNoPriv  Get 1.3.6.1.2.1.1.5.0
+      refused by the agent after 0.3 ms: usmStatsWrongDigests is 4
+      WrongDigest: the password or the hash of the user in this configuration isn't the sender's
+  11  22:13:31.000000  10.0.0.9:40001 > 10.0.0.5:161  eve authNoPriv  Get 1.3.6.1.2.1.1.5.0
+      refused by the agent after 0.2 ms: usmStatsUnknownUserNames is 2
+      UnknownUser: no user of this name is in this configuration; a hash or a cipher that isn't known here keeps one out
+  13  22:13:32.000000  10.0.0.9:40001 > 10.0.0.5:161  bob authNoPriv  Set 1.3.6.1.2.1.1.4.0
+      answered after 0.9 ms: error authorizationError at 1
+  15  22:13:33.000000  10.0.0.9:40001 > 10.0.0.5:161  bob authNoPriv  Get 1.3.6.1.2.1.99.0
+      answered after 0.4 ms: 1.3.6.1.2.1.99.0 = noSuchObject
+  17  22:13:40.000000  10.0.0.9:40001 > 10.0.0.5:161  bob authNoPriv  Get 1.3.6.1.2.1.1.5.0
+      sent again and answered as 18
+  18  22:13:41.000000  10.0.0.9:40001 > 10.0.0.5:161  bob authNoPriv  Get 1.3.6.1.2.1.1.5.0
+      retransmission of 17
+      answered after 0.6 ms: 1.3.6.1.2.1.1.5.0 = STRING "router-7"
+  20  22:13:42.000000  10.0.0.9:40001 > 10.0.0.5:161  bob authNoPriv  Get 1.3.6.1.2.1.1.5.0
+      no answer in the capture
+  21  22:13:42.000100  10.0.0.9:40002 > 10.0.0.5:161  bob authNoPriv  Get 1.3.6.1.2.1.1.1.0
+      answered after 0.1 ms: 1.3.6.1.2.1.1.1.0 = STRING "a router"
+  23  22:13:50.000000  10.0.0.5:50000 > 10.0.0.9:162  bob authNoPriv  Trap 1.3.6.1.2.1.1.3.0
+  24  22:13:51.000000  [2001:db8::5]:50000 > [2001:db8::9]:162  ann authNoPriv  Inform 1.3.6.1.2.1.1.3.0
+      window not judged: nothing is known of the engine's clock yet
+      answered after 0.3 ms: 1.3.6.1.2.1.1.3.0 = Timeticks 16
+  26  22:23:20.000000  10.0.0.9:40001 > 10.0.0.5:161  bob authNoPriv  Get 1.3.6.1.2.1.1.5.0
+      copy of 3
+  summary
+    bob  answered 5, errors 1, refused 2, no answer 1
+    eve  answered 0, errors 0, refused 1, no answer 0
+    ann  answered 1, errors 0, refused 0, no answer 0
+    engine 80001f88046b6f77616e7169  boots 7, time 1030, seen at 1700000030
+    engine 80001f88046e6d73  boots 1, time 50, seen at 1700000031
+  [1]
+
+A refused configuration is one line.
+
+  $ snmpsec diagnose "$TOP/examples/diagnose.pcap" "$TOP/examples/diagnose.pcap"
+  refused config toml
+  [1]
+
+A file that isn't there.
+
+  $ snmpsec diagnose "$TOP/examples/no-answer.toml" missing
+  ! snmpsec: cannot read missing
+  [2]
