@@ -1,4 +1,13 @@
 //! Exchanges in a capture: which answer is of which request, and which datagram is a copy of one before.
+//!
+//! ```
+//! use diagnose_exchanges::{Copies, digest_of};
+//!
+//! let digest = digest_of(b"10.0.0.9:40001 > 10.0.0.5:161", b"0\x03\x02\x01\x03");
+//! let mut copies = Copies::new(rt.alloc());
+//! assert!(rt; copies.note(digest, 1)? == None);
+//! assert!(rt; copies.note(digest, 2)? == Some(1));
+//! ```
 #![tactic(auto)]
 
 mod asked;

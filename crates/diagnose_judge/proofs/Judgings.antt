@@ -10,7 +10,7 @@ use Rattle.usm_core.specs.Table.{holds, fails, refused}
 use Rattle.usm_core.specs.Verified.{Verified, Verifies, IsJudged as PassesRows, manager}
 use Rattle.snmp_incoming.specs.Outcome.{Given, IsFresh, ReadsText, as_manager}
 use Rattle.snmp_incoming.proofs.Rows.{is_in_table}
-use Rattle.snmp_outgoing.specs.Classes.{is_confirmed}
+use Rattle.snmp_msg.specs.PduTypes.{is_confirmed}
 use Rattle.snmp_manager.specs.Views.{Held}
 use Rattle.snmp_manager.specs.Learning.{LearnsChecked}
 use Rattle.snmp_manager.proofs.Takes.{IsExact}

@@ -20,7 +20,7 @@ use Rattle.usm_core.specs.Table.{Needs, Then}
 use Rattle.usm_core.specs.Verified.{Verified, Verifies, manager}
 use Rattle.snmp_incoming.specs.Outcome.{Given, Outcome, ReadsMessage, as_agent}
 use Rattle.snmp_incoming.specs.Answers.{given_of}
-use Rattle.snmp_outgoing.specs.Classes.{is_confirmed}
+use Rattle.snmp_msg.specs.PduTypes.{is_confirmed}
 use Rattle.snmp_manager.specs.Views.{Held}
 use Rattle.snmp_manager.specs.Takes.{Takes}
 use Rattle.diagnose_judge.specs.Clocks.{clock_for}

@@ -16,11 +16,10 @@ ghost use Rattle.diagnose_judge.specs.Judging.{IsJudged, IsUnread, Opens, judgem
 
 use crate::discovery::is_discovery;
 use crate::judged::{Judged, Verdict};
-use crate::learning::{engine_of, is_fresh_once_learned, learn, pair_of};
-use engine_clock::{Clocks, EngineId, Mark, Pair, in_window_agent};
+use engine_clock::{Clocks, Mark, Pair, in_window_agent};
 use snmp_incoming::{Taken, read_text, scoped_octets};
-use snmp_msg::{Refusal, RefusedAt};
-use snmp_outgoing::is_confirmed;
+use snmp_manager::{is_fresh_once_learned, learn, pair_of};
+use snmp_msg::{Refusal, RefusedAt, is_confirmed};
 use std::alloc::AllocError;
 use std::marker::Model;
 use usm_core::{Checked, Role, Users};
@@ -117,7 +116,7 @@ fn open<'a>(
     let Some(text) = scoped_octets(users, datagram, checked)? else {
         return Ok(Err(RefusedAt::plain(Refusal::DecryptionError)));
     };
-    Ok(read_text(checked, engine_of(checked), text))
+    Ok(read_text(checked, text))
 }
 
 /// The clock of the engine of which this is held: its boots, and its time counted on to the moment `now`.
@@ -160,7 +159,7 @@ fn verdict_at(clocks: &Clocks, now: u64, checked: &Checked<'_>) -> Verdict
         return Verdict::Accepted;
     }
     let said = pair_of(checked);
-    match clocks.mark(&engine_of(checked)) {
+    match clocks.mark(&checked.engine) {
         Some(mark) => in_window_of(clock_of(mark, now), said, Verdict::Accepted),
         None => in_window_of(said, said, Verdict::Unweighed),
     }

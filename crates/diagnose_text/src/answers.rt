@@ -3,7 +3,7 @@
 use crate::names::{counter_name, status_name};
 use crate::values::binding_text;
 use snmp_ber::read_unsigned;
-use snmp_msg::{Pdu, REPORT, RESPONSE};
+use snmp_msg::{Pdu, PduType};
 use std::alloc::{AllocError, Global};
 
 /// What an answer comes to.
@@ -19,10 +19,10 @@ pub(crate) enum AnswerKind {
 
 /// What the answer with this PDU comes to.
 pub(crate) fn kind_of(pdu: &Pdu<'_>) -> AnswerKind {
-    if pdu.tag == REPORT {
+    if pdu.tag == PduType::Report.tag() {
         return AnswerKind::Report;
     }
-    if pdu.tag == RESPONSE && pdu.second != 0 {
+    if pdu.tag == PduType::Response.tag() && pdu.second != 0 {
         return AnswerKind::Error;
     }
     AnswerKind::Values

@@ -16,9 +16,9 @@ use diagnose_judge::{Judged, Observer, Verdict};
 use engine_clock::Clocks;
 use snmp_incoming::Taken;
 use snmp_msg::{
-    Layer, Message, Pdu, REPORT, Refusal, Security, TRAP, read_layers, read_message, read_security,
+    Layer, Message, Pdu, PduType, Refusal, Security, is_confirmed, read_layers, read_message,
+    read_security,
 };
-use snmp_outgoing::is_confirmed;
 use std::alloc::{AllocError, Global};
 use usm_core::Users;
 use usm_users::UserName;
@@ -348,7 +348,7 @@ impl Diagnoser {
         let sender = sender_text(alloc, taken.user, taken.level)?;
         let told = pdu_text(alloc, &pdu)?;
         let what = format!(in alloc; "{sender}  {told}")?;
-        let note = if pdu.tag == TRAP || line.copy_of.is_some() {
+        let note = if pdu.tag == PduType::SNMPv2Trap.tag() || line.copy_of.is_some() {
             ""
         } else {
             "    its request isn't in the capture, or has its answer\n"
@@ -482,7 +482,7 @@ impl Diagnoser {
     ) -> Result<(), AllocError> {
         let alloc = self.alloc;
         if let Some(pdu) = pdu {
-            if pdu.tag == REPORT {
+            if pdu.tag == PduType::Report.tag() {
                 let report = report_text(alloc, &pdu)?;
                 let line = format!(in alloc; "    refused by the agent after {span}: {report}\n")?;
                 block.text.push_str(&line)?;
@@ -520,7 +520,7 @@ impl Diagnoser {
         match self.observer.judge(line.at.seconds, datagram)? {
             Judged::SentTo { taken, verdict } => self.request(line, &taken, verdict),
             Judged::SentBy { taken, in_window } => {
-                if taken.tag == TRAP {
+                if taken.tag == PduType::SNMPv2Trap.tag() {
                     self.tell_alone(line, &taken)
                 } else {
                     self.answer(line, &taken, in_window)

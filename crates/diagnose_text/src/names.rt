@@ -1,23 +1,20 @@
 //! Names of PDUs, levels, error-statuses and counters, as RFCs and tcpdump write them.
 
 use snmp_ber::Level;
-use snmp_msg::{
-    GET_BULK_REQUEST, GET_NEXT_REQUEST, GET_REQUEST, INFORM_REQUEST, REPORT, RESPONSE, SET_REQUEST,
-    TRAP,
-};
+use snmp_msg::PduType;
 
 /// The name of the PDU with this tag (RFC 3416, section 3).
 pub(crate) fn pdu_name(tag: u8) -> &'static str {
-    match tag {
-        GET_REQUEST => "Get",
-        GET_NEXT_REQUEST => "GetNext",
-        RESPONSE => "Response",
-        SET_REQUEST => "Set",
-        GET_BULK_REQUEST => "GetBulk",
-        INFORM_REQUEST => "Inform",
-        TRAP => "Trap",
-        REPORT => "Report",
-        _ => "PDU",
+    match PduType::of(tag) {
+        Some(PduType::GetRequest) => "Get",
+        Some(PduType::GetNextRequest) => "GetNext",
+        Some(PduType::Response) => "Response",
+        Some(PduType::SetRequest) => "Set",
+        Some(PduType::GetBulkRequest) => "GetBulk",
+        Some(PduType::InformRequest) => "Inform",
+        Some(PduType::SNMPv2Trap) => "Trap",
+        Some(PduType::Report) => "Report",
+        None => "PDU",
     }
 }
 

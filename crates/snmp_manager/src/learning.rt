@@ -10,8 +10,8 @@ use engine_clock::{Clocks, Mark, Pair, in_window_manager};
 use std::alloc::AllocError;
 use usm_core::Checked;
 
-/// The pair that a message says.
-fn pair_of(checked: &Checked<'_>) -> Pair
+/// The boots and the time that a message says. It takes no memory.
+pub fn pair_of(checked: &Checked<'_>) -> Pair
     ensures { result ≡ pair_in (verified_of checked.now) }
 {
     let Some(pair) = Pair::of(checked.security.boots, checked.security.time) else {
@@ -22,7 +22,7 @@ fn pair_of(checked: &Checked<'_>) -> Pair
 
 /// Learns the pair of an authenticated message. A message without authentication teaches nothing. Where its
 /// engine is held already, this takes no memory and succeeds.
-pub(crate) fn learn(clocks: &mut Clocks, checked: &Checked<'_>, now: u64) -> Result<(), AllocError>
+pub fn learn(clocks: &mut Clocks, checked: &Checked<'_>, now: u64) -> Result<(), AllocError>
     ensures no_memory { (checked.now.message.header.auth ≡ true
         → IsSome (mark_at clocks.old checked.now.security.engine.now)) → IsOk result }
     ensures learned { OnOk result (LearnsChecked (verified_of checked.now) now clocks.old clocks.new) }
@@ -37,7 +37,7 @@ pub(crate) fn learn(clocks: &mut Clocks, checked: &Checked<'_>, now: u64) -> Res
 
 /// Whether a message is in the time window once its pair is learned, which isn't done yet (RFC 3414, section
 /// 3.2, step 7). One without authentication has no window.
-pub(crate) fn is_fresh_once_learned(clocks: &Clocks, checked: &Checked<'_>, now: u64) -> bool
+pub fn is_fresh_once_learned(clocks: &Clocks, checked: &Checked<'_>, now: u64) -> bool
     ensures { (learned : Marks) → LearnsChecked (verified_of checked.now) now clocks.now learned
         → (IsTrue result ↔ (checked.now.message.header.auth ≡ true
         → IsFresh (as_manager learned) now (verified_of checked.now))) }

@@ -57,6 +57,7 @@ pub use laws::{
     pieces_are_joined, same_authentic_same_latest, same_authentic_same_pairs,
     taken_holds_the_latest, takes_are_joined,
 };
+pub use learning::{is_fresh_once_learned, learn, pair_of};
 pub use manager::Manager;
 pub use outcome::{Outcome, Stopped};
 pub use pending::{Answer, Pending};
