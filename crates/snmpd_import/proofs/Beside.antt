@@ -1,8 +1,10 @@
 -- Rows beside which others count, one after another.
-use Rattle.std.proofs.Common.{◌≡◌, ◌≢◌, ℕ, ◌+◌, ◌<◌, ◌≤◌, List, [], ◌++◌, length, get_or, drop, Option, None, Some, sym, ◌∙◌, ap, subst, refl, append_assoc}
+use Rattle.std.proofs.Common.{◌≡◌, ◌≢◌, ℕ, ◌+◌, ◌<◌, ◌≤◌, List, [], ◌++◌, length, get_or, drop, Option, None, Some, sym, ◌∙◌, ap, subst, refl, append_assoc, inl, inr, arith}
 use Rattle.std.specs.Prelude.{MatchOption}
 use Rattle.std.proofs.lemmas.List.{drop_all, get_or_read}
+use Rattle.std.specs.declared.cmp.Ordering.{Ordering}
 use Rattle.std.specs.declared.cmp.Ordering.TheVariants.{Equal}
+use Rattle.std.proofs.lemmas.Bool.{cases_lt}
 use Rattle.snmpd_tables.specs.declared.rows.Place.TheVariants.{BuiltIn}
 use Rattle.snmpd_tables.specs.declared.rows.HeldFamily.{HeldFamily}
 use Rattle.snmpd_tables.specs.Orders.{order_of_families}
@@ -13,7 +15,7 @@ use Rattle.snmpd_tables.proofs.Runs.{in_front}
 use Rattle.snmpd_import.specs.declared.notes.Kind.{Kind}
 use Rattle.snmpd_import.specs.declared.second.Second.{Second}
 use Rattle.snmpd_import.specs.Notes.{tells_kind}
-use Rattle.snmpd_import.specs.Seconds.{AreTold, kind_in, IsFamilyKind, IsSecondFamily, place_of_family}
+use Rattle.snmpd_import.specs.Seconds.{IsBeside, AreTold, kind_in, IsFamilyKind, IsSecondFamily, place_of_family}
 
 -- ---- one row
 
@@ -33,6 +35,19 @@ family_second kept row first at kind of_line is_first is other told =
         ),
       ),
     )
+
+-- the first of the index is of the row's own place
+pub none_beside : {R : Type 0} (order : R → R → Ordering) (place_of : R → Place) (kept : List R) (row first : R) (at : ℕ) (So : R → Type 0) → IsFirstLike order kept row at
+    → first ≡ get_or kept at first → place_of first ≡ place_of row → (other : ℕ) → IsBeside order place_of kept row So other → ⊥
+none_beside order place_of kept row first at So is_first is own other beside = elim (cases_lt other at) [
+  | inl less ↦ is_first.first other first less (beside.0.same first)
+  | inr from ↦ elim (cases_lt at other) [
+    | inl less ↦ beside.0.first at first less (is_first.same first)
+    | inr upto ↦
+        let same : other ≡ at = omega (arith, from, upto) in
+        (beside.1 first).0 (ap (λ k. place_of (get_or kept k first)) same ∙ ap place_of (sym is) ∙ own)
+  ]
+]
 
 -- ---- one row after another
 

@@ -1,6 +1,7 @@
 //! What is told of rows that snmpd holds and that don't count.
 
 ghost use Rattle.std.specs.Prelude.{◌≡◌, ◌++◌, ◌↔◌, List, map, IsTrue, IfOk, OnOk, MatchOption};
+ghost use Rattle.snmpd_tables.specs.Index.{Finds};
 ghost use Rattle.snmpd_tables.specs.Lists.{tables_of};
 ghost use Rattle.snmpd_tables.specs.declared.rows.Place.{Place as APlace};
 ghost use Rattle.snmpd_import.specs.declared.notes.Kind.{Kind as AKind};
@@ -13,8 +14,11 @@ ghost use Rattle.snmpd_import.specs.Seconds.{place_of_group, place_of_access, pl
 use crate::notes::{Kind, Told, Why};
 use crate::rows::KeptRows;
 use crate::users::{created_in, user_at};
-use snmpd_tables::{HeldAccess, HeldFamily, HeldGroup, Item, Lists, Place, find};
+use snmpd_tables::{
+    Held, HeldAccess, HeldFamily, HeldGroup, Item, Lists, Place, find, first_places,
+};
 use std::alloc::{AllocError, Global};
+use std::collections::BTreeMap;
 use vacm_core::{FamilyRow, GroupRow, Matching};
 
 /// What a row is beside which another one counts, and where that is from.
@@ -25,7 +29,7 @@ struct Second {
 }
 
 /// A row that snmpd holds.
-trait Beside: Sized {
+trait Beside: Held {
     ghost place_of: { Self → APlace };
 
     ghost is_second: { List Self → Self → AKind → Type 0 };
@@ -34,8 +38,9 @@ trait Beside: Sized {
     fn place(&self) -> Place
         ensures { result ≡ place_of self.now };
 
-    /// What it is, where one of another line counts in its place.
-    fn second(&self, kept: &[Self]) -> Option<Second>
+    /// What it is, where one of another line counts in its place, given where the first of each index stands.
+    fn second(&self, kept: &[Self], places: &BTreeMap<Self, usize>) -> Option<Second>
+        requires { Finds Self.cmp kept.now places.now }
         ensures { MatchOption result ((kind : AKind) → is_second kept.now self.now kind → ⊥)
             (λ second. is_second kept.now self.now second.kind) };
 }
@@ -74,7 +79,7 @@ impl Beside for HeldGroup {
         self.place
     }
 
-    fn second(&self, kept: &[HeldGroup]) -> Option<Second> {
+    fn second(&self, kept: &[HeldGroup], _places: &BTreeMap<HeldGroup, usize>) -> Option<Second> {
         for first in kept {
             if first.place != self.place && is_for(&self.row, &first.row) {
                 return Some(Second {
@@ -106,8 +111,8 @@ impl Beside for HeldAccess {
         self.place
     }
 
-    fn second(&self, kept: &[HeldAccess]) -> Option<Second> {
-        let at = find(kept, self)?;
+    fn second(&self, kept: &[HeldAccess], places: &BTreeMap<HeldAccess, usize>) -> Option<Second> {
+        let at = find(kept, places, self)?;
         let first = &kept[at];
         if first.place == self.place {
             return None;
@@ -154,11 +159,11 @@ impl Beside for HeldFamily {
         self.place
     }
 
-    fn second(&self, kept: &[HeldFamily]) -> Option<Second> {
+    fn second(&self, kept: &[HeldFamily], places: &BTreeMap<HeldFamily, usize>) -> Option<Second> {
         if self.place == Place::BuiltIn {
             return None;
         }
-        let at = find(kept, self)?;
+        let at = find(kept, places, self)?;
         let first = &kept[at];
         if first.place == self.place {
             return None;
@@ -214,9 +219,11 @@ fn row_notes<R: Beside>(
 ) -> Result<Vec<Told>, AllocError>
     ensures { IfOk result (λ notes. AreTold (R.is_second kept.now) R.place_of held.now (map told_of notes.items)) }
 {
+    let places = first_places(alloc, kept)?;
     let mut notes = Vec::new(alloc);
     for row in held {
-        put_second(alloc, &mut notes, row.place(), word, row.second(kept))?;
+        let second = row.second(kept, &places);
+        put_second(alloc, &mut notes, row.place(), word, second)?;
     }
     Ok(notes)
 }

@@ -27,7 +27,7 @@ module _ {R : Type 0} (Fits : R → Type 0) (order : R → R → Ordering) (laws
   not_below_itself : (x : R) → order x x ≡ Less → ⊥
   not_below_itself x h = let e = tied_itself laws x in cc
 
-  passed_over : (all rows : List R) (row : R) (o : Option (ℕ × Bor R)) → ¬ Fits row → IsBestSoFar all rows o → IsBestSoFar all (rows ++ row ∷ []) o
+  pub passed_over : (all rows : List R) (row : R) (o : Option (ℕ × Bor R)) → ¬ Fits row → IsBestSoFar all rows o → IsBestSoFar all (rows ++ row ∷ []) o
   passed_over all rows row None not_fit none = λ x c f. elim (Contains-push_cases rows row x c) [
     | inl there ↦ none x there f
     | inr same ↦ not_fit (subst Fits (sym same) f)
@@ -44,7 +44,7 @@ module _ {R : Type 0} (Fits : R → Type 0) (order : R → R → Ordering) (laws
     },
   )
 
-  kept : (all rows : List R) (row : R) (o : Option (ℕ × Bor R)) → Exceeds o row false → IsBestSoFar all rows o → IsBestSoFar all (rows ++ row ∷ []) o
+  pub kept : (all rows : List R) (row : R) (o : Option (ℕ × Bor R)) → Exceeds o row false → IsBestSoFar all rows o → IsBestSoFar all (rows ++ row ∷ []) o
   kept all rows row None none_better none = absurd (let e : false ≡ true = none_better in cc)
   kept all rows row (Some b) not_better best = (
     best.0,
@@ -58,7 +58,7 @@ module _ {R : Type 0} (Fits : R → Type 0) (order : R → R → Ordering) (laws
     },
   )
 
-  taken : (all rows : List R) (row : R) (o : Option (ℕ × Bor R)) → Fits row → Exceeds o row true → IsBestSoFar all rows o → IsBestOf (rows ++ row ∷ []) Fits order row
+  pub taken : (all rows : List R) (row : R) (o : Option (ℕ × Bor R)) → Fits row → Exceeds o row true → IsBestSoFar all rows o → IsBestOf (rows ++ row ∷ []) Fits order row
   taken all rows row None fits better none = record {
     in_table = Contains-push rows row;
     fits = fits;

@@ -7,3 +7,12 @@ pub mod ComparedChoosing
 pub mod Telling
 pub mod Covering
 pub mod Nones
+pub mod FirstPlaces
+pub mod Sorting
+pub mod Setting
+pub mod ByName
+pub mod Reaching
+pub mod Seeing
+pub mod Gathering
+pub mod OfGroup
+pub mod PrefixTelling

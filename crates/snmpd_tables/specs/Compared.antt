@@ -1,5 +1,5 @@
 -- For which messages snmpd and RFC 3415 are compared.
-use Rattle.std.specs.Prelude.{◌≡◌, ◌⊎◌, ℕ, List, Contains}
+use Rattle.std.specs.Prelude.{◌≡◌, ◌⊎◌, ℕ, ◌<◌, List, ◌∷◌, length, get_or, Contains}
 use Rattle.vacm_core.specs.Allowed.{HasContext, FitsContext}
 use Rattle.vacm_core.specs.declared.rows.ContextRow.{ContextRow}
 use Rattle.snmpd_tables.specs.declared.rows.HeldAccess.{HeldAccess}
@@ -11,7 +11,13 @@ use Rattle.snmpd_tables.specs.Questions.{IsAbout}
 use Rattle.snmpd_tables.specs.declared.comparison.Chosen.{Chosen}
 use Rattle.snmpd_tables.specs.declared.comparison.Difference.{Difference}
 use Rattle.snmpd_tables.specs.declared.compared.Compared.{Compared}
-use Rattle.snmpd_tables.specs.Differences.{IsDifference, Differs}
+use Rattle.snmpd_tables.specs.declared.comparison.Near.{Near}
+use Rattle.snmpd_tables.specs.declared.compared.Groups.{Groups}
+use Rattle.snmpd_tables.specs.declared.compared.Prefixes.{Prefixes}
+use Rattle.snmpd_tables.specs.Among.{AreAmong}
+use Rattle.snmpd_tables.specs.Differences.{FitsHeld, IsDifference, Differs}
+use Rattle.snmpd_tables.specs.Near.{AreOfGroup}
+use Rattle.snmpd_tables.specs.Places.{named_places, AreBy, group_of}
 
 -- The contexts and groups that are asked for, the access rows that snmpd holds, and those of them that are kept.
 pub record Sides : Type 0 where
@@ -98,3 +104,38 @@ IsOfPairs c groups question = HasPair groups question.group question.model
 -- Where those of P were told, those of Q are told then.
 abbrev pub GoesOn : Chosen → (Question → Type 0) → (Question → Type 0) → List Difference → List Difference → Type 0
 GoesOn rows P Q old new = (before : List Difference) → Tells rows P before old → Tells rows Q before new
+
+-- the rows that fit messages of the group in these contexts stand at places that are near
+abbrev pub IsNear : Chosen → Near → List ℕ → Contexts → Type 0
+IsNear rows near group contexts = (question : Question) → question.group ≡ group → question.contexts ≡ contexts
+    → AreAmong (FitsHeld question) rows.held.now near.held.now
+    × AreAmong (FitsHeld question) rows.kept.now near.kept.now
+
+-- where the group's rows stand by their prefixes, of all and of those that are kept
+abbrev pub AreOfBoth : Chosen → Prefixes → List ℕ → Type 0
+AreOfBoth rows prefixes group = AreOfGroup rows.held.now group prefixes.held
+    × AreOfGroup rows.kept.now group prefixes.kept
+
+-- where the rows of each group stand, of all and of those that are kept
+abbrev pub AreGroupsOf : Chosen → Groups → Type 0
+AreGroupsOf rows groups = AreBy group_of rows.held.now (λ i. i < length rows.held.now) groups.held
+    × AreBy group_of rows.kept.now (λ i. i < length rows.kept.now) groups.kept
+
+-- the places of the group's rows
+pub record ArePlacesOf (rows : List HeldAccess) (group : List ℕ) (places : List ℕ) : Type 0 where
+  pub within : (i : ℕ) → Contains places i → i < length rows
+  pub sound : (i : ℕ) (d : HeldAccess) → Contains places i → (get_or rows i d).row.group ≡ group
+  pub all : (i : ℕ) (d : HeldAccess) → i < length rows → (get_or rows i d).row.group ≡ group → Contains places i
+
+abbrev pub BeginsWith : List ℕ → ℕ → Type 0
+BeginsWith places place = (rest : List ℕ) × (places ≡ place ∷ rest)
+
+-- those of the prefixes of the rows at these places, where a row is the first of its prefix
+pub record IsOfPlaces (rows : List HeldAccess) (prefixes : Prefixes) (group : List ℕ) (model : ℕ) (places : List ℕ)
+    (question : Question) : Type 0 where
+  pub prefix : List ℕ
+  pub place : ℕ
+  pub among : Contains places place
+  pub is : (d : HeldAccess) → (get_or rows place d).row.prefix ≡ prefix
+  pub first : BeginsWith (named_places prefixes.held prefix) place
+  pub asked : IsOfPrefix group model prefix question

@@ -1,9 +1,15 @@
 pub mod Orders
+pub mod OrderLaws
+pub mod Rising
 pub mod Items
 pub mod Questions
 pub mod Sets
 pub mod Lists
 pub mod Kept
+pub mod Index
 pub mod Meant
 pub mod Differences
 pub mod Compared
+pub mod Places
+pub mod Near
+pub mod Among

@@ -17,6 +17,7 @@ use Rattle.snmpd_tables.specs.declared.items.Item.{Item}
 use Rattle.snmpd_tables.specs.declared.items.Made.{Made}
 use Rattle.snmpd_tables.specs.declared.items.Made.TheVariants as made
 use Rattle.snmpd_tables.specs.Sets.{SetsAccess}
+use Rattle.snmpd_tables.specs.Rising.{in_order}
 use Rattle.snmpd_tables.specs.Orders.{Adds, order_of_groups, order_of_access, order_of_families}
 
 -- the rows of the three tables, in snmpd's order, and which lines changed access rows of other indexes than their own
@@ -31,6 +32,15 @@ tables_of lists = record {
   groups = lists.groups.items;
   access = lists.access.items;
   families = lists.families.items;
+  changes = lists.changes.items;
+}
+
+-- what the rows come to that stand in the order of their lines
+abbrev pub sorted_of : Lists → Tables
+sorted_of lists = record {
+  groups = in_order order_of_groups lists.groups.items;
+  access = in_order order_of_access lists.access.items;
+  families = in_order order_of_families lists.families.items;
   changes = lists.changes.items;
 }
 

@@ -29,7 +29,7 @@ fn access_order(a: &AccessRow, b: &AccessRow) -> Ordering
 }
 
 /// The row is above the best of those before it.
-fn is_better(best: Option<(usize, &HeldAccess)>, held: &HeldAccess) -> bool
+pub(crate) fn is_better(best: Option<(usize, &HeldAccess)>, held: &HeldAccess) -> bool
     ensures { MatchOption best.entry (IsTrue result) (λ best. IsTrue result ↔ (held_order best.1.now held.now ≡ Less)) }
 {
     match best {

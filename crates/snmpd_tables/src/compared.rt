@@ -4,15 +4,20 @@
 ghost use Rattle.std.specs.Prelude.{◌≡◌, ◌↔◌, ◌+◌, ◌<◌, IsTrue, OnOk, IfOk, length, take};
 ghost use Rattle.snmpd_tables.specs.Kept.{HasOneEach};
 ghost use Rattle.snmpd_tables.specs.Compared.{sides_of, IsLike, HasPrefix, HasPair, IsOfPrefix, IsOfPrefixes};
-ghost use Rattle.snmpd_tables.specs.Compared.{IsOfEither, IsOfPairs, Tells, GoesOn, TellsDifferences};
+ghost use Rattle.snmpd_tables.specs.Compared.{IsOfEither, IsOfPairs, Tells, GoesOn, TellsDifferences, IsNear};
+ghost use Rattle.snmpd_tables.specs.Compared.{AreOfBoth, AreGroupsOf, ArePlacesOf, BeginsWith, IsOfPlaces};
+ghost use Rattle.snmpd_tables.specs.Near as spec;
 
-use crate::comparison::{Chosen, Difference, difference_of};
+use crate::comparison::{Chosen, Difference, Near, difference_of};
 use crate::copies::copy_name;
+use crate::near::{near, places_by_group, prefixes_of};
+use crate::places::places_at;
 use crate::questions::{Contexts, Question};
-use crate::rows::{HeldAccess, HeldGroup};
+use crate::rows::HeldGroup;
 use snmp_ber::Level;
 use std::alloc::{AllocError, Global};
-use vacm_core::{AccessRow, ContextRow, Name};
+use std::collections::BTreeMap;
+use vacm_core::{ContextRow, GroupRow, Name};
 
 /// The contexts and groups that are asked for, and the rows that are chosen from.
 #[derive(Clone, Copy)]
@@ -22,11 +27,20 @@ pub struct Compared<'a> {
     pub rows: Chosen<'a>,
 }
 
+/// Where a group's rows stand that have each prefix: of all, and of those of which there is one of each index.
+#[derive(Drop)]
+struct Prefixes {
+    held: BTreeMap<Name, Vec<usize>>,
+    kept: BTreeMap<Name, Vec<usize>>,
+}
+
 /// Messages of a group under a model.
 #[derive(Clone, Copy)]
 struct Asking<'a> {
+    alloc: Global,
     group: &'a Name,
     model: u32,
+    prefixes: &'a Prefixes,
 }
 
 /// The same contexts. It takes no memory.
@@ -43,11 +57,13 @@ fn copy_contexts(contexts: &Contexts) -> Contexts
 fn put_level(
     found: &mut Vec<Difference>,
     rows: &Chosen<'_>,
+    near: &Near<'_>,
     asking: &Asking<'_>,
     level: Level,
     contexts: &Contexts,
 ) -> Result<(), AllocError>
-    requires { HasOneEach rows.now.kept.now }
+    requires one_each { HasOneEach rows.now.kept.now }
+    requires near { IsNear rows.now near.now asking.now.group.now contexts.now }
     ensures { OnOk result
         (Tells rows.now (λ q. IsLike asking.now.group.now asking.now.model contexts.now q
         × (q.level ≡ level)) found.old.items found.new.items) }
@@ -58,7 +74,7 @@ fn put_level(
         level,
         contexts: copy_contexts(contexts),
     };
-    if let Some(difference) = difference_of(rows, question) {
+    if let Some(difference) = difference_of(rows, near, question) {
         found.push(difference)?;
     }
     Ok(())
@@ -68,17 +84,51 @@ fn put_level(
 fn put_levels(
     found: &mut Vec<Difference>,
     rows: &Chosen<'_>,
+    near: &Near<'_>,
     asking: &Asking<'_>,
     contexts: &Contexts,
 ) -> Result<(), AllocError>
-    requires { HasOneEach rows.now.kept.now }
+    requires one_each { HasOneEach rows.now.kept.now }
+    requires near { IsNear rows.now near.now asking.now.group.now contexts.now }
     ensures { OnOk result
         (Tells rows.now (IsLike asking.now.group.now asking.now.model contexts.now) found.old.items
         found.new.items) }
 {
-    put_level(found, rows, asking, Level::NoAuthNoPriv, contexts)?;
-    put_level(found, rows, asking, Level::AuthNoPriv, contexts)?;
-    put_level(found, rows, asking, Level::AuthPriv, contexts)
+    put_level(found, rows, near, asking, Level::NoAuthNoPriv, contexts)?;
+    put_level(found, rows, near, asking, Level::AuthNoPriv, contexts)?;
+    put_level(found, rows, near, asking, Level::AuthPriv, contexts)
+}
+
+/// The name that contexts are asked about by.
+fn name_of(contexts: &Contexts) -> &Name
+    ensures { result.now ≡ spec.name_of contexts.now }
+{
+    match contexts {
+        Contexts::Named(name) | Contexts::Beyond(name) => name,
+    }
+}
+
+/// Asks for such contexts.
+fn put_contexts(
+    found: &mut Vec<Difference>,
+    rows: &Chosen<'_>,
+    asking: &Asking<'_>,
+    contexts: &Contexts,
+) -> Result<(), AllocError>
+    requires one_each { HasOneEach rows.now.kept.now }
+    requires prefixes { AreOfBoth rows.now asking.now.prefixes.now asking.now.group.now }
+    ensures { OnOk result
+        (Tells rows.now (IsLike asking.now.group.now asking.now.model contexts.now) found.old.items
+        found.new.items) }
+{
+    let name = name_of(contexts);
+    let held = near(asking.alloc, &asking.prefixes.held, name)?;
+    let kept = near(asking.alloc, &asking.prefixes.kept, name)?;
+    let near = Near {
+        held: held.as_slice(),
+        kept: kept.as_slice(),
+    };
+    put_levels(found, rows, &near, asking, contexts)
 }
 
 /// Asks for the context of the name, and for those beyond it.
@@ -88,68 +138,75 @@ fn put_prefix(
     asking: &Asking<'_>,
     prefix: &Name,
 ) -> Result<(), AllocError>
-    requires { HasOneEach rows.now.kept.now }
+    requires one_each { HasOneEach rows.now.kept.now }
+    requires prefixes { AreOfBoth rows.now asking.now.prefixes.now asking.now.group.now }
     ensures { OnOk result
         (Tells rows.now (IsOfPrefix asking.now.group.now asking.now.model prefix.now) found.old.items
         found.new.items) }
 {
-    put_levels(found, rows, asking, &Contexts::Named(copy_name(prefix)))?;
-    put_levels(found, rows, asking, &Contexts::Beyond(copy_name(prefix)))
+    put_contexts(found, rows, asking, &Contexts::Named(copy_name(prefix)))?;
+    put_contexts(found, rows, asking, &Contexts::Beyond(copy_name(prefix)))
 }
 
-/// The row is of the group.
-fn is_of_group(row: &AccessRow, group: &Name) -> bool
-    ensures { IsTrue result ↔ (row.now.group ≡ group.now) }
+/// The first of the places is this one.
+fn begins_with(places: &[usize], place: usize) -> bool
+    ensures { IsTrue result ↔ BeginsWith places.now place }
 {
-    row.group == *group
+    matches!(places, [first, ..] if *first == place)
 }
 
-/// A row of the group has the prefix.
-fn has_prefix(rows: &[HeldAccess], group: &Name, prefix: &Name) -> bool
-    ensures { IsTrue result ↔ HasPrefix rows.now group.now prefix.now }
-{
-    rows.iter().any(|held| held.row.group == *group && held.row.prefix == *prefix)
-}
-
-/// Asks for the prefix of the row at this place, where the row is of the group and no earlier one has the same.
+/// Asks for the prefix of the row at one of the places, where the row is the first that has it.
 fn put_next_prefix(
     found: &mut Vec<Difference>,
     rows: &Chosen<'_>,
     asking: &Asking<'_>,
-    place: usize,
+    places: &[usize],
+    at: usize,
 ) -> Result<(), AllocError>
     requires one_each { HasOneEach rows.now.kept.now }
-    requires within { place < length rows.now.held.now }
+    requires prefixes { AreOfBoth rows.now asking.now.prefixes.now asking.now.group.now }
+    requires places { ArePlacesOf rows.now.held.now asking.now.group.now places.now }
+    requires within { at < length places.now }
     ensures { let group = asking.now.group.now in let model = asking.now.model in
-        OnOk result (GoesOn rows.now (IsOfPrefixes (take place rows.now.held.now) group model)
-        (IsOfPrefixes (take (place + 1) rows.now.held.now) group model)
+        let prefixes = asking.now.prefixes.now in
+        OnOk result (GoesOn rows.now (IsOfPlaces rows.now.held.now prefixes group model (take at places.now))
+        (IsOfPlaces rows.now.held.now prefixes group model (take (at + 1) places.now))
         found.old.items found.new.items) }
 {
-    let row = &rows.held[place].row;
-    if !is_of_group(row, asking.group) {
-        return Ok(());
+    let place = places[at];
+    let prefix = &rows.held[place].row.prefix;
+    if begins_with(places_at(&asking.prefixes.held, prefix), place) {
+        return put_prefix(found, rows, asking, prefix);
     }
-    if has_prefix(&rows.held[..place], asking.group, &row.prefix) {
-        return Ok(());
-    }
-    put_prefix(found, rows, asking, &row.prefix)
+    Ok(())
 }
 
-/// Asks for each prefix of the group's rows.
+/// Asks for each prefix of the group's rows, which stand at these places.
 fn put_prefixes(
     found: &mut Vec<Difference>,
     rows: &Chosen<'_>,
     asking: &Asking<'_>,
+    places: &[usize],
 ) -> Result<(), AllocError>
-    requires { HasOneEach rows.now.kept.now }
+    requires one_each { HasOneEach rows.now.kept.now }
+    requires prefixes { AreOfBoth rows.now asking.now.prefixes.now asking.now.group.now }
+    requires places { ArePlacesOf rows.now.held.now asking.now.group.now places.now }
     ensures { OnOk result
         (Tells rows.now (IsOfPrefixes rows.now.held.now asking.now.group.now asking.now.model) found.old.items
         found.new.items) }
 {
-    for place in 0..rows.held.len() {
-        put_next_prefix(found, rows, asking, place)?;
+    for at in 0..places.len() {
+        put_next_prefix(found, rows, asking, places, at)?;
     }
     Ok(())
+}
+
+/// A row of the group has the prefix.
+fn has_prefix(rows: &Chosen<'_>, asking: &Asking<'_>, prefix: &Name) -> bool
+    requires { AreOfBoth rows.now asking.now.prefixes.now asking.now.group.now }
+    ensures { IsTrue result ↔ HasPrefix rows.now.held.now asking.now.group.now prefix.now }
+{
+    !places_at(&asking.prefixes.held, prefix).is_empty()
 }
 
 /// Asks for the context at this place, where it is no prefix of the group's rows.
@@ -160,6 +217,7 @@ fn put_next_context(
     place: usize,
 ) -> Result<(), AllocError>
     requires one_each { HasOneEach compared.now.rows.kept.now }
+    requires prefixes { AreOfBoth compared.now.rows asking.now.prefixes.now asking.now.group.now }
     requires within { place < length compared.now.contexts.now }
     ensures { let group = asking.now.group.now in let model = asking.now.model
         in let held = compared.now.rows.held.now in
@@ -167,10 +225,10 @@ fn put_next_context(
         (IsOfEither held (take (place + 1) compared.now.contexts.now) group model) found.old.items found.new.items) }
 {
     let name = &compared.contexts[place].name;
-    if has_prefix(compared.rows.held, asking.group, name) {
+    if has_prefix(&compared.rows, asking, name) {
         return Ok(());
     }
-    put_levels(
+    put_contexts(
         found,
         &compared.rows,
         asking,
@@ -178,19 +236,22 @@ fn put_next_context(
     )
 }
 
-/// Asks for each prefix of the group's rows, and for each context beside them.
+/// Asks for each prefix of the group's rows, which stand at these places, and for each context beside them.
 fn put_group(
     found: &mut Vec<Difference>,
     compared: &Compared<'_>,
     asking: &Asking<'_>,
+    places: &[usize],
 ) -> Result<(), AllocError>
-    requires { HasOneEach compared.now.rows.kept.now }
+    requires one_each { HasOneEach compared.now.rows.kept.now }
+    requires prefixes { AreOfBoth compared.now.rows asking.now.prefixes.now asking.now.group.now }
+    requires places { ArePlacesOf compared.now.rows.held.now asking.now.group.now places.now }
     ensures { OnOk result
         (Tells compared.now.rows
         (IsOfEither compared.now.rows.held.now compared.now.contexts.now asking.now.group.now asking.now.model)
         found.old.items found.new.items) }
 {
-    put_prefixes(found, &compared.rows, asking)?;
+    put_prefixes(found, &compared.rows, asking, places)?;
     for place in 0..compared.contexts.len() {
         put_next_context(found, compared, asking, place)?;
     }
@@ -206,13 +267,57 @@ fn has_pair(groups: &[HeldGroup], group: &Name, model: u32) -> bool
         .any(|held| held.row.group == *group && held.row.model == model)
 }
 
-/// Asks for the group and model of the row at this place, where no earlier one is of the same.
-fn put_next_group(
+/// Where the rows of each group stand: of all, and of those of which there is one of each index.
+#[derive(Drop)]
+struct Groups {
+    held: BTreeMap<Name, Vec<usize>>,
+    kept: BTreeMap<Name, Vec<usize>>,
+}
+
+/// Asks for the messages of a group under a model.
+fn put_pair(
+    alloc: Global,
     found: &mut Vec<Difference>,
     compared: &Compared<'_>,
+    groups: &Groups,
+    row: &GroupRow,
+) -> Result<(), AllocError>
+    requires one_each { HasOneEach compared.now.rows.kept.now }
+    requires groups { AreGroupsOf compared.now.rows groups.now }
+    ensures { OnOk result
+        (Tells compared.now.rows
+        (IsOfEither compared.now.rows.held.now compared.now.contexts.now row.now.group row.now.model)
+        found.old.items found.new.items) }
+{
+    let rows = compared.rows;
+    let prefixes = Prefixes {
+        held: prefixes_of(alloc, rows.held, &groups.held, &row.group)?,
+        kept: prefixes_of(alloc, rows.kept, &groups.kept, &row.group)?,
+    };
+    let asking = Asking {
+        alloc,
+        group: &row.group,
+        model: row.model,
+        prefixes: &prefixes,
+    };
+    put_group(
+        found,
+        compared,
+        &asking,
+        places_at(&groups.held, &row.group),
+    )
+}
+
+/// Asks for the group and model of the row at this place, where no earlier one is of the same.
+fn put_next_group(
+    alloc: Global,
+    found: &mut Vec<Difference>,
+    compared: &Compared<'_>,
+    groups: &Groups,
     place: usize,
 ) -> Result<(), AllocError>
     requires one_each { HasOneEach compared.now.rows.kept.now }
+    requires groups { AreGroupsOf compared.now.rows groups.now }
     requires within { place < length compared.now.groups.now }
     ensures { let groups = compared.now.groups.now in
         OnOk result (GoesOn compared.now.rows (IsOfPairs compared.now (take place groups))
@@ -222,11 +327,7 @@ fn put_next_group(
     if has_pair(&compared.groups[..place], &row.group, row.model) {
         return Ok(());
     }
-    let asking = Asking {
-        group: &row.group,
-        model: row.model,
-    };
-    put_group(found, compared, &asking)
+    put_pair(alloc, found, compared, groups, row)
 }
 
 /// The messages for which snmpd and RFC 3415 choose access rows with other views: each group and model of a
@@ -238,9 +339,13 @@ pub fn differences(alloc: Global, compared: &Compared<'_>) -> Result<Vec<Differe
     requires { HasOneEach compared.now.rows.kept.now }
     ensures { IfOk result (λ found. TellsDifferences (sides_of compared.now) found.items) }
 {
+    let groups = Groups {
+        held: places_by_group(alloc, compared.rows.held)?,
+        kept: places_by_group(alloc, compared.rows.kept)?,
+    };
     let mut found = Vec::new(alloc);
     for place in 0..compared.groups.len() {
-        put_next_group(&mut found, compared, place)?;
+        put_next_group(alloc, &mut found, compared, &groups, place)?;
     }
     Ok(found)
 }

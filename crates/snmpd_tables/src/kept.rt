@@ -1,35 +1,33 @@
 //! Of the rows that snmpd holds those that count, one of each index.
 
-ghost use Rattle.std.specs.Prelude.{◌≡◌, ◌↔◌, ◌++◌, IsTrue, IfOk, OnOk, MatchOption};
+ghost use Rattle.std.specs.Prelude.{◌≡◌, ◌↔◌, ◌++◌, IsTrue, IfOk, OnOk};
 ghost use Rattle.std.specs.List.{flat_map};
 ghost use Rattle.snmpd_tables.specs.Kept as spec;
-ghost use Rattle.snmpd_tables.specs.Kept.{IsNew, IsFirstLike, Keeps, AreFirsts, stands_for, IsNamed, IsWanted};
-ghost use Rattle.snmpd_tables.specs.Kept.{AreWanted, AreGroupsKept, AreFamiliesKept};
+ghost use Rattle.snmpd_tables.specs.Index.{Finds};
+ghost use Rattle.snmpd_tables.specs.Kept.{Keeps, AreFirsts, stands_for, IsNamed, IsWanted, AreWanted, AreGroupsKept};
+ghost use Rattle.snmpd_tables.specs.Kept.{AreFamiliesKept};
 
 use crate::copies::copy_name;
+use crate::index::{find, note_place};
 use crate::rows::{Held, HeldAccess, HeldFamily, HeldGroup, Place};
 use std::alloc::{AllocError, Global};
+use std::collections::BTreeMap;
 use vacm_core::{GroupRow, Name};
 
-/// The place of the first row that has the index of this one.
-pub fn find<H: Held>(rows: &[H], row: &H) -> Option<usize>
-    ensures { MatchOption result (IsNew H.order rows.now row.now) (IsFirstLike H.order rows.now row.now) }
-{
-    for (place, held) in rows.iter().enumerate() {
-        if held.order(row).is_eq() {
-            return Some(place);
-        }
-    }
-    None
-}
-
 /// Keeps a row of a new index.
-fn keep<H: Held>(kept: &mut Vec<H>, row: &H) -> Result<(), AllocError>
-    ensures { OnOk result (Keeps H.order kept.old.items row.now kept.new.items) }
+fn keep<H: Held>(
+    kept: &mut Vec<H>,
+    places: &mut BTreeMap<H, usize>,
+    row: &H,
+) -> Result<(), AllocError>
+    requires { Finds H.cmp kept.old.items places.old }
+    ensures keeps { OnOk result (Keeps H.cmp kept.old.items row.now kept.new.items) }
+    ensures finds { OnOk result (Finds H.cmp kept.new.items places.new) }
 {
-    match find(kept, row) {
+    match find(kept, places, row) {
         Some(_) => Ok(()),
         None => {
+            note_place(kept, places, row)?;
             kept.push(row.copy())?;
             Ok(())
         }
@@ -38,11 +36,12 @@ fn keep<H: Held>(kept: &mut Vec<H>, row: &H) -> Result<(), AllocError>
 
 /// The first row of each index.
 fn firsts<H: Held>(alloc: Global, rows: &[H]) -> Result<Vec<H>, AllocError>
-    ensures { IfOk result (λ kept. AreFirsts H.order rows.now kept.items) }
+    ensures { IfOk result (λ kept. AreFirsts H.cmp rows.now kept.items) }
 {
     let mut kept = Vec::new(alloc);
+    let mut places = BTreeMap::new(alloc);
     for row in rows {
-        keep(&mut kept, row)?;
+        keep(&mut kept, &mut places, row)?;
     }
     Ok(kept)
 }

@@ -56,7 +56,7 @@ pub fn fits(row: &AccessRow, question: &Question) -> bool
 }
 
 /// There is no other row so far, or snmpd takes this one in its place.
-fn is_better(rows: &[HeldAccess], best: Option<usize>, row: &AccessRow) -> bool
+pub(crate) fn is_better(rows: &[HeldAccess], best: Option<usize>, row: &AccessRow) -> bool
     requires { (k : ℕ) → best ≡ Some k → k < length rows.now }
     ensures { IsTrue result ↔ IsBetterAt rows.now best row.now }
 {

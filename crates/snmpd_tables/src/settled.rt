@@ -1,18 +1,28 @@
 //! Of access rows of one index the one that snmpd's choice comes to.
 
 ghost use Rattle.std.specs.Prelude.{IfOk, OnOk};
+ghost use Rattle.snmpd_tables.specs.Index.{Finds};
 ghost use Rattle.snmpd_tables.specs.Kept.{Settles, AreAccessKept, HasOneEach};
+ghost use Rattle.snmpd_tables.specs.Orders.{order_of_access};
 
-use crate::kept::find;
+use crate::index::{find, note_place};
 use crate::rows::{Held, HeldAccess};
 use snmpd_rows::is_taken;
 use std::alloc::{AllocError, Global};
+use std::collections::BTreeMap;
 
 /// Keeps a row of a new index, or in the place of one of its index where snmpd would take it.
-fn settle(kept: &mut Vec<HeldAccess>, held: &HeldAccess) -> Result<(), AllocError>
-    ensures { OnOk result (Settles kept.old.items held.now kept.new.items) }
+fn settle(
+    kept: &mut Vec<HeldAccess>,
+    places: &mut BTreeMap<HeldAccess, usize>,
+    held: &HeldAccess,
+) -> Result<(), AllocError>
+    requires { Finds order_of_access kept.old.items places.old }
+    ensures settles { OnOk result (Settles kept.old.items held.now kept.new.items) }
+    ensures finds { OnOk result (Finds order_of_access kept.new.items places.new) }
 {
-    let Some(place) = find(kept, held) else {
+    let Some(place) = find(kept, places, held) else {
+        note_place(kept, places, held)?;
         kept.push(held.copy())?;
         return Ok(());
     };
@@ -30,8 +40,9 @@ pub fn access_kept(alloc: Global, held: &[HeldAccess]) -> Result<Vec<HeldAccess>
     ensures one_each { IfOk result (λ kept. HasOneEach kept.items) }
 {
     let mut kept = Vec::new(alloc);
+    let mut places = BTreeMap::new(alloc);
     for row in held {
-        settle(&mut kept, row)?;
+        settle(&mut kept, &mut places, row)?;
     }
     Ok(kept)
 }

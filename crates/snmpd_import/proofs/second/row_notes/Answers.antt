@@ -9,13 +9,13 @@ loop-row-preserved g c = λ others later.
     let is_second = g.R.Beside.is_second c.args.kept.now in
     let place_of = g.R.Beside.place_of in
     let row = c.row-item.result in
-    let kind = kind_in c.second.result in
+    let kind = kind_in c.second-second.result in
     let put = subst (λ place. map told_of c.put_second.new.notes.items ≡ map told_of c.loop-row.notes.items ++ tells_kind place kind) c.place.ensures c.in_ok-put_second.ensures in
     subst (AreTold is_second place_of c.args.held.now)
     (noted (map told_of c.loop-row.notes.items) (tells_kind (place_of row) kind) (map told_of c.put_second.new.notes.items) others put)
     (c.loop-row.invariant (tells_kind (place_of row) kind ++ others)
     (told_one is_second place_of c.args.held.now c.loop-row.row-index row kind others (omega arith) c.row-item.is
-    (kind_told is_second row c.second.result c.second.ensures) later))
+    (kind_told is_second row c.second-second.result c.second-second.ensures) later))
 
 pub returns : goal.returns
 returns g c =

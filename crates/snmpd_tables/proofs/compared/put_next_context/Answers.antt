@@ -17,10 +17,10 @@ returns c =
     let group = c.args.asking.now.group.now in
     let model = c.args.asking.now.model in
     let row = get_or c.args.compared.now.contexts.now c.args.place c.index-compared-place.result in
-    on_ok (Tells c.args.compared.now.rows (IsLike group model (Named c.copy_name.result)) c.args.found.now.items c.put_levels.new.found.items)
+    on_ok (Tells c.args.compared.now.rows (IsLike group model (Named c.copy_name.result)) c.args.found.now.items c.put_contexts.new.found.items)
     (GoesOn c.args.compared.now.rows (IsOfEither held (take c.args.place contexts) group model) (IsOfEither held (take (c.args.place + 1) contexts) group model)
-    c.args.found.now.items c.put_levels.new.found.items)
+    c.args.found.now.items c.put_contexts.new.found.items)
     (λ told before earlier. context_told held contexts group model c.args.place row c.requires.within (stands_there c.args.compared.now.contexts.now c.args.place c.index-compared-place.result c.index-compared-place.is) c.args.compared.now.rows before
-    c.args.found.now.items c.put_levels.new.found.items
-    (subst (λ name. Tells c.args.compared.now.rows (IsLike group model (Named name)) c.args.found.now.items c.put_levels.new.found.items) c.copy_name.ensures told) earlier)
-    c.put_levels.result c.put_levels.ensures
+    c.args.found.now.items c.put_contexts.new.found.items
+    (subst (λ name. Tells c.args.compared.now.rows (IsLike group model (Named name)) c.args.found.now.items c.put_contexts.new.found.items) c.copy_name.ensures told) earlier)
+    c.put_contexts.result c.put_contexts.ensures

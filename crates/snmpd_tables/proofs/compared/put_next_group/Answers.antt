@@ -12,7 +12,7 @@ pub returns : goal.returns
 returns c =
     let s = c.args.compared.now in
     let row = get_or c.args.compared.now.groups.now c.args.place c.index-compared-place.result in
-    on_ok (Tells s.rows (IsOfEither s.rows.held.now s.contexts.now row.row.group row.row.model) c.args.found.now.items c.put_group.new.found.items)
-    (GoesOn s.rows (IsOfPairs s (take c.args.place s.groups.now)) (IsOfPairs s (take (c.args.place + 1) s.groups.now)) c.args.found.now.items c.put_group.new.found.items)
-    (λ told before earlier. group_told s c.args.place row c.requires.within (stands_there c.args.compared.now.groups.now c.args.place c.index-compared-place.result c.index-compared-place.is) before c.args.found.now.items c.put_group.new.found.items told earlier)
-    c.put_group.result c.put_group.ensures
+    on_ok (Tells s.rows (IsOfEither s.rows.held.now s.contexts.now row.row.group row.row.model) c.args.found.now.items c.put_pair.new.found.items)
+    (GoesOn s.rows (IsOfPairs s (take c.args.place s.groups.now)) (IsOfPairs s (take (c.args.place + 1) s.groups.now)) c.args.found.now.items c.put_pair.new.found.items)
+    (λ told before earlier. group_told s c.args.place row c.requires.within (stands_there c.args.compared.now.groups.now c.args.place c.index-compared-place.result c.index-compared-place.is) before c.args.found.now.items c.put_pair.new.found.items told earlier)
+    c.put_pair.result c.put_pair.ensures

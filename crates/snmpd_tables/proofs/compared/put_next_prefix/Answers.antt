@@ -1,29 +1,51 @@
-use Rattle.std.proofs.Common.{◌≡◌, ◌+◌, true, false, refl, take, get_or}
-use Rattle.snmpd_tables.specs.Compared.{Tells, GoesOn, IsOfPrefix, IsOfPrefixes}
-use Rattle.snmpd_tables.proofs.Telling.{on_ok, prefix_told, prefix_left, stands_there}
+use Rattle.std.proofs.Common.{◌≡◌, ℕ, ◌+◌, ◌<◌, true, false, List, get_or, length, take, refl, sym, ap, subst, ◌∙◌, rules}
+use Rattle.std.proofs.lemmas.List.{get_or_read}
+use Rattle.std.proofs.lemmas.List.Elements.{Contains-get_or}
+use Rattle.snmpd_tables.specs.declared.rows.HeldAccess.{HeldAccess}
+use Rattle.snmpd_tables.specs.Compared.{Tells, GoesOn, IsOfPrefix, BeginsWith, IsOfPlaces}
+use Rattle.snmpd_tables.specs.Places.{named_places}
+use Rattle.snmpd_tables.proofs.PrefixTelling.{placed_told, placed_left}
+use Rattle.snmpd_tables.proofs.Telling.{on_ok, stands_there}
 use Rattle.snmpd_tables.proofs.compared.put_next_prefix.Goals as goal
 
-pub returns-then-not-is_of_group : goal.returns-then-not-is_of_group
-returns-then-not-is_of_group c = λ before told.
-    prefix_left c.args.rows.now.held.now c.args.asking.now.group.now c.args.asking.now.model c.args.place (get_or c.args.rows.now.held.now c.args.place c.index-rows-place.result) c.requires.within
-    (stands_there c.args.rows.now.held.now c.args.place c.index-rows-place.result c.index-rows-place.is) c.args.rows.now before c.args.found.now.items
-    (λ same. let e : false ≡ true = c.if-not-is_of_group.ensures.1 same in absurd (cc e)) told
+pub bounds-rows-place : goal.bounds-rows-place
+bounds-rows-place c = c.requires.places.within (get_or c.args.places.now c.args.at 0) (Contains-get_or c.args.places.now c.args.at 0 c.requires.within)
 
-pub returns-then-has_prefix : goal.returns-then-has_prefix
-returns-then-has_prefix c = λ before told.
-    prefix_left c.args.rows.now.held.now c.args.asking.now.group.now c.args.asking.now.model c.args.place (get_or c.args.rows.now.held.now c.args.place c.index-rows-place.result) c.requires.within
-    (stands_there c.args.rows.now.held.now c.args.place c.index-rows-place.result c.index-rows-place.is) c.args.rows.now before c.args.found.now.items
-    (λ same. c.if-has_prefix.ensures.0 refl) told
+pub offset_bounds-rows-place : goal.offset_bounds-rows-place
+offset_bounds-rows-place c =
+    let within : get_or c.args.places.now c.args.at 0 < length c.args.rows.now.held.now =
+    c.requires.places.within (get_or c.args.places.now c.args.at 0) (Contains-get_or c.args.places.now c.args.at 0 c.requires.within) in
+    search rules
 
-pub returns : goal.returns
-returns c =
+pub returns-then-begins_with : goal.returns-then-begins_with
+returns-then-begins_with c =
     let held = c.args.rows.now.held.now in
+    let prefixes = c.args.asking.now.prefixes.now in
     let group = c.args.asking.now.group.now in
     let model = c.args.asking.now.model in
-    let row = get_or c.args.rows.now.held.now c.args.place c.index-rows-place.result in
+    let places = c.args.places.now in
+    let at = c.args.at in
+    let place = get_or places at 0 in
+    let row = get_or held place c.index-rows-place.result in
+    let is = stands_there held place c.index-rows-place.result c.index-rows-place.is in
+    let within : place < length held = c.requires.places.within place (Contains-get_or places at 0 c.requires.within) in
+    let first : BeginsWith (named_places prefixes.held row.row.prefix) place =
+    subst (λ (l : List ℕ). BeginsWith l place) c.places_at.ensures (c.if-begins_with.ensures.0 refl) in
     on_ok (Tells c.args.rows.now (IsOfPrefix group model row.row.prefix) c.args.found.now.items c.put_prefix.new.found.items)
-    (GoesOn c.args.rows.now (IsOfPrefixes (take c.args.place held) group model) (IsOfPrefixes (take (c.args.place + 1) held) group model) c.args.found.now.items
-    c.put_prefix.new.found.items)
-    (λ told before earlier. prefix_told held group model c.args.place row c.requires.within (stands_there c.args.rows.now.held.now c.args.place c.index-rows-place.result c.index-rows-place.is) c.args.rows.now before c.args.found.now.items
-    c.put_prefix.new.found.items (c.if-not-is_of_group.ensures.0 refl) told earlier)
+    (GoesOn c.args.rows.now (IsOfPlaces held prefixes group model (take at places)) (IsOfPlaces held prefixes group model (take (at + 1) places))
+    c.args.found.now.items c.put_prefix.new.found.items)
+    (λ told before earlier. placed_told held prefixes group model places at c.requires.within row is c.args.rows.now before c.args.found.now.items c.put_prefix.new.found.items
+    (get_or_read held place row within is) first told earlier)
     c.put_prefix.result c.put_prefix.ensures
+
+pub returns : goal.returns
+returns c = λ before told.
+    let held = c.args.rows.now.held.now in
+    let prefixes = c.args.asking.now.prefixes.now in
+    let places = c.args.places.now in
+    let at = c.args.at in
+    let place = get_or places at 0 in
+    let row = get_or held place c.index-rows-place.result in
+    let is = stands_there held place c.index-rows-place.result c.index-rows-place.is in
+    placed_left held prefixes c.args.asking.now.group.now c.args.asking.now.model places at c.requires.within row is c.args.rows.now before c.args.found.now.items
+    (λ first. let e : false ≡ true = c.if-begins_with.ensures.1 (subst (λ (l : List ℕ). BeginsWith l place) (sym c.places_at.ensures) first) in cc e) told

@@ -1,13 +1,14 @@
-use Rattle.snmpd_tables.proofs.Telling.{prefixes_none, prefixes_all}
+use Rattle.snmpd_tables.proofs.PrefixTelling.{places_none, places_all}
 use Rattle.snmpd_tables.proofs.compared.put_prefixes.Goals as goal
 
-pub loop-place-init : goal.loop-place-init
-loop-place-init c = prefixes_none c.args.rows.now c.args.asking.now.group.now c.args.asking.now.model c.args.found.now.items
+pub loop-at-init : goal.loop-at-init
+loop-at-init c =
+    places_none c.args.rows.now.held.now c.args.asking.now.prefixes.now c.args.asking.now.group.now c.args.asking.now.model c.args.places.now c.args.rows.now c.args.found.now.items
 
-pub loop-place-preserved : goal.loop-place-preserved
-loop-place-preserved c = c.in_ok-put_next_prefix.ensures c.args.found.now.items c.loop-place.invariant
+pub loop-at-preserved : goal.loop-at-preserved
+loop-at-preserved c = c.in_ok-put_next_prefix.ensures c.args.found.now.items c.loop-at.invariant
 
 pub returns : goal.returns
 returns c =
-    prefixes_all c.args.rows.now c.args.rows.now.held.now c.args.asking.now.group.now c.args.asking.now.model c.loop-place.place c.args.found.now.items
-    c.loop-place.found.items c.loop-place-test.false c.loop-place.invariant
+    places_all c.args.rows.now.held.now c.args.asking.now.prefixes.now c.args.asking.now.group.now c.args.asking.now.model c.args.places.now c.args.rows.now c.loop-at.at
+    c.args.found.now.items c.loop-at.found.items c.requires.prefixes.0 c.requires.places c.loop-at-test.false c.loop-at.invariant

@@ -10,6 +10,6 @@ returns-in_err-at-clause-agrees c =
 
 pub returns-then-have_same_views-clause-agrees : goal.returns-then-have_same_views-clause-agrees
 returns-then-have_same_views-clause-agrees c =
-    same_views c.args.rows.now.held.now c.args.rows.now.kept.now c.requires c.args.question c.in_ok-at.at c.index-rows-at.result c.in-Some.here.now
+    same_views c.args.rows.now.held.now c.args.rows.now.kept.now c.requires.one_each c.args.question c.in_ok-at.at c.index-rows-at.result c.in-Some.here.now
     c.in_ok-at.ensures.chooses c.index-rows-at.is c.in-Some.ensures.best
     (subst (λ (h : HeldAccess). HaveSameViews h.row c.in-Some.here.now.row) (sym c.index-rows-at.is) (c.if-have_same_views.ensures.0 refl))

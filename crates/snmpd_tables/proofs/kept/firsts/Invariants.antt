@@ -1,6 +1,11 @@
 use Rattle.std.proofs.Common.{List, [], drop}
+use Rattle.snmpd_tables.specs.Index.{Finds}
 use Rattle.snmpd_tables.specs.Kept.{KeepsAfter}
 use Rattle.snmpd_tables.proofs.kept.firsts.Given as goal
 
 abbrev pub invariant-loop-row : goal.invariant-loop-row
-invariant-loop-row g l = (after : List g.row.H.Denot) → KeepsAfter g.H.Held.order l.kept.items (drop l.row-index l.rows) after → KeepsAfter g.H.Held.order [] l.rows after
+invariant-loop-row g l = record {
+  keeps : (after : List g.row.H.Denot) → KeepsAfter g.H.Ord.cmp l.kept.items (drop l.row-index l.rows) after
+      → KeepsAfter g.H.Ord.cmp [] l.rows after;
+  finds : Finds g.H.Ord.cmp l.kept.items l.places;
+}

@@ -1,6 +1,6 @@
 use Rattle.std.proofs.Common.{drop}
-use Rattle.snmpd_tables.specs.Lists.{Tables, tables_of, at_start, HoldsAfter}
+use Rattle.snmpd_tables.specs.Lists.{Tables, sorted_of, at_start, HoldsAfter}
 use Rattle.snmpd_tables.proofs.lists.lists_of.Given as goal
 
 abbrev pub invariant-loop-item : goal.invariant-loop-item
-invariant-loop-item l = (after : Tables) → HoldsAfter (tables_of l.lists) (drop l.item-index l.items) after → HoldsAfter at_start l.items after
+invariant-loop-item l = (after : Tables) → HoldsAfter (sorted_of l.lists) (drop l.item-index l.items) after → HoldsAfter at_start l.items after
