@@ -110,7 +110,7 @@ pub fn datagrams_of<R: Read, L: Write, N: Write>(
     print_datagrams(alloc, asked, &mut Lines, reader, log, notes)
 }
 
-/// The same with what a printer makes of each datagram in the place of its line, and with status 1 too where
+/// The same with what a printer makes of each datagram instead of its line, and with status 1 too where
 /// that tells a refusal.
 pub fn print_datagrams<P: Printer, R: Read, L: Write, N: Write>(
     alloc: Global,

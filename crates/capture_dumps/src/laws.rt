@@ -10,7 +10,7 @@ pub fn one_list()
     ensures { (text : List ℕ) (a b : List (List ℕ)) → HasDumps text a → HasDumps text b → a ≡ b }
 {}
 
-/// A text with dumps can't be refused but for want of memory: no text is both read and refused.
+/// A text with dumps is refused only if memory runs out: no text is both read and refused.
 pub fn read_or_refused()
     ensures { (text : List ℕ) (dumps : List (List ℕ)) (fault : Fault) → HasDumps text dumps → IsUnread text fault
         → fault ≡ OutOfMemory }

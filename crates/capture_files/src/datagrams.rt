@@ -333,7 +333,7 @@ pub fn write_datagrams<R: Read, L: Write, N: Write>(
 }
 
 /// The same for a capture of which the first 24 octets were read, or all where it has fewer, with what a
-/// printer makes of each datagram in the place of its line. The datagrams count from 1.
+/// printer makes of each datagram instead of its line. The datagrams count from 1.
 pub fn print_datagrams_behind<P: Printer, R: Read, L: Write, N: Write>(
     alloc: Global,
     front: &[u8],

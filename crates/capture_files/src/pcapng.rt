@@ -166,7 +166,7 @@ fn read_interface(head: BlockHead, front: &[u8]) -> Option<Interface>
 impl Section {
     /// Takes a block of a section, of which this is the front.
     ///
-    /// The error is want of memory for an interface.
+    /// The error is out of memory for an interface.
     pub(crate) fn take(&mut self, head: BlockHead, front: &[u8]) -> Result<Meaning, AllocError>
         requires front { length front.now ≡ min head.size 262172 }
         requires least { least_size front.now ≤ head.size }

@@ -28,7 +28,7 @@ pub trait Printer {
     {}
 
     /// What is printed of a datagram with this number, that was received at this moment, in seconds. The
-    /// error is want of memory.
+    /// error is out of memory.
     fn print(
         &mut self,
         alloc: Global,

@@ -26,7 +26,7 @@ pub struct Imported {
 ///
 /// Each line is in its rows, or is told: first those that make no row, in their order; then those that
 /// changed a row of another index than their own; then the rows beside which another one counts; and at last
-/// for which messages snmpd and RFC 3415 choose rows with other views. The fault is want of memory, or
+/// for which messages snmpd and RFC 3415 choose rows with other views. The fault is out of memory, or
 /// `NotReadBack`.
 pub fn import(
     alloc: Global,

@@ -73,7 +73,7 @@ impl Sources {
     }
 }
 
-/// Puts a file in the place of the line that names it.
+/// Puts a file in place of the line that names it.
 fn follow_file<R: Files + AllocGlobal>(
     rt: &R,
     sources: &mut Sources,
@@ -150,7 +150,7 @@ fn read_folder<R: Files + AllocGlobal>(rt: &R, path: &str) -> Result<Vec<String>
     }
 }
 
-/// Puts the files of a folder in the place of the line that names it.
+/// Puts the files of a folder in place of the line that names it.
 fn follow_folder<R: Files + AllocGlobal>(
     rt: &R,
     sources: &mut Sources,
@@ -187,7 +187,7 @@ fn with_slash(alloc: Global, name: &str) -> Result<String, AllocError> {
     Ok(path)
 }
 
-/// Puts other files in the place of a line that names them.
+/// Puts other files in place of a line that names them.
 fn follow_item<R: Files + AllocGlobal>(
     rt: &R,
     sources: &mut Sources,
@@ -261,7 +261,7 @@ fn leave(alloc: Global, sources: Sources, followed: Followed) -> Result<Sources,
 /// Reads the files that lines name, in the places of those lines, and those that their lines name, up to the
 /// depth at which snmpd stops.
 ///
-/// Without includes, or past that depth, no file is read any more, and the lines tell so. The error is want of memory.
+/// Without includes, or past that depth, no file is read any more, and the lines tell so. The error is out of memory.
 pub fn follow<R: Files + AllocGlobal>(
     rt: &R,
     sources: Sources,

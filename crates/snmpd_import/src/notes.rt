@@ -276,7 +276,7 @@ fn put_note(alloc: Global, notes: &mut Vec<Told>, item: &Item) -> Result<(), All
 
 /// The notes on these lines, one for each that is neither a row nor empty nor begins a section, in their order.
 ///
-/// The error is want of memory.
+/// The error is out of memory.
 pub fn line_notes(alloc: Global, items: &[Item]) -> Result<Vec<Told>, AllocError>
     ensures { IfOk result (λ notes. map told_of notes.items ≡ flat_map tells items.now) }
 {

@@ -162,7 +162,7 @@ fn check(alloc: Global, text: &[u8], kept: &KeptRows) -> Result<(), TextFault>
 /// The text of a configuration with these users and rows, given the names of the files that they are from. It
 /// is accepted, and stands for exactly these.
 ///
-/// The fault is want of memory, or `NotReadBack` where the text doesn't do so: then there is none.
+/// The fault is out of memory, or `NotReadBack` where the text doesn't do so: then there is none.
 pub fn configuration(alloc: Global, files: &[String], kept: &KeptRows) -> Result<Vec<u8>, TextFault>
     ensures { IfOk result (λ text. Prints kept.now text.items) }
 {

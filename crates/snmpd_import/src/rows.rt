@@ -24,7 +24,7 @@ pub struct KeptRows {
 
 /// The users that the lines come to, the rows that count, of those that snmpd holds after them, and these contexts.
 ///
-/// The error is want of memory.
+/// The error is out of memory.
 pub fn kept_of(
     alloc: Global,
     lines: &[Item],

@@ -231,7 +231,7 @@ fn row_notes<R: Beside>(
 /// The notes on the users of lines, and on the rows that snmpd holds, which don't count, since of each name
 /// or index one does: one on each of them, and no other.
 ///
-/// The error is want of memory.
+/// The error is out of memory.
 pub fn second_notes(
     alloc: Global,
     lines: &[Item],

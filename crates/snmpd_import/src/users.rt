@@ -208,7 +208,7 @@ fn put_user(
 
 /// The users that the lines come to: of each name the last, where a configuration has a counterpart.
 ///
-/// The error is want of memory.
+/// The error is out of memory.
 pub fn users_of(alloc: Global, items: &[Item]) -> Result<Vec<HeldUser>, AllocError>
     ensures { IfOk result (λ users. AreUsers items.now (map said_with_place users.items)) }
 {

@@ -107,7 +107,7 @@ fn section_line<'a>(
 
 /// What a line is, without its line feed, where this section is in force. What stands behind an octet 0 isn't read.
 ///
-/// The error is want of memory.
+/// The error is out of memory.
 pub fn read_line(alloc: Global, text: &[u8], section: Section) -> Result<Line<'_>, AllocError>
     ensures { IfOk result (IsLine section text.now) }
 {

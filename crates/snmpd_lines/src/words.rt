@@ -129,7 +129,7 @@ fn read_word(alloc: Global, text: &[u8]) -> Result<(Vec<u8>, &[u8]), AllocError>
 /// an octet behind a backslash as it is. At most `most` of its octets are held, as snmpd has room for no
 /// more. Behind it blanks are skipped, and a comment ends the line.
 ///
-/// The error is want of memory.
+/// The error is out of memory.
 pub fn take_word(alloc: Global, text: &[u8], most: usize) -> Result<Word<'_>, AllocError>
     ensures { IfOk result
         (λ word. TakesWord most text.now word.octets.items (option_map (λ rest. rest.now) word.rest)) }

@@ -34,9 +34,9 @@ pub enum Note {
     Other,
     /// Lines of this directive aren't read.
     LeftOut(Directive),
-    /// What is wrong with a line of this directive: it is never want of memory.
+    /// What is wrong with a line of this directive: it is never out of memory.
     Fault(Directive, LineFault),
-    /// What is wrong with a line `createUser`: it is never want of memory.
+    /// What is wrong with a line `createUser`: it is never out of memory.
     NoUser(CreateUserFault),
 }
 
@@ -74,7 +74,7 @@ fn before_blanks(text: &[u8]) -> &[u8]
     front
 }
 
-/// A note on a line of this directive; want of memory is none.
+/// A note on a line of this directive; out of memory isn't one.
 fn note_of(directive: Directive, fault: LineFault) -> Result<Entry, AllocError>
     ensures { (text : List ℕ) → TellsNoRow directive text fault → IfOk result (IsMade directive text) }
 {
@@ -114,7 +114,7 @@ fn user_entry(alloc: Global, text: &[u8]) -> Result<Entry, AllocError>
 
 /// What stands behind a directive makes, without the blanks behind it.
 ///
-/// The error is want of memory.
+/// The error is out of memory.
 pub fn entry_of(alloc: Global, directive: Directive, text: &[u8]) -> Result<Entry, AllocError>
     ensures { IfOk result (IsMade directive text.now) }
 {
@@ -151,7 +151,7 @@ pub fn entry_of(alloc: Global, directive: Directive, text: &[u8]) -> Result<Entr
 /// What a line makes, without its line feed, where this section is in force: each line that isn't empty and
 /// begins no section makes a row or a note.
 ///
-/// The error is want of memory.
+/// The error is out of memory.
 pub fn read_entry(alloc: Global, line: &[u8], section: Section) -> Result<Entry, AllocError>
     ensures { IfOk result (IsEntry section line.now) }
 {

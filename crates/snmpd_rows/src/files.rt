@@ -34,7 +34,7 @@ pub fn section_behind(section: Section, entry: &Entry) -> Section
 
 /// What the lines of a file make, an entry for each. The section `[snmpd]` is in force at the start.
 ///
-/// The error is want of memory.
+/// The error is out of memory.
 pub fn read_entries(alloc: Global, text: &[u8]) -> Result<Vec<Entry>, AllocError>
     ensures { IfOk result (λ entries. AreEntries sections.Snmpd text.now entries.items) }
 {

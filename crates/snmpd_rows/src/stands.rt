@@ -110,7 +110,7 @@ fn put_groups(
 /// The lines that snmpd makes of the simple line of this number, from 1: of its view, of its group, and of
 /// what it gives.
 ///
-/// The error is want of memory.
+/// The error is out of memory.
 pub fn lines_of(alloc: Global, simple: &Simple, number: u64) -> Result<Vec<MadeLine>, AllocError>
     ensures { IfOk result (λ lines. map line_of lines.items ≡ spec.lines_of number simple.now) }
 {

@@ -334,7 +334,7 @@ fn put_next_group(
 /// group row is asked for, at each level, in each of the contexts, in that of each prefix of the group's
 /// rows, and in those beyond it.
 ///
-/// The error is want of memory.
+/// The error is out of memory.
 pub fn differences(alloc: Global, compared: &Compared<'_>) -> Result<Vec<Difference>, AllocError>
     requires { HasOneEach compared.now.rows.kept.now }
     ensures { IfOk result (λ found. TellsDifferences (sides_of compared.now) found.items) }

@@ -33,7 +33,7 @@ pub(crate) fn note_place<H: Held>(
 
 /// Where the first row of each index stands.
 ///
-/// The error is want of memory.
+/// The error is out of memory.
 pub fn first_places<H: Held>(alloc: Global, rows: &[H]) -> Result<BTreeMap<H, usize>, AllocError>
     ensures { IfOk result (Finds H.cmp rows.now) }
 {

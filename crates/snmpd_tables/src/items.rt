@@ -255,7 +255,7 @@ fn section_after(section: Section, made: &Made) -> Section
 
 /// What the lines of the file of this number make, one for each.
 ///
-/// The error is want of memory.
+/// The error is out of memory.
 pub fn read_items(alloc: Global, file: usize, text: &[u8]) -> Result<Vec<Item>, AllocError>
     ensures { IfOk result (λ items. AreItems file 1 sections.Snmpd text.now items.items) }
 {

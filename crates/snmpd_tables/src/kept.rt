@@ -88,7 +88,7 @@ fn meant(alloc: Global, held: &[HeldGroup]) -> Result<Vec<HeldGroup>, AllocError
 /// The group rows that count: the first of each index, where a row for any model stands for one of each of
 /// the models 1 to 3.
 ///
-/// The error is want of memory.
+/// The error is out of memory.
 pub fn groups_kept(alloc: Global, held: &[HeldGroup]) -> Result<Vec<HeldGroup>, AllocError>
     ensures { IfOk result (λ kept. AreGroupsKept held.now kept.items) }
 {
@@ -132,7 +132,7 @@ fn families_named(
 /// The family rows that count beside these access rows: of those of lines, and of the built-in views that
 /// access rows name, the first of each index.
 ///
-/// The error is want of memory.
+/// The error is out of memory.
 pub fn families_kept(
     alloc: Global,
     access: &[HeldAccess],

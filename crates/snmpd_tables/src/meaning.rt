@@ -103,7 +103,7 @@ impl Meaning {
 /// The items, in which behind each simple line stand those of the lines that it stands for. They are numbered
 /// in their order.
 ///
-/// The error is want of memory, also for the number of a line above 18,446,744,073,709,551,615.
+/// The error is out of memory, also for the number of a line above 18,446,744,073,709,551,615.
 pub fn meant(alloc: Global, items: Vec<Item>) -> Result<Vec<Item>, AllocError>
     ensures { IfOk result (λ meant. AreMeant items.items meant.items) }
 {

@@ -11,7 +11,7 @@ use snmpd_rows::is_taken;
 use std::alloc::{AllocError, Global};
 use std::collections::BTreeMap;
 
-/// Keeps a row of a new index, or in the place of one of its index where snmpd would take it.
+/// Keeps a row of a new index, or instead of one of its index where snmpd would take it.
 fn settle(
     kept: &mut Vec<HeldAccess>,
     places: &mut BTreeMap<HeldAccess, usize>,
@@ -34,7 +34,7 @@ fn settle(
 
 /// The access rows that count: of each index the one that snmpd's choice comes to.
 ///
-/// The error is want of memory.
+/// The error is out of memory.
 pub fn access_kept(alloc: Global, held: &[HeldAccess]) -> Result<Vec<HeldAccess>, AllocError>
     ensures kept { IfOk result (λ kept. AreAccessKept held.now kept.items) }
     ensures one_each { IfOk result (λ kept. HasOneEach kept.items) }

@@ -6,7 +6,7 @@ ghost use Rattle.snmpsec_access.specs.Lines.{table_of, odd_words};
 use snmpsec_config::ConfigTable;
 use vacm_core::ViewType;
 
-/// What is no fault in a row of a configuration and hardly meant.
+/// What is no fault in a row of a configuration and is probably a mistake.
 #[derive(Clone, Copy, Debug, PartialEq, Eq)]
 pub enum Oddity {
     /// A user whom no group row of the user-based security model names.

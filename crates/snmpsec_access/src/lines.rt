@@ -66,7 +66,7 @@ fn lines(alloc: Global, hints: &[Hint<'_>], places: &RowLines) -> Result<Vec<u8>
 /// The hints of a configuration's rows as lines of standard error, `snmpsec: TABLE POSITION, line LINE: WORDS
 /// "NAME"`, with the name as a TOML basic string. They stand in the order of `hints`. LINE, from 1, is that
 /// of the row's heading `[[TABLE]]` in the text that has these rows; where not each row of the table has such
-/// a heading at the beginning of a line, `, line LINE` isn't there. The error is want of memory.
+/// a heading at the beginning of a line, `, line LINE` isn't there. The error is out of memory.
 pub fn hint_text(alloc: Global, text: &[u8], rows: &ConfigRows) -> Result<Vec<u8>, AllocError>
     ensures { IfOk result (λ out. out.items ≡ lines_of text.now rows.now.users.items (tables_of rows.now.access)
         (hints_of rows.now.users.items (tables_of rows.now.access))) }

@@ -255,7 +255,7 @@ fn put_level(
 /// the last that fits a variable says whether isAccessAllowed answers accessAllowed (`+`) or notInView (`-`),
 /// and notInView where none fits (RFC 3415, section 3). They are the rows of the view from the least up, by
 /// the number of arcs and then by the arcs, without those that change no answer; of a view with a wildcard
-/// they are all. The error is want of memory.
+/// they are all. The error is out of memory.
 ///
 /// For c contexts 9c questions are asked. Each goes over the family rows once. It sorts those of its view, and
 /// for each of them looks up at most as many beginnings of its subtree as that has arcs.

@@ -170,7 +170,7 @@ fn put_view(
 ///
 /// There is no line but of the names that group rows have, in the contexts that there are, since each other
 /// question is answered noGroupName or noSuchContext. For v views, g group rows and c contexts 3vgc questions
-/// are asked. The error is want of memory.
+/// are asked. The error is out of memory.
 pub fn who_sees(
     alloc: Global,
     wanted: &WhoSeesQuery<'_>,

@@ -34,7 +34,8 @@ use Rattle.snmpsec_replay.specs.declared.replay.Step.TheVariants as step
 
 abbrev pub outcome_text : Outcome → List ℕ
 outcome_text (Accepted level tag) = codes "accepted " ++ (level_word level ++ (codes " " ++ encode_lower (tag ∷ [])))
-outcome_text (Refused why) = codes "refused " ++ (decimal (refusal_number why.refusal) ++ (codes " " ++ refusal_name why.refusal))
+outcome_text (Refused why) =
+    codes "refused " ++ (decimal (refusal_number why.refusal) ++ (codes " " ++ refusal_name why.refusal))
 
 -- the line for the datagram of line n
 unfoldable pub answer_line : ℕ → ℕ → Outcome → List ℕ
@@ -167,7 +168,8 @@ abbrev pub AnswersLine : Bool → Held → ℕ → List ℕ → List ℕ → Hel
 AnswersLine lines old n line waited new waits step.Answered =
     (e : LogEntry) × (outcome : Outcome) × IsLine line e × TakesOne old e.moment e.datagram outcome new
     × (waits ≡ waited ++ printed_line lines n e.moment outcome)
-AnswersLine lines old n line waited new waits (step.OutOfForm why) = ((e : LogEntry) → IsLine line e → ⊥) × (waits ≡ waited)
+AnswersLine lines old n line waited new waits (step.OutOfForm why) =
+    ((e : LogEntry) → IsLine line e → ⊥) × (waits ≡ waited)
 AnswersLine lines old n line waited new waits step.OutOfMemory = waits ≡ waited
 
 -- what the saved text has done where it stops
