@@ -137,6 +137,23 @@ def words_of(path):
 
 
 @functools.cache
+def imported(path):
+    """The definitions that the contracts of a source file can name: the crate and the module of each name."""
+    found = {}
+    for crate, module, names in re.findall(r"ghost use Rattle\.(\w+)\.specs\.([\w.]+)\.\{(.*?)\};", path.read_text()):
+        if (CRATES / crate / "specs").is_dir() and ".declared" not in f".{module}":
+            found.update({it.strip(): f"{crate}:{module}.{it.strip()}" for it in names.split(",")})
+    return found
+
+
+def named_in(path, contract):
+    """The definitions of the project's own that a contract in a source file names, as a rule names them."""
+    there = imported(path)
+    found = [there[it] for it in re.findall(r"[\w◌]+", contract) if it in there]
+    return [it for it in dict.fromkeys(found) if has_definition("", it)]
+
+
+@functools.cache
 def sources_of(crate):
     """The sources of a crate as the wrong bodies read them."""
     folder = CRATES / crate
@@ -219,16 +236,9 @@ def test_names():
 
 
 def rows_of(path, kind):
-    """The rows of one kind in a file, and the comments that come directly before them."""
-    found, comment = [], []
-    for line in path.read_text().splitlines():
-        if line.startswith("#"):
-            comment.append(line)
-            continue
-        if re.match(rf"{re.escape(kind)}(\s|$)", line):
-            found += [*comment, line]
-        comment = []
-    return found
+    """The groups of rows in a file that have a row of this kind, each with its comment."""
+    groups = re.split(r"\n\s*\n", path.read_text())
+    return [it.strip("\n") for it in groups if re.search(rf"(?m)^{re.escape(kind)}(\s|$)", it)]
 
 
 @functools.cache
