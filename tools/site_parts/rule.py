@@ -8,7 +8,7 @@ from site_parts.folder import code, plain
 MOST_ROWS = 24  # lines of rows that are shown of a test
 LONG = 40  # lines of a function that is folded
 STANDARD = re.compile(r"(RFC \d+|X\.690|FIPS \d+|SP [\w-]+|draft-\S+|IEEE \S+)\s*(.*)")
-NO_CLAUSE = "No clause is written at this function. If it is a method of a trait, the trait's contract holds. Otherwise tests show what it does."
+NO_CLAUSE = "This function has no clause of its own. A method of a trait has the trait's contract. What others do is shown by tests."
 OPENING = "`./prove` checks that each function below keeps its contract for all inputs. The definitions say what the contract's words mean."
 
 
@@ -194,7 +194,8 @@ def by_section(found):
         lines += [f"## {'Of no standard' if standard == 'own' else standard}", ""]
         for section in sorted(sections[standard], key=number_of):
             lines += [f"### {standard}, section {section}", ""] if section else []
-            lines += [f"- [{rule.sentence}]({page.removeprefix('docs/rules/')}.md) ({rule.crate})" for rule, page in sections[standard][section]]
+            for rule, page in sections[standard][section]:
+                lines.append(f"- [{rule.sentence}]({page.removeprefix('docs/rules/')}.md) ({rule.crate})")
             lines.append("")
     return "\n".join(lines)
 
