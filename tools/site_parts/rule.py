@@ -7,6 +7,7 @@ from site_parts.folder import code, plain
 
 MOST_ROWS = 24  # lines of rows that are shown of a test
 LONG = 40  # lines of a function that is folded
+ALONE = "---\norphan: true\n---\n\n"  # the head of a page that isn't in the sidebar: with all rules there, each page would take long
 STANDARD = re.compile(r"(RFC \d+|X\.690|FIPS \d+|SP [\w-]+|draft-\S+|IEEE \S+)\s*(.*)")
 NO_CLAUSE = "This function has no clause of its own. A method of a trait has the trait's contract. What others do is shown by tests."
 OPENING = "`./prove` checks that each function below keeps its contract for all inputs. The definitions say what the contract's words mean."
@@ -164,7 +165,7 @@ class Page:
         crate = f"[{self.rule.crate}]({self.folder.to_page(self.page, f'docs/rules/{self.rule.crate}')})"
         places = [(name, clauses, rules.places_of(self.rule.crate, name)) for name, clauses in self.rule.promises]
         return "\n".join([
-            f"---\norphan: true\n---\n\n# {self.rule.sentence}\n",
+            f"{ALONE}# {self.rule.sentence}\n",
             " · ".join([f"Crate {crate}", f"Section: {with_standards(self.rule.section)}", *around]) + "\n",
             f"{OPENING}\n",
             *self.definitions(), *self.contracts(places), *self.bodies(places), *self.tests(), *self.wrong_bodies(),
@@ -175,7 +176,7 @@ def with_rules(text, crate, slugs):
     """The page of a crate, with a link to the page of each rule under its heading."""
     names = iter(slugs)
     link = lambda found: f"{found[0]}\n\n[Definition, contract, source, tests and wrong bodies]({crate}/{next(names)}.md)"
-    return re.sub(r"(?m)^## .*$", link, text)
+    return ALONE + re.sub(r"(?m)^## .*$", link, text)
 
 
 def number_of(section):
