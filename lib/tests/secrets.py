@@ -9,7 +9,7 @@ import tempfile
 import xml.etree.ElementTree as xml
 
 # Whether a code is right is public: one branch says it.
-CODES = ("usm_core::users::Users::open_auth", "usm_core::users::Users::open_layout")
+CODES = ("usm_core::users::Users::open_layout",)
 # What was opened is read as any message is.
 READERS = ("snmp_ber::", "snmp_message::", "snmp_msg::", "snmp_incoming::")
 # By the part of secrets.c: where something may depend on a secret, as names of functions or what they begin with.
