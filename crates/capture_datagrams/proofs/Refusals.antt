@@ -6,7 +6,7 @@ use Rattle.capture_files.specs.Datagrams.{Streams}
 use Rattle.capture_datagrams.specs.declared.datagrams.Unread.{Unread}
 use Rattle.capture_datagrams.specs.declared.datagrams.Unread.TheVariants as unread
 use Rattle.capture_datagrams.specs.declared.forms.ReadOptions.{ReadOptions}
-use Rattle.capture_datagrams.specs.Shown.{IsRefusalOf, OpensFile, StopsBefore, StopsOpening}
+use Rattle.capture_datagrams.specs.Printout.{IsRefusalOf, OpensFile, StopsBefore, StopsOpening}
 
 pub refusal_written : (names : Bool) (config : List ℕ) (a : ReadOptions) (s : Streams) (line note : List ℕ) (told status : ℕ)
     → IsRefusalOf config line note × (told ≡ 1) → s.left ≡ s.unread → status ≡ told → Appends s.held s.written line → Appends s.untold s.told note

@@ -4,7 +4,7 @@ use Rattle.std.specs.List.{All}
 use Rattle.std.specs.Io.KnownBytes.{Appends, Consumes, IsAtEnd}
 use Rattle.std.proofs.KnownBytes.{Appends-nil, Keeps-refl}
 use Rattle.capture_files.specs.Datagrams.{Printing, StopsBy, Streams}
-use Rattle.capture_files.specs.Passed.{Counts}
+use Rattle.capture_files.specs.Tally.{Counts}
 use Rattle.capture_files.specs.declared.fault.CaptureFault.TheVariants as capture
 use Rattle.capture_datagrams.specs.declared.datagrams.Unread.{Unread}
 use Rattle.capture_datagrams.specs.declared.datagrams.Unread.TheVariants as unread

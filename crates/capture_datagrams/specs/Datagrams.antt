@@ -10,7 +10,7 @@ use Rattle.std.specs.Prelude.{Option, IfSome}
 use Rattle.std.specs.List.{All}
 use Rattle.std.specs.Io.KnownBytes.{Appends, Keeps}
 use Rattle.snmpsec_io.specs.Transfer.{WritesFront}
-use Rattle.capture_files.specs.Passed.{Counts, IsPassedWords}
+use Rattle.capture_files.specs.Tally.{Counts, IsPassedWords}
 use Rattle.capture_files.specs.Datagrams.{IsLogOf, Printing, Streams, StopsBy}
 use Rattle.capture_files.specs.declared.fault.CaptureFault.TheVariants as capture
 use Rattle.capture_datagrams.specs.declared.datagrams.Unread.{Unread}

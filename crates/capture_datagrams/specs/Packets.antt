@@ -2,7 +2,7 @@
 use Rattle.std.specs.Prelude.{◌≡◌, ℕ, List, ◌++◌}
 use Rattle.capture_files.specs.Datagrams.{Printing}
 use Rattle.capture_files.specs.Packets.{ComeTo}
-use Rattle.capture_files.specs.Passed.{Counts}
+use Rattle.capture_files.specs.Tally.{Counts}
 use Rattle.capture_datagrams.specs.Datagrams.{IsPassedLine, status_of}
 
 -- What is printed of packets that were received at this moment, what is told beside, and the status: they

@@ -7,7 +7,7 @@ ghost use Rattle.capture_datagrams.specs.Datagrams.{AskPorts, IsPassedLine, Lose
 ghost use Rattle.capture_datagrams.specs.Datagrams.{TellsNot, TellsNoPorts, TellsPassed, refused_line};
 ghost use Rattle.capture_datagrams.specs.declared.datagrams.PortsFault.TheVariants as no_ports;
 ghost use Rattle.capture_files.specs.Datagrams.{streams};
-ghost use Rattle.capture_files.specs.Passed.{counts_of};
+ghost use Rattle.capture_files.specs.Tally.{counts_of};
 
 use crate::forms::ReadOptions;
 use capture_files::{CaptureFault, Printer, Tally, print_datagrams_behind};

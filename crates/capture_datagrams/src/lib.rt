@@ -23,5 +23,5 @@ pub mod datagrams;
 mod dump_texts;
 pub mod forms;
 mod packets;
-pub mod shown;
+pub mod printout;
 mod texts;

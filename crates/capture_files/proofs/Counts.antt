@@ -2,12 +2,12 @@
 use Rattle.std.proofs.Common.{◌≡◌, ◌⊎◌, ℕ, ◌+◌, ◌<◌, ◌≤◌, Bool, List, length, Option, Some, None, slice_index, slice_set, replicate, sym, ap, ◌∙◌, arith, subst, inl, inr}
 use Rattle.std.proofs.lemmas.Bool.{cases_eq, cases_lt}
 use Rattle.std.proofs.lemmas.List.{get_or-set_same, get_or-set_other, get_or_past, get_or-replicate, set_past, length-set, length-replicate}
-use Rattle.capture_files.specs.Passed.{Counts, IsBelow, none_passed, zeros}
+use Rattle.capture_files.specs.Tally.{Counts, IsBelow, none_passed, zeros}
 use Rattle.capture_files.specs.Items.{Record}
 use Rattle.capture_files.specs.Datagrams.{Printing, WritesItem, count_of}
 use Rattle.capture_files.specs.declared.datagrams.Sorted.{Sorted}
 use Rattle.capture_files.specs.declared.datagrams.Sorted.TheVariants.{Logged, Told, Counted}
-use Rattle.capture_files.specs.declared.passed.Reason.TheVariants as reason
+use Rattle.capture_files.specs.declared.tally.Reason.TheVariants as reason
 
 below_on : (c : Counts) (n : ℕ) → IsBelow c n → IsBelow c (n + 1)
 below_on c n b =

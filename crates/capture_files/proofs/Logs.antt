@@ -5,7 +5,7 @@ use Rattle.std.proofs.KnownBytes.{Appends-nil, Appends-trans, Appends-kept, Cons
 use Rattle.snmpsec_io.specs.Transfer.{WritesFront}
 use Rattle.capture_files.specs.Items.{Record}
 use Rattle.capture_files.specs.Formats.{AreItems, HasBegun, IsItem, State, StopsItem, records_of}
-use Rattle.capture_files.specs.Passed.{Counts, none_passed}
+use Rattle.capture_files.specs.Tally.{Counts, none_passed}
 use Rattle.capture_files.specs.Datagrams.{Printing, PrintsAs, PrintsRecord, IsSortedRecord, note_of, count_of, Sorts, IsLogOf, streams, Stands, StopsWriting, WriteFails, StopsItems, WritesItem, WritesRecord, WritesRecordFront, StopsRecord, StopsWrite, IsEnd, IsLess, IsWholeItem}
 use Rattle.capture_files.specs.declared.datagrams.Sorted.{Sorted}
 use Rattle.capture_files.specs.declared.datagrams.Sorted.TheVariants.{Logged, Told, Counted}

@@ -3,7 +3,7 @@ use Rattle.std.proofs.Common.{◌≡◌, ◌+◌, ◌<◌, List, [], ◌∷◌, 
 use Rattle.std.specs.Prelude.{IsSorted}
 use Rattle.std.specs.declared.cmp.Ordering.{Ordering}
 use Rattle.std.proofs.lemmas.List.{get_or-map, length-map, take_more}
-use Rattle.capture_files.specs.Passed.{count_part, link_parts, link_word}
+use Rattle.capture_files.specs.Tally.{count_part, link_parts, link_word}
 use Rattle.std.specs.List.{join_by, flat_map}
 
 flat_mapped : {X : Type 0} (f : X → List ℕ) (sep : List ℕ) (xs : List X) → flat_map (λ x. sep ++ f x) xs ≡ flat_map (λ part. sep ++ part) (map f xs)

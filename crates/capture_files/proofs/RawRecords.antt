@@ -3,7 +3,7 @@ use Rattle.std.proofs.Common.{◌≡◌, ℕ, ◌+◌, ◌<◌, ◌≤◌, List,
 use Rattle.std.proofs.lemmas.Bool.{le-leb}
 use Rattle.std.proofs.lemmas.List.{take_more, map-append, length-map, length-take-le}
 use Rattle.capture_files.specs.Items.{Record}
-use Rattle.capture_files.specs.Passed.{Counts, none_passed}
+use Rattle.capture_files.specs.Tally.{Counts, none_passed}
 use Rattle.capture_files.specs.Packet.{IsFound}
 use Rattle.capture_files.specs.Packets.{packet_record}
 use Rattle.capture_files.specs.Datagrams.{Printing, Sorts, WritesRecord, note_of}

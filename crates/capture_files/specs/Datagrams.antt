@@ -12,7 +12,7 @@ use Rattle.std.specs.Io.KnownBytes.{Appends, Consumes, IsAtEnd, Keeps}
 use Rattle.hex.specs.Hex.{encode_lower}
 use Rattle.snmpsec_io.specs.Transfer.{WritesFront}
 use Rattle.capture_files.specs.Packet.{IsFound}
-use Rattle.capture_files.specs.Passed.{Counts, none_passed, one_more, one_printed}
+use Rattle.capture_files.specs.Tally.{Counts, none_passed, one_more, one_printed}
 use Rattle.capture_files.specs.Items.{Record}
 use Rattle.capture_files.specs.Formats.{AreItems, HasBegun, HasNoItem, IsBeginning, IsItem, ReadsBeginning, State}
 use Rattle.capture_files.specs.Formats.{records_of}
@@ -22,7 +22,7 @@ use Rattle.capture_files.specs.declared.datagrams.Sorted.{Sorted}
 use Rattle.capture_files.specs.declared.datagrams.Sorted.TheVariants.{Logged, Told, Counted}
 use Rattle.capture_files.specs.declared.datagrams.Telling.{Telling}
 use Rattle.capture_files.specs.declared.datagrams.Telling.TheVariants as telling
-use Rattle.capture_files.specs.declared.passed.Reason.TheVariants as reason
+use Rattle.capture_files.specs.declared.tally.Reason.TheVariants as reason
 use Rattle.capture_files.specs.declared.datagrams.Captured.{Captured}
 use Rattle.capture_files.specs.declared.fault.CaptureFault.{CaptureFault}
 use Rattle.capture_files.specs.declared.fault.CaptureFault.TheVariants as fault

@@ -4,7 +4,7 @@
 -- record of that link and moment (`packet_record`), are sorted as those of a capture are.
 use Rattle.std.specs.Prelude.{ℕ, List, length, map, Some}
 use Rattle.capture_files.specs.Items.{Record}
-use Rattle.capture_files.specs.Passed.{Counts, none_passed}
+use Rattle.capture_files.specs.Tally.{Counts, none_passed}
 use Rattle.capture_files.specs.Datagrams.{Printing, Sorts}
 
 -- a packet that begins with its IP header, whole, and was received at this moment

@@ -3,12 +3,12 @@
 ghost use Rattle.std.specs.Prelude.{IfOk, OnOk, Some, map};
 ghost use Rattle.capture_files.specs.Datagrams.{PrintsAs, WritesRecord};
 ghost use Rattle.capture_files.specs.Packets.{ComeTo, packet_record};
-ghost use Rattle.capture_files.specs.Passed.{IsBelow, counts_of};
+ghost use Rattle.capture_files.specs.Tally.{IsBelow, counts_of};
 
 use crate::datagrams::{Captured, write_record};
 use crate::item::Head;
-use crate::passed::Tally;
 use crate::printer::Printer;
+use crate::tally::Tally;
 use std::alloc::{AllocError, Global};
 
 /// The link on which packets begin with their IP header, a number of LINKTYPE.

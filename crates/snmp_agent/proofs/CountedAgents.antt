@@ -16,8 +16,8 @@ use Rattle.snmp_message.specs.Numbers.{in_table}
 use Rattle.usm_core.specs.Verified.{Side, agent, Verified, Verifies, Judges, IsReadAs}
 use Rattle.snmp_message.specs.declared.refusal.Refusal.TheVariants.{NotMessage, BadVersion, NotSecurity, NotScoped, NotPdu, UnknownEngine, UnknownUser, UnsupportedLevel, WrongDigest, NotInWindow, DecryptionError, BadScoped, BadPdu, OutOfMemory, ClockExhausted, TooLarge, UnknownModel, InvalidFlags}
 use Rattle.snmp_incoming.specs.Outcome.{Given, Taker, as_agent, side_at, ClockRuns, ReadsText, ReadsMessage, Weighs, Outcome}
-use Rattle.snmp_agent.specs.declared.asking.ReportedMessage.{ReportedMessage}
-use Rattle.snmp_agent.specs.Counting.{counter_of}
+use Rattle.snmp_agent.specs.declared.reported_message.ReportedMessage.{ReportedMessage}
+use Rattle.snmp_agent.specs.RefusalCounters.{counter_of}
 use Rattle.snmp_agent.specs.Report.{AsksForReport, Offers, IsAsking}
 use Rattle.snmp_agent.proofs.Requests.{same_parts}
 

@@ -12,7 +12,7 @@ use Rattle.usm_core.specs.Verified.{Verified, ReadsLayout, Verifies}
 use Rattle.snmp_incoming.specs.Outcome.{Given, Taker, side_at, ClockRuns, IsFresh, pair_in, ReadsText, Weighs, Outcome}
 use Rattle.snmp_incoming.specs.Answers.{IsOpening}
 use Rattle.snmp_incoming.proofs.Rows.{same_refused}
-use Rattle.snmp_agent.specs.Counting.{counter_of}
+use Rattle.snmp_agent.specs.RefusalCounters.{counter_of}
 
 pub not_both : (b : Bool) (P : Type 0) → IsTrue b ↔ P → b ≡ false → P → ⊥
 not_both b P h e p = let wrong : true ≡ false = sym (h.1 p) ∙ e in cc wrong

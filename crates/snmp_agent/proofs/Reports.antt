@@ -14,8 +14,8 @@ use Rattle.snmp_message.specs.Numbers.{in_table}
 use Rattle.usm_core.specs.Sealed.{Sending, SealedText, Seals, IsSealable}
 use Rattle.snmp_message.specs.declared.refusal.Refusal.TheVariants.{NotMessage, BadVersion, NotSecurity, NotScoped, NotPdu, UnknownEngine, UnknownUser, UnsupportedLevel, WrongDigest, NotInWindow, DecryptionError, BadScoped, BadPdu, OutOfMemory, ClockExhausted, TooLarge, UnknownModel, InvalidFlags}
 use Rattle.snmp_outgoing.specs.Bodies.{has_auth, has_privacy, header_at}
-use Rattle.snmp_agent.specs.declared.asking.ReportedMessage.{ReportedMessage}
-use Rattle.snmp_agent.specs.Counting.{counter_of, counter_at}
+use Rattle.snmp_agent.specs.declared.reported_message.ReportedMessage.{ReportedMessage}
+use Rattle.snmp_agent.specs.RefusalCounters.{counter_of, counter_at}
 use Rattle.snmp_agent.specs.Report.{AsksForReport, IsAsking, IsReport, offered, missing, reporting_of}
 
 module _ (users : List User) (engine : List ℕ) (own : BootsAndTime) (counters w : List ℕ) (r : Refusal) where

@@ -15,7 +15,7 @@ use Rattle.snmp_incoming.specs.Outcome.{Given, Taker, as_agent, side_at, ClockRu
 use Rattle.snmp_incoming.specs.Answers.{given_of}
 use Rattle.snmp_agent.specs.declared.refused.Refused.{Refused}
 use Rattle.snmp_agent.specs.declared.engine.Engine.{Engine}
-use Rattle.snmp_agent.specs.Counting.{counters_after}
+use Rattle.snmp_agent.specs.RefusalCounters.{counters_after}
 use Rattle.snmp_agent.specs.Counts.{counts_after}
 
 -- its engine ID, its boots, the moment of its start, its users, its tables, its six usmStats, and its eight

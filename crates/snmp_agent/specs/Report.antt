@@ -18,8 +18,8 @@ use Rattle.usm_core.specs.Sealed.{Sending, SealedText}
 use Rattle.snmp_incoming.specs.Outcome.{Taker, own_pair, Outcome}
 use Rattle.snmp_msg.specs.PduTypes.{is_confirmed}
 use Rattle.snmp_agent.specs.CounterReports.{reporting}
-use Rattle.snmp_agent.specs.declared.asking.ReportedMessage.{ReportedMessage}
-use Rattle.snmp_agent.specs.Counting.{counter_of, counter_at}
+use Rattle.snmp_agent.specs.declared.reported_message.ReportedMessage.{ReportedMessage}
+use Rattle.snmp_agent.specs.RefusalCounters.{counter_of, counter_at}
 use Rattle.snmp_agent.specs.Agent.{AgentState}
 
 -- ---- whether one is offered

@@ -3,7 +3,7 @@
 ghost use Rattle.std.specs.Prelude.{◌≡◌, ◌≤◌, ◌<◌, ◌⊎◌, replicate, IfErr, IsSome, MatchOption, MatchResult};
 ghost use Rattle.snmp_ber.specs.declared.number.TheConstants.{MAX_INTEGER32};
 ghost use Rattle.engine_clock.specs.Pairs.{pair_max};
-ghost use Rattle.snmp_agent.specs.Counting.{counter_at};
+ghost use Rattle.snmp_agent.specs.RefusalCounters.{counter_at};
 ghost use Rattle.snmp_agent.specs.Agent.{taker_of, taken_answer, AgentTakes, IsOpened};
 ghost use Rattle.snmp_agent.specs.Report.{AgentReports, OffersOnAnswer, report_of};
 ghost use Rattle.snmp_message.specs.declared.refusal.Refusal.TheVariants.{OutOfMemory};
@@ -12,12 +12,12 @@ ghost use Rattle.snmp_message.specs.Numbers.{in_table};
 
 use crate::answers::{answers, view_for};
 use crate::counter::{drop_counter_of, one_more};
-use crate::counting::count_refusal;
 use crate::decision::Decision;
 use crate::engine::Engine;
 use crate::judge::judge;
 use crate::laws::notification_is_accepted;
 use crate::notification::{Recipient, write_notification};
+use crate::refusal_counters::count_refusal;
 use crate::refused::Refused;
 use crate::report::report;
 use crate::response::{Response, write_response};

@@ -8,7 +8,7 @@ ghost use Rattle.usm_core.specs.Layouts.{IsLayoutOf};
 ghost use Rattle.snmp_incoming.specs.Outcome.{Outcome, pair_in};
 ghost use Rattle.snmp_incoming.specs.Answers.{answer_of};
 ghost use Rattle.snmp_agent.specs.Agent.{taker_at, IsOpened};
-ghost use Rattle.snmp_agent.specs.Counting.{counter_of};
+ghost use Rattle.snmp_agent.specs.RefusalCounters.{counter_of};
 ghost use Rattle.snmp_message.specs.declared.refusal.Refusal.TheVariants.{OutOfMemory};
 ghost use Rattle.snmp_message.specs.Refusals.{IsRefused};
 

@@ -40,12 +40,9 @@
 
 mod agent;
 mod answers;
-mod asked;
-mod asking;
 mod commands;
 mod counter;
 mod counter_report;
-mod counting;
 mod decision;
 mod dispatch;
 mod engine;
@@ -53,8 +50,11 @@ mod judge;
 mod laws;
 mod notification;
 mod refusal;
+mod refusal_counters;
 mod refused;
 mod report;
+mod reportable;
+mod reported_message;
 mod response;
 mod response_laws;
 mod status;

@@ -30,7 +30,7 @@ use Rattle.usm_core.specs.Table.{refusal_answer}
 use Rattle.snmp_agent.specs.Agent.{AgentState, AgentTakes, IsOpened, taker_of}
 use Rattle.snmp_agent.specs.Report.{AgentReports, OffersOnAnswer}
 use Rattle.snmp_outgoing.specs.Speaks.{Speech, spoken}
-use Rattle.snmp_agent.specs.Counting.{counter_at}
+use Rattle.snmp_agent.specs.RefusalCounters.{counter_at}
 use Rattle.snmp_agent.specs.Decides.{question, question_of}
 use Rattle.snmp_agent.specs.Responses.{responding}
 use Rattle.snmp_agent.specs.Sent.{Sends, CanSendAt, RefusesSenderAt}

@@ -9,7 +9,7 @@ use Rattle.std.proofs.lemmas.List.Elements.{Contains-append_cases}
 use Rattle.std.specs.Borrow.{Bor}
 use Rattle.vacm_core.specs.declared.rows.FamilyRow.{FamilyRow}
 use Rattle.vacm_core.specs.Tables.{Tables}
-use Rattle.snmpsec_access.specs.declared.seeing.Seen.{Seen}
+use Rattle.snmpsec_access.specs.declared.viewer.Seen.{Seen}
 use Rattle.snmpsec_access.specs.Askers.{Asker}
 use Rattle.snmpsec_access.specs.Seen.{Line, viewers, TellsSeen, Decision, Decided, IsDecision, IsDecided, seen_line, line_of, decision_text, decided_text, includes, any_includes}
 use Rattle.snmpsec_access.specs.Rising.{SeesOn, rows_at}

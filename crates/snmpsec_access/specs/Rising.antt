@@ -12,7 +12,7 @@ use Rattle.vacm_core.specs.declared.steps.Asking.{Asking}
 use Rattle.vacm_core.specs.Steps.{requester_of}
 use Rattle.snmpsec_access.specs.declared.told.Told.{Told}
 use Rattle.snmpsec_access.specs.declared.told.Told.TheVariants.{Refusal, Rows}
-use Rattle.snmpsec_access.specs.declared.seeing.Seen.{Seen}
+use Rattle.snmpsec_access.specs.declared.viewer.Seen.{Seen}
 use Rattle.snmpsec_access.specs.Askers.{Asker}
 use Rattle.snmpsec_access.specs.Seen.{Decision, refusal, by_lines, Decided, IsDecided, IsRefusal, AreLinesOf}
 use Rattle.snmpsec_access.specs.Seen.{answer_of, is_included, line_of, rows_of, decided_text, any_includes}

@@ -2,7 +2,7 @@
 
 use crate::Command;
 use crate::forms::{Form, Kind, Word};
-use crate::given::{word_of, words_of};
+use crate::given_words::{word_of, words_of};
 use clap::ArgMatches;
 
 /// What a file of datagrams is.

@@ -3,7 +3,7 @@
 use crate::Command;
 use crate::capture::{DatagramsWords, FORM, IP, MOMENT, PORT, datagrams_words};
 use crate::forms::{Form, Kind};
-use crate::given::word_of;
+use crate::given_words::word_of;
 use clap::ArgMatches;
 
 /// The command diagnose.

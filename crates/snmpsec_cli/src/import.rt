@@ -2,7 +2,7 @@
 
 use crate::Command;
 use crate::forms::{Form, Kind, Word};
-use crate::given::words_of;
+use crate::given_words::words_of;
 use clap::ArgMatches;
 
 /// The command import-snmpd.

@@ -120,24 +120,24 @@ pub fn not_text(alloc: Global) -> Result<Error, AllocError>
     )
 }
 
+mod about;
 mod access;
-mod asked;
 mod capture;
 mod diagnose;
+mod file_checks;
 mod forms;
-mod given;
+mod given_words;
 mod import;
+mod invocation;
 mod messages;
-mod own;
+mod questions;
 mod replay;
-mod saved;
-mod wide;
 
+pub use about::{VERSION, manual_text, version_text};
 pub use access::{AccessWords, access_words};
-pub use asked::{Invocation, asked_by};
 pub use capture::{DatagramsWords, datagrams_words};
 pub use diagnose::{DiagnoseWords, diagnose_words};
-pub use given::{word_of, words_of};
+pub use given_words::{word_of, words_of};
 pub use import::{ImportWords, import_words};
-pub use own::{VERSION, manual_text, version_text};
+pub use invocation::{Invocation, asked_by};
 pub use replay::{ReplayWords, replay_words};

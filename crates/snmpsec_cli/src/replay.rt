@@ -1,9 +1,9 @@
 //! Commands over saved clocks: the replay of a log, and the join.
 
 use crate::Command;
+use crate::file_checks::SAVED;
 use crate::forms::{Form, Kind, Word};
-use crate::given::word_of;
-use crate::saved::SAVED;
+use crate::given_words::word_of;
 use clap::ArgMatches;
 
 /// The moment that marks get which have none of their own.

@@ -5,7 +5,7 @@ use Rattle.snmp_ber.specs.declared.level.Level.{Level}
 use Rattle.snmp_ber.specs.declared.level.Level.TheVariants.{NoAuthNoPriv, AuthPriv}
 use Rattle.snmp_message.specs.declared.refusal.Refusal.{Refusal}
 use Rattle.snmp_agent.specs.Agent.{AgentState, taker_of}
-use Rattle.snmp_agent.specs.Counting.{counters_after}
+use Rattle.snmp_agent.specs.RefusalCounters.{counters_after}
 use Rattle.snmp_agent.specs.Counts.{counts_after}
 use Rattle.snmp_incoming.specs.Outcome.{Given, Outcome}
 

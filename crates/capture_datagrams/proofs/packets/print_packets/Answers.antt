@@ -1,5 +1,5 @@
 use Rattle.std.proofs.Common.{◌≡◌, ◌++◌, ◌∙◌, ap, string_bytes, rules}
-use Rattle.capture_files.specs.Passed.{counts_of}
+use Rattle.capture_files.specs.Tally.{counts_of}
 use Rattle.capture_datagrams.specs.Datagrams.{status_of}
 use Rattle.capture_datagrams.proofs.packets.print_packets.Goals as goal
 

@@ -1,7 +1,7 @@
 use Rattle.std.proofs.Common.{◌≡◌, ◌+◌, ◌-◌, ◌≤◌, length}
 use Rattle.capture_files.specs.Datagrams.{PrintsAs, Stands, streams}
 use Rattle.capture_files.specs.Formats.{state_of}
-use Rattle.capture_files.specs.Passed.{IsBelow, counts_of}
+use Rattle.capture_files.specs.Tally.{IsBelow, counts_of}
 use Rattle.capture_files.proofs.Logs.{IsBefore}
 use Rattle.capture_files.proofs.datagrams.write_items.Given as goal
 

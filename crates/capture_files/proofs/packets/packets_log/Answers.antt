@@ -1,7 +1,7 @@
 use Rattle.std.proofs.Common.{◌+◌, List, ℕ, Some, refl, subst, arith}
 use Rattle.capture_files.specs.Datagrams.{WritesRecord}
 use Rattle.capture_files.specs.Packets.{packet_record}
-use Rattle.capture_files.specs.Passed.{counts_of}
+use Rattle.capture_files.specs.Tally.{counts_of}
 use Rattle.capture_files.proofs.Counts.{starts_below, below_most, below_next}
 use Rattle.capture_files.proofs.Logs.{writes_as}
 use Rattle.capture_files.proofs.RawRecords.{next_packet}

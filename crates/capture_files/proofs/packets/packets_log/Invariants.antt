@@ -1,7 +1,7 @@
 use Rattle.std.proofs.Common.{◌+◌, map, take}
 use Rattle.capture_files.specs.Datagrams.{PrintsAs, Sorts}
 use Rattle.capture_files.specs.Packets.{packet_record}
-use Rattle.capture_files.specs.Passed.{IsBelow, counts_of, none_passed}
+use Rattle.capture_files.specs.Tally.{IsBelow, counts_of, none_passed}
 use Rattle.capture_files.proofs.packets.packets_log.Given as goal
 
 abbrev pub invariant-loop-place : goal.invariant-loop-place

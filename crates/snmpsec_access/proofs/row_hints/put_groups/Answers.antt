@@ -1,0 +1,14 @@
+use Rattle.snmpsec_access.specs.Hints.{all_told, group_hints}
+use Rattle.snmpsec_access.specs.Known.{users_of, rows_of}
+use Rattle.snmpsec_access.proofs.HintWalks.{one_more, all_told_of}
+use Rattle.snmpsec_access.proofs.row_hints.put_groups.Goals as goal
+
+pub loop-position-preserved : goal.loop-position-preserved
+loop-position-preserved c =
+    one_more (group_hints (users_of c.args.known.now) (rows_of c.args.known.now)) c.deref-row-items.result.now (rows_of c.args.known.now).groups c.deref-row-items.ensures.value c.loop-position.position c.row-item.result
+    (all_told c.args.hints.now.items) (all_told c.loop-position.hints.items) (all_told c.put_group.new.hints.items) c.loop-position-test.true c.row-item.is c.loop-position.invariant c.in_ok-put_group.ensures
+
+pub returns : goal.returns
+returns c =
+    all_told_of (group_hints (users_of c.args.known.now) (rows_of c.args.known.now)) c.deref-row-items.result.now (rows_of c.args.known.now).groups c.deref-row-items.ensures.value c.loop-position.position
+    (all_told c.args.hints.now.items) (all_told c.loop-position.hints.items) c.loop-position-test.false c.loop-position.invariant

@@ -1,8 +1,0 @@
-use Rattle.std.proofs.Common.{◌≡◌, ◌++◌, take}
-use Rattle.std.specs.List.{flat_map, enumerate_from}
-use Rattle.snmpsec_access.specs.Hints.{all_told, access_hints}
-use Rattle.snmpsec_access.specs.Known.{rows_of}
-use Rattle.snmpsec_access.proofs.walk.put_accesses.Given as goal
-
-abbrev pub invariant-loop-position : goal.invariant-loop-position
-invariant-loop-position l = all_told l.hints.items ≡ all_told l.fn.hints.items ++ flat_map (access_hints (rows_of l.known)) (take l.position (enumerate_from 0 (rows_of l.known).access))
