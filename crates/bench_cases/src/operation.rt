@@ -109,7 +109,8 @@ impl FromStr for Operation {
 
     fn from_str(name: &str) -> Result<Operation, UnknownOperation>
         ensures found { IfOk result (λ operation. name.now ≡ operation_word operation) }
-        ensures all { (operation : AnOperation) → name.now ≡ operation_word operation → result ≡ Ok operation }
+        ensures all { (operation : AnOperation) → name.now ≡ operation_word operation
+            → result ≡ Ok operation }
     {
         match name {
             "password-key-md5" => Ok(Operation::PasswordKey(Auth::Md5)),
@@ -173,7 +174,8 @@ impl Operation {
     /// text of as many octets `a` as the word says.
     pub fn texts(self, alloc: Global, word: &str) -> Result<Vec<Vec<u8>>>
         ensures { count.is_of_a_message self ≡ false
-            → IfOk result (λ texts. (n : ℕ) × (map (λ text. text.items) texts.items ≡ replicate n 97 ∷ [])) }
+            → IfOk result (λ texts. (n : ℕ)
+            × (map (λ text. text.items) texts.items ≡ replicate n 97 ∷ [])) }
     {
         if self.is_of_a_message() {
             return messages(alloc, word);
@@ -187,7 +189,8 @@ impl Operation {
     /// What the operation is done with.
     pub fn station(self, alloc: Global) -> Result<Station>
         ensures { IfOk result
-            (λ station. HasUsers station (count.openers self) (count.takers self) (count.answerers self)) }
+            (λ station. HasUsers station (count.openers self)
+            (count.takers self) (count.answerers self)) }
     {
         match self {
             Operation::OpenAuth(auth) => Station::of_ann(alloc, auth),

@@ -158,7 +158,8 @@ impl Station {
         answerers: &[UserRow],
     ) -> Result<Station>
         ensures { IfOk result
-            (λ station. HasUsers station (length openers.now) (length takers.now) (length answerers.now)) }
+            (λ station. HasUsers station (length openers.now)
+            (length takers.now) (length answerers.now)) }
     {
         let users = Users::load(alloc, openers)?;
         let both = beside(users, manager_of(alloc, takers))?;

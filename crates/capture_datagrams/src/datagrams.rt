@@ -129,8 +129,10 @@ pub(crate) fn datagrams_behind<P: Printer, R: Read, L: Write, N: Write>(
 
 /// Writes the line for what was passed over.
 fn tell_passed<N: Write>(alloc: Global, passed: &Tally, notes: &mut N) -> Result<(), Unread>
-    ensures ok { OnOk result (TellsPassed (counts_of passed.now) (N.contents notes.old) (N.contents notes.new)) }
-    ensures err { IfErr result (LosesPassed (counts_of passed.now) (N.contents notes.old) (N.contents notes.new)) }
+    ensures ok { OnOk result (TellsPassed (counts_of passed.now)
+        (N.contents notes.old) (N.contents notes.new)) }
+    ensures err { IfErr result (LosesPassed (counts_of passed.now)
+        (N.contents notes.old) (N.contents notes.new)) }
 {
     let Ok(line) = passed_line(alloc, passed) else {
         return Err(Unread::OutOfMemory);
@@ -143,8 +145,10 @@ fn tell_passed<N: Write>(alloc: Global, passed: &Tally, notes: &mut N) -> Result
 
 /// Writes the line for a file that is no capture from this octet on.
 fn refuse<L: Write>(alloc: Global, name: &str, place: u64, log: &mut L) -> Result<(), Unread>
-    ensures ok { OnOk result (Appends (L.contents log.old) (L.contents log.new) (refused_line name.now place)) }
-    ensures err { IfErr result (LosesLine (L.contents log.old) (L.contents log.new) (refused_line name.now place)) }
+    ensures ok { OnOk result (Appends (L.contents log.old) (L.contents log.new)
+        (refused_line name.now place)) }
+    ensures err { IfErr result (LosesLine (L.contents log.old)
+        (L.contents log.new) (refused_line name.now place)) }
 {
     let Ok(line) = refused_line(alloc, name, place) else {
         return Err(Unread::OutOfMemory);

@@ -53,7 +53,8 @@ fn dump_note(alloc: Global, fault: DumpFault) -> Result<String, AllocError>
 /// What a text comes to that is no dump for this reason.
 fn refused_dump(alloc: Global, name: &str, fault: DumpFault) -> Result<Told, AllocError>
     ensures { IfOk result
-        (λ told. (told.text.items ≡ refused_row name.now (fault_line fault)) × (told.note.items ≡ dump_note fault)
+        (λ told. (told.text.items ≡ refused_row name.now (fault_line fault))
+        × (told.note.items ≡ dump_note fault)
         × (told.status ≡ 1)) }
 {
     let text = refused_row(alloc, name, fault_line(fault))?;
@@ -127,7 +128,8 @@ pub(crate) fn dumps_told<P: Printer>(
     text: &[u8],
 ) -> Result<Told, AllocError>
     ensures { IfOk result
-        (λ told. IsDumpsOf (P.prints printer.old) form.entry moment name.now text.now told.text.items
+        (λ told. IsDumpsOf (P.prints printer.old) form.entry moment
+        name.now text.now told.text.items
         told.note.items told.status) }
 {
     match read_dumps(alloc, text) {

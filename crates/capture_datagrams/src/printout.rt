@@ -55,7 +55,8 @@ fn behind_head(
       err = output.err.items;
       status = output.status;
     } in
-        IfOk result (λ printed. StandsBehind number moment told printed.text.items printed.refused) }
+        IfOk result (λ printed. StandsBehind number moment told
+        printed.text.items printed.refused) }
 {
     let refused = output.status != 0;
     let mut text = head_line(alloc, number, moment)?.into_bytes();

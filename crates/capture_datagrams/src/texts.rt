@@ -43,7 +43,8 @@ fn hex_told<P: Printer>(
     text: &[u8],
 ) -> Result<Told, AllocError>
     ensures is { IfOk result
-        (λ told. IsHexOf (P.prints printer.old) moment name.now text.now told.text.items told.status) }
+        (λ told. IsHexOf (P.prints printer.old) moment name.now
+        text.now told.text.items told.status) }
     ensures note { IfOk result (λ told. told.note.items ≡ []) }
 {
     match read_hex(alloc, text) {
@@ -157,11 +158,13 @@ pub(crate) fn write_text<P: Printer, R: Read, L: Write, N: Write>(
 ) -> Result<u8, Unread>
     requires { length front.now ≤ 24 }
     ensures ok { (unread : Option (List ℕ)) → Consumes unread (R.remaining reader.old) front.now
-        → IfOk result (TellsText (P.prints printer.old) (text_form asked.entry) asked.entry.moment asked.entry.name.now
+        → IfOk result (TellsText (P.prints printer.old)
+        (text_form asked.entry) asked.entry.moment asked.entry.name.now
         (streams unread (R.remaining reader.new) (L.contents log.old) (L.contents log.new) (N.contents notes.old)
         (N.contents notes.new))) }
     ensures err { (unread : Option (List ℕ)) → Consumes unread (R.remaining reader.old) front.now
-        → IfErr result (StopsText (P.prints printer.old) (text_form asked.entry) asked.entry.moment asked.entry.name.now
+        → IfErr result (StopsText (P.prints printer.old)
+        (text_form asked.entry) asked.entry.moment asked.entry.name.now
         (streams unread (R.remaining reader.new) (L.contents log.old) (L.contents log.new) (N.contents notes.old)
         (N.contents notes.new))) }
 {

@@ -62,7 +62,8 @@ struct Reading {
 impl Reading {
     /// All dumps, where none goes on.
     fn into_dumps(self) -> Result<Vec<Vec<u8>>, AllocError>
-        ensures { IfOk result (λ dumps. map (λ octets. octets.items) dumps.items ≡ ended self ++ as_list self.going) }
+        ensures { IfOk result (λ dumps. map (λ octets. octets.items) dumps.items
+            ≡ ended self ++ as_list self.going) }
     {
         let Reading { mut dumps, going } = self;
         if let Some(dump) = going {
@@ -74,7 +75,8 @@ impl Reading {
     /// What goes on is this, and the dump before has ended.
     fn begin_dump(self, going: Option<Dump>) -> Result<Reading, AllocError>
         ensures { IfOk result
-            (λ reading. (ended reading ≡ ended self ++ as_list self.going) × (reading.going ≡ going)) }
+            (λ reading. (ended reading ≡ ended self ++ as_list self.going)
+            × (reading.going ≡ going)) }
     {
         let dumps = self.into_dumps()?;
         Ok(Reading { dumps, going })
@@ -144,7 +146,8 @@ impl Reading {
 /// The dumps of these lines.
 fn dumps_in(alloc: Global, lines: &[Line<'_>]) -> Result<Vec<Vec<u8>>, DumpFault>
     ensures ok { IfOk result
-        (λ dumps. (n : ℕ) × AreBlocks n (map kind lines.now) (map (λ octets. octets.items) dumps.items) []) }
+        (λ dumps. (n : ℕ) × AreBlocks n (map kind lines.now)
+        (map (λ octets. octets.items) dumps.items) []) }
     ensures err { IfErr result (StopsIn (map kind lines.now)) }
 {
     let mut reading = Reading {
@@ -169,7 +172,8 @@ fn dumps_in(alloc: Global, lines: &[Line<'_>]) -> Result<Vec<Vec<u8>>, DumpFault
 /// The errors are NoDump; Unreadable, NotBegun and OtherCount, for the first line that is none of these where
 /// it stands; and OutOfMemory.
 pub fn read_dumps(alloc: Global, text: &[u8]) -> Result<Vec<Vec<u8>>, DumpFault>
-    ensures ok { IfOk result (λ dumps. HasDumps text.now (map (λ octets. octets.items) dumps.items)) }
+    ensures ok { IfOk result (λ dumps. HasDumps text.now
+        (map (λ octets. octets.items) dumps.items)) }
     ensures err { IfErr result (IsUnread text.now) }
 {
     let lines = read_lines(alloc, text)?;

@@ -12,6 +12,7 @@ pub fn one_list()
 
 /// A text with dumps is refused only if memory runs out: no text is both read and refused.
 pub fn read_or_refused()
-    ensures { (text : List ℕ) (dumps : List (List ℕ)) (fault : Fault) → HasDumps text dumps → IsUnread text fault
+    ensures { (text : List ℕ) (dumps : List (List ℕ)) (fault : Fault)
+        → HasDumps text dumps → IsUnread text fault
         → fault ≡ OutOfMemory }
 {}

@@ -27,7 +27,8 @@ fn next_pair(text: &[u8]) -> Option<(u8, &[u8])>
 /// The octets of a text: those of its first pairs behind which a column stands that shows them, or, where it
 /// has no column, those of its pairs, behind which nothing may stand but blanks. `None` where it is neither.
 pub(crate) fn row_octets(alloc: Global, text: &[u8]) -> Result<Option<Vec<u8>>, AllocError>
-    ensures { IfOk result (λ row. MatchOption row (IsNoRow text.now) (λ octets. IsRow text.now octets.items)) }
+    ensures { IfOk result (λ row. MatchOption row (IsNoRow text.now)
+        (λ octets. IsRow text.now octets.items)) }
 {
     let mut octets = Vec::new(alloc);
     let mut seen = 0;

@@ -145,11 +145,14 @@ pub(crate) fn finish_block<R: Read>(
     requires within { have ≤ head.size }
     requires head { IsBlockHead section.old.order (take have room.old) head }
     ensures room { length room.new ≡ 262172 }
-    ensures ok { (unread : Option (List ℕ)) → Consumes unread (R.remaining reader.old) (take have room.old)
+    ensures ok { (unread : Option (List ℕ))
+        → Consumes unread (R.remaining reader.old) (take have room.old)
         → IfOk result (IsNextBlock (take have room.old) (section_of section.old)
         (section_of section.new) room.new unread (R.remaining reader.new)) }
-    ensures err { (unread : Option (List ℕ)) → Consumes unread (R.remaining reader.old) (take have room.old)
-        → IfErr result (StopsItem (of_section (section_of section.old)) unread (R.remaining reader.new)) }
+    ensures err { (unread : Option (List ℕ))
+        → Consumes unread (R.remaining reader.old) (take have room.old)
+        → IfErr result (StopsItem (of_section (section_of section.old)) unread
+        (R.remaining reader.new)) }
 {
     let Ok(whole) = read_rest(reader, head, have, room) else {
         return Err(CaptureFault::CannotRead);

@@ -220,10 +220,12 @@ fn write_item<P: Printer, L: Write, N: Write>(
     requires below { IsBelow (counts_of passed.old) 18446744073709551615 }
     ensures ok { IfOk result
         (λ next. WritesItem (P.prints printer.old) ports.now
-        (option_map (λ h. record_of h room.now) packet) number next (counts_of passed.old) (counts_of passed.new)
+        (option_map (λ h. record_of h room.now) packet) number next
+        (counts_of passed.old) (counts_of passed.new)
         (L.contents log.old) (L.contents log.new) (N.contents notes.old) (N.contents notes.new)) }
     ensures err { IfErr result
-        (StopsWrite (P.prints printer.old) ports.now (option_map (λ h. record_of h room.now) packet) number
+        (StopsWrite (P.prints printer.old) ports.now
+        (option_map (λ h. record_of h room.now) packet) number
         (counts_of passed.old).datagrams (L.contents log.old) (L.contents log.new) (N.contents notes.old)
         (N.contents notes.new)) }
     ensures keeps { PrintsAs (P.prints printer.new) (P.prints printer.old) }
@@ -309,7 +311,8 @@ pub fn write_datagrams<R: Read, L: Write, N: Write>(
     log: &mut L,
     notes: &mut N,
 ) -> Result<Tally, CaptureFault>
-    ensures ok { IfOk result (λ passed. IfSome (R.remaining reader.old) (λ capture. (lines : List ℕ) × (tells : List ℕ)
+    ensures ok { IfOk result (λ passed. IfSome (R.remaining reader.old)
+        (λ capture. (lines : List ℕ) × (tells : List ℕ)
         × IsLogOf PrintsLine ports.now capture lines tells (counts_of passed)
         × Appends (L.contents log.old) (L.contents log.new) lines
         × Appends (N.contents notes.old) (N.contents notes.new) tells)) }

@@ -126,7 +126,8 @@ fn read_record_item<R: Read>(
     ensures ok { IfOk result
         (IsNext (of_header header) (of_header header) room.new (R.remaining reader.old)
         (R.remaining reader.new)) }
-    ensures err { IfErr result (StopsItem (of_header header) (R.remaining reader.old) (R.remaining reader.new)) }
+    ensures err { IfErr result (StopsItem (of_header header)
+        (R.remaining reader.old) (R.remaining reader.new)) }
 {
     match read_record(reader, header, room) {
         Ok(next) => Ok(next),
@@ -145,7 +146,8 @@ pub(crate) fn read_item<R: Read>(
     ensures ok { IfOk result
         (IsNext (state_of format.old) (state_of format.new) room.new (R.remaining reader.old)
         (R.remaining reader.new)) }
-    ensures err { IfErr result (StopsItem (state_of format.old) (R.remaining reader.old) (R.remaining reader.new)) }
+    ensures err { IfErr result (StopsItem (state_of format.old)
+        (R.remaining reader.old) (R.remaining reader.new)) }
 {
     match format {
         Format::Pcap(header) => read_record_item(reader, *header, room),

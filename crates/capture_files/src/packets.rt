@@ -76,7 +76,8 @@ pub fn packets_log<P: Printer>(
 ) -> Result<PacketLog, AllocError>
     ensures { IfOk result
         (λ told. ComeTo (P.prints printer.old) ports.now moment
-        (map (λ packet. packet.items) packets.now) told.log.items told.notes.items (counts_of told.passed)) }
+        (map (λ packet. packet.items) packets.now) told.log.items told.notes.items
+        (counts_of told.passed)) }
 {
     let mut passed = Tally::none(alloc)?;
     let mut log = Vec::new(alloc);

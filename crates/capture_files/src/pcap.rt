@@ -146,7 +146,8 @@ pub(crate) fn read_record<R: Read>(
     ensures ok { IfOk result
         (IsNext (of_header header) (of_header header) room.new (R.remaining reader.old)
         (R.remaining reader.new)) }
-    ensures err { OnErr result (ReadsPart header (R.remaining reader.old) (R.remaining reader.new)) }
+    ensures err { OnErr result (ReadsPart header (R.remaining reader.old)
+        (R.remaining reader.new)) }
 {
     let mut octets = [0u8; HEAD];
     let Ok(count) = read_full(reader, &mut octets) else {

@@ -154,7 +154,8 @@ fn read_interface(head: BlockHead, front: &[u8]) -> Option<Interface>
     requires front { length front.now ≡ min head.size 262172 }
     requires least { 12 ≤ head.size }
     ensures found { IfSome result (IsInterface head.order front.now head.size) }
-    ensures none { IfNone result ((i : InterfaceIs) → IsInterface head.order front.now head.size i → ⊥) }
+    ensures none { IfNone result ((i : InterfaceIs)
+        → IsInterface head.order front.now head.size i → ⊥) }
 {
     if head.size < 20 || head.size > ROOM {
         return None;
@@ -172,7 +173,8 @@ impl Section {
         requires least { least_size front.now ≤ head.size }
         ensures ok { IfOk result
             (IsMeaning (section_of self.old) head.order front.now head.size (section_of self.new)) }
-        ensures err { OnErr result (TakesInterface (section_of self.old) head.order front.now head.size) }
+        ensures err { OnErr result (TakesInterface
+            (section_of self.old) head.order front.now head.size) }
     {
         match block_kind(head.order, front) {
             Kind::Section => Ok(self.begin(head.order, front)),
@@ -209,8 +211,10 @@ impl Section {
     fn read_packet(&self, head: BlockHead, front: &[u8]) -> Option<Head>
         requires front { length front.now ≡ min head.size 262172 }
         requires least { 12 ≤ head.size }
-        ensures found { IfSome result (IsPacketHead (section_of self.now) head.order front.now head.size) }
-        ensures none { IfNone result (IsNotPacket (section_of self.now) head.order front.now head.size) }
+        ensures found { IfSome result (IsPacketHead
+            (section_of self.now) head.order front.now head.size) }
+        ensures none { IfNone result (IsNotPacket
+            (section_of self.now) head.order front.now head.size) }
     {
         if head.size < 32 {
             return None;

@@ -37,7 +37,8 @@ pub trait Printer {
         datagram: &[u8],
     ) -> Result<Printed, AllocError>
         ensures ok { IfOk result
-            (λ printed. prints self.old number moment datagram.now printed.text.items printed.refused) }
+            (λ printed. prints self.old number moment datagram.now
+            printed.text.items printed.refused) }
         ensures keeps { PrintsAs (prints self.new) (prints self.old) };
 }
 

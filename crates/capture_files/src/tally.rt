@@ -116,7 +116,8 @@ fn push_part(
     count: u64,
 ) -> Result<(), AllocError>
     ensures { OnOk result
-        (map string_bytes parts.new.items ≡ map string_bytes parts.old.items ++ count_part word.now count) }
+        (map string_bytes parts.new.items
+        ≡ map string_bytes parts.old.items ++ count_part word.now count) }
 {
     if count == 0 {
         return Ok(());
@@ -147,7 +148,8 @@ fn push_link(
 /// Adds the types of links that were met, in the order of their numbers.
 fn push_links(alloc: Global, parts: &mut Vec<String>, counts: &[u64]) -> Result<(), AllocError>
     ensures { OnOk result
-        (map string_bytes parts.new.items ≡ map string_bytes parts.old.items ++ link_parts 0 counts.now) }
+        (map string_bytes parts.new.items
+        ≡ map string_bytes parts.old.items ++ link_parts 0 counts.now) }
 {
     for link in 0..counts.len() {
         push_link(alloc, parts, link, counts[link])?;

@@ -112,7 +112,8 @@ impl Clocks {
 
     /// Whether each engine that is held is below this one.
     pub(crate) fn all_below(&self, engine: &EngineId) -> bool
-        ensures { result ≡ list_all (λ e. is_lt (engine_cmp e.0 engine.now)) (map.entries self.now) }
+        ensures { result ≡ list_all (λ e. is_lt (engine_cmp e.0 engine.now))
+            (map.entries self.now) }
     {
         match self.marks.last_key_value() {
             Some((last, _)) => last.cmp(engine).is_lt(),
@@ -160,7 +161,8 @@ fn holds_all(clocks: &Clocks, marks: &BTreeMap<EngineId, Mark>) -> bool
 #[tactic(auto, using(crate::proofs::Absorbing::all_held))]
 fn join_all(clocks: &mut Clocks, marks: &BTreeMap<EngineId, Mark>) -> Result<(), AllocError>
     ensures held { HoldsAll clocks.old (map.from_entries marks.now.entries) → IsOk result }
-    ensures joined { OnOk result (IsMarkJoinOf clocks.old (map.from_entries marks.now.entries) clocks.new) }
+    ensures joined { OnOk result (IsMarkJoinOf clocks.old
+        (map.from_entries marks.now.entries) clocks.new) }
 {
     for (engine, mark) in marks {
         clocks.join_in(engine.clone()?, *mark)?;

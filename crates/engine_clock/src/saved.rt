@@ -75,8 +75,10 @@ impl Clocks {
 /// Reads the lines after the heading.
 fn read_lines(alloc: Global, text: &[u8], rest: &[u8], form: Form) -> Result<Clocks, ClockFault>
     requires { text.now ≡ heading_in form ++ rest.now }
-    ensures read { IfOk result (λ clocks. Lists (heading_in form) (line_in form) (FitsIn form) text.now clocks) }
-    ensures all { (marks : Marks) → Lists (heading_in form) (line_in form) (FitsIn form) text.now marks
+    ensures read { IfOk result (λ clocks. Lists (heading_in form)
+        (line_in form) (FitsIn form) text.now clocks) }
+    ensures all { (marks : Marks) → Lists (heading_in form)
+        (line_in form) (FitsIn form) text.now marks
         → GivesBack marks result }
     ensures fault { IfErr result (IsFaultIn form text.now) }
 {
@@ -101,7 +103,8 @@ fn read_lines(alloc: Global, text: &[u8], rest: &[u8], form: Form) -> Result<Clo
 
 /// Appends a line for each engine.
 fn push_lines(text: &mut String, marks: &BTreeMap<EngineId, Mark>) -> Result<(), AllocError>
-    ensures { OnOk result (string_bytes text.new ≡ string_bytes text.old ++ flat_map line marks.now.entries) }
+    ensures { OnOk result (string_bytes text.new
+        ≡ string_bytes text.old ++ flat_map line marks.now.entries) }
 {
     for (engine, mark) in marks {
         let pair = mark.pair;
@@ -123,7 +126,8 @@ pub(crate) enum Form {
 fn read_line(text: &[u8], form: Form) -> Option<(EngineId, Mark, &[u8])>
     ensures entry { IfSome result (λ r. FitsIn form (r.0, r.1)) }
     ensures found { IfSome result (λ r. text.now ≡ line_in form (r.0, r.1) ++ r.2.now) }
-    ensures none { IfNone result ((e : Entry) (rest : List ℕ) → FitsIn form e → text.now ≢ line_in form e ++ rest) }
+    ensures none { IfNone result ((e : Entry) (rest : List ℕ) → FitsIn form e
+        → text.now ≢ line_in form e ++ rest) }
 {
     let (engine, text) = split_once(text, b' ')?;
     let (boots, text) = split_once(text, b' ')?;
@@ -180,8 +184,10 @@ fn has_capital(text: &[u8]) -> bool
 
 /// Reads boots and time.
 fn read_pair(boots: &[u8], time: &[u8]) -> Option<Pair>
-    ensures found { IfSome result (λ p. (boots.now ≡ decimal p.boots) × (time.now ≡ decimal p.time)) }
-    ensures all { (p : BootsAndTime) → IsPair p → boots.now ≡ decimal p.boots → time.now ≡ decimal p.time
+    ensures found { IfSome result (λ p. (boots.now ≡ decimal p.boots)
+        × (time.now ≡ decimal p.time)) }
+    ensures all { (p : BootsAndTime) → IsPair p → boots.now ≡ decimal p.boots
+        → time.now ≡ decimal p.time
         → result ≡ Some p }
 {
     let boots = read_number(boots)?;

@@ -139,7 +139,8 @@ impl Agent {
     pub fn take<'a>(&mut self, now: u64, datagram: &'a [u8]) -> Result<Taken<'a>, Refused>
         ensures takes { AgentTakes self.old now datagram.now (taken_answer result) self.new }
         ensures report { IfErr result
-            (λ r. AgentReports self.new now datagram.now (in_table r.why.refusal) (report_of r.report)) }
+            (λ r. AgentReports self.new now datagram.now (in_table r.why.refusal)
+            (report_of r.report)) }
         ensures no_memory { (IsOpened (taker_of self.old) self.old.users now datagram.now → ⊥)
             → (OffersOnAnswer (taker_of self.old) self.old.users now datagram.now → ⊥)
             → IsSome (taken_answer result) }
@@ -180,7 +181,8 @@ impl Agent {
     /// (isAccessAllowed, RFC 3415, section 3). The context's engine isn't looked at. It takes no memory.
     pub fn allows(&self, taken: &Taken<'_>, view: ViewType, variable: &Oid) -> Access
         ensures { (c : Contexts) → ScopedFront (text_of taken.now.text) c
-            → Allowed self.now.tables (question_of (given_of taken.now) c) view variable.now result }
+            → Allowed self.now.tables (question_of (given_of taken.now) c)
+            view variable.now result }
     {
         one_content();
         let scoped = taken.scoped();
@@ -204,7 +206,8 @@ impl Agent {
         view: ViewType,
         variable: &Oid,
     ) -> Access
-        ensures { Allowed self.now.tables (question user.now level context.now) view variable.now result }
+        ensures { Allowed self.now.tables
+            (question user.now level context.now) view variable.now result }
     {
         self.vacm
             .is_access_allowed(USER_BASED, user, level, view, context, variable)
@@ -216,9 +219,11 @@ impl Agent {
     /// memory.
     pub fn decide(&self, taken: &Taken<'_>) -> Result<Decision, AllocError>
         ensures decision { IfOk result
-            (λ d. (c : Contexts) (p : PduParts) → ScopedFront (text_of taken.now.text) c → PduText c.pdu p
+            (λ d. (c : Contexts) (p : PduParts) → ScopedFront (text_of taken.now.text) c
+            → PduText c.pdu p
             → IsDecision self.now.tables (given_of taken.now) c p d) }
-        ensures no_memory { taken.now.tag ≢ pdu_tag GetRequest → taken.now.tag ≢ pdu_tag SetRequest → IsOk result }
+        ensures no_memory { taken.now.tag ≢ pdu_tag GetRequest
+            → taken.now.tag ≢ pdu_tag SetRequest → IsOk result }
     {
         one_content();
         one_pdu();
@@ -263,18 +268,22 @@ impl Agent {
         salt: [u8; 8],
     ) -> Result<Vec<u8>, RefusedAt>
         requires { All (λ b. CanBeWritten (variable_of b)) bindings.now }
-        ensures answer { (c : Contexts) (p : PduParts) → ScopedFront (text_of taken.now.text) c → PduText c.pdu p
+        ensures answer { (c : Contexts) (p : PduParts)
+            → ScopedFront (text_of taken.now.text) c → PduText c.pdu p
             → IfSome (seal_answer result)
-            (Sends self.old now (λ own. responding self.old.engine own (given_of taken.now) c p status index
+            (Sends self.old now (λ own. responding self.old.engine own
+            (given_of taken.now) c p status index
             (map variable_of bindings.now) salt)) }
 
         // The refusals before the text come before want of memory.
-        ensures memory { (c : Contexts) (p : PduParts) → ScopedFront (text_of taken.now.text) c → PduText c.pdu p
+        ensures memory { (c : Contexts) (p : PduParts)
+            → ScopedFront (text_of taken.now.text) c → PduText c.pdu p
             → IsRefused result OutOfMemory
             → CanBeSent self.old now
             (λ own. responding self.old.engine own (given_of taken.now) c p status index
             (map variable_of bindings.now) salt) }
-        ensures accepted { (c : Contexts) (p : PduParts) → ScopedFront (text_of taken.now.text) c → PduText c.pdu p
+        ensures accepted { (c : Contexts) (p : PduParts)
+            → ScopedFront (text_of taken.now.text) c → PduText c.pdu p
             → IfOk result (λ text. IsAcceptedByManagers self.old.users
             (response self.old.engine (own_pair self.old.boots self.old.started now)
             (given_of taken.now) c p status index (map variable_of bindings.now) salt) text.items) }
@@ -297,16 +306,20 @@ impl Agent {
         salt: [u8; 8],
     ) -> Result<Vec<u8>, RefusedAt>
         requires { All (λ b. B.fits b) bindings.now }
-        ensures answer { (c : Contexts) (p : PduParts) → ScopedFront (text_of taken.now.text) c → PduText c.pdu p
+        ensures answer { (c : Contexts) (p : PduParts)
+            → ScopedFront (text_of taken.now.text) c → PduText c.pdu p
             → IfSome (seal_answer result)
-            (Sends self.old now (λ own. responding self.old.engine own (given_of taken.now) c p status index
+            (Sends self.old now (λ own. responding self.old.engine own
+            (given_of taken.now) c p status index
             (map B.says bindings.now) salt)) }
-        ensures memory { (c : Contexts) (p : PduParts) → ScopedFront (text_of taken.now.text) c → PduText c.pdu p
+        ensures memory { (c : Contexts) (p : PduParts)
+            → ScopedFront (text_of taken.now.text) c → PduText c.pdu p
             → IsRefused result OutOfMemory
             → CanBeSent self.old now
             (λ own. responding self.old.engine own (given_of taken.now) c p status index
             (map B.says bindings.now) salt) }
-        ensures accepted { (c : Contexts) (p : PduParts) → ScopedFront (text_of taken.now.text) c → PduText c.pdu p
+        ensures accepted { (c : Contexts) (p : PduParts)
+            → ScopedFront (text_of taken.now.text) c → PduText c.pdu p
             → IfOk result (λ text. IsAcceptedByManagers self.old.users
             (response self.old.engine (own_pair self.old.boots self.old.started now)
             (given_of taken.now) c p status index (map B.says bindings.now) salt) text.items) }
@@ -350,7 +363,8 @@ impl Agent {
         requires tag { body.now.tag ≡ pdu_tag SNMPv2Trap }
         requires body { BodyFits body.now }
         ensures answer { IfSome (seal_answer result)
-            (Sends self.old now (λ own. notifying self.old.engine own id user.now level (front_in body.now)
+            (Sends self.old now (λ own. notifying self.old.engine own id user.now level
+            (front_in body.now)
             (variables_in body.now) salt)) }
 
         // The refusals before the text come before want of memory.
@@ -388,7 +402,8 @@ impl Agent {
             (map B.says bindings.now) salt)) }
         ensures memory { IsRefused result OutOfMemory
             → CanBeSent self.old now
-            (λ own. notifying self.old.engine own id user.now level front.now (map B.says bindings.now) salt) }
+            (λ own. notifying self.old.engine own id user.now level front.now
+            (map B.says bindings.now) salt) }
         ensures accepted { IfOk result (λ text. IsAcceptedByManagers self.old.users
             (notification self.old.engine (own_pair self.old.boots self.old.started now) id user.now level front.now
             (map B.says bindings.now) salt) text.items) }

@@ -12,7 +12,8 @@ use vacm_core::{Access, Vacm, ViewType};
 
 /// The view by which a PDU with this tag is decided: the read view for a GetRequest, the write view for a SetRequest.
 pub(crate) fn view_for(tag: u8) -> Option<ViewType>
-    ensures { MatchOption result ((tag ≢ pdu_tag PduType.GetRequest) × (tag ≢ pdu_tag PduType.SetRequest))
+    ensures { MatchOption result ((tag ≢ pdu_tag PduType.GetRequest)
+        × (tag ≢ pdu_tag PduType.SetRequest))
         (IsDecidedBy tag) }
 {
     if tag == PduType::GetRequest.tag() {
@@ -34,7 +35,8 @@ pub(crate) fn answers(
     pdu: &Pdu<'_>,
 ) -> Result<Vec<Access>, AllocError>
     ensures { IfOk result (λ answers. (vs : List Variable) → AreBindings vs pdu.now.list.now
-        → AreAnswers vacm.now (question taken.now.user.now taken.now.level context.now) view vs answers.items) }
+        → AreAnswers vacm.now (question taken.now.user.now taken.now.level context.now)
+        view vs answers.items) }
 {
     let mut answers = Vec::new(alloc);
     for binding in pdu.variable_bindings() {

@@ -30,7 +30,8 @@ pub fn write_counter_report(
     ensures rows { IfSome (seal_answer result)
         (Seals users.old.users (sent_with envelope.now (counter_scoped engine.now request_id name value))) }
     ensures memory { IsRefused result OutOfMemory
-        → IsSealable users.old.users (sent_with envelope.now (counter_scoped engine.now request_id name value)) }
+        → IsSealable users.old.users (sent_with envelope.now
+        (counter_scoped engine.now request_id name value)) }
     ensures short { IsRefused result TooLarge
         → LARGEST < 150 + length envelope.now.engine.now + length envelope.now.user.now
         + length (counter_scoped engine.now request_id name value) }

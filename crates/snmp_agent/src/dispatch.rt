@@ -43,7 +43,8 @@ impl Agent {
     /// Counts a request in snmpSilentDrops: it has no answer, since even the one without bindings is too long
     /// (RFC 3416, section 4.2.1).
     pub fn silent_drop(&mut self)
-        ensures { self.new ≡ record self.old { counts = one_more self.old.counts (Some SilentDrops) } }
+        ensures { self.new ≡ record self.old
+            { counts = one_more self.old.counts (Some SilentDrops) } }
     {
         self.counts = one_more(self.counts, Some(Counter::SilentDrops));
     }
@@ -53,7 +54,8 @@ impl Agent {
     /// GetRequest, GetNextRequest, SetRequest or GetBulkRequest; UnknownContexts, where no context has its
     /// name. None where it is to be answered. It takes no memory.
     pub fn unhandled(&self, taken: &Taken<'_>) -> Option<Unhandled>
-        ensures { (c : Contexts) (p : PduParts) → ScopedFront (text_of taken.now.text) c → PduText c.pdu p
+        ensures { (c : Contexts) (p : PduParts) → ScopedFront (text_of taken.now.text) c
+            → PduText c.pdu p
             → HandledBy self.now.engine self.now.tables c p result }
     {
         one_content();
@@ -65,7 +67,8 @@ impl Agent {
 
     /// The same of a ScopedPDU and its PDU.
     fn handled_by(&self, scoped: &Scoped<'_>, pdu: &Pdu<'_>) -> Option<Unhandled>
-        ensures { HandledBy self.now.engine self.now.tables (contexts_of scoped.now) (pdu_of pdu.now) result }
+        ensures { HandledBy self.now.engine self.now.tables
+            (contexts_of scoped.now) (pdu_of pdu.now) result }
     {
         if is_response(pdu.tag) {
             return Some(Unhandled::NoRequest);
@@ -95,12 +98,14 @@ impl Agent {
         why: Unhandled,
         salt: [u8; 8],
     ) -> Result<Option<Vec<u8>>, RefusedAt>
-        ensures answer { (c : Contexts) (p : PduParts) → ScopedFront (text_of taken.now.text) c → PduText c.pdu p
+        ensures answer { (c : Contexts) (p : PduParts)
+            → ScopedFront (text_of taken.now.text) c → PduText c.pdu p
             → IfSome (refusing_answer result)
             (λ answer. Refuses self.old now (given_of taken.now) p why salt answer self.new) }
 
         // There is a report, and the refusals before its text come before want of memory.
-        ensures memory { (c : Contexts) (p : PduParts) → ScopedFront (text_of taken.now.text) c → PduText c.pdu p
+        ensures memory { (c : Contexts) (p : PduParts)
+            → ScopedFront (text_of taken.now.text) c → PduText c.pdu p
             → IsRefused result OutOfMemory
             → RefusalCanBeSent self.old now (given_of taken.now) p why salt }
         ensures err { OnErr result (self.new ≡ self.old) }
@@ -121,7 +126,8 @@ impl Agent {
         salt: [u8; 8],
     ) -> Result<Option<Vec<u8>>, RefusedAt>
         ensures answer { IfSome (refusing_answer result)
-            (λ answer. Refuses self.old now (given_of taken.now) (pdu_of pdu.now) why salt answer self.new) }
+            (λ answer. Refuses self.old now (given_of taken.now)
+            (pdu_of pdu.now) why salt answer self.new) }
         ensures memory { IsRefused result OutOfMemory
             → RefusalCanBeSent self.old now (given_of taken.now) (pdu_of pdu.now) why salt }
         ensures err { OnErr result (self.new ≡ self.old) }
@@ -169,26 +175,30 @@ impl Agent {
         limit: usize,
     ) -> Result<Vec<u8>, RefusedAt>
         requires { All (λ b. CanBeWritten (variable_of b)) bindings.now }
-        ensures answer { (c : Contexts) (p : PduParts) → ScopedFront (text_of taken.now.text) c → PduText c.pdu p
+        ensures answer { (c : Contexts) (p : PduParts)
+            → ScopedFront (text_of taken.now.text) c → PduText c.pdu p
             → IfSome (seal_answer result)
             (UpTo limit (Sends self.old now
             (λ own. responding self.old.engine own (given_of taken.now) c p status index
             (map variable_of bindings.now) salt))) }
 
         // The refusals before the text come before want of memory.
-        ensures memory { (c : Contexts) (p : PduParts) → ScopedFront (text_of taken.now.text) c → PduText c.pdu p
+        ensures memory { (c : Contexts) (p : PduParts)
+            → ScopedFront (text_of taken.now.text) c → PduText c.pdu p
             → IsRefused result OutOfMemory
             → CanBeSent self.old now
             (λ own. responding self.old.engine own (given_of taken.now) c p status index
             (map variable_of bindings.now) salt) }
 
         // What is too long is told before memory is asked for.
-        ensures counted { (c : Contexts) (p : PduParts) → ScopedFront (text_of taken.now.text) c → PduText c.pdu p
+        ensures counted { (c : Contexts) (p : PduParts)
+            → ScopedFront (text_of taken.now.text) c → PduText c.pdu p
             → IsRefused result OutOfMemory
             → IsBeyond self.old.users (room limit)
             (responding self.old.engine (own_pair self.old.boots self.old.started now) (given_of taken.now) c p
             status index (map variable_of bindings.now) salt) → ⊥ }
-        ensures accepted { (c : Contexts) (p : PduParts) → ScopedFront (text_of taken.now.text) c → PduText c.pdu p
+        ensures accepted { (c : Contexts) (p : PduParts)
+            → ScopedFront (text_of taken.now.text) c → PduText c.pdu p
             → IfOk result (λ text. IsAcceptedByManagers self.old.users
             (response self.old.engine (own_pair self.old.boots self.old.started now)
             (given_of taken.now) c p status index (map variable_of bindings.now) salt) text.items) }
@@ -211,24 +221,28 @@ impl Agent {
         limit: usize,
     ) -> Result<Vec<u8>, RefusedAt>
         requires { All (λ b. B.fits b) bindings.now }
-        ensures answer { (c : Contexts) (p : PduParts) → ScopedFront (text_of taken.now.text) c → PduText c.pdu p
+        ensures answer { (c : Contexts) (p : PduParts)
+            → ScopedFront (text_of taken.now.text) c → PduText c.pdu p
             → IfSome (seal_answer result)
             (UpTo limit (Sends self.old now
             (λ own. responding self.old.engine own (given_of taken.now) c p status index
             (map B.says bindings.now) salt))) }
-        ensures memory { (c : Contexts) (p : PduParts) → ScopedFront (text_of taken.now.text) c → PduText c.pdu p
+        ensures memory { (c : Contexts) (p : PduParts)
+            → ScopedFront (text_of taken.now.text) c → PduText c.pdu p
             → IsRefused result OutOfMemory
             → CanBeSent self.old now
             (λ own. responding self.old.engine own (given_of taken.now) c p status index
             (map B.says bindings.now) salt) }
 
         // What is too long is told before memory is asked for.
-        ensures counted { (c : Contexts) (p : PduParts) → ScopedFront (text_of taken.now.text) c → PduText c.pdu p
+        ensures counted { (c : Contexts) (p : PduParts)
+            → ScopedFront (text_of taken.now.text) c → PduText c.pdu p
             → IsRefused result OutOfMemory
             → IsBeyond self.old.users (room limit)
             (responding self.old.engine (own_pair self.old.boots self.old.started now) (given_of taken.now) c p
             status index (map B.says bindings.now) salt) → ⊥ }
-        ensures accepted { (c : Contexts) (p : PduParts) → ScopedFront (text_of taken.now.text) c → PduText c.pdu p
+        ensures accepted { (c : Contexts) (p : PduParts)
+            → ScopedFront (text_of taken.now.text) c → PduText c.pdu p
             → IfOk result (λ text. IsAcceptedByManagers self.old.users
             (response self.old.engine (own_pair self.old.boots self.old.started now)
             (given_of taken.now) c p status index (map B.says bindings.now) salt) text.items) }
@@ -272,16 +286,19 @@ impl Agent {
         limit: usize,
     ) -> Result<Fronted, RefusedAt>
         requires { All (λ b. B.fits b) bindings.now }
-        ensures answer { (c : Contexts) (p : PduParts) → ScopedFront (text_of taken.now.text) c → PduText c.pdu p
+        ensures answer { (c : Contexts) (p : PduParts)
+            → ScopedFront (text_of taken.now.text) c → PduText c.pdu p
             → IfSome (front_answer result)
             (SendsFront self.old now limit
             (λ own vs. responding self.old.engine own (given_of taken.now) c p status index vs salt)
             (map B.says bindings.now)) }
-        ensures memory { (c : Contexts) (p : PduParts) → ScopedFront (text_of taken.now.text) c → PduText c.pdu p
+        ensures memory { (c : Contexts) (p : PduParts)
+            → ScopedFront (text_of taken.now.text) c → PduText c.pdu p
             → IsRefused result OutOfMemory
             → CanBeSent self.old now
             (λ own. responding self.old.engine own (given_of taken.now) c p status index [] salt) }
-        ensures accepted { (c : Contexts) (p : PduParts) → ScopedFront (text_of taken.now.text) c → PduText c.pdu p
+        ensures accepted { (c : Contexts) (p : PduParts)
+            → ScopedFront (text_of taken.now.text) c → PduText c.pdu p
             → IfOk result (λ f. IsAcceptedByManagers self.old.users
             (response self.old.engine (own_pair self.old.boots self.old.started now)
             (given_of taken.now) c p status index (take f.count (map B.says bindings.now)) salt) f.text.items) }

@@ -25,7 +25,8 @@ impl Engine {
     /// where the time would be above 2147483647.
     pub(crate) fn pair(&self, now: u64) -> Option<Pair>
         ensures { MatchOption result (pair_max < now - self.now.started)
-            (λ pair. (now - self.now.started ≤ pair_max) × (pair ≡ own_pair self.now.boots self.now.started now)
+            (λ pair. (now - self.now.started ≤ pair_max)
+            × (pair ≡ own_pair self.now.boots self.now.started now)
             × IsPair pair) }
     {
         let time = now.saturating_sub(self.started);

@@ -21,7 +21,8 @@ use usm_core::{Checked, Layout, Role, Users, verified_was_read};
 /// Without auth, or inside the agent's window (RFC 3414, section 3.2, step 7).
 fn is_in_window(own: Pair, checked: &Checked<'_>) -> bool
     ensures { IsTrue result
-        ↔ (checked.now.message.header.auth ≡ true → InAgentWindow own (pair_in (verified_of checked.now))) }
+        ↔ (checked.now.message.header.auth ≡ true
+        → InAgentWindow own (pair_in (verified_of checked.now))) }
 {
     let pair = Pair {
         boots: checked.security.boots,
@@ -41,7 +42,8 @@ pub(crate) fn judge<'a>(
 ) -> Result<Taken<'a>, RefusedAt>
     requires rows { ReadsLayout datagram.now (layout_answer read.now) }
     requires layout { IfOk read.now (IsLayoutOf datagram.now) }
-    ensures rows { IfSome (answer_of result) (Outcome (taker_at engine.now) users.old.users now datagram.now) }
+    ensures rows { IfSome (answer_of result)
+        (Outcome (taker_at engine.now) users.old.users now datagram.now) }
     ensures memory { IsRefused result OutOfMemory
         → IsOpened (taker_at engine.now) users.old.users now datagram.now }
 

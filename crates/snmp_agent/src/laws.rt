@@ -29,12 +29,14 @@ use vacm_core::laws::order_is_free;
 /// that user, with the same ScopedPDU given on, exactly where its pair is in the window of what the manager
 /// holds once it has learned the pair; at noAuthNoPriv always.
 pub fn notification_is_accepted()
-    ensures { (senders users : List User) (held : Marks) (now : ℕ) (engine : List ℕ) (own : BootsAndTime) (id : ℕ)
+    ensures { (senders users : List User) (held : Marks) (now : ℕ)
+        (engine : List ℕ) (own : BootsAndTime) (id : ℕ)
         (user : List ℕ) (level : Level) (front : Said) (vs : List Variable) (salt text : List ℕ)
         → SpeechFits (notification engine own id user level front vs salt)
         → HasSameUser manager senders users user level
         → Seals senders (notifying engine own id user level front vs salt) (Ok text)
-        → IsTakenInTime (as_manager held) users now text (notifying engine own id user level front vs salt)
+        → IsTakenInTime (as_manager held) users now text
+        (notifying engine own id user level front vs salt)
         (spoken_contexts (notification engine own id user level front vs salt)) (pdu_after front vs) }
 {
     spoken_is_accepted();
@@ -45,11 +47,14 @@ pub fn notification_is_accepted()
 pub fn agents_decide_alike()
     ensures defined { (rows : Tables) (agent : AgentState) → HoldsRows rows agent
         → (requester : Requester) (view : Asked) (variable : List ℕ) (answer : Answer)
-        → Allowed agent.tables requester view variable answer → Allowed rows requester view variable answer }
-    ensures alike { (rows others : Tables) (a b : AgentState) → AreSound rows → HaveSameRows rows others
+        → Allowed agent.tables requester view variable answer
+        → Allowed rows requester view variable answer }
+    ensures alike { (rows others : Tables) (a b : AgentState)
+        → AreSound rows → HaveSameRows rows others
         → HoldsRows rows a → HoldsRows others b
         → (requester : Requester) (view : Asked) (variable : List ℕ) (answer other : Answer)
-        → Allowed a.tables requester view variable answer → Allowed b.tables requester view variable other
+        → Allowed a.tables requester view variable answer
+        → Allowed b.tables requester view variable other
         → answer ≡ other }
 {
     order_is_free();

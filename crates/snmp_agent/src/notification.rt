@@ -51,7 +51,8 @@ pub(crate) fn write_notification<B: Spelled>(
         (notifying engine.now own to.now.id to.now.user.now to.now.level front.now
         (map B.says bindings.now) to.now.salt) }
     ensures fits { IfOk result
-        (λ _. SpeechFits (notification engine.now own to.now.id to.now.user.now to.now.level front.now
+        (λ _. SpeechFits (notification engine.now own to.now.id
+        to.now.user.now to.now.level front.now
         (map B.says bindings.now) to.now.salt)) }
     ensures users { users.new.users ≡ users.old.users }
 {

@@ -92,7 +92,8 @@ fn write_report(
     requires known { n ≡ 2 → HasUserAt users.old.users asking.now.user.now AuthNoPriv }
     ensures users { users.new.users ≡ users.old.users }
     ensures text { IfOk result
-        (λ text. SealedText users.old.users (reporting_of engine.now own n asking.now value) text.items) }
+        (λ text. SealedText users.old.users
+        (reporting_of engine.now own n asking.now value) text.items) }
 {
     let Some(name) = Oid::of(&counter_name(n)) else {
         unreachable!();

@@ -15,7 +15,8 @@ use usm_core::Layout;
 fn plain_pdu<'a>(datagram: &'a [u8], layout: &Layout<'_>) -> Option<Pdu<'a>>
     requires { IsLayoutOf datagram.now layout.now }
     ensures { MatchOption result (PlainPdu datagram.now (parts layout.now.message) → ⊥)
-        (λ pdu. (plain : PlainPdu datagram.now (parts layout.now.message)) × (plain.pdu ≡ pdu_of pdu)) }
+        (λ pdu. (plain : PlainPdu datagram.now (parts layout.now.message))
+        × (plain.pdu ≡ pdu_of pdu)) }
 {
     one_content();
     match layout.scoped {
@@ -31,7 +32,8 @@ fn plain_pdu<'a>(datagram: &'a [u8], layout: &Layout<'_>) -> Option<Pdu<'a>>
 fn copied_id(datagram: &[u8], layout: &Layout<'_>) -> Option<i32>
     requires { IsLayoutOf datagram.now layout.now }
     ensures { MatchOption result
-        ((plain : PlainPdu datagram.now (parts layout.now.message)) × (is_confirmed plain.pdu.tag ≡ false))
+        ((plain : PlainPdu datagram.now (parts layout.now.message))
+        × (is_confirmed plain.pdu.tag ≡ false))
         (IsCopied datagram.now (parts layout.now.message)) }
 {
     one_content();

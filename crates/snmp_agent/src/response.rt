@@ -69,10 +69,13 @@ fn envelope<'a>(
 /// What it says besides its bindings: the contexts and the request-id of what was taken.
 fn front<'a>(taken: &'a Taken<'_>, response: &Response) -> Front<'a>
     ensures tag { result.tag ≡ pdu_tag PduType.Response }
-    ensures pdu { (c : Contexts) (p : PduParts) (vs : List Variable) → ScopedFront (text_of taken.now.text) c
+    ensures pdu { (c : Contexts) (p : PduParts) (vs : List Variable)
+        → ScopedFront (text_of taken.now.text) c
         → PduText c.pdu p
-        → pdu_after result vs ≡ pdu_with (pdu_tag PduType.Response) p.id response.now.status response.now.index vs }
-    ensures scoped { (c : Contexts) (p : PduParts) (vs : List Variable) → ScopedFront (text_of taken.now.text) c
+        → pdu_after result vs ≡ pdu_with
+        (pdu_tag PduType.Response) p.id response.now.status response.now.index vs }
+    ensures scoped { (c : Contexts) (p : PduParts) (vs : List Variable)
+        → ScopedFront (text_of taken.now.text) c
         → PduText c.pdu p
         → scoped_after result vs
         ≡ scoped_text c.engine c.name
@@ -106,17 +109,20 @@ pub fn write_response<B: Spelled>(
 ) -> Result<Vec<u8>, RefusedAt>
     requires bindings { All (λ b. B.fits b) bindings.now }
     requires pair { IsPair own }
-    ensures rows { (c : Contexts) (p : PduParts) → ScopedFront (text_of taken.now.text) c → PduText c.pdu p
+    ensures rows { (c : Contexts) (p : PduParts)
+        → ScopedFront (text_of taken.now.text) c → PduText c.pdu p
         → IfSome (seal_answer result)
         (Seals users.old.users
         (responding engine.now own (given_of taken.now) c p response.now.status response.now.index
         (map B.says bindings.now) response.now.salt)) }
-    ensures memory { (c : Contexts) (p : PduParts) → ScopedFront (text_of taken.now.text) c → PduText c.pdu p
+    ensures memory { (c : Contexts) (p : PduParts)
+        → ScopedFront (text_of taken.now.text) c → PduText c.pdu p
         → IsRefused result OutOfMemory
         → IsSealable users.old.users
         (responding engine.now own (given_of taken.now) c p response.now.status response.now.index
         (map B.says bindings.now) response.now.salt) }
-    ensures fits { (c : Contexts) (p : PduParts) → ScopedFront (text_of taken.now.text) c → PduText c.pdu p
+    ensures fits { (c : Contexts) (p : PduParts)
+        → ScopedFront (text_of taken.now.text) c → PduText c.pdu p
         → IfOk result (λ _. SpeechFits
         (speech engine.now own (given_of taken.now) c p response.now.status response.now.index
         (map B.says bindings.now) response.now.salt)) }
@@ -141,26 +147,31 @@ pub fn write_response_within<B: Spelled>(
 ) -> Result<Vec<u8>, RefusedAt>
     requires bindings { All (λ b. B.fits b) bindings.now }
     requires pair { IsPair own }
-    ensures rows { (c : Contexts) (p : PduParts) → ScopedFront (text_of taken.now.text) c → PduText c.pdu p
+    ensures rows { (c : Contexts) (p : PduParts)
+        → ScopedFront (text_of taken.now.text) c → PduText c.pdu p
         → IfSome (seal_answer result)
         (UpTo limit (Seals users.old.users
         (responding engine.now own (given_of taken.now) c p response.now.status response.now.index
         (map B.says bindings.now) response.now.salt))) }
-    ensures sealed { (c : Contexts) (p : PduParts) → ScopedFront (text_of taken.now.text) c → PduText c.pdu p
+    ensures sealed { (c : Contexts) (p : PduParts)
+        → ScopedFront (text_of taken.now.text) c → PduText c.pdu p
         → IfOk result (λ text. Seals users.old.users
         (responding engine.now own (given_of taken.now) c p response.now.status response.now.index
         (map B.says bindings.now) response.now.salt) (Ok text.items)) }
-    ensures memory { (c : Contexts) (p : PduParts) → ScopedFront (text_of taken.now.text) c → PduText c.pdu p
+    ensures memory { (c : Contexts) (p : PduParts)
+        → ScopedFront (text_of taken.now.text) c → PduText c.pdu p
         → IsRefused result OutOfMemory
         → IsSealable users.old.users
         (responding engine.now own (given_of taken.now) c p response.now.status response.now.index
         (map B.says bindings.now) response.now.salt) }
-    ensures counted { (c : Contexts) (p : PduParts) → ScopedFront (text_of taken.now.text) c → PduText c.pdu p
+    ensures counted { (c : Contexts) (p : PduParts)
+        → ScopedFront (text_of taken.now.text) c → PduText c.pdu p
         → IsRefused result OutOfMemory
         → IsBeyond users.old.users (room limit)
         (responding engine.now own (given_of taken.now) c p response.now.status response.now.index
         (map B.says bindings.now) response.now.salt) → ⊥ }
-    ensures fits { (c : Contexts) (p : PduParts) → ScopedFront (text_of taken.now.text) c → PduText c.pdu p
+    ensures fits { (c : Contexts) (p : PduParts)
+        → ScopedFront (text_of taken.now.text) c → PduText c.pdu p
         → IfOk result (λ _. SpeechFits
         (speech engine.now own (given_of taken.now) c p response.now.status response.now.index
         (map B.says bindings.now) response.now.salt)) }
@@ -186,18 +197,21 @@ pub fn write_response_front<B: Spelled>(
 ) -> Result<Fronted, RefusedAt>
     requires bindings { All (λ b. B.fits b) bindings.now }
     requires pair { IsPair own }
-    ensures rows { (c : Contexts) (p : PduParts) → ScopedFront (text_of taken.now.text) c → PduText c.pdu p
+    ensures rows { (c : Contexts) (p : PduParts)
+        → ScopedFront (text_of taken.now.text) c → PduText c.pdu p
         → IfSome (front_answer result)
         (SealsFront users.old.users limit
         (λ vs. responding engine.now own
         (given_of taken.now) c p response.now.status response.now.index vs response.now.salt)
         (map B.says bindings.now)) }
-    ensures memory { (c : Contexts) (p : PduParts) → ScopedFront (text_of taken.now.text) c → PduText c.pdu p
+    ensures memory { (c : Contexts) (p : PduParts)
+        → ScopedFront (text_of taken.now.text) c → PduText c.pdu p
         → IsRefused result OutOfMemory
         → IsSealable users.old.users
         (responding engine.now own
         (given_of taken.now) c p response.now.status response.now.index [] response.now.salt) }
-    ensures fits { (c : Contexts) (p : PduParts) → ScopedFront (text_of taken.now.text) c → PduText c.pdu p
+    ensures fits { (c : Contexts) (p : PduParts)
+        → ScopedFront (text_of taken.now.text) c → PduText c.pdu p
         → IfOk result (λ f. SpeechFits
         (speech engine.now own (given_of taken.now) c p response.now.status response.now.index
         (take f.count (map B.says bindings.now)) response.now.salt)) }

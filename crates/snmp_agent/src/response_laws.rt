@@ -27,11 +27,14 @@ use usm_core::sealed_size;
 /// on, exactly where its pair is in the window of what the manager holds once it has learned the pair; at
 /// noAuthNoPriv always.
 pub fn response_is_accepted()
-    ensures { (senders users : List User) (held : Marks) (now : ℕ) (engine : List ℕ) (own : BootsAndTime) (g : Given)
+    ensures { (senders users : List User) (held : Marks) (now : ℕ)
+        (engine : List ℕ) (own : BootsAndTime) (g : Given)
         (c : Contexts) (p : PduParts) (status index : ℤ) (vs : List Variable) (salt text : List ℕ)
-        → SpeechFits (response engine own g c p status index vs salt) → HasSameUser manager senders users g.user g.level
+        → SpeechFits (response engine own g c p status index vs salt)
+        → HasSameUser manager senders users g.user g.level
         → Seals senders (responding engine own g c p status index vs salt) (Ok text)
-        → IsTakenInTime (as_manager held) users now text (responding engine own g c p status index vs salt)
+        → IsTakenInTime (as_manager held) users now text
+        (responding engine own g c p status index vs salt)
         (spoken_contexts (response engine own g c p status index vs salt))
         (pdu_with (pdu_tag Response) p.id status index vs) }
 {
@@ -40,10 +43,12 @@ pub fn response_is_accepted()
 
 /// A report has at most 484 octets, the least that a sender may say it can take (RFC 3412, section 6.3).
 pub fn report_is_short()
-    ensures { (users : List User) (engine : List ℕ) (own : BootsAndTime) (id : ℕ) (user : List ℕ) (request_id : ℤ)
+    ensures { (users : List User) (engine : List ℕ) (own : BootsAndTime)
+        (id : ℕ) (user : List ℕ) (request_id : ℤ)
         (n value : ℕ) (text : List ℕ)
         → length engine ≤ 32 → IsPair own → id ≤ MAX_INTEGER32 → length user ≤ 32
-        → SealedText users (reporting engine own id user request_id n value) text → length text ≤ 484 }
+        → SealedText users
+            (reporting engine own id user request_id n value) text → length text ≤ 484 }
 {
     one_element();
     sealed_size();
@@ -51,9 +56,11 @@ pub fn report_is_short()
 
 /// So has the report on an accepted message that isn't handled.
 pub fn refusal_is_short()
-    ensures { (users : List User) (engine : List ℕ) (own : BootsAndTime) (g : Given) (p : PduParts) (counter : Which)
+    ensures { (users : List User) (engine : List ℕ) (own : BootsAndTime)
+        (g : Given) (p : PduParts) (counter : Which)
         (value : ℕ) (salt text : List ℕ)
-        → length engine ≤ 32 → IsPair own → g.id ≤ MAX_INTEGER32 → length g.user ≤ 32 → length salt ≡ 8
+        → length engine ≤ 32 → IsPair own → g.id ≤ MAX_INTEGER32
+        → length g.user ≤ 32 → length salt ≡ 8
         → SealedText users (refusing engine own g p counter value salt) text → length text ≤ 484 }
 {
     one_element();
@@ -63,11 +70,14 @@ pub fn refusal_is_short()
 /// And so has a Response without bindings, as a tooBig is (RFC 3416, section 4.2.1), where neither
 /// contextEngineID nor contextName is longer than 32 octets: such a tooBig can always be sent.
 pub fn too_big_is_short()
-    ensures { (users : List User) (engine : List ℕ) (own : BootsAndTime) (g : Given) (c : Contexts) (p : PduParts)
+    ensures { (users : List User) (engine : List ℕ) (own : BootsAndTime)
+        (g : Given) (c : Contexts) (p : PduParts)
         (status index : ℤ) (salt text : List ℕ)
-        → length engine ≤ 32 → IsPair own → g.id ≤ MAX_INTEGER32 → length g.user ≤ 32 → length salt ≡ 8
+        → length engine ≤ 32 → IsPair own → g.id ≤ MAX_INTEGER32
+        → length g.user ≤ 32 → length salt ≡ 8
         → length c.engine ≤ 32 → length c.name ≤ 32
-        → SealedText users (responding engine own g c p status index [] salt) text → length text ≤ 484 }
+        → SealedText users
+            (responding engine own g c p status index [] salt) text → length text ≤ 484 }
 {
     one_element();
     sealed_size();

@@ -66,9 +66,11 @@ fn read_length(octets: &[u8]) -> Option<(usize, usize)>
 /// The element that the octets begin with: its tag, the size of its tag and length, its content, and the rest.
 #[tactic(auto, unfolding(crate::specs::Reading::front_of))]
 fn read_front(octets: &[u8]) -> Option<(u8, usize, &[u8], &[u8])>
-    ensures value { option_map (λ f. record { tag = f.0; head_size = f.1; content = f.2.now; rest = f.3.now }) result
+    ensures value { option_map (λ f. record
+        { tag = f.0; head_size = f.1; content = f.2.now; rest = f.3.now }) result
         ≡ front_of octets.now }
-    ensures size { IfSome result (λ f. f.1 + (length f.2.now + length f.3.now) ≡ length octets.now) }
+    ensures size { IfSome result (λ f. f.1 + (length f.2.now + length f.3.now)
+        ≡ length octets.now) }
 {
     let [tag, after_tag @ ..] = octets else {
         return None;
@@ -105,7 +107,8 @@ pub fn read_tlv(bytes: &[u8], at: usize, end: usize) -> Result<Tlv<'_>, BerFault
         → Begins (slice_range bytes.now at end) tag head content rest → ⊥) }
     ensures fault { IfErr result (λ e. e.at ≡ at) }
 
-    ensures exact { option_map (front_at bytes.now end) (result_ok result) ≡ front_of (slice_range bytes.now at end) }
+    ensures exact { option_map (front_at bytes.now end) (result_ok result)
+        ≡ front_of (slice_range bytes.now at end) }
 {
     let Some((tag, head_size, content, _)) = read_front(&bytes[at..end]) else {
         return Err(BerFault { at });
@@ -178,7 +181,8 @@ pub fn put_head(out: &mut Vec<u8>, tag: u8, size: usize) -> Result<(), AllocErro
     requires { size < 2 ^ 32 }
     ensures ok { OnOk result (out.new.items ≡ out.old.items ++ head_of tag size) }
     ensures err { OnErr result (out.new.items ≡ out.old.items) }
-    ensures full { OnErr result (vec_capacity out.old < vec_len out.old + length (head_of tag size)) }
+    ensures full { OnErr result (vec_capacity out.old < vec_len out.old
+        + length (head_of tag size)) }
     ensures capacity { vec_capacity out.old ≤ vec_capacity out.new }
 {
     // Most contents are short.
@@ -200,7 +204,8 @@ pub fn put_tlv(out: &mut Vec<u8>, tag: u8, content: &[u8]) -> Result<(), AllocEr
     requires fits { length content.now < 2 ^ 32 }
     ensures ok { OnOk result (out.new.items ≡ out.old.items ++ element tag content.now) }
     ensures err { OnErr result (out.new.items ≡ out.old.items) }
-    ensures full { OnErr result (vec_capacity out.old < vec_len out.old + length (element tag content.now)) }
+    ensures full { OnErr result (vec_capacity out.old < vec_len out.old
+        + length (element tag content.now)) }
     ensures size { OnOk result (vec_len out.new ≤ vec_len out.old + (6 + length content.now)) }
 {
     out.try_reserve(head_len(content.len()) + content.len())?;

@@ -17,7 +17,8 @@ const OBJECT_IDENTIFIER: u8 = 0x06;
 
 /// The subidentifiers that the octets are, at most 127.
 fn read_subidentifiers(content: &[u8]) -> Option<ArrayVec<u32, 127>>
-    ensures { option_map (λ v. v.items) result ≡ option_and_then (at_most 127) (subidentifiers_in 0 content.now) }
+    ensures { option_map (λ v. v.items) result
+        ≡ option_and_then (at_most 127) (subidentifiers_in 0 content.now) }
 {
     let mut numbers = ArrayVec::new();
     let mut high: u32 = 0;
@@ -90,7 +91,8 @@ fn are_single(content: &[u8]) -> bool
 
 /// How many subidentifiers the octets are, at most 127.
 fn count_subidentifiers(content: &[u8]) -> Option<usize>
-    ensures { result ≡ option_map length (option_and_then (at_most 127) (subidentifiers_in 0 content.now)) }
+    ensures { result ≡ option_map length
+        (option_and_then (at_most 127) (subidentifiers_in 0 content.now)) }
 {
     let mut count = 0;
     let mut so_far: u32 = 0;
@@ -246,7 +248,8 @@ pub fn put_oid(out: &mut Vec<u8>, oid: &Oid) -> Result<(), AllocError>
     requires { IsObjectId oid.now }
     ensures ok { OnOk result (out.new.items ≡ out.old.items ++ element 6 (identifier oid.now)) }
     ensures err { OnErr result (out.new.items ≡ out.old.items) }
-    ensures full { OnErr result (vec_capacity out.old < vec_len out.old + length (element 6 (identifier oid.now))) }
+    ensures full { OnErr result (vec_capacity out.old < vec_len out.old
+        + length (element 6 (identifier oid.now))) }
     ensures size { OnOk result (vec_len out.new ≤ vec_len out.old + 641) }
 {
     put_tlv(out, OBJECT_IDENTIFIER, &oid_content(oid))

@@ -16,23 +16,28 @@ pub fn one_element()
         → (tag ≡ other_tag) × (content ≡ other_content) × (a ≡ b) × (x ≡ y) }
     ensures canonical { (tag : ℕ) (content : List ℕ) → IsTag tag → length content < 2 ^ 32
         → IsElement tag content (element tag content) }
-    ensures shortest { (tag : ℕ) (content text : List ℕ) → AreOctets text → IsElement tag content text
+    ensures shortest { (tag : ℕ) (content text : List ℕ) → AreOctets text
+        → IsElement tag content text
         → length (element tag content) ≤ length text }
 {}
 
 /// The numbers of 32 bits with sign are those that two's complement spells in at most 4 octets and no fewer
 /// than needed, and each has one such content (X.690, section 8.3).
 pub fn one_integer()
-    ensures spelled { (z : ℤ) → negsuc MAX_INTEGER32 ≤ℤ z → z ≤ℤ pos MAX_INTEGER32 → IsInteger32 z (integer z) }
+    ensures spelled { (z : ℤ) → negsuc MAX_INTEGER32 ≤ℤ z → z ≤ℤ pos MAX_INTEGER32
+        → IsInteger32 z (integer z) }
     ensures range { (z : ℤ) (content : List ℕ) → AreOctets content → IsInteger32 z content
         → (negsuc MAX_INTEGER32 ≤ℤ z) × (z ≤ℤ pos MAX_INTEGER32) }
-    ensures one { (z : ℤ) (a b : List ℕ) → AreOctets a → AreOctets b → IsInteger32 z a → IsInteger32 z b → a ≡ b }
+    ensures one { (z : ℤ) (a b : List ℕ) → AreOctets a → AreOctets b
+        → IsInteger32 z a → IsInteger32 z b → a ≡ b }
 {}
 
 /// An identifier whose first two arcs a subidentifier can tell has one content, which is its canonical one,
 /// and a content is one identifier's (X.690, section 8.19).
 pub fn one_identifier()
-    ensures spelled { (arcs : List ℕ) → AreArcs arcs → IsObjectId arcs → IsIdentifier arcs (identifier arcs) }
+    ensures spelled { (arcs : List ℕ) → AreArcs arcs → IsObjectId arcs
+        → IsIdentifier arcs (identifier arcs) }
     ensures content { (arcs a b : List ℕ) → IsIdentifier arcs a → IsIdentifier arcs b → a ≡ b }
-    ensures arcs { (a b content : List ℕ) → IsIdentifier a content → IsIdentifier b content → a ≡ b }
+    ensures arcs { (a b content : List ℕ) → IsIdentifier a content
+        → IsIdentifier b content → a ≡ b }
 {}

@@ -142,7 +142,8 @@ pub fn int_content(value: i64) -> ArrayVec<u8, 5>
 pub fn put_int(out: &mut Vec<u8>, value: i32) -> Result<(), AllocError>
     ensures ok { OnOk result (out.new.items ≡ out.old.items ++ element 2 (integer value)) }
     ensures err { OnErr result (out.new.items ≡ out.old.items) }
-    ensures full { OnErr result (vec_capacity out.old < vec_len out.old + length (element 2 (integer value))) }
+    ensures full { OnErr result (vec_capacity out.old < vec_len out.old
+        + length (element 2 (integer value))) }
     ensures size { OnOk result (vec_len out.new ≤ vec_len out.old + 11) }
 {
     put_tlv(out, 2, &int_content(i64::from(value)))

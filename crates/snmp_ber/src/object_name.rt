@@ -30,7 +30,8 @@ impl<'a> Model for ObjectName<'a> {
 impl<'a> ObjectName<'a> {
     /// The identifier with this content, or None where it is no identifier's: `read_oid` tells which are.
     pub fn of(content: &'a [u8]) -> Option<ObjectName<'a>>
-        ensures identifier { MatchOption result ((arcs : List ℕ) → IsIdentifier arcs content.now → ⊥)
+        ensures identifier { MatchOption result
+            ((arcs : List ℕ) → IsIdentifier arcs content.now → ⊥)
             (λ name. IsIdentifier name content.now) }
         ensures exact { result ≡ identifier_in content.now }
     {

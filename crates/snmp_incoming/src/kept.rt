@@ -44,9 +44,11 @@ impl Model for Kept {
       text = k.text.items;
     } };
 
-    ghost invariant = { λ k. (length k.user.items ≤ 32) × (k.id ≤ MAX_INTEGER32) × (484 ≤ k.max_size)
+    ghost invariant = { λ k. (length k.user.items ≤ 32)
+    × (k.id ≤ MAX_INTEGER32) × (484 ≤ k.max_size)
         × (k.max_size ≤ MAX_INTEGER32) × ∥ HasTag k.text.items k.tag ∥₁
-        × ContextsThere k.text.items k.contexts × StandsThere k.text.items k.tag k.pdu × (k.pdu.list_at ≤ k.pdu.end)
+        × ContextsThere k.text.items k.contexts × StandsThere k.text.items k.tag k.pdu
+        × (k.pdu.list_at ≤ k.pdu.end)
         × (k.pdu.end ≤ length k.text.items) };
 }
 

@@ -18,7 +18,8 @@ pub fn one_text()
 
 /// The table gives each datagram one answer at most.
 pub fn one_answer()
-    ensures { (taker : Taker) (users : List User) (now : ℕ) (w : List ℕ) (a b : Result Given Refusal)
+    ensures { (taker : Taker) (users : List User) (now : ℕ)
+        (w : List ℕ) (a b : Result Given Refusal)
         → Outcome taker users now w a → Outcome taker users now w b → a ≡ b }
 {
     usm_core::one_answer();
@@ -29,8 +30,10 @@ pub fn one_answer()
 /// Where the answer is BadScoped the message is sealed: what isn't was found to be a ScopedPDU before its digest was
 /// looked at.
 pub fn bad_scoped_is_sealed()
-    ensures { (taker : Taker) (users : List User) (now : ℕ) (w : List ℕ) → Outcome taker users now w (Err BadScoped)
-        → (v : Verified) × Verifies (side_at taker) users w (Ok v) × (v.parts.header.privacy ≡ true) }
+    ensures { (taker : Taker) (users : List User) (now : ℕ) (w : List ℕ)
+        → Outcome taker users now w (Err BadScoped)
+        → (v : Verified) × Verifies (side_at taker) users w (Ok v)
+        × (v.parts.header.privacy ≡ true) }
 {
     usm_core::verified_was_read();
     plain_from_data();
@@ -40,7 +43,8 @@ pub fn bad_scoped_is_sealed()
 /// value of boots alone, and at times of the engine that differ by at most 300 seconds. `started` is the
 /// moment at which an agent's time was 0.
 pub fn replay_bound()
-    ensures { (engine : List ℕ) (boots started now other_boots other_started later : ℕ) (users others : List User)
+    ensures { (engine : List ℕ) (boots started now other_boots other_started later : ℕ)
+        (users others : List User)
         (w : List ℕ) (given again : Given)
         → Outcome (as_agent engine boots started) users now w (Ok given)
         → Outcome (as_agent engine other_boots other_started) others later w (Ok again)

@@ -33,7 +33,8 @@ pub fn scoped_octets<'a>(
 ) -> Result<Option<Octets<'a>>, AllocError>
     requires read { IsReadAs datagram.now (verified_of checked.now) }
     requires private { checked.now.level ≡ AuthPriv
-        → HasUserAt users.old.users checked.now.security.user.now AuthPriv × (tag_of checked.now.message.body ≡ 4) }
+        → HasUserAt users.old.users checked.now.security.user.now AuthPriv
+        × (tag_of checked.now.message.body ≡ 4) }
     ensures users { users.new.users ≡ users.old.users }
     ensures no_memory { checked.now.message.header.privacy ≡ false → IsOk result }
     ensures opened { IfOk result
@@ -63,7 +64,8 @@ fn place(fault: RefusedAt, base: usize) -> usize {
 /// The error is BadScoped (12), exactly where the octets don't begin with a ScopedPDU, or BadPdu (13),
 /// exactly where its data is no PDU. It takes no memory.
 pub fn read_text<'a>(checked: &Checked<'a>, text: Octets<'a>) -> Result<Taken<'a>, RefusedAt>
-    ensures { IsSomeAnd (answer_of result) (ReadsText (verified_of checked.now) (text_of text.entry)) }
+    ensures { IsSomeAnd (answer_of result)
+        (ReadsText (verified_of checked.now) (text_of text.entry)) }
 {
     let base = match text {
         Octets::Borrowed(_) => checked.message.data_at,
@@ -90,7 +92,8 @@ fn read_place(text: &[u8], base: usize) -> Result<(u8, ScopedPlace, PduPlace), R
     ensures tag { IfOk result (λ found. HasTag text.now found.0) }
     ensures contexts { IfOk result (λ found. ContextsThere text.now found.1) }
     ensures stands { IfOk result (λ found. StandsThere text.now found.0 found.2) }
-    ensures within { IfOk result (λ found. (found.2.list_at ≤ found.2.end) × (found.2.end ≤ length text.now)) }
+    ensures within { IfOk result (λ found. (found.2.list_at ≤ found.2.end)
+        × (found.2.end ≤ length text.now)) }
     ensures fault { IfErr result (λ e. RefusesText text.now e.refusal) }
 {
     whole_slice();

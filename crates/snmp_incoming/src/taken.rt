@@ -53,7 +53,8 @@ impl<'a> Taken<'a> {
     /// The PDU, the data of the ScopedPDU (RFC 3416, section 3), as it was read when the datagram was taken.
     /// It takes no memory.
     pub fn pdu(&self) -> Pdu<'_>
-        ensures is_pdu { (c : Contexts) → ScopedFront (text_of self.now.text) c → PduText c.pdu (pdu_of result) }
+        ensures is_pdu { (c : Contexts) → ScopedFront (text_of self.now.text) c
+            → PduText c.pdu (pdu_of result) }
         ensures tag { result.tag ≡ self.now.tag }
     {
         self.pdu.lent(self.tag, self.text.as_slice())

@@ -29,7 +29,8 @@ pub fn read_element(bytes: &[u8], at: usize, end: usize, tag: u8) -> Result<Tlv<
         ≡ element_in tag (slice_range bytes.now at end) }
     ensures content { IfOk result (λ t. t.content.now ≡ slice_range bytes.now t.body t.end) }
     ensures ordered { IfOk result
-        (λ t. (t.start ≡ at) × (at < t.body) × (t.body + length t.content.now ≡ t.end) × (t.end ≤ end)) }
+        (λ t. (t.start ≡ at) × (at < t.body) × (t.body + length t.content.now ≡ t.end)
+        × (t.end ≤ end)) }
 {
     let tlv = read_tlv(bytes, at, end)?;
     if tlv.tag != tag {

@@ -20,17 +20,21 @@ pub fn one_message()
 /// Security parameters say one thing, and a datagram is cut round msgAuthenticationParameters in one way.
 pub fn one_cut()
     ensures one { (at : ℕ) (x : List ℕ) (s t : Fields) → SecText at x s → SecText at x t → s ≡ t }
-    ensures cut { (w : List ℕ) (m : Parts) (s : Fields) → Outer w m → SecText m.security_at m.security s
+    ensures cut { (w : List ℕ) (m : Parts) (s : Fields) → Outer w m
+        → SecText m.security_at m.security s
         → (front : List ℕ) × (back : List ℕ) × IsCut w m s front back }
-    ensures places { (w : List ℕ) (m : Parts) (s : Fields) (front back : List ℕ) → IsCut w m s front back
-        → (front ≡ take s.auth_at w) × (slice_range w s.auth_at (s.auth_at + length s.auth) ≡ s.auth)
+    ensures places { (w : List ℕ) (m : Parts) (s : Fields) (front back : List ℕ)
+        → IsCut w m s front back
+        → (front ≡ take s.auth_at w) × (slice_range w s.auth_at (s.auth_at + length s.auth)
+        ≡ s.auth)
         × (back ≡ drop (s.auth_at + length s.auth) w) }
 {}
 
 /// msgData is sealed or one ScopedPDU, and octets begin with one ScopedPDU at most.
 pub fn one_content()
     ensures kind { (w : List ℕ) (m : Parts) (s : Contexts) → HasSealed m → HasScoped w m s → ⊥ }
-    ensures scoped { (w : List ℕ) (m : Parts) (s t : Contexts) → HasScoped w m s → HasScoped w m t → s ≡ t }
+    ensures scoped { (w : List ℕ) (m : Parts) (s t : Contexts)
+        → HasScoped w m s → HasScoped w m t → s ≡ t }
     ensures front { (z : List ℕ) (s t : Contexts) → ScopedFront z s → ScopedFront z t → s ≡ t }
 {}
 
@@ -42,7 +46,8 @@ pub fn written_again()
         → Outer (message_text h security tag content) (written h security tag content) }
     ensures security { (at : ℕ) (s : Fields) → FieldsFit s → length (security_text s) ≤ LARGEST
         → SecText at (security_text s) (placed at s) }
-    ensures scoped { (engine name pdu : List ℕ) → IsOneElement pdu → length (scoped_text engine name pdu) ≤ LARGEST
+    ensures scoped { (engine name pdu : List ℕ) → IsOneElement pdu
+        → length (scoped_text engine name pdu) ≤ LARGEST
         → ScopedText 0 (scoped_text engine name pdu)
         (contexts_placed (head_size (length (contexts_text engine name pdu))) engine name pdu) }
 {}
@@ -50,13 +55,16 @@ pub fn written_again()
 /// Where the field of msgAuthenticationParameters of a message that was written is filled with as many
 /// octets, what comes out is that message written with these octets.
 pub fn field_filled()
-    ensures filled { (h : Header) (s t : Fields) (tag : ℕ) (content auth front back : List ℕ) (m : Parts)
+    ensures filled { (h : Header) (s t : Fields) (tag : ℕ)
+        (content auth front back : List ℕ) (m : Parts)
         → HeaderFits h → FieldsFit s → (tag ≡ 48) ⊎ (tag ≡ 4)
-        → length (message_text h (security_text s) tag content) ≤ LARGEST → length auth ≡ length s.auth
+        → length (message_text h (security_text s) tag content) ≤ LARGEST
+        → length auth ≡ length s.auth
         → IsCut (message_text h (security_text s) tag content) m t front back
         → (t.auth ≡ s.auth) × (message_text h (security_text (with_auth auth s)) tag content
         ≡ front ++ (auth ++ back)) }
-    ensures size { (h : Header) (s : Fields) (tag : ℕ) (content auth : List ℕ) → length auth ≡ length s.auth
+    ensures size { (h : Header) (s : Fields) (tag : ℕ) (content auth : List ℕ)
+        → length auth ≡ length s.auth
         → length (message_text h (security_text (with_auth auth s)) tag content)
         ≡ length (message_text h (security_text s) tag content) }
 {}
@@ -67,7 +75,8 @@ pub fn field_filled()
 pub fn message_size()
     ensures least { (h : Header) (security : List ℕ) (tag : ℕ) (content : List ℕ)
         → 6 + length content ≤ length (message_text h security tag content) }
-    ensures most { (h : Header) (s : Fields) (tag : ℕ) (content : List ℕ) → HeaderFits h → FieldsFit s
+    ensures most { (h : Header) (s : Fields) (tag : ℕ) (content : List ℕ)
+        → HeaderFits h → FieldsFit s
         → length (message_text h (security_text s) tag content)
         ≤ 110 + length s.engine + length s.user + length s.auth + length s.salt + length content }
 {}

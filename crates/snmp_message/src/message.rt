@@ -69,7 +69,8 @@ pub struct Message<'a> {
 #[tactic(auto, unfolding(crate::specs::Reading::version_in))]
 fn read_version(datagram: &[u8]) -> Result<(i32, usize, usize), BerFault>
     ensures value { option_map
-        (λ v. (v.0, slice_range datagram.now v.1 v.2, slice_range datagram.now v.2 (length datagram.now)))
+        (λ v. (v.0, slice_range datagram.now v.1 v.2, slice_range datagram.now v.2
+        (length datagram.now)))
         (result_ok result) ≡ version_in datagram.now }
     ensures ordered { IfOk result (λ v. (v.1 ≤ v.2) × (v.2 ≤ length datagram.now)) }
 {
@@ -86,7 +87,8 @@ fn read_version(datagram: &[u8]) -> Result<(i32, usize, usize), BerFault>
 fn read_after_version(datagram: &[u8], at: usize, end: usize) -> Result<Message<'_>, BerFault>
     requires start { at ≤ end }
     requires within { end ≤ length datagram.now }
-    ensures value { option_map parts (result_ok result) ≡ after_version end (slice_range datagram.now at end) }
+    ensures value { option_map parts (result_ok result)
+        ≡ after_version end (slice_range datagram.now at end) }
     ensures fits { IfOk result (λ m. HeaderFits m.header) }
 {
     let global = read_element(datagram, at, end, SEQUENCE)?;
@@ -117,7 +119,8 @@ fn read_after_version(datagram: &[u8], at: usize, end: usize) -> Result<Message<
 /// other than 3. NotMessage comes exactly where it doesn't, and isn't an SNMPv3Message of version 3. No
 /// memory is taken.
 pub fn read_message(datagram: &[u8]) -> Result<Message<'_>, RefusedAt>
-    ensures exact { MatchResult result (λ m. Outer datagram.now (parts m)) (λ e. RefusesOuter datagram.now e.refusal) }
+    ensures exact { MatchResult result (λ m. Outer datagram.now (parts m))
+        (λ e. RefusesOuter datagram.now e.refusal) }
     ensures none { OnErr result ((m : Parts) → Outer datagram.now m → ⊥) }
     ensures fits { IfOk result (λ m. HeaderFits m.header) }
 {
@@ -168,7 +171,8 @@ pub fn message_len(header: &Header, security_len: usize, data_len: usize) -> usi
     requires header { HeaderFits header.now }
     requires security { security_len ≤ LARGEST }
     requires within { data_len ≤ LARGEST }
-    ensures size { let size = content_size header.now security_len data_len in result ≡ head_size size + size }
+    ensures size { let size = content_size header.now security_len data_len in result
+        ≡ head_size size + size }
     ensures most { result ≤ 4 * LARGEST }
 {
     element_len(content_len(header, security_len, data_len))
@@ -211,7 +215,8 @@ fn spell_message(
     requires security { length security.now ≤ LARGEST }
     requires within { length (content_of body.now) ≤ LARGEST }
     ensures { IfOk result
-        (λ v. v.items ≡ message_text header.now security.now (tag_of body.now) (content_of body.now)) }
+        (λ v. v.items ≡ message_text header.now security.now
+        (tag_of body.now) (content_of body.now)) }
 {
     let content = body.content();
     let mut out = Vec::with_capacity(alloc, size)?;
@@ -233,15 +238,19 @@ pub fn write_message(
 ) -> Result<Vec<u8>, RefusedAt>
     requires { HeaderFits header.now }
     ensures ok { IfOk result
-        (λ v. v.items ≡ message_text header.now security.now (tag_of body.now) (content_of body.now)) }
+        (λ v. v.items ≡ message_text header.now security.now
+        (tag_of body.now) (content_of body.now)) }
     ensures size { IfOk result (λ v. length v.items ≤ LARGEST) }
     ensures spelled { IfOk result
-        (λ v. Outer v.items (written header.now security.now (tag_of body.now) (content_of body.now))) }
+        (λ v. Outer v.items (written header.now security.now
+        (tag_of body.now) (content_of body.now))) }
     ensures refusal { IfErr result (λ e. IsWriteRefusal e.refusal) }
     ensures too_large { IsRefused result TooLarge
-        → LARGEST < length (message_text header.now security.now (tag_of body.now) (content_of body.now)) }
+        → LARGEST < length (message_text header.now security.now
+        (tag_of body.now) (content_of body.now)) }
     ensures memory { IsRefused result OutOfMemory
-        → length (message_text header.now security.now (tag_of body.now) (content_of body.now)) ≤ LARGEST }
+        → length (message_text header.now security.now (tag_of body.now) (content_of body.now))
+        ≤ LARGEST }
 {
     let content = body.content();
     if security.len().max(content.len()) > LARGEST {

@@ -11,8 +11,10 @@ pub fn cut<'a>(datagram: &'a [u8], security: &Security<'_>) -> Cut<'a>
     ensures joined { datagram.now ≡ result.front.now ++ (result.field.now ++ result.back.now) }
     ensures front { result.front.now ≡ take security.now.auth_at datagram.now }
     ensures field { result.field.now
-        ≡ slice_range datagram.now security.now.auth_at (security.now.auth_at + length security.now.auth.now) }
-    ensures back { result.back.now ≡ drop (security.now.auth_at + length security.now.auth.now) datagram.now }
+        ≡ slice_range datagram.now security.now.auth_at
+        (security.now.auth_at + length security.now.auth.now) }
+    ensures back { result.back.now
+        ≡ drop (security.now.auth_at + length security.now.auth.now) datagram.now }
     ensures place { length result.front.now ≡ security.now.auth_at }
     ensures size { length result.field.now ≡ length security.now.auth.now }
 {

@@ -54,7 +54,8 @@ impl ScopedPlace {
     /// The parts, lent from the octets that they were read in. It takes no memory.
     pub fn lent<'a>(&self, octets: &'a [u8]) -> Scoped<'a>
         requires { StandsWithin (length octets.now) self.now }
-        ensures engine { result.engine.now ≡ slice_range octets.now self.now.engine_at self.now.engine_end }
+        ensures engine { result.engine.now
+            ≡ slice_range octets.now self.now.engine_at self.now.engine_end }
         ensures name { result.name.now ≡ slice_range octets.now self.now.name_at self.now.data_at }
         ensures pdu { result.pdu.now ≡ slice_range octets.now self.now.data_at self.now.end }
         ensures data_at { result.data_at ≡ self.now.data_at }
@@ -98,7 +99,8 @@ fn place_contexts(octets: &[u8], at: usize, end: usize) -> Result<ScopedPlace, B
 fn read_contexts(octets: &[u8], at: usize, end: usize) -> Result<Scoped<'_>, BerFault>
     requires start { at ≤ end }
     requires within { end ≤ length octets.now }
-    ensures value { option_map contexts_of (result_ok result) ≡ contexts_in end (slice_range octets.now at end) }
+    ensures value { option_map contexts_of (result_ok result)
+        ≡ contexts_in end (slice_range octets.now at end) }
     ensures ends { IfOk result (λ s. s.data_at + length s.pdu.now ≡ end) }
     ensures place { IfOk result (λ s. s.pdu.now ≡ slice_range octets.now s.data_at end) }
 {
@@ -123,9 +125,11 @@ pub fn read_scoped<'a>(
     ensures none { OnErr result
         ((HasSealed (parts message.now) → ⊥)
         × ((s : Contexts) → HasScoped datagram.now (parts message.now) s → ⊥)) }
-    ensures within { IfOk result (λ found. IfSome found (λ s. s.data_at + length s.pdu.now ≡ length datagram.now)) }
+    ensures within { IfOk result (λ found. IfSome found
+        (λ s. s.data_at + length s.pdu.now ≡ length datagram.now)) }
     ensures place { IfOk result
-        (λ found. IfSome found (λ s. s.pdu.now ≡ slice_range datagram.now s.data_at (length datagram.now))) }
+        (λ found. IfSome found (λ s. s.pdu.now
+        ≡ slice_range datagram.now s.data_at (length datagram.now))) }
     ensures element { IfOk result (λ found. IfSome found (λ s. IsOneElement s.pdu.now)) }
 {
     match (message.header.privacy, message.body) {
@@ -149,7 +153,8 @@ pub fn read_scoped<'a>(
 /// The places of the ScopedPDU in front of the octets.
 #[tactic(auto, unfolding(crate::specs::Scoped::scoped_front_in))]
 fn place_front(plaintext: &[u8]) -> Result<ScopedPlace, BerFault>
-    ensures value { option_map (contexts_there plaintext.now) (result_ok result) ≡ scoped_front_in plaintext.now }
+    ensures value { option_map (contexts_there plaintext.now) (result_ok result)
+        ≡ scoped_front_in plaintext.now }
     ensures stands { IfOk result (λ p. StandsWithin (length plaintext.now) p) }
 {
     let whole = read_element(plaintext, 0, plaintext.len(), SEQUENCE)?;
@@ -162,7 +167,8 @@ fn place_front(plaintext: &[u8]) -> Result<ScopedPlace, BerFault>
 /// The error is NotScoped, exactly where no front of the octets is a ScopedPDU; its place counts in the plaintext. No
 /// memory is taken.
 pub fn place_scoped_front(plaintext: &[u8]) -> Result<ScopedPlace, RefusedAt>
-    ensures exact { MatchResult result (λ p. ScopedFront plaintext.now (contexts_there plaintext.now p))
+    ensures exact { MatchResult result
+        (λ p. ScopedFront plaintext.now (contexts_there plaintext.now p))
         (λ e. RefusesFront plaintext.now e.refusal) }
     ensures none { OnErr result ((s : Contexts) → ScopedFront plaintext.now s → ⊥) }
     ensures stands { IfOk result (λ p. StandsWithin (length plaintext.now) p) }
@@ -186,7 +192,8 @@ pub fn read_scoped_front(plaintext: &[u8]) -> Result<Scoped<'_>, RefusedAt>
         (λ e. RefusesFront plaintext.now e.refusal) }
     ensures none { OnErr result ((s : Contexts) → ScopedFront plaintext.now s → ⊥) }
     ensures within { IfOk result (λ s. s.data_at + length s.pdu.now ≤ length plaintext.now) }
-    ensures place { IfOk result (λ s. s.pdu.now ≡ slice_range plaintext.now s.data_at (s.data_at + length s.pdu.now)) }
+    ensures place { IfOk result (λ s. s.pdu.now
+        ≡ slice_range plaintext.now s.data_at (s.data_at + length s.pdu.now)) }
     ensures element { IfOk result (λ s. IsOneElement s.pdu.now) }
 {
     let place = place_scoped_front(plaintext)?;
@@ -208,7 +215,8 @@ pub fn contexts_len(engine: &[u8], name: &[u8], pdu_len: usize) -> usize
 pub fn put_contexts(out: &mut Vec<u8>, engine: &[u8], name: &[u8]) -> Result<(), AllocError>
     requires engine { length engine.now ≤ LARGEST }
     requires name { length name.now ≤ LARGEST }
-    ensures ok { OnOk result (out.new.items ≡ out.old.items ++ (element 4 engine.now ++ element 4 name.now)) }
+    ensures ok { OnOk result (out.new.items
+        ≡ out.old.items ++ (element 4 engine.now ++ element 4 name.now)) }
 {
     put_tlv(out, OCTET_STRING, engine)?;
     put_tlv(out, OCTET_STRING, name)

@@ -41,7 +41,8 @@ pub struct Security<'a> {
 fn read_fields(datagram: &[u8], at: usize, end: usize) -> Result<Security<'_>, BerFault>
     requires start { at ≤ end }
     requires within { end ≤ length datagram.now }
-    ensures { option_map fields_of (result_ok result) ≡ fields_in end (slice_range datagram.now at end) }
+    ensures { option_map fields_of (result_ok result)
+        ≡ fields_in end (slice_range datagram.now at end) }
 {
     let engine = read_element(datagram, at, end, OCTET_STRING)?;
     let (boots, at) = read_number(datagram, engine.end, end, 0)?;
@@ -71,7 +72,8 @@ fn read_fields(datagram: &[u8], at: usize, end: usize) -> Result<Security<'_>, B
 fn read_parameters(datagram: &[u8], at: usize, end: usize) -> Result<Security<'_>, BerFault>
     requires start { at ≤ end }
     requires within { end ≤ length datagram.now }
-    ensures { option_map fields_of (result_ok result) ≡ security_in end (slice_range datagram.now at end) }
+    ensures { option_map fields_of (result_ok result)
+        ≡ security_in end (slice_range datagram.now at end) }
 {
     let whole = read_element(datagram, at, end, SEQUENCE)?;
     let security = read_fields(datagram, whole.body, whole.end)?;
@@ -100,7 +102,8 @@ pub fn read_security<'a>(
     ensures cut { IfOk result (λ s. IsCut datagram.now (parts message.now) (fields_of s)
         (take s.auth_at datagram.now) (drop (s.auth_at + length s.auth.now) datagram.now)) }
     ensures within { IfOk result (λ s. s.auth_at + length s.auth.now ≤ length datagram.now) }
-    ensures field { IfOk result (λ s. slice_range datagram.now s.auth_at (s.auth_at + length s.auth.now) ≡ s.auth.now) }
+    ensures field { IfOk result (λ s. slice_range datagram.now s.auth_at
+        (s.auth_at + length s.auth.now) ≡ s.auth.now) }
 {
     let at = message.security_at;
     match read_parameters(datagram, at, at + message.security.len()) {
@@ -153,7 +156,8 @@ fn fields_len(security: &Security<'_>) -> usize
 fn put_fields(out: &mut Vec<u8>, security: &Security<'_>) -> Result<(), AllocError>
     requires fits { FieldsFit (fields_of security.now) }
     requires short { IsShort (fields_of security.now) }
-    ensures ok { OnOk result (out.new.items ≡ out.old.items ++ fields_text (fields_of security.now)) }
+    ensures ok { OnOk result (out.new.items
+        ≡ out.old.items ++ fields_text (fields_of security.now)) }
 {
     put_tlv(out, OCTET_STRING, security.engine)?;
     put_int(out, security.boots as i32)?;
@@ -180,7 +184,8 @@ pub fn security_len(security: &Security<'_>) -> usize
 pub fn put_security(out: &mut Vec<u8>, security: &Security<'_>) -> Result<(), AllocError>
     requires fits { FieldsFit (fields_of security.now) }
     requires short { IsShort (fields_of security.now) }
-    ensures ok { OnOk result (out.new.items ≡ out.old.items ++ security_text (fields_of security.now)) }
+    ensures ok { OnOk result (out.new.items
+        ≡ out.old.items ++ security_text (fields_of security.now)) }
 {
     put_head(out, SEQUENCE, fields_len(security))?;
     put_fields(out, security)
@@ -210,10 +215,13 @@ pub fn write_security(alloc: Global, security: &Security<'_>) -> Result<Vec<u8>,
     requires { FieldsFit (fields_of security.now) }
     ensures ok { IfOk result (λ v. v.items ≡ security_text (fields_of security.now)) }
     ensures size { IfOk result (λ v. length v.items ≤ LARGEST) }
-    ensures spelled { IfOk result (λ v. (at : ℕ) → SecText at v.items (placed at (fields_of security.now))) }
+    ensures spelled { IfOk result (λ v. (at : ℕ)
+        → SecText at v.items (placed at (fields_of security.now))) }
     ensures refusal { IfErr result (λ e. IsWriteRefusal e.refusal) }
-    ensures too_large { IsRefused result TooLarge → LARGEST < length (security_text (fields_of security.now)) }
-    ensures memory { IsRefused result OutOfMemory → length (security_text (fields_of security.now)) ≤ LARGEST }
+    ensures too_large { IsRefused result TooLarge
+        → LARGEST < length (security_text (fields_of security.now)) }
+    ensures memory { IsRefused result OutOfMemory
+        → length (security_text (fields_of security.now)) ≤ LARGEST }
 {
     if !is_short(security) {
         return Err(RefusedAt::plain(Refusal::TooLarge));

@@ -43,12 +43,15 @@ pub(crate) fn read_places(bytes: &[u8], at: usize, end: usize) -> Result<VarBind
     ensures after { option_map (λ b. slice_range bytes.now b.end end) (result_ok result)
         ≡ option_map (λ x. x.1) (binding_in (slice_range bytes.now at end)) }
     ensures says { IfOk result
-        (λ b. option_map (variable_with b (slice_range bytes.now b.end end)) (identifier_in b.name.content.now)
+        (λ b. option_map (variable_with b (slice_range bytes.now b.end end))
+        (identifier_in b.name.content.now)
         ≡ binding_in (slice_range bytes.now at end)) }
     ensures named { IfOk result (λ b. is_some (identifier_in b.name.content.now) ≡ true) }
-    ensures name { IfOk result (λ b. b.name.content.now ≡ slice_range bytes.now b.name.body b.name.end) }
+    ensures name { IfOk result (λ b. b.name.content.now
+        ≡ slice_range bytes.now b.name.body b.name.end) }
     ensures value { IfOk result
-        (λ b. StandsAt bytes.now b.value.start b.value.body b.value.end b.value.tag b.value.content.now) }
+        (λ b. StandsAt bytes.now b.value.start b.value.body b.value.end
+        b.value.tag b.value.content.now) }
     ensures ordered { IfOk result (λ b. (at < b.end) × (b.value.end ≡ b.end) × (b.end ≤ end)) }
 {
     let whole = read_element(bytes, at, end, SEQUENCE)?;
@@ -78,9 +81,11 @@ pub fn read_binding(bytes: &[u8], at: usize, end: usize) -> Result<VarBind<'_>, 
     ensures none { OnErr result
         ((v : Variable) (text rest : List ℕ) → IsBinding text v
         → slice_range bytes.now at end ≡ text ++ rest → ⊥) }
-    ensures name { IfOk result (λ b. b.name.content.now ≡ slice_range bytes.now b.name.body b.name.end) }
+    ensures name { IfOk result (λ b. b.name.content.now
+        ≡ slice_range bytes.now b.name.body b.name.end) }
     ensures value { IfOk result
-        (λ b. StandsAt bytes.now b.value.start b.value.body b.value.end b.value.tag b.value.content.now) }
+        (λ b. StandsAt bytes.now b.value.start b.value.body b.value.end
+        b.value.tag b.value.content.now) }
     ensures ordered { IfOk result (λ b. (at < b.end) × (b.value.end ≡ b.end) × (b.end ≤ end)) }
 {
     let binding = read_places(bytes, at, end)?;

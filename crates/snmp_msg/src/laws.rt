@@ -10,7 +10,8 @@ ghost use Rattle.snmp_msg.specs.Canonical.{Whole, Says, IsCanonical};
 /// A text is one PDU at most, and octets are one list of bindings at most.
 pub fn one_pdu()
     ensures pdu { (z : List ℕ) (p q : PduParts) → PduText z p → PduText z q → p ≡ q }
-    ensures list { (octets : List ℕ) (vs ws : List Variable) → AreBindings vs octets → AreBindings ws octets → vs ≡ ws }
+    ensures list { (octets : List ℕ) (vs ws : List Variable) → AreBindings vs octets
+        → AreBindings ws octets → vs ≡ ws }
 {}
 
 /// A message says one thing in all its layers.
@@ -21,7 +22,8 @@ pub fn one_whole()
 /// A PDU that is written is read again, and so is a list of bindings: each that fits has the layout that it
 /// is written in.
 pub fn pdu_written_again()
-    ensures pdu { (p : PduParts) → PduFits p → length (pdu_text p) ≤ LARGEST → PduText (pdu_text p) p }
+    ensures pdu { (p : PduParts) → PduFits p → length (pdu_text p) ≤ LARGEST
+        → PduText (pdu_text p) p }
     ensures list { (vs : List Variable) → AllFit vs → length (variables_text vs) ≤ LARGEST
         → AreBindings vs (variables_text vs) }
 {}
@@ -30,5 +32,6 @@ pub fn pdu_written_again()
 pub fn canonical_again()
     ensures one { (w a b : List ℕ) → IsCanonical w a → IsCanonical w b → a ≡ b }
     ensures again { (w c : List ℕ) → IsCanonical w c → length c ≤ LARGEST → IsCanonical c c }
-    ensures fixed { (w c d : List ℕ) → IsCanonical w c → length c ≤ LARGEST → IsCanonical c d → d ≡ c }
+    ensures fixed { (w c d : List ℕ) → IsCanonical w c → length c ≤ LARGEST
+        → IsCanonical c d → d ≡ c }
 {}

@@ -40,7 +40,8 @@ pub trait Spelled {
     /// Appends its name's OBJECT IDENTIFIER.
     fn put_name(&self, out: &mut Vec<u8>) -> Result<(), AllocError>
         requires { fits self.now }
-        ensures ok { OnOk result (out.new.items ≡ out.old.items ++ element 6 (identifier (says self.now).name)) };
+        ensures ok { OnOk result (out.new.items
+            ≡ out.old.items ++ element 6 (identifier (says self.now).name)) };
 }
 
 impl<'a> Spelled for Binding<'a> {
@@ -136,7 +137,8 @@ fn put_binding<B: Spelled>(out: &mut Vec<u8>, binding: &B) -> Result<(), AllocEr
 /// they are more than a datagram can have, 65,507.
 pub fn bindings_len<B: Spelled>(bindings: &[B]) -> Option<usize>
     requires { All (λ b. B.fits b) bindings.now }
-    ensures some { IfSome result (λ size. size ≡ length (variables_text (map B.says bindings.now))) }
+    ensures some { IfSome result (λ size. size
+        ≡ length (variables_text (map B.says bindings.now))) }
     ensures most { IfSome result (λ size. size ≤ LARGEST) }
     ensures none { IfNone result (LARGEST < length (variables_text (map B.says bindings.now))) }
     ensures fit { IfSome result (λ _. AllFit (map B.says bindings.now)) }
@@ -155,7 +157,8 @@ pub fn bindings_len<B: Spelled>(bindings: &[B]) -> Option<usize>
 pub(crate) fn put_bindings<B: Spelled>(out: &mut Vec<u8>, bindings: &[B]) -> Result<(), AllocError>
     requires fit { All (λ b. B.fits b) bindings.now }
     requires short { length (variables_text (map B.says bindings.now)) ≤ LARGEST }
-    ensures ok { OnOk result (out.new.items ≡ out.old.items ++ variables_text (map B.says bindings.now)) }
+    ensures ok { OnOk result (out.new.items
+        ≡ out.old.items ++ variables_text (map B.says bindings.now)) }
 {
     for binding in bindings {
         put_binding(out, binding)?;
@@ -184,7 +187,8 @@ pub(crate) fn list_len(list: &[u8]) -> Option<usize>
 pub(crate) fn put_list(out: &mut Vec<u8>, list: &[u8]) -> Result<(), AllocError>
     requires all { after_variables list.now ≡ [] }
     requires short { length (variables_text (variables_of list.now)) ≤ LARGEST }
-    ensures ok { OnOk result (out.new.items ≡ out.old.items ++ variables_text (variables_of list.now)) }
+    ensures ok { OnOk result (out.new.items
+        ≡ out.old.items ++ variables_text (variables_of list.now)) }
 {
     for binding in VariableBindings::of(list) {
         put_binding(out, &binding)?;

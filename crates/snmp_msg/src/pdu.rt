@@ -44,7 +44,8 @@ impl<'a> Pdu<'a> {
     /// is `read_pdu`'s; of other octets they are those that it begins with. No memory is taken.
     pub fn bindings(&self) -> Bindings<'a>
         ensures first { bindings_left result ≡ variables_of self.now.list.now }
-        ensures all { (vs : List Variable) → AreBindings vs self.now.list.now → bindings_left result ≡ vs }
+        ensures all { (vs : List Variable) → AreBindings vs self.now.list.now
+            → bindings_left result ≡ vs }
     {
         Bindings::of(self.list)
     }
@@ -53,7 +54,8 @@ impl<'a> Pdu<'a> {
     /// which takes a fourth of the time.
     pub fn variable_bindings(&self) -> VariableBindings<'a>
         ensures first { variables_left result ≡ variables_of self.now.list.now }
-        ensures all { (vs : List Variable) → AreBindings vs self.now.list.now → variables_left result ≡ vs }
+        ensures all { (vs : List Variable) → AreBindings vs self.now.list.now
+            → variables_left result ≡ vs }
     {
         VariableBindings::of(self.list)
     }
@@ -64,7 +66,8 @@ impl<'a> Pdu<'a> {
 fn read_pdu_content(bytes: &[u8], tag: u8, at: usize, end: usize) -> Result<Pdu<'_>, BerFault>
     requires start { at ≤ end }
     requires within { end ≤ length bytes.now }
-    ensures { option_map pdu_of (result_ok result) ≡ pdu_content_in tag (slice_range bytes.now at end) }
+    ensures { option_map pdu_of (result_ok result)
+        ≡ pdu_content_in tag (slice_range bytes.now at end) }
 {
     let (id, at) = read_signed(bytes, at, end)?;
     let (second, at) = read_signed(bytes, at, end)?;
@@ -133,7 +136,8 @@ fn pdu_content_len(pdu: &Pdu<'_>, list_len: usize) -> usize
 /// How many octets a PDU has whose list has `list_len`.
 pub(crate) fn pdu_len(pdu: &Pdu<'_>, list_len: usize) -> usize
     requires { list_len ≤ LARGEST }
-    ensures size { let size = pdu_content_size (pdu_of pdu.now) list_len in result ≡ head_size size + size }
+    ensures size { let size = pdu_content_size (pdu_of pdu.now) list_len in result
+        ≡ head_size size + size }
     ensures most { result ≤ 3 * LARGEST }
 {
     element_len(pdu_content_len(pdu, list_len))
@@ -144,7 +148,8 @@ pub(crate) fn pdu_len(pdu: &Pdu<'_>, list_len: usize) -> usize
 pub fn written_pdu_len(id: i32, second: i32, third: i32, list_len: usize) -> usize
     requires { list_len ≤ LARGEST }
     ensures size { (tag : ℕ) (list : List ℕ) → length list ≡ list_len
-        → result ≡ length (pdu_text (record { tag = tag; id = id; second = second; third = third; list = list })) }
+        → result ≡ length (pdu_text (record
+        { tag = tag; id = id; second = second; third = third; list = list })) }
     ensures most { result ≤ 3 * LARGEST }
 {
     pdu_len(
@@ -161,7 +166,8 @@ pub(crate) fn put_pdu_front(
     list_len: usize,
 ) -> Result<(), AllocError>
     requires { list_len ≤ LARGEST }
-    ensures ok { OnOk result (out.new.items ≡ out.old.items ++ pdu_front_text (pdu_of pdu.now) list_len) }
+    ensures ok { OnOk result (out.new.items
+        ≡ out.old.items ++ pdu_front_text (pdu_of pdu.now) list_len) }
 {
     put_head(out, pdu.tag, pdu_content_len(pdu, list_len))?;
     put_int(out, pdu.id)?;
@@ -208,7 +214,8 @@ pub fn put_pdu_of<B: Spelled>(
     requires list { list_len ≡ length (variables_text (map B.says bindings.now)) }
     requires within { list_len ≤ LARGEST }
     ensures ok { OnOk result
-        (out.new.items ≡ out.old.items ++ pdu_text (pdu_with tag id second third (map B.says bindings.now))) }
+        (out.new.items ≡ out.old.items ++ pdu_text
+        (pdu_with tag id second third (map B.says bindings.now))) }
 {
     put_spelled(out, &bare_pdu(tag, id, second, third), bindings, list_len)
 }
@@ -224,7 +231,8 @@ fn spell_pdu<B: Spelled>(
     requires fit { All (λ b. B.fits b) bindings.now }
     requires list { list_len ≡ length (variables_text (map B.says bindings.now)) }
     requires within { list_len ≤ LARGEST }
-    ensures { IfOk result (λ v. v.items ≡ pdu_text (with_variables (pdu_of front.now) (map B.says bindings.now))) }
+    ensures { IfOk result (λ v. v.items
+        ≡ pdu_text (with_variables (pdu_of front.now) (map B.says bindings.now))) }
 {
     let mut out = Vec::with_capacity(alloc, size)?;
     put_spelled(&mut out, front, bindings, list_len)?;
@@ -239,16 +247,20 @@ fn write_spelled<B: Spelled>(
 ) -> Result<Vec<u8>, RefusedAt>
     requires tag { IsPduTag front.now.tag }
     requires fit { All (λ b. B.fits b) bindings.now }
-    ensures ok { IfOk result (λ v. v.items ≡ pdu_text (with_variables (pdu_of front.now) (map B.says bindings.now))) }
+    ensures ok { IfOk result (λ v. v.items
+        ≡ pdu_text (with_variables (pdu_of front.now) (map B.says bindings.now))) }
     ensures size { IfOk result (λ v. length v.items ≤ LARGEST) }
-    ensures spelled { IfOk result (λ v. PduText v.items (with_variables (pdu_of front.now) (map B.says bindings.now))) }
+    ensures spelled { IfOk result (λ v. PduText v.items
+        (with_variables (pdu_of front.now) (map B.says bindings.now))) }
     ensures bindings { IfOk result
         (λ _. AreBindings (map B.says bindings.now) (variables_text (map B.says bindings.now))) }
     ensures refusal { IfErr result (λ e. IsWriteRefusal e.refusal) }
     ensures too_large { IsRefused result TooLarge
-        → LARGEST < length (pdu_text (with_variables (pdu_of front.now) (map B.says bindings.now))) }
+        → LARGEST < length (pdu_text (with_variables (pdu_of front.now)
+        (map B.says bindings.now))) }
     ensures memory { IsRefused result OutOfMemory
-        → length (pdu_text (with_variables (pdu_of front.now) (map B.says bindings.now))) ≤ LARGEST }
+        → length (pdu_text (with_variables (pdu_of front.now) (map B.says bindings.now)))
+        ≤ LARGEST }
 {
     let _numbers = (front.id, front.second, front.third);
     let Some(list_len) = bindings_len(bindings) else {
@@ -264,7 +276,8 @@ fn write_spelled<B: Spelled>(
 
 /// The tag and the numbers of a PDU, which has no bindings.
 fn bare_pdu(tag: u8, id: i32, second: i32, third: i32) -> Pdu<'static>
-    ensures { pdu_of result ≡ record { tag = tag; id = id; second = second; third = third; list = [] } }
+    ensures { pdu_of result ≡ record
+        { tag = tag; id = id; second = second; third = third; list = [] } }
 {
     Pdu {
         tag,
@@ -290,17 +303,22 @@ pub fn write_pdu(
 ) -> Result<Vec<u8>, RefusedAt>
     requires tag { IsPduTag tag }
     requires fit { All (λ b. CanBeWritten (variable_of b)) bindings.now }
-    ensures ok { IfOk result (λ v. v.items ≡ pdu_text (pdu_with tag id second third (map variable_of bindings.now))) }
+    ensures ok { IfOk result (λ v. v.items
+        ≡ pdu_text (pdu_with tag id second third (map variable_of bindings.now))) }
     ensures size { IfOk result (λ v. length v.items ≤ LARGEST) }
-    ensures spelled { IfOk result (λ v. PduText v.items (pdu_with tag id second third (map variable_of bindings.now))) }
+    ensures spelled { IfOk result (λ v. PduText v.items
+        (pdu_with tag id second third (map variable_of bindings.now))) }
     ensures bindings { IfOk result
-        (λ _. AreBindings (map variable_of bindings.now) (variables_text (map variable_of bindings.now))) }
+        (λ _. AreBindings (map variable_of bindings.now)
+        (variables_text (map variable_of bindings.now))) }
     ensures element { IfOk result (λ v. IsOneElement v.items) }
     ensures refusal { IfErr result (λ e. IsWriteRefusal e.refusal) }
     ensures too_large { IsRefused result TooLarge
-        → LARGEST < length (pdu_text (pdu_with tag id second third (map variable_of bindings.now))) }
+        → LARGEST < length (pdu_text (pdu_with tag id second third
+        (map variable_of bindings.now))) }
     ensures memory { IsRefused result OutOfMemory
-        → length (pdu_text (pdu_with tag id second third (map variable_of bindings.now))) ≤ LARGEST }
+        → length (pdu_text (pdu_with tag id second third (map variable_of bindings.now)))
+        ≤ LARGEST }
 {
     write_pdu_of(alloc, tag, id, second, third, bindings)
 }
@@ -319,9 +337,11 @@ pub fn write_pdu_of<B: Spelled>(
 ) -> Result<Vec<u8>, RefusedAt>
     requires tag { IsPduTag tag }
     requires fit { All (λ b. B.fits b) bindings.now }
-    ensures ok { IfOk result (λ v. v.items ≡ pdu_text (pdu_with tag id second third (map B.says bindings.now))) }
+    ensures ok { IfOk result (λ v. v.items
+        ≡ pdu_text (pdu_with tag id second third (map B.says bindings.now))) }
     ensures size { IfOk result (λ v. length v.items ≤ LARGEST) }
-    ensures spelled { IfOk result (λ v. PduText v.items (pdu_with tag id second third (map B.says bindings.now))) }
+    ensures spelled { IfOk result (λ v. PduText v.items
+        (pdu_with tag id second third (map B.says bindings.now))) }
     ensures bindings { IfOk result
         (λ _. AreBindings (map B.says bindings.now) (variables_text (map B.says bindings.now))) }
     ensures element { IfOk result (λ v. IsOneElement v.items) }

@@ -27,7 +27,8 @@ fn read_variable(
 ) -> Result<(VariableBinding<'_>, usize), BerFault>
     requires start { at ≤ end }
     requires within { end ≤ length bytes.now }
-    ensures value { option_map (λ x. (bound_variable x.0, slice_range bytes.now x.1 end)) (result_ok result)
+    ensures value { option_map (λ x. (bound_variable x.0, slice_range bytes.now x.1 end))
+        (result_ok result)
         ≡ binding_in (slice_range bytes.now at end) }
     ensures ordered { IfOk result (λ x. (at < x.1) × (x.1 ≤ end)) }
 {

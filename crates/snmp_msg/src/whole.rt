@@ -125,7 +125,8 @@ fn put_pdu(out: &mut Vec<u8>, pdu: &Pdu<'_>, list_len: usize) -> Result<(), Allo
     requires list { after_variables pdu.now.list.now ≡ [] }
     requires size { list_len ≡ length (variables_text (variables_of pdu.now.list.now)) }
     requires within { list_len ≤ LARGEST }
-    ensures ok { OnOk result (out.new.items ≡ out.old.items ++ pdu_text (respelled (pdu_of pdu.now))) }
+    ensures ok { OnOk result (out.new.items
+        ≡ out.old.items ++ pdu_text (respelled (pdu_of pdu.now))) }
 {
     put_pdu_front(out, pdu, list_len)?;
     put_list(out, pdu.list)?;
@@ -160,7 +161,8 @@ fn spell_layers(
     contents: &Measured<'_>,
     size: usize,
 ) -> Result<Vec<u8>, AllocError>
-    requires fits { WholeFits (message_with header.now (fields_of security.now) (measured_parts contents.now)) }
+    requires fits { WholeFits (message_with header.now (fields_of security.now)
+        (measured_parts contents.now)) }
     requires short { IsShort (fields_of security.now) }
     requires measured { IsMeasured contents.now }
     requires within { length
@@ -189,8 +191,10 @@ pub fn write_layers(alloc: Global, layers: &Layers<'_>) -> Result<Vec<u8>, Refus
     ensures ok { IfOk result (λ v. v.items ≡ whole_text (whole_of layers.now)) }
     ensures size { IfOk result (λ v. length v.items ≤ LARGEST) }
     ensures refusal { IfErr result (λ e. IsWriteRefusal e.refusal) }
-    ensures too_large { IsRefused result TooLarge → LARGEST < length (whole_text (whole_of layers.now)) }
-    ensures memory { IsRefused result OutOfMemory → length (whole_text (whole_of layers.now)) ≤ LARGEST }
+    ensures too_large { IsRefused result TooLarge
+        → LARGEST < length (whole_text (whole_of layers.now)) }
+    ensures memory { IsRefused result OutOfMemory
+        → length (whole_text (whole_of layers.now)) ≤ LARGEST }
 {
     if !is_short(&layers.security) {
         return Err(RefusedAt::plain(Refusal::TooLarge));

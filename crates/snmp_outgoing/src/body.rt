@@ -34,7 +34,8 @@ impl<'a> Body<'a> {
         ensures is { result ≡ front_in self.now }
         ensures tag { result.tag ≡ self.now.tag }
         ensures pdu { pdu_after result (map variable_of self.now.bindings.now) ≡ pdu_in self.now }
-        ensures scoped { scoped_after result (map variable_of self.now.bindings.now) ≡ scoped_of self.now }
+        ensures scoped { scoped_after result (map variable_of self.now.bindings.now)
+            ≡ scoped_of self.now }
     {
         Front {
             context_engine: self.context_engine,

@@ -132,13 +132,16 @@ pub fn count_within<B: Spelled>(
     requires fit { All (λ b. B.fits b) bindings.now }
     requires limit { limit ≤ LARGEST }
     ensures some { IfSome result
-        (IsLongestFront users.now.users limit (λ vs. sent_with envelope.now (scoped_after front.now vs))
+        (IsLongestFront users.now.users limit
+        (λ vs. sent_with envelope.now (scoped_after front.now vs))
         (map B.says bindings.now)) }
 
     // It can be written.
     ensures scoped { IfSome result
-        (λ count. length (scoped_after front.now (map B.says (take count bindings.now))) ≤ 2 * LARGEST) }
-    ensures none { IfNone result (IsBeyond users.now.users limit (sent_with envelope.now (scoped_after front.now []))) }
+        (λ count. length (scoped_after front.now (map B.says (take count bindings.now)))
+        ≤ 2 * LARGEST) }
+    ensures none { IfNone result (IsBeyond users.now.users limit
+        (sent_with envelope.now (scoped_after front.now []))) }
 {
     sealed_size();
     if front.context_engine.len().max(front.context_name.len()) > LARGEST {

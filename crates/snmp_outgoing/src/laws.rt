@@ -25,7 +25,8 @@ use usm_core::{sealed_is_authentic, sealed_is_opened, sealed_is_read, sealed_siz
 /// What was sealed for an agent or a manager is accepted by it, with what was sent given on, exactly where
 /// its pair is in the time window; without auth always. It has no other answer but NotInWindow.
 pub fn sealed_is_accepted()
-    ensures { (taker : Taker) (senders users : List User) (now : ℕ) (m : Sending) (c : Contexts) (p : PduParts)
+    ensures { (taker : Taker) (senders users : List User) (now : ℕ)
+        (m : Sending) (c : Contexts) (p : PduParts)
         (text : List ℕ)
         → IsFor taker senders users m c p → ClockRuns taker now → Seals senders m (Ok text)
         → IsTakenInTime taker users now text m c p }
@@ -45,7 +46,8 @@ pub fn spoken_is_accepted()
     ensures { (taker : Taker) (senders users : List User) (now : ℕ) (s : Speech) (text : List ℕ)
         → SpeechFits s → AllowsEngine (side_at taker) s.engine
         → HasSameUser (side_at taker) senders users s.user s.level → ClockRuns taker now
-        → Seals senders (spoken s) (Ok text) → IsTakenInTime taker users now text (spoken s) (spoken_contexts s) s.pdu }
+        → Seals senders (spoken s) (Ok text)
+        → IsTakenInTime taker users now text (spoken s) (spoken_contexts s) s.pdu }
 {
     written_again();
     pdu_written_again();
@@ -57,9 +59,11 @@ pub fn spoken_is_accepted()
 /// engine that has its user, with the same ScopedPDU given on, exactly where the pair written is in the
 /// agent's window; at noAuthNoPriv always.
 pub fn request_is_accepted()
-    ensures { (senders users : List User) (engine : List ℕ) (boots started now : ℕ) (held : Option SeenPair)
+    ensures { (senders users : List User) (engine : List ℕ)
+        (boots started now : ℕ) (held : Option SeenPair)
         (moment id : ℕ) (user : List ℕ) (level : Level) (front : Asked) (vs : List Variable) (salt text : List ℕ)
-        → RequestFits held id engine user salt front vs → HasSameUser (agent engine) senders users user level
+        → RequestFits held id engine user salt front vs
+        → HasSameUser (agent engine) senders users user level
         → now - started ≤ pair_max
         → Seals senders (requesting held moment id engine user level front vs salt) (Ok text)
         → IsTakenInTime (as_agent engine boots started) users now text

@@ -73,8 +73,10 @@ impl<'a, B: Spelled> Measured<'a, B> {
         ensures fits { IfSome result (IsMeasured B.fits B.says) }
         ensures front { IfSome result (λ m. m.front ≡ front.now) }
         ensures bindings { IfSome result (λ m. m.bindings.now ≡ bindings.now) }
-        ensures spelled { IfSome result (λ _. IsSpelled (pdu_after front.now (map B.says bindings.now))) }
-        ensures none { IfNone result (LARGEST < length (scoped_after front.now (map B.says bindings.now))) }
+        ensures spelled { IfSome result
+            (λ _. IsSpelled (pdu_after front.now (map B.says bindings.now))) }
+        ensures none { IfNone result (LARGEST < length
+            (scoped_after front.now (map B.says bindings.now))) }
     {
         one_element();
         if front.context_engine.len().max(front.context_name.len()) > LARGEST {

@@ -51,10 +51,12 @@ pub fn write_body(
     body: &Body<'_>,
 ) -> Result<Vec<u8>, RefusedAt>
     requires body { BodyFits body.now }
-    ensures rows { IfSome (seal_answer result) (Seals users.old.users (sent envelope.now body.now)) }
+    ensures rows { IfSome (seal_answer result)
+        (Seals users.old.users (sent envelope.now body.now)) }
 
     // The refusals before the text come before want of memory.
-    ensures memory { IsRefused result OutOfMemory → IsSealable users.old.users (sent envelope.now body.now) }
+    ensures memory { IsRefused result OutOfMemory
+        → IsSealable users.old.users (sent envelope.now body.now) }
 
     // What was written has bindings that are read again.
     ensures spelled { IfOk result (λ _. IsSpelled (pdu_in body.now)) }
@@ -81,7 +83,8 @@ pub fn write_body_of<B: Spelled>(
     ensures rows { IfSome (seal_answer result)
         (Seals users.old.users (sent_with envelope.now (scoped_after front.now (map B.says bindings.now)))) }
     ensures memory { IsRefused result OutOfMemory
-        → IsSealable users.old.users (sent_with envelope.now (scoped_after front.now (map B.says bindings.now))) }
+        → IsSealable users.old.users (sent_with envelope.now
+        (scoped_after front.now (map B.says bindings.now))) }
     ensures spelled { IfOk result (λ _. IsSpelled (pdu_after front.now (map B.says bindings.now))) }
     ensures short { IsRefused result TooLarge
         → LARGEST < 150 + length envelope.now.engine.now + length envelope.now.user.now
@@ -89,8 +92,8 @@ pub fn write_body_of<B: Spelled>(
     ensures users { users.new.users ≡ users.old.users }
 {
     sealed_size();
-    supports(users, envelope.user, envelope.level)?;
     let Some(scoped) = Measured::of(front, bindings) else {
+        supports(users, envelope.user, envelope.level)?;
         return Err(RefusedAt::plain(Refusal::TooLarge));
     };
     users.seal_of(
@@ -134,7 +137,8 @@ pub fn write_within<B: Spelled>(
         Seals users.old.users (sent_with envelope.now (scoped_after front.now (map B.says bindings.now)))
         (Ok text.items)) }
     ensures memory { IsRefused result OutOfMemory
-        → IsSealable users.old.users (sent_with envelope.now (scoped_after front.now (map B.says bindings.now))) }
+        → IsSealable users.old.users (sent_with envelope.now
+        (scoped_after front.now (map B.says bindings.now))) }
 
     // What is too long is told before memory is asked for.
     ensures counted { IsRefused result OutOfMemory
@@ -146,11 +150,12 @@ pub fn write_within<B: Spelled>(
     sealed_size();
     some_sealed();
     one_sealed();
-    supports(users, envelope.user, envelope.level)?;
     let Some(measured) = Measured::of(front, bindings) else {
+        supports(users, envelope.user, envelope.level)?;
         return Err(RefusedAt::plain(Refusal::TooLarge));
     };
     if !is_within(users, envelope, front, measured.list_len, room(limit)) {
+        supports(users, envelope.user, envelope.level)?;
         return Err(RefusedAt::plain(Refusal::TooLarge));
     }
     users.seal_of(
@@ -184,7 +189,8 @@ pub fn write_front<B: Spelled>(
         (map B.says bindings.now)) }
     ensures memory { IsRefused result OutOfMemory
         → IsSealable users.old.users (sent_with envelope.now (scoped_after front.now [])) }
-    ensures spelled { IfOk result (λ f. IsSpelled (pdu_after front.now (take f.count (map B.says bindings.now)))) }
+    ensures spelled { IfOk result (λ f. IsSpelled
+        (pdu_after front.now (take f.count (map B.says bindings.now)))) }
     ensures users { users.new.users ≡ users.old.users }
 {
     some_sealed();
@@ -206,7 +212,8 @@ pub fn write_plain(
 ) -> Result<Vec<u8>, RefusedAt>
     requires level { envelope.now.level ≡ NoAuthNoPriv }
     requires body { BodyFits body.now }
-    ensures rows { IfSome (seal_answer result) (Seals users.now.users (sent envelope.now body.now)) }
+    ensures rows { IfSome (seal_answer result)
+        (Seals users.now.users (sent envelope.now body.now)) }
     ensures short { IsRefused result TooLarge
         → LARGEST < 150 + length envelope.now.engine.now + length envelope.now.user.now
         + length (scoped_of body.now) }

@@ -24,7 +24,8 @@ pub(crate) struct RowLines {
 impl RowLines {
     /// Those of a configuration's text, which has these rows.
     pub(crate) fn of(alloc: Global, text: &[u8], rows: &ConfigRows) -> Result<RowLines, AllocError>
-        ensures { IfOk result (AreRowLines text.now rows.now.users.items (tables_of rows.now.access)) }
+        ensures { IfOk result (AreRowLines text.now rows.now.users.items
+            (tables_of rows.now.access)) }
     {
         let access = &rows.access;
         Ok(RowLines {

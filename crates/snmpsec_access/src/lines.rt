@@ -53,7 +53,8 @@ fn put_hint(
 fn lines(alloc: Global, hints: &[Hint<'_>], places: &RowLines) -> Result<Vec<u8>, AllocError>
     ensures { IfOk result
         (λ text. text.items ≡ flat_map
-        (λ hint. hint_line (line_in places.now (table_of hint.what) hint.position) (told hint)) hints.now) }
+        (λ hint. hint_line (line_in places.now (table_of hint.what) hint.position) (told hint))
+        hints.now) }
 {
     let mut out = Vec::new(alloc);
     for hint in hints {
@@ -68,7 +69,8 @@ fn lines(alloc: Global, hints: &[Hint<'_>], places: &RowLines) -> Result<Vec<u8>
 /// of the row's heading `[[TABLE]]` in the text that has these rows; where not each row of the table has such
 /// a heading at the beginning of a line, `, line LINE` isn't there. The error is out of memory.
 pub fn hint_text(alloc: Global, text: &[u8], rows: &ConfigRows) -> Result<Vec<u8>, AllocError>
-    ensures { IfOk result (λ out. out.items ≡ lines_of text.now rows.now.users.items (tables_of rows.now.access)
+    ensures { IfOk result (λ out. out.items
+        ≡ lines_of text.now rows.now.users.items (tables_of rows.now.access)
         (hints_of rows.now.users.items (tables_of rows.now.access))) }
 {
     let hints = hints(alloc, rows)?;

@@ -30,7 +30,8 @@ impl<'a> Names<'a> {
     /// Adds a name.
     fn insert(&mut self, name: &'a [u8]) -> Result<(), AllocError>
         ensures { OnOk result
-            ((other : List ℕ) → has self.new other ≡ (has self.old other || bytes_eq other name.now)) }
+            ((other : List ℕ) → has self.new other
+            ≡ (has self.old other || bytes_eq other name.now)) }
     {
         self.octets.insert(name)?;
         Ok(())

@@ -24,7 +24,8 @@ fn put_if<'a>(
     position: usize,
     name: &'a [u8],
 ) -> Result<(), AllocError>
-    ensures { OnOk result (all_told hints.new.items ≡ all_told hints.old.items ++ if_so is_odd what position name.now) }
+    ensures { OnOk result (all_told hints.new.items
+        ≡ all_told hints.old.items ++ if_so is_odd what position name.now) }
 {
     if is_odd {
         hints.push(Hint {
@@ -63,7 +64,8 @@ fn put_group<'a>(
     requires { IsKnown known.now }
     ensures { OnOk result
         (all_told hints.new.items
-        ≡ all_told hints.old.items ++ group_hints (users_of known.now) (rows_of known.now) (position, row.now)) }
+        ≡ all_told hints.old.items ++ group_hints (users_of known.now)
+        (rows_of known.now) (position, row.now)) }
 {
     let (group, name) = (row.group.as_slice(), row.name.as_slice());
     let is_idle = !known.with_access.has(group);
@@ -173,7 +175,8 @@ fn put_users<'a>(hints: &mut Vec<Hint<'a>>, known: &Known<'a>) -> Result<(), All
     requires { IsKnown known.now }
     ensures { OnOk result
         (all_told hints.new.items
-        ≡ all_told hints.old.items ++ of_each (user_hints (rows_of known.now)) (users_of known.now)) }
+        ≡ all_told hints.old.items ++ of_each (user_hints (rows_of known.now))
+        (users_of known.now)) }
 {
     for (position, row) in known.rows.users.iter().enumerate() {
         put_user(hints, known, position, row)?;
@@ -200,7 +203,8 @@ fn put_accesses<'a>(hints: &mut Vec<Hint<'a>>, known: &Known<'a>) -> Result<(), 
     requires { IsKnown known.now }
     ensures { OnOk result
         (all_told hints.new.items
-        ≡ all_told hints.old.items ++ of_each (access_hints (rows_of known.now)) (rows_of known.now).access) }
+        ≡ all_told hints.old.items ++ of_each (access_hints (rows_of known.now))
+        (rows_of known.now).access) }
 {
     for (position, row) in known.rows.access.access.iter().enumerate() {
         put_access(hints, known, position, row)?;
@@ -213,7 +217,8 @@ fn put_families<'a>(hints: &mut Vec<Hint<'a>>, known: &Known<'a>) -> Result<(), 
     requires { IsKnown known.now }
     ensures { OnOk result
         (all_told hints.new.items
-        ≡ all_told hints.old.items ++ of_each (family_hints (rows_of known.now)) (rows_of known.now).families) }
+        ≡ all_told hints.old.items ++ of_each (family_hints (rows_of known.now))
+        (rows_of known.now).families) }
 {
     for (position, row) in known.rows.access.families.iter().enumerate() {
         put_family(hints, known, position, row)?;
@@ -224,7 +229,8 @@ fn put_families<'a>(hints: &mut Vec<Hint<'a>>, known: &Known<'a>) -> Result<(), 
 /// What is no fault in the rows and is probably a mistake: the tables in their order, the rows of each from 0, and of
 /// one row in the order of `Oddity`. Each name is looked up once. The error is out of memory.
 pub fn hints<'a>(alloc: Global, rows: &'a ConfigRows) -> Result<Vec<Hint<'a>>, AllocError>
-    ensures { IfOk result (λ made. all_told made.items ≡ hints_of rows.now.users.items (tables_of rows.now.access)) }
+    ensures { IfOk result (λ made. all_told made.items
+        ≡ hints_of rows.now.users.items (tables_of rows.now.access)) }
 {
     let known = Known::of(alloc, rows)?;
     let mut hints = Vec::new(alloc);

@@ -64,7 +64,8 @@ pub(crate) fn rising_rows<'a>(
 /// Returns the row with this subtree. A binary search finds it.
 fn row_at<'a>(rows: &[&'a FamilyRow], subtree: &[u32]) -> Option<&'a FamilyRow>
     requires { IsSorted spec_order (rows_at rows.now) }
-    ensures { MatchOption result ((row : ARow) → Contains (rows_at rows.now) row → row.subtree ≢ subtree.now)
+    ensures { MatchOption result ((row : ARow) → Contains (rows_at rows.now) row
+        → row.subtree ≢ subtree.now)
         (λ row. Contains (rows_at rows.now) row.now × (row.now.subtree ≡ subtree.now)) }
 {
     let found = rows.binary_search_by(|row| arcs_order(row.subtree.as_slice(), subtree));
@@ -97,7 +98,8 @@ fn says(rows: &[&FamilyRow], variable: &[u32]) -> bool
 fn keep_needed<'a>(kept: &mut Vec<&'a FamilyRow>, row: &'a FamilyRow) -> Result<(), AllocError>
     requires exact { AreExact (rows_at kept.old.items) }
     requires rising { IsSorted spec_order (rows_at kept.old.items) }
-    requires one_each { (x y : ARow) → Contains (rows_at kept.old.items) x → Contains (rows_at kept.old.items) y
+    requires one_each { (x y : ARow) → Contains (rows_at kept.old.items) x
+        → Contains (rows_at kept.old.items) y
         → x.subtree ≡ y.subtree → x ≡ y }
     ensures { OnOk result (IsNext (rows_at kept.old.items) row.now (rows_at kept.new.items)) }
 {
@@ -132,7 +134,8 @@ pub(crate) fn needed_rows<'a>(
     rows: Vec<&'a FamilyRow>,
 ) -> Result<Vec<&'a FamilyRow>, AllocError>
     requires rising { IsSorted spec_order (rows_at rows.items) }
-    requires one_each { (x y : ARow) → Contains (rows_at rows.items) x → Contains (rows_at rows.items) y
+    requires one_each { (x y : ARow) → Contains (rows_at rows.items) x
+        → Contains (rows_at rows.items) y
         → x.subtree ≡ y.subtree → x ≡ y }
     ensures { IfOk result (λ kept. AreKept (rows_at rows.entry.items) (rows_at kept.items)) }
 {

@@ -49,7 +49,8 @@ pub(crate) fn told_of<'a>(
 ) -> Result<Told<'a>, AllocError>
     requires one_each { HasOneRowEach (tables_of rows.now) }
     requires same_rows { HaveSameRows (tables_of rows.now) access.now }
-    ensures { IfOk result (λ told. IsDecision (tables_of rows.now) (asker_of asking.now) (decision_of told)) }
+    ensures { IfOk result (λ told. IsDecision (tables_of rows.now)
+        (asker_of asking.now) (decision_of told)) }
 {
     match access.view_of(asking) {
         Ok(view) => told_of_view(alloc, &rows.families, view.as_slice()),

@@ -61,7 +61,8 @@ fn put_arc(
 
 /// Appends the subtree of the row.
 fn put_subtree(alloc: Global, out: &mut Vec<u8>, row: &FamilyRow) -> Result<(), AllocError>
-    ensures { OnOk result (out.new.items ≡ out.old.items ++ pattern_text (line_of row.now).pattern) }
+    ensures { OnOk result (out.new.items
+        ≡ out.old.items ++ pattern_text (line_of row.now).pattern) }
 {
     for (k, arc) in row.subtree.as_slice().iter().enumerate() {
         put_arc(alloc, out, &row.mask, k, *arc)?;
@@ -87,7 +88,8 @@ fn put_answer(
     asking: &Asking<'_>,
     answer: Access,
 ) -> Result<(), AllocError>
-    ensures { OnOk result (out.new.items ≡ out.old.items ++ answer_line (asker_of asking.now) answer) }
+    ensures { OnOk result (out.new.items
+        ≡ out.old.items ++ answer_line (asker_of asking.now) answer) }
 {
     put_head(alloc, out, asking)?;
     out.extend_from_slice(access_word(answer).as_bytes())?;
@@ -108,7 +110,8 @@ fn put_row(
     asking: &Asking<'_>,
     row: &FamilyRow,
 ) -> Result<(), AllocError>
-    ensures { OnOk result (out.new.items ≡ out.old.items ++ seen_line (asker_of asking.now) (line_of row.now)) }
+    ensures { OnOk result (out.new.items
+        ≡ out.old.items ++ seen_line (asker_of asking.now) (line_of row.now)) }
 {
     put_head(alloc, out, asking)?;
     out.extend_from_slice(sign(row.include).as_bytes())?;
@@ -165,7 +168,8 @@ fn put_told(
     told: &Told<'_>,
 ) -> Result<(), AllocError>
     ensures { OnOk result
-        (out.new.items ≡ out.old.items ++ decision_text (asker_of asking.now) (decision_of told.now)) }
+        (out.new.items ≡ out.old.items ++ decision_text (asker_of asking.now)
+        (decision_of told.now)) }
 {
     match told {
         Told::Refusal(answer) => put_answer(alloc, out, asking, *answer),
@@ -192,7 +196,8 @@ fn put_asked(
 ) -> Result<(), AllocError>
     requires one_each { HasOneRowEach (tables_of who.now.rows.now) }
     requires same_rows { HaveSameRows (tables_of who.now.rows.now) who.now.access.now }
-    ensures { OnOk result (SeesOn (tables_of who.now.rows.now) (asker_of asking.now ∷ []) out.old out.new) }
+    ensures { OnOk result (SeesOn (tables_of who.now.rows.now)
+        (asker_of asking.now ∷ []) out.old out.new) }
 {
     let told = told_of(alloc, who.access, who.rows, asking)?;
     put_told(alloc, &mut out.text, asking, &told)?;
@@ -268,7 +273,8 @@ pub fn sees(
 ) -> Result<Seen, AllocError>
     requires one_each { HasOneRowEach (tables_of rows.now) }
     requires same_rows { HaveSameRows (tables_of rows.now) access.now }
-    ensures { IfOk result (λ seen. TellsSeen (tables_of rows.now) model name.now seen.text.items seen.included) }
+    ensures { IfOk result (λ seen. TellsSeen
+        (tables_of rows.now) model name.now seen.text.items seen.included) }
 {
     let viewer = Viewer {
         access,

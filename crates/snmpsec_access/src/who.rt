@@ -30,7 +30,8 @@ pub struct WhoSeesQuery<'a> {
 
 /// The name of the group row is wanted at this level.
 fn is_wanted(wanted: &WhoSeesQuery<'_>, group: &GroupRow, level: Level) -> bool
-    ensures { let is_wanted = IsWanted wanted.now.only_users wanted.now.users.now group.now.model group.now.name level
+    ensures { let is_wanted = IsWanted wanted.now.only_users wanted.now.users.now
+        group.now.model group.now.name level
         in MatchBool result is_wanted (¬ is_wanted) }
 {
     if !wanted.only_users {
@@ -72,7 +73,8 @@ fn put_line(
     level: Level,
     context: &ContextRow,
 ) -> Result<(), AllocError>
-    ensures { OnOk result (out.new.items ≡ out.old.items ++ asker_line (asker view group.now level context.now)) }
+    ensures { OnOk result (out.new.items
+        ≡ out.old.items ++ asker_line (asker view group.now level context.now)) }
 {
     let model = group.model;
     let begin = format!(in alloc; "{model} ")?;
@@ -96,9 +98,11 @@ fn put_allowed(
     context: &ContextRow,
 ) -> Result<(), AllocError>
     requires ready { IsReady wanted.now }
-    requires wanted { IsWanted wanted.now.only_users wanted.now.users.now group.now.model group.now.name level }
+    requires wanted { IsWanted wanted.now.only_users wanted.now.users.now
+        group.now.model group.now.name level }
     ensures { OnOk result
-        (GoesOn (SeesIt wanted.now) (asker view group.now level context.now ∷ []) out.old.items out.new.items) }
+        (GoesOn (SeesIt wanted.now) (asker view group.now level context.now ∷ [])
+        out.old.items out.new.items) }
 {
     if is_allowed(wanted, view, group, level, context) {
         return put_line(alloc, out, view, group, level, context);
@@ -178,7 +182,8 @@ pub fn who_sees(
 ) -> Result<Vec<u8>, AllocError>
     requires { IsReady wanted.now }
     ensures { IfOk result
-        (λ text. TellsWho (tables_of wanted.now.rows.now) views.now wanted.now.only_users wanted.now.users.now
+        (λ text. TellsWho (tables_of wanted.now.rows.now) views.now
+        wanted.now.only_users wanted.now.users.now
         wanted.now.variable.now text.items) }
 {
     let mut out = Vec::new(alloc);

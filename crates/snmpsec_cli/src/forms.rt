@@ -1,6 +1,8 @@
 //! The parser of the command line, which is made of the tables of the commands.
 
-use crate::{Command, access, capture, diagnose, import, messages, own, replay, saved, wide};
+use crate::{
+    Command, about, access, capture, diagnose, file_checks, import, messages, questions, replay,
+};
 use clap::{Arg, ArgAction};
 use std::alloc::{AllocError, Global};
 
@@ -59,18 +61,18 @@ fn form_at(at: usize) -> &'static Form {
         1 => &messages::OPEN,
         2 => &access::CHECK_ACCESS,
         3 => &access::EXPLAIN_ACCESS,
-        4 => &wide::WHO_SEES,
-        5 => &wide::SEES,
+        4 => &questions::WHO_SEES,
+        5 => &questions::SEES,
         6 => &access::CHECK_CONFIG,
         7 => &import::IMPORT_SNMPD,
         8 => &replay::REPLAY,
         9 => &replay::MERGE_CLOCKS,
-        10 => &saved::CHECK_CLOCKS,
-        11 => &saved::CHECK_LOG,
+        10 => &file_checks::CHECK_CLOCKS,
+        11 => &file_checks::CHECK_LOG,
         12 => &capture::DATAGRAMS,
         13 => &diagnose::DIAGNOSE,
-        14 => &own::MANUAL,
-        _ => &own::VERSION_FORM,
+        14 => &about::MANUAL,
+        _ => &about::VERSION_FORM,
     }
 }
 

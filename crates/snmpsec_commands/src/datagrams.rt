@@ -4,7 +4,7 @@ use crate::arguments::{form_argument, moment_argument, ports_argument};
 use crate::complaint::Complaint;
 use capture_datagrams::datagrams::Unread;
 use capture_datagrams::forms::{Form, ReadOptions};
-use capture_datagrams::shown::{Printout, write_printout};
+use capture_datagrams::printout::{Printout, write_printout};
 use snmpsec_cli::DatagramsWords;
 use snmpsec_io::{ReadFault, Watched, load_file, open_log};
 use snmpsec_output::Output;

@@ -41,8 +41,10 @@ const GREATEST_FIRST: u64 = 1_000_000_000_000_000;
 
 /// The number of a log's first line, 1 to 10^15, in decimal without sign or leading zeros.
 pub fn first_line_of(word: &str) -> Option<u64>
-    ensures found { IfSome result (λ first. (1 ≤ first) × (first ≤ 1000000000000000) × (word.now ≡ decimal first)) }
-    ensures all { (first : ℕ) → 1 ≤ first → first ≤ 1000000000000000 → word.now ≡ decimal first → result ≡ Some first }
+    ensures found { IfSome result (λ first. (1 ≤ first) × (first ≤ 1000000000000000)
+        × (word.now ≡ decimal first)) }
+    ensures all { (first : ℕ) → 1 ≤ first → first ≤ 1000000000000000
+        → word.now ≡ decimal first → result ≡ Some first }
 {
     match read_decimal(word.as_bytes(), GREATEST_FIRST)? {
         0 => None,

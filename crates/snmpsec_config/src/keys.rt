@@ -51,7 +51,8 @@ pub(crate) fn optional_text<'a>(
     row: &'a Table,
     key: ConfigKey,
 ) -> Result<Option<&'a str>, ValueFault>
-    ensures ok { IfOk result (λ text. IsTextIfAny (at (table_view row.now) key) (option_map (λ t. t.now) text)) }
+    ensures ok { IfOk result (λ text. IsTextIfAny (at (table_view row.now) key)
+        (option_map (λ t. t.now) text)) }
     ensures fault { IfErr result
         (λ f. (f ≡ value_fault (at (table_view row.now) key) key)
         × ((text : Option (List ℕ)) → ¬ IsTextIfAny (at (table_view row.now) key) text)) }
@@ -75,7 +76,8 @@ fn text<'a>(row: &'a Table, key: ConfigKey) -> Option<&'a str>
 
 /// The text at a key, or the empty one where the key is absent.
 fn text_or_empty<'a>(row: &'a Table, key: ConfigKey) -> Option<&'a str>
-    ensures { MatchOption result ((text : List ℕ) → ¬ IsTextOrEmpty (at (table_view row.now) key) text)
+    ensures { MatchOption result ((text : List ℕ)
+        → ¬ IsTextOrEmpty (at (table_view row.now) key) text)
         (λ text. IsTextOrEmpty (at (table_view row.now) key) text.now) }
 {
     match value(row, key) {
@@ -221,7 +223,8 @@ pub(crate) fn flag(row: &Table, key: ConfigKey) -> Result<bool, ValueFault>
 
 /// The mask that these digits spell, in hex of either case.
 fn mask_of(digits: &str) -> Option<Mask>
-    ensures { MatchOption result ((mask : List ℕ) → decode_of digits.now ≡ Ok mask → length mask ≤ 16 → ⊥)
+    ensures { MatchOption result ((mask : List ℕ) → decode_of digits.now ≡ Ok mask
+        → length mask ≤ 16 → ⊥)
         (λ mask. (decode_of digits.now ≡ Ok mask) × (length mask ≤ 16)) }
 {
     let count = digits.len() / 2;
@@ -276,7 +279,8 @@ fn has(row: &Table, key: ConfigKey) -> bool
 /// A user's protocol and password for authentication: both or neither.
 pub(crate) fn auth<'a>(row: &'a Table) -> Result<Option<(Auth, &'a str)>, ValueFault>
     ensures ok { IfOk result
-        (λ own. AreAuth (at (table_view row.now) keys.Auth) (at (table_view row.now) keys.AuthPassword)
+        (λ own. AreAuth (at (table_view row.now) keys.Auth)
+        (at (table_view row.now) keys.AuthPassword)
         (option_map (λ o. (o.0, o.1.now)) own)) }
     ensures fault { IfErr result (IsAuthFault (table_view row.now)) }
 {

@@ -50,7 +50,8 @@ pub(crate) fn auth_of(word: &str) -> Option<Auth>
 /// How a context prefix is compared.
 pub(crate) fn matching_of(word: &str) -> Option<Matching>
     ensures found { IfSome result (λ matching. word.now ≡ matching_word matching) }
-    ensures all { (matching : AMatching) → word.now ≡ matching_word matching → result ≡ Some matching }
+    ensures all { (matching : AMatching) → word.now ≡ matching_word matching
+        → result ≡ Some matching }
 {
     match word {
         "exact" => Some(Matching::Exact),

@@ -57,7 +57,8 @@ pub fn octet_digits_fault(octets: &[u8]) -> Option<DigitsFault>
 fn digits_in_front(octets: &[u8]) -> usize
     ensures within { result ≤ length octets.now }
     ensures before { (k : ℕ) → k < result → is_ascii_hexdigit (slice_index octets.now k) ≡ true }
-    ensures found { result < length octets.now → is_ascii_hexdigit (slice_index octets.now result) ≡ false }
+    ensures found { result < length octets.now
+        → is_ascii_hexdigit (slice_index octets.now result) ≡ false }
 {
     for (count, octet) in octets.iter().enumerate() {
         if !octet.is_ascii_hexdigit() {

@@ -18,7 +18,8 @@ pub struct Failed;
 /// One read, which gives nothing only at the end.
 pub fn read_some<R: Read>(reader: &mut R, buf: &mut [u8]) -> Result<usize, Failed>
     ensures bound { IfOk result (λ n. n ≤ length buf.new) }
-    ensures ok { IfOk result (λ n. Consumes (R.remaining reader.old) (R.remaining reader.new) (take n buf.new)) }
+    ensures ok { IfOk result (λ n. Consumes (R.remaining reader.old)
+        (R.remaining reader.new) (take n buf.new)) }
     ensures end { IfOk result (λ n. n ≡ 0 → 0 < length buf.old → IsAtEnd (R.remaining reader.new)) }
     ensures err { OnErr result (Keeps (R.remaining reader.old) (R.remaining reader.new)) }
 {
@@ -37,7 +38,8 @@ pub fn read_some<R: Read>(reader: &mut R, buf: &mut [u8]) -> Result<usize, Faile
 pub fn read_full<R: Read>(reader: &mut R, buf: &mut [u8]) -> Result<usize, Failed>
     ensures room { length buf.new ≡ length buf.old }
     ensures bound { IfOk result (λ n. n ≤ length buf.new) }
-    ensures ok { IfOk result (λ n. Consumes (R.remaining reader.old) (R.remaining reader.new) (take n buf.new)) }
+    ensures ok { IfOk result (λ n. Consumes (R.remaining reader.old)
+        (R.remaining reader.new) (take n buf.new)) }
     ensures end { IfOk result (λ n. n < length buf.new → IsAtEnd (R.remaining reader.new)) }
     ensures err { OnErr result
         ((n : ℕ) × (n < length buf.new)
@@ -57,7 +59,8 @@ pub fn read_full<R: Read>(reader: &mut R, buf: &mut [u8]) -> Result<usize, Faile
 /// The next octet, or `None` at the end.
 pub fn read_octet<R: Read>(reader: &mut R) -> Result<Option<u8>, Failed>
     ensures ok { IfOk result (λ octet. MatchOption octet
-        (Consumes (R.remaining reader.old) (R.remaining reader.new) [] × IsAtEnd (R.remaining reader.new))
+        (Consumes (R.remaining reader.old) (R.remaining reader.new) []
+        × IsAtEnd (R.remaining reader.new))
         (λ x. Consumes (R.remaining reader.old) (R.remaining reader.new) (x ∷ []))) }
     ensures err { OnErr result (Keeps (R.remaining reader.old) (R.remaining reader.new)) }
 {
@@ -71,7 +74,8 @@ pub fn read_octet<R: Read>(reader: &mut R) -> Result<Option<u8>, Failed>
 /// Writes a front of the text that is not empty, and returns its length.
 fn write_some<W: Write>(writer: &mut W, text: &[u8]) -> Result<usize, Failed>
     ensures bound { IfOk result (λ n. (0 < n) × (n ≤ length text.now)) }
-    ensures ok { IfOk result (λ n. Appends (W.contents writer.old) (W.contents writer.new) (take n text.now)) }
+    ensures ok { IfOk result (λ n. Appends (W.contents writer.old)
+        (W.contents writer.new) (take n text.now)) }
     ensures err { OnErr result (Keeps (W.contents writer.old) (W.contents writer.new)) }
 {
     for _ in 0..TRIES {
@@ -88,7 +92,8 @@ fn write_some<W: Write>(writer: &mut W, text: &[u8]) -> Result<usize, Failed>
 /// Writes the whole text. Where that fails, it has written a front of it, and not the whole.
 pub fn write_whole<W: Write>(writer: &mut W, text: &[u8]) -> Result<(), Failed>
     ensures ok { OnOk result (Appends (W.contents writer.old) (W.contents writer.new) text.now) }
-    ensures err { OnErr result (WritesFront (W.contents writer.old) (W.contents writer.new) text.now) }
+    ensures err { OnErr result (WritesFront (W.contents writer.old)
+        (W.contents writer.new) text.now) }
 {
     let mut rest = text;
     while !rest.is_empty() {

@@ -33,7 +33,8 @@ pub fn read_whole<R: Read>(
     limit: usize,
 ) -> Result<Vec<u8>, FileFault>
     ensures bound { IfOk result (λ bytes. length bytes.items ≤ limit) }
-    ensures all { IfOk result (λ bytes. Consumes (R.remaining reader.old) (R.remaining reader.new) bytes.items
+    ensures all { IfOk result (λ bytes. Consumes (R.remaining reader.old)
+        (R.remaining reader.new) bytes.items
         × IsAtEnd (R.remaining reader.new)) }
 {
     read_whole_behind(alloc, b"", reader, limit)

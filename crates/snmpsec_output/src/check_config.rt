@@ -55,9 +55,11 @@ pub fn check_config_hinted(alloc: Global, config: &[u8]) -> Result<Output, Alloc
 /// The lines of the numbers of rows, and beside them the hints.
 fn counts_and_hints(alloc: Global, text: &[u8], rows: &ConfigRows) -> Result<Output, AllocError>
     ensures out { IfOk result
-        (λ output. output.out.items ≡ counts_text rows.now.users.items (tables_of rows.now.access)) }
+        (λ output. output.out.items ≡ counts_text rows.now.users.items
+        (tables_of rows.now.access)) }
     ensures err { IfOk result
-        (λ output. output.err.items ≡ lines_of text.now rows.now.users.items (tables_of rows.now.access)
+        (λ output. output.err.items ≡ lines_of text.now rows.now.users.items
+        (tables_of rows.now.access)
         (hints_of rows.now.users.items (tables_of rows.now.access))) }
     ensures status { IfOk result (λ output. output.status ≡ 0) }
 {
@@ -74,7 +76,8 @@ fn counts_and_hints(alloc: Global, text: &[u8], rows: &ConfigRows) -> Result<Out
 /// The lines of the numbers of rows.
 fn counts(alloc: Global, rows: &ConfigRows) -> Result<Output, AllocError>
     ensures out { IfOk result
-        (λ output. output.out.items ≡ counts_text rows.now.users.items (tables_of rows.now.access)) }
+        (λ output. output.out.items ≡ counts_text rows.now.users.items
+        (tables_of rows.now.access)) }
     ensures err { IfOk result (λ output. output.err.items ≡ []) }
     ensures status { IfOk result (λ output. output.status ≡ 0) }
 {

@@ -50,7 +50,8 @@ pub fn explain_text(alloc: Global, config: &[u8], words: &[&str; 6]) -> Result<O
 /// What decides on the question over these tables, which are made of the rows.
 fn decide(access: &Vacm, rows: &Rows, question: &Question<'_>) -> Explained
     requires { HaveSameRows (tables_of rows.now) access.now }
-    ensures answer { let asked = asked_of question.now in Allowed access.now asked.message asked.view asked.arcs
+    ensures answer { let asked = asked_of question.now in Allowed
+        access.now asked.message asked.view asked.arcs
         result.answer }
     ensures steps { let asked = asked_of question.now in TellsContext
         (tables_of rows.now) asked.message asked.view asked.arcs result.context }

@@ -34,7 +34,8 @@ pub fn octets_line(alloc: Global, name: &str, octets: &[u8]) -> Result<String, A
 
 /// A line with a name and octets that may be text, with the text as a note if names are asked for.
 fn text_line(alloc: Global, names: bool, name: &str, octets: &[u8]) -> Result<String, AllocError>
-    ensures { IfOk result (λ text. IsNamed names (spec.octets_line name.now octets.now) (string_bytes text)) }
+    ensures { IfOk result (λ text. IsNamed names (spec.octets_line name.now octets.now)
+        (string_bytes text)) }
 {
     let digits = octets_text(alloc, octets)?;
     let note = octets_note(alloc, names, octets)?;
@@ -92,7 +93,8 @@ pub fn message_lines(
     security: &Security<'_>,
 ) -> Result<String, AllocError>
     ensures { IfOk result
-        (λ text. IsNamed names (spec.message_lines header.now (fields_of security.now)) (string_bytes text)) }
+        (λ text. IsNamed names (spec.message_lines header.now (fields_of security.now))
+        (string_bytes text)) }
 {
     let header = header_lines(alloc, header)?;
     let security = security_lines(alloc, names, security)?;
@@ -101,7 +103,8 @@ pub fn message_lines(
 
 /// A variable binding: its name, and the tag and the content of its value.
 fn binding_line(alloc: Global, names: bool, binding: &Binding<'_>) -> Result<String, AllocError>
-    ensures { IfOk result (λ text. IsNamed names (binding_line (variable_of binding.now)) (string_bytes text)) }
+    ensures { IfOk result (λ text. IsNamed names (binding_line (variable_of binding.now))
+        (string_bytes text)) }
 {
     let name = &binding.name;
     let tag = hex::encode(alloc, [binding.tag].as_slice())?;
@@ -123,7 +126,8 @@ fn pdu_line(alloc: Global, names: bool, pdu: &Pdu<'_>) -> Result<String, AllocEr
 /// The line of a PDU, and its bindings, a line each.
 fn pdu_lines(alloc: Global, names: bool, pdu: &Pdu<'_>) -> Result<String, AllocError>
     ensures { IfOk result
-        (λ text. IsNamed names (pdu_line (pdu_of pdu.now) ++ flat_map binding_line (variables_of pdu.now.list.now))
+        (λ text. IsNamed names (pdu_line (pdu_of pdu.now) ++ flat_map binding_line
+        (variables_of pdu.now.list.now))
         (string_bytes text)) }
 {
     let mut text = pdu_line(alloc, names, pdu)?;
@@ -144,7 +148,8 @@ pub fn scoped_lines(
     pdu: &Pdu<'_>,
 ) -> Result<String, AllocError>
     ensures { IfOk result
-        (λ text. IsNamed names (spec.scoped_lines scoped.now.engine.now scoped.now.name.now (pdu_of pdu.now))
+        (λ text. IsNamed names (spec.scoped_lines scoped.now.engine.now scoped.now.name.now
+        (pdu_of pdu.now))
         (string_bytes text)) }
 {
     let engine = octets_line(alloc, "context-engine", scoped.engine)?;

@@ -45,7 +45,8 @@ fn taken_lines(
     taken: &Taken<'_>,
 ) -> Result<String, AllocError>
     ensures { IfOk result
-        (λ text. TellsWith names (verified_of checked.now) (text_of taken.now.text) (string_bytes text)) }
+        (λ text. TellsWith names (verified_of checked.now)
+        (text_of taken.now.text) (string_bytes text)) }
 {
     let message = message_lines(alloc, names, &checked.message.header, &checked.security)?;
     let level = level_word(checked.level);

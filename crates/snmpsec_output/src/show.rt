@@ -25,7 +25,8 @@ use std::alloc::{AllocError, Global};
 
 /// The lines of msgData: sealed octets, or the contexts and the PDU.
 fn contents_lines(alloc: Global, names: bool, contents: &Layer<'_>) -> Result<String, AllocError>
-    ensures { IfOk result (λ text. IsNamed names (contents_lines contents.now) (string_bytes text)) }
+    ensures { IfOk result (λ text. IsNamed names (contents_lines contents.now)
+        (string_bytes text)) }
 {
     match contents {
         Layer::Sealed(octets) => octets_line(alloc, "sealed", octets),
@@ -35,7 +36,8 @@ fn contents_lines(alloc: Global, names: bool, contents: &Layer<'_>) -> Result<St
 
 /// What a message says in all its layers, or why it isn't shown.
 fn read_shown(datagram: &[u8]) -> Result<Layers<'_>, RefusedAt>
-    ensures exact { MatchResult result (λ m. IsUsmMessage datagram.now × Says datagram.now (whole_of m))
+    ensures exact { MatchResult result
+        (λ m. IsUsmMessage datagram.now × Says datagram.now (whole_of m))
         (λ refused. RefusesShow datagram.now refused.refusal) }
     ensures fits { IfOk result (λ m. WholeFits (whole_of m)) }
     ensures list { IfOk result (λ m. IsReadLayer m.contents) }
@@ -69,7 +71,8 @@ fn message_text(alloc: Global, names: bool, datagram: &[u8]) -> Result<String, R
 /// The octets that one or more pairs of hex digits write, in either case.
 pub(crate) fn datagram_of(alloc: Global, digits: &str) -> Result<Option<Vec<u8>>, AllocError>
     ensures { IfOk result
-        (λ found. MatchOption found (IsNoHex digits.now) (λ octets. decode_of digits.now ≡ Ok octets.items)) }
+        (λ found. MatchOption found (IsNoHex digits.now)
+        (λ octets. decode_of digits.now ≡ Ok octets.items)) }
 {
     if digits.is_empty() {
         return Ok(None);

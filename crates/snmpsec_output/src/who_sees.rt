@@ -38,7 +38,8 @@ pub fn who_text(
           err = output.err.items;
           status = output.status;
         } in
-        let words : WhoWords = record { variable = variable.now; view = option_map (λ word. word.now) view.entry } in
+        let words : WhoWords = record { variable = variable.now; view = option_map
+        (λ word. word.now) view.entry } in
         PrintsWho config.now words only_users printed) }
 {
     let asked = match asked_of(variable, view) {

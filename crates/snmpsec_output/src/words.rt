@@ -38,8 +38,10 @@ pub fn status_of(access: Access) -> u8
 
 /// The number of a message's security model, 1 to 2,147,483,647, in decimal without sign or leading zeros.
 pub fn model_of(word: &str) -> Option<u32>
-    ensures found { IfSome result (λ model. (1 ≤ model) × (model ≤ MAX_INTEGER32) × (word.now ≡ decimal model)) }
-    ensures all { (model : ℕ) → 1 ≤ model → model ≤ MAX_INTEGER32 → word.now ≡ decimal model → result ≡ Some model }
+    ensures found { IfSome result (λ model. (1 ≤ model) × (model ≤ MAX_INTEGER32)
+        × (word.now ≡ decimal model)) }
+    ensures all { (model : ℕ) → 1 ≤ model → model ≤ MAX_INTEGER32
+        → word.now ≡ decimal model → result ≡ Some model }
 {
     match read_decimal(word.as_bytes(), u64::from(MAX_INTEGER32))? {
         0 => None,
@@ -50,7 +52,8 @@ pub fn model_of(word: &str) -> Option<u32>
 /// A moment, in seconds from a beginning that the caller keeps, in decimal without sign or leading zeros.
 pub fn moment_of(word: &str) -> Option<u64>
     ensures found { IfSome result (λ moment. word.now ≡ decimal moment) }
-    ensures all { (moment : ℕ) → moment < 2 ^ 64 → word.now ≡ decimal moment → result ≡ Some moment }
+    ensures all { (moment : ℕ) → moment < 2 ^ 64 → word.now ≡ decimal moment
+        → result ≡ Some moment }
 {
     read_decimal(word.as_bytes(), u64::MAX)
 }

@@ -136,9 +136,11 @@ fn look<R: BufRead>(reader: &mut R, line: &mut Vec<u8>) -> Result<Option<Ahead>,
     requires short { vec_len line.old ≤ 131072 }
     requires capacity { 131072 ≤ vec_capacity line.old }
     ensures ok { IfOk result
-        (λ ahead. Looks line.old.items line.new.items (R.remaining reader.old) (R.remaining reader.new) ahead) }
+        (λ ahead. Looks line.old.items line.new.items (R.remaining reader.old)
+        (R.remaining reader.new) ahead) }
     ensures err { OnErr result
-        ((line.new.items ≡ line.old.items) × Keeps (R.remaining reader.old) (R.remaining reader.new)) }
+        ((line.new.items ≡ line.old.items)
+        × Keeps (R.remaining reader.old) (R.remaining reader.new)) }
     ensures short { vec_len line.new ≤ 131072 }
     ensures capacity { 131072 ≤ vec_capacity line.new }
 {
@@ -165,7 +167,8 @@ fn look_on<R: BufRead>(reader: &mut R, line: &mut Vec<u8>) -> Result<Ahead, Fail
     ensures ok { IfOk result
         (LooksAhead line.old.items line.new.items (R.remaining reader.old) (R.remaining reader.new)) }
     ensures err { OnErr result
-        ((line.new.items ≡ line.old.items) × Keeps (R.remaining reader.old) (R.remaining reader.new)) }
+        ((line.new.items ≡ line.old.items)
+        × Keeps (R.remaining reader.old) (R.remaining reader.new)) }
     ensures short { vec_len line.new ≤ 131072 }
     ensures capacity { 131072 ≤ vec_capacity line.new }
 {
@@ -185,7 +188,8 @@ fn take_octet<R: Read>(reader: &mut R, line: &mut Vec<u8>) -> Result<Ahead, Fail
         (LooksAhead line.old.items line.new.items (R.remaining reader.old) (R.remaining reader.new)) }
     ensures end { result ≡ Ok Ahead.End → IsAtEnd (R.remaining reader.new) }
     ensures err { OnErr result
-        ((line.new.items ≡ line.old.items) × Keeps (R.remaining reader.old) (R.remaining reader.new)) }
+        ((line.new.items ≡ line.old.items)
+        × Keeps (R.remaining reader.old) (R.remaining reader.new)) }
     ensures short { vec_len line.new ≤ 131072 }
     ensures capacity { 131072 ≤ vec_capacity line.new }
 {
@@ -211,7 +215,8 @@ fn take_more<R: BufRead>(reader: &mut R, line: &mut Vec<u8>) -> Result<Ahead, Fa
         (LooksAhead line.old.items line.new.items (R.remaining reader.old) (R.remaining reader.new)) }
     ensures end { result ≡ Ok Ahead.End → IsAtEnd (R.remaining reader.new) }
     ensures err { OnErr result
-        ((line.new.items ≡ line.old.items) × Consumes (R.remaining reader.old) (R.remaining reader.new) []) }
+        ((line.new.items ≡ line.old.items)
+        × Consumes (R.remaining reader.old) (R.remaining reader.new) []) }
     ensures short { vec_len line.new ≤ 131072 }
     ensures capacity { 131072 ≤ vec_capacity line.new }
 {
@@ -226,7 +231,8 @@ fn take_more<R: BufRead>(reader: &mut R, line: &mut Vec<u8>) -> Result<Ahead, Fa
 /// Reads the next line into `line`, without its line feed.
 pub(crate) fn read_line<R: BufRead>(reader: &mut R, line: &mut Vec<u8>) -> Result<NextLine, Failed>
     requires { 131072 ≤ vec_capacity line.old }
-    ensures ok { IfOk result (ReadsLine line.new.items (R.remaining reader.old) (R.remaining reader.new)) }
+    ensures ok { IfOk result (ReadsLine line.new.items (R.remaining reader.old)
+        (R.remaining reader.new)) }
     ensures err { OnErr result (ReadsPart (R.remaining reader.old) (R.remaining reader.new)) }
     ensures capacity { 131072 ≤ vec_capacity line.new }
 {

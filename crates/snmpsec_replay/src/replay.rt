@@ -86,7 +86,8 @@ fn push_line(
     outcome: Outcome,
     waiting: &mut Vec<u8>,
 ) -> Result<(), AllocError>
-    ensures ok { OnOk result (waiting.new.items ≡ waiting.old.items ++ printed_line lines number moment outcome) }
+    ensures ok { OnOk result (waiting.new.items
+        ≡ waiting.old.items ++ printed_line lines number moment outcome) }
     ensures err { OnErr result (waiting.new.items ≡ waiting.old.items) }
 {
     if !lines {
@@ -105,7 +106,8 @@ fn answer(
     line: &[u8],
     waiting: &mut Vec<u8>,
 ) -> Step
-    ensures { AnswersLine lines manager.old number line.now waiting.old.items manager.new waiting.new.items result }
+    ensures { AnswersLine lines manager.old number line.now waiting.old.items
+        manager.new waiting.new.items result }
 {
     let Ok(entry) = read_entry(alloc, line) else {
         return Step::OutOfMemory;
@@ -126,7 +128,8 @@ fn answer(
 fn write_piece<W: Write>(writer: &mut W, waiting: &mut Vec<u8>) -> Result<(), Failed>
     ensures ok { OnOk result
         (WritesSome (W.contents writer.old) (W.contents writer.new) waiting.old.items waiting.new.items) }
-    ensures err { OnErr result (WritesFront (W.contents writer.old) (W.contents writer.new) waiting.old.items) }
+    ensures err { OnErr result (WritesFront (W.contents writer.old)
+        (W.contents writer.new) waiting.old.items) }
 {
     if waiting.len() < PIECE {
         return Ok(());
@@ -198,7 +201,8 @@ fn answer_lines<R: BufRead, W: Write>(
 /// Writes the saved text.
 fn save<W: Write>(manager: &Manager, writer: &mut W) -> Result<(), ReplayFault>
     ensures fits { AreMarks manager.now.clocks }
-    ensures ok { OnOk result (Appends (W.contents writer.old) (W.contents writer.new) (listing manager.now.clocks)) }
+    ensures ok { OnOk result (Appends (W.contents writer.old)
+        (W.contents writer.new) (listing manager.now.clocks)) }
     ensures err { IfErr result
         (SavesUnless (listing manager.now.clocks) (W.contents writer.old) (W.contents writer.new)) }
 {
@@ -226,7 +230,8 @@ pub fn replay_log<R: BufRead, W: Write>(
     writer: &mut W,
 ) -> Result<(), ReplayFault>
     ensures ok { OnOk result
-        (IfSome (R.remaining reader.old) (λ log. (text : List ℕ) × ReplayText from_line_1 manager log text
+        (IfSome (R.remaining reader.old)
+        (λ log. (text : List ℕ) × ReplayText from_line_1 manager log text
         × Appends (W.contents writer.old) (W.contents writer.new) text)) }
     ensures err { IfErr result (StopsBy from_line_1 manager record {
       unread = R.remaining reader.old;
@@ -254,7 +259,8 @@ pub fn replay_as<R: BufRead, W: Write>(
 ) -> Result<(), ReplayFault>
     requires { printing.first ≤ 1000000000000000 }
     ensures ok { OnOk result
-        (IfSome (R.remaining reader.old) (λ log. (text : List ℕ) × ReplayText printing manager log text
+        (IfSome (R.remaining reader.old)
+        (λ log. (text : List ℕ) × ReplayText printing manager log text
         × Appends (W.contents writer.old) (W.contents writer.new) text)) }
     ensures err { IfErr result (StopsBy printing manager record {
       unread = R.remaining reader.old;

@@ -16,7 +16,8 @@ use snmp_message::{one_cut, one_message};
 /// codes happen to be equal; how likely that is, is the hash's affair. The function does nothing: its contract is the
 /// law.
 pub fn two_keys_one_code()
-    ensures { (users others : List User) (w : List ℕ) (p q : Parts) (f g : Fields) (u v : User) (key other : AuthKey)
+    ensures { (users others : List User) (w : List ℕ) (p q : Parts)
+        (f g : Fields) (u v : User) (key other : AuthKey)
         → AuthenticMessage users w p f → user_named users f.user ≡ Some u → u.auth ≡ Some key
         → AuthenticMessage others w q g → user_named others g.user ≡ Some v → v.auth ≡ Some other
         → HaveOneCode key other w }

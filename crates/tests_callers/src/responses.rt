@@ -39,8 +39,10 @@ pub fn answer(
     reply: &Reply<'_>,
 ) -> Option<bool>
     requires fit { All (λ b. CanBeWritten (variable_of b)) reply.now.bindings.now }
-    requires shared { HasSameUser side agent.old.users manager.old.users taken.now.user.now taken.now.level }
-    ensures { (c : Contexts) (p : PduParts) → ScopedFront (text_of taken.now.text) c → PduText c.pdu p
+    requires shared { HasSameUser side agent.old.users manager.old.users
+        taken.now.user.now taken.now.level }
+    ensures { (c : Contexts) (p : PduParts) → ScopedFront (text_of taken.now.text) c
+        → PduText c.pdu p
         → IfSome result (λ accepted. MatchBool accepted
         ((IsInTime (as_manager manager.new.clocks) at (spoken (response agent.old.engine
         (own_pair agent.old.boots agent.old.started now) (given_of taken.now) c p reply.now.status reply.now.index

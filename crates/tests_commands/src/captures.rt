@@ -3,7 +3,7 @@
 use super::streams::{Calls, Choppy, Slow};
 use capture_datagrams::datagrams::Unread;
 use capture_datagrams::forms::{Form, ReadOptions, datagrams_of};
-use capture_datagrams::shown::{Printout, write_printout};
+use capture_datagrams::printout::{Printout, write_printout};
 use std::alloc::{AllocError, Global};
 use std::test::Fail;
 

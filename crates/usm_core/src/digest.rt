@@ -47,7 +47,8 @@ fn is_mac(
         (take security.now.auth_at datagram.now)
         (drop (security.now.auth_at + length security.now.auth.now) datagram.now) }
     requires within { security.now.auth_at + length security.now.auth.now ≤ length datagram.now }
-    ensures { IsTrue result ↔ IsMac key.now datagram.now (parts message.now) (fields_of security.now) }
+    ensures { IsTrue result ↔ IsMac key.now datagram.now
+        (parts message.now) (fields_of security.now) }
 {
     one_cut();
     let size = security.auth.len();
@@ -73,14 +74,17 @@ pub(crate) fn is_digest_right(
         (take security.now.auth_at datagram.now)
         (drop (security.now.auth_at + length security.now.auth.now) datagram.now) }
     requires within { security.now.auth_at + length security.now.auth.now ≤ length datagram.now }
-    requires cache { (users : List UserOf) × (user_named users security.now.user.now ≡ Some user.now)
+    requires cache { (users : List UserOf)
+        × (user_named users security.now.user.now ≡ Some user.now)
         × AreCached users cache.now }
     requires none { made.old ≡ None }
     ensures right { IsTrue result
         ↔ (message.now.header.auth ≡ true
-        → IsSomeAnd user.now.auth (λ key. IsMac key datagram.now (parts message.now) (fields_of security.now))) }
+        → IsSomeAnd user.now.auth (λ key. IsMac key datagram.now
+        (parts message.now) (fields_of security.now))) }
     ensures made { IfSome made.new
-        (λ local. IsSomeAnd user.now.auth (λ key. local ≡ localised_to security.now.engine.now key)) }
+        (λ local. IsSomeAnd user.now.auth
+        (λ key. local ≡ localised_to security.now.engine.now key)) }
 {
     if !message.header.auth {
         return true;

@@ -1,6 +1,6 @@
 //! The privacy of a message (RFC 3826, section 3.1).
 
-ghost use Rattle.std.specs.Prelude.{◌≡◌, ◌≢◌, ℕ, List, ◌++◌, Some, length, take, IfOk, IfErr, ◌⊎◌};
+ghost use Rattle.std.specs.Prelude.{◌≡◌, ◌≢◌, ℕ, List, ◌++◌, Some, length, take, IfOk, IfErr, IfSome, ◌⊎◌};
 ghost use Rattle.snmp_ber.specs.declared.level.Level.TheVariants.{AuthPriv};
 ghost use Rattle.snmp_message.specs.Message.{tag_of, content_of};
 ghost use Rattle.snmp_message.specs.Security.{fields_of};
@@ -10,7 +10,7 @@ ghost use Rattle.usm_aes.specs.Aes.{enciphered, schedule};
 ghost use Rattle.usm_aes.specs.Feedback.{IsSealed, iv_of, opened};
 ghost use Rattle.usm_users.specs.User.{User as UserOf};
 ghost use Rattle.usm_users.specs.Users.{HasUserAt, user_named};
-ghost use Rattle.usm_users.specs.Cache.{AreCached};
+ghost use Rattle.usm_users.specs.Cache.{AreCached, schedule_at};
 ghost use Rattle.usm_core.specs.Sealed.{UserKey, IsPlaintext};
 ghost use Rattle.snmp_message.specs.declared.refusal.Refusal.TheVariants.{DecryptionError, OutOfMemory};
 ghost use Rattle.snmp_message.specs.Refusals.{IsRefused};
@@ -23,6 +23,44 @@ use usm_aes::{Schedule, cfb_open, cfb_seal, iv};
 use usm_keys::{Key, localise};
 use usm_users::{CachedKey, KeyCache, Purpose, UserTable};
 
+/// The first 16 octets of the localised privacy key, expanded, that is kept for the user of this name and this
+/// engine. It becomes the last used.
+fn kept_schedule(
+    users: &UserTable,
+    cache: &mut KeyCache,
+    name: &[u8],
+    engine: &[u8],
+) -> Option<Schedule>
+    requires cache { AreCached users.now cache.old }
+    ensures schedule { IfSome result (λ kept. UserKey users.now name.now (λ user. user.privacy)
+        (λ key. kept ≡ schedule_at engine.now key)) }
+    ensures cache { AreCached users.now cache.new }
+{
+    let schedule = cache.find(name, engine, Purpose::Privacy)?.schedule();
+    cache.note_use(name, engine, Purpose::Privacy, None);
+    Some(schedule)
+}
+
+/// The same, of this user's privacy key. It is localised and kept.
+fn made_schedule(
+    users: &UserTable,
+    cache: &mut KeyCache,
+    key: &Key,
+    name: &[u8],
+    engine: &[u8],
+) -> Schedule
+    requires key { (user : UserOf) × (user_named users.now name.now ≡ Some user)
+        × (user.privacy ≡ Some key.now) }
+    requires cache { AreCached users.now cache.old }
+    ensures schedule { result ≡ schedule_at engine.now key.now }
+    ensures cache { AreCached users.now cache.new }
+{
+    let local = CachedKey::for_privacy(localise(key, engine));
+    let schedule = local.schedule();
+    cache.note_use(name, engine, Purpose::Privacy, Some(local));
+    schedule
+}
+
 /// The first 16 octets of the key localised to the engine, expanded, of a user's privacy key. The localised
 /// key is the kept one, which becomes the last used, or one that is made and kept.
 pub(crate) fn schedule_under(
@@ -32,23 +70,20 @@ pub(crate) fn schedule_under(
     name: &[u8],
     engine: &[u8],
 ) -> Schedule
-    requires key { (user : UserOf) × (user_named users.now name.now ≡ Some user) × (user.privacy ≡ Some key.now) }
+    requires key { (user : UserOf) × (user_named users.now name.now ≡ Some user)
+        × (user.privacy ≡ Some key.now) }
     requires cache { AreCached users.now cache.old }
-    ensures schedule { result ≡ schedule (take 16 (kul (hash_of key.now.auth) key.now.octets engine.now)) }
+    ensures schedule { result ≡ schedule
+        (take 16 (kul (hash_of key.now.auth) key.now.octets engine.now)) }
     ensures cache { AreCached users.now cache.new }
 {
-    if let Some(local) = cache.find(name, engine, Purpose::Privacy) {
-        let schedule = local.schedule();
-        cache.note_use(name, engine, Purpose::Privacy, None);
-        return schedule;
+    match kept_schedule(users, cache, name, engine) {
+        Some(kept) => kept,
+        None => made_schedule(users, cache, key, name, engine),
     }
-    let local = CachedKey::for_privacy(localise(key, engine));
-    let schedule = local.schedule();
-    cache.note_use(name, engine, Purpose::Privacy, Some(local));
-    schedule
 }
 
-/// The same, of the user of this name.
+/// The same, of the user of this name, who is looked up where no key is kept.
 fn user_schedule(users: &UserTable, cache: &mut KeyCache, name: &[u8], engine: &[u8]) -> Schedule
     requires level { HasUserAt users.now name.now AuthPriv }
     requires cache { AreCached users.now cache.old }
@@ -56,13 +91,16 @@ fn user_schedule(users: &UserTable, cache: &mut KeyCache, name: &[u8], engine: &
         (λ key. result ≡ schedule (take 16 (kul (hash_of key.auth) key.octets engine.now))) }
     ensures cache { AreCached users.now cache.new }
 {
+    if let Some(kept) = kept_schedule(users, cache, name, engine) {
+        return kept;
+    }
     let Some(user) = users.user_named(name) else {
         unreachable!();
     };
     let Some(key) = user.privacy() else {
         unreachable!();
     };
-    schedule_under(users, cache, key, name, engine)
+    made_schedule(users, cache, key, name, engine)
 }
 
 /// Enciphers the ScopedPDU where it stands, at the end of the text.
@@ -73,8 +111,10 @@ pub(crate) fn seal_end<S: ScopedPdu>(
 )
     requires fits { S.fits outgoing.now.scoped.now }
     requires end { (front : List ℕ) × (text.old.items ≡ front ++ S.octets outgoing.now.scoped.now) }
-    ensures sealed { (front octets : List ℕ) → text.old.items ≡ front ++ S.octets outgoing.now.scoped.now
-        → IsSealed (enciphered schedule.now) (iv_of outgoing.now.boots outgoing.now.time outgoing.now.salt)
+    ensures sealed { (front octets : List ℕ)
+        → text.old.items ≡ front ++ S.octets outgoing.now.scoped.now
+        → IsSealed (enciphered schedule.now)
+        (iv_of outgoing.now.boots outgoing.now.time outgoing.now.salt)
         (S.octets outgoing.now.scoped.now) octets
         → text.new.items ≡ front ++ octets }
     ensures length { length text.new.items ≡ length text.old.items }

@@ -29,8 +29,10 @@ impl Users {
         requires engine { length engine.now ≤ 32 }
         requires user { length user.now ≤ 32 }
         ensures size { (salt content text : List ℕ) → length salt ≡ 8 → length content ≤ LARGEST
-            → SealedText self.now.users (sending header.now engine.now pair user.now salt (element 48 content)) text
-            → length text ≡ whole_size header.now result (data_size header.now.privacy (length content)) }
+            → SealedText self.now.users (sending header.now engine.now pair user.now salt
+            (element 48 content)) text
+            → length text ≡ whole_size header.now result
+            (data_size header.now.privacy (length content)) }
         ensures most { result ≤ LARGEST }
     {
         one_element();
@@ -52,7 +54,8 @@ impl Users {
 /// of the user's protocol where auth is set, and else none.
 fn code_octets(users: &UserTable, header: &Header, name: &[u8]) -> usize
     ensures code { header.now.auth ≡ true → (user : UserOf) (key : AuthKey)
-        → user_named users.now name.now ≡ Some user → user.auth ≡ Some key → result ≡ mac_octets key.auth }
+        → user_named users.now name.now ≡ Some user → user.auth ≡ Some key
+        → result ≡ mac_octets key.auth }
     ensures none { header.now.auth ≡ false → result ≡ 0 }
     ensures most { result ≤ 24 }
 {

@@ -143,12 +143,14 @@ impl Users {
         role: Role<'_>,
         datagram: &'a [u8],
     ) -> Result<Checked<'a>, RefusedAt>
-        ensures rows { Verifies (side_of role.entry) self.old.users datagram.now (checked_answer result) }
+        ensures rows { Verifies (side_of role.entry) self.old.users datagram.now
+            (checked_answer result) }
 
         // A message with auth is accepted exactly where the datagram is authentic, and at an agent is of its
         // own engine.
         ensures authentic { (engine : List ℕ) (pair : BootsAndTime) →
-            (Authentic self.old.users datagram.now engine pair × AllowsEngine (side_of role.entry) engine)
+            (Authentic self.old.users datagram.now engine pair
+            × AllowsEngine (side_of role.entry) engine)
             ↔ IsAuthenticatedAs (checked_answer result) engine pair }
         ensures level { IfOk result (λ c. c.level ≡ level_of c.message.header) }
 
@@ -157,7 +159,8 @@ impl Users {
 
         // What was read is the datagram's, and its engine, user and digest are as the rows ask.
         ensures read { IfOk result (λ c. IsReadAs datagram.now (verified_of c)) }
-        ensures judged { IfOk result (λ c. IsJudged (side_of role.entry) self.old.users datagram.now (verified_of c)) }
+        ensures judged { IfOk result (λ c. IsJudged
+            (side_of role.entry) self.old.users datagram.now (verified_of c)) }
 
         // This is what `open_priv` asks.
         ensures private { IfOk result
@@ -186,14 +189,17 @@ impl Users {
         layout: &Layout<'a>,
     ) -> Result<Checked<'a>, RefusedAt>
         requires { IsLayoutOf datagram.now layout.now }
-        ensures rows { Verifies (side_of role.entry) self.old.users datagram.now (checked_answer result) }
+        ensures rows { Verifies (side_of role.entry) self.old.users datagram.now
+            (checked_answer result) }
         ensures authentic { (engine : List ℕ) (pair : BootsAndTime) →
-            (Authentic self.old.users datagram.now engine pair × AllowsEngine (side_of role.entry) engine)
+            (Authentic self.old.users datagram.now engine pair
+            × AllowsEngine (side_of role.entry) engine)
             ↔ IsAuthenticatedAs (checked_answer result) engine pair }
         ensures level { IfOk result (λ c. c.level ≡ level_of c.message.header) }
         ensures memory { IfErr result (λ e. e.refusal ≢ OutOfMemory) }
         ensures read { IfOk result (λ c. IsReadAs datagram.now (verified_of c)) }
-        ensures judged { IfOk result (λ c. IsJudged (side_of role.entry) self.old.users datagram.now (verified_of c)) }
+        ensures judged { IfOk result (λ c. IsJudged
+            (side_of role.entry) self.old.users datagram.now (verified_of c)) }
         ensures private { IfOk result
             (λ c. c.level ≡ AuthPriv
             → HasUserAt self.old.users c.security.user.now AuthPriv × (tag_of c.message.body ≡ 4)) }
@@ -226,7 +232,8 @@ impl Users {
         ensures salt { IsRefused result DecryptionError → length checked.now.security.salt.now ≢ 8 }
         ensures salt_length { IfOk result (λ _. length checked.now.security.salt.now ≡ 8) }
         ensures memory { IsRefused result OutOfMemory → length checked.now.security.salt.now ≡ 8 }
-        ensures fault { IfErr result (λ e. (e.refusal ≡ DecryptionError) ⊎ (e.refusal ≡ OutOfMemory)) }
+        ensures fault { IfErr result (λ e. (e.refusal ≡ DecryptionError)
+            ⊎ (e.refusal ≡ OutOfMemory)) }
         ensures users { self.new.users ≡ self.old.users }
     {
         open_for(self.alloc, &self.table, &mut self.cache, checked)
@@ -255,7 +262,8 @@ impl Users {
 
         // The refusals before the text come before want of memory.
         ensures memory { IsRefused result OutOfMemory
-            → IsSealable self.old.users (sending header.now engine.now pair user.now salt scoped.now) }
+            → IsSealable self.old.users (sending header.now engine.now
+            pair user.now salt scoped.now) }
         ensures short { IsRefused result TooLarge
             → LARGEST < 150 + length engine.now + length user.now + length scoped.now }
         ensures users { self.new.users ≡ self.old.users }
@@ -282,7 +290,8 @@ impl Users {
         ensures rows { IfSome (seal_answer result)
             (Seals self.old.users (sending header.now engine.now pair user.now salt (S.octets scoped.now))) }
         ensures memory { IsRefused result OutOfMemory
-            → IsSealable self.old.users (sending header.now engine.now pair user.now salt (S.octets scoped.now)) }
+            → IsSealable self.old.users (sending header.now engine.now pair user.now salt
+            (S.octets scoped.now)) }
         ensures short { IsRefused result TooLarge
             → LARGEST < 150 + length engine.now + length user.now + length (S.octets scoped.now) }
         ensures users { self.new.users ≡ self.old.users }

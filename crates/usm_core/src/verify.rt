@@ -38,7 +38,8 @@ fn engine_for(role: Role<'_>, octets: &[u8]) -> Option<EngineId>
 
 /// At a manager the empty name at noAuthNoPriv, which the report that answers a discovery has.
 fn allows_no_user(role: Role<'_>, name: &[u8], level: Level) -> bool
-    ensures { IsTrue result ↔ ((side_of role.entry ≡ manager) × (name.now ≡ []) × (level ≡ NoAuthNoPriv)) }
+    ensures { IsTrue result ↔ ((side_of role.entry ≡ manager)
+        × (name.now ≡ []) × (level ≡ NoAuthNoPriv)) }
 {
     match (role, level) {
         (Role::Manager, Level::NoAuthNoPriv) => name.is_empty(),

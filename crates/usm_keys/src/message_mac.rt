@@ -28,7 +28,8 @@ pub fn hmac(auth: Auth, key: &[u8], front: &[u8], zeros: usize, back: &[u8]) -> 
     requires key_fits { length key.now ≤ 32 }
     requires zeros_fit { zeros ≤ 24 }
     ensures code { result.items
-        ≡ hmac (hash_of auth) (block_octets auth) key.now (front.now ++ replicate zeros 0 ++ back.now) }
+        ≡ hmac (hash_of auth) (block_octets auth) key.now
+        (front.now ++ replicate zeros 0 ++ back.now) }
     ensures size { length result.items ≡ key_octets auth }
 {
     Pads::of(auth, key).hmac(front, zeros, back)

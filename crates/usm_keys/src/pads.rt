@@ -88,7 +88,8 @@ impl Pads {
     pub fn hmac(&self, front: &[u8], zeros: usize, back: &[u8]) -> ArrayVec<u8, 32>
         requires { zeros ≤ 24 }
         ensures { (auth : AuthOf) (key : List ℕ) → ArePads auth key self.now
-            → result.items ≡ hmac (hash_of auth) (block_octets auth) key (front.now ++ replicate zeros 0 ++ back.now) }
+            → result.items ≡ hmac (hash_of auth) (block_octets auth) key
+            (front.now ++ replicate zeros 0 ++ back.now) }
     {
         let zeros = &ZEROS[..zeros];
         match self {

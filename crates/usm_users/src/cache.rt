@@ -107,7 +107,8 @@ impl KeyCache {
         ensures found { IfSome (option_copied result)
             (λ local. Contains self.now (key_id name.now engine.now purpose, local)) }
         ensures cached { (users : List User) → AreCached users self.now
-            → IfSome (option_copied result) (IsCachedAt users (key_id name.now engine.now purpose)) }
+            → IfSome (option_copied result)
+            (IsCachedAt users (key_id name.now engine.now purpose)) }
     {
         self.keys.peek(&KeyId::of(name, engine, purpose)?)
     }
@@ -123,9 +124,11 @@ impl KeyCache {
         made: Option<CachedKey>,
     )
         ensures kept { (e : IdOf × AuthKey) → Contains self.new e
-            → Contains self.old e ⊎ IsSomeAnd made (λ local. e ≡ (key_id name.now engine.now purpose, local)) }
+            → Contains self.old e ⊎ IsSomeAnd made
+            (λ local. e ≡ (key_id name.now engine.now purpose, local)) }
         ensures cached { (users : List User) → AreCached users self.old
-            → IfSome made (IsCachedAt users (key_id name.now engine.now purpose)) → AreCached users self.new }
+            → IfSome made (IsCachedAt users (key_id name.now engine.now purpose))
+            → AreCached users self.new }
     {
         let Some(id) = KeyId::of(name, engine, purpose) else {
             return;

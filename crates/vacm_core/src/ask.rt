@@ -48,7 +48,8 @@ fn best_row<'a>(
     context: &[u8],
 ) -> Option<&'a AccessRow>
     ensures { MatchOption result (NoneFits rows.now (FitsMessage group.now model level context.now))
-        (λ row. IsBestOf rows.now (FitsMessage group.now model level context.now) access_order row.now) }
+        (λ row. IsBestOf rows.now (FitsMessage group.now model level context.now)
+        access_order row.now) }
 {
     let run = rows.rows_of(group);
     for row in run {
@@ -79,9 +80,11 @@ pub(crate) fn decide_over<'a>(
     asking: &Asking<'_>,
 ) -> Deciding<'a>
     requires { AreExact exact.now }
-    ensures answer { Allowed (four_tables contexts.now groups.now access.now (exact.now ++ others.now))
+    ensures answer { Allowed (four_tables contexts.now groups.now access.now
+        (exact.now ++ others.now))
         (requester_of asking.now) asking.now.view asking.now.variable.now result.answer }
-    ensures rows { DecidesContext (four_tables contexts.now groups.now access.now (exact.now ++ others.now))
+    ensures rows { DecidesContext (four_tables contexts.now groups.now access.now
+        (exact.now ++ others.now))
         (requester_of asking.now) asking.now.view asking.now.variable.now result }
 {
     let mut found = Deciding {

@@ -15,7 +15,8 @@ use crate::steps::{AccessStep, Asking, ContextStep, GroupStep, ViewStep};
 /// The position of the first row with the index of this one, which is among them.
 fn position_of<R: TableRow>(rows: &[R], row: &R) -> usize
     requires { Contains rows.now row.now }
-    ensures { (found : R) × (slice_get rows.now result ≡ Some found) × (R.is_same found row.now ≡ true) }
+    ensures { (found : R) × (slice_get rows.now result ≡ Some found)
+        × (R.is_same found row.now ≡ true) }
 {
     for (position, other) in rows.iter().enumerate() {
         if other.has_index_of(row) {
@@ -89,7 +90,8 @@ fn group_step(rows: &Rows, asking: &Asking<'_>, decided: &Deciding<'_>) -> Optio
     requires one_each { HasOneRowEach (tables_of rows.now) }
     requires decides { DecidesGroup (tables_of rows.now)
         (requester_of asking.now) asking.now.view asking.now.variable.now decided.now }
-    ensures { TellsGroup (tables_of rows.now) (requester_of asking.now) asking.now.view asking.now.variable.now result }
+    ensures { TellsGroup (tables_of rows.now)
+        (requester_of asking.now) asking.now.view asking.now.variable.now result }
 {
     let row = decided.group?;
     Some(GroupStep {

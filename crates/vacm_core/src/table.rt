@@ -33,7 +33,8 @@ impl<R: NamedRow> Model for OrderedTable<R> {
 
     ghost view = { λ t. t.rows.items };
 
-    ghost invariant = { λ t. AreRuns R.name_of R.rank t.rows.items (length t.rows.items) t.runs.entries };
+    ghost invariant = { λ t. AreRuns R.name_of R.rank t.rows.items
+    (length t.rows.items) t.runs.entries };
 }
 
 /// Whether the row at the place is the first of its name.
@@ -41,8 +42,10 @@ fn is_first<R: NamedRow>(rows: &[R], place: usize) -> bool
     requires in_place { AreInPlace R.name_of R.rank rows.now }
     requires within { place < length rows.now }
     ensures { MatchBool result
-        ((k : ℕ) (d : R) → k < place → R.name_of (get_or rows.now k d) ≢ R.name_of (get_or rows.now place d))
-        ((0 < place) × ((d : R) → R.name_of (get_or rows.now (place - 1) d) ≡ R.name_of (get_or rows.now place d))) }
+        ((k : ℕ) (d : R) → k < place → R.name_of (get_or rows.now k d)
+        ≢ R.name_of (get_or rows.now place d))
+        ((0 < place) × ((d : R) → R.name_of (get_or rows.now (place - 1) d)
+        ≡ R.name_of (get_or rows.now place d))) }
 {
     place == 0 || rows[place - 1].name() != rows[place].name()
 }
@@ -69,7 +72,8 @@ fn run_at<R: NamedRow>(rows: &[R], first: usize) -> Run
 /// The run of each name.
 fn runs_of<R: NamedRow>(alloc: Global, rows: &[R]) -> Result<HashMap<Name, Run>, AllocError>
     requires { AreInPlace R.name_of R.rank rows.now }
-    ensures { IfOk result (λ runs. AreRuns R.name_of R.rank rows.now (length rows.now) runs.entries) }
+    ensures { IfOk result (λ runs. AreRuns R.name_of R.rank rows.now
+        (length rows.now) runs.entries) }
 {
     let mut runs = HashMap::new(alloc);
     for place in 0..rows.len() {
@@ -102,7 +106,8 @@ impl<R: NamedRow> OrderedTable<R> {
         ensures { MatchOption result
             ((k : ℕ) (d : R) → k < length self.now → R.name_of (get_or self.now k d) ≢ wanted.now)
             (λ run. (run.first ≤ run.end) × (run.end ≤ length self.now)
-            × IsRunOf R.name_of R.rank wanted.now self.now (slice_range self.now run.first run.end)) }
+            × IsRunOf R.name_of R.rank wanted.now self.now
+            (slice_range self.now run.first run.end)) }
     {
         let runs = &self.runs;
         let name = Name::of(wanted)?;

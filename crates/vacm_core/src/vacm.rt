@@ -75,7 +75,8 @@ impl Vacm {
 
         // So each question has the answer that it has over the rows.
         ensures decides { IfOk result
-            (λ vacm. (requester : spec.Requester) (view : Asked) (variable : List ℕ) (answer : Answer)
+            (λ vacm. (requester : spec.Requester) (view : Asked)
+            (variable : List ℕ) (answer : Answer)
             → Allowed vacm requester view variable answer
             → Allowed (tables_of rows.now) requester view variable answer) }
         ensures told { IfErr result (IsTold (tables_of rows.now)) }

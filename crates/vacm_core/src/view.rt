@@ -42,7 +42,8 @@ pub(crate) fn has_arcs(row: &FamilyRow, variable: &[u32]) -> bool
 fn place_of(rows: &[FamilyRow], subtree: &[u32]) -> Result<usize, usize>
     requires { AreFalling family_order rows.now }
     ensures { MatchResult result
-        (λ place. (place < length rows.now) × ((d : Family) → (get_or rows.now place d).subtree ≡ subtree.now))
+        (λ place. (place < length rows.now)
+        × ((d : Family) → (get_or rows.now place d).subtree ≡ subtree.now))
         (λ place. (k : ℕ) (d : Family) → k < length rows.now
         → (k < place → arcs_order subtree.now (get_or rows.now k d).subtree ≡ Less)
         × (place ≤ k → arcs_order subtree.now (get_or rows.now k d).subtree ≡ Greater)) }
@@ -53,7 +54,8 @@ fn place_of(rows: &[FamilyRow], subtree: &[u32]) -> Result<usize, usize>
 /// One more than the arcs of the rows from this place on, or 0 where there is none.
 fn arcs_from(rows: &[FamilyRow], place: usize) -> usize
     requires { AreFalling family_order rows.now }
-    ensures { (k : ℕ) (d : Family) → place ≤ k → k < length rows.now → length (get_or rows.now k d).subtree < result }
+    ensures { (k : ℕ) (d : Family) → place ≤ k → k < length rows.now
+        → length (get_or rows.now k d).subtree < result }
 {
     match rows.get(place) {
         Some(row) => row.subtree.as_slice().len() + 1,
@@ -100,7 +102,8 @@ fn better<'a>(first: Option<&'a FamilyRow>, second: Option<&'a FamilyRow>) -> Op
 /// Returns true if no row of the rest can be better: there is none, or each is shorter than the row that was found.
 fn is_decided(found: Option<&FamilyRow>, rest: &[WildcardRow]) -> bool
     requires { AreFalling wildcard_order rest.now }
-    ensures { MatchBool result ((variable : List ℕ) (rows : List Family) → IsDecider variable rows found.entry
+    ensures { MatchBool result ((variable : List ℕ) (rows : List Family)
+        → IsDecider variable rows found.entry
         → IsDecider variable (rows ++ rest.now) found.entry) (0 < length rest.now) }
 {
     let Some(next) = rest.first() else {
@@ -136,7 +139,8 @@ fn deciding_row<'a>(
 
 /// The view has a name, and a row of either kind.
 fn has_view(exact: &[FamilyRow], others: &[WildcardRow], view: &[u8]) -> bool
-    ensures { IsTrue result ↔ ((view.now ≢ []) × ((0 < length exact.now) ⊎ (0 < length others.now))) }
+    ensures { IsTrue result ↔ ((view.now ≢ [])
+        × ((0 < length exact.now) ⊎ (0 < length others.now))) }
 {
     !view.is_empty() && !(exact.is_empty() && others.is_empty())
 }

@@ -34,7 +34,8 @@ impl Model for WildcardRow {
 
 /// Compares the arcs that the mask compares.
 fn compared_order(mask: &Mask, first: &[u32], second: &[u32]) -> Ordering
-    ensures { result ≡ slice_cmp nat_cmp (compared_arcs mask.now first.now) (compared_arcs mask.now second.now) }
+    ensures { result ≡ slice_cmp nat_cmp (compared_arcs mask.now first.now)
+        (compared_arcs mask.now second.now) }
 {
     let shared = first.len().min(second.len());
     for k in 0..shared {

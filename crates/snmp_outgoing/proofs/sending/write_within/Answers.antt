@@ -2,7 +2,8 @@ use Rattle.std.proofs.Common.{◌≡◌, ◌≤◌, ◌<◌, ℕ, length, refl, 
 use Rattle.std.specs.Prelude.{map, IfSome}
 use Rattle.usm_core.specs.Answers.{seal_answer}
 use Rattle.usm_core.specs.Sealed.{SendingFits, Seals, IsSealable}
-use Rattle.snmp_message.specs.declared.refusal.Refusal.TheVariants.{TooLarge}
+use Rattle.snmp_message.specs.declared.refusal.Refusal.TheVariants.{OutOfMemory, TooLarge}
+use Rattle.snmp_message.specs.Refusals.{IsRefused}
 use Rattle.snmp_outgoing.specs.Bodies.{contexts_after, scoped_after}
 use Rattle.snmp_outgoing.specs.Sends.{sent_with}
 use Rattle.snmp_outgoing.specs.Fronts.{IsBeyond, IsWithin}
@@ -21,12 +22,27 @@ returns-in_err-supports-clause-rows g c =
     (told_user c.args.users.now.users m e.level (flags_at e.level) (level_at e.level e.id e.reportable)
     c.from_residual.result c.in_err-supports.field-0.0 c.from_residual.ensures.1 c.in_err-supports.ensures.1 c.in_err-supports.ensures.0)
 
+pub returns-in_err-supports-2-clause-rows : goal.returns-in_err-supports-2-clause-rows
+returns-in_err-supports-2-clause-rows g c =
+    let e = c.args.envelope.now in
+    let m = sent_with e (scoped_after c.args.front.now (map g.B.Spelled.says c.args.bindings.now)) in
+    told_cut c.args.limit (Seals c.args.users.now.users m) c.from_residual-in_err-supports-2.result c.in_err-supports-2.field-0.0 c.from_residual-in_err-supports-2.ensures.1
+    (told_user c.args.users.now.users m e.level (flags_at e.level) (level_at e.level e.id e.reportable)
+    c.from_residual-in_err-supports-2.result c.in_err-supports-2.field-0.0 c.from_residual-in_err-supports-2.ensures.1 c.in_err-supports-2.ensures.1 c.in_err-supports-2.ensures.0)
+
 pub returns-in_err-supports-clause-memory : goal.returns-in_err-supports-clause-memory
 returns-in_err-supports-clause-memory g c is =
     let e = c.args.envelope.now in
     let m = sent_with e (scoped_after c.args.front.now (map g.B.Spelled.says c.args.bindings.now)) in
     absurd (user_no_memory c.args.users.now.users m e.level (flags_at e.level) (level_at e.level e.id e.reportable)
     c.from_residual.result c.in_err-supports.field-0.0 c.from_residual.ensures.1 c.in_err-supports.ensures.1 is)
+
+pub returns-in_err-supports-2-clause-memory : goal.returns-in_err-supports-2-clause-memory
+returns-in_err-supports-2-clause-memory g c is =
+    let e = c.args.envelope.now in
+    let m = sent_with e (scoped_after c.args.front.now (map g.B.Spelled.says c.args.bindings.now)) in
+    absurd (user_no_memory c.args.users.now.users m e.level (flags_at e.level) (level_at e.level e.id e.reportable)
+    c.from_residual-in_err-supports-2.result c.in_err-supports-2.field-0.0 c.from_residual-in_err-supports-2.ensures.1 c.in_err-supports-2.ensures.1 is)
 
 pub returns-in_default-clause-rows : goal.returns-in_default-clause-rows
 returns-in_default-clause-rows g c =
@@ -42,7 +58,7 @@ returns-then-not-is_within-clause-rows g c =
     let users = c.args.users.now.users in
     let vs = map g.B.Spelled.says c.args.bindings.now in
     let m = sent_with e (scoped_after c.args.front.now vs) in
-    let ok : IsSealable users m = sealable users m e.level (flags_at e.level) (level_at e.level e.id e.reportable) c.in_ok-supports.ensures in
+    let ok : IsSealable users m = sealable users m e.level (flags_at e.level) (level_at e.level e.id e.reportable) c.in_ok-supports-2.ensures in
     let salt : length e.salt ≡ 8 = search rules in
     let scoped = rw (c.in-Some.ensures.front, c.in-Some.ensures.bindings) at c.in-Some.ensures.fits.element in
     let size = rw (c.in-Some.ensures.bindings) at c.in-Some.ensures.fits.list in
@@ -89,13 +105,21 @@ returns-in_err-supports-clause-counted g c is =
     absurd (user_no_memory c.args.users.now.users m e.level (flags_at e.level) (level_at e.level e.id e.reportable)
     c.from_residual.result c.in_err-supports.field-0.0 c.from_residual.ensures.1 c.in_err-supports.ensures.1 is)
 
+pub returns-in_err-supports-2-clause-counted : goal.returns-in_err-supports-2-clause-counted
+returns-in_err-supports-2-clause-counted g c is =
+    let e = c.args.envelope.now in
+    let m = sent_with e (scoped_after c.args.front.now (map g.B.Spelled.says c.args.bindings.now)) in
+    absurd (user_no_memory c.args.users.now.users m e.level (flags_at e.level) (level_at e.level e.id e.reportable)
+    c.from_residual-in_err-supports-2.result c.in_err-supports-2.field-0.0 c.from_residual-in_err-supports-2.ensures.1 c.in_err-supports-2.ensures.1 is)
+
 pub returns-clause-counted : goal.returns-clause-counted
 returns-clause-counted g c is beyond =
     let e = c.args.envelope.now in
     let users = c.args.users.now.users in
     let vs = map g.B.Spelled.says c.args.bindings.now in
     let m = sent_with e (scoped_after c.args.front.now vs) in
-    let ok : IsSealable users m = sealable users m e.level (flags_at e.level) (level_at e.level e.id e.reportable) c.in_ok-supports.ensures in
+    let memory : IsRefused c.seal_of.result OutOfMemory → IsSealable users m = search rules in
+    let ok : IsSealable users m = memory is in
     let salt : length e.salt ≡ 8 = search rules in
     let scoped = rw (c.in-Some.ensures.front, c.in-Some.ensures.bindings) at c.in-Some.ensures.fits.element in
     let size = rw (c.in-Some.ensures.bindings) at c.in-Some.ensures.fits.list in
