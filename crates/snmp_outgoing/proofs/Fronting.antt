@@ -1,6 +1,6 @@
 -- Fronts of bindings that are sent.
 use Rattle.snmp_message.specs.declared.refusal.Refusal.{Refusal}
-use Rattle.std.proofs.Common.{◌≡◌, inl, sym, ℕ, ◌≤◌, List, [], length, subst, arith, rules}
+use Rattle.std.proofs.Common.{◌≡◌, ◌⊎◌, inl, inr, refl, sym, ℕ, ◌≤◌, List, [], length, subst, arith, rules}
 use Rattle.std.specs.Prelude.{Result, Ok, Err, Option, Some, None, IfSome, IsErrAnd}
 use Rattle.snmp_message.specs.Level.{level_of}
 use Rattle.snmp_ber.specs.Element.{IsElement}
@@ -57,9 +57,14 @@ not_refused users m ok text sealed short n rows =
     let level = pass _ UnsupportedLevel _ (Err n) user.1 ok.user in
     omega (arith, level.1.1 text sealed, short)
 
-pub if_none : (o : Option Refusal) (P : Result (List ℕ) Refusal → Type 0) (Q : Result FrontText Refusal → Type 0) → ((n : Refusal) → P (Err n) → ⊥) → IfSome (refused o) P → IfSome (refused o) Q
-if_none None P Q none h = tt
-if_none (Some n) P Q none h = absurd (none n h)
+pub if_each : (o : Option Refusal) (P : Result (List ℕ) Refusal → Type 0) (Q : Result FrontText Refusal → Type 0) → ((n : Refusal) → P (Err n) → Q (Err n)) → IfSome (refused o) P → IfSome (refused o) Q
+if_each None P Q each h = tt
+if_each (Some n) P Q each h = each n h
+
+-- whether a row lets the message through
+by_row : {X : Type 0} (P : Type 0) (k n : Refusal) (below : P → Result X Refusal → Type 0) → Needs P k below (Err n) → ((p : P) × below p (Err n)) ⊎ ((P → ⊥) × (n ≡ k))
+by_row P k n below (holds p x) = inl (p, x)
+by_row P k n below (fails never) = inr (never, refl)
 
 -- messages of this user at this level can't go out
 module _ (users : List User) (e : Envelope) (limit : ℕ) (after : List Variable → List ℕ) (vs : List Variable) where
@@ -86,6 +91,20 @@ module _ (users : List User) (e : Envelope) (limit : ℕ) (after : List Variable
   sender_rows TooLarge none = absurd none.1
   sender_rows UnknownModel none = absurd none.1
   sender_rows InvalidFlags none = absurd none.1
+
+  -- what refuses the message with some variables refuses it without any, but for what is found as it is written
+  pub refused_before : (ws : List Variable) (n : Refusal) → Seals users (sent_with e (after ws)) (Err n) → Seals users (sent_with e (after [])) (Err n) ⊎ IsSealable users (sent_with e (after ws))
+  unfolding Seals
+  refused_before ws n rows = elim (by_row _ InvalidFlags n _ rows) [
+    | inl flags ↦ elim (by_row _ UnknownUser n _ flags.1) [
+      | inl user ↦ elim (by_row _ UnsupportedLevel n _ user.1) [
+        | inl level ↦ inr (record { flags = flags.0; user = level.0 })
+        | inr never ↦ inl (holds flags.0 (holds user.0 (rw never.1 (fails never.0))))
+      ]
+      | inr never ↦ inl (holds flags.0 (rw never.1 (fails never.0)))
+    ]
+    | inr never ↦ inl (rw never.1 (fails never.0))
+  ]
 
   pub front_refused : (r : Result Fronted RefusedAt) (fault : RefusedAt) → IsErrAnd r (λ x. x ≡ fault) → IfSome (refusal_answer fault.refusal) (SealsFront users limit (λ ws. sent_with e (after ws)) vs) → IfSome (front_answer r) (SealsFront users limit (λ ws. sent_with e (after ws)) vs)
   front_refused (Ok f) fault is rows = absurd is

@@ -194,8 +194,8 @@ pub fn write_front<B: Spelled>(
     ensures users { users.new.users ≡ users.old.users }
 {
     some_sealed();
-    supports(users, envelope.user, envelope.level)?;
     let Some(count) = count_within(users, envelope, front, bindings, room(limit)) else {
+        supports(users, envelope.user, envelope.level)?;
         return Err(RefusedAt::plain(Refusal::TooLarge));
     };
     let text = write_body_of(users, envelope, front, &bindings[..count])?;

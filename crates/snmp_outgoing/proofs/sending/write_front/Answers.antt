@@ -1,5 +1,6 @@
-use Rattle.std.proofs.Common.{◌≡◌, inr, ℕ, List, [], length, map, take, refl, sym, subst, arith, rules}
-use Rattle.std.specs.Prelude.{Ok}
+use Rattle.std.proofs.Common.{◌≡◌, ◌⊎◌, inl, inr, ℕ, List, [], length, map, take, refl, sym, subst, arith, rules}
+use Rattle.std.specs.Prelude.{Ok, Err}
+use Rattle.snmp_message.specs.declared.refusal.Refusal.{Refusal}
 use Rattle.snmp_message.specs.Numbers.{in_table}
 use Rattle.snmp_msg.specs.Pdu.{IsSpelled}
 use Rattle.snmp_msg.specs.Variables.{Variable}
@@ -10,7 +11,7 @@ use Rattle.snmp_outgoing.specs.Fronts.{IsBeyond, IsWithin, IsLongestFront, Seals
 use Rattle.snmp_outgoing.proofs.Levels.{flags_at, level_at}
 use Rattle.snmp_outgoing.proofs.Counting.{take_map}
 use Rattle.snmp_outgoing.proofs.Refusing.{sealable}
-use Rattle.snmp_outgoing.proofs.Fronting.{sealed_text, scoped_is, not_refused, if_none, sender_rows, front_refused}
+use Rattle.snmp_outgoing.proofs.Fronting.{sealed_text, scoped_is, not_refused, if_each, refused_before, sender_rows, front_refused}
 use Rattle.snmp_outgoing.proofs.sending.write_front.Goals as goal
 
 pub returns-in_err-supports-clause-rows : goal.returns-in_err-supports-clause-rows
@@ -54,10 +55,10 @@ returns-in_err-text-clause-rows g c =
     let f = c.args.front.now in
     let users = c.args.users.now.users in
     let n = c.in-Some.count in
-    let m = sent_with e (scoped_after f (map says (take n bs))) in
-    let ok : IsSealable users m = sealable users m e.level (flags_at e.level) (level_at e.level e.id e.reportable) c.in_ok-supports.ensures in
+    let ws = map says (take n bs) in
+    let m = sent_with e (scoped_after f ws) in
     let salt : length e.salt ≡ 8 = search rules in
-    let scoped = scoped_is f (map says (take n bs)) c.in-Some.ensures.scoped in
+    let scoped = scoped_is f ws c.in-Some.ensures.scoped in
     let fits : SendingFits m = record {
       header = record { id = e.id_fits; least_size = omega arith; most_size = omega arith; least_model = omega arith; most_model = omega arith };
       boots = c.requires.pair.boots;
@@ -67,11 +68,16 @@ returns-in_err-text-clause-rows g c =
       content = scoped.0;
       scoped = scoped.1;
     } in
-    let some = c.some_sealed.ensures users m fits ok in
     let longest : IsLongestFront users c.room.result (λ vs. sent_with e (scoped_after f vs)) (map says bs) n = c.in-Some.ensures.some in
     let within = subst (λ (vs : List Variable). IsWithin users c.room.result (sent_with e (scoped_after f vs))) (take_map says n bs) longest.fits in
-    let short = within some.0 some.1 in
+    let never : IsSealable users m → (r : Refusal) → Seals users m (Err r) → ⊥ = λ ok.
+      (let some = c.some_sealed.ensures users m fits ok in
+      let short = within some.0 some.1 in
+      not_refused users m ok some.0 some.1 (omega (arith, short, c.room.ensures.most))) in
     let fault = c.in_err-text.field-0.0 in
     front_refused users e c.args.limit (scoped_after f) (map says bs) c.from_residual-in_err-text.result fault c.from_residual-in_err-text.ensures.1
-    (if_none (in_table fault.refusal) (Seals users m) (SealsFront users c.args.limit (λ vs. sent_with e (scoped_after f vs)) (map says bs))
-    (not_refused users m ok some.0 some.1 (omega (arith, short, c.room.ensures.most))) c.in_err-text.ensures.rows)
+    (if_each (in_table fault.refusal) (Seals users m) (SealsFront users c.args.limit (λ vs. sent_with e (scoped_after f vs)) (map says bs))
+    (λ r rows. elim (refused_before users e c.args.limit (scoped_after f) (map says bs) ws r rows) [
+      | inl before ↦ inl before
+      | inr ok ↦ absurd (never ok r rows)
+    ]) c.in_err-text.ensures.rows)
