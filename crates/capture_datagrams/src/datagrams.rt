@@ -105,11 +105,13 @@ pub(crate) fn datagrams_behind<P: Printer, R: Read, L: Write, N: Write>(
     requires end { length front.now < 24 → IsAtEnd (R.remaining reader.old) }
     ensures ok { (unread : Option (List ℕ)) → Consumes unread (R.remaining reader.old) front.now
         → IfOk result (Tells (P.prints printer.old) asked.entry.ports.now asked.entry.name.now
-        (streams unread (R.remaining reader.new) (L.contents log.old) (L.contents log.new) (N.contents notes.old)
+        (streams unread (R.remaining reader.new) (L.contents log.old)
+        (L.contents log.new) (N.contents notes.old)
         (N.contents notes.new))) }
     ensures err { (unread : Option (List ℕ)) → Consumes unread (R.remaining reader.old) front.now
         → IfErr result (TellsNot (P.prints printer.old) asked.entry.ports.now asked.entry.name.now
-        (streams unread (R.remaining reader.new) (L.contents log.old) (L.contents log.new) (N.contents notes.old)
+        (streams unread (R.remaining reader.new) (L.contents log.old)
+        (L.contents log.new) (N.contents notes.old)
         (N.contents notes.new))) }
 {
     match print_datagrams_behind(alloc, front, asked.ports, printer, reader, log, notes) {

@@ -101,10 +101,12 @@ pub fn datagrams_of<R: Read, L: Write, N: Write>(
     notes: &mut N,
 ) -> Result<u8, Unread>
     ensures ok { IfOk result (TellsFile PrintsLine asked.entry
-        (streams (R.remaining reader.old) (R.remaining reader.new) (L.contents log.old) (L.contents log.new)
+        (streams (R.remaining reader.old) (R.remaining reader.new)
+        (L.contents log.old) (L.contents log.new)
         (N.contents notes.old) (N.contents notes.new))) }
     ensures err { IfErr result (StopsFile PrintsLine asked.entry
-        (streams (R.remaining reader.old) (R.remaining reader.new) (L.contents log.old) (L.contents log.new)
+        (streams (R.remaining reader.old) (R.remaining reader.new)
+        (L.contents log.old) (L.contents log.new)
         (N.contents notes.old) (N.contents notes.new))) }
 {
     print_datagrams(alloc, asked, &mut Lines, reader, log, notes)
@@ -121,10 +123,12 @@ pub fn print_datagrams<P: Printer, R: Read, L: Write, N: Write>(
     notes: &mut N,
 ) -> Result<u8, Unread>
     ensures ok { IfOk result (TellsFile (P.prints printer.old) asked.entry
-        (streams (R.remaining reader.old) (R.remaining reader.new) (L.contents log.old) (L.contents log.new)
+        (streams (R.remaining reader.old) (R.remaining reader.new)
+        (L.contents log.old) (L.contents log.new)
         (N.contents notes.old) (N.contents notes.new))) }
     ensures err { IfErr result (StopsFile (P.prints printer.old) asked.entry
-        (streams (R.remaining reader.old) (R.remaining reader.new) (L.contents log.old) (L.contents log.new)
+        (streams (R.remaining reader.old) (R.remaining reader.new)
+        (L.contents log.old) (L.contents log.new)
         (N.contents notes.old) (N.contents notes.new))) }
 {
     let mut octets = [0u8; HEADER];

@@ -164,10 +164,12 @@ fn open_datagrams<R: Read, L: Write, N: Write>(
     notes: &mut N,
 ) -> Result<u8, Unread>
     ensures ok { IfOk result (OpensFile names config.now asked.entry
-        (streams (R.remaining reader.old) (R.remaining reader.new) (L.contents log.old) (L.contents log.new)
+        (streams (R.remaining reader.old) (R.remaining reader.new)
+        (L.contents log.old) (L.contents log.new)
         (N.contents notes.old) (N.contents notes.new))) }
     ensures err { IfErr result (StopsOpening names config.now asked.entry
-        (streams (R.remaining reader.old) (R.remaining reader.new) (L.contents log.old) (L.contents log.new)
+        (streams (R.remaining reader.old) (R.remaining reader.new)
+        (L.contents log.old) (L.contents log.new)
         (N.contents notes.old) (N.contents notes.new))) }
 {
     match users_of(alloc, config) {
@@ -193,10 +195,12 @@ pub fn write_printout<R: Read, L: Write, N: Write>(
     notes: &mut N,
 ) -> Result<u8, Unread>
     ensures ok { IfOk result (TellsPrintout printout.entry asked.entry
-        (streams (R.remaining reader.old) (R.remaining reader.new) (L.contents log.old) (L.contents log.new)
+        (streams (R.remaining reader.old) (R.remaining reader.new)
+        (L.contents log.old) (L.contents log.new)
         (N.contents notes.old) (N.contents notes.new))) }
     ensures err { IfErr result (StopsPrintout printout.entry asked.entry
-        (streams (R.remaining reader.old) (R.remaining reader.new) (L.contents log.old) (L.contents log.new)
+        (streams (R.remaining reader.old) (R.remaining reader.new)
+        (L.contents log.old) (L.contents log.new)
         (N.contents notes.old) (N.contents notes.new))) }
 {
     match printout {

@@ -160,12 +160,14 @@ pub(crate) fn write_text<P: Printer, R: Read, L: Write, N: Write>(
     ensures ok { (unread : Option (List ℕ)) → Consumes unread (R.remaining reader.old) front.now
         → IfOk result (TellsText (P.prints printer.old)
         (text_form asked.entry) asked.entry.moment asked.entry.name.now
-        (streams unread (R.remaining reader.new) (L.contents log.old) (L.contents log.new) (N.contents notes.old)
+        (streams unread (R.remaining reader.new) (L.contents log.old)
+        (L.contents log.new) (N.contents notes.old)
         (N.contents notes.new))) }
     ensures err { (unread : Option (List ℕ)) → Consumes unread (R.remaining reader.old) front.now
         → IfErr result (StopsText (P.prints printer.old)
         (text_form asked.entry) asked.entry.moment asked.entry.name.now
-        (streams unread (R.remaining reader.new) (L.contents log.old) (L.contents log.new) (N.contents notes.old)
+        (streams unread (R.remaining reader.new) (L.contents log.old)
+        (L.contents log.new) (N.contents notes.old)
         (N.contents notes.new))) }
 {
     let text = match read_whole_behind(alloc, front, reader, FILE_LIMIT) {

@@ -186,7 +186,8 @@ pub(crate) fn read_block<R: Read>(
         (IsNext (of_section (section_of section.old)) (of_section (section_of section.new)) room.new
         (R.remaining reader.old) (R.remaining reader.new)) }
     ensures err { IfErr result
-        (StopsItem (of_section (section_of section.old)) (R.remaining reader.old) (R.remaining reader.new)) }
+        (StopsItem (of_section (section_of section.old)) (R.remaining reader.old)
+        (R.remaining reader.new)) }
 {
     let Ok(count) = read_full(reader, &mut room[..FRONT]) else {
         return Err(CaptureFault::CannotRead);

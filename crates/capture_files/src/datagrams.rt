@@ -142,10 +142,12 @@ fn write_datagram<P: Printer, L: Write>(
 ) -> Result<(), CaptureFault>
     requires { IsBelow (counts_of passed.old) 18446744073709551615 }
     ensures ok { OnOk result
-        (WritesDatagram (P.prints printer.old) moment datagram.now (counts_of passed.old) (counts_of passed.new)
+        (WritesDatagram (P.prints printer.old) moment datagram.now
+        (counts_of passed.old) (counts_of passed.new)
         (L.contents log.old) (L.contents log.new)) }
     ensures err { IfErr result
-        (StopsDatagram (P.prints printer.old) moment datagram.now (counts_of passed.old) (L.contents log.old)
+        (StopsDatagram (P.prints printer.old) moment datagram.now
+        (counts_of passed.old) (L.contents log.old)
         (L.contents log.new)) }
     ensures keeps { PrintsAs (P.prints printer.new) (P.prints printer.old) }
 {
@@ -173,12 +175,15 @@ pub(crate) fn write_record<P: Printer, L: Write, N: Write>(
 ) -> Result<(), CaptureFault>
     requires { IsBelow (counts_of passed.old) 18446744073709551615 }
     ensures ok { OnOk result
-        (WritesRecord (P.prints printer.old) ports.now (record_from captured.entry) captured.entry.number
+        (WritesRecord (P.prints printer.old) ports.now
+        (record_from captured.entry) captured.entry.number
         (counts_of passed.old) (counts_of passed.new) (L.contents log.old) (L.contents log.new)
         (N.contents notes.old) (N.contents notes.new)) }
     ensures err { IfErr result
-        (StopsRecord (P.prints printer.old) ports.now (record_from captured.entry) captured.entry.number
-        (counts_of passed.old).datagrams (L.contents log.old) (L.contents log.new) (N.contents notes.old)
+        (StopsRecord (P.prints printer.old) ports.now
+        (record_from captured.entry) captured.entry.number
+        (counts_of passed.old).datagrams (L.contents log.old)
+        (L.contents log.new) (N.contents notes.old)
         (N.contents notes.new)) }
     ensures keeps { PrintsAs (P.prints printer.new) (P.prints printer.old) }
 {
@@ -226,7 +231,8 @@ fn write_item<P: Printer, L: Write, N: Write>(
     ensures err { IfErr result
         (StopsWrite (P.prints printer.old) ports.now
         (option_map (λ h. record_of h room.now) packet) number
-        (counts_of passed.old).datagrams (L.contents log.old) (L.contents log.new) (N.contents notes.old)
+        (counts_of passed.old).datagrams (L.contents log.old)
+        (L.contents log.new) (N.contents notes.old)
         (N.contents notes.new)) }
     ensures keeps { PrintsAs (P.prints printer.new) (P.prints printer.old) }
 {
@@ -261,11 +267,14 @@ fn write_items<P: Printer, R: Read, L: Write, N: Write>(
     requires none { counts_of passed ≡ none_passed }
     ensures ok { IfOk result
         (λ passed. Stands (P.prints printer.old) ports.now (state_of begun.format)
-        (streams (R.remaining reader.old) (R.remaining reader.new) (L.contents log.old) (L.contents log.new)
-        (N.contents notes.old) (N.contents notes.new)) (IsEnd (R.remaining reader.new)) (counts_of passed)) }
+        (streams (R.remaining reader.old) (R.remaining reader.new)
+        (L.contents log.old) (L.contents log.new)
+        (N.contents notes.old) (N.contents notes.new))
+        (IsEnd (R.remaining reader.new)) (counts_of passed)) }
     ensures err { IfErr result
         (StopsItems (P.prints printer.old) ports.now (state_of begun.format) begun.place
-        (streams (R.remaining reader.old) (R.remaining reader.new) (L.contents log.old) (L.contents log.new)
+        (streams (R.remaining reader.old) (R.remaining reader.new)
+        (L.contents log.old) (L.contents log.new)
         (N.contents notes.old) (N.contents notes.new))) }
 {
     let (mut format, mut place) = (begun.format, begun.place);
@@ -317,7 +326,8 @@ pub fn write_datagrams<R: Read, L: Write, N: Write>(
         × Appends (L.contents log.old) (L.contents log.new) lines
         × Appends (N.contents notes.old) (N.contents notes.new) tells)) }
     ensures err { IfErr result (StopsBy PrintsLine ports.now
-        (streams (R.remaining reader.old) (R.remaining reader.new) (L.contents log.old) (L.contents log.new)
+        (streams (R.remaining reader.old) (R.remaining reader.new)
+        (L.contents log.old) (L.contents log.new)
         (N.contents notes.old) (N.contents notes.new))) }
 {
     let mut octets = [0u8; HEADER];
@@ -355,7 +365,8 @@ pub fn print_datagrams_behind<P: Printer, R: Read, L: Write, N: Write>(
         × Appends (N.contents notes.old) (N.contents notes.new) tells)) }
     ensures err { (unread : Option (List ℕ)) → Consumes unread (R.remaining reader.old) front.now
         → IfErr result (StopsBy (P.prints printer.old) ports.now
-        (streams unread (R.remaining reader.new) (L.contents log.old) (L.contents log.new) (N.contents notes.old)
+        (streams unread (R.remaining reader.new) (L.contents log.old)
+        (L.contents log.new) (N.contents notes.old)
         (N.contents notes.new))) }
 {
     let Ok(mut room) = vec![in alloc; 0u8; ROOM] else {

@@ -373,7 +373,8 @@ impl Agent {
             (λ own. notifying self.old.engine own id user.now level (front_in body.now)
             (variables_in body.now) salt) }
         ensures accepted { IfOk result (λ text. IsAcceptedByManagers self.old.users
-            (notification self.old.engine (own_pair self.old.boots self.old.started now) id user.now level
+            (notification self.old.engine (own_pair self.old.boots self.old.started now)
+            id user.now level
             (front_in body.now) (variables_in body.now) salt) text.items) }
         ensures same { self.new ≡ self.old }
     {
@@ -405,7 +406,8 @@ impl Agent {
             (λ own. notifying self.old.engine own id user.now level front.now
             (map B.says bindings.now) salt) }
         ensures accepted { IfOk result (λ text. IsAcceptedByManagers self.old.users
-            (notification self.old.engine (own_pair self.old.boots self.old.started now) id user.now level front.now
+            (notification self.old.engine (own_pair self.old.boots self.old.started now)
+            id user.now level front.now
             (map B.says bindings.now) salt) text.items) }
         ensures same { self.new ≡ self.old }
     {

@@ -28,7 +28,8 @@ pub fn write_counter_report(
 ) -> Result<Vec<u8>, RefusedAt>
     requires { IsObjectId name }
     ensures rows { IfSome (seal_answer result)
-        (Seals users.old.users (sent_with envelope.now (counter_scoped engine.now request_id name value))) }
+        (Seals users.old.users (sent_with envelope.now
+        (counter_scoped engine.now request_id name value))) }
     ensures memory { IsRefused result OutOfMemory
         → IsSealable users.old.users (sent_with envelope.now
         (counter_scoped engine.now request_id name value)) }

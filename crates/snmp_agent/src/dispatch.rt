@@ -195,7 +195,8 @@ impl Agent {
             → ScopedFront (text_of taken.now.text) c → PduText c.pdu p
             → IsRefused result OutOfMemory
             → IsBeyond self.old.users (room limit)
-            (responding self.old.engine (own_pair self.old.boots self.old.started now) (given_of taken.now) c p
+            (responding self.old.engine (own_pair self.old.boots self.old.started now)
+            (given_of taken.now) c p
             status index (map variable_of bindings.now) salt) → ⊥ }
         ensures accepted { (c : Contexts) (p : PduParts)
             → ScopedFront (text_of taken.now.text) c → PduText c.pdu p
@@ -239,7 +240,8 @@ impl Agent {
             → ScopedFront (text_of taken.now.text) c → PduText c.pdu p
             → IsRefused result OutOfMemory
             → IsBeyond self.old.users (room limit)
-            (responding self.old.engine (own_pair self.old.boots self.old.started now) (given_of taken.now) c p
+            (responding self.old.engine (own_pair self.old.boots self.old.started now)
+            (given_of taken.now) c p
             status index (map B.says bindings.now) salt) → ⊥ }
         ensures accepted { (c : Contexts) (p : PduParts)
             → ScopedFront (text_of taken.now.text) c → PduText c.pdu p
@@ -301,7 +303,8 @@ impl Agent {
             → ScopedFront (text_of taken.now.text) c → PduText c.pdu p
             → IfOk result (λ f. IsAcceptedByManagers self.old.users
             (response self.old.engine (own_pair self.old.boots self.old.started now)
-            (given_of taken.now) c p status index (take f.count (map B.says bindings.now)) salt) f.text.items) }
+            (given_of taken.now) c p status index (take f.count (map B.says bindings.now)) salt)
+            f.text.items) }
         ensures same { self.new ≡ self.old }
     {
         response_is_accepted();

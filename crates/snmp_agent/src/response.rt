@@ -51,7 +51,8 @@ fn envelope<'a>(
     ensures user { result.user.now ≡ taken.now.user.now }
     ensures message { (c : Contexts) (p : PduParts) (vs : List Variable)
         → sent_with result (scoped_text c.engine c.name
-        (pdu_text (pdu_with (pdu_tag PduType.Response) p.id response.now.status response.now.index vs)))
+        (pdu_text (pdu_with (pdu_tag PduType.Response) p.id
+        response.now.status response.now.index vs)))
         ≡ responding engine.now own
         (given_of taken.now) c p response.now.status response.now.index vs response.now.salt }
 {
@@ -79,7 +80,8 @@ fn front<'a>(taken: &'a Taken<'_>, response: &Response) -> Front<'a>
         → PduText c.pdu p
         → scoped_after result vs
         ≡ scoped_text c.engine c.name
-        (pdu_text (pdu_with (pdu_tag PduType.Response) p.id response.now.status response.now.index vs)) }
+        (pdu_text (pdu_with (pdu_tag PduType.Response) p.id
+        response.now.status response.now.index vs)) }
 {
     one_content();
     one_pdu();

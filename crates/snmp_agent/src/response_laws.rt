@@ -48,7 +48,7 @@ pub fn report_is_short()
         (n value : ℕ) (text : List ℕ)
         → length engine ≤ 32 → IsPair own → id ≤ MAX_INTEGER32 → length user ≤ 32
         → SealedText users
-            (reporting engine own id user request_id n value) text → length text ≤ 484 }
+        (reporting engine own id user request_id n value) text → length text ≤ 484 }
 {
     one_element();
     sealed_size();
@@ -77,7 +77,7 @@ pub fn too_big_is_short()
         → length g.user ≤ 32 → length salt ≡ 8
         → length c.engine ≤ 32 → length c.name ≤ 32
         → SealedText users
-            (responding engine own g c p status index [] salt) text → length text ≤ 484 }
+        (responding engine own g c p status index [] salt) text → length text ≤ 484 }
 {
     one_element();
     sealed_size();

@@ -45,7 +45,7 @@ impl Model for Kept {
     } };
 
     ghost invariant = { λ k. (length k.user.items ≤ 32)
-    × (k.id ≤ MAX_INTEGER32) × (484 ≤ k.max_size)
+        × (k.id ≤ MAX_INTEGER32) × (484 ≤ k.max_size)
         × (k.max_size ≤ MAX_INTEGER32) × ∥ HasTag k.text.items k.tag ∥₁
         × ContextsThere k.text.items k.contexts × StandsThere k.text.items k.tag k.pdu
         × (k.pdu.list_at ≤ k.pdu.end)

@@ -69,8 +69,11 @@ pub struct Message<'a> {
 #[tactic(auto, unfolding(crate::specs::Reading::version_in))]
 fn read_version(datagram: &[u8]) -> Result<(i32, usize, usize), BerFault>
     ensures value { option_map
-        (λ v. (v.0, slice_range datagram.now v.1 v.2, slice_range datagram.now v.2
-        (length datagram.now)))
+        (λ v. (
+          v.0,
+          slice_range datagram.now v.1 v.2,
+          slice_range datagram.now v.2 (length datagram.now),
+        ))
         (result_ok result) ≡ version_in datagram.now }
     ensures ordered { IfOk result (λ v. (v.1 ≤ v.2) × (v.2 ≤ length datagram.now)) }
 {

@@ -166,7 +166,8 @@ fn spell_layers(
     requires short { IsShort (fields_of security.now) }
     requires measured { IsMeasured contents.now }
     requires within { length
-        (whole_text (message_with header.now (fields_of security.now) (measured_parts contents.now))) ≤ LARGEST }
+        (whole_text (message_with header.now (fields_of security.now)
+        (measured_parts contents.now))) ≤ LARGEST }
     ensures { IfOk result
         (λ v. v.items ≡ whole_text
         (message_with header.now (fields_of security.now) (measured_parts contents.now))) }

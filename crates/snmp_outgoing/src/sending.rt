@@ -81,7 +81,8 @@ pub fn write_body_of<B: Spelled>(
     requires tag { IsPduTag front.now.tag }
     requires fit { All (λ b. B.fits b) bindings.now }
     ensures rows { IfSome (seal_answer result)
-        (Seals users.old.users (sent_with envelope.now (scoped_after front.now (map B.says bindings.now)))) }
+        (Seals users.old.users (sent_with envelope.now
+        (scoped_after front.now (map B.says bindings.now)))) }
     ensures memory { IsRefused result OutOfMemory
         → IsSealable users.old.users (sent_with envelope.now
         (scoped_after front.now (map B.says bindings.now))) }
@@ -132,7 +133,8 @@ pub fn write_within<B: Spelled>(
     requires tag { IsPduTag front.now.tag }
     requires fit { All (λ b. B.fits b) bindings.now }
     ensures rows { IfSome (seal_answer result) (UpTo limit
-        (Seals users.old.users (sent_with envelope.now (scoped_after front.now (map B.says bindings.now))))) }
+        (Seals users.old.users (sent_with envelope.now
+        (scoped_after front.now (map B.says bindings.now))))) }
     ensures sealed { IfOk result (λ text.
         Seals users.old.users (sent_with envelope.now (scoped_after front.now (map B.says bindings.now)))
         (Ok text.items)) }

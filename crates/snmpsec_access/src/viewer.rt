@@ -245,7 +245,8 @@ fn put_level(
     requires same_rows { HaveSameRows (tables_of who.now.rows.now) who.now.access.now }
     ensures { OnOk result
         (SeesOn (tables_of who.now.rows.now)
-        (of_level who.now.rows.now.contexts.items who.now.model who.now.name.now level) out.old out.new) }
+        (of_level who.now.rows.now.contexts.items who.now.model who.now.name.now level)
+        out.old out.new) }
 {
     put_view(alloc, out, who, level, ViewType::Read)?;
     put_view(alloc, out, who, level, ViewType::Write)?;

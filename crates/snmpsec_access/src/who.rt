@@ -50,7 +50,8 @@ fn is_allowed(
 ) -> bool
     requires { IsReady wanted.now }
     ensures { let allowed = Allowed (tables_of wanted.now.rows.now)
-        (asker view group.now level context.now).message view wanted.now.variable.now AccessAllowed in
+        (asker view group.now level context.now).message view
+        wanted.now.variable.now AccessAllowed in
         MatchBool result allowed (¬ allowed) }
 {
     let answer = wanted.access.is_access_allowed(
@@ -122,7 +123,8 @@ fn put_level(
     requires { IsReady wanted.now }
     ensures { OnOk result
         (GoesOn (SeesIt wanted.now)
-        (map (asker view group.now level) wanted.now.rows.now.contexts.items) out.old.items out.new.items) }
+        (map (asker view group.now level) wanted.now.rows.now.contexts.items)
+        out.old.items out.new.items) }
 {
     if !is_wanted(wanted, group, level) {
         return Ok(());
@@ -160,7 +162,8 @@ fn put_view(
 ) -> Result<(), AllocError>
     requires { IsReady wanted.now }
     ensures { OnOk result
-        (GoesOn (SeesIt wanted.now) (of_view (tables_of wanted.now.rows.now) view) out.old.items out.new.items) }
+        (GoesOn (SeesIt wanted.now) (of_view (tables_of wanted.now.rows.now) view)
+        out.old.items out.new.items) }
 {
     'groups: for group in &wanted.rows.groups {
         put_group(alloc, out, wanted, view, group)?;

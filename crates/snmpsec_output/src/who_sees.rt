@@ -38,8 +38,10 @@ pub fn who_text(
           err = output.err.items;
           status = output.status;
         } in
-        let words : WhoWords = record { variable = variable.now; view = option_map
-        (λ word. word.now) view.entry } in
+        let words : WhoWords = record {
+          variable = variable.now;
+          view = option_map (λ word. word.now) view.entry;
+        } in
         PrintsWho config.now words only_users printed) }
 {
     let asked = match asked_of(variable, view) {
@@ -102,7 +104,8 @@ fn lines_of(
     requires { AnswerFor config.now.access (tables_of config.now.rows.access) }
     ensures { IfOk result
         (λ text. TellsWho (tables_of config.now.rows.access)
-        (views_of asked.now.view) only_users config.now.rows.users.items asked.now.variable text.items) }
+        (views_of asked.now.view) only_users config.now.rows.users.items
+        asked.now.variable text.items) }
 {
     let wanted = WhoSeesQuery {
         access: &config.access,
@@ -131,7 +134,8 @@ fn list_askers(
     requires { AnswerFor config.now.access (tables_of config.now.rows.access) }
     ensures out { IfOk result
         (λ output. TellsWho (tables_of config.now.rows.access)
-        (views_of asked.now.view) only_users config.now.rows.users.items asked.now.variable output.out.items) }
+        (views_of asked.now.view) only_users config.now.rows.users.items
+        asked.now.variable output.out.items) }
     ensures err { IfOk result (λ output. output.err.items ≡ []) }
     ensures status { IfOk result (λ output. output.status ≡ line_status output.out.items) }
 {

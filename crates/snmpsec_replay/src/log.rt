@@ -165,7 +165,8 @@ fn look_on<R: BufRead>(reader: &mut R, line: &mut Vec<u8>) -> Result<Ahead, Fail
     requires short { vec_len line.old ≤ 131072 }
     requires capacity { 131072 ≤ vec_capacity line.old }
     ensures ok { IfOk result
-        (LooksAhead line.old.items line.new.items (R.remaining reader.old) (R.remaining reader.new)) }
+        (LooksAhead line.old.items line.new.items (R.remaining reader.old)
+        (R.remaining reader.new)) }
     ensures err { OnErr result
         ((line.new.items ≡ line.old.items)
         × Keeps (R.remaining reader.old) (R.remaining reader.new)) }
@@ -185,7 +186,8 @@ fn take_octet<R: Read>(reader: &mut R, line: &mut Vec<u8>) -> Result<Ahead, Fail
     requires short { vec_len line.old ≤ 131072 }
     requires capacity { 131072 ≤ vec_capacity line.old }
     ensures ok { IfOk result
-        (LooksAhead line.old.items line.new.items (R.remaining reader.old) (R.remaining reader.new)) }
+        (LooksAhead line.old.items line.new.items (R.remaining reader.old)
+        (R.remaining reader.new)) }
     ensures end { result ≡ Ok Ahead.End → IsAtEnd (R.remaining reader.new) }
     ensures err { OnErr result
         ((line.new.items ≡ line.old.items)
@@ -212,7 +214,8 @@ fn take_more<R: BufRead>(reader: &mut R, line: &mut Vec<u8>) -> Result<Ahead, Fa
     requires short { vec_len line.old ≤ 131072 }
     requires capacity { 131072 ≤ vec_capacity line.old }
     ensures ok { IfOk result
-        (LooksAhead line.old.items line.new.items (R.remaining reader.old) (R.remaining reader.new)) }
+        (LooksAhead line.old.items line.new.items (R.remaining reader.old)
+        (R.remaining reader.new)) }
     ensures end { result ≡ Ok Ahead.End → IsAtEnd (R.remaining reader.new) }
     ensures err { OnErr result
         ((line.new.items ≡ line.old.items)

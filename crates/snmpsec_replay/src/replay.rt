@@ -127,7 +127,8 @@ fn answer(
 /// Writes what waits, where it is a piece.
 fn write_piece<W: Write>(writer: &mut W, waiting: &mut Vec<u8>) -> Result<(), Failed>
     ensures ok { OnOk result
-        (WritesSome (W.contents writer.old) (W.contents writer.new) waiting.old.items waiting.new.items) }
+        (WritesSome (W.contents writer.old)
+        (W.contents writer.new) waiting.old.items waiting.new.items) }
     ensures err { OnErr result (WritesFront (W.contents writer.old)
         (W.contents writer.new) waiting.old.items) }
 {

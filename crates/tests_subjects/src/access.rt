@@ -2,11 +2,11 @@
 
 ghost use Rattle.vacm_core.specs.Tables.{HaveSameRows, tables_of};
 
-use crate::row::{Fault, Row, keep};
-use crate::shown::Text;
-use crate::subjects::Subject;
 use std::alloc::Global;
 use std::fmt;
+use tests_messages::row::{Fault, Row, keep};
+use tests_messages::shown::Text;
+use tests_messages::subjects::Subject;
 use vacm_core::*;
 
 /// Rows, and the tables of rows that were loaded.

@@ -4,16 +4,16 @@ ghost use Rattle.std.specs.Prelude.{All};
 ghost use Rattle.snmp_msg.specs.Variables.{CanBeWritten, variable_of};
 
 use crate::access::{say_access, view_of};
-use crate::outcome::{refused_text, say_refused, say_taken};
-use crate::pdu::{bindings_of, pdu_in, variables_of};
-use crate::row::Row;
-use crate::shown::Hex;
 use snmp_agent::{Agent, Refused, Unhandled, status_of};
 use snmp_ber::Level;
 use snmp_incoming::{Kept, Taken};
 use snmp_msg::{Binding, PduType, Refusal, RefusedAt};
 use snmp_outgoing::{Body, Counter, Front};
 use std::alloc::{AllocError, Global};
+use tests_messages::answers::{refused_text, say_refused, say_taken};
+use tests_messages::pdu::{bindings_of, pdu_in, variables_of};
+use tests_messages::row::Row;
+use tests_messages::shown::Hex;
 use vacm_core::Access;
 
 /// The salt of each message.

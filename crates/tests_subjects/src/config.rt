@@ -1,10 +1,10 @@
 //! Configurations: what is read of a text, and what is told of one that isn't read.
 
 use crate::access::question;
-use crate::row::{Fault, Row, keep};
-use crate::subjects::Subject;
 use snmpsec_config::{Config, ConfigFault, level_of, level_word};
 use std::alloc::{AllocError, Global};
+use tests_messages::row::{Fault, Row, keep};
+use tests_messages::subjects::Subject;
 
 /// The configuration that was read last.
 #[derive(Drop)]

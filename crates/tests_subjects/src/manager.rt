@@ -6,12 +6,6 @@ ghost use Rattle.snmp_ber.specs.declared.number.TheConstants.{MAX_INTEGER32};
 ghost use Rattle.snmp_msg.specs.PduTypes.{IsPduTag};
 ghost use Rattle.snmp_msg.specs.Variables.{CanBeWritten, variable_of};
 
-use crate::clocks::{clocks_in, engine_in, say_mark, say_notion, say_pair};
-use crate::outcome::{refused_text, say_refused, say_taken};
-use crate::pdu::{bindings_of, pdu_in, variables_of};
-use crate::people::People;
-use crate::row::{Row, keep};
-use crate::shown::Text;
 use engine_clock::{Clocks, EngineId};
 use snmp_ber::Level;
 use snmp_manager::{Manager, Outcome, Pending, answer_of};
@@ -19,6 +13,12 @@ use snmp_msg::{Binding, Pdu, Refusal, RefusedAt, VariableBinding};
 use snmp_outgoing::{Body, Front};
 use std::alloc::{AllocError, Global};
 use std::mem;
+use tests_messages::answers::{refused_text, say_refused, say_taken};
+use tests_messages::clocks::{clocks_in, engine_in, say_mark, say_notion, say_pair};
+use tests_messages::pdu::{bindings_of, pdu_in, variables_of};
+use tests_messages::people::People;
+use tests_messages::row::{Row, keep};
+use tests_messages::shown::Text;
 use usm_core::Users;
 
 /// A manager, and what it remembers of its last two requests.

@@ -1,13 +1,14 @@
 //! Messages that are opened and read (RFC 3412, section 7.2), and how refusals are told.
 
-use crate::people::People;
-use crate::row::{Fault, Row};
-use crate::shown::{Hex, Text};
-use crate::subjects::Subject;
 use snmp_incoming::{Taken, read_text, scoped_octets};
 use snmp_msg::{Refusal, RefusedAt};
 use snmpsec_output::{octets_line, opened_lines};
-use std::alloc::{AllocError, Global};
+use std::alloc::Global;
+use tests_messages::answers::{say_refused, say_taken};
+use tests_messages::people::People;
+use tests_messages::row::{Fault, Row};
+use tests_messages::shown::Text;
+use tests_messages::subjects::Subject;
 use usm_core::{Role, Users};
 
 /// Users who read messages.
@@ -43,43 +44,6 @@ fn read_of<'a>(users: &mut Users, datagram: &'a [u8]) -> Result<Taken<'a>, Refus
         Ok(Some(text)) => read_text(&checked, text),
         Ok(None) => Err(RefusedAt::plain(Refusal::DecryptionError)),
         Err(_) => Err(RefusedAt::plain(Refusal::OutOfMemory)),
-    }
-}
-
-/// Answers what an accepted message is: who sent it, its contexts and its PDU.
-pub fn say_taken(row: &mut Row<'_>, taken: &Taken<'_>) {
-    let scoped = taken.scoped();
-    let pdu = taken.pdu();
-    row.say(format!(in row.alloc;
-        "accepted {:?} id {} engine {} user {} context {} {} data {} {} tag {:02x} request {}",
-        taken.level,
-        taken.id,
-        taken.engine,
-        Text(taken.user),
-        Hex(scoped.engine),
-        Text(scoped.name),
-        scoped.data_at,
-        Hex(scoped.pdu),
-        taken.tag,
-        pdu.id
-    ));
-}
-
-/// A refusal: its number, its name and its place.
-pub fn refused_text(alloc: Global, fault: RefusedAt) -> Result<String, AllocError> {
-    let (number, name) = (fault.number(), fault.name());
-    match fault.at {
-        Some(place) => format!(in alloc; "refused {number} {name} {place}"),
-        None => format!(in alloc; "refused {number} {name}"),
-    }
-}
-
-/// Answers a refusal, or notes that memory was wanting.
-pub fn say_refused(row: &mut Row<'_>, fault: RefusedAt) {
-    if fault.is_memory() {
-        row.lack();
-    } else {
-        row.say(refused_text(row.alloc, fault));
     }
 }
 

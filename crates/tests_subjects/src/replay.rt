@@ -1,9 +1,6 @@
 //! Logs of datagrams that a manager takes, read and written by streams that are interrupted and fail, and texts of
 //! opened messages.
 
-use crate::row::{Fault, Row};
-use crate::shown::Text;
-use crate::subjects::Subject;
 use engine_clock::Clocks;
 use snmp_manager::Manager;
 use snmpsec_io::write_whole;
@@ -11,6 +8,9 @@ use snmpsec_replay::{ReplayFault, replay_log};
 use std::alloc::{AllocError, Global};
 use std::io;
 use std::io::{BufRead, BufReader, ErrorKind, Read, Write};
+use tests_messages::row::{Fault, Row};
+use tests_messages::shown::Text;
+use tests_messages::subjects::Subject;
 use usm_core::Users;
 
 /// How often a stream is interrupted before each call that does something, and the call that fails, if one does.

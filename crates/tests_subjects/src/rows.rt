@@ -1,22 +1,22 @@
 //! Files of rows, and how many rows of each pass.
 
 use crate::access::Views;
-use crate::ber::Elements;
-use crate::clocks::Held;
 use crate::config::Settings;
-use crate::keys::Keys;
-use crate::message::Messages;
 use crate::outcome::Reading;
 use crate::replay::Logs;
-use crate::row::{Fault, Row, words_of};
 use crate::stations::Stations;
-use crate::subjects::Subject;
-use crate::usm::Sealing;
 use crate::world::Sharing;
 use anyhow::{Context, Error, bail, ensure};
 use std::alloc::Global;
 use std::rt::{Env, Files};
 use std::{env, fs};
+use tests_messages::ber::Elements;
+use tests_messages::clocks::Held;
+use tests_messages::keys::Keys;
+use tests_messages::message::Messages;
+use tests_messages::row::{Fault, Row, words_of};
+use tests_messages::subjects::Subject;
+use tests_messages::usm::Sealing;
 
 /// How many rows passed, and how many failed.
 #[derive(Clone, Copy)]

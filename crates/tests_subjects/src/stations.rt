@@ -2,13 +2,13 @@
 
 use crate::access::Views;
 use crate::agent;
-use crate::clocks::engine_in;
 use crate::manager::Asking;
-use crate::people::People;
-use crate::row::{Fault, Row, keep};
-use crate::subjects::Subject;
 use snmp_agent::Agent;
 use std::alloc::Global;
+use tests_messages::clocks::engine_in;
+use tests_messages::people::People;
+use tests_messages::row::{Fault, Row, keep};
+use tests_messages::subjects::Subject;
 use usm_core::Users;
 use vacm_core::Vacm;
 

@@ -1,13 +1,13 @@
 //! Managers that share what they know through saved files.
 
-use crate::clocks::{clocks_in, engine_at, engine_in, say_pair};
-use crate::people::People;
-use crate::row::{Fault, Row, keep};
-use crate::shown::Text;
-use crate::subjects::Subject;
 use engine_clock::Clocks;
 use snmp_manager::{Event, World, WorldFault};
 use std::alloc::{AllocError, Global};
+use tests_messages::clocks::{clocks_in, engine_at, engine_in, say_pair};
+use tests_messages::people::People;
+use tests_messages::row::{Fault, Row, keep};
+use tests_messages::shown::Text;
+use tests_messages::subjects::Subject;
 
 /// Users, a world of managers, and messages that the rows name by their positions.
 #[derive(Drop)]

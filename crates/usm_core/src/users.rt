@@ -288,7 +288,8 @@ impl Users {
         requires user { length user.now ≤ 32 }
         requires scoped { S.fits scoped.now }
         ensures rows { IfSome (seal_answer result)
-            (Seals self.old.users (sending header.now engine.now pair user.now salt (S.octets scoped.now))) }
+            (Seals self.old.users (sending header.now engine.now pair user.now salt
+            (S.octets scoped.now))) }
         ensures memory { IsRefused result OutOfMemory
             → IsSealable self.old.users (sending header.now engine.now pair user.now salt
             (S.octets scoped.now)) }

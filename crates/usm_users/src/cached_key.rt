@@ -25,7 +25,7 @@ impl Model for CachedKey {
     ghost view = { λ cached. cached.key };
 
     ghost invariant = { λ cached. IfSome cached.schedule
-    (λ s. s ≡ expanded (take 16 cached.key.octets)) };
+        (λ s. s ≡ expanded (take 16 cached.key.octets)) };
 }
 
 /// The first 16 octets of the localised key, expanded.

@@ -34,7 +34,7 @@ impl<R: NamedRow> Model for OrderedTable<R> {
     ghost view = { λ t. t.rows.items };
 
     ghost invariant = { λ t. AreRuns R.name_of R.rank t.rows.items
-    (length t.rows.items) t.runs.entries };
+        (length t.rows.items) t.runs.entries };
 }
 
 /// Whether the row at the place is the first of its name.

@@ -71,9 +71,9 @@ returns-in_err-text-clause-rows g c =
     let longest : IsLongestFront users c.room.result (λ vs. sent_with e (scoped_after f vs)) (map says bs) n = c.in-Some.ensures.some in
     let within = subst (λ (vs : List Variable). IsWithin users c.room.result (sent_with e (scoped_after f vs))) (take_map says n bs) longest.fits in
     let never : IsSealable users m → (r : Refusal) → Seals users m (Err r) → ⊥ = λ ok.
-      (let some = c.some_sealed.ensures users m fits ok in
-      let short = within some.0 some.1 in
-      not_refused users m ok some.0 some.1 (omega (arith, short, c.room.ensures.most))) in
+    (let some = c.some_sealed.ensures users m fits ok in
+    let short = within some.0 some.1 in
+    not_refused users m ok some.0 some.1 (omega (arith, short, c.room.ensures.most))) in
     let fault = c.in_err-text.field-0.0 in
     front_refused users e c.args.limit (scoped_after f) (map says bs) c.from_residual-in_err-text.result fault c.from_residual-in_err-text.ensures.1
     (if_each (in_table fault.refusal) (Seals users m) (SealsFront users c.args.limit (λ vs. sent_with e (scoped_after f vs)) (map says bs))

@@ -1,11 +1,11 @@
 use Rattle.std.specs.Prelude.{All}
-use Rattle.snmp_msg.specs.Variables.{CanBeWritten, variable_of}
-use Rattle.snmp_msg.specs.declared.binding.Binding.{Binding}
-use Rattle.tests_subjects.proofs.pdu.bindings_of.Given as goal
+use Rattle.snmp_ber.specs.Element.{IsTag}
+use Rattle.snmp_msg.specs.declared.variable.VariableBinding.{VariableBinding}
+use Rattle.tests_messages.proofs.pdu.variables_of.Given as goal
 
 abbrev pub invariant-loop-binding : goal.invariant-loop-binding
 invariant-loop-binding l = record {
   ready : (goal.iterator-loop-binding).can_next l.binding-iterator;
   ends : (goal.iterator-loop-binding).is_finite l.binding-iterator;
-  can : All (λ (b : Binding). CanBeWritten (variable_of b)) l.bindings.items;
+  can : All (λ (b : VariableBinding). IsTag b.tag) l.bindings.items;
 }
