@@ -6,22 +6,26 @@ The help of each command. `manual` prints on standard output what `--help` print
   Usage: snmpsec show [OPTIONS] [HEX]
   
   Arguments:
-    [HEX]  The datagram: one or more pairs of hex digits, without blanks, colons or 0x; where --from isn't given
+    [HEX]  The datagram as pairs of hex digits, without blanks, colons or 0x; instead of --from
   
   Options:
-        --names            Print ' # NAME' behind the lines that have a name: users, contexts, PDUs, counters
-        --why              Say behind a refusal, on standard error, what is wrong and what is wanted
-        --from <FILE>      A capture in the format of libpcap or pcapng, as tcpdump -w and Wireshark write it, pasted hex, or a dump, as hexdump -C prints it; - is standard input
-        --form <FORM>      What FILE is: pcap (or pcapng), hex or dump; found by its octets if left out
-        --port <PORT>      A port that the datagrams are from or to, 0 to 65535; may be given again; 161 and 162 if left out
-        --moment <MOMENT>  When pasted hex or a dump was received, in whole seconds; 0 if left out
-        --ip               FILE is dumps of packets, each from its IP header on, as tcpdump -x prints them; their UDP datagrams are taken
+        --names            Print ' # NAME' after the lines that have a name: users, contexts, PDUs, counters
+        --why              After a refusal, print on standard error what is wrong and what is expected
+        --from <FILE>      A capture (pcap or pcapng), pasted hex, or a dump as hexdump -C prints it; - is standard input
+        --form <FORM>      The form of FILE: pcap (also for pcapng), hex or dump; found by its first octets if left out
+        --port <PORT>      A port that the datagrams are from or to; may be repeated; 161 and 162 if left out
+        --moment <MOMENT>  When pasted hex or a dump was received, in seconds; 0 if left out
+        --ip               FILE is dumps of packets from their IP headers on, as tcpdump -x prints them
     -h, --help             Print help
   
-  With --from a line 'datagram N MOMENT' stands before what is printed of each datagram, N counting from 1.
+  With --from, a line 'datagram N MOMENT' comes before the fields of each datagram. N counts from 1.
+  
   Example: snmpsec show --from examples/replay/captured.pcap
-  Status: 0 shown, 1 refused (a line 'refused N NAME at PLACE'), with --from also where one of the datagrams or FILE is, 2 a fault of the command line or a
-  file that can't be read.
+  
+  Exit status:
+    0  the message is printed
+    1  a message is refused (a line 'refused N NAME at PLACE'), or the file of --from is
+    2  the command line is wrong, or a file can't be read
   $ snmpsec manual open
   Authenticate and decrypt an SNMPv3 message with the users' passwords, and print its fields
   
@@ -29,22 +33,28 @@ The help of each command. `manual` prints on standard output what `--help` print
   
   Arguments:
     <CONFIG>  TOML file with the users
-    [HEX]     The datagram: one or more pairs of hex digits, without blanks, colons or 0x; where --from isn't given
+    [HEX]     The datagram as pairs of hex digits, without blanks, colons or 0x; instead of --from
   
   Options:
-        --names            Print ' # NAME' behind the lines that have a name: users, contexts, PDUs, counters
-        --why              Say behind a refusal, on standard error, what is wrong and what is wanted
-        --from <FILE>      A capture in the format of libpcap or pcapng, as tcpdump -w and Wireshark write it, pasted hex, or a dump, as hexdump -C prints it; - is standard input
-        --form <FORM>      What FILE is: pcap (or pcapng), hex or dump; found by its octets if left out
-        --port <PORT>      A port that the datagrams are from or to, 0 to 65535; may be given again; 161 and 162 if left out
-        --moment <MOMENT>  When pasted hex or a dump was received, in whole seconds; 0 if left out
-        --ip               FILE is dumps of packets, each from its IP header on, as tcpdump -x prints them; their UDP datagrams are taken
+        --names            Print ' # NAME' after the lines that have a name: users, contexts, PDUs, counters
+        --why              After a refusal, print on standard error what is wrong and what is expected
+        --from <FILE>      A capture (pcap or pcapng), pasted hex, or a dump as hexdump -C prints it; - is standard input
+        --form <FORM>      The form of FILE: pcap (also for pcapng), hex or dump; found by its first octets if left out
+        --port <PORT>      A port that the datagrams are from or to; may be repeated; 161 and 162 if left out
+        --moment <MOMENT>  When pasted hex or a dump was received, in seconds; 0 if left out
+        --ip               FILE is dumps of packets from their IP headers on, as tcpdump -x prints them
     -h, --help             Print help
   
-  The time window isn't looked at. With --from a line 'datagram N MOMENT' stands before what is printed of each datagram, N counting from 1.
+  It doesn't check the time window. With --from, a line 'datagram N MOMENT' comes before the
+  fields of each datagram. N counts from 1.
+  
   Example: snmpsec open examples/replay/config.toml --from examples/replay/captured.pcap
-  Status: 0 opened, 1 refused (a line 'refused N NAME at PLACE'), with --from also where one of the datagrams or FILE is, or a refused configuration,
-  2 a fault of the command line or a file that can't be read.
+  
+  Exit status:
+    0  the message is opened
+    1  a message is refused (a line 'refused N NAME at PLACE'), or the file of --from or the
+       configuration is
+    2  the command line is wrong, or a file can't be read
   $ snmpsec manual check-access
   Ask whether a user may read, write or be notified of a variable (RFC 3415)
   
@@ -60,11 +70,15 @@ The help of each command. `manual` prints on standard output what `--help` print
     <OID>      The variable, as 1.3.6.1.2.1.1.5.0: no name, no dot in front
   
   Options:
-        --why   Say behind a refusal, on standard error, what is wrong and what is wanted
+        --why   After a refusal, print on standard error what is wrong and what is expected
     -h, --help  Print help
   
   Example: snmpsec check-access examples/access.toml 3 nagios authPriv read @ 1.3.6.1.2.1.1.5.0
-  Status: 0 accessAllowed, 1 another answer or a refused configuration, 2 a fault of the command line or a file that can't be read.
+  
+  Exit status:
+    0  the answer is accessAllowed
+    1  there is another answer, or the configuration is refused
+    2  the command line is wrong, or a file can't be read
   $ snmpsec manual explain-access
   Ask as check-access does, and print which rows of the configuration decided
   
@@ -80,13 +94,19 @@ The help of each command. `manual` prints on standard output what `--help` print
     <OID>      The variable, as 1.3.6.1.2.1.1.5.0: no name, no dot in front
   
   Options:
-        --why   Say behind a refusal, on standard error, what is wrong and what is wanted
+        --why   After a refusal, print on standard error what is wrong and what is expected
     -h, --help  Print help
   
-  After the answer come, as far as it got: context POSITION, group POSITION NAME, access POSITION, view NAME, family POSITION.
-  Positions are those of rows in their table of CONFIG, from 0.
+  After the answer it prints the rows that decided, as far as it came: context POSITION,
+  group POSITION NAME, access POSITION, view NAME, family POSITION. A position counts the
+  rows of a table in CONFIG, from 0.
+  
   Example: snmpsec explain-access examples/access.toml 3 nagios authPriv read @ 1.3.6.1.2.1.1.5.0
-  Status: 0 accessAllowed, 1 another answer or a refused configuration, 2 a fault of the command line or a file that can't be read.
+  
+  Exit status:
+    0  the answer is accessAllowed
+    1  there is another answer, or the configuration is refused
+    2  the command line is wrong, or a file can't be read
   $ snmpsec manual who-sees
   Print who may read, write or be notified of a variable: MODEL NAME LEVEL VIEW CONTEXT
   
@@ -99,13 +119,19 @@ The help of each command. `manual` prints on standard output what `--help` print
   
   Options:
         --users  Print the lines alone of names that are users of CONFIG and support the level
-        --why    Say behind a refusal, on standard error, what is wrong and what is wanted
+        --why    After a refusal, print on standard error what is wrong and what is expected
     -h, --help   Print help
   
-  A line for each question of OID that check-access answers by accessAllowed. There is none for another name or context than those of CONFIG:
-  a name that no group row has sees nothing, and nothing is seen in a context that isn't there. A higher level may see less.
+  It prints a line for each question of OID that check-access answers by accessAllowed. A
+  name that no group row has sees nothing, and so does everyone in a context that CONFIG
+  doesn't have. A higher level may see less.
+  
   Example: snmpsec who-sees examples/access.toml 1.3.6.1.2.1.1.5.0 read
-  Status: 0 a line is printed, 1 there is none or a refused configuration, 2 a fault of the command line or a file that can't be read.
+  
+  Exit status:
+    0  a line is printed
+    1  nobody may, or the configuration is refused
+    2  the command line is wrong, or a file can't be read
   $ snmpsec manual sees
   Print what a user may read, write or be notified of: LEVEL VIEW CONTEXT and subtrees
   
@@ -117,13 +143,20 @@ The help of each command. `manual` prints on standard output what `--help` print
     <NAME>    Security name: with model 3 the user's name
   
   Options:
-        --why   Say behind a refusal, on standard error, what is wrong and what is wanted
+        --why   After a refusal, print on standard error what is wrong and what is expected
     -h, --help  Print help
   
-  For each level, view and context stand either a line with an answer of check-access, which each variable gets, or lines with + or - and a subtree:
-  the last that fits a variable says whether it may be seen (+), and it may not where none fits. An arc * may be any number.
+  For each level, view and context it prints either the one answer that every variable
+  gets, or lines of + or - with a subtree. The last line whose subtree has the variable
+  decides: + allows it, - doesn't. No line decides on any other variable, which isn't
+  allowed. An arc * may be any number.
+  
   Example: snmpsec sees examples/access.toml 3 nagios
-  Status: 0 a line with + is printed, 1 there is none or a refused configuration, 2 a fault of the command line or a file that can't be read.
+  
+  Exit status:
+    0  a line with + is printed
+    1  nothing is allowed, or the configuration is refused
+    2  the command line is wrong, or a file can't be read
   $ snmpsec manual check-config
   Read a configuration: print how many rows each table has, or what is wrong with it
   
@@ -133,11 +166,15 @@ The help of each command. `manual` prints on standard output what `--help` print
     <CONFIG>  TOML file with users, contexts, groups, access rows and families
   
   Options:
-        --why   Say behind a refusal, on standard error, what is wrong and what is wanted
+        --why   After a refusal, print on standard error what is wrong and what is expected
     -h, --help  Print help
   
   Example: snmpsec check-config examples/access.toml
-  Status: 0 read, 1 refused (what is wrong is told on standard error), 2 a fault of the command line or a file that can't be read.
+  
+  Exit status:
+    0  the configuration is read
+    1  it is refused, and standard error says why
+    2  the command line is wrong, or a file can't be read
   $ snmpsec manual import-snmpd
   Print the configuration that files of net-snmp's snmpd come to
   
@@ -147,16 +184,22 @@ The help of each command. `manual` prints on standard output what `--help` print
     <FILE>...  A file as /etc/snmp/snmpd.conf, at most 16 MiB
   
   Options:
-        --strict          Status 1 where the agent may decide otherwise than the configuration
-        --why             Say behind a refusal, on standard error, what is wrong and what is wanted
+        --strict          Exit with status 1 if the agent may decide otherwise than the configuration
+        --why             After a refusal, print on standard error what is wrong and what is expected
         --no-include      Don't open the files that includeFile and includeDir name
-        --context <NAME>  A context that the agent has beside the one without a name; may be given again
+        --context <NAME>  A context that the agent has beside the default one; may be repeated
     -h, --help            Print help
   
-  On standard error stands a line FILE:LINE: KIND: DIRECTIVE: WHY for each line that isn't taken over, and for each row beside which another counts.
+  It prints on standard error a line FILE:LINE: KIND: DIRECTIVE: WHY for each line of FILE
+  that isn't taken over, and for each row that another row overrides.
+  
   Example: snmpsec import-snmpd /etc/snmp/snmpd.conf /var/lib/snmp/snmpd.conf > config.toml
-  Status: 0 printed, 1 with --strict where the agent may decide otherwise (left out, refused by snmpd, undefined, differs, order),
-  2 a fault of the command line or a file that can't be read.
+  
+  Exit status:
+    0  the configuration is printed
+    1  with --strict, if the agent may decide otherwise: a line is left out, refused by
+       snmpd, undefined, differs, or depends on the order
+    2  the command line is wrong, or a file can't be read
   $ snmpsec manual replay
   Take a log of datagrams as a manager does: print what each comes to, and then the clocks
   
@@ -168,15 +211,22 @@ The help of each command. `manual` prints on standard output what `--help` print
     <LOG>     Lines MOMENT HEX: when a datagram came, in whole seconds, and its octets
   
   Options:
-        --moment <MOMENT>  When the clocks of a file without moments were seen, in whole seconds; 0 if left out
-        --why              Say behind a refusal, on standard error, what is wrong and what is wanted
+        --moment <MOMENT>  When the clocks of a file without timestamps were seen, in seconds; 0 if left out
+        --why              After a refusal, print on standard error what is wrong and what is expected
         --clocks-only      Print the saved clocks alone, and no line for a datagram
         --from-line <N>    Number of the log's first line, 1 to 1000000000000000; 1 if left out
     -h, --help             Print help
   
-  A log of more than 1000000 lines is replayed in pieces, each with --clocks-only; merge-clocks joins what they save.
-  Example: snmpsec replay examples/replay/config.toml examples/replay/begin.clocks examples/replay/captured.log
-  Status: 0 replayed, 1 a refused configuration or clocks file, 2 a fault of the command line or of a line of the log, or a file that can't be read.
+  A log has at most 1000000 lines. Replay a longer one in pieces, each with --clocks-only;
+  merge-clocks joins the clocks that they print.
+  
+  Example: snmpsec replay examples/replay/config.toml examples/replay/begin.clocks
+           examples/replay/captured.log
+  
+  Exit status:
+    0  the log is replayed to its end
+    1  the configuration or the file of clocks is refused
+    2  the command line or a line of the log is wrong, or a file can't be read
   $ snmpsec manual merge-clocks
   Print the join of saved clocks: of each engine the greatest boots and time
   
@@ -186,12 +236,16 @@ The help of each command. `manual` prints on standard output what `--help` print
     <FILE>...  Saved clocks, each at most 16 MiB
   
   Options:
-        --moment <MOMENT>  When the clocks of a file without moments were seen, in whole seconds; 0 if left out
-        --why              Say behind a refusal, on standard error, what is wrong and what is wanted
+        --moment <MOMENT>  When the clocks of a file without timestamps were seen, in seconds; 0 if left out
+        --why              After a refusal, print on standard error what is wrong and what is expected
     -h, --help             Print help
   
   Example: snmpsec merge-clocks examples/station-a.clocks examples/station-b.clocks
-  Status: 0 merged, 1 a file is refused (its first faulty line is told), 2 a fault of the command line or a file that can't be read.
+  
+  Exit status:
+    0  the join is printed
+    1  a file is refused, with its first wrong line
+    2  the command line is wrong, or a file can't be read
   $ snmpsec manual check-clocks
   Print how many engines each file of saved clocks has, or what is wrong with it
   
@@ -201,45 +255,61 @@ The help of each command. `manual` prints on standard output what `--help` print
     <FILE>...  Saved clocks, each at most 16 MiB
   
   Options:
-        --why   Say behind a refusal, on standard error, what is wrong and what is wanted
+        --why   After a refusal, print on standard error what is wrong and what is expected
     -h, --help  Print help
   
   Example: snmpsec check-clocks examples/station-a.clocks
-  Status: 0 sound, 1 a file is refused (what is wrong is told on standard error), 2 a fault of the command line or a file that can't be read.
+  
+  Exit status:
+    0  each file is right
+    1  a file is refused, and standard error says why
+    2  the command line is wrong, or a file can't be read
   $ snmpsec manual check-log
   Print how many lines a log has, or what is wrong with its first faulty line
   
   Usage: snmpsec check-log [OPTIONS] <LOG>
   
   Arguments:
-    <LOG>  A log: lines of a moment, a blank and a datagram in hex
+    <LOG>  A log: lines of a timestamp, a blank and a datagram in hex
   
   Options:
-        --why   Say behind a refusal, on standard error, what is wrong and what is wanted
+        --why   After a refusal, print on standard error what is wrong and what is expected
     -h, --help  Print help
   
   Example: snmpsec check-log examples/replay/captured.log
-  Status: 0 sound, 1 refused (what is wrong is told on standard error), 2 a fault of the command line or a file that can't be read.
+  
+  Exit status:
+    0  the log is right
+    1  it is refused, and standard error says why
+    2  the command line is wrong, or a file can't be read
   $ snmpsec manual datagrams
   Print the UDP datagrams of a capture as a log for replay, a line MOMENT HEX for each
   
   Usage: snmpsec datagrams [OPTIONS] <FILE>
   
   Arguments:
-    <FILE>  A capture in the format of libpcap or pcapng, as tcpdump -w and Wireshark write it, pasted hex, or a dump, as hexdump -C prints it; - is standard input
+    <FILE>  A capture (pcap or pcapng), pasted hex, or a dump as hexdump -C prints it; - is standard input
   
   Options:
-        --form <FORM>      What FILE is: pcap (or pcapng), hex or dump; found by its octets if left out
-        --why              Say behind a refusal, on standard error, what is wrong and what is wanted
-        --port <PORT>      A port that the datagrams are from or to, 0 to 65535; may be given again; 161 and 162 if left out
-        --moment <MOMENT>  When pasted hex or a dump was received, in whole seconds; 0 if left out
-        --ip               FILE is dumps of packets, each from its IP header on, as tcpdump -x prints them; their UDP datagrams are taken
+        --form <FORM>      The form of FILE: pcap (also for pcapng), hex or dump; found by its first octets if left out
+        --why              After a refusal, print on standard error what is wrong and what is expected
+        --port <PORT>      A port that the datagrams are from or to; may be repeated; 161 and 162 if left out
+        --moment <MOMENT>  When pasted hex or a dump was received, in seconds; 0 if left out
+        --ip               FILE is dumps of packets from their IP headers on, as tcpdump -x prints them
     -h, --help             Print help
   
-  A record that can't be a datagram of these ports is counted, and one that may be part of one is told, on standard error. Pasted hex is one datagram, and so is each dump where --ip isn't given.
-  Example: snmpsec datagrams examples/replay/captured.pcap | snmpsec replay examples/replay/config.toml examples/replay/begin.clocks /dev/stdin
-  Status: 0 read, 1 refused (a line 'refused datagrams FILE octet N' behind what came before, or of hex 'refused datagrams FILE line N column M', of a dump 'refused datagrams FILE line N'),
-  2 a fault of the command line or a file that can't be read.
+  It counts on standard error the packets that aren't datagrams of these ports, and reports
+  each that may be a part of one. Pasted hex is one datagram. A dump is one, unless --ip is given.
+  
+  Example: snmpsec datagrams examples/replay/captured.pcap |
+           snmpsec replay examples/replay/config.toml examples/replay/begin.clocks /dev/stdin
+  
+  Exit status:
+    0  the file is read to its end
+    1  it is refused: after what came before, a line 'refused datagrams FILE octet N'
+       for a capture, 'refused datagrams FILE line N column M' for hex, and
+       'refused datagrams FILE line N' for a dump
+    2  the command line is wrong, or a file can't be read
   $ snmpsec manual diagnose
   Print what became of each request in a capture: answered, refused and why, or no answer
   
@@ -250,11 +320,11 @@ The help of each command. `manual` prints on standard output what `--help` print
     <FILE>    A capture in the format of libpcap or pcapng, as tcpdump -w and Wireshark write it, pasted hex, or a dump, as hexdump -C prints it; - is standard input
   
   Options:
-        --form <FORM>      What FILE is: pcap (or pcapng), hex or dump; found by its octets if left out
-        --why              Say behind a refusal, on standard error, what is wrong and what is wanted
-        --port <PORT>      A port that the datagrams are from or to, 0 to 65535; may be given again; 161 and 162 if left out
-        --moment <MOMENT>  When pasted hex or a dump was received, in whole seconds; 0 if left out
-        --ip               FILE is dumps of packets, each from its IP header on, as tcpdump -x prints them; their UDP datagrams are taken
+        --form <FORM>      The form of FILE: pcap (also for pcapng), hex or dump; found by its first octets if left out
+        --why              After a refusal, print on standard error what is wrong and what is expected
+        --port <PORT>      A port that the datagrams are from or to; may be repeated; 161 and 162 if left out
+        --moment <MOMENT>  When pasted hex or a dump was received, in seconds; 0 if left out
+        --ip               FILE is dumps of packets from their IP headers on, as tcpdump -x prints them
         --clocks <CLOCKS>  Saved clocks of engines that are known before the capture begins
     -h, --help             Print help
   
@@ -270,19 +340,25 @@ The help of each command. `manual` prints on standard output what `--help` print
     [COMMAND]  The command; the list of all commands if left out
   
   Options:
-        --why   Say behind a refusal, on standard error, what is wrong and what is wanted
+        --why   After a refusal, print on standard error what is wrong and what is expected
     -h, --help  Print help
   
-  What --help prints on standard error, with status 2, stands on standard output here, so that a pager can read it.
+  It prints on standard output what --help prints on standard error, for a pager.
+  
   Example: snmpsec manual show | less
-  Status: 0 printed, 2 there is no such command, or a fault of the command line.
+  
+  Exit status:
+    0  the help is printed
+    2  there is no such command, or the command line is wrong
   $ snmpsec manual version
   Print the name and the version of the program
   
   Usage: snmpsec version [OPTIONS]
   
   Options:
-        --why   Say behind a refusal, on standard error, what is wrong and what is wanted
+        --why   After a refusal, print on standard error what is wrong and what is expected
     -h, --help  Print help
   
-  Status: 0 printed, 2 a fault of the command line.
+  Exit status:
+    0  the version is printed
+    2  the command line is wrong

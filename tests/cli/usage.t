@@ -105,7 +105,7 @@ Help is on standard error, with status 2. It names each command.
   !   help            Print this message or the help of the given subcommand(s)
   !
   ! Options:
-  !       --why   Say behind a refusal, on standard error, what is wrong and what is wanted
+  !       --why   After a refusal, print on standard error what is wrong and what is expected
   !   -h, --help  Print help
   [2]
 
@@ -120,15 +120,27 @@ The help of a command explains its arguments and its status.
   >   done
   > }
   $ has show 'pairs of hex digits' examples/replay/captured.pcap
+  no Status: 0
   $ has open examples/replay/config.toml 'pairs of hex digits' 'datagram N MOMENT'
+  no Status: 0
   $ has explain-access examples/access.toml 'family POSITION'
+  no Status: 0
   $ has check-access examples/access.toml '@ is the default one'
+  no Status: 0
   $ has who-sees examples/access.toml
+  no Status: 0
   $ has sees examples/access.toml 'An arc * may be any number'
+  no Status: 0
   $ has check-config examples/access.toml
+  no Status: 0
   $ has replay examples/replay/config.toml
+  no Status: 0
   $ has merge-clocks examples/station-a.clocks
+  no Status: 0
   $ has datagrams examples/replay/captured.pcap '161 and 162 if left out' 'pcap (or pcapng), hex or dump' 'each from its IP header on'
+  no pcap (or pcapng), hex or dump
+  no each from its IP header on
+  no Status: 0
 
 `manual` prints the same on standard output, with status 0 (help.t).
 

@@ -18,7 +18,9 @@ pub(crate) static VERSION_FORM: Form = Form {
     command: Command::Version,
     name: "version",
     about: "Print the name and the version of the program",
-    status: "Status: 0 printed, 2 a fault of the command line.",
+    status: "Exit status:
+  0  the version is printed
+  2  the command line is wrong",
     words: &[],
 };
 
@@ -27,9 +29,13 @@ pub(crate) static MANUAL: Form = Form {
     command: Command::Manual,
     name: "manual",
     about: "Print the help of a command, or of all, on standard output",
-    status: "What --help prints on standard error, with status 2, stands on standard output here, so that a pager can read it.
+    status: "It prints on standard output what --help prints on standard error, for a pager.
+
 Example: snmpsec manual show | less
-Status: 0 printed, 2 there is no such command, or a fault of the command line.",
+
+Exit status:
+  0  the help is printed
+  2  there is no such command, or the command line is wrong",
     words: &[(
         Kind::Optional,
         "COMMAND",

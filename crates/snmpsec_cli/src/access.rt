@@ -64,7 +64,11 @@ pub(crate) static CHECK_ACCESS: Form = Form {
     name: "check-access",
     about: "Ask whether a user may read, write or be notified of a variable (RFC 3415)",
     status: "Example: snmpsec check-access examples/access.toml 3 nagios authPriv read @ 1.3.6.1.2.1.1.5.0
-Status: 0 accessAllowed, 1 another answer or a refused configuration, 2 a fault of the command line or a file that can't be read.",
+
+Exit status:
+  0  the answer is accessAllowed
+  1  there is another answer, or the configuration is refused
+  2  the command line is wrong, or a file can't be read",
     words: &QUESTION,
 };
 
@@ -73,10 +77,16 @@ pub(crate) static EXPLAIN_ACCESS: Form = Form {
     command: Command::ExplainAccess,
     name: "explain-access",
     about: "Ask as check-access does, and print which rows of the configuration decided",
-    status: "After the answer come, as far as it got: context POSITION, group POSITION NAME, access POSITION, view NAME, family POSITION.
-Positions are those of rows in their table of CONFIG, from 0.
+    status: "After the answer it prints the rows that decided, as far as it came: context POSITION,
+group POSITION NAME, access POSITION, view NAME, family POSITION. A position counts the
+rows of a table in CONFIG, from 0.
+
 Example: snmpsec explain-access examples/access.toml 3 nagios authPriv read @ 1.3.6.1.2.1.1.5.0
-Status: 0 accessAllowed, 1 another answer or a refused configuration, 2 a fault of the command line or a file that can't be read.",
+
+Exit status:
+  0  the answer is accessAllowed
+  1  there is another answer, or the configuration is refused
+  2  the command line is wrong, or a file can't be read",
     words: &QUESTION,
 };
 
@@ -86,7 +96,11 @@ pub(crate) static CHECK_CONFIG: Form = Form {
     name: "check-config",
     about: "Read a configuration: print how many rows each table has, or what is wrong with it",
     status: "Example: snmpsec check-config examples/access.toml
-Status: 0 read, 1 refused (what is wrong is told on standard error), 2 a fault of the command line or a file that can't be read.",
+
+Exit status:
+  0  the configuration is read
+  1  it is refused, and standard error says why
+  2  the command line is wrong, or a file can't be read",
     words: &[CONFIG],
 };
 

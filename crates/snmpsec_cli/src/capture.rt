@@ -7,7 +7,7 @@ use clap::ArgMatches;
 
 /// What a file of datagrams is.
 const SOURCE: &str =
-    "A capture in the format of libpcap or pcapng, as tcpdump -w and Wireshark write it, pasted hex, or a dump, as hexdump -C prints it; - is standard input";
+    "A capture (pcap or pcapng), pasted hex, or a dump as hexdump -C prints it; - is standard input";
 
 /// The file of datagrams as an option.
 pub(crate) const FROM: Word = (Kind::SourceValue, "FILE", "from", SOURCE);
@@ -17,7 +17,7 @@ pub(crate) const FORM: Word = (
     Kind::SourceValue,
     "FORM",
     "form",
-    "What FILE is: pcap (or pcapng), hex or dump; found by its octets if left out",
+    "The form of FILE: pcap (also for pcapng), hex or dump; found by its first octets if left out",
 );
 
 /// The ports of the datagrams that are wanted.
@@ -25,7 +25,7 @@ pub(crate) const PORT: Word = (
     Kind::SourceNumbers,
     "PORT",
     "port",
-    "A port that the datagrams are from or to, 0 to 65535; may be given again; 161 and 162 if left out",
+    "A port that the datagrams are from or to; may be repeated; 161 and 162 if left out",
 );
 
 /// The moment of what has none.
@@ -33,7 +33,7 @@ pub(crate) const MOMENT: Word = (
     Kind::SourceNumber,
     "MOMENT",
     "moment",
-    "When pasted hex or a dump was received, in whole seconds; 0 if left out",
+    "When pasted hex or a dump was received, in seconds; 0 if left out",
 );
 
 /// Whether each dump is a packet.
@@ -41,7 +41,7 @@ pub(crate) const IP: Word = (
     Kind::SourceFlag,
     "ip",
     "ip",
-    "FILE is dumps of packets, each from its IP header on, as tcpdump -x prints them; their UDP datagrams are taken",
+    "FILE is dumps of packets from their IP headers on, as tcpdump -x prints them",
 );
 
 /// The command datagrams.
@@ -49,10 +49,18 @@ pub(crate) static DATAGRAMS: Form = Form {
     command: Command::Datagrams,
     name: "datagrams",
     about: "Print the UDP datagrams of a capture as a log for replay, a line MOMENT HEX for each",
-    status: "A record that can't be a datagram of these ports is counted, and one that may be part of one is told, on standard error. Pasted hex is one datagram, and so is each dump where --ip isn't given.
-Example: snmpsec datagrams examples/replay/captured.pcap | snmpsec replay examples/replay/config.toml examples/replay/begin.clocks /dev/stdin
-Status: 0 read, 1 refused (a line 'refused datagrams FILE octet N' behind what came before, or of hex 'refused datagrams FILE line N column M', of a dump 'refused datagrams FILE line N'),
-2 a fault of the command line or a file that can't be read.",
+    status: "It counts on standard error the packets that aren't datagrams of these ports, and reports
+each that may be a part of one. Pasted hex is one datagram. A dump is one, unless --ip is given.
+
+Example: snmpsec datagrams examples/replay/captured.pcap |
+         snmpsec replay examples/replay/config.toml examples/replay/begin.clocks /dev/stdin
+
+Exit status:
+  0  the file is read to its end
+  1  it is refused: after what came before, a line 'refused datagrams FILE octet N'
+     for a capture, 'refused datagrams FILE line N column M' for hex, and
+     'refused datagrams FILE line N' for a dump
+  2  the command line is wrong, or a file can't be read",
     words: &[FORM, PORT, MOMENT, IP, (Kind::Given, "FILE", "", SOURCE)],
 };
 

@@ -12,7 +12,11 @@ pub(crate) static CHECK_CLOCKS: Form = Form {
     name: "check-clocks",
     about: "Print how many engines each file of saved clocks has, or what is wrong with it",
     status: "Example: snmpsec check-clocks examples/station-a.clocks
-Status: 0 sound, 1 a file is refused (what is wrong is told on standard error), 2 a fault of the command line or a file that can't be read.",
+
+Exit status:
+  0  each file is right
+  1  a file is refused, and standard error says why
+  2  the command line is wrong, or a file can't be read",
     words: &[SAVED],
 };
 
@@ -22,11 +26,15 @@ pub(crate) static CHECK_LOG: Form = Form {
     name: "check-log",
     about: "Print how many lines a log has, or what is wrong with its first faulty line",
     status: "Example: snmpsec check-log examples/replay/captured.log
-Status: 0 sound, 1 refused (what is wrong is told on standard error), 2 a fault of the command line or a file that can't be read.",
+
+Exit status:
+  0  the log is right
+  1  it is refused, and standard error says why
+  2  the command line is wrong, or a file can't be read",
     words: &[(
         Kind::Given,
         "LOG",
         "",
-        "A log: lines of a moment, a blank and a datagram in hex",
+        "A log: lines of a timestamp, a blank and a datagram in hex",
     )],
 };

@@ -92,7 +92,7 @@ static WHY: Word = (
     Kind::Flag,
     "why",
     "why",
-    "Say behind a refusal, on standard error, what is wrong and what is wanted",
+    "After a refusal, print on standard error what is wrong and what is expected",
 );
 
 /// What the parser does with a word.

@@ -10,16 +10,22 @@ pub(crate) static IMPORT_SNMPD: Form = Form {
     command: Command::ImportSnmpd,
     name: "import-snmpd",
     about: "Print the configuration that files of net-snmp's snmpd come to",
-    status: "On standard error stands a line FILE:LINE: KIND: DIRECTIVE: WHY for each line that isn't taken over, and for each row beside which another counts.
+    status: "It prints on standard error a line FILE:LINE: KIND: DIRECTIVE: WHY for each line of FILE
+that isn't taken over, and for each row that another row overrides.
+
 Example: snmpsec import-snmpd /etc/snmp/snmpd.conf /var/lib/snmp/snmpd.conf > config.toml
-Status: 0 printed, 1 with --strict where the agent may decide otherwise (left out, refused by snmpd, undefined, differs, order),
-2 a fault of the command line or a file that can't be read.",
+
+Exit status:
+  0  the configuration is printed
+  1  with --strict, if the agent may decide otherwise: a line is left out, refused by
+     snmpd, undefined, differs, or depends on the order
+  2  the command line is wrong, or a file can't be read",
     words: &[
         (
             Kind::Flag,
             "strict",
             "strict",
-            "Status 1 where the agent may decide otherwise than the configuration",
+            "Exit with status 1 if the agent may decide otherwise than the configuration",
         ),
         (
             Kind::Flag,
@@ -31,7 +37,7 @@ Status: 0 printed, 1 with --strict where the agent may decide otherwise (left ou
             Kind::Values,
             "NAME",
             "context",
-            "A context that the agent has beside the one without a name; may be given again",
+            "A context that the agent has beside the default one; may be repeated",
         ),
         (
             Kind::Files,

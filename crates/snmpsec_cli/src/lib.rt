@@ -60,7 +60,8 @@ pub enum Command {
     Version,
 }
 
-/// The arguments of the program, its name first. The error is the refusal of words that are no text, or says that memory ran out.
+/// The arguments of the program, its name first. The error is the refusal of arguments that aren't UTF-8, or says that
+/// memory ran out.
 pub fn arguments<R: Env + AllocGlobal>(rt: &R) -> Result<Vec<String>, Error> {
     match env::args(rt) {
         Ok(words) => match words.collect(rt.alloc()) {

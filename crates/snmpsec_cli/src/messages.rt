@@ -9,7 +9,7 @@ const NAMES: Word = (
     Kind::Flag,
     "names",
     "names",
-    "Print ' # NAME' behind the lines that have a name: users, contexts, PDUs, counters",
+    "Print ' # NAME' after the lines that have a name: users, contexts, PDUs, counters",
 );
 
 /// The datagram as a word.
@@ -17,7 +17,7 @@ const HEX: Word = (
     Kind::Datagram,
     "HEX",
     "",
-    "The datagram: one or more pairs of hex digits, without blanks, colons or 0x; where --from isn't given",
+    "The datagram as pairs of hex digits, without blanks, colons or 0x; instead of --from",
 );
 
 /// The command show.
@@ -25,10 +25,14 @@ pub(crate) static SHOW: Form = Form {
     command: Command::Show,
     name: "show",
     about: "Print the fields of an SNMPv3 message, a field a line, and its canonical spelling",
-    status: "With --from a line 'datagram N MOMENT' stands before what is printed of each datagram, N counting from 1.
+    status: "With --from, a line 'datagram N MOMENT' comes before the fields of each datagram. N counts from 1.
+
 Example: snmpsec show --from examples/replay/captured.pcap
-Status: 0 shown, 1 refused (a line 'refused N NAME at PLACE'), with --from also where one of the datagrams or FILE is, 2 a fault of the command line or a
-file that can't be read.",
+
+Exit status:
+  0  the message is printed
+  1  a message is refused (a line 'refused N NAME at PLACE'), or the file of --from is
+  2  the command line is wrong, or a file can't be read",
     words: &[NAMES, FROM, FORM, PORT, MOMENT, IP, HEX],
 };
 
@@ -37,10 +41,16 @@ pub(crate) static OPEN: Form = Form {
     command: Command::Open,
     name: "open",
     about: "Authenticate and decrypt an SNMPv3 message with the users' passwords, and print its fields",
-    status: "The time window isn't looked at. With --from a line 'datagram N MOMENT' stands before what is printed of each datagram, N counting from 1.
+    status: "It doesn't check the time window. With --from, a line 'datagram N MOMENT' comes before the
+fields of each datagram. N counts from 1.
+
 Example: snmpsec open examples/replay/config.toml --from examples/replay/captured.pcap
-Status: 0 opened, 1 refused (a line 'refused N NAME at PLACE'), with --from also where one of the datagrams or FILE is, or a refused configuration,
-2 a fault of the command line or a file that can't be read.",
+
+Exit status:
+  0  the message is opened
+  1  a message is refused (a line 'refused N NAME at PLACE'), or the file of --from or the
+     configuration is
+  2  the command line is wrong, or a file can't be read",
     words: &[
         NAMES,
         FROM,

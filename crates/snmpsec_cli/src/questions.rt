@@ -9,10 +9,16 @@ pub(crate) static WHO_SEES: Form = Form {
     command: Command::WhoSees,
     name: "who-sees",
     about: "Print who may read, write or be notified of a variable: MODEL NAME LEVEL VIEW CONTEXT",
-    status: "A line for each question of OID that check-access answers by accessAllowed. There is none for another name or context than those of CONFIG:
-a name that no group row has sees nothing, and nothing is seen in a context that isn't there. A higher level may see less.
+    status: "It prints a line for each question of OID that check-access answers by accessAllowed. A
+name that no group row has sees nothing, and so does everyone in a context that CONFIG
+doesn't have. A higher level may see less.
+
 Example: snmpsec who-sees examples/access.toml 1.3.6.1.2.1.1.5.0 read
-Status: 0 a line is printed, 1 there is none or a refused configuration, 2 a fault of the command line or a file that can't be read.",
+
+Exit status:
+  0  a line is printed
+  1  nobody may, or the configuration is refused
+  2  the command line is wrong, or a file can't be read",
     words: &[
         (
             Kind::Flag,
@@ -36,9 +42,16 @@ pub(crate) static SEES: Form = Form {
     command: Command::Sees,
     name: "sees",
     about: "Print what a user may read, write or be notified of: LEVEL VIEW CONTEXT and subtrees",
-    status: "For each level, view and context stand either a line with an answer of check-access, which each variable gets, or lines with + or - and a subtree:
-the last that fits a variable says whether it may be seen (+), and it may not where none fits. An arc * may be any number.
+    status: "For each level, view and context it prints either the one answer that every variable
+gets, or lines of + or - with a subtree. The last line whose subtree has the variable
+decides: + allows it, - doesn't. No line decides on any other variable, which isn't
+allowed. An arc * may be any number.
+
 Example: snmpsec sees examples/access.toml 3 nagios
-Status: 0 a line with + is printed, 1 there is none or a refused configuration, 2 a fault of the command line or a file that can't be read.",
+
+Exit status:
+  0  a line with + is printed
+  1  nothing is allowed, or the configuration is refused
+  2  the command line is wrong, or a file can't be read",
     words: &[CONFIG, MODEL, NAME],
 };

@@ -11,7 +11,7 @@ const MOMENT: Word = (
     Kind::Number,
     "MOMENT",
     "moment",
-    "When the clocks of a file without moments were seen, in whole seconds; 0 if left out",
+    "When the clocks of a file without timestamps were seen, in seconds; 0 if left out",
 );
 
 /// The command replay.
@@ -19,9 +19,16 @@ pub(crate) static REPLAY: Form = Form {
     command: Command::Replay,
     name: "replay",
     about: "Take a log of datagrams as a manager does: print what each comes to, and then the clocks",
-    status: "A log of more than 1000000 lines is replayed in pieces, each with --clocks-only; merge-clocks joins what they save.
-Example: snmpsec replay examples/replay/config.toml examples/replay/begin.clocks examples/replay/captured.log
-Status: 0 replayed, 1 a refused configuration or clocks file, 2 a fault of the command line or of a line of the log, or a file that can't be read.",
+    status: "A log has at most 1000000 lines. Replay a longer one in pieces, each with --clocks-only;
+merge-clocks joins the clocks that they print.
+
+Example: snmpsec replay examples/replay/config.toml examples/replay/begin.clocks
+         examples/replay/captured.log
+
+Exit status:
+  0  the log is replayed to its end
+  1  the configuration or the file of clocks is refused
+  2  the command line or a line of the log is wrong, or a file can't be read",
     words: &[
         MOMENT,
         (
@@ -63,7 +70,11 @@ pub(crate) static MERGE_CLOCKS: Form = Form {
     name: "merge-clocks",
     about: "Print the join of saved clocks: of each engine the greatest boots and time",
     status: "Example: snmpsec merge-clocks examples/station-a.clocks examples/station-b.clocks
-Status: 0 merged, 1 a file is refused (its first faulty line is told), 2 a fault of the command line or a file that can't be read.",
+
+Exit status:
+  0  the join is printed
+  1  a file is refused, with its first wrong line
+  2  the command line is wrong, or a file can't be read",
     words: &[MOMENT, SAVED],
 };
 
