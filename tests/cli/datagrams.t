@@ -255,12 +255,12 @@ The second dump is wrong, or there is no dump.
   $ echo 3003020103 > f
   $ datagrams --form dump
   refused datagrams f line 1
-  ! snmpsec: no line has the offset 0 and an octet behind it; --form hex reads pairs of hex digits without offsets
+  ! snmpsec: no line has the offset 0 and an octet after it; --form hex reads hex without offsets
   [1]
   $ : > f
   $ datagrams --form dump
   refused datagrams f line 1
-  ! snmpsec: no line has the offset 0 and an octet behind it; --form hex reads pairs of hex digits without offsets
+  ! snmpsec: no line has the offset 0 and an octet after it; --form hex reads hex without offsets
   [1]
 
 With `--form pcap` a dump is refused.
@@ -279,7 +279,7 @@ With `--form dump` a capture is refused.
   > END
   $ datagrams --form dump
   refused datagrams f line 1
-  ! snmpsec: no line has the offset 0 and an octet behind it; --form hex reads pairs of hex digits without offsets
+  ! snmpsec: no line has the offset 0 and an octet after it; --form hex reads hex without offsets
   [1]
 
 Standard error says what is wrong with a dump.
@@ -290,7 +290,7 @@ Standard error says what is wrong with a dump.
   $ echo '0000 30 0' > f
   $ datagrams --form dump
   refused datagrams f line 1
-  ! snmpsec: line 1: behind the offset pairs of hex digits are wanted, and perhaps a column that shows their octets, as hexdump -C and od -tx1 print them
+  ! snmpsec: line 1: after the offset pairs of hex digits are expected, as hexdump -C and od -tx1 print them
   [1]
   $ cat > f <<'END'
   > 0000 30 30
@@ -299,7 +299,7 @@ Standard error says what is wrong with a dump.
   > END
   $ datagrams --form dump
   refused datagrams f line 3
-  ! snmpsec: line 3: a dump goes on here, and none has begun at the offset 0; where a * stands for lines, -v prints them
+  ! snmpsec: line 3: no dump has begun at the offset 0; if a * replaces lines, print them with -v
   [1]
   $ cat > f <<'END'
   > 
@@ -313,5 +313,5 @@ Standard error says what is wrong with a dump.
   $ printf 3003 > f
   $ datagrams --form dump
   refused datagrams f line 1
-  ! snmpsec: no line has the offset 0 and an octet behind it; --form hex reads pairs of hex digits without offsets
+  ! snmpsec: no line has the offset 0 and an octet after it; --form hex reads hex without offsets
   [1]

@@ -110,7 +110,7 @@ The dump comes after other lines. An offset other than 0 doesn't begin one.
   0 3003
   $ printf '0010  30\n0000\t30\n0000 30\n' | read_hex
   refused datagrams f line 1
-  ! snmpsec: line 1: a dump goes on here, and none has begun at the offset 0; where a * stands for lines, -v prints them
+  ! snmpsec: line 1: no dump has begun at the offset 0; if a * replaces lines, print them with -v
   [1]
 
 Three digits, nine digits, and another number than 0 aren't an offset: the digits are hex.

@@ -247,7 +247,7 @@ The ports are checked before the file is opened.
   [1]
   $ snmpsec datagrams --form dump /dev/null
   refused datagrams /dev/null line 1
-  ! snmpsec: no line has the offset 0 and an octet behind it; --form hex reads pairs of hex digits without offsets
+  ! snmpsec: no line has the offset 0 and an octet after it; --form hex reads hex without offsets
   [1]
 
 The form is checked first, then the ports, then the timestamp.
@@ -270,11 +270,11 @@ The form is checked first, then the ports, then the timestamp.
   [2]
   $ snmpsec datagrams --ip /dev/null
   refused datagrams /dev/null line 1
-  ! snmpsec: no line has the offset 0 and an octet behind it; --form hex reads pairs of hex digits without offsets
+  ! snmpsec: no line has the offset 0 and an octet after it; --form hex reads hex without offsets
   [1]
   $ snmpsec show --from /dev/null --ip --form dump
   refused datagrams /dev/null line 1
-  ! snmpsec: no line has the offset 0 and an octet behind it; --form hex reads pairs of hex digits without offsets
+  ! snmpsec: no line has the offset 0 and an octet after it; --form hex reads hex without offsets
   [1]
 
 With `--ip` another form is refused before the ports are checked.

@@ -66,12 +66,12 @@ If the text has no dumps, nothing is said about packets.
   > END
   $ snmpsec datagrams --ip --moment 7 --port 161 f
   refused datagrams f line 1
-  ! snmpsec: no line has the offset 0 and an octet behind it; --form hex reads pairs of hex digits without offsets
+  ! snmpsec: no line has the offset 0 and an octet after it; --form hex reads hex without offsets
   [1]
   $ : > f
   $ snmpsec datagrams --ip --moment 7 --port 161 f
   refused datagrams f line 1
-  ! snmpsec: no line has the offset 0 and an octet behind it; --form hex reads pairs of hex digits without offsets
+  ! snmpsec: no line has the offset 0 and an octet after it; --form hex reads hex without offsets
   [1]
 
 `show` prints the datagrams of the packets.

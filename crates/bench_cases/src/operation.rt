@@ -101,7 +101,9 @@ pub enum Operation {
 
 /// No operation has this name.
 #[derive(Clone, Copy, Debug, Error)]
-#[error("OPERATION is password-key-HASH, mac-HASH, open-auth-HASH, cfb-seal, cfb-open, take, take-among-1000, take-among-10000, agent-take, agent-answer, agent-answer-octets, request, request-octets or seal, HASH being md5, sha1 or sha256")]
+#[error("OPERATION is password-key-HASH, mac-HASH, open-auth-HASH, cfb-seal, cfb-open, take, take-among-1000, \
+     take-among-10000, agent-take, agent-answer, agent-answer-octets, request, request-octets or seal; HASH is md5, \
+     sha1 or sha256")]
 pub struct UnknownOperation;
 
 impl FromStr for Operation {

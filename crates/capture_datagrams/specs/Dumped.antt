@@ -48,15 +48,15 @@ refused_row name line = codes "refused datagrams " ++ (name ++ (codes " line " +
 -- what is told beside that
 abbrev pub dump_note : DumpFault → List ℕ
 dump_note fault.NoDump = codes
-    "snmpsec: no line has the offset 0 and an octet behind it; --form hex reads pairs of hex digits without offsets\n"
+    "snmpsec: no line has the offset 0 and an octet after it; --form hex reads hex without offsets\n"
 dump_note (fault.Unreadable line) =
     codes "snmpsec: line " ++ (decimal line
     ++ codes
-    ": behind the offset pairs of hex digits are wanted, and perhaps a column that shows their octets, as hexdump -C and od -tx1 print them\n")
+    ": after the offset pairs of hex digits are expected, as hexdump -C and od -tx1 print them\n")
 dump_note (fault.NotBegun line) =
     codes "snmpsec: line "
     ++ (decimal line ++ codes
-    ": a dump goes on here, and none has begun at the offset 0; where a * stands for lines, -v prints them\n")
+    ": no dump has begun at the offset 0; if a * replaces lines, print them with -v\n")
 dump_note (fault.OtherCount line) = codes "snmpsec: line "
     ++ (decimal line ++ codes ": it has more octets or fewer than the offset of the next line says\n")
 dump_note fault.OutOfMemory = []

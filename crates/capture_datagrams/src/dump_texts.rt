@@ -35,13 +35,13 @@ fn dump_note(alloc: Global, fault: DumpFault) -> Result<String, AllocError>
 {
     match fault {
         DumpFault::NoDump => format!(in alloc;
-            "snmpsec: no line has the offset 0 and an octet behind it; --form hex reads pairs of hex digits without offsets\n"
+            "snmpsec: no line has the offset 0 and an octet after it; --form hex reads hex without offsets\n"
         ),
         DumpFault::Unreadable(line) => format!(in alloc;
-            "snmpsec: line {line}: behind the offset pairs of hex digits are wanted, and perhaps a column that shows their octets, as hexdump -C and od -tx1 print them\n"
+            "snmpsec: line {line}: after the offset pairs of hex digits are expected, as hexdump -C and od -tx1 print them\n"
         ),
         DumpFault::NotBegun(line) => format!(in alloc;
-            "snmpsec: line {line}: a dump goes on here, and none has begun at the offset 0; where a * stands for lines, -v prints them\n"
+            "snmpsec: line {line}: no dump has begun at the offset 0; if a * replaces lines, print them with -v\n"
         ),
         DumpFault::OtherCount(line) => format!(in alloc;
             "snmpsec: line {line}: it has more octets or fewer than the offset of the next line says\n"

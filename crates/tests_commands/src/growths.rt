@@ -29,7 +29,8 @@ user 616e6e
 auth 000102030405060708090a0b
 privacy 0001020304050607
 sealed 0a0b0c
-canonical 304e020103300e020102020300ffe304010702010304343032040c000000000000000000000002020107020203e80403616e6e040c000102030405060708090a0b0408000102030405060704030a0b0c
+canonical 304e020103300e020102020300ffe304010702010304343032040c000000000000000000000002020107020203\
+e80403616e6e040c000102030405060708090a0b0408000102030405060704030a0b0c
 ";
 
 #[test]
@@ -144,7 +145,8 @@ static CHECKED: [(&str, &str, &str); 7] = [
     (
         "users = []",
         "refused config top\n",
-        "snmpsec: users: at the top stand the arrays of tables user, context, group, access and family, and nothing else\n",
+        "snmpsec: users: at the top stand the arrays of tables user, context, group, access and \
+         family, and nothing else\n",
     ),
     (
         "context = [{ name = '' }, { name = '' }]",
@@ -261,7 +263,8 @@ access = [
     { group = 'g', prefix = '', model = 3, level = 'noAuthNoPriv', match = 'prefix', read = 'most', write = 'none' },
     { group = 'g', prefix = '', model = 3, level = 'authNoPriv', match = 'exact', read = 'columns', notify = 'most' },
     { group = 'g', prefix = '', model = 0, level = 'authPriv', match = 'exact', read = 'none', write = 'most' },
-    { group = 'h', prefix = '+', model = 0, level = 'authNoPriv', match = 'exact', read = 'denied', notify = 'no such' },
+    { group = 'h', prefix = '+', model = 0, level = 'authNoPriv', match = 'exact', read = 'denied', \
+     notify = 'no such' },
     { group = 'f', prefix = '+', model = 3, level = 'authPriv', match = 'exact', write = 'columns' }]
 family = [
     { view = 'most', subtree = '1.3.6.1.4', include = false },
