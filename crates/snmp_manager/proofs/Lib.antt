@@ -1,6 +1,7 @@
 pub mod Takes
 pub mod Learned
 mod Written
+mod Sent
 pub mod Pieces
 pub mod Reports
 pub mod Lists

@@ -24,7 +24,7 @@ use Rattle.snmp_incoming.proofs.Rows.{same_refused}
 use Rattle.snmp_manager.specs.declared.outcome.Outcome.TheVariants.{Refused}
 use Rattle.snmp_manager.specs.Views.{Held, held_by}
 use Rattle.snmp_manager.specs.Learning.{Learns, LearnsFrom, LearnsChecked}
-use Rattle.snmp_manager.specs.Takes.{Takes, HoldsAuthentic, TakesNoMemory}
+use Rattle.snmp_manager.specs.Takes.{Takes, HoldsAuthentic, IsOnceLearned, TakesNoMemory}
 use Rattle.snmp_manager.specs.Runs.{TakesOne}
 
 -- exactly the authentic datagrams, as `open_auth` says
@@ -167,3 +167,23 @@ stays old new now w (Some n) e takes = cc e
 pub is_answer : {A : Type 0} (o : Option A) (P : A → Type 0) → IsSomeAnd o P → IsSome o
 is_answer None P h = absurd h
 is_answer (Some a) P h = refl
+
+-- ---- refusals that teach nothing
+
+read_refused : (v : Verified) (text : List ℕ) (r : Refusal) → ReadsText v text (Err r) → IsOnceLearned r
+unfolding ReadsText
+read_refused v text r (fails none) = tt
+read_refused v text r (holds _ (fails none)) = tt
+read_refused v text r (holds _ (holds _ given)) = absurd cc
+
+weighs_refused : (taker : Taker) (users : List User) (now : ℕ) (w : List ℕ) (v : Verified) (r : Refusal) → Weighs taker users now w v (Err r) → IsOnceLearned r
+unfolding Weighs
+weighs_refused taker users now w v r (fails outside) = tt
+weighs_refused taker users now w v r (holds _ (fails salt)) = tt
+weighs_refused taker users now w v r (holds _ (holds _ read)) = read_refused v read.0 r read.2
+
+-- what is refused by a row from the time window on is refused once its pair is learned
+pub refused_once_learned : (taker : Taker) (users : List User) (now : ℕ) (w : List ℕ) (v : Verified) (answer : Option (Result Given Refusal)) (r : Refusal)
+    → IsSomeAnd answer (Weighs taker users now w v) → answer ≡ Some (Err r) → IsOnceLearned r
+refused_once_learned taker users now w v answer r weighs is =
+    weighs_refused taker users now w v r (subst (λ (a : Option (Result Given Refusal)). IsSomeAnd a (Weighs taker users now w v)) is weighs)

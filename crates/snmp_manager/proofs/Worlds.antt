@@ -8,9 +8,10 @@ use Rattle.std.proofs.lemmas.Option.{slice_get_within}
 use Rattle.std.proofs.lemmas.List.{length-append, take_more}
 use Rattle.std.specs.Option.{option_map}
 use Rattle.engine_clock.specs.Pairs.{BootsAndTime, IsBelow, IsGreatestOf}
-use Rattle.engine_clock.specs.Marks.{SeenPair, Marks, mark_at, seen_at, IsMarkBelow, IsGreatestMarkOf}
+use Rattle.engine_clock.specs.Marks.{SeenPair, Marks, mark_at, pair_at, seen_at, IsMarkBelow, IsGreatestMarkOf}
 use Rattle.engine_clock.specs.Saved.{AreMarks, listing}
-use Rattle.engine_clock.proofs.Greatest.{IsGreatestOfBy-same, mark_order}
+use Rattle.engine_clock.proofs.Greatest.{IsGreatestOfBy-unique, IsGreatestOfBy-same, mark_order, pair_order}
+use Rattle.engine_clock.proofs.SameMarks.{same_marks}
 use Rattle.engine_clock.proofs.MapJoins.{greatest-held, IsGreatestMarkOf-learned, IsGreatestMarkOf-absorbed}
 use Rattle.engine_clock.proofs.SavedTexts.{one_listing}
 use Rattle.usm_users.specs.User.{User}
@@ -18,7 +19,7 @@ use Rattle.usm_core.specs.Authentic.{Authentic}
 use Rattle.snmp_manager.specs.Views.{Held}
 use Rattle.snmp_manager.specs.Learning.{LearnsFrom}
 use Rattle.snmp_manager.specs.State.{WorldState, IsListing, AreFiles}
-use Rattle.snmp_manager.specs.Knowledge.{PairsOf, HasGreatestPairs, AuthenticAt, Reads, Writes, Knowledge, Knowing, at_first, knows_after, knows_after_all, HasGreatest, HaveUsers, Changes, Steps}
+use Rattle.snmp_manager.specs.Knowledge.{PairsOf, SameKnowledge, SamePairsKnown, HasGreatestPairs, AuthenticAt, Reads, Writes, Knowledge, Knowing, at_first, knows_after, knows_after_all, HasGreatest, HaveUsers, Changes, Steps}
 use Rattle.snmp_manager.specs.declared.event.Event.{Event}
 use Rattle.snmp_manager.specs.declared.event.Event.TheVariants.{Take, Save, Absorb, Restart}
 use Rattle.std.proofs.lemmas.Bool.{cases_lt}
@@ -216,3 +217,23 @@ greatest_pair S (Some m) h = ((m, h.0, refl), λ p x below. h.1 x.0 x.1 (inl (su
 
 pub greatest_pairs : {k : Knowing} {world : WorldState} → HasGreatest k world → HasGreatestPairs k world
 greatest_pairs {k} h i held at engine = greatest_pair (k.managers i engine) (mark_at held.clocks engine) (h.managers i held at engine)
+
+-- ---- equal knowledge
+
+pub equal_marks : (k l : Knowing) (world other : WorldState) (i j : ℕ) (a b : Held) → HasGreatest k world → HasGreatest l other → slice_get world.managers i ≡ Some a → slice_get other.managers j ≡ Some b
+    → SameKnowledge (k.managers i) (l.managers j) → a.clocks ≡ b.clocks
+equal_marks k l world other i j a b greatest other_greatest at_i at_j same =
+    same_marks a.clocks b.clocks (λ engine.
+    IsGreatestOfBy-unique mark_order (l.managers j engine) (mark_at a.clocks engine) (mark_at b.clocks engine)
+    (IsGreatestOfBy-same IsMarkBelow (k.managers i engine) (l.managers j engine) (mark_at a.clocks engine) (λ q. (same engine q).0) (λ q. (same engine q).1) (greatest.managers i a at_i engine))
+    (other_greatest.managers j b at_j engine))
+
+pub equal_pairs : (k l : Knowing) (world other : WorldState) (i j : ℕ) (a b : Held) (engine : List ℕ) → HasGreatest k world → HasGreatest l other → slice_get world.managers i ≡ Some a → slice_get other.managers j ≡ Some b
+    → SamePairsKnown (k.managers i) (l.managers j) → pair_at a.clocks engine ≡ pair_at b.clocks engine
+equal_pairs k l world other i j a b engine greatest other_greatest at_i at_j same =
+    let S = k.managers i engine in
+    let T = l.managers j engine in
+    IsGreatestOfBy-unique pair_order (PairsOf T) (pair_at a.clocks engine) (pair_at b.clocks engine)
+    (IsGreatestOfBy-same IsBelow (PairsOf S) (PairsOf T) (pair_at a.clocks engine) (λ p. (same engine p).0) (λ p. (same engine p).1)
+    (greatest_pair S (mark_at a.clocks engine) (greatest.managers i a at_i engine)))
+    (greatest_pair T (mark_at b.clocks engine) (other_greatest.managers j b at_j engine))

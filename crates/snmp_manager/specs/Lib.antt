@@ -5,6 +5,7 @@ pub mod Known
 pub mod Runs
 pub mod Pieces
 pub mod Pendings
+pub mod Sent
 pub mod Replies
 pub mod State
 pub mod Knowledge

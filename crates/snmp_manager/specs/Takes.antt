@@ -1,10 +1,11 @@
 -- What a manager answers to a datagram, and what it leaves.
 --
 -- `Takes`. What a take leaves and answers: the users as before, `LearnsFrom`, and the table's answer by the
--- window of what is then held; for want of memory no answer, and all as before. `HoldsAuthentic`,
--- `TakesNoMemory`: it wants no memory, also where what is accepted is to be copied; `kept_answer`: the
--- answer of a call that copies it.
+-- window of what is then held; for want of memory no answer, and all as before. `IsOnceLearned`: a refusal
+-- that comes behind the learning. `HoldsAuthentic`, `TakesNoMemory`: it wants no memory, also where what is
+-- accepted is to be copied; `kept_answer`: the answer of a call that copies it.
 use Rattle.snmp_message.specs.declared.refusal.Refusal.{Refusal}
+use Rattle.snmp_message.specs.declared.refusal.Refusal.TheVariants.{NotInWindow, DecryptionError, BadScoped, BadPdu}
 use Rattle.std.specs.Prelude.{◌≡◌, ℕ, List, Option, Some, None, Result, Ok, Err, IsSome}
 use Rattle.engine_clock.specs.Pairs.{BootsAndTime}
 use Rattle.engine_clock.specs.Marks.{mark_at}
@@ -23,6 +24,14 @@ abbrev pub Takes : Held → ℕ → List ℕ → Option (Result Given Refusal) �
 Takes old now w None new = new ≡ old
 Takes old now w (Some answer) new = (new.users ≡ old.users) × LearnsFrom old.users now w old.clocks new.clocks
     × Outcome (as_manager new.clocks) old.users now w answer
+
+-- The refusal comes once the pair is learned: from the time window, the opening, the ScopedPDU or the PDU.
+abbrev pub IsOnceLearned : Refusal → Type 0
+IsOnceLearned NotInWindow = Unit {0}
+IsOnceLearned DecryptionError = Unit {0}
+IsOnceLearned BadScoped = Unit {0}
+IsOnceLearned BadPdu = Unit {0}
+IsOnceLearned _ = ⊥
 
 -- The engine of the datagram is held, if it is authentic, so that no memory is needed to learn its pair.
 abbrev pub HoldsAuthentic : Held → List ℕ → Type 0

@@ -64,6 +64,6 @@ pub use pending::{Answer, Pending};
 pub use replies::{Report, answer_of, report_of, take_answer};
 pub use world::World;
 pub use world_laws::{
-    equal_knowledge_equal_marks, equal_pairs_known_equal_pairs, every_mark_has_an_origin,
-    no_pair_goes_back, steps_leave_the_greatest,
+    equal_knowledge_equal_marks, equal_knowledge_in_two_worlds, equal_pairs_known_equal_pairs,
+    every_mark_has_an_origin, no_pair_goes_back, steps_leave_the_greatest,
 };

@@ -1,7 +1,8 @@
 //! The manager.
 
-ghost use Rattle.std.specs.Prelude.{◌≡◌, ◌<◌, ◌≤◌, ℕ, pos, List, [], All, length, map, Ok, IfOk, IfErr, IfSome};
-ghost use Rattle.std.specs.Prelude.{IsOk, IsSome, MatchResult, OnErr, OnOk, Some};
+ghost use Rattle.std.specs.Prelude.{◌≡◌, ◌<◌, ◌≤◌, ◌⊎◌, ℕ, pos, List, [], All, length, map, Ok, Err, IfOk, IfErr, IfSome};
+ghost use Rattle.std.specs.Prelude.{IsOk, IsSome, MatchResult, OnErr, OnOk, Some, slice_get};
+ghost use Rattle.std.specs.Global.{Vec as Octets};
 ghost use Rattle.std.specs.Option.{option_map};
 ghost use Rattle.engine_clock.specs.Pairs.{IsPair};
 ghost use Rattle.engine_clock.specs.Marks.{HoldsAll, SeenPair, mark_at, pair_at, IsMarkJoinOf, IsJoinOf};
@@ -15,13 +16,15 @@ ghost use Rattle.snmp_incoming.specs.Answers.{answer_of, IsPlain};
 ghost use Rattle.snmp_msg.specs.Pdu.{IsSpelled};
 ghost use Rattle.snmp_msg.specs.PduTypes.{IsPduTag};
 ghost use Rattle.snmp_outgoing.specs.Bodies.{BodyFits, front_in, variables_in, pdu_in, pdu_after};
-ghost use Rattle.snmp_outgoing.specs.Requests.{requesting, discovering};
+ghost use Rattle.snmp_outgoing.specs.Requests.{request, requesting, discovering};
 ghost use Rattle.snmp_outgoing.specs.Sends.{CanSend, RefusesSender};
 ghost use Rattle.snmp_manager.specs.Pendings.{Remembers, IsPending, request_answer};
+ghost use Rattle.snmp_manager.specs.Sent.{IsAcceptedByAgents};
 ghost use Rattle.snmp_manager.specs.Known.{IsLatest, datagrams_of};
-ghost use Rattle.snmp_manager.specs.Takes.{Takes, HoldsAuthentic, TakesNoMemory, kept_answer};
+ghost use Rattle.snmp_manager.specs.Takes.{Takes, HoldsAuthentic, IsOnceLearned, TakesNoMemory, kept_answer};
 ghost use Rattle.snmp_manager.specs.Runs.{TakesOne, Runs, HasTaken, moments_of, taken_of};
 ghost use Rattle.snmp_message.specs.declared.refusal.Refusal.TheVariants.{OutOfMemory};
+ghost use Rattle.snmp_message.specs.declared.refusal.Refusal.{Refusal as Refused};
 ghost use Rattle.snmp_message.specs.Refusals.{IsRefused};
 
 use crate::learning::learn;
@@ -33,7 +36,9 @@ use engine_clock::{Clocks, EngineId, Mark, Pair};
 use snmp_ber::Level;
 use snmp_incoming::{Kept, Taken};
 use snmp_msg::{PduType, Refusal, RefusedAt, Spelled, is_confirmed};
-use snmp_outgoing::{Body, Envelope, Front, supports, write_body_of, write_plain};
+use snmp_outgoing::{
+    Body, Envelope, Front, spoken_is_accepted, supports, write_body_of, write_plain,
+};
 use std::alloc::{AllocError, Global};
 use std::marker::Model;
 use usm_core::{Role, Users};
@@ -133,6 +138,8 @@ impl Manager {
     /// taken to decrypt, and for an engine that isn't held.
     pub fn take<'a>(&mut self, now: u64, datagram: &'a [u8]) -> Result<Taken<'a>, RefusedAt>
         ensures takes { Takes self.old now datagram.now (answer_of result) self.new }
+        ensures stays { (r : Refused) → answer_of result ≡ Some (Err r) → (IsOnceLearned r → ⊥)
+            → self.new.clocks ≡ self.old.clocks }
         ensures no_memory { IsPlain manager self.old.users datagram.now → HoldsAuthentic self.old datagram.now
             → IsSome (answer_of result) }
     {
@@ -149,6 +156,8 @@ impl Manager {
     /// The errors are those of `take`. Memory is taken where `take` does, and for the copy.
     pub fn take_kept(&mut self, now: u64, datagram: &[u8]) -> Result<Kept, RefusedAt>
         ensures takes { Takes self.old now datagram.now (kept_answer result) self.new }
+        ensures stays { (r : Refused) → kept_answer result ≡ Some (Err r) → (IsOnceLearned r → ⊥)
+            → self.new.clocks ≡ self.old.clocks }
         ensures no_memory { TakesNoMemory self.old now datagram.now → IsSome (kept_answer result) }
     {
         let checked = self.users.open_auth(Role::Manager, datagram)?;
@@ -190,7 +199,8 @@ impl Manager {
     /// authenticated in what was taken, or that was held before. The memory for the outcomes is asked for first.
     ///
     /// The error says how many of the datagrams were taken before memory ran out: never all, so
-    /// that a run over no datagram succeeds.
+    /// that a run over no datagram succeeds. Where some were taken, the next one wanted memory: it is sealed
+    /// and passes its digest, or it is authentic and its engine isn't held.
     pub fn run(&mut self, datagrams: &[(u64, Vec<u8>)]) -> Result<Vec<Outcome>, Stopped>
         ensures outcomes { IfOk result (λ outcomes. Runs self.old datagrams.now outcomes.items self.new) }
         ensures latest { (engine : List ℕ)
@@ -198,6 +208,11 @@ impl Manager {
             (datagrams_of (taken_of result datagrams.now)) engine (pair_at self.new.clocks engine) }
         ensures users { self.new.users ≡ self.old.users }
         ensures stopped { IfErr result (λ stopped. stopped.taken < length datagrams.now) }
+
+        // So a run stops only where its outcomes have no memory, or where the next datagram wants some.
+        ensures wants { IfErr result (λ stopped. (stopped.taken ≡ 0)
+            ⊎ ((t : ℕ × Octets ℕ) × (slice_get datagrams.now stopped.taken ≡ Some t)
+            × (IsPlain manager self.new.users t.1.items → HoldsAuthentic self.new t.1.items → ⊥))) }
         ensures ran { HasTaken self.old (moments_of (taken_of result datagrams.now)) self.new }
     {
         let Ok(mut outcomes) = Vec::with_capacity(self.alloc, datagrams.len()) else {
@@ -255,8 +270,9 @@ impl Manager {
             (requesting (mark_at self.old.clocks engine.now) now id engine.now user.now level (front_in body.now)
             (variables_in body.now) salt) }
         ensures pending { IfOk result (λ sent. IsPending sent.1 id engine.now user.now level (front_in body.now)) }
-
-        // With these the law that a request is accepted can be used of it.
+        ensures accepted { IfOk result (λ sent. IsAcceptedByAgents self.old.users
+            (request (mark_at self.old.clocks engine.now) now id engine.now user.now level (front_in body.now)
+            (variables_in body.now) salt) sent.0.items) }
         ensures pair { (mark : SeenPair) → mark_at self.old.clocks engine.now ≡ Some mark → IsPair mark.pair }
         ensures spelled { IfOk result (λ _. IsSpelled (pdu_in body.now)) }
         ensures same { self.new ≡ self.old }
@@ -301,10 +317,14 @@ impl Manager {
             (requesting (mark_at self.old.clocks engine.now) now id engine.now user.now level front.now
             (map B.says bindings.now) salt) }
         ensures pending { IfOk result (λ sent. IsPending sent.1 id engine.now user.now level front.now) }
+        ensures accepted { IfOk result (λ sent. IsAcceptedByAgents self.old.users
+            (request (mark_at self.old.clocks engine.now) now id engine.now user.now level front.now
+            (map B.says bindings.now) salt) sent.0.items) }
         ensures pair { (mark : SeenPair) → mark_at self.old.clocks engine.now ≡ Some mark → IsPair mark.pair }
         ensures spelled { IfOk result (λ _. IsSpelled (pdu_after front.now (map B.says bindings.now))) }
         ensures same { self.new ≡ self.old }
     {
+        spoken_is_accepted();
         let envelope = Envelope {
             level,
             id,

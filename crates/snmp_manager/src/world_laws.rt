@@ -32,6 +32,27 @@ pub fn equal_pairs_known_equal_pairs()
         → pair_at a.clocks engine ≡ pair_at b.clocks engine }
 {}
 
+/// Managers of two worlds, whatever happened in each, hold equal marks where their knowledge is equal, and equal
+/// pairs where it has the same pairs.
+pub fn equal_knowledge_in_two_worlds()
+    ensures marks { (users others : List User) (events other_events : List Event)
+        (first world second other : WorldState) (i j : ℕ) (a b : Held)
+        → HasGreatest (knows_after_all users events (at_first first)) world
+        → HasGreatest (knows_after_all others other_events (at_first second)) other
+        → slice_get world.managers i ≡ Some a → slice_get other.managers j ≡ Some b
+        → SameKnowledge ((knows_after_all users events (at_first first)).managers i)
+        ((knows_after_all others other_events (at_first second)).managers j)
+        → a.clocks ≡ b.clocks }
+    ensures pairs { (users others : List User) (events other_events : List Event)
+        (first world second other : WorldState) (i j : ℕ) (a b : Held) (engine : List ℕ)
+        → HasGreatest (knows_after_all users events (at_first first)) world
+        → HasGreatest (knows_after_all others other_events (at_first second)) other
+        → slice_get world.managers i ≡ Some a → slice_get other.managers j ≡ Some b
+        → SamePairsKnown ((knows_after_all users events (at_first first)).managers i)
+        ((knows_after_all others other_events (at_first second)).managers j)
+        → pair_at a.clocks engine ≡ pair_at b.clocks engine }
+{}
+
 /// No mark is known that no manager authenticated and no manager or file began with.
 pub fn every_mark_has_an_origin()
     ensures { (users : List User) (events : List Event) (begin : WorldState) (i : ℕ) (engine : List ℕ) (mark : SeenPair)

@@ -1,8 +1,9 @@
 -- What was sealed is accepted by who has its user and allows its engine.
 use Rattle.snmp_message.specs.declared.refusal.Refusal.TheVariants.{NotInWindow}
 use Rattle.snmp_message.specs.declared.refusal.Refusal.{Refusal}
-use Rattle.std.proofs.Common.{◌≡◌, ℕ, ◌-◌, List, [], ◌+◌, ◌++◌, Bool, true, false, length, drop, refl, sym, ap, subst, ◌∙◌, inl, inr, append-nil}
+use Rattle.std.proofs.Common.{◌≡◌, ℕ, ◌-◌, ◌<◌, ◌≤◌, arith, List, [], ◌+◌, ◌++◌, Bool, true, false, length, drop, refl, sym, ap, subst, ◌∙◌, inl, inr, append-nil}
 use Rattle.std.specs.Prelude.{if◌then◌else◌, ◌&&◌, Result, Ok, Err, Option, Some, None, is_some, IsSomeAnd, MatchBool}
+use Rattle.std.proofs.lemmas.Bool.{cases_lt}
 use Rattle.snmp_ber.specs.Element.{IsElement}
 use Rattle.snmp_message.specs.Layout.{Parts, Outer}
 use Rattle.snmp_message.specs.Security.{Fields, SecText}
@@ -11,7 +12,8 @@ use Rattle.snmp_msg.specs.Pdu.{PduParts, PduText}
 use Rattle.snmp_message.specs.declared.header.Header.{Header}
 use Rattle.snmp_message.specs.Level.{level_of}
 use Rattle.engine_clock.specs.Pairs.{BootsAndTime}
-use Rattle.engine_clock.specs.Windows.{InAgentWindow}
+use Rattle.engine_clock.specs.Marks.{SeenPair, mark_at}
+use Rattle.engine_clock.specs.Windows.{InAgentWindow, InManagerWindow, time_window, notion_at}
 use Rattle.snmp_ber.specs.declared.level.Level.{Level}
 use Rattle.snmp_ber.specs.declared.level.Level.TheVariants.{NoAuthNoPriv, AuthPriv}
 use Rattle.usm_users.specs.User.{User}
@@ -61,6 +63,61 @@ fresh_there : (taker : Taker) (now : ℕ) (v : Verified) (engine : List ℕ) (pa
 fresh_there (as_agent own boots started) now v engine pair e p is = subst (InAgentWindow (own_pair boots started now)) p is
 fresh_there (as_manager held) now v engine pair e p is =
     subst (λ (q : BootsAndTime). IsFreshAt held engine q now) p (subst (λ (x : List ℕ). IsFreshAt held x (pair_in v) now) e is)
+
+-- ---- what isn't out of the window is in it
+
+eq_stable : (a b : ℕ) → ((a ≡ b → ⊥) → ⊥) → a ≡ b
+eq_stable a b h =
+    elim (cases_lt a b) [
+      | inl lt ↦ absurd (h (λ e. let same : a ≡ b = e in omega (arith, lt, same)))
+      | inr le ↦ elim (cases_lt b a) [
+        | inl lt ↦ absurd (h (λ e. let same : a ≡ b = e in omega (arith, lt, same)))
+        | inr ge ↦ omega (arith, le, ge)
+      ]
+    ]
+
+le_stable : (a b : ℕ) → ((a ≤ b → ⊥) → ⊥) → a ≤ b
+le_stable a b h =
+    elim (cases_lt b a) [
+      | inl lt ↦ absurd (h (λ e. let at_most : a ≤ b = e in omega (arith, lt, at_most)))
+      | inr le ↦ le
+    ]
+
+agent_stable : (own p : BootsAndTime) → ((InAgentWindow own p → ⊥) → ⊥) → InAgentWindow own p
+agent_stable own p h = (
+  λ e. h (λ w. w.0 e),
+  eq_stable p.boots own.boots (λ no. h (λ w. no w.1)),
+  le_stable p.time (own.time + time_window) (λ no. h (λ w. no w.2)),
+  le_stable own.time (p.time + time_window) (λ no. h (λ w. no w.3)),
+)
+
+manager_stable : (held : BootsAndTime) (notion : ℕ) (p : BootsAndTime) → ((InManagerWindow held notion p → ⊥) → ⊥) → InManagerWindow held notion p
+manager_stable held notion p h = (
+  λ e. h (λ w. w.0 e),
+  elim (cases_lt held.boots p.boots) [
+    | inl lt ↦ inl lt
+    | inr le ↦ inr (
+        eq_stable p.boots held.boots (λ no. h (λ w. elim w.1 [ inl lt ↦ absurd (omega (arith, lt, le)) | inr same ↦ no same.0 ])),
+        le_stable notion (p.time + time_window) (λ no. h (λ w. elim w.1 [ inl lt ↦ absurd (omega (arith, lt, le)) | inr same ↦ no same.1 ])),
+      )
+  ],
+)
+
+some_mark : (a b : SeenPair) → Some a ≡ Some b → a ≡ b
+some_mark a b e = cc e
+
+-- the same where a mark may be held
+held_stable : (o : Option SeenPair) (pair : BootsAndTime) (now : ℕ) → (((mark : SeenPair) × (o ≡ Some mark) × InManagerWindow mark.pair (notion_at now mark) pair → ⊥) → ⊥)
+    → (mark : SeenPair) × (o ≡ Some mark) × InManagerWindow mark.pair (notion_at now mark) pair
+held_stable None pair now h = absurd (h (λ f. let e = f.1 in cc e))
+held_stable (Some mark) pair now h = (mark, refl, manager_stable mark.pair (notion_at now mark) pair (λ no. h (λ f. let e : f.0 ≡ mark = sym (some_mark mark f.0 f.1) in no (subst (λ (x : SeenPair). InManagerWindow x.pair (notion_at now x) pair) e f.2))))
+
+pair_stable : (taker : Taker) (now : ℕ) (engine : List ℕ) (pair : BootsAndTime) → ((IsPairFresh taker now engine pair → ⊥) → ⊥) → IsPairFresh taker now engine pair
+pair_stable (as_agent own boots started) now engine pair h = agent_stable (own_pair boots started now) pair h
+pair_stable (as_manager held) now engine pair h = held_stable (mark_at held engine) pair now h
+
+time_stable : (taker : Taker) (now : ℕ) (m : Sending) → ((IsInTime taker now m → ⊥) → ⊥) → IsInTime taker now m
+time_stable taker now m h = λ auth. pair_stable taker now m.engine m.pair (λ no. h (λ fresh. no (fresh auth)))
 
 -- ---- the plaintext
 
@@ -222,6 +279,10 @@ module _ (taker : Taker) (senders users : List User) (now : ℕ) (m : Sending) (
   pub late : ClockRuns taker now → (IsInTime taker now m → ⊥) → Outcome taker users now w (Err NotInWindow)
   unfolding Outcome Weighs
   late runs stale = holds runs (gives v verifies (fails (λ fresh. stale (λ auth. fresh_there taker now v m.engine m.pair said.engine_is pair_same (fresh (ap (λ (h : Header). h.auth) said.header_is ∙ auth))))))
+
+  pub accepted_only : ((a b : Result Given Refusal) → Outcome taker users now w a → Outcome taker users now w b → a ≡ b) → ClockRuns taker now
+      → (g : Given) → Outcome taker users now w (Ok g) → IsInTime taker now m
+  accepted_only same runs g is = time_stable taker now m (λ stale. let e = same (Ok g) (Err NotInWindow) is (late runs stale) in cc e)
 
   pub answered : ((a b : Result Given Refusal) → Outcome taker users now w a → Outcome taker users now w b → a ≡ b) → ClockRuns taker now
       → (answer : Result Given Refusal) → Outcome taker users now w answer → IsAnsweredInTime taker now m c p answer

@@ -64,11 +64,12 @@ pub record IsAnsweredInTime (taker : Taker) (now : ℕ) (m : Sending) (c : Conte
   pub in_time : IsInTime taker now m → (g : Given) × (answer ≡ Ok g) × GivesBack m c p g
   pub late : (IsInTime taker now m → ⊥) → answer ≡ Err NotInWindow
 
--- What comes of the message where it is taken: it is accepted where it is in time, and else refused as
--- NotInWindow, and there is no other answer.
+-- What comes of the message where it is taken: it is accepted if and only if it is in time, and else refused
+-- as NotInWindow, and there is no other answer.
 pub record IsTakenInTime (taker : Taker) (users : List User) (now : ℕ) (w : List ℕ) (m : Sending) (c : Contexts)
     (p : PduParts) : Type 0 where
   pub accepted : IsInTime taker now m → IsAccepted taker users now w m c p
+  pub accepted_only : (g : Given) → Outcome taker users now w (Ok g) → IsInTime taker now m
   pub late : (IsInTime taker now m → ⊥) → Outcome taker users now w (Err NotInWindow)
   pub only : (answer : Result Given Refusal) → Outcome taker users now w answer
       → IsAnsweredInTime taker now m c p answer

@@ -1,7 +1,8 @@
 use Rattle.std.specs.Prelude.{vec_capacity}
-use Rattle.std.proofs.Common.{sym, take, ◌<◌, vec_len, ◌≡◌, ◌∙◌, ◌++◌, ◌∷◌, [], arith}
+use Rattle.std.proofs.Common.{sym, take, ◌<◌, vec_len, ◌≡◌, ◌∙◌, ◌++◌, ◌∷◌, [], arith, inr, true, false, length, refl}
 use Rattle.std.proofs.lemmas.Grind.{common_steps}
 use Rattle.std.proofs.lemmas.List.{take_all}
+use Rattle.std.proofs.lemmas.Option.{slice_get_read}
 use Rattle.snmp_manager.proofs.Learned.{latest_more, outcomes_more, is_not_err, runs_taken}
 use Rattle.snmp_manager.proofs.manager.Manager.run.Goals as goal
 
@@ -39,3 +40,13 @@ pub returns-in_default-take_one-clause-ran : goal.returns-in_default-take_one-cl
 returns-in_default-take_one-clause-ran c =
     rw c.in_default-take_one.ensures.err
     (runs_taken c.args.self.now c.loop-i.self (take c.loop-i.i c.args.datagrams.now) c.loop-i.outcomes.items c.loop-i.invariant.outcomes)
+
+-- the next datagram wants memory
+pub returns-in_default-take_one-clause-wants : goal.returns-in_default-take_one-clause-wants
+returns-in_default-take_one-clause-wants c =
+    inr (
+      c.index-datagrams-i.result,
+      slice_get_read c.args.datagrams.now (length c.args.datagrams.now) c.loop-i.i c.index-datagrams-i.result refl c.loop-i-test.true c.index-datagrams-i.is,
+      rw (c.in_default-take_one.ensures.err, ← c.deref.ensures.value)
+          (λ plain held. let wrong : false ≡ true = c.in_default-take_one.ensures.no_memory plain held in cc wrong),
+    )

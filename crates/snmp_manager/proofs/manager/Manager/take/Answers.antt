@@ -1,7 +1,8 @@
 use Rattle.std.proofs.Common.{◌≡◌, true, false, refl, ◌∙◌}
 use Rattle.std.proofs.lemmas.Result.{err_from_is_err_and}
 use Rattle.usm_core.specs.Answers.{verified_of}
-use Rattle.snmp_manager.proofs.Takes.{takes_refused, takes_weighed, learns_held, is_answer}
+use Rattle.snmp_incoming.specs.Answers.{answer_of}
+use Rattle.snmp_manager.proofs.Takes.{takes_refused, takes_weighed, learns_held, is_answer, refused_once_learned}
 use Rattle.snmp_manager.proofs.manager.Manager.take.Goals as goal
 
 -- refused down to the digest
@@ -33,3 +34,8 @@ returns-in_err-learn-clause-no_memory c =
 -- what is weighed is an answer
 pub returns-clause-no_memory : goal.returns-clause-no_memory
 returns-clause-no_memory c = λ plain held. is_answer _ _ (c.in_ok-answer.ensures.weighs c.learn.new.clocks c.in_ok-learn.ensures.learned)
+
+-- what is weighed is refused once its pair is learned
+pub returns-clause-stays : goal.returns-clause-stays
+returns-clause-stays c = λ r is early.
+    absurd (early (refused_once_learned _ _ _ _ (verified_of c.in_ok-checked.checked) (answer_of c.in_ok-answer.answer) r (c.in_ok-answer.ensures.weighs c.learn.new.clocks c.in_ok-learn.ensures.learned) is))

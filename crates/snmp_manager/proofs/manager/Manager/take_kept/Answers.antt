@@ -1,7 +1,8 @@
 use Rattle.std.proofs.Common.{◌≡◌, true, false, refl, ◌∙◌}
 use Rattle.std.proofs.lemmas.Result.{err_from_is_err_and}
 use Rattle.usm_core.specs.Answers.{verified_of}
-use Rattle.snmp_manager.proofs.Takes.{takes_refused, takes_weighed, learns_held, copies_nothing}
+use Rattle.snmp_manager.specs.Takes.{kept_answer}
+use Rattle.snmp_manager.proofs.Takes.{takes_refused, takes_weighed, learns_held, copies_nothing, refused_once_learned}
 use Rattle.snmp_manager.proofs.manager.Manager.take_kept.Goals as goal
 
 -- refused down to the digest
@@ -34,3 +35,8 @@ pub returns-in_err-learn-clause-no_memory : goal.returns-in_err-learn-clause-no_
 returns-in_err-learn-clause-no_memory c =
     rw (← c.self.view_is)
     (λ none. let wrong : false ≡ true = c.in_err-learn.ensures.no_memory (learns_held (record { users = c.self.inside.users.users; clocks = c.self.inside.clocks }) _ (verified_of c.in_ok-checked.checked) c.in_ok-checked.ensures.authentic none.holds) in absurd (cc wrong))
+
+-- what is weighed is refused once its pair is learned
+pub returns-clause-stays : goal.returns-clause-stays
+returns-clause-stays c = λ r is early.
+    absurd (early (refused_once_learned _ _ _ _ (verified_of c.in_ok-checked.checked) (kept_answer c.in_ok-kept.kept) r (c.in_ok-kept.ensures.weighs c.learn.new.clocks c.in_ok-learn.ensures.learned) is))
