@@ -18,9 +18,11 @@ ghost use Rattle.snmp_message.specs.declared.refusal.Refusal.{Refusal};
 /// Lists with the same authentic datagrams, in any order, with any repeats and anything else between, have
 /// the same latest pair of each engine.
 pub fn same_authentic_same_latest()
-    ensures { (users : List User) (begin : Option BootsAndTime) (xs ys : List (List ℕ)) (engine : List ℕ)
+    ensures { (users : List User) (begin : Option BootsAndTime)
+        (xs ys : List (List ℕ)) (engine : List ℕ)
         (p q : Option BootsAndTime)
-        → HaveSameAuthentic users xs ys → IsLatest users begin xs engine p → IsLatest users begin ys engine q → p ≡ q }
+        → HaveSameAuthentic users xs ys → IsLatest users begin xs engine p
+        → IsLatest users begin ys engine q → p ≡ q }
 {}
 
 /// Two managers that begin with the same users and the same pairs, and take lists with the same authentic
@@ -36,11 +38,14 @@ pub fn same_authentic_same_pairs()
 /// What each call that takes says comes to datagrams taken: one call of `take` or `take_one`, what was taken
 /// before and after it, and so the laws are of all that a manager took.
 pub fn takes_are_joined()
-    ensures take { (a b : Held) (now : ℕ) (w : List ℕ) (answer : Result Given Refusal) → Takes a now w (Some answer) b
+    ensures take { (a b : Held) (now : ℕ) (w : List ℕ) (answer : Result Given Refusal)
+        → Takes a now w (Some answer) b
         → HasTaken a ((now, w) ∷ []) b }
-    ensures take_one { (a b : Held) (now : ℕ) (w : List ℕ) (outcome : Answered) → TakesOne a now w outcome b
+    ensures take_one { (a b : Held) (now : ℕ) (w : List ℕ) (outcome : Answered)
+        → TakesOne a now w outcome b
         → HasTaken a ((now, w) ∷ []) b }
-    ensures run { (a b : Held) (ts : List (ℕ × Vec ℕ)) (outcomes : List Answered) → Runs a ts outcomes b
+    ensures run { (a b : Held) (ts : List (ℕ × Vec ℕ)) (outcomes : List Answered)
+        → Runs a ts outcomes b
         → HasTaken a (moments_of ts) b }
     ensures joined { (a b c : Held) (xs ys : List (ℕ × List ℕ)) → HasTaken a xs b → HasTaken b ys c
         → HasTaken a (xs ++ ys) c }
@@ -51,7 +56,8 @@ pub fn takes_are_joined()
 /// before.
 pub fn taken_holds_the_latest()
     ensures latest { (a b : Held) (ts : List (ℕ × List ℕ)) (engine : List ℕ) → HasTaken a ts b
-        → IsLatest a.users (pair_at a.clocks engine) (octets_of ts) engine (pair_at b.clocks engine) }
+        → IsLatest a.users (pair_at a.clocks engine)
+        (octets_of ts) engine (pair_at b.clocks engine) }
     ensures marks { (a b : Held) (ts : List (ℕ × List ℕ)) (engine : List ℕ) → HasTaken a ts b
         → IsLatestMark a.users (mark_at a.clocks engine) ts engine (mark_at b.clocks engine) }
     ensures users { (a b : Held) (ts : List (ℕ × List ℕ)) → HasTaken a ts b → b.users ≡ a.users }
@@ -64,6 +70,7 @@ pub fn taken_holds_the_latest()
 pub fn pieces_are_joined()
     ensures { (now : ℕ) (begin : Held) (taken : Piece) (pieces : List Piece) (saved merged : List ℕ)
         (texts : List (List ℕ))
-        → ArePiecesOf taken pieces → 0 < length pieces → SavesText begin taken saved → SaveEach begin pieces texts
+        → ArePiecesOf taken pieces → 0 < length pieces → SavesText begin taken saved
+        → SaveEach begin pieces texts
         → IsMergeOf now texts merged → merged ≡ saved }
 {}

@@ -25,7 +25,8 @@ pub fn pair_of(checked: &Checked<'_>) -> Pair
 pub fn learn(clocks: &mut Clocks, checked: &Checked<'_>, now: u64) -> Result<(), AllocError>
     ensures no_memory { (checked.now.message.header.auth ≡ true
         → IsSome (mark_at clocks.old checked.now.security.engine.now)) → IsOk result }
-    ensures learned { OnOk result (LearnsChecked (verified_of checked.now) now clocks.old clocks.new) }
+    ensures learned { OnOk result (LearnsChecked
+        (verified_of checked.now) now clocks.old clocks.new) }
     ensures err { OnErr result (clocks.new ≡ clocks.old) }
 {
     if !checked.message.header.auth {

@@ -140,7 +140,8 @@ impl Manager {
         ensures takes { Takes self.old now datagram.now (answer_of result) self.new }
         ensures stays { (r : Refused) → answer_of result ≡ Some (Err r) → (IsOnceLearned r → ⊥)
             → self.new.clocks ≡ self.old.clocks }
-        ensures no_memory { IsPlain manager self.old.users datagram.now → HoldsAuthentic self.old datagram.now
+        ensures no_memory { IsPlain manager self.old.users datagram.now
+            → HoldsAuthentic self.old datagram.now
             → IsSome (answer_of result) }
     {
         let checked = self.users.open_auth(Role::Manager, datagram)?;
@@ -176,9 +177,11 @@ impl Manager {
     /// Takes a datagram at the moment `now`, and tells what it was answered. On an error, which is want of
     /// memory, all is as before. It takes memory where `take` does.
     pub fn take_one(&mut self, now: u64, datagram: &[u8]) -> Result<Outcome, AllocError>
-        ensures outcome { IfOk result (λ outcome. TakesOne self.old now datagram.now outcome self.new) }
+        ensures outcome { IfOk result (λ outcome. TakesOne self.old
+            now datagram.now outcome self.new) }
         ensures err { OnErr result (self.new ≡ self.old) }
-        ensures no_memory { IsPlain manager self.old.users datagram.now → HoldsAuthentic self.old datagram.now
+        ensures no_memory { IsPlain manager self.old.users datagram.now
+            → HoldsAuthentic self.old datagram.now
             → IsOk result }
     {
         match self.take(now, datagram) {
@@ -202,7 +205,8 @@ impl Manager {
     /// that a run over no datagram succeeds. Where some were taken, the next one wanted memory: it is sealed
     /// and passes its digest, or it is authentic and its engine isn't held.
     pub fn run(&mut self, datagrams: &[(u64, Vec<u8>)]) -> Result<Vec<Outcome>, Stopped>
-        ensures outcomes { IfOk result (λ outcomes. Runs self.old datagrams.now outcomes.items self.new) }
+        ensures outcomes { IfOk result
+            (λ outcomes. Runs self.old datagrams.now outcomes.items self.new) }
         ensures latest { (engine : List ℕ)
             → IsLatest self.old.users (pair_at self.old.clocks engine)
             (datagrams_of (taken_of result datagrams.now)) engine (pair_at self.new.clocks engine) }
@@ -263,17 +267,22 @@ impl Manager {
         requires body { BodyFits body.now }
         ensures text { IfSome (request_answer result)
             (Seals self.old.users
-            (requesting (mark_at self.old.clocks engine.now) now id engine.now user.now level (front_in body.now)
+            (requesting (mark_at self.old.clocks engine.now) now id engine.now user.now level
+            (front_in body.now)
             (variables_in body.now) salt)) }
         ensures memory { IsRefused result OutOfMemory
             → IsSealable self.old.users
-            (requesting (mark_at self.old.clocks engine.now) now id engine.now user.now level (front_in body.now)
+            (requesting (mark_at self.old.clocks engine.now) now id engine.now user.now level
+            (front_in body.now)
             (variables_in body.now) salt) }
-        ensures pending { IfOk result (λ sent. IsPending sent.1 id engine.now user.now level (front_in body.now)) }
+        ensures pending { IfOk result (λ sent. IsPending sent.1 id engine.now user.now level
+            (front_in body.now)) }
         ensures accepted { IfOk result (λ sent. IsAcceptedByAgents self.old.users
-            (request (mark_at self.old.clocks engine.now) now id engine.now user.now level (front_in body.now)
+            (request (mark_at self.old.clocks engine.now) now id engine.now user.now level
+            (front_in body.now)
             (variables_in body.now) salt) sent.0.items) }
-        ensures pair { (mark : SeenPair) → mark_at self.old.clocks engine.now ≡ Some mark → IsPair mark.pair }
+        ensures pair { (mark : SeenPair) → mark_at self.old.clocks engine.now ≡ Some mark
+            → IsPair mark.pair }
         ensures spelled { IfOk result (λ _. IsSpelled (pdu_in body.now)) }
         ensures same { self.new ≡ self.old }
     {
@@ -310,18 +319,23 @@ impl Manager {
         requires fit { All (λ b. B.fits b) bindings.now }
         ensures text { IfSome (request_answer result)
             (Seals self.old.users
-            (requesting (mark_at self.old.clocks engine.now) now id engine.now user.now level front.now
+            (requesting (mark_at self.old.clocks engine.now) now id
+            engine.now user.now level front.now
             (map B.says bindings.now) salt)) }
         ensures memory { IsRefused result OutOfMemory
             → IsSealable self.old.users
-            (requesting (mark_at self.old.clocks engine.now) now id engine.now user.now level front.now
+            (requesting (mark_at self.old.clocks engine.now) now id
+            engine.now user.now level front.now
             (map B.says bindings.now) salt) }
-        ensures pending { IfOk result (λ sent. IsPending sent.1 id engine.now user.now level front.now) }
+        ensures pending { IfOk result (λ sent. IsPending sent.1 id
+            engine.now user.now level front.now) }
         ensures accepted { IfOk result (λ sent. IsAcceptedByAgents self.old.users
             (request (mark_at self.old.clocks engine.now) now id engine.now user.now level front.now
             (map B.says bindings.now) salt) sent.0.items) }
-        ensures pair { (mark : SeenPair) → mark_at self.old.clocks engine.now ≡ Some mark → IsPair mark.pair }
-        ensures spelled { IfOk result (λ _. IsSpelled (pdu_after front.now (map B.says bindings.now))) }
+        ensures pair { (mark : SeenPair) → mark_at self.old.clocks engine.now ≡ Some mark
+            → IsPair mark.pair }
+        ensures spelled { IfOk result (λ _. IsSpelled
+            (pdu_after front.now (map B.says bindings.now))) }
         ensures same { self.new ≡ self.old }
     {
         spoken_is_accepted();
@@ -343,8 +357,10 @@ impl Manager {
     /// answers with a Report that has its engine ID. The error is out of memory.
     pub fn discover(&self, id: u32) -> Result<(Vec<u8>, Pending), AllocError>
         requires { id ≤ MAX_INTEGER32 }
-        ensures text { IfOk result (λ sent. Seals self.now.users (discovering id) (Ok sent.0.items)) }
-        ensures pending { IfOk result (λ sent. Remembers sent.1 id [] [] NoAuthNoPriv [] [] (pos id)) }
+        ensures text { IfOk result (λ sent. Seals self.now.users
+            (discovering id) (Ok sent.0.items)) }
+        ensures pending { IfOk result (λ sent. Remembers sent.1 id [] [] NoAuthNoPriv [] []
+            (pos id)) }
     {
         let body = Body {
             context_engine: &[],

@@ -42,7 +42,8 @@ impl Pending {
         front: &Front<'_>,
     ) -> Result<Pending, AllocError>
         ensures { IfOk result
-            (λ pending. IsPending pending envelope.now.id envelope.now.engine.now envelope.now.user.now
+            (λ pending. IsPending pending envelope.now.id
+            envelope.now.engine.now envelope.now.user.now
             envelope.now.level front.now) }
     {
         Ok(Pending {

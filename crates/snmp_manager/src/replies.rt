@@ -57,7 +57,8 @@ fn counter_in(pdu: &Pdu<'_>) -> u8
 fn is_response(pending: &Pending, taken: &Taken<'_>, scoped: &Scoped<'_>, pdu: &Pdu<'_>) -> bool
     ensures { MatchBool result
         (IsResponseTo pending.now (given_of taken.now) (contexts_of scoped.now) (pdu_of pdu.now))
-        (IsResponseTo pending.now (given_of taken.now) (contexts_of scoped.now) (pdu_of pdu.now) → ⊥) }
+        (IsResponseTo pending.now (given_of taken.now) (contexts_of scoped.now) (pdu_of pdu.now)
+        → ⊥) }
 {
     if taken.id != pending.id {
         return false;
@@ -92,7 +93,8 @@ fn is_response(pending: &Pending, taken: &Taken<'_>, scoped: &Scoped<'_>, pdu: &
 ///
 /// A Report without authentication can be anyone's. It is for discovery, and for hints: nothing is learned of it.
 pub fn answer_of(pending: &Pending, taken: &Taken<'_>) -> Answer
-    ensures { (c : Contexts) (p : PduParts) → ScopedFront (text_of taken.now.text) c → PduText c.pdu p
+    ensures { (c : Contexts) (p : PduParts) → ScopedFront (text_of taken.now.text) c
+        → PduText c.pdu p
         → IsAnswer pending.now (given_of taken.now) c p result }
 {
     one_content();
@@ -139,7 +141,8 @@ fn count_in(binding: &Binding<'_>) -> Option<u32>
 
 /// The number and the value of the counter that the only binding names.
 fn told_in(pdu: &Pdu<'_>) -> (u8, Option<u32>)
-    ensures { (vs : List Variable) → AreBindings vs pdu.now.list.now → TellsCounter vs result.0 result.1 }
+    ensures { (vs : List Variable) → AreBindings vs pdu.now.list.now
+        → TellsCounter vs result.0 result.1 }
 {
     let mut bindings = pdu.bindings();
     let Some(binding) = bindings.next() else {
@@ -154,7 +157,8 @@ fn told_in(pdu: &Pdu<'_>) -> (u8, Option<u32>)
 /// What an accepted message tells, where it is a Report on a request, which is where it has its msgID (RFC
 /// 3412, section 7.2, step 11). It takes no memory.
 pub fn report_of(pending: &Pending, taken: &Taken<'_>) -> Option<Report>
-    ensures { (c : Contexts) (p : PduParts) → ScopedFront (text_of taken.now.text) c → PduText c.pdu p
+    ensures { (c : Contexts) (p : PduParts) → ScopedFront (text_of taken.now.text) c
+        → PduText c.pdu p
         → IsReport pending.now (given_of taken.now) p result }
 {
     one_pdu();
@@ -176,7 +180,8 @@ pub fn report_of(pending: &Pending, taken: &Taken<'_>) -> Option<Report>
 /// What an accepted message is to a request, as `answer_of` has it, and the request where it still waits:
 /// only its Response ends that, since a Report can be anybody's.
 pub fn take_answer(pending: Pending, taken: &Taken<'_>) -> (Answer, Option<Pending>)
-    ensures answer { (c : Contexts) (p : PduParts) → ScopedFront (text_of taken.now.text) c → PduText c.pdu p
+    ensures answer { (c : Contexts) (p : PduParts)
+        → ScopedFront (text_of taken.now.text) c → PduText c.pdu p
         → IsAnswer pending (given_of taken.now) c p result.0 }
     ensures waits { result.1 ≡ still_waiting result.0 pending }
 {

@@ -20,7 +20,8 @@ pub(crate) fn no_pair() -> Pair
 /// boots and the notion of the time.
 pub(crate) fn written_pair(clocks: &Clocks, engine: &EngineId, level: Level, now: u64) -> Pair
     ensures pair { result ≡ written_pair level (mark_at clocks.now engine.now) now }
-    ensures is_pair { (mark : SeenPair) → mark_at clocks.now engine.now ≡ Some mark → IsPair mark.pair }
+    ensures is_pair { (mark : SeenPair) → mark_at clocks.now engine.now ≡ Some mark
+        → IsPair mark.pair }
 {
     let Some(held) = clocks.mark(engine) else {
         return no_pair();

@@ -22,7 +22,8 @@ pub(crate) fn take(
     datagram: &[u8],
 ) -> Result<(), WorldFault>
     ensures ok { OnOk result
-        (Changes number (λ before after. LearnsFrom before.users now datagram.now before.clocks after.clocks)
+        (Changes number (λ before after. LearnsFrom before.users now
+        datagram.now before.clocks after.clocks)
         managers.old.items managers.new.items) }
     ensures err { OnErr result (managers.new.items ≡ managers.old.items) }
     ensures no_such { (result ≡ Err WorldFault.NoSuch) ↔ (length managers.old.items ≤ number) }
@@ -69,7 +70,8 @@ pub(crate) fn absorb(
 ) -> Result<(), WorldFault>
     requires { number < length managers.old.items }
     ensures ok { OnOk result
-        (Changes number (λ before after. IsMarkJoinOf before.clocks clocks.now after.clocks) managers.old.items
+        (Changes number (λ before after. IsMarkJoinOf before.clocks clocks.now after.clocks)
+        managers.old.items
         managers.new.items) }
     ensures err { OnErr result (managers.new.items ≡ managers.old.items) }
     ensures found { result ≢ Err WorldFault.NoSuch }
@@ -84,7 +86,8 @@ pub(crate) fn absorb(
 /// The manager goes on from these marks alone.
 pub(crate) fn restart(managers: &mut Vec<Manager>, number: usize, clocks: Clocks)
     requires { number < length managers.old.items }
-    ensures { Changes number (λ before after. after.clocks ≡ clocks) managers.old.items managers.new.items }
+    ensures { Changes number (λ before after. after.clocks ≡ clocks)
+        managers.old.items managers.new.items }
 {
     let manager = &mut managers[number];
     manager.restart(clocks);

@@ -31,11 +31,13 @@ pub(crate) fn weigh<'a>(
 ) -> Result<Result<Taken<'a>, RefusedAt>, AllocError>
     requires read { IsReadAs datagram.now (verified_of checked.now) }
     requires private { checked.now.level ≡ AuthPriv
-        → HasUserAt users.old.users checked.now.security.user.now AuthPriv × (tag_of checked.now.message.body ≡ 4) }
+        → HasUserAt users.old.users checked.now.security.user.now AuthPriv
+        × (tag_of checked.now.message.body ≡ 4) }
     ensures users { users.new.users ≡ users.old.users }
     ensures no_memory { checked.now.message.header.privacy ≡ false → IsOk result }
     ensures weighs { IfOk result
-        (λ answer. (learned : Marks) → LearnsChecked (verified_of checked.now) now clocks.now learned
+        (λ answer. (learned : Marks) → LearnsChecked
+        (verified_of checked.now) now clocks.now learned
         → IsSomeAnd (answer_of answer)
         (Weighs (as_manager learned) users.old.users now datagram.now (verified_of checked.now))) }
 {
@@ -60,14 +62,17 @@ pub(crate) fn weigh_kept(
 ) -> Result<Result<Kept, RefusedAt>, AllocError>
     requires read { IsReadAs datagram.now (verified_of checked.now) }
     requires private { checked.now.level ≡ AuthPriv
-        → HasUserAt users.old.users checked.now.security.user.now AuthPriv × (tag_of checked.now.message.body ≡ 4) }
+        → HasUserAt users.old.users checked.now.security.user.now AuthPriv
+        × (tag_of checked.now.message.body ≡ 4) }
     ensures users { users.new.users ≡ users.old.users }
     ensures no_memory { checked.now.message.header.privacy ≡ false → (learned : Marks)
         → LearnsChecked (verified_of checked.now) now clocks.now learned
-        → ((g : Given) → Weighs (as_manager learned) users.old.users now datagram.now (verified_of checked.now) (Ok g)
+        → ((g : Given) → Weighs (as_manager learned) users.old.users now datagram.now
+        (verified_of checked.now) (Ok g)
         → ⊥) → IsOk result }
     ensures weighs { IfOk result
-        (λ answer. (learned : Marks) → LearnsChecked (verified_of checked.now) now clocks.now learned
+        (λ answer. (learned : Marks) → LearnsChecked
+        (verified_of checked.now) now clocks.now learned
         → IsSomeAnd (kept_answer answer)
         (Weighs (as_manager learned) users.old.users now datagram.now (verified_of checked.now))) }
 {

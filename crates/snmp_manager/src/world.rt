@@ -43,7 +43,8 @@ impl World {
     /// A manager for each of the clocks, in their order, with its marks and these users, and no file. The
     /// error is out of memory.
     pub fn new(alloc: Global, users: &Users, clocks: &[Clocks]) -> Result<World, AllocError>
-        ensures managers { IfOk result (λ world. world.managers ≡ map (held_by users.now.users) clocks.now) }
+        ensures managers { IfOk result
+            (λ world. world.managers ≡ map (held_by users.now.users) clocks.now) }
         ensures files { IfOk result (λ world. world.files ≡ []) }
     {
         let mut managers = Vec::with_capacity(alloc, clocks.len())?;
@@ -101,11 +102,13 @@ impl World {
     /// The error tells how many events were done before the refused one, and why that was refused, as `step` does.
     pub fn run(&mut self, events: &[Event]) -> Result<(), WorldStopped>
         ensures greatest { (users : List User) → HaveUsers users self.old
-            → HasGreatest (knows_after_all users (counted result events.now) (at_first self.old)) self.new }
+            → HasGreatest (knows_after_all users (counted result events.now) (at_first self.old))
+            self.new }
 
         // So it is the greatest pair of its knowledge too.
         ensures pairs { (users : List User) → HaveUsers users self.old
-            → HasGreatestPairs (knows_after_all users (counted result events.now) (at_first self.old)) self.new }
+            → HasGreatestPairs (knows_after_all users (counted result events.now)
+            (at_first self.old)) self.new }
 
         // The events that counted happened one after another; the next one is refused by what they left.
         ensures steps { StepsAll self.old (counted result events.now) self.new }

@@ -13,7 +13,8 @@ ghost use Rattle.snmp_manager.specs.declared.event.Event.{Event};
 
 /// Managers of equal knowledge hold equal marks, so that they save equal octets.
 pub fn equal_knowledge_equal_marks()
-    ensures { (users : List User) (events : List Event) (begin world : WorldState) (i j : ℕ) (a b : Held)
+    ensures { (users : List User) (events : List Event)
+        (begin world : WorldState) (i j : ℕ) (a b : Held)
         → HasGreatest (knows_after_all users events (at_first begin)) world
         → slice_get world.managers i ≡ Some a → slice_get world.managers j ≡ Some b
         → SameKnowledge ((knows_after_all users events (at_first begin)).managers i)
@@ -23,7 +24,8 @@ pub fn equal_knowledge_equal_marks()
 
 /// Managers whose knowledge has the same pairs hold equal pairs, whatever the moments at which these were seen.
 pub fn equal_pairs_known_equal_pairs()
-    ensures { (users : List User) (events : List Event) (begin world : WorldState) (i j : ℕ) (a b : Held)
+    ensures { (users : List User) (events : List Event)
+        (begin world : WorldState) (i j : ℕ) (a b : Held)
         (engine : List ℕ)
         → HasGreatest (knows_after_all users events (at_first begin)) world
         → slice_get world.managers i ≡ Some a → slice_get world.managers j ≡ Some b
@@ -55,17 +57,21 @@ pub fn equal_knowledge_in_two_worlds()
 
 /// No mark is known that no manager authenticated and no manager or file began with.
 pub fn every_mark_has_an_origin()
-    ensures { (users : List User) (events : List Event) (begin : WorldState) (i : ℕ) (engine : List ℕ) (mark : SeenPair)
+    ensures { (users : List User) (events : List Event) (begin : WorldState)
+        (i : ℕ) (engine : List ℕ) (mark : SeenPair)
         → (knows_after_all users events (at_first begin)).managers i engine mark
         → HasOrigin users events begin engine mark }
 {}
 
 /// Over events without a restart of a manager no pair of it goes back.
 pub fn no_pair_goes_back()
-    ensures { (users : List User) (events : List Event) (begin world : WorldState) (i : ℕ) (a b : Held)
+    ensures { (users : List User) (events : List Event)
+        (begin world : WorldState) (i : ℕ) (a b : Held)
         (engine : List ℕ) (p : BootsAndTime)
-        → HasGreatest (knows_after_all users events (at_first begin)) world → IsNeverRestarted i events
-        → slice_get begin.managers i ≡ Some a → slice_get world.managers i ≡ Some b → pair_at a.clocks engine ≡ Some p
+        → HasGreatest (knows_after_all users events (at_first begin))
+        world → IsNeverRestarted i events
+        → slice_get begin.managers i ≡ Some a → slice_get world.managers i ≡ Some b
+        → pair_at a.clocks engine ≡ Some p
         → (q : BootsAndTime) × (pair_at b.clocks engine ≡ Some q) × ¬ (IsBelow q p) }
 {}
 

@@ -97,9 +97,9 @@ manager_stable held notion p h = (
   elim (cases_lt held.boots p.boots) [
     | inl lt ↦ inl lt
     | inr le ↦ inr (
-        eq_stable p.boots held.boots (λ no. h (λ w. elim w.1 [ inl lt ↦ absurd (omega (arith, lt, le)) | inr same ↦ no same.0 ])),
-        le_stable notion (p.time + time_window) (λ no. h (λ w. elim w.1 [ inl lt ↦ absurd (omega (arith, lt, le)) | inr same ↦ no same.1 ])),
-      )
+      eq_stable p.boots held.boots (λ no. h (λ w. elim w.1 [ inl lt ↦ absurd (omega (arith, lt, le)) | inr same ↦ no same.0 ])),
+      le_stable notion (p.time + time_window) (λ no. h (λ w. elim w.1 [ inl lt ↦ absurd (omega (arith, lt, le)) | inr same ↦ no same.1 ])),
+    )
   ],
 )
 
