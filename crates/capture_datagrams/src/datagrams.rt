@@ -17,7 +17,7 @@ use std::alloc::{AllocError, AllocFailed, Global};
 use std::io::{Read, Write};
 use thiserror::Error;
 
-/// Why a capture wasn't read, or what it comes to wasn't written.
+/// Why a capture wasn't read, or why its output wasn't written.
 #[derive(Clone, Copy, Debug, PartialEq, Eq, Drop, Error)]
 pub enum Unread {
     /// A read failed.

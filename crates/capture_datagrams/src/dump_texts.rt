@@ -29,7 +29,7 @@ fn refused_row(alloc: Global, name: &str, line: u64) -> Result<String, AllocErro
     format!(in alloc; "refused datagrams {name} line {line}\n")
 }
 
-/// What is told beside that.
+/// The note on standard error about that.
 fn dump_note(alloc: Global, fault: DumpFault) -> Result<String, AllocError>
     ensures { IfOk result (λ text. string_bytes text ≡ dump_note fault) }
 {
@@ -50,7 +50,7 @@ fn dump_note(alloc: Global, fault: DumpFault) -> Result<String, AllocError>
     }
 }
 
-/// What a text comes to that is no dump for this reason.
+/// The result for a text that isn't a dump, for this reason.
 fn refused_dump(alloc: Global, name: &str, fault: DumpFault) -> Result<Told, AllocError>
     ensures { IfOk result
         (λ told. (told.text.items ≡ refused_row name.now (fault_line fault))
@@ -118,7 +118,7 @@ fn print_octets<P: Printer>(
     }
 }
 
-/// What a text comes to that is read as dumps.
+/// The result for a text that is read as dumps.
 pub(crate) fn dumps_told<P: Printer>(
     alloc: Global,
     form: TextForm<'_>,

@@ -19,7 +19,7 @@ use snmpsec_io::{FILE_LIMIT, FileFault, read_whole_behind, write_whole};
 use std::alloc::{AllocError, Global};
 use std::io::{Read, Write};
 
-/// What a text comes to: what is printed, what is told beside, and the status that goes with it.
+/// The result for a text: what is printed, the notes on standard error, and the exit status.
 #[derive(Debug, Drop)]
 pub(crate) struct Told {
     pub(crate) text: Vec<u8>,
@@ -93,7 +93,7 @@ fn are_dumps(form: TextForm<'_>, text: &[u8]) -> bool
     }
 }
 
-/// What a text comes to that is read so.
+/// The result for a text that is read so.
 fn told_of<P: Printer>(
     alloc: Global,
     form: TextForm<'_>,
@@ -113,7 +113,7 @@ fn told_of<P: Printer>(
     }
 }
 
-/// Writes what a text comes to.
+/// Writes the result for a text.
 pub(crate) fn write_told<L: Write, N: Write>(
     told: &Told,
     log: &mut L,
@@ -141,8 +141,8 @@ pub(crate) fn write_told<L: Write, N: Write>(
 
 /// What is done with a text of which these octets were read, with the status that it ends with: where it is
 /// read as dumps, what is printed of the octets of each as a datagram, received at this moment, and status 0,
-/// or 1 where that tells a refusal; or else a line for the first line at which it is none, and status 1. Of
-/// dumps of packets the same of the datagrams in them, and `notes` gets what a capture's records come to
+/// or 1 if one of them is refused; or else a line for the first line at which it isn't one, and status 1. Of
+/// dumps of packets the same of the datagrams in them, and `notes` gets what is reported of a capture's records
 /// beside. Where it is read as hex, the same of its octets as the one datagram, or else a line for the first
 /// place at which it is no hex.
 ///

@@ -16,7 +16,7 @@ pub enum DumpFault {
     /// No line begins a dump.
     #[error("no dump")]
     NoDump,
-    /// What stands behind the offset of this line can't be read: no pairs, half a pair, or a column that
+    /// What follows the offset of this line can't be read: no pairs, half a pair, or a column that
     /// shows other octets than those before it.
     #[error("line {0}: no octets")]
     Unreadable(u64),

@@ -12,9 +12,9 @@ use crate::part::digit_value;
 pub(crate) struct Offset<'a> {
     /// Its hex digits, 4 to 8.
     pub(crate) digits: &'a [u8],
-    /// Whether a colon stands behind it.
+    /// Whether a colon follows it.
     pub(crate) colon: bool,
-    /// What stands behind that: a blank and more, or nothing.
+    /// What follows: a blank and more, or nothing.
     pub(crate) rest: &'a [u8],
 }
 

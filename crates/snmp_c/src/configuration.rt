@@ -17,7 +17,7 @@ use std::alloc::Global;
 /// and what is wrong and what is wanted.
 ///
 /// It answers -1 where there are fewer than four numbers and 14 if memory runs out, and nothing is written
-/// then; and -5 where the text is longer than the buffer: then the numbers are told, and how many octets the
+/// then; and -5 where the text is longer than the buffer: then it writes the numbers, and how many octets the
 /// text has.
 #[unsafe(no_mangle)]
 pub extern "C" fn proved_config_fault(

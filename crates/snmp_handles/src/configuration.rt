@@ -26,7 +26,7 @@ const NUMBERS: usize = 4;
 /// mask). The buffer has two lines: the refusal, and what is wrong and what is wanted.
 ///
 /// The other errors are BadArgument, where there are fewer than four numbers; out of memory, which writes
-/// nothing; and ShortBuffer, where the text is longer than the buffer: then the numbers are told, and how
+/// nothing; and ShortBuffer, where the text is longer than the buffer: then it writes the numbers, and how
 /// many octets the text has.
 pub fn tell_config(
     alloc: Global,

@@ -35,8 +35,8 @@ pub fn same_authentic_same_pairs()
         → HasTaken a xs a_after → HasTaken b ys b_after → HoldSamePairs a_after b_after }
 {}
 
-/// What each call that takes says comes to datagrams taken: one call of `take` or `take_one`, what was taken
-/// before and after it, and so the laws are of all that a manager took.
+/// The contracts of the calls that take, as one relation on the datagrams taken: one call of `take` or `take_one`,
+/// and what was taken before and after it. So the laws are of all that a manager took.
 pub fn takes_are_joined()
     ensures take { (a b : Held) (now : ℕ) (w : List ℕ) (answer : Result Given Refusal)
         → Takes a now w (Some answer) b

@@ -1,4 +1,4 @@
-//! What is told of datagrams that a manager took.
+//! What a manager reports of datagrams that it took.
 
 use snmp_ber::Level;
 use snmp_msg::RefusedAt;

@@ -36,7 +36,7 @@ pub enum Line<'a> {
         /// The section in force, or the one in brackets before the word.
         section: Section,
         word: Vec<u8>,
-        /// `None` where nothing but a comment stands behind the word.
+        /// `None` if only a comment follows the word.
         text: Option<&'a [u8]>,
     },
 }
@@ -105,7 +105,7 @@ fn section_line<'a>(
     })
 }
 
-/// What a line is, without its line feed, where this section is in force. What stands behind an octet 0 isn't read.
+/// What a line is, without its line feed, where this section is in force. What follows an octet 0 isn't read.
 ///
 /// The error is out of memory.
 pub fn read_line(alloc: Global, text: &[u8], section: Section) -> Result<Line<'_>, AllocError>

@@ -180,7 +180,7 @@ fn find_cut(text: &[u8], cut: Separator) -> usize
     text.len()
 }
 
-/// The first part of a text, and what stands behind the octet that ends it; `None` where there is none.
+/// The first part of a text, and what follows the octet that ends it; `None` where there is none.
 pub(crate) fn take_part(text: &[u8], cut: Separator) -> Option<(&[u8], &[u8])>
     ensures found { IfSome result (λ r. TakesPart cut text.now r.0.now r.1.now) }
     ensures none { IfNone result (AllByRecursion (IsCut cut) text.now) }
@@ -196,7 +196,7 @@ pub(crate) fn take_part(text: &[u8], cut: Separator) -> Option<(&[u8], &[u8])>
     None
 }
 
-/// The first token of a text, which spaces, tabs and line feeds cut, and what stands behind the one that ends
+/// The first token of a text, which spaces, tabs and line feeds cut, and what follows the one that ends
 /// it; `None` where there is none.
 pub fn take_token(text: &[u8]) -> Option<(&[u8], &[u8])>
     ensures found { IfSome result (λ r. TakesToken text.now r.0.now r.1.now) }

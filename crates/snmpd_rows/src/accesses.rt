@@ -32,7 +32,7 @@ struct ConditionTokens<'a> {
     matching: &'a [u8],
 }
 
-/// The first five tokens, and what stands behind them.
+/// The first five tokens, and what follows them.
 fn take_conditions(text: &[u8]) -> Option<(ConditionTokens<'_>, &[u8])>
     ensures found { IfSome result
         (λ r. AreTokens text.now
@@ -64,7 +64,7 @@ fn context_of(token: &[u8]) -> &[u8]
     }
 }
 
-/// The conditions that a line begins with, and what stands behind them.
+/// The conditions that a line begins with, and what follows them.
 pub(crate) fn conditions_of(text: &[u8]) -> Result<(Conditions<'_>, &[u8]), LineFault>
     ensures says { IfOk result (λ r. SaysConditions text.now r.0 r.1.now) }
     ensures fault { IfErr result (TellsNoConditions text.now) }
@@ -129,7 +129,7 @@ pub(crate) fn view_name(token: &[u8]) -> Option<Name>
     }
 }
 
-/// The row of a line `access GROUP CONTEXT MODEL LEVEL MATCH READ WRITE NOTIFY`, given what stands behind the
+/// The row of a line `access GROUP CONTEXT MODEL LEVEL MATCH READ WRITE NOTIFY`, given what follows the
 /// directive.
 ///
 /// The fault is the first of `MissingWord`, `BadModel`, `BadLevel` and `BadMatching`, or else of

@@ -28,7 +28,7 @@ pub enum Note {
     Unclosed,
     /// The name in brackets is none of a section: snmpd refuses it.
     NoSection,
-    /// Nothing stands behind the directive: snmpd refuses it.
+    /// Nothing follows the directive: snmpd refuses it.
     Bare,
     /// The line has nothing to do with users and access.
     Other,
@@ -84,7 +84,7 @@ fn note_of(directive: Directive, fault: LineFault) -> Result<Entry, AllocError>
     }
 }
 
-/// What stands behind such a directive makes.
+/// The entry that the rest of the line after such a directive makes.
 fn simple_entry(
     alloc: Global,
     directive: Directive,
@@ -101,7 +101,7 @@ fn simple_entry(
     }
 }
 
-/// What stands behind `createUser` makes.
+/// The entry that the rest of the line after `createUser` makes.
 fn user_entry(alloc: Global, text: &[u8]) -> Result<Entry, AllocError>
     ensures { IfOk result (IsMade directives.CreateUser text.now) }
 {
@@ -112,7 +112,7 @@ fn user_entry(alloc: Global, text: &[u8]) -> Result<Entry, AllocError>
     }
 }
 
-/// What stands behind a directive makes, without the blanks behind it.
+/// The entry that the rest of the line after a directive makes, without the blanks at its end.
 ///
 /// The error is out of memory.
 pub fn entry_of(alloc: Global, directive: Directive, text: &[u8]) -> Result<Entry, AllocError>

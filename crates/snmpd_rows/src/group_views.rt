@@ -15,7 +15,7 @@ use snmpd_lines::{LineFault, LineRefusal, Types, level_of, model_of, take_token}
 use std::alloc::Global;
 use vacm_core::{Matching, Name};
 
-/// A group, a model and a view, and what stands behind them.
+/// A group, a model and a view, and what follows them.
 #[derive(Clone, Copy)]
 struct GroupView<'a> {
     group: &'a [u8],
@@ -41,7 +41,7 @@ fn is_option(token: &[u8]) -> bool
     token.eq_ignore_ascii_case(b"-s")
 }
 
-/// The model that stands behind an option, and the view behind it.
+/// The model after an option, and the view after that.
 fn take_model_and_view(text: &[u8]) -> Result<(u32, &[u8], &[u8]), LineFault>
     ensures found { IfOk result (λ r. HasModelAndView text.now r.0 r.1.now r.2.now) }
     ensures fault { IfErr result (TellsNoModelAndView text.now) }
@@ -94,7 +94,7 @@ fn level_for(model: u32) -> Level
     }
 }
 
-/// The level, and what stands behind it.
+/// The level, and what follows it.
 fn take_level(model: u32, text: &[u8]) -> Result<(Level, &[u8]), LineFault>
     ensures found { IfOk result (λ r. HasLevel model text.now r.0 r.1.now) }
     ensures fault { IfErr result (TellsNoLevel text.now) }
@@ -129,7 +129,7 @@ fn names_of(group: &[u8], context: &[u8]) -> Option<(Name, Name)>
     }
 }
 
-/// The views of these types that what stands behind the types sets.
+/// The views of these types that the rest of the line after the types sets.
 fn group_views(types: Types, text: &[u8]) -> Result<Setting, LineFault>
     ensures says { IfOk result (SaysGroupViews types text.now) }
     ensures fault { IfErr result (TellsNoGroupViews text.now) }
@@ -154,7 +154,7 @@ fn group_views(types: Types, text: &[u8]) -> Result<Setting, LineFault>
     })
 }
 
-/// What a line `authaccess TYPES GROUP [-s MODEL] VIEW [LEVEL [CONTEXT]]` sets, given what stands behind the directive.
+/// What a line `authaccess TYPES GROUP [-s MODEL] VIEW [LEVEL [CONTEXT]]` sets, given what follows the directive.
 ///
 /// The fault is `MissingWord` where the types, the group or the word behind `-s` is the last word, or else
 /// the first of `BadModel`, `MissingView`, `LongView`, `BadLevel` and `LongIndex`.

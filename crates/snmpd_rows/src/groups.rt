@@ -34,7 +34,7 @@ fn take_inner_name(alloc: Global, text: &[u8]) -> Result<(Name, &[u8]), LineFaul
     }
 }
 
-/// The row of a line `group GROUP MODEL NAME`, given what stands behind the directive. Its model is 0 where
+/// The row of a line `group GROUP MODEL NAME`, given what follows the directive. Its model is 0 where
 /// MODEL is `any`.
 ///
 /// The fault is `Undefined` where a word is missing behind which snmpd looks for another, `MissingWord` where

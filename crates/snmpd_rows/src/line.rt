@@ -11,7 +11,7 @@ use std::alloc::{AllocError, Global};
 #[derive(Drop)]
 pub struct MadeLine {
     pub directive: Directive,
-    /// What stands behind the directive.
+    /// What follows the directive.
     pub text: Vec<u8>,
 }
 

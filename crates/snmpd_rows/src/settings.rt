@@ -44,7 +44,7 @@ fn index_of(conditions: Conditions<'_>) -> Option<(Name, Name)>
     }
 }
 
-/// What a line `setaccess GROUP CONTEXT MODEL LEVEL MATCH TYPE VIEW` sets, given what stands behind the directive.
+/// What a line `setaccess GROUP CONTEXT MODEL LEVEL MATCH TYPE VIEW` sets, given what follows the directive.
 ///
 /// The fault is the first of `MissingWord`, `BadModel`, `BadLevel` and `BadMatching`, or else of
 /// `MissingView`, `LongView`, `BadViewType` and `LongIndex`.

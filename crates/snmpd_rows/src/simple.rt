@@ -118,7 +118,7 @@ pub(crate) fn simple_of(directive: Directive) -> Option<(SimpleKind, Option<Type
     }
 }
 
-/// The types of views, and what stands behind them.
+/// The types of views, and what follows them.
 pub(crate) fn take_types(
     alloc: Global,
     given: Option<Types>,
@@ -163,7 +163,7 @@ fn take_model_behind(alloc: Global, text: &[u8]) -> Result<Modeled<'_>, LineFaul
     })
 }
 
-/// The name, and the model that stands behind an option before it, or else this one.
+/// The name, and the model after an option before it, or else this one.
 fn take_model<'a>(
     alloc: Global,
     text: &'a [u8],
@@ -335,10 +335,10 @@ fn take_reach(alloc: Global, text: Option<&[u8]>) -> Result<Reach, LineFault>
     })
 }
 
-/// What a simple line says, given what stands behind its directive, and the types of views where the
+/// What a simple line says, given what follows its directive, and the types of views where the
 /// directive gives them.
 ///
-/// The fault is `MissingWord` where the line ends before its name, or `Undefined` where no view stands behind `-V`.
+/// The fault is `MissingWord` where the line ends before its name, or `Undefined` if no view follows `-V`.
 pub fn simple_line(
     alloc: Global,
     kind: SimpleKind,

@@ -20,7 +20,7 @@ struct ViewWords<'a> {
     mask: &'a [u8],
 }
 
-/// The first three tokens, and what stands behind them.
+/// The first three tokens, and what follows them.
 fn take_view_words(text: &[u8]) -> Option<ViewWords<'_>>
     ensures found { IfSome result (λ r. AreViewWords text.now r.view.now r.kind.now r.subtree.now r.mask.now) }
     ensures none { IfNone result (HasFewer 3 text.now) }
@@ -70,7 +70,7 @@ fn mask_of(octets: &[u8], subtree: &Oid) -> Mask
     }
 }
 
-/// The row of a line `view VIEW included|excluded SUBTREE [MASK]`, given what stands behind the directive.
+/// The row of a line `view VIEW included|excluded SUBTREE [MASK]`, given what follows the directive.
 ///
 /// The fault is the first of `MissingWord`, `BadType`, `NotInNumbers`, `BadMask` or `LongMask`, `LongIndex`
 /// and `OutOfReach`.

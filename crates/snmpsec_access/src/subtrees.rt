@@ -128,7 +128,7 @@ fn needed_of_exact<'a>(
     Ok(kept)
 }
 
-/// The rows whose lines are told: those that are needed, or all of them where one has a wildcard.
+/// The rows whose lines are printed: those that are needed, or all of them where one has a wildcard.
 pub(crate) fn needed_rows<'a>(
     alloc: Global,
     rows: Vec<&'a FamilyRow>,

@@ -11,7 +11,7 @@ use crate::subtrees::{needed_rows, rising_rows};
 use std::alloc::{AllocError, Global};
 use vacm_core::{Access, Asking, FamilyRow, Rows, Vacm};
 
-/// What is told of a question, whatever the variable.
+/// The answer to a question for all variables.
 #[derive(Drop)]
 pub(crate) enum Told<'a> {
     /// Each variable gets this answer, and no view is looked at.
@@ -20,7 +20,7 @@ pub(crate) enum Told<'a> {
     Rows(Vec<&'a FamilyRow>),
 }
 
-/// What is told of a view.
+/// The answer for a view.
 fn told_of_view<'a>(
     alloc: Global,
     rows: &'a [FamilyRow],
@@ -39,7 +39,7 @@ fn told_of_view<'a>(
     Ok(Told::Rows(needed))
 }
 
-/// What is told of a question: the first answer that applies, or the rows of its view that decide. The
+/// The answer to a question: the first answer that applies, or the rows of its view that decide. The
 /// variable isn't looked at.
 pub(crate) fn told_of<'a>(
     alloc: Global,

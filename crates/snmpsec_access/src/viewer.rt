@@ -160,7 +160,7 @@ fn any_includes(rows: &[&FamilyRow]) -> bool
     rows.iter().any(|row| row.include)
 }
 
-/// Appends what is told of the question.
+/// Appends the answer to the question.
 fn put_told(
     alloc: Global,
     out: &mut Vec<u8>,
@@ -177,7 +177,7 @@ fn put_told(
     }
 }
 
-/// What is told includes something.
+/// The answer includes something.
 fn told_includes(told: &Told<'_>) -> bool
     ensures { result ≡ includes (decision_of told.now) }
 {

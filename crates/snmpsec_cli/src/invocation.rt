@@ -1,4 +1,4 @@
-//! A command, and how much is told beside it.
+//! A command, and how much is printed beside its output.
 
 use crate::forms::form_named;
 use crate::given_words::missing;

@@ -55,7 +55,7 @@ fn print<O: Write, E: Write>(output: &Output, out: &mut O, err: &mut E) -> u8 {
     output.status
 }
 
-/// What the program prints, beside what a command wrote as it went. A person at a terminal is told what is
+/// What the program prints, beside what a command wrote as it went. At a terminal it says what is
 /// wrong without asking.
 fn answer<R: Files + Env + Input + AllocGlobal, O: Write, E: Write + IsTerminal>(
     rt: &R,

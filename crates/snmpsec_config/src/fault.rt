@@ -43,7 +43,7 @@ impl KeyFault {
     }
 }
 
-/// What is told of a key that the table doesn't list.
+/// The words for a key that the table doesn't list.
 fn unlisted_words(alloc: Global, table: ConfigTable, key: &str) -> Result<String, AllocError>
     ensures { IfOk result
         (λ words. (near : Option AKey) × IfSome near (Contains (listed table))

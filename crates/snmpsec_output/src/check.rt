@@ -32,8 +32,8 @@ pub(crate) struct Question<'a> {
 /// What `snmpsec check-access` prints for a configuration and the words MODEL, NAME, LEVEL, VIEW, CONTEXT and
 /// OID: the name of the answer, with status 0 for accessAllowed and 1 for another.
 ///
-/// The first word out of its form is told on standard error, with status 2. Then a configuration that isn't
-/// read is told by one line, with status 1. The word `@` for CONTEXT is the empty name.
+/// The first argument out of its form is reported on standard error, with status 2. Then a configuration that isn't
+/// read is reported by one line, with status 1. The word `@` for CONTEXT is the empty name.
 pub fn check_text(alloc: Global, config: &[u8], words: &[&str; 6]) -> Result<Output, AllocError>
     ensures checks { IfOk result
         (λ output. let printed : Printed = record {

@@ -16,7 +16,7 @@ use std::alloc::{AllocError, Global};
 
 /// What `snmpsec check-config` prints: a line for each table with the number of its rows, and status 0.
 ///
-/// A configuration that is refused is told by its one line on standard output, with status 1, and on standard
+/// A configuration that is refused is reported by its one line on standard output, with status 1, and on standard
 /// error by what is wrong and what is wanted. No key is made of a password.
 pub fn check_config_text(alloc: Global, config: &[u8]) -> Result<Output, AllocError>
     ensures { IfOk result

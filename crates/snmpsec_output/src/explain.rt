@@ -22,8 +22,8 @@ use vacm_core::{Asking, Explained, Rows, Vacm};
 /// What `snmpsec explain-access` prints for a configuration and the words of `check_text`: its answer, with
 /// the same status, and then a line for each row that decided, as far as it came.
 ///
-/// Positions are those of the configuration's tables, and count from 0. What isn't asked or isn't read is told as by
-/// `check_text`. No key is made of a password.
+/// Positions are those of the configuration's tables, and count from 0. What isn't asked or isn't read is reported
+/// as by `check_text`. No key is made of a password.
 pub fn explain_text(alloc: Global, config: &[u8], words: &[&str; 6]) -> Result<Output, AllocError>
     ensures { IfOk result
         (λ output. let printed : Printed = record {

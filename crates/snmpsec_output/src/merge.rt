@@ -11,7 +11,7 @@ use engine_clock::{ClockFault, Clocks};
 use std::alloc::{AllocError, Global};
 
 /// What `snmpsec merge-clocks` prints for files, each with its name: the saved text of the join of their
-/// clocks, whatever their order and repeats, with status 0. A file that isn't a saved text is told by its
+/// clocks, whatever their order and repeats, with status 0. A file that isn't a saved text is reported by its
 /// name and the number of its first faulty line, the first such file alone, with status 1. The marks of a
 /// file of version 1 were seen at `moment`, in seconds.
 pub fn merge_text(

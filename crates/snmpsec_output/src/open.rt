@@ -15,8 +15,8 @@ use usm_core::Users;
 /// What `snmpsec open CONFIG HEX` prints, without names: `open_named` prints them too. These are the lines of the
 /// message, opened by the keys of the configuration's users, as a manager does that has no clocks, with status 0.
 ///
-/// A word that isn't one or more pairs of hex digits is told on standard error, with status 2. Then a
-/// configuration that isn't read is told by one line, with status 1. A refusal of the message is a line with
+/// An argument that isn't one or more pairs of hex digits is reported on standard error, with status 2. Then a
+/// configuration that isn't read is reported by one line, with status 1. A refusal of the message is a line with
 /// status 1 too; `opened_lines` says in which order they come.
 pub fn open_text(alloc: Global, config: &[u8], digits: &str) -> Result<Output, AllocError>
     ensures { IfOk result

@@ -20,7 +20,7 @@ use std::alloc::{AllocError, Global};
 /// which the last that fits a variable says whether it may be seen. The status is 0 where a line has `+`, and
 /// else 1.
 ///
-/// A MODEL out of its form is told on standard error, with status 2; then a configuration that is refused,
+/// A MODEL out of its form is reported on standard error, with status 2; then a configuration that is refused,
 /// with what is wrong on standard error, and status 1. No key is made of a password.
 pub fn sees_text(
     alloc: Global,

@@ -99,7 +99,7 @@ fn no_octets(fault: FromHexError) -> Result<Option<Vec<u8>>, AllocError>
 /// A message is refused in this order: its outer layout (1, 2), a security model other than the user-based
 /// one (17), priv without auth (18), msgData (4), msgSecurityParameters (3), the PDU (5), and a canonical
 /// spelling of over 65,507 octets (16). A refusal is a line on standard output, with status 1. A word that
-/// isn't one or more pairs of hex digits is told on standard error, with status 2.
+/// isn't one or more pairs of hex digits is reported on standard error, with status 2.
 pub fn show_text(alloc: Global, digits: &str) -> Result<Output, AllocError>
     ensures { IfOk result
         (λ output. let printed : Printed = record {

@@ -16,7 +16,7 @@ const NUMBERS: usize = 128;
 #[derive(Clone, Copy, Debug, PartialEq, Eq, Drop)]
 pub enum VariableFault<'a> {
     Empty,
-    /// There is a dot before the first number; and what stands behind it.
+    /// There is a dot before the first number; and what follows it.
     DotInFront { rest: &'a str },
     /// There is nothing where this number stands.
     Missing { at: usize },

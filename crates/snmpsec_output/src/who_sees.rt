@@ -22,7 +22,7 @@ use vacm_core::ViewType;
 /// 0, or with status 1 where there is none.
 ///
 /// Without VIEW each view is asked for. With `only_users` there are the lines of names alone that are users'
-/// and support the level. The first word out of its form is told on standard error, with status 2; then a
+/// and support the level. The first argument out of its form is reported on standard error, with status 2; then a
 /// configuration that is refused, with what is wrong on standard error, and status 1. No key is made of a
 /// password.
 pub fn who_text(

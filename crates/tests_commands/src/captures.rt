@@ -26,13 +26,13 @@ const CAPTURE: &[u8] =
 /// The log of it.
 const LOG: &[u8] = b"1700000000 3003020103\n1700000002 3003020103\n";
 
-/// What is told of it.
+/// What is reported of it.
 const NOTES: &[u8] = b"snmpsec: record 2: fragment\nsnmpsec: passed over: another port 1\n";
 
 /// The log of its first record.
 const FIRST: &[u8] = b"1700000000 3003020103\n";
 
-/// What is told of its second record.
+/// What is reported of its second record.
 const TOLD: &[u8] = b"snmpsec: record 2: fragment\n";
 
 /// Returns an answer, and out of memory as an error of its own.
@@ -234,7 +234,7 @@ fn what_is_shown_is_read_octet_by_octet(rt: HostRuntime) -> Result<(), Fail> {
     Ok(())
 }
 
-/// Texts of each form, and what is told of each. The log of each is the same.
+/// Texts of each form, and what is reported of each. The log of each is the same.
 static TEXTS: [(Option<Form>, &[u8], &[u8]); 4] = [
     (None, b"30 03\n02 01 03\n", b""),
     (Some(Form::Hex), b"0x30,0x03, \\x02\\x01 03", b""),

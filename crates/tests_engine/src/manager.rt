@@ -126,7 +126,7 @@ fn message_to_take(alloc: Global, pair: Pair) -> Result<Waiting, Fail> {
     })
 }
 
-/// What the manager answers to the message, or None for want of memory.
+/// What the manager answers to the message, or None if memory runs out.
 fn answered(it: &mut Waiting) -> Option<Outcome> {
     match it.manager.take_one(7, &it.message) {
         Ok(outcome) => Some(outcome),
@@ -134,7 +134,7 @@ fn answered(it: &mut Waiting) -> Option<Outcome> {
     }
 }
 
-/// The same, where want of memory leaves that the manager holds nothing.
+/// What the manager answers to the message, or None if memory runs out, which leaves that it holds nothing.
 fn answered_after_refusal(rt: &impl Abort, it: &mut Waiting) -> Option<Outcome> {
     let outcome = answered(it);
     if outcome != None {
@@ -150,7 +150,7 @@ fn level_of(it: &mut Waiting) -> Result<Level, RefusedAt> {
     Ok(taken.level)
 }
 
-/// The same, where want of memory leaves that the manager holds nothing.
+/// What the manager answers to the message, or None if memory runs out, which leaves that it holds nothing.
 fn level_after_refusal(rt: &impl Abort, it: &mut Waiting) -> Result<Level, RefusedAt> {
     let level = level_of(it);
     if level != Err(RefusedAt::plain(Refusal::OutOfMemory)) {

@@ -4,7 +4,7 @@ use crate::row::Fault;
 use snmp_ber::read_decimal;
 use std::alloc::Global;
 
-/// Why a word has no octets, other than want of memory.
+/// Why a word has no octets, other than that memory runs out.
 const NO_OCTETS: Fault = Fault::Unread("a word that spells no octets");
 
 /// A place in octets.

@@ -1,4 +1,4 @@
-//! Configurations: what is read of a text, and what is told of one that isn't read.
+//! Configurations: what is read of a text, and what is reported of one that isn't read.
 
 use crate::access::question;
 use snmpsec_config::{Config, ConfigFault, level_of, level_word};

@@ -1,4 +1,4 @@
-//! Messages that are opened and read (RFC 3412, section 7.2), and how refusals are told.
+//! Messages that are opened and read (RFC 3412, section 7.2), and how refusals are reported.
 
 use snmp_incoming::{Taken, read_text, scoped_octets};
 use snmp_msg::{Refusal, RefusedAt};

@@ -63,7 +63,7 @@ impl Users {
     /// length (RFC 3414, section A.2).
     ///
     /// The error is what is wrong with the first row at fault, or OutOfMemory where none is: of one row's
-    /// faults BadUser comes first, then ShortPassword, then DuplicateUser, which is told of the later row.
+    /// faults BadUser comes first, then ShortPassword, then DuplicateUser, which is reported for the later row.
     pub fn load(alloc: Global, rows: &[UserRow]) -> Result<Users, UserFault>
         ensures sound { OnOk result (AreSound rows.now) }
         ensures users { IfOk result (λ made. made.users ≡ map user_of rows.now) }

@@ -71,7 +71,7 @@ fn is_named(rows: &[UserRow], name: &[u8]) -> bool
     rows.iter().any(|row| row.name.as_slice() == name)
 }
 
-/// What is wrong with the row at this place, of whose name it is told whether an earlier row has it.
+/// What is wrong with the row at this place, given whether an earlier row has its name.
 #[tactic(auto, unfolding(crate::specs::Rows::row_fault))]
 fn row_fault(position: usize, row: &UserRow, is_twice: bool) -> Option<UserFault>
     ensures { (earlier : List ARow) → is_twice ≡ list_any (has_name row.now.name.items) earlier

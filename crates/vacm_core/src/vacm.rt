@@ -66,8 +66,8 @@ impl Model for Vacm {
 impl Vacm {
     /// Makes the tables of these rows.
     ///
-    /// A fault is told for the first row at fault, exactly there: see `VacmFault`. Out of memory leaves
-    /// nothing behind, and may be told instead of a fault. For n rows it takes O(n log n) comparisons,
+    /// A fault is reported for the first row at fault, exactly there: see `VacmFault`. Out of memory leaves
+    /// nothing behind, and may be reported instead of a fault. For n rows it takes O(n log n) comparisons,
     /// whatever the rows and their order.
     pub fn load(alloc: Global, rows: &Rows) -> Result<Vacm, VacmFault>
         ensures sound { OnOk result (AreSound (tables_of rows.now)) }

@@ -1,4 +1,4 @@
-//! `capture_files`: a file of tcpdump is told from others, and the datagram of a packet is found.
+//! `capture_files`: a file of tcpdump is recognised, and the datagram of a packet is found.
 use capture_files::begins_capture;
 use std::test::Fail;
 

@@ -1,4 +1,4 @@
-//! `snmpd_rows`: what stands behind the directive `group` makes a row.
+//! `snmpd_rows`: the rest of a line after the directive `group` makes a row.
 use snmpd_rows::group_row;
 use std::test::Fail;
 

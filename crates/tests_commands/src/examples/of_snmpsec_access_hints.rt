@@ -1,4 +1,4 @@
-//! `snmpsec_access`: a group row whose name is no user is told.
+//! `snmpsec_access`: a group row whose name isn't a user is reported.
 use snmpsec_access::hint_text;
 use snmpsec_config::AccessConfig;
 use std::test::Fail;

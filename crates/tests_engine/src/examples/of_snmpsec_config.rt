@@ -1,4 +1,4 @@
-//! `snmpsec_config`: a configuration is read, and what is wrong with another is told.
+//! `snmpsec_config`: a configuration is read, and what is wrong with another is reported.
 use snmpsec_config::Config;
 use std::test::Fail;
 

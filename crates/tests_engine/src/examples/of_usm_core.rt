@@ -1,4 +1,4 @@
-//! `usm_core`: a datagram that is no message is refused, and where the fault stands is told.
+//! `usm_core`: a datagram that isn't a message is refused, with the place of the fault.
 use std::test::Fail;
 use usm_core::{Role, Users};
 
