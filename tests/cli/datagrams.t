@@ -290,7 +290,7 @@ Standard error says what is wrong with a dump.
   $ echo '0000 30 0' > f
   $ datagrams --form dump
   refused datagrams f line 1
-  ! snmpsec: line 1: after the offset pairs of hex digits are expected, as hexdump -C and od -tx1 print them
+  ! snmpsec: line 1: after the offset pairs of hex digits are expected, as hexdump -C prints them
   [1]
   $ cat > f <<'END'
   > 0000 30 30

@@ -162,45 +162,45 @@ The column of text doesn't match the octets.
 
   $ printf '00000000: 3031  0z\n' | read_dumps
   refused datagrams f line 1
-  ! snmpsec: line 1: after the offset pairs of hex digits are expected, as hexdump -C and od -tx1 print them
+  ! snmpsec: line 1: after the offset pairs of hex digits are expected, as hexdump -C prints them
   [1]
   $ printf '00000000: 3031  .1\n' | read_dumps
   refused datagrams f line 1
-  ! snmpsec: line 1: after the offset pairs of hex digits are expected, as hexdump -C and od -tx1 print them
+  ! snmpsec: line 1: after the offset pairs of hex digits are expected, as hexdump -C prints them
   [1]
   $ printf '00000000: 3020  .\n' | read_dumps
   refused datagrams f line 1
-  ! snmpsec: line 1: after the offset pairs of hex digits are expected, as hexdump -C and od -tx1 print them
+  ! snmpsec: line 1: after the offset pairs of hex digits are expected, as hexdump -C prints them
   [1]
   $ printf '0000  30 31  |02|\n' | read_dumps
   refused datagrams f line 1
-  ! snmpsec: line 1: after the offset pairs of hex digits are expected, as hexdump -C and od -tx1 print them
+  ! snmpsec: line 1: after the offset pairs of hex digits are expected, as hexdump -C prints them
   [1]
   $ printf '0000  30 31  |01\n' | read_dumps
   refused datagrams f line 1
-  ! snmpsec: line 1: after the offset pairs of hex digits are expected, as hexdump -C and od -tx1 print them
+  ! snmpsec: line 1: after the offset pairs of hex digits are expected, as hexdump -C prints them
   [1]
   $ printf '0000  30 31  01|\n' | read_dumps
   refused datagrams f line 1
-  ! snmpsec: line 1: after the offset pairs of hex digits are expected, as hexdump -C and od -tx1 print them
+  ! snmpsec: line 1: after the offset pairs of hex digits are expected, as hexdump -C prints them
   [1]
 
 Only blanks may be before the column.
 
   $ printf '0000  30 31  x|01|\n' | read_dumps
   refused datagrams f line 1
-  ! snmpsec: line 1: after the offset pairs of hex digits are expected, as hexdump -C and od -tx1 print them
+  ! snmpsec: line 1: after the offset pairs of hex digits are expected, as hexdump -C prints them
   [1]
   $ printf '0000  30 31  x>01<\n' | read_dumps
   refused datagrams f line 1
-  ! snmpsec: line 1: after the offset pairs of hex digits are expected, as hexdump -C and od -tx1 print them
+  ! snmpsec: line 1: after the offset pairs of hex digits are expected, as hexdump -C prints them
   [1]
 
 The column needs two blanks before it.
 
   $ printf '00000000: 302e 0.\n' | read_dumps
   refused datagrams f line 1
-  ! snmpsec: line 1: after the offset pairs of hex digits are expected, as hexdump -C and od -tx1 print them
+  ! snmpsec: line 1: after the offset pairs of hex digits are expected, as hexdump -C prints them
   [1]
 
 hexdump and od -x print numbers of two octets with the octets swapped, and xxd -e numbers of four.
@@ -210,11 +210,11 @@ hexdump and od -x print numbers of two octets with the octets swapped, and xxd -
   > 0000004
   > END
   refused datagrams f line 1
-  ! snmpsec: line 1: after the offset pairs of hex digits are expected, as hexdump -C and od -tx1 print them
+  ! snmpsec: line 1: after the offset pairs of hex digits are expected, as hexdump -C prints them
   [1]
   $ printf '00000000: 01021430  0...\n' | read_dumps
   refused datagrams f line 1
-  ! snmpsec: line 1: after the offset pairs of hex digits are expected, as hexdump -C and od -tx1 print them
+  ! snmpsec: line 1: after the offset pairs of hex digits are expected, as hexdump -C prints them
   [1]
 
 A digit is missing.
@@ -224,7 +224,7 @@ A digit is missing.
   > 0000 30 3
   > END
   refused datagrams f line 2
-  ! snmpsec: line 2: after the offset pairs of hex digits are expected, as hexdump -C and od -tx1 print them
+  ! snmpsec: line 2: after the offset pairs of hex digits are expected, as hexdump -C prints them
   [1]
 
 In a dump, other words come after an offset.
@@ -234,14 +234,14 @@ In a dump, other words come after an offset.
   > 0001 3
   > END
   refused datagrams f line 2
-  ! snmpsec: line 2: after the offset pairs of hex digits are expected, as hexdump -C and od -tx1 print them
+  ! snmpsec: line 2: after the offset pairs of hex digits are expected, as hexdump -C prints them
   [1]
   $ read_dumps <<'END'
   > 0000 30
   > 0002 words
   > END
   refused datagrams f line 2
-  ! snmpsec: line 2: after the offset pairs of hex digits are expected, as hexdump -C and od -tx1 print them
+  ! snmpsec: line 2: after the offset pairs of hex digits are expected, as hexdump -C prints them
   [1]
 
 Only the first fault is reported.

@@ -52,7 +52,7 @@ dump_note fault.NoDump = codes
 dump_note (fault.Unreadable line) =
     codes "snmpsec: line " ++ (decimal line
     ++ codes
-    ": after the offset pairs of hex digits are expected, as hexdump -C and od -tx1 print them\n")
+    ": after the offset pairs of hex digits are expected, as hexdump -C prints them\n")
 dump_note (fault.NotBegun line) =
     codes "snmpsec: line "
     ++ (decimal line ++ codes

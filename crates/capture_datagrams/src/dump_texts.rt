@@ -38,7 +38,7 @@ fn dump_note(alloc: Global, fault: DumpFault) -> Result<String, AllocError>
             "snmpsec: no line has the offset 0 and an octet after it; --form hex reads hex without offsets\n"
         ),
         DumpFault::Unreadable(line) => format!(in alloc;
-            "snmpsec: line {line}: after the offset pairs of hex digits are expected, as hexdump -C and od -tx1 print them\n"
+            "snmpsec: line {line}: after the offset pairs of hex digits are expected, as hexdump -C prints them\n"
         ),
         DumpFault::NotBegun(line) => format!(in alloc;
             "snmpsec: line {line}: no dump has begun at the offset 0; if a * replaces lines, print them with -v\n"
