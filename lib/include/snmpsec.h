@@ -166,7 +166,8 @@ SNMPSEC_CHECK int snmpsec_agent_new(const uint8_t *config, size_t config_len, co
 SNMPSEC_CHECK int snmpsec_agent_take(snmpsec_agent *agent, uint64_t now, const uint8_t *datagram, size_t datagram_len);
 /* SNMPSEC_NOTHING_TAKEN: no message is kept. */
 SNMPSEC_CHECK int snmpsec_agent_info(snmpsec_agent *agent, snmpsec_info *out);
-/* SNMPSEC_NOTHING_TAKEN; SNMPSEC_SHORT_BUFFER, and *written says how much is wanted; SNMPSEC_BAD_ARGUMENT: no such part. */
+/* SNMPSEC_SHORT_BUFFER, and *written says how much is wanted; SNMPSEC_NOTHING_TAKEN, or SNMPSEC_BAD_ARGUMENT: no such part, and nothing is
+ * written. */
 SNMPSEC_CHECK int snmpsec_agent_part(snmpsec_agent *agent, snmpsec_part part, uint8_t *out, size_t out_len, size_t *written);
 /* The message to be sent, in the same way: the report on what was taken last, or what was written since. */
 SNMPSEC_CHECK int snmpsec_agent_message(snmpsec_agent *agent, uint8_t *out, size_t out_len, size_t *written);
@@ -190,7 +191,8 @@ SNMPSEC_CHECK int snmpsec_agent_respond(snmpsec_agent *agent, uint64_t now, uint
 
 /* How many octets the sender of what is kept takes, 484 to 2147483647 (msgMaxSize): SNMPSEC_NOTHING_TAKEN. */
 SNMPSEC_CHECK int snmpsec_agent_max_size(snmpsec_agent *agent, uint32_t *out);
-/* What snmpsec_agent_respond writes, where it has at most `limit` octets; else SNMPSEC_TOO_LARGE. A Response without bindings fits into 484. */
+/* What snmpsec_agent_respond writes, where it has at most `limit` octets; else SNMPSEC_TOO_LARGE. A Response without bindings fits into 484 if
+ * contextEngineID and contextName have at most 32 octets each. */
 SNMPSEC_CHECK int snmpsec_agent_respond_within(snmpsec_agent *agent, uint64_t now, uint32_t error_status, uint32_t error_index,
                                                const uint8_t *list, size_t list_len, uint64_t salt, uint32_t limit);
 /* The Response with as many of the bindings, from the first on, as have room in `limit` octets: `*count` is how many they are. A GetBulk is

@@ -29,7 +29,12 @@ static void freed(void *block) { free(block); }
 /* what a growth gives, in two registers */
 struct tried { unsigned long ok; void *block; };
 
-static char nothing[16] __attribute__((aligned(16)));
+/* A block is aligned to so many octets, as malloc's is. The handles want no more: crates/snmp_c has that of their types, and nothing is given
+ * to whoever does. */
+enum { ALIGNED = 16 };
+_Static_assert(_Alignof(max_align_t) >= ALIGNED, "malloc aligns its blocks to 16 octets");
+
+static char nothing[ALIGNED] __attribute__((aligned(16)));
 
 /* While a handle is emptied, blocks come from this room: the empty handle is made in it, so that freeing wants no memory and leaves no
  * block. It is NULL at other times. */
@@ -42,12 +47,13 @@ static int is_in_room(const void *block) { return room && (uintptr_t)block - (ui
 static void *from_room(size_t size) {
     size_t begin = room_used;
     if (size > ROOM - begin) return NULL;
-    room_used += (size + 15) / 16 * 16;
+    room_used += (size + ALIGNED - 1) / ALIGNED * ALIGNED;
     return room + begin;
 }
 
 /* Before each block stand how many of its octets were ever asked for, and how many it has, a multiple of 16. It is aligned to 16. */
 struct head { size_t used, size; } __attribute__((aligned(16)));
+_Static_assert(sizeof(struct head) == ALIGNED, "what stands behind a head is aligned as the head is");
 
 /* the least octets that a block has, the most for which one that grows gets as many again, and the most that are wiped word by word */
 enum { LEAST = 48, MOST_DOUBLED = 1 << 16, FEW = 256 };
@@ -56,7 +62,7 @@ static struct head *head_of(void *block) { return (struct head *)block - 1; }
 
 static void *block_of(size_t used, size_t size) {
     if (size > SIZE_MAX / 2) return NULL;
-    size = (size + 15) / 16 * 16;
+    size = (size + ALIGNED - 1) / ALIGNED * ALIGNED;
     struct head *head = allocated(sizeof *head + size);
     if (!head) return NULL;
     *head = (struct head){used, size};
@@ -96,11 +102,13 @@ static struct tried tried(void *block) { return block ? (struct tried){1, block}
 
 INSIDE struct tried rattle_alloc(size_t size, size_t align) {
     size_t wanted = size ? size : align;
+    if (align > ALIGNED) return tried(NULL);
     return tried(room ? from_room(wanted) : snmpsec_inside_block(wanted));
 }
 
 INSIDE struct tried rattle_realloc(void *old, size_t kept, size_t size, size_t align) {
     size_t wanted = size ? size : align;
+    if (align > ALIGNED) return tried(NULL);
     if (!room) return tried(resized(old, kept < wanted ? kept : wanted, wanted));
     void *block = from_room(wanted);
     if (!block) return tried(NULL);
@@ -114,11 +122,13 @@ INSIDE void rattle_dealloc(void *block) {
 }
 
 void snmpsec_inside_free_handle(void *handle, int32_t (*clear)(void *handle)) {
-    _Alignas(16) char empty[ROOM];
+    _Alignas(ALIGNED) char empty[ROOM];
     room = empty;
     room_used = 0;
-    clear(handle);
+    int32_t answer = clear(handle);
     room = NULL;
+    /* Where the room is too small nothing was given back. Then the empty handle is made in the heap, where its blocks are left. */
+    if (answer) (void)clear(handle);
     snmpsec_inside_free_block(handle);
     snmpsec_inside_wipe_free_stack();
 }

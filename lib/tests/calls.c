@@ -3,6 +3,8 @@
  * Arguments out of their ranges, buffers that are too short, captured datagrams whole, cut at every length and with each bit
  * turned, and a malloc that fails at the Nth call. To be linked with -Wl,--wrap=malloc,--wrap=realloc. Not proved. */
 #include "checks.h"
+#include "inside.h"
+#include "proved.h"
 #include <stdio.h>
 #include <string.h>
 
@@ -44,6 +46,32 @@ static void check_config_fault(void) {
         check("want of memory writes nothing", 1, answer != SNMPSEC_OUT_OF_MEMORY || place.table == 9);
     }
     check("and then it is told", SNMPSEC_BAD_CONFIGURATION, answer);
+}
+
+/* Each _new of the archive writes its handle where it answers 0, which no contract says, and else nothing. */
+static void handles(void) {
+    static const char clocks[] = SNMPSEC_NO_CLOCKS;
+    void *agent = NULL, *manager = NULL;
+    int answer = SNMPSEC_OUT_OF_MEMORY;
+    check("no agent", SNMPSEC_BAD_ARGUMENT, proved_agent_new(config, config_len, engine, 4, BOOTS, NOW, &agent));
+    check("no manager", SNMPSEC_BAD_CLOCKS, proved_manager_new(config, config_len, config, 1, NOW, &manager));
+    check("no handle is written", 1, !agent && !manager);
+    for (long granted = 0; answer == SNMPSEC_OUT_OF_MEMORY; granted++) {
+        check("want of memory writes no agent", 1, !agent);
+        left = granted;
+        answer = proved_agent_new(config, config_len, engine, sizeof engine, BOOTS, NOW, &agent);
+        left = -1;
+    }
+    check("an agent is written", 1, answer == SNMPSEC_OK && agent);
+    for (long granted = 0; granted == 0 || answer == SNMPSEC_OUT_OF_MEMORY; granted++) {
+        check("want of memory writes no manager", 1, !manager);
+        left = granted;
+        answer = proved_manager_new(config, config_len, (const uint8_t *)clocks, sizeof clocks - 1, NOW, &manager);
+        left = -1;
+    }
+    check("a manager is written", 1, answer == SNMPSEC_OK && manager);
+    snmpsec_inside_free_handle(agent, proved_agent_clear);
+    snmpsec_inside_free_handle(manager, proved_manager_clear);
 }
 
 static void arguments(void) {
@@ -255,6 +283,7 @@ static void refused_memory(void) {
 
 int main(int argc, char **argv) {
     read_capture(argc, argv);
+    handles();
     arguments();
     nulls();
     words();

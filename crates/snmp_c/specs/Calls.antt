@@ -21,7 +21,7 @@ use Rattle.snmp_agent.specs.declared.unhandled.Unhandled.{Unhandled}
 use Rattle.snmp_agent.specs.Counts.{count_at, one_more}
 use Rattle.snmp_handles.specs.Bindings.{ReadsAt, WritesBinding}
 use Rattle.snmp_handles.specs.Configurations.{TellsConfig}
-use Rattle.snmp_handles.specs.Parts.{part_of, CopiesPart, CopiesMessage, AreNumbersOf, TellsMaxSize}
+use Rattle.snmp_handles.specs.Parts.{part_of, CopiesNothing, CopiesPart, CopiesMessage, AreNumbersOf, TellsMaxSize}
 use Rattle.snmp_incoming.specs.Outcome.{Given}
 use Rattle.snmp_msg.specs.Values.{IsValueOf}
 use Rattle.snmp_handles.specs.Agents.{AgentHeld, Clears, MakesAgent, TakesHeld, TakesNoMemory, AllowsHeld, MaySee}
@@ -108,15 +108,15 @@ DropsSilently old new answer = (answer ≡ pos 0)
 -- ---- what is kept
 
 -- the part of this number of what is kept is in the buffer
-abbrev pub TellsPart : ℕ → List ℕ → List ℕ → ℕ → AgentHeld → AgentHeld → ℤ → Type 0
-TellsPart n out out_new written old new answer =
-    (new ≡ old) × MatchOption (part_of n) ((answer ≡ fault_code BadArgument) × (out_new ≡ out))
-    (λ part. Done (λ told. CopiesPart old.last part out out_new written told) answer)
+abbrev pub TellsPart : ℕ → List ℕ → List ℕ → ℕ → ℕ → AgentHeld → AgentHeld → ℤ → Type 0
+TellsPart n out out_new written written_new old new answer = (new ≡ old)
+    × MatchOption (part_of n) ((answer ≡ fault_code BadArgument) × CopiesNothing out out_new written written_new)
+    (λ part. Done (λ told. CopiesPart old.last part out out_new written written_new told) answer)
 
 -- the message to be sent is in the buffer
-abbrev pub TellsMessage : List ℕ → List ℕ → ℕ → AgentHeld → AgentHeld → ℤ → Type 0
-TellsMessage out out_new written old new answer = (new ≡ old)
-    × Done (λ told. CopiesMessage old.message out out_new written told) answer
+abbrev pub TellsMessage : List ℕ → List ℕ → ℕ → ℕ → AgentHeld → AgentHeld → ℤ → Type 0
+TellsMessage out out_new written written_new old new answer = (new ≡ old)
+    × Done (λ told. CopiesMessage old.message out out_new written written_new told) answer
 
 -- the numbers of what is kept are in the front of the buffer, or it is too short
 abbrev pub HasNumbers : Given → List ℤ → List ℤ → ℤ → Type 0
@@ -141,8 +141,9 @@ abbrev pub ReadsBinding : List ℕ → ℕ → List ℕ → List ℕ → List �
 ReadsBinding list at arcs arcs_new numbers numbers_new answer = Done
     (ReadsAt list at arcs arcs_new numbers numbers_new) answer
 
-abbrev pub Writes : List ℕ → ℕ → List ℕ → List ℕ → List ℕ → ℕ → ℤ → Type 0
-Writes arcs tag content out out_new written answer = Done (WritesBinding arcs tag content out out_new written) answer
+abbrev pub Writes : List ℕ → ℕ → List ℕ → List ℕ → List ℕ → ℕ → ℕ → ℤ → Type 0
+Writes arcs tag content out out_new written written_new answer = Done
+    (WritesBinding arcs tag content out out_new written written_new) answer
 
 -- whether it is the content of a value with this tag
 abbrev pub IsValueCode : ℕ → List ℕ → ℤ → Type 0

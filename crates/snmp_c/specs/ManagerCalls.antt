@@ -8,7 +8,7 @@ use Rattle.snmp_manager.specs.Takes.{TakesNoMemory}
 use Rattle.snmp_handles.specs.declared.fault.CallFault.{CallFault}
 use Rattle.snmp_handles.specs.declared.fault.CallFault.TheVariants.{BadArgument, NothingTaken, ShortBuffer}
 use Rattle.snmp_handles.specs.Faults.{code, answer_code, value_code, fault_code}
-use Rattle.snmp_handles.specs.Parts.{part_of, CopiesPart, CopiesMessage, TellsMaxSize}
+use Rattle.snmp_handles.specs.Parts.{part_of, CopiesNothing, CopiesPart, CopiesMessage, TellsMaxSize}
 use Rattle.snmp_handles.specs.Reports.{TakesAnswer, TellsReport}
 use Rattle.snmp_manager.specs.declared.replies.Report.{Report}
 use Rattle.snmp_handles.specs.Managers.{ManagerHeld, Asking, MakesManager, ClearsManager, ManagerTakes, TellsAnswer}
@@ -88,14 +88,14 @@ ToldReport out out_new old new answer =
 
 -- ---- what is kept
 
-abbrev pub ManagerPart : ℕ → List ℕ → List ℕ → ℕ → ManagerHeld → ManagerHeld → ℤ → Type 0
-ManagerPart n out out_new written old new answer =
-    (new ≡ old) × MatchOption (part_of n) ((answer ≡ fault_code BadArgument) × (out_new ≡ out))
-    (λ part. Done (λ told. CopiesPart old.last part out out_new written told) answer)
+abbrev pub ManagerPart : ℕ → List ℕ → List ℕ → ℕ → ℕ → ManagerHeld → ManagerHeld → ℤ → Type 0
+ManagerPart n out out_new written written_new old new answer = (new ≡ old)
+    × MatchOption (part_of n) ((answer ≡ fault_code BadArgument) × CopiesNothing out out_new written written_new)
+    (λ part. Done (λ told. CopiesPart old.last part out out_new written written_new told) answer)
 
-abbrev pub ManagerMessage : List ℕ → List ℕ → ℕ → ManagerHeld → ManagerHeld → ℤ → Type 0
-ManagerMessage out out_new written old new answer = (new ≡ old)
-    × Done (λ told. CopiesMessage old.message out out_new written told) answer
+abbrev pub ManagerMessage : List ℕ → List ℕ → ℕ → ℕ → ManagerHeld → ManagerHeld → ℤ → Type 0
+ManagerMessage out out_new written written_new old new answer = (new ≡ old)
+    × Done (λ told. CopiesMessage old.message out out_new written written_new told) answer
 
 abbrev pub ManagerNumbers : List ℤ → List ℤ → ManagerHeld → ManagerHeld → ℤ → Type 0
 ManagerNumbers out out_new old new answer =

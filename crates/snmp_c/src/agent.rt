@@ -1,5 +1,6 @@
 //! An agent behind a pointer.
 
+ghost use Rattle.std.specs.Prelude.{◌≡◌, ◌≢◌, pos};
 ghost use Rattle.std.specs.Borrow.{full_share, sem};
 ghost use Rattle.std.specs.Ptr.{lies_at};
 ghost use Rattle.snmp_handles.specs.contracts.agent.AgentHandle as agents;
@@ -13,10 +14,14 @@ use crate::agent_calls::{
 use snmp_handles::{AgentHandle, CallFault};
 use snmp_msg::Refusal;
 use std::alloc::Global;
+use std::mem::align_of;
+
+// The heap in lib/src aligns its blocks to 16 octets.
+const _: () = prove!(align_of::<AgentHandle>() <= 16);
 
 /// Makes an agent of this configuration, in TOML, with this engine ID and these boots, which started at the
 /// moment `started`, in seconds, and writes the pointer to it. Where it answers another number than 0,
-/// nothing is written.
+/// nothing is written. That the pointer is written where it answers 0 is trusted, and tested from C.
 ///
 /// It answers -1 where the engine ID hasn't 5 to 32 octets, or has only 0 or only 255 (SnmpEngineID, RFC
 /// 3411, section 5), or boots are above 2147483647, -6 where the configuration is refused, and 14 for want of
@@ -30,7 +35,8 @@ pub extern "C" fn proved_agent_new(
     started: u64,
     out: &mut *mut u8,
 ) -> i32
-    ensures { Makes config.now engine.now boots started result }
+    ensures made { Makes config.now engine.now boots started result }
+    ensures unwritten { result ≢ pos 0 → out.new ≡ out.old }
 {
     let handle = match AgentHandle::of(alloc, config, engine, boots, started) {
         Ok(handle) => handle,
@@ -210,7 +216,7 @@ pub unsafe extern "C" fn proved_agent_part(
     ghost held: { AgentHeld }
     requires* { sem 𝓛 (lies_at agents.the_row full_share at held) }
     ensures* { ∃ₛ (λ (new : AgentHeld). sem 𝓛
-        (lies_at agents.the_row full_share at new) ∗ ⌜ TellsPart number out.old out.new written.new held
+        (lies_at agents.the_row full_share at new) ∗ ⌜ TellsPart number out.old out.new written.old written.new held
         new result ⌝) }
 {
     part(&mut *(at as *mut AgentHandle), number, out, written)
@@ -228,7 +234,7 @@ pub unsafe extern "C" fn proved_agent_message(
     ghost held: { AgentHeld }
     requires* { sem 𝓛 (lies_at agents.the_row full_share at held) }
     ensures* { ∃ₛ (λ (new : AgentHeld). sem 𝓛
-        (lies_at agents.the_row full_share at new) ∗ ⌜ TellsMessage out.old out.new written.new held
+        (lies_at agents.the_row full_share at new) ∗ ⌜ TellsMessage out.old out.new written.old written.new held
         new result ⌝) }
 {
     message(&mut *(at as *mut AgentHandle), out, written)

@@ -98,7 +98,7 @@ pub(crate) fn part(
     out: &mut [u8],
     written: &mut usize,
 ) -> i32
-    ensures { TellsPart number out.old out.new written.new handle.old handle.new result }
+    ensures { TellsPart number out.old out.new written.old written.new handle.old handle.new result }
 {
     match Part::of(number) {
         Some(part) => code_of(handle.part(part, out, written)),
@@ -108,7 +108,7 @@ pub(crate) fn part(
 
 /// Copies the message that is to be sent.
 pub(crate) fn message(handle: &mut AgentHandle, out: &mut [u8], written: &mut usize) -> i32
-    ensures { TellsMessage out.old out.new written.new handle.old handle.new result }
+    ensures { TellsMessage out.old out.new written.old written.new handle.old handle.new result }
 {
     code_of(handle.message(out, written))
 }

@@ -35,7 +35,7 @@ pub extern "C" fn proved_binding_write(
     out: &mut [u8],
     written: &mut usize,
 ) -> i32
-    ensures { Writes arcs.now tag content.now out.old out.new written.new result }
+    ensures { Writes arcs.now tag content.now out.old out.new written.old written.new result }
 {
     code_of(write_binding(alloc, arcs, tag, content, out, written))
 }

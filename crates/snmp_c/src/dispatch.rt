@@ -28,7 +28,7 @@ pub unsafe extern "C" fn proved_agent_max_size(at: *mut u8) -> i64
 
 /// What `proved_agent_respond` writes where that has at most `limit` octets, and else 16 (TooLarge): then a
 /// tooBig is sent by calling it again with status 1 and no bindings (RFC 3416, section 4.2.1), for which 484
-/// octets are enough.
+/// octets are enough if contextEngineID and contextName have at most 32 octets each.
 #[unsafe(no_mangle)]
 pub unsafe extern "C" fn proved_agent_respond_within(
     at: *mut u8,

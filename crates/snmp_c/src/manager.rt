@@ -1,5 +1,6 @@
 //! A manager behind a pointer.
 
+ghost use Rattle.std.specs.Prelude.{◌≡◌, ◌≢◌, pos};
 ghost use Rattle.std.specs.Borrow.{full_share, sem};
 ghost use Rattle.std.specs.Ptr.{lies_at};
 ghost use Rattle.snmp_handles.specs.contracts.manager.ManagerHandle as managers;
@@ -13,11 +14,18 @@ use crate::manager_calls::{
 use snmp_handles::{CallFault, ManagerHandle};
 use snmp_msg::Refusal;
 use std::alloc::Global;
+use std::mem::align_of;
+
+// The heap in lib/src aligns its blocks to 16 octets.
+const _: () = prove!(align_of::<ManagerHandle>() <= 16);
 
 /// Makes a manager with the users of this configuration, in TOML, that begins with the clocks of this saved
 /// text, where the marks of version 1 were seen at the moment `now`, in seconds, and writes the pointer to
-/// it. Where it answers another number than 0, nothing is written: -7 where the text saves no clocks, -6
-/// where the configuration is refused, 14 if memory runs out.
+/// it. Where it answers another number than 0, nothing is written. That the pointer is written where it
+/// answers 0 is trusted, and tested from C.
+///
+/// It answers -7 where the text saves no clocks, -6 where the configuration is refused, and 14 if memory runs
+/// out.
 #[unsafe(no_mangle)]
 pub extern "C" fn proved_manager_new(
     alloc: Global,
@@ -26,7 +34,8 @@ pub extern "C" fn proved_manager_new(
     now: u64,
     out: &mut *mut u8,
 ) -> i32
-    ensures { MakesAManager config.now clocks.now now result }
+    ensures made { MakesAManager config.now clocks.now now result }
+    ensures unwritten { result ≢ pos 0 → out.new ≡ out.old }
 {
     let handle = match ManagerHandle::of(alloc, config, clocks, now) {
         Ok(handle) => handle,
@@ -197,7 +206,7 @@ pub unsafe extern "C" fn proved_manager_part(
     ghost held: { ManagerHeld }
     requires* { sem 𝓛 (lies_at managers.the_row full_share at held) }
     ensures* { ∃ₛ (λ (new : ManagerHeld). sem 𝓛
-        (lies_at managers.the_row full_share at new) ∗ ⌜ ManagerPart number out.old out.new written.new held
+        (lies_at managers.the_row full_share at new) ∗ ⌜ ManagerPart number out.old out.new written.old written.new held
         new result ⌝) }
 {
     part(&mut *(at as *mut ManagerHandle), number, out, written)
@@ -213,7 +222,7 @@ pub unsafe extern "C" fn proved_manager_message(
     ghost held: { ManagerHeld }
     requires* { sem 𝓛 (lies_at managers.the_row full_share at held) }
     ensures* { ∃ₛ (λ (new : ManagerHeld). sem 𝓛
-        (lies_at managers.the_row full_share at new) ∗ ⌜ ManagerMessage out.old out.new written.new held
+        (lies_at managers.the_row full_share at new) ∗ ⌜ ManagerMessage out.old out.new written.old written.new held
         new result ⌝) }
 {
     message(&mut *(at as *mut ManagerHandle), out, written)

@@ -119,7 +119,7 @@ pub(crate) fn part(
     out: &mut [u8],
     written: &mut usize,
 ) -> i32
-    ensures { ManagerPart number out.old out.new written.new handle.old handle.new result }
+    ensures { ManagerPart number out.old out.new written.old written.new handle.old handle.new result }
 {
     match Part::of(number) {
         Some(part) => code_of(handle.part(part, out, written)),
@@ -129,7 +129,7 @@ pub(crate) fn part(
 
 /// Copies the message that is to be sent.
 pub(crate) fn message(handle: &mut ManagerHandle, out: &mut [u8], written: &mut usize) -> i32
-    ensures { ManagerMessage out.old out.new written.new handle.old handle.new result }
+    ensures { ManagerMessage out.old out.new written.old written.new handle.old handle.new result }
 {
     code_of(handle.message(out, written))
 }

@@ -17,7 +17,7 @@
 use Rattle.snmp_message.specs.Numbers.{in_table}
 use Rattle.snmp_message.specs.declared.refusal.Refusal.{Refusal}
 use Rattle.std.specs.Prelude.{◌≡◌, ◌<◌, ◌≤◌, ◌⊎◌, All, ℕ, pos, List, [], length, replicate, Option, Some, None}
-use Rattle.std.specs.Prelude.{Result, Ok, Err, IfSome, false, true}
+use Rattle.std.specs.Prelude.{Result, Ok, Err, IfSome, IsSome, false, true}
 use Rattle.snmp_ber.specs.declared.level.Level.{Level}
 use Rattle.snmp_ber.specs.declared.number.TheConstants.{MAX_INTEGER32}
 use Rattle.snmp_message.specs.Scoped.{Contexts, ScopedFront}
@@ -139,16 +139,17 @@ AreNoArcs arcs = (length arcs < 1) ⊎ (128 < length arcs)
 abbrev pub AllowsHeld : AgentHeld → ℕ → List ℕ → Result Access CallFault → Type 0
 AllowsHeld held view arcs (Ok access) =
     (g : Given) × (asked : ViewType) × (held.last ≡ Some g) × (view_of view ≡ Some asked)
+    × (AreNoArcs arcs → ⊥)
     × ((c : Contexts) → ScopedFront g.text c → Allowed held.agent.tables (question_of g c) asked arcs access)
 AllowsHeld held view arcs (Err BadArgument) = (view_of view ≡ None) ⊎ AreNoArcs arcs
-AllowsHeld held view arcs (Err NothingTaken) = held.last ≡ None
+AllowsHeld held view arcs (Err NothingTaken) = (held.last ≡ None) × IsSome (view_of view) × (AreNoArcs arcs → ⊥)
 AllowsHeld held view arcs (Err _) = ⊥
 
 -- whether this user at this level may see the variable in this context
 abbrev pub MaySee : AgentHeld → List ℕ → ℕ → List ℕ → ℕ → List ℕ → Result Access CallFault → Type 0
 MaySee held user level context view arcs (Ok access) =
     (at : Level) × (asked : ViewType) × (level_of level ≡ Some at) × (view_of view ≡ Some asked)
-    × Allowed held.agent.tables (question user at context) asked arcs access
+    × (AreNoArcs arcs → ⊥) × Allowed held.agent.tables (question user at context) asked arcs access
 MaySee held user level context view arcs (Err BadArgument) = (level_of level ≡ None)
     ⊎ ((view_of view ≡ None) ⊎ AreNoArcs arcs)
 MaySee held user level context view arcs (Err _) = ⊥
@@ -183,17 +184,22 @@ StopsResponse agent now g status index list salt fault =
 abbrev pub HasNoBindings : AgentState → ℕ → Given → List ℕ → Type 0
 HasNoBindings agent now g list = CanSendAt agent now g.user g.level × ((vs : List Variable) → AreBindings vs list → ⊥)
 
+-- error-status and error-index are in their range
+abbrev pub AreInRange : ℕ → ℕ → Type 0
+AreInRange status index = (status ≤ MAX_INTEGER32) × (index ≤ MAX_INTEGER32)
+
 -- Why what is kept isn't answered with the bindings that these octets are, the first that applies: the
 -- numbers are out of range, nothing is kept, it isn't asked for an answer; then what stops the answer itself,
 -- or that the octets aren't bindings.
 abbrev pub RefusesAnswer : AgentHeld → ℕ → ℕ → ℕ → List ℕ → (Given → Refusal → Type 0) → CallFault → Type 0
-RefusesAnswer held now status index list Stops (Refused fault) = (g : Given) × IsAsked held g × Stops g fault
+RefusesAnswer held now status index list Stops (Refused fault) = AreInRange status index
+    × ((g : Given) × IsAsked held g × Stops g fault)
 RefusesAnswer held now status index list Stops BadArgument = (MAX_INTEGER32 < status) ⊎ (MAX_INTEGER32 < index)
-RefusesAnswer held now status index list Stops NothingTaken = held.last ≡ None
-RefusesAnswer held now status index list Stops NotAsked = (g : Given) × (held.last ≡ Some g)
-    × (is_confirmed g.tag ≡ false)
-RefusesAnswer held now status index list Stops BadBindings = (g : Given) × IsAsked held g
-    × HasNoBindings held.agent now g list
+RefusesAnswer held now status index list Stops NothingTaken = AreInRange status index × (held.last ≡ None)
+RefusesAnswer held now status index list Stops NotAsked = AreInRange status index
+    × ((g : Given) × (held.last ≡ Some g) × (is_confirmed g.tag ≡ false))
+RefusesAnswer held now status index list Stops BadBindings = AreInRange status index
+    × ((g : Given) × IsAsked held g × HasNoBindings held.agent now g list)
 RefusesAnswer held now status index list Stops _ = ⊥
 
 abbrev pub RefusesResponse : AgentHeld → ℕ → ℕ → ℕ → List ℕ → List ℕ → CallFault → Type 0
@@ -207,9 +213,9 @@ LeavesMessage old text new = new ≡ record old { message = Some text }
 -- The Response to what is kept is to be sent. A refusal changes nothing.
 abbrev pub RespondsHeld : {V : Type 0} → AgentHeld → ℕ → ℕ → ℕ → List ℕ → List ℕ → Result V CallFault
     → AgentHeld → Type 0
-RespondsHeld old now status index list salt (Ok done) new =
-    (g : Given) × (text : List ℕ) × IsAsked old g × Responds old.agent now g status index list salt (Ok text)
-    × LeavesMessage old text new
+RespondsHeld old now status index list salt (Ok done) new = AreInRange status index
+    × ((g : Given) × (text : List ℕ) × IsAsked old g × Responds old.agent now g status index list salt (Ok text)
+    × LeavesMessage old text new)
 RespondsHeld old now status index list salt (Err fault) new = RefusesResponse old now status index list salt fault
     × (new ≡ old)
 
@@ -260,17 +266,17 @@ IsNoticeOutOfRange n = (level_of n.level ≡ None)
     ⊎ ((MAX_INTEGER32 < n.id) ⊎ ((MAX_INTEGER32 < n.request_id) ⊎ (32 < length n.user)))
 
 abbrev pub RefusesNotice : AgentHeld → ℕ → Notice → List ℕ → List ℕ → CallFault → Type 0
-RefusesNotice held now n list salt (Refused fault) = (at : Level) × (level_of n.level ≡ Some at)
-    × StopsNotice held.agent now n at list salt fault
+RefusesNotice held now n list salt (Refused fault) = (IsNoticeOutOfRange n → ⊥)
+    × ((at : Level) × (level_of n.level ≡ Some at) × StopsNotice held.agent now n at list salt fault)
 RefusesNotice held now n list salt BadArgument = IsNoticeOutOfRange n
-RefusesNotice held now n list salt BadBindings =
-    (at : Level) × (level_of n.level ≡ Some at) × CanSendAt held.agent now n.user at
-    × ((vs : List Variable) → AreBindings vs list → ⊥)
+RefusesNotice held now n list salt BadBindings = (IsNoticeOutOfRange n → ⊥)
+    × ((at : Level) × (level_of n.level ≡ Some at) × CanSendAt held.agent now n.user at
+    × ((vs : List Variable) → AreBindings vs list → ⊥))
 RefusesNotice held now n list salt _ = ⊥
 
 -- The notification is to be sent. A refusal changes nothing.
 abbrev pub NotifiesHeld : {V : Type 0} → AgentHeld → ℕ → Notice → List ℕ → List ℕ → Result V CallFault
     → AgentHeld → Type 0
-NotifiesHeld old now n list salt (Ok done) new = (text : List ℕ) × Notifies old.agent now n list salt (Ok text)
-    × LeavesMessage old text new
+NotifiesHeld old now n list salt (Ok done) new = (IsNoticeOutOfRange n → ⊥)
+    × ((text : List ℕ) × Notifies old.agent now n list salt (Ok text) × LeavesMessage old text new)
 NotifiesHeld old now n list salt (Err fault) new = RefusesNotice old now n list salt fault × (new ≡ old)

@@ -2,12 +2,12 @@
 --
 -- `RefusesBindings`: why octets aren't taken as bindings. `ReadsOne`, `ReadsAt`: a binding of a list with
 -- its places; `BeginsNone`: none begins there; `LacksRoom`: one does, and a buffer is too short.
--- `WritesBinding`: one is written.
-use Rattle.std.specs.Prelude.{◌≡◌, ◌<◌, ◌⊎◌, ◌++◌, ℕ, List, [], ◌∷◌, length, drop, slice_range, Result, Ok, Err}
+-- `WritesBinding`: one is written; `IsWritable`: what is asked of it.
+use Rattle.std.specs.Prelude.{◌≡◌, ◌<◌, ◌≤◌, ◌⊎◌, ◌++◌, ℕ, List, [], ◌∷◌, length, drop, slice_range, Result, Ok, Err}
 use Rattle.snmp_ber.specs.Oid.{AreArcs}
 use Rattle.snmp_msg.specs.Variables.{Variable, IsBinding, AreBindings, CanBeWritten, variable_text}
 use Rattle.snmp_message.specs.declared.refusal.Refusal.TheVariants.{OutOfMemory}
-use Rattle.snmp_handles.specs.Parts.{Copies}
+use Rattle.snmp_handles.specs.Parts.{Copies, CopiesNothing}
 use Rattle.snmp_handles.specs.declared.fault.CallFault.{CallFault}
 use Rattle.snmp_handles.specs.declared.fault.CallFault.TheVariants.{Refused, BadArgument, BadBindings, ShortBuffer}
 
@@ -56,17 +56,23 @@ abbrev pub ReadsAt : {V : Type 0} → List ℕ → ℕ → List ℕ → List ℕ
 ReadsAt list at arcs arcs_new numbers numbers_new (Ok done) = ReadsOne list at arcs arcs_new numbers numbers_new
 ReadsAt list at arcs arcs_new numbers numbers_new (Err BadArgument) = (length list < at)
     × AreLeft arcs arcs_new numbers numbers_new
-ReadsAt list at arcs arcs_new numbers numbers_new (Err BadBindings) = BeginsNone list at
+ReadsAt list at arcs arcs_new numbers numbers_new (Err BadBindings) = (at ≤ length list) × BeginsNone list at
     × AreLeft arcs arcs_new numbers numbers_new
 ReadsAt list at arcs arcs_new numbers numbers_new (Err ShortBuffer) =
     LacksRoom list at arcs numbers × AreLeft arcs arcs_new numbers numbers_new
 ReadsAt list at arcs arcs_new numbers numbers_new (Err _) = ⊥
 
+-- The arcs and the tag are a binding's, and the content is no longer than a datagram.
+abbrev pub IsWritable : List ℕ → ℕ → List ℕ → Type 0
+IsWritable arcs tag content = CanBeWritten (record { name = arcs; tag = tag; content = content })
+    × (tag ≤ 255) × (length content ≤ 65507)
+
 -- The binding is in the front of the buffer.
-abbrev pub WritesBinding : {V : Type 0} → List ℕ → ℕ → List ℕ → List ℕ → List ℕ → ℕ → Result V CallFault → Type 0
-WritesBinding arcs tag content out out_new written (Err BadArgument) =
-    (AreArcs arcs → CanBeWritten (record { name = arcs; tag = tag; content = content })
-    → ((255 < tag) ⊎ (65507 < length content))) × (out_new ≡ out)
-WritesBinding arcs tag content out out_new written (Err (Refused fault)) = (fault ≡ OutOfMemory) × (out_new ≡ out)
-WritesBinding arcs tag content out out_new written told = Copies
-    (variable_text (record { name = arcs; tag = tag; content = content })) out out_new written told
+abbrev pub WritesBinding : {V : Type 0} → List ℕ → ℕ → List ℕ → List ℕ → List ℕ → ℕ → ℕ → Result V CallFault
+    → Type 0
+WritesBinding arcs tag content out out_new written written_new (Err BadArgument) =
+    (AreArcs arcs → IsWritable arcs tag content → ⊥) × CopiesNothing out out_new written written_new
+WritesBinding arcs tag content out out_new written written_new (Err (Refused fault)) = IsWritable arcs tag content
+    × (fault ≡ OutOfMemory) × CopiesNothing out out_new written written_new
+WritesBinding arcs tag content out out_new written written_new told = IsWritable arcs tag content
+    × Copies (variable_text (record { name = arcs; tag = tag; content = content })) out out_new written_new told

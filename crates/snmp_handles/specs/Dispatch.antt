@@ -18,7 +18,7 @@ use Rattle.snmp_agent.specs.Responses.{responding}
 use Rattle.snmp_agent.specs.Sent.{Sends, SendsFront, CanSendAt, RefusesSenderAt}
 use Rattle.snmp_agent.specs.Dispatch.{HandledBy, Refuses, RefusalCanBeSent}
 use Rattle.snmp_agent.specs.declared.unhandled.Unhandled.{Unhandled}
-use Rattle.snmp_handles.specs.Agents.{AgentHeld, IsAsked, RefusesAnswer, LeavesMessage}
+use Rattle.snmp_handles.specs.Agents.{AgentHeld, IsAsked, AreInRange, RefusesAnswer, LeavesMessage}
 use Rattle.snmp_handles.specs.Between.{Answering}
 use Rattle.snmp_handles.specs.declared.fault.CallFault.{CallFault}
 use Rattle.snmp_handles.specs.declared.fault.CallFault.TheVariants.{Refused, NothingTaken}
@@ -48,9 +48,9 @@ RefusesWithin held now status index list salt limit fault =
 -- The Response to what is kept, of at most so many octets, is to be sent. A refusal changes nothing.
 abbrev pub RespondsHeldWithin : {V : Type 0} → AgentHeld → ℕ → ℕ → ℕ → List ℕ → List ℕ → ℕ → Result V CallFault
     → AgentHeld → Type 0
-RespondsHeldWithin old now status index list salt limit (Ok done) new =
-    (g : Given) × (text : List ℕ) × IsAsked old g
-    × RespondsWithin old.agent now g status index list salt limit (Ok text) × LeavesMessage old text new
+RespondsHeldWithin old now status index list salt limit (Ok done) new = AreInRange status index
+    × ((g : Given) × (text : List ℕ) × IsAsked old g
+    × RespondsWithin old.agent now g status index list salt limit (Ok text) × LeavesMessage old text new)
 RespondsHeldWithin old now status index list salt limit
     (Err fault) new = RefusesWithin old now status index list salt limit fault × (new ≡ old)
 
@@ -74,10 +74,10 @@ StopsFront agent now g status index list salt limit fault =
 -- The Response to what is kept, with the longest front that has room, is to be sent, and its count is told. A
 -- refusal changes nothing.
 abbrev pub RespondsHeldFront : AgentHeld → ℕ → ℕ → ℕ → List ℕ → List ℕ → ℕ → Result ℕ CallFault → AgentHeld → Type 0
-RespondsHeldFront old now status index list salt limit (Ok count) new =
-    (g : Given) × (text : List ℕ) × IsAsked old g
+RespondsHeldFront old now status index list salt limit (Ok count) new = AreInRange status index
+    × ((g : Given) × (text : List ℕ) × IsAsked old g
     × RespondsFront old.agent now g status index list salt limit (Ok (record { text = text; count = count }))
-    × LeavesMessage old text new
+    × LeavesMessage old text new)
 RespondsHeldFront old now status index list salt limit (Err fault) new =
     RefusesAnswer old now status index list (λ g f. StopsFront old.agent now g status index list salt limit f) fault
     × (new ≡ old)

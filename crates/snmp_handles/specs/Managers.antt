@@ -6,7 +6,7 @@
 -- `TellsPair`: its calls. `asked`: the request; `Waits`: it is to be sent, and its answer is waited for.
 use Rattle.snmp_message.specs.declared.refusal.Refusal.{Refusal}
 use Rattle.std.specs.FinMap as map
-use Rattle.std.specs.Prelude.{◌≡◌, ◌<◌, ◌⊎◌, ℕ, pos, List, [], length, Option, Some, None, Result, Ok, Err, IfSome}
+use Rattle.std.specs.Prelude.{◌≡◌, ◌<◌, ◌≤◌, ◌⊎◌, ℕ, pos, List, [], length, Option, Some, None, Result, Ok, Err, IfSome}
 use Rattle.snmp_ber.specs.declared.level.Level.{Level}
 use Rattle.snmp_ber.specs.declared.level.Level.TheVariants.{NoAuthNoPriv}
 use Rattle.snmp_ber.specs.declared.number.TheConstants.{MAX_INTEGER32}
@@ -150,12 +150,13 @@ StopsRequest held now ask level list salt fault =
     ⊎ (CanSend held.users ask.user level × IfSome (refusal_answer fault) (AsksAt held now ask level list salt))
 
 abbrev pub RefusesRequest : ManagerHeld → ℕ → Asking → List ℕ → List ℕ → CallFault → Type 0
-RefusesRequest held now ask list salt (Refused fault) = (level : Level) × (level_of ask.level ≡ Some level)
-    × StopsRequest held.manager now ask level list salt fault
+RefusesRequest held now ask list salt (Refused fault) = (IsOutOfRange ask → ⊥)
+    × ((level : Level) × (level_of ask.level ≡ Some level)
+    × StopsRequest held.manager now ask level list salt fault)
 RefusesRequest held now ask list salt BadArgument = IsOutOfRange ask
-RefusesRequest held now ask list salt BadBindings =
-    (level : Level) × (level_of ask.level ≡ Some level) × CanSend held.manager.users ask.user level
-    × ((vs : List Variable) → AreBindings vs list → ⊥)
+RefusesRequest held now ask list salt BadBindings = (IsOutOfRange ask → ⊥)
+    × ((level : Level) × (level_of ask.level ≡ Some level) × CanSend held.manager.users ask.user level
+    × ((vs : List Variable) → AreBindings vs list → ⊥))
 RefusesRequest held now ask list salt _ = ⊥
 
 -- The message is to be sent, and its answer is waited for.
@@ -164,20 +165,20 @@ Waits old text pending new = new ≡ record old { message = Some text; pending =
 
 abbrev pub RequestsHeld : {V : Type 0} → ManagerHeld → ℕ → Asking → List ℕ → List ℕ → Result V CallFault
     → ManagerHeld → Type 0
-RequestsHeld old now ask list salt (Ok done) new =
-    (level : Level) × (text : List ℕ) × (a : Pending) × (level_of ask.level ≡ Some level)
+RequestsHeld old now ask list salt (Ok done) new = (IsOutOfRange ask → ⊥)
+    × ((level : Level) × (text : List ℕ) × (a : Pending) × (level_of ask.level ≡ Some level)
     × AsksAt old.manager now ask level list salt (Ok text)
     × Remembers a ask.id ask.engine ask.user level ask.context_engine ask.context_name (pos ask.request_id)
-    × Waits old text a new
+    × Waits old text a new)
 RequestsHeld old now ask list salt (Err fault) new = RefusesRequest old now ask list salt fault × (new ≡ old)
 
 -- The discovery request is to be sent, and its answer is waited for.
 abbrev pub DiscoversHeld : {V : Type 0} → ManagerHeld → ℕ → Result V CallFault → ManagerHeld → Type 0
-DiscoversHeld old id (Ok done) new =
-    (text : List ℕ) × (a : Pending) × Seals old.manager.users (discovering id) (Ok text)
-    × Remembers a id [] [] NoAuthNoPriv [] [] (pos id) × Waits old text a new
+DiscoversHeld old id (Ok done) new = (id ≤ MAX_INTEGER32)
+    × ((text : List ℕ) × (a : Pending) × Seals old.manager.users (discovering id) (Ok text)
+    × Remembers a id [] [] NoAuthNoPriv [] [] (pos id) × Waits old text a new)
 DiscoversHeld old id (Err BadArgument) new = (MAX_INTEGER32 < id) × (new ≡ old)
-DiscoversHeld old id (Err (Refused fault)) new = (fault ≡ OutOfMemory) × (new ≡ old)
+DiscoversHeld old id (Err (Refused fault)) new = (id ≤ MAX_INTEGER32) × (fault ≡ OutOfMemory) × (new ≡ old)
 DiscoversHeld old id (Err _) new = ⊥
 
 -- ---- clocks
@@ -200,5 +201,5 @@ SavesHeld old (Err fault) new = (fault ≡ Refused OutOfMemory) × (new ≡ old)
 abbrev pub TellsPair : ManagerHeld → List ℕ → Result BootsAndTime CallFault → Type 0
 TellsPair held engine (Ok pair) = HasEngineLength engine × (pair_at held.manager.clocks engine ≡ Some pair)
 TellsPair held engine (Err BadArgument) = HasEngineLength engine → ⊥
-TellsPair held engine (Err NothingTaken) = pair_at held.manager.clocks engine ≡ None
+TellsPair held engine (Err NothingTaken) = HasEngineLength engine × (pair_at held.manager.clocks engine ≡ None)
 TellsPair held engine (Err _) = ⊥

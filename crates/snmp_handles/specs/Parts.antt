@@ -1,7 +1,7 @@
 -- What a caller gets of what a handle keeps, into buffers of its own.
 --
--- `Copies`: octets go into a buffer, whole or not at all. `CopiesPart`, `CopiesMessage`, `IsPartOf`,
--- `AreNumbersOf`: which octets and numbers.
+-- `Copies`: octets go into a buffer, whole or not at all. `CopiesNothing`: neither the buffer nor the number
+-- of octets is written. `CopiesPart`, `CopiesMessage`, `IsPartOf`, `AreNumbersOf`: which octets and numbers.
 --
 -- `TellsMaxSize`: the msgMaxSize of what is kept. `RespondsHeldWithin`: the Response of at most so many
 -- octets is left to be sent (`RespondsWithin`, over `UpTo`); `RefusesWithin`: why none is.
@@ -46,18 +46,22 @@ part_of n =
     then Some ContextName else
     if n == 4 then Some Engine else None
 
+-- Nothing is copied, and no number of octets is told.
+abbrev pub CopiesNothing : List ℕ → List ℕ → ℕ → ℕ → Type 0
+CopiesNothing old new written written_new = (new ≡ old) × (written_new ≡ written)
+
 -- A part of what is kept is copied.
-abbrev pub CopiesPart : {V : Type 0} → Option Given → Part → List ℕ → List ℕ → ℕ → Result V CallFault → Type 0
-CopiesPart None part old new written (Err NothingTaken) = new ≡ old
-CopiesPart None part old new written _ = ⊥
-CopiesPart (Some g) part old new written told = (octets : List ℕ) × IsPartOf g part octets
-    × Copies octets old new written told
+abbrev pub CopiesPart : {V : Type 0} → Option Given → Part → List ℕ → List ℕ → ℕ → ℕ → Result V CallFault → Type 0
+CopiesPart None part old new written written_new (Err NothingTaken) = CopiesNothing old new written written_new
+CopiesPart None part old new written written_new _ = ⊥
+CopiesPart (Some g) part old new written written_new told = (octets : List ℕ) × IsPartOf g part octets
+    × Copies octets old new written_new told
 
 -- The message that is to be sent is copied.
-abbrev pub CopiesMessage : {V : Type 0} → Option (List ℕ) → List ℕ → List ℕ → ℕ → Result V CallFault → Type 0
-CopiesMessage None old new written (Err NothingTaken) = new ≡ old
-CopiesMessage None old new written _ = ⊥
-CopiesMessage (Some text) old new written told = Copies text old new written told
+abbrev pub CopiesMessage : {V : Type 0} → Option (List ℕ) → List ℕ → List ℕ → ℕ → ℕ → Result V CallFault → Type 0
+CopiesMessage None old new written written_new (Err NothingTaken) = CopiesNothing old new written written_new
+CopiesMessage None old new written written_new _ = ⊥
+CopiesMessage (Some text) old new written written_new told = Copies text old new written_new told
 
 -- ---- numbers
 

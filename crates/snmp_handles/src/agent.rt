@@ -238,11 +238,11 @@ impl AgentHandle {
     pub fn allows(&self, view: u32, arcs: &[u32]) -> Result<Access, CallFault>
         ensures { AllowsHeld self.now view arcs.now result }
     {
-        let (Some(view), Some(variable)) = (view_of(view), Oid::of(arcs)) else {
+        let (Some(view), Some(name)) = (view_of(view), Oid::of(arcs)) else {
             return Err(CallFault::BadArgument);
         };
         match &self.last {
-            Some(kept) => Ok(access_of_sender(&self.agent, kept, view, &variable)),
+            Some(kept) => Ok(access_of_sender(&self.agent, kept, view, &name)),
             None => Err(CallFault::NothingTaken),
         }
     }
@@ -342,9 +342,9 @@ impl AgentHandle {
     }
 
     /// Copies a part of what is kept to the front of the buffer, and tells how many octets it has. The errors are
-    /// NothingTaken, and ShortBuffer, which tells the octets too and leaves the buffer as it was.
+    /// NothingTaken, which writes nothing, and ShortBuffer, which tells the octets and leaves the buffer as it was.
     pub fn part(&self, part: Part, out: &mut [u8], written: &mut usize) -> Result<(), CallFault>
-        ensures { CopiesPart self.now.last part out.old out.new written.new result }
+        ensures { CopiesPart self.now.last part out.old out.new written.old written.new result }
     {
         copied_part(&self.last, part, out, written)
     }
@@ -352,7 +352,7 @@ impl AgentHandle {
     /// Copies the message that is to be sent in the same way: the report on what was taken last, or what was
     /// written since.
     pub fn message(&self, out: &mut [u8], written: &mut usize) -> Result<(), CallFault>
-        ensures { CopiesMessage self.now.message out.old out.new written.new result }
+        ensures { CopiesMessage self.now.message out.old out.new written.old written.new result }
     {
         copied_message(&self.message, out, written)
     }

@@ -124,7 +124,7 @@ fn binding_text(alloc: Global, name: &Oid, tag: u8, content: &[u8]) -> Result<Ve
 ///
 /// The errors are BadArgument, where the arcs are no identifier's that can be spelled, the tag's low five
 /// bits are all ones or it is above 255, or the content has more than 65,507 octets; out of memory; and
-/// ShortBuffer, which tells the octets too. They leave the buffer as it was.
+/// ShortBuffer. They leave the buffer as it was, and ShortBuffer alone tells how many octets are wanted.
 pub fn write_binding(
     alloc: Global,
     arcs: &[u32],
@@ -133,7 +133,7 @@ pub fn write_binding(
     out: &mut [u8],
     written: &mut usize,
 ) -> Result<(), CallFault>
-    ensures { WritesBinding arcs.now tag content.now out.old out.new written.new result }
+    ensures { WritesBinding arcs.now tag content.now out.old out.new written.old written.new result }
 {
     let Some(name) = Oid::of(arcs) else {
         return Err(CallFault::BadArgument);

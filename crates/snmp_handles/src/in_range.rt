@@ -4,6 +4,7 @@ ghost use Rattle.std.specs.Prelude.{◌≡◌, ◌<◌, ◌≤◌, ◌⊎◌, �
 ghost use Rattle.std.specs.Int.{to_be_bytes, w64};
 ghost use Rattle.snmp_ber.specs.declared.number.TheConstants.{MAX_INTEGER32};
 ghost use Rattle.snmp_msg.specs.PduTypes.{IsPduTag};
+ghost use Rattle.snmp_handles.specs.Agents.{AreInRange};
 
 use crate::agent::NoticeTo;
 use crate::manager::AskedOf;
@@ -29,8 +30,8 @@ impl<'a> Reply<'a> {
     /// None where a number is above 2147483647.
     pub(crate) fn of(status: u32, index: u32, list: &'a [u8], salt: u64) -> Option<Reply<'a>>
         ensures { MatchOption result ((MAX_INTEGER32 < status) ⊎ (MAX_INTEGER32 < index))
-            (λ reply. (reply.status ≡ status) × (reply.index ≡ index) × (reply.list.now ≡ list.now)
-            × (reply.salt ≡ to_be_bytes w64 salt)) }
+            (λ reply. AreInRange status index × (reply.status ≡ status) × (reply.index ≡ index)
+            × (reply.list.now ≡ list.now) × (reply.salt ≡ to_be_bytes w64 salt)) }
     {
         if status > MAX_INTEGER32 || index > MAX_INTEGER32 {
             return None;
@@ -62,7 +63,8 @@ impl<'a> NoticeInRange<'a> {
     /// None where a number or the name is out of its range.
     pub(crate) fn of(to: &NoticeTo<'a>) -> Option<NoticeInRange<'a>>
         ensures { MatchOption result (IsNoticeOutOfRange (notice_of to.now))
-            (λ n. (n.to ≡ to.now) × (spec.level_of to.now.level ≡ Some n.level)) }
+            (λ n. (IsNoticeOutOfRange (notice_of to.now) → ⊥) × (n.to ≡ to.now)
+            × (spec.level_of to.now.level ≡ Some n.level)) }
     {
         let Some(level) = level_of(to.level) else {
             return None;
@@ -107,7 +109,8 @@ impl<'a> AskedInRange<'a> {
     /// None where a number, the name or the engine ID is out of its range.
     pub(crate) fn of(of: &AskedOf<'a>) -> Option<AskedInRange<'a>>
         ensures { MatchOption result (IsOutOfRange (asking_of of.now))
-            (λ a. (a.of ≡ of.now) × (spec.level_of of.now.level ≡ Some a.level)) }
+            (λ a. (IsOutOfRange (asking_of of.now) → ⊥) × (a.of ≡ of.now)
+            × (spec.level_of of.now.level ≡ Some a.level)) }
     {
         let (Some(level), Some(engine)) = (level_of(of.level), EngineId::of(of.engine)) else {
             return None;

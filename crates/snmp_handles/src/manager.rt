@@ -294,14 +294,14 @@ impl ManagerHandle {
 
     /// Copies a part of what is kept, as of an agent.
     pub fn part(&self, part: Part, out: &mut [u8], written: &mut usize) -> Result<(), CallFault>
-        ensures { CopiesPart self.now.last part out.old out.new written.new result }
+        ensures { CopiesPart self.now.last part out.old out.new written.old written.new result }
     {
         copied_part(&self.last, part, out, written)
     }
 
     /// Copies the message that is to be sent: the request that was written last, or the saved text.
     pub fn message(&self, out: &mut [u8], written: &mut usize) -> Result<(), CallFault>
-        ensures { CopiesMessage self.now.message out.old out.new written.new result }
+        ensures { CopiesMessage self.now.message out.old out.new written.old written.new result }
     {
         copied_message(&self.message, out, written)
     }

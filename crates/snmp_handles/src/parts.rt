@@ -58,7 +58,7 @@ pub(crate) fn copy_to(octets: &[u8], out: &mut [u8], written: &mut usize) -> Res
 
 /// Copies a part of what was kept.
 fn copied_of(kept: &Kept, part: Part, out: &mut [u8], written: &mut usize) -> Result<(), CallFault>
-    ensures { CopiesPart (Some kept.now) part out.old out.new written.new result }
+    ensures { CopiesPart (Some kept.now) part out.old out.new written.old written.new result }
 {
     one_content();
     let taken = kept.taken();
@@ -73,14 +73,14 @@ fn copied_of(kept: &Kept, part: Part, out: &mut [u8], written: &mut usize) -> Re
 }
 
 /// Copies a part of what is kept to the front of the buffer, and tells how many octets it has. The errors are
-/// NothingTaken, and ShortBuffer, which tells the octets too; either leaves the buffer as it was.
+/// NothingTaken, which writes nothing, and ShortBuffer, which tells the octets and leaves the buffer as it was.
 pub fn copied_part(
     last: &Option<Kept>,
     part: Part,
     out: &mut [u8],
     written: &mut usize,
 ) -> Result<(), CallFault>
-    ensures { CopiesPart last.now part out.old out.new written.new result }
+    ensures { CopiesPart last.now part out.old out.new written.old written.new result }
 {
     match last {
         Some(kept) => copied_of(kept, part, out, written),
@@ -88,14 +88,14 @@ pub fn copied_part(
     }
 }
 
-/// Copies the message that is to be sent in the same way. The errors are NothingTaken, where there is none,
-/// and ShortBuffer.
+/// Copies the message that is to be sent in the same way. The errors are NothingTaken, where there is none, and
+/// ShortBuffer.
 pub fn copied_message(
     message: &Option<Vec<u8>>,
     out: &mut [u8],
     written: &mut usize,
 ) -> Result<(), CallFault>
-    ensures { CopiesMessage (option_map (λ v. v.items) message.now) out.old out.new written.new result }
+    ensures { CopiesMessage (option_map (λ v. v.items) message.now) out.old out.new written.old written.new result }
 {
     match message {
         Some(text) => copy_to(text, out, written),

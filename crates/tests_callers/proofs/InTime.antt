@@ -13,9 +13,6 @@ use Rattle.snmp_manager.specs.Takes.{Takes}
 use Rattle.snmp_agent.specs.Agent.{AgentState, AgentTakes}
 use Rattle.snmp_outgoing.specs.Accepts.{IsInTime, IsTakenInTime}
 
-pub accepted : (taker : Taker) (users : List User) (now : ℕ) (w : List ℕ) (m : Sending) (c : Contexts) (p : PduParts) (g : Given) → IsTakenInTime taker users now w m c p → Outcome taker users now w (Ok g) → (IsInTime taker now m → ⊥) → ⊥
-accepted taker users now w m c p g t o late = let e = (t.only (Ok g) o).late late in cc e
-
 pub late : (taker : Taker) (users : List User) (now : ℕ) (w : List ℕ) (m : Sending) (c : Contexts) (p : PduParts) (n : Refusal) → IsTakenInTime taker users now w m c p → Outcome taker users now w (Err n) → IsInTime taker now m → ⊥
 late taker users now w m c p n t o in_time = let given = (t.only (Err n) o).in_time in_time in let e = given.1 in cc e
 
@@ -26,16 +23,16 @@ refused_late old new now w given engine m c p (Some n) some same own takes law =
     late (as_agent engine old.boots old.started) old.users now w m c p n law (rw (same, own) at takes.0)
 
 pub given_in_time : (old new : AgentState) (now : ℕ) (w given engine : List ℕ) (m : Sending) (c : Contexts) (p : PduParts) (g : Given) → given ≡ w → old.engine ≡ engine
-    → AgentTakes old now given (Some (Ok g)) new → IsTakenInTime (as_agent engine old.boots old.started) old.users now w m c p → (IsInTime (as_agent engine old.boots old.started) now m → ⊥) → ⊥
+    → AgentTakes old now given (Some (Ok g)) new → IsTakenInTime (as_agent engine old.boots old.started) old.users now w m c p → IsInTime (as_agent engine old.boots old.started) now m
 given_in_time old new now w given engine m c p g same own takes law =
-    accepted (as_agent engine old.boots old.started) old.users now w m c p g law (rw (same, own) at takes.0)
+    law.accepted_only g (rw (same, own) at takes.0)
 
 -- ---- a manager
 
 pub given_to_manager : (old new : Held) (users : List User) (now : ℕ) (w given : List ℕ) (m : Sending) (c : Contexts) (p : PduParts) (g : Given) → given ≡ w → old.users ≡ users
-    → Takes old now given (Some (Ok g)) new → IsTakenInTime (as_manager new.clocks) users now w m c p → (IsInTime (as_manager new.clocks) now m → ⊥) → ⊥
+    → Takes old now given (Some (Ok g)) new → IsTakenInTime (as_manager new.clocks) users now w m c p → IsInTime (as_manager new.clocks) now m
 given_to_manager old new users now w given m c p g same own takes law =
-    accepted (as_manager new.clocks) users now w m c p g law (rw (same, own) at takes.2)
+    law.accepted_only g (rw (same, own) at takes.2)
 
 pub refused_by_manager : (old new : Held) (users : List User) (now : ℕ) (w given : List ℕ) (m : Sending) (c : Contexts) (p : PduParts) (o : Option Refusal) → o ≢ None → given ≡ w → old.users ≡ users
     → Takes old now given (refused o) new → IsTakenInTime (as_manager new.clocks) users now w m c p → IsInTime (as_manager new.clocks) now m → ⊥

@@ -4,7 +4,6 @@ ghost use Rattle.std.specs.Prelude.{◌≡◌, ◌≤◌, ◌-◌, length, IfSom
 ghost use Rattle.snmp_ber.specs.declared.number.TheConstants.{MAX_INTEGER32};
 ghost use Rattle.engine_clock.specs.Pairs.{pair_max};
 ghost use Rattle.engine_clock.specs.Marks.{mark_at};
-ghost use Rattle.usm_core.specs.Authentic.{HasEngineLength};
 ghost use Rattle.usm_core.specs.Verified.{agent as side_of};
 ghost use Rattle.snmp_outgoing.specs.Accepts.{IsInTime};
 ghost use Rattle.snmp_outgoing.specs.Bodies.{BodyFits, front_in, variables_in};
@@ -16,7 +15,7 @@ use engine_clock::EngineId;
 use snmp_agent::Agent;
 use snmp_ber::Level;
 use snmp_manager::Manager;
-use snmp_outgoing::{Body, request_is_accepted};
+use snmp_outgoing::Body;
 
 /// Whom a request is for, and what it says.
 #[derive(Clone, Copy)]
@@ -48,20 +47,15 @@ pub fn ask(
     requires engine { agent.old.engine ≡ asking.now.engine.now }
     requires shared { HasSameUser (side_of asking.now.engine.now) manager.old.users agent.old.users
         asking.now.user.now asking.now.level }
-    requires identifier { HasEngineLength asking.now.engine.now }
-    requires salt { length asking.now.salt ≡ 8 }
     requires runs { at - agent.old.started ≤ pair_max }
     ensures { IfSome result (λ accepted. MatchBool accepted
-        ((IsInTime (taker_of agent.old) at
-        (requesting (mark_at manager.old.clocks asking.now.engine.now) now
+        (IsInTime (taker_of agent.old) at (requesting (mark_at manager.old.clocks asking.now.engine.now) now
         asking.now.id asking.now.engine.now asking.now.user.now asking.now.level (front_in asking.now.body.now)
-        (variables_in asking.now.body.now) asking.now.salt) → ⊥) → ⊥)
-        (IsInTime (taker_of agent.old) at
-        (requesting (mark_at manager.old.clocks asking.now.engine.now) now
+        (variables_in asking.now.body.now) asking.now.salt))
+        (IsInTime (taker_of agent.old) at (requesting (mark_at manager.old.clocks asking.now.engine.now) now
         asking.now.id asking.now.engine.now asking.now.user.now asking.now.level (front_in asking.now.body.now)
         (variables_in asking.now.body.now) asking.now.salt) → ⊥)) }
 {
-    request_is_accepted();
     let Asking {
         id,
         engine,

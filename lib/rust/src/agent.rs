@@ -171,7 +171,8 @@ impl Agent {
         })
     }
 
-    /// The same where it has at most `limit` octets; else it is refused as TooLarge. A Response without bindings fits into 484.
+    /// The same where it has at most `limit` octets; else it is refused as TooLarge. A Response without bindings fits into 484 if
+    /// contextEngineID and contextName have at most 32 octets each.
     pub fn respond_within(
         &mut self,
         now: u64,

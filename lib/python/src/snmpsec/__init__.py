@@ -583,7 +583,8 @@ class Agent(_Held):
         _done(self._call("respond", _ranged(now, 64), _ranged(error_status), _ranged(error_index), *_octets(octets), _ranged(salt, 64)))
 
     def respond_within(self, now: int, octets: Buffer, salt: int, limit: int, error_status: int = 0, error_index: int = 0) -> None:
-        """The same where it has at most `limit` octets; else it is Refused as TOO_LARGE. A Response without bindings fits into 484."""
+        """The same where it has at most `limit` octets; else it is Refused as TOO_LARGE. A Response without bindings fits into 484 if
+        contextEngineID and contextName have at most 32 octets each."""
         _done(self._call("respond_within", _ranged(now, 64), _ranged(error_status), _ranged(error_index), *_octets(octets), _ranged(salt, 64),
                          _ranged(limit)))
 

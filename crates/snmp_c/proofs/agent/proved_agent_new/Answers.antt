@@ -4,7 +4,7 @@ use Rattle.snmp_message.specs.declared.refusal.Refusal.TheVariants.{OutOfMemory}
 use Rattle.snmp_handles.specs.declared.fault.CallFault.TheVariants.{Refused}
 use Rattle.snmp_c.proofs.agent.proved_agent_new.Goals as goal
 
-pub returns : goal.returns
-returns c =
+pub returns-clause-made : goal.returns-clause-made
+returns-clause-made c =
     let fits : SFits w32 c.code-in-Err-new.result = search rules in
     (Err (Refused OutOfMemory), to_z-of_z w32 c.code-in-Err-new.result fits ∙ c.code-in-Err-new.ensures, (c.in-Ok.ensures.0, refl))

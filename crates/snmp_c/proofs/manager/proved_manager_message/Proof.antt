@@ -80,7 +80,7 @@ proved_manager_message_spec 𝓤 𝓛 𝓜 𝓡 wired =
     calls_at ! (framed 𝓤 𝓛.H 𝓜 (tables 𝓤 𝓛.H 𝓜 𝓡 𝓡.env)) G (met 𝓤 𝓛 𝓜 𝓡 (code.calls-snmp_c::manager_calls::message 𝓡.env wired)) z
     (and_then ! (get ! refl) (and_then ! (get ! refl) (and_then ! (get ! refl) (no_more !)))) (λ v.
     use1 𝓛 (later (some (λ (r : ℤ). ((‵ (flft (α ∷ []) full_share) ⊛ (‵ (flft κs.0 qs.0) ⊛ (‵ (flft κs.1.0 qs.1.0) ⊛ ‵ ftrue))) ⊛ ‵ (i32.own_val r (v ∷ []))) ⊛
-    some (λ (ws : Lasts g.ended z.0.0 z.0.3). ‵ (lasts g.ended z.0.0 z.0.3 ws) ⊛ raw (fact 𝓤 (ManagerMessage a.1.0.now ws.1.0 ws.1.1.0 marks ws.0 r)))))) (id⊢ 𝓤 _) $
+    some (λ (ws : Lasts g.ended z.0.0 z.0.3). ‵ (lasts g.ended z.0.0 z.0.3 ws) ⊛ raw (fact 𝓤 (ManagerMessage a.1.0.now ws.1.0 a.1.1.0.now ws.1.1.0 marks ws.0 r)))))) (id⊢ 𝓤 _) $
     await ! tt $ pick ! (λ r. split ! $ split ! $ split ! $ lft_end ! tt $
     move ! (2 ∷ []) $ peeks ! i32 (Is i32) (shows 𝓛 i32) r (v ∷ []) (λ is.
     lands_as ! refl refl ((sint_Lawful 𝓛 w32).typed r _ is).0 $
@@ -91,7 +91,7 @@ proved_manager_message_spec 𝓤 𝓛 𝓜 𝓡 wired =
     fsplit ! $ move ! (1 ∷ []) $
     -- [nothing; the mutable ones, the last first; what lies there; the result; the tokens]
     move ! (3 ∷ []) $
-    let L : ManagerHeld → Type 0 = λ new. ManagerMessage a.1.0.now ws.1.0 ws.1.1.0 marks new r in
+    let L : ManagerHeld → Type 0 = λ new. ManagerMessage a.1.0.now ws.1.0 a.1.1.0.now ws.1.1.0 marks new r in
     use0 𝓛 (raw (fact 𝓤 (L ws.0))) (fact_i 𝓤 (L ws.0) (emp 𝓤) learns) $ move ! (1 ∷ 0 ∷ []) $
     let Left : ManagerHeld → SProp 𝓤 = λ new. sep 𝓤 (sem 𝓛 (lies_at R full_share (block_ptr b o) new)) (fact 𝓤 (L new)) in
     use2 𝓛 (raw (ex 𝓤 Left)) (ex_i 𝓤 Left ws.0) $

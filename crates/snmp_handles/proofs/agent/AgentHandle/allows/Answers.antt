@@ -2,7 +2,7 @@ use Rattle.std.proofs.Common.{◌≡◌, Some, subst, rules}
 use Rattle.snmp_message.specs.Scoped.{Contexts, ScopedFront}
 use Rattle.snmp_agent.specs.Decides.{question_of}
 use Rattle.vacm_core.specs.Allowed.{Allowed}
-use Rattle.snmp_handles.specs.Agents.{AgentHeld}
+use Rattle.snmp_handles.specs.Agents.{AgentHeld, AreNoArcs}
 use Rattle.snmp_handles.specs.Numbers.{view_of}
 use Rattle.snmp_handles.proofs.agent.AgentHandle.allows.Goals as goal
 
@@ -10,8 +10,9 @@ pub returns-in-Some : goal.returns-in-Some
 returns-in-Some c =
     let held : AgentHeld = c.args.self.now in
     let is : view_of c.args.view ≡ Some c.in-Some-Some.view = search rules in
-    let arcs : c.in-Some-Some.variable ≡ c.args.arcs.now = c.in-Some-Some.ensures'.value in
+    let arcs : c.in-Some-Some.name ≡ c.args.arcs.now = c.in-Some-Some.ensures'.value in
     let kept : held.last ≡ Some c.in-Some.kept = subst (λ (h : AgentHeld). h.last ≡ Some c.in-Some.kept) c.self.view_is c.in-Some.is in
     let asked : (k : Contexts) → ScopedFront c.in-Some.kept.text k → Allowed held.agent.tables (question_of c.in-Some.kept k) c.in-Some-Some.view c.args.arcs.now c.access_of_sender.result
     = subst (λ (h : AgentHeld). (k : Contexts) → ScopedFront c.in-Some.kept.text k → Allowed h.agent.tables (question_of c.in-Some.kept k) c.in-Some-Some.view c.args.arcs.now c.access_of_sender.result) c.self.view_is (rw arcs at c.access_of_sender.ensures) in
-    (c.in-Some.kept, c.in-Some-Some.view, kept, is, asked)
+    let arcs_fit : AreNoArcs c.args.arcs.now → ⊥ = search rules in
+    (c.in-Some.kept, c.in-Some-Some.view, kept, is, arcs_fit, asked)

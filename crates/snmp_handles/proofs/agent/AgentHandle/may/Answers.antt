@@ -1,7 +1,7 @@
 use Rattle.std.proofs.Common.{◌≡◌, Some, subst, rules}
 use Rattle.snmp_agent.specs.Decides.{question}
 use Rattle.vacm_core.specs.Allowed.{Allowed}
-use Rattle.snmp_handles.specs.Agents.{AgentHeld}
+use Rattle.snmp_handles.specs.Agents.{AgentHeld, AreNoArcs}
 use Rattle.snmp_handles.specs.Numbers.{level_of, view_of}
 use Rattle.snmp_handles.proofs.agent.AgentHandle.may.Goals as goal
 
@@ -12,4 +12,5 @@ returns c =
     let arcs : c.in-Some-Some.variable ≡ c.args.arcs.now = c.in-Some-Some.ensures'.value in
     let allowed : Allowed c.args.self.now.agent.tables (question c.args.user.now c.in-Some.level c.args.context.now) c.in-Some-Some.view c.args.arcs.now c.may.result
     = subst (λ (h : AgentHeld). Allowed h.agent.tables (question c.args.user.now c.in-Some.level c.args.context.now) c.in-Some-Some.view c.args.arcs.now c.may.result) c.self.view_is (rw arcs at c.may.ensures) in
-    (c.in-Some.level, c.in-Some-Some.view, level_is, view_is, allowed)
+    let arcs_fit : AreNoArcs c.args.arcs.now → ⊥ = search rules in
+    (c.in-Some.level, c.in-Some-Some.view, level_is, view_is, arcs_fit, allowed)
