@@ -104,7 +104,8 @@ pub unsafe extern "C" fn proved_agent_may(
     ghost held: { AgentHeld }
     requires* { sem 𝓛 (lies_at agents.the_row full_share at held) }
     ensures* { ∃ₛ (λ (new : AgentHeld). sem 𝓛
-        (lies_at agents.the_row full_share at new) ∗ ⌜ May user.now level context.now view arcs.now held
+        (lies_at agents.the_row full_share at new) ∗ ⌜ May user.now
+        level context.now view arcs.now held
         new result ⌝) }
 {
     may(
@@ -145,7 +146,8 @@ pub unsafe extern "C" fn proved_agent_respond(
     ghost held: { AgentHeld }
     requires* { sem 𝓛 (lies_at agents.the_row full_share at held) }
     ensures* { ∃ₛ (λ (new : AgentHeld). sem 𝓛
-        (lies_at agents.the_row full_share at new) ∗ ⌜ RespondsTo now status index list.now salt held
+        (lies_at agents.the_row full_share at new) ∗ ⌜ RespondsTo
+        now status index list.now salt held
         new result ⌝) }
 {
     respond(
@@ -177,7 +179,8 @@ pub unsafe extern "C" fn proved_agent_notify(
 ) -> i32
     ghost held: { AgentHeld }
     requires* { sem 𝓛 (lies_at agents.the_row full_share at held) }
-    ensures* { ∃ₛ (λ (new : AgentHeld). sem 𝓛 (lies_at agents.the_row full_share at new) ∗ ⌜ Notifies now
+    ensures* { ∃ₛ (λ (new : AgentHeld). sem 𝓛
+        (lies_at agents.the_row full_share at new) ∗ ⌜ Notifies now
         (record {
           id = id;
           user = user.now;
@@ -216,7 +219,8 @@ pub unsafe extern "C" fn proved_agent_part(
     ghost held: { AgentHeld }
     requires* { sem 𝓛 (lies_at agents.the_row full_share at held) }
     ensures* { ∃ₛ (λ (new : AgentHeld). sem 𝓛
-        (lies_at agents.the_row full_share at new) ∗ ⌜ TellsPart number out.old out.new written.old written.new held
+        (lies_at agents.the_row full_share at new) ∗ ⌜ TellsPart number
+        out.old out.new written.old written.new held
         new result ⌝) }
 {
     part(&mut *(at as *mut AgentHandle), number, out, written)
@@ -234,7 +238,8 @@ pub unsafe extern "C" fn proved_agent_message(
     ghost held: { AgentHeld }
     requires* { sem 𝓛 (lies_at agents.the_row full_share at held) }
     ensures* { ∃ₛ (λ (new : AgentHeld). sem 𝓛
-        (lies_at agents.the_row full_share at new) ∗ ⌜ TellsMessage out.old out.new written.old written.new held
+        (lies_at agents.the_row full_share at new) ∗ ⌜ TellsMessage out.old
+        out.new written.old written.new held
         new result ⌝) }
 {
     message(&mut *(at as *mut AgentHandle), out, written)
@@ -248,7 +253,8 @@ pub unsafe extern "C" fn proved_agent_numbers(at: *mut u8, out: &mut [i32]) -> i
     ghost held: { AgentHeld }
     requires* { sem 𝓛 (lies_at agents.the_row full_share at held) }
     ensures* { ∃ₛ (λ (new : AgentHeld). sem 𝓛
-        (lies_at agents.the_row full_share at new) ∗ ⌜ TellsNumbers out.old out.new held new result ⌝) }
+        (lies_at agents.the_row full_share at new) ∗ ⌜ TellsNumbers
+        out.old out.new held new result ⌝) }
 {
     numbers(&mut *(at as *mut AgentHandle), out)
 }

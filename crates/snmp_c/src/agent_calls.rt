@@ -98,7 +98,8 @@ pub(crate) fn part(
     out: &mut [u8],
     written: &mut usize,
 ) -> i32
-    ensures { TellsPart number out.old out.new written.old written.new handle.old handle.new result }
+    ensures { TellsPart number out.old out.new written.old
+        written.new handle.old handle.new result }
 {
     match Part::of(number) {
         Some(part) => code_of(handle.part(part, out, written)),

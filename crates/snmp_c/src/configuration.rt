@@ -27,7 +27,8 @@ pub extern "C" fn proved_config_fault(
     out: &mut [u8],
     written: &mut usize,
 ) -> i32
-    ensures { TellsConfiguration config.now numbers.old numbers.new out.old out.new written.old written.new result }
+    ensures { TellsConfiguration config.now numbers.old numbers.new out.old
+        out.new written.old written.new result }
 {
     code_of(tell_config(alloc, config, numbers, out, written))
 }

@@ -42,7 +42,8 @@ pub unsafe extern "C" fn proved_agent_respond_within(
     ghost held: { AgentHeld }
     requires* { sem 𝓛 (lies_at agents.the_row full_share at held) }
     ensures* { ∃ₛ (λ (new : AgentHeld). sem 𝓛
-        (lies_at agents.the_row full_share at new) ∗ ⌜ RespondsToWithin now status index list.now salt limit held
+        (lies_at agents.the_row full_share at new) ∗ ⌜ RespondsToWithin
+        now status index list.now salt limit held
         new result ⌝) }
 {
     respond_within(
@@ -74,7 +75,8 @@ pub unsafe extern "C" fn proved_agent_respond_front(
     ghost held: { AgentHeld }
     requires* { sem 𝓛 (lies_at agents.the_row full_share at held) }
     ensures* { ∃ₛ (λ (new : AgentHeld). sem 𝓛
-        (lies_at agents.the_row full_share at new) ∗ ⌜ RespondsToFront now status index list.now salt limit
+        (lies_at agents.the_row full_share at new) ∗ ⌜ RespondsToFront
+        now status index list.now salt limit
         count.old count.new held new result ⌝) }
 {
     respond_front(

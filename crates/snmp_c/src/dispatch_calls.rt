@@ -40,7 +40,8 @@ pub(crate) fn respond_front(
     limit: u32,
     count: &mut usize,
 ) -> i32
-    ensures { RespondsToFront now status index list.now salt limit count.old count.new handle.old handle.new result }
+    ensures { RespondsToFront now status index list.now salt limit count.old
+        count.new handle.old handle.new result }
 {
     match handle.respond_front(now, status, index, list, salt, limit) {
         Ok(fronted) => {

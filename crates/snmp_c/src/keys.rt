@@ -39,7 +39,8 @@ pub extern "C" fn proved_localise(
     out: &mut [u8],
     written: &mut usize,
 ) -> i32
-    ensures { Done (GivesLocalised protocol key.now engine.now out.old out.new written.old written.new) result }
+    ensures { Done (GivesLocalised protocol key.now engine.now out.old
+        out.new written.old written.new) result }
 {
     code_of(give_localised(protocol, key, engine, out, written))
 }
@@ -90,7 +91,8 @@ fn give_localised(
     out: &mut [u8],
     written: &mut usize,
 ) -> Result<(), CallFault>
-    ensures { GivesLocalised protocol key.now engine.now out.old out.new written.old written.new result }
+    ensures { GivesLocalised protocol key.now engine.now out.old
+        out.new written.old written.new result }
 {
     let auth = auth_of(protocol).ok_or(CallFault::BadArgument)?;
     let key = Key::of(auth, key).ok_or(CallFault::BadArgument)?;
@@ -111,7 +113,8 @@ fn give_code(
     out: &mut [u8],
     written: &mut usize,
 ) -> Result<(), CallFault>
-    ensures { GivesCode protocol key.now front.now zeros back.now out.old out.new written.old written.new result }
+    ensures { GivesCode protocol key.now front.now zeros back.now out.old
+        out.new written.old written.new result }
 {
     let auth = auth_of(protocol).ok_or(CallFault::BadArgument)?;
     let key = Key::of(auth, key).ok_or(CallFault::BadArgument)?;

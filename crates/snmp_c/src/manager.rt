@@ -69,7 +69,8 @@ pub unsafe extern "C" fn proved_manager_take(at: *mut u8, now: u64, datagram: &[
     ghost held: { ManagerHeld }
     requires* { sem 𝓛 (lies_at managers.the_row full_share at held) }
     ensures* { ∃ₛ (λ (new : ManagerHeld). sem 𝓛
-        (lies_at managers.the_row full_share at new) ∗ ⌜ ManagerTook now datagram.now held new result ⌝) }
+        (lies_at managers.the_row full_share at new) ∗ ⌜ ManagerTook
+        now datagram.now held new result ⌝) }
 {
     take(&mut *(at as *mut ManagerHandle), now, datagram)
 }
@@ -110,7 +111,8 @@ pub unsafe extern "C" fn proved_manager_request(
 ) -> i32
     ghost held: { ManagerHeld }
     requires* { sem 𝓛 (lies_at managers.the_row full_share at held) }
-    ensures* { ∃ₛ (λ (new : ManagerHeld). sem 𝓛 (lies_at managers.the_row full_share at new) ∗ ⌜ Requested now
+    ensures* { ∃ₛ (λ (new : ManagerHeld). sem 𝓛
+        (lies_at managers.the_row full_share at new) ∗ ⌜ Requested now
         (record {
           id = id;
           engine = engine.now;
@@ -189,7 +191,8 @@ pub unsafe extern "C" fn proved_manager_pair(
     ghost held: { ManagerHeld }
     requires* { sem 𝓛 (lies_at managers.the_row full_share at held) }
     ensures* { ∃ₛ (λ (new : ManagerHeld). sem 𝓛
-        (lies_at managers.the_row full_share at new) ∗ ⌜ ToldPair engine.now boots.old boots.new time.old time.new
+        (lies_at managers.the_row full_share at new) ∗ ⌜ ToldPair engine.now
+        boots.old boots.new time.old time.new
         held new result ⌝) }
 {
     pair(&mut *(at as *mut ManagerHandle), engine, boots, time)
@@ -206,7 +209,8 @@ pub unsafe extern "C" fn proved_manager_part(
     ghost held: { ManagerHeld }
     requires* { sem 𝓛 (lies_at managers.the_row full_share at held) }
     ensures* { ∃ₛ (λ (new : ManagerHeld). sem 𝓛
-        (lies_at managers.the_row full_share at new) ∗ ⌜ ManagerPart number out.old out.new written.old written.new held
+        (lies_at managers.the_row full_share at new) ∗ ⌜ ManagerPart number
+        out.old out.new written.old written.new held
         new result ⌝) }
 {
     part(&mut *(at as *mut ManagerHandle), number, out, written)
@@ -222,7 +226,8 @@ pub unsafe extern "C" fn proved_manager_message(
     ghost held: { ManagerHeld }
     requires* { sem 𝓛 (lies_at managers.the_row full_share at held) }
     ensures* { ∃ₛ (λ (new : ManagerHeld). sem 𝓛
-        (lies_at managers.the_row full_share at new) ∗ ⌜ ManagerMessage out.old out.new written.old written.new held
+        (lies_at managers.the_row full_share at new) ∗ ⌜ ManagerMessage
+        out.old out.new written.old written.new held
         new result ⌝) }
 {
     message(&mut *(at as *mut ManagerHandle), out, written)
@@ -234,7 +239,8 @@ pub unsafe extern "C" fn proved_manager_numbers(at: *mut u8, out: &mut [i32]) ->
     ghost held: { ManagerHeld }
     requires* { sem 𝓛 (lies_at managers.the_row full_share at held) }
     ensures* { ∃ₛ (λ (new : ManagerHeld). sem 𝓛
-        (lies_at managers.the_row full_share at new) ∗ ⌜ ManagerNumbers out.old out.new held new result ⌝) }
+        (lies_at managers.the_row full_share at new) ∗ ⌜ ManagerNumbers
+        out.old out.new held new result ⌝) }
 {
     numbers(&mut *(at as *mut ManagerHandle), out)
 }

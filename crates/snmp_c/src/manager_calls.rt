@@ -100,7 +100,8 @@ pub(crate) fn pair(
     boots: &mut u32,
     time: &mut u32,
 ) -> i32
-    ensures { ToldPair engine.now boots.old boots.new time.old time.new handle.old handle.new result }
+    ensures { ToldPair engine.now boots.old boots.new time.old
+        time.new handle.old handle.new result }
 {
     match handle.pair(engine) {
         Ok(pair) => {
@@ -119,7 +120,8 @@ pub(crate) fn part(
     out: &mut [u8],
     written: &mut usize,
 ) -> i32
-    ensures { ManagerPart number out.old out.new written.old written.new handle.old handle.new result }
+    ensures { ManagerPart number out.old out.new written.old
+        written.new handle.old handle.new result }
 {
     match Part::of(number) {
         Some(part) => code_of(handle.part(part, out, written)),

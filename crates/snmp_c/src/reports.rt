@@ -42,7 +42,8 @@ pub unsafe extern "C" fn proved_manager_report(at: *mut u8, out: &mut [i64]) -> 
     ghost held: { ManagerHeld }
     requires* { sem 𝓛 (lies_at managers.the_row full_share at held) }
     ensures* { ∃ₛ (λ (new : ManagerHeld). sem 𝓛
-        (lies_at managers.the_row full_share at new) ∗ ⌜ ToldReport out.old out.new held new result ⌝) }
+        (lies_at managers.the_row full_share at new) ∗ ⌜ ToldReport
+        out.old out.new held new result ⌝) }
 {
     report(&mut *(at as *mut ManagerHandle), out)
 }

@@ -44,7 +44,12 @@ impl Model for AgentHandle {
 
     ghost Value = { AgentHeld };
 
-    ghost view = { λ h. record { agent = h.agent; last = h.last; message = option_map (λ v. v.items) h.message } };
+    ghost view = { λ h. record {
+      agent = h.agent;
+      last = h.last;
+      message = option_map
+          (λ v. v.items) h.message;
+    } };
 }
 
 /// Whom a notification goes to, and what it says besides its bindings.
@@ -98,7 +103,8 @@ fn response(
     kept: &Kept,
     reply: &Reply<'_>,
 ) -> Result<Vec<u8>, CallFault>
-    ensures answer { AnswersResponse agent.old now kept.now reply.now.status reply.now.index reply.now.list.now
+    ensures answer { AnswersResponse agent.old now kept.now reply.now.status
+        reply.now.index reply.now.list.now
         reply.now.salt result }
     ensures same { agent.new ≡ agent.old }
 {
@@ -121,7 +127,8 @@ fn notice(
     list: &[u8],
     salt: [u8; 8],
 ) -> Result<Vec<u8>, CallFault>
-    ensures answer { AnswersNotice agent.old now (notice_of notice.now.to) notice.now.level list.now salt result }
+    ensures answer { AnswersNotice agent.old now
+        (notice_of notice.now.to) notice.now.level list.now salt result }
     ensures same { agent.new ≡ agent.old }
 {
     let NoticeInRange { to, level } = *notice;
@@ -296,7 +303,8 @@ impl AgentHandle {
         list: &[u8],
         salt: u64,
     ) -> Result<(), CallFault>
-        ensures { RespondsHeld self.old now status index list.now (to_be_bytes w64 salt) result self.new }
+        ensures { RespondsHeld self.old now status index list.now
+            (to_be_bytes w64 salt) result self.new }
     {
         let Some(reply) = Reply::of(status, index, list, salt) else {
             return Err(CallFault::BadArgument);
@@ -326,7 +334,8 @@ impl AgentHandle {
         list: &[u8],
         salt: u64,
     ) -> Result<(), CallFault>
-        ensures { NotifiesHeld self.old now (notice_of to.now) list.now (to_be_bytes w64 salt) result self.new }
+        ensures { NotifiesHeld self.old now (notice_of to.now) list.now
+            (to_be_bytes w64 salt) result self.new }
     {
         let Some(in_range) = NoticeInRange::of(to) else {
             return Err(CallFault::BadArgument);

@@ -109,7 +109,8 @@ fn binding_text(alloc: Global, name: &Oid, tag: u8, content: &[u8]) -> Result<Ve
     requires tag { IsTag tag }
     requires fits { length content.now ≤ LARGEST }
     ensures { IfOk result
-        (λ text. text.items ≡ variable_text (record { name = name.now; tag = tag; content = content.now })) }
+        (λ text. text.items ≡ variable_text
+        (record { name = name.now; tag = tag; content = content.now })) }
 {
     let mut parts = Vec::new(alloc);
     put_oid(&mut parts, name)?;
@@ -133,7 +134,8 @@ pub fn write_binding(
     out: &mut [u8],
     written: &mut usize,
 ) -> Result<(), CallFault>
-    ensures { WritesBinding arcs.now tag content.now out.old out.new written.old written.new result }
+    ensures { WritesBinding arcs.now tag content.now out.old
+        out.new written.old written.new result }
 {
     let Some(name) = Oid::of(arcs) else {
         return Err(CallFault::BadArgument);

@@ -35,7 +35,8 @@ pub fn tell_config(
     out: &mut [u8],
     written: &mut usize,
 ) -> Result<(), CallFault>
-    ensures { TellsConfig config.now numbers.old numbers.new out.old out.new written.old written.new result }
+    ensures { TellsConfig config.now numbers.old numbers.new out.old
+        out.new written.old written.new result }
 {
     if numbers.len() < NUMBERS {
         return Err(CallFault::BadArgument);

@@ -28,7 +28,8 @@ use std::alloc::Global;
 /// Confirmed Class (RFC 3411, section 2.8), and those of `Agent::supports` for its user and its level.
 pub(crate) fn can_answer(agent: &Agent, now: u64, kept: &Kept) -> Result<(), CallFault>
     ensures ok { IfOk result
-        (λ _. (is_confirmed kept.now.tag ≡ true) × CanSendAt agent.now now kept.now.user kept.now.level) }
+        (λ _. (is_confirmed kept.now.tag ≡ true)
+        × CanSendAt agent.now now kept.now.user kept.now.level) }
     ensures err { IfErr result (CannotAnswer agent.now now kept.now) }
 {
     let taken = kept.taken();
@@ -50,7 +51,8 @@ fn response_within(
     reply: &Reply<'_>,
     limit: u32,
 ) -> Result<Vec<u8>, CallFault>
-    ensures answer { AnswersWithin agent.old now kept.now reply.now.status reply.now.index reply.now.list.now
+    ensures answer { AnswersWithin agent.old now kept.now reply.now.status
+        reply.now.index reply.now.list.now
         reply.now.salt limit result }
     ensures same { agent.new ≡ agent.old }
 {
@@ -82,7 +84,8 @@ fn response_front(
     reply: &Reply<'_>,
     limit: u32,
 ) -> Result<Fronted, CallFault>
-    ensures answer { AnswersFront agent.old now kept.now reply.now.status reply.now.index reply.now.list.now
+    ensures answer { AnswersFront agent.old now kept.now reply.now.status
+        reply.now.index reply.now.list.now
         reply.now.salt limit result }
     ensures same { agent.new ≡ agent.old }
 {
@@ -145,7 +148,8 @@ impl AgentHandle {
         salt: u64,
         limit: u32,
     ) -> Result<(), CallFault>
-        ensures { RespondsHeldWithin self.old now status index list.now (to_be_bytes w64 salt) limit result self.new }
+        ensures { RespondsHeldWithin self.old now status index list.now
+            (to_be_bytes w64 salt) limit result self.new }
     {
         let Some(reply) = Reply::of(status, index, list, salt) else {
             return Err(CallFault::BadArgument);
@@ -177,7 +181,8 @@ impl AgentHandle {
         salt: u64,
         limit: u32,
     ) -> Result<usize, CallFault>
-        ensures { RespondsHeldFront self.old now status index list.now (to_be_bytes w64 salt) limit result self.new }
+        ensures { RespondsHeldFront self.old now status index list.now
+            (to_be_bytes w64 salt) limit result self.new }
     {
         let Some(reply) = Reply::of(status, index, list, salt) else {
             return Err(CallFault::BadArgument);

@@ -96,7 +96,8 @@ fn request(
     list: &[u8],
     salt: [u8; 8],
 ) -> Result<(Vec<u8>, Pending), CallFault>
-    ensures answer { AnswersRequest manager.old now (asking_of asked.now.of) asked.now.level list.now salt result }
+    ensures answer { AnswersRequest manager.old now
+        (asking_of asked.now.of) asked.now.level list.now salt result }
     ensures same { manager.new ≡ manager.old }
 {
     let AskedInRange { of, engine, level } = asked;
@@ -212,7 +213,8 @@ impl ManagerHandle {
         list: &[u8],
         salt: u64,
     ) -> Result<(), CallFault>
-        ensures { RequestsHeld self.old now (asking_of of.now) list.now (to_be_bytes w64 salt) result self.new }
+        ensures { RequestsHeld self.old now (asking_of of.now) list.now
+            (to_be_bytes w64 salt) result self.new }
     {
         let Some(asked) = AskedInRange::of(of) else {
             return Err(CallFault::BadArgument);

@@ -95,7 +95,8 @@ pub fn copied_message(
     out: &mut [u8],
     written: &mut usize,
 ) -> Result<(), CallFault>
-    ensures { CopiesMessage (option_map (λ v. v.items) message.now) out.old out.new written.old written.new result }
+    ensures { CopiesMessage (option_map (λ v. v.items) message.now) out.old
+        out.new written.old written.new result }
 {
     match message {
         Some(text) => copy_to(text, out, written),

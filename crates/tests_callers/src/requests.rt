@@ -49,10 +49,12 @@ pub fn ask(
         asking.now.user.now asking.now.level }
     requires runs { at - agent.old.started ≤ pair_max }
     ensures { IfSome result (λ accepted. MatchBool accepted
-        (IsInTime (taker_of agent.old) at (requesting (mark_at manager.old.clocks asking.now.engine.now) now
+        (IsInTime (taker_of agent.old) at
+        (requesting (mark_at manager.old.clocks asking.now.engine.now) now
         asking.now.id asking.now.engine.now asking.now.user.now asking.now.level (front_in asking.now.body.now)
         (variables_in asking.now.body.now) asking.now.salt))
-        (IsInTime (taker_of agent.old) at (requesting (mark_at manager.old.clocks asking.now.engine.now) now
+        (IsInTime (taker_of agent.old) at
+        (requesting (mark_at manager.old.clocks asking.now.engine.now) now
         asking.now.id asking.now.engine.now asking.now.user.now asking.now.level (front_in asking.now.body.now)
         (variables_in asking.now.body.now) asking.now.salt) → ⊥)) }
 {

@@ -45,7 +45,8 @@ pub fn answer(
         → PduText c.pdu p
         → IfSome result (λ accepted. MatchBool accepted
         (IsInTime (as_manager manager.new.clocks) at (spoken (response agent.old.engine
-        (own_pair agent.old.boots agent.old.started now) (given_of taken.now) c p reply.now.status reply.now.index
+        (own_pair agent.old.boots agent.old.started now)
+        (given_of taken.now) c p reply.now.status reply.now.index
         (map variable_of reply.now.bindings.now) reply.now.salt)))
         (IsInTime (as_manager manager.new.clocks) at (spoken (response agent.old.engine
         (own_pair agent.old.boots agent.old.started now)
