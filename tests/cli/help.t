@@ -201,7 +201,7 @@ The help of each command. `manual` prints on standard output what `--help` print
        snmpd, undefined, differs, or depends on the order
     2  the command line is wrong, or a file can't be read
   $ snmpsec manual replay
-  Take a log of datagrams as a manager does: print what each comes to, and then the clocks
+  Process a log of datagrams as a manager does: print a line for each, and then the clocks
   
   Usage: snmpsec replay [OPTIONS] <CONFIG> <CLOCKS> <LOG>
   

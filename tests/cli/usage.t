@@ -94,7 +94,7 @@ Help is on standard error, with status 2. It names each command.
   !   sees            Print what a user may read, write or be notified of: LEVEL VIEW CONTEXT and subtrees
   !   check-config    Read a configuration: print how many rows each table has, or what is wrong with it
   !   import-snmpd    Print the configuration that files of net-snmp's snmpd come to
-  !   replay          Take a log of datagrams as a manager does: print what each comes to, and then the clocks
+  !   replay          Process a log of datagrams as a manager does: print a line for each, and then the clocks
   !   merge-clocks    Print the join of saved clocks: of each engine the greatest boots and time
   !   check-clocks    Print how many engines each file of saved clocks has, or what is wrong with it
   !   check-log       Print how many lines a log has, or what is wrong with its first faulty line

@@ -16,7 +16,7 @@ use std::io::Read;
 /// How many octets of a block tell its kind, its length and its order.
 const FRONT: usize = 12;
 
-/// Reads so many octets and lets them go. Fewer are left only at the end, which is told by `false`.
+/// Reads so many octets and lets them go. Fewer are left only at the end, and the answer is `false` then.
 fn skip<R: Read>(reader: &mut R, count: usize) -> Result<bool, Failed>
     ensures ok { IfOk result (SkipsAll count (R.remaining reader.old) (R.remaining reader.new)) }
     ensures err { OnErr result (SkipsPart count (R.remaining reader.old) (R.remaining reader.new)) }
@@ -37,7 +37,7 @@ fn skip<R: Read>(reader: &mut R, count: usize) -> Result<bool, Failed>
 }
 
 /// Reads the rest of a block that has no more than there is room for. It is whole, and its length stands
-/// there again, where that is told.
+/// there again, if the block says so.
 fn read_short<R: Read>(
     reader: &mut R,
     head: BlockHead,
@@ -105,7 +105,7 @@ fn read_long<R: Read>(
 }
 
 /// Reads the rest of a block, of which the room has the first octets. It is whole, and its length stands
-/// there again, where that is told.
+/// there again, if the block says so.
 fn read_rest<R: Read>(
     reader: &mut R,
     head: BlockHead,
@@ -131,7 +131,7 @@ fn read_rest<R: Read>(
     }
 }
 
-/// Reads the rest of a block, of which the room has the first octets, and takes it. `None` where it is none.
+/// Reads the rest of a block, of which the room has the first octets, and takes it. `None` if it isn't one.
 pub(crate) fn finish_block<R: Read>(
     reader: &mut R,
     section: &mut Section,

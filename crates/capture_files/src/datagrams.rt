@@ -31,7 +31,7 @@ const MOST: u64 = 4_611_686_018_427_387_904;
 pub(crate) enum Sorted<'a> {
     /// Its datagram is a line of the log, at this moment.
     Logged(u64, &'a [u8]),
-    /// It is told by itself.
+    /// It is reported by itself.
     Told(Telling),
     /// It is counted.
     Counted(Reason),
@@ -99,7 +99,7 @@ fn sort_record<'a>(captured: Captured<'a>, ports: &[u16]) -> Sorted<'a>
     sort(moment, head.link, found, ports)
 }
 
-/// The words for a record that is told.
+/// The words for a record that is reported.
 fn told_word(why: Telling) -> &'static str
     ensures { result.now ≡ told_word why }
 {
@@ -163,7 +163,7 @@ fn write_datagram<P: Printer, L: Write>(
     }
 }
 
-/// Sorts a record, and writes what it comes to.
+/// Sorts a record, and writes its line or counts it.
 pub(crate) fn write_record<P: Printer, L: Write, N: Write>(
     alloc: Global,
     ports: &[u16],
@@ -208,7 +208,7 @@ pub(crate) fn write_record<P: Printer, L: Write, N: Write>(
     }
 }
 
-/// Writes what an item comes to, whose packet stands in the room, and answers the number of the next record.
+/// Writes the record of an item, whose packet is in the room, and answers the number of the next record.
 fn write_item<P: Printer, L: Write, N: Write>(
     alloc: Global,
     ports: &[u16],

@@ -112,7 +112,7 @@ fn with_option(order: Order, octets: &[u8], interface: Interface) -> Interface
     interface
 }
 
-/// What stands behind the first option, whose value is filled up to a multiple of four octets.
+/// What follows the first option, whose value is filled up to a multiple of four octets.
 fn behind_option(order: Order, octets: &[u8]) -> &[u8]
     requires { 4 ≤ length octets.now }
     ensures { result.now ≡ behind_option order octets.now }

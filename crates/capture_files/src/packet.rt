@@ -76,7 +76,7 @@ pub(crate) fn unframe(link: u32, packet: &[u8]) -> Network<'_>
     }
 }
 
-/// What stands behind a header of so many octets, whose type is at a place.
+/// What follows a header of so many octets, whose type is at a place.
 fn after_header(packet: &[u8], place: usize, head: usize) -> Network<'_>
     requires { place + 2 ≤ head }
     ensures { IsFramed packet.now place head result }
@@ -187,7 +187,7 @@ fn find_in_ipv6(octets: &[u8], whole: bool) -> Found<'_>
     }
 }
 
-/// Where an extension header of IPv6 begins, or what stands behind the last, and its kind.
+/// Where an extension header of IPv6 begins, or what follows the last, and its kind.
 #[derive(Clone, Copy, Debug, PartialEq, Eq)]
 pub(crate) struct Place {
     pub(crate) kind: u8,
@@ -253,7 +253,7 @@ fn is_piece(packet: &[u8], place: Place) -> bool
     place.kind == 44 && (field / 8 != 0 || field % 2 != 0)
 }
 
-/// What stands behind an extension header.
+/// What follows an extension header.
 fn next_place(packet: &[u8], place: Place) -> Place
     requires inside { place.at + 8 ≤ length packet.now }
     requires at_most { length packet.now ≤ 65575 }

@@ -19,13 +19,13 @@ const RAW_IP: u16 = 101;
 pub struct PacketLog {
     /// What is printed of their datagrams.
     pub log: Vec<u8>,
-    /// What is told of those that may be part of a datagram, or whose datagram can't be printed, a line each.
+    /// What is reported of those that may be part of a datagram, or whose datagram can't be printed, a line each.
     pub notes: Vec<u8>,
     /// How many datagrams were printed, and how many packets passed over, by reason.
     pub passed: Tally,
 }
 
-/// Writes what the packet with this number comes to.
+/// Writes the record of the packet with this number.
 fn write_packet<P: Printer>(
     alloc: Global,
     ports: &[u16],

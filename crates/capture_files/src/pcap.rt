@@ -32,7 +32,7 @@ pub(crate) struct Header {
     pub(crate) order: Order,
     /// The type of the link, a number of LINKTYPE.
     pub(crate) link: u16,
-    /// What is below a second is told in nanoseconds, and not in microseconds.
+    /// Parts of a second are in nanoseconds, and not in microseconds.
     pub(crate) nanoseconds: bool,
 }
 

@@ -139,7 +139,7 @@ fn block_kind(order: Order, octets: &[u8]) -> Kind
     kind_of(read_32(order, octets, 0))
 }
 
-/// A record of which nothing is told but that it has no moment.
+/// A record of which only that is reported that it has no timestamp.
 const UNDATED: Head = Head {
     link: 0,
     moment: None,

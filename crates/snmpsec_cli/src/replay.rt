@@ -18,7 +18,7 @@ const MOMENT: Word = (
 pub(crate) static REPLAY: Form = Form {
     command: Command::Replay,
     name: "replay",
-    about: "Take a log of datagrams as a manager does: print what each comes to, and then the clocks",
+    about: "Process a log of datagrams as a manager does: print a line for each, and then the clocks",
     status: "A log has at most 1000000 lines. Replay a longer one in pieces, each with --clocks-only;
 merge-clocks joins the clocks that they print.
 
