@@ -1,7 +1,7 @@
 -- What was sealed is accepted by who has its user and allows its engine.
 use Rattle.snmp_message.specs.declared.refusal.Refusal.TheVariants.{NotInWindow}
 use Rattle.snmp_message.specs.declared.refusal.Refusal.{Refusal}
-use Rattle.std.proofs.Common.{◌≡◌, ℕ, ◌-◌, ◌<◌, ◌≤◌, arith, List, [], ◌+◌, ◌++◌, Bool, true, false, length, drop, refl, sym, ap, subst, ◌∙◌, inl, inr, append-nil}
+use Rattle.std.proofs.Common.{◌≡◌, ℕ, ◌-◌, ◌≤◌, arith, List, [], ◌+◌, ◌++◌, Bool, true, false, length, drop, refl, sym, ap, subst, ◌∙◌, inl, inr, append-nil}
 use Rattle.std.specs.Prelude.{if◌then◌else◌, ◌&&◌, Result, Ok, Err, Option, Some, None, is_some, IsSomeAnd, MatchBool}
 use Rattle.std.proofs.lemmas.Bool.{cases_lt}
 use Rattle.snmp_ber.specs.Element.{IsElement}
@@ -97,9 +97,9 @@ manager_stable held notion p h = (
   elim (cases_lt held.boots p.boots) [
     | inl lt ↦ inl lt
     | inr le ↦ inr (
-        eq_stable p.boots held.boots (λ no. h (λ w. elim w.1 [ inl lt ↦ absurd (omega (arith, lt, le)) | inr same ↦ no same.0 ])),
-        le_stable notion (p.time + time_window) (λ no. h (λ w. elim w.1 [ inl lt ↦ absurd (omega (arith, lt, le)) | inr same ↦ no same.1 ])),
-      )
+      eq_stable p.boots held.boots (λ no. h (λ w. elim w.1 [ inl lt ↦ absurd (omega (arith, lt, le)) | inr same ↦ no same.0 ])),
+      le_stable notion (p.time + time_window) (λ no. h (λ w. elim w.1 [ inl lt ↦ absurd (omega (arith, lt, le)) | inr same ↦ no same.1 ])),
+    )
   ],
 )
 
