@@ -1,8 +1,7 @@
 //! The manager.
 
-ghost use Rattle.std.specs.Prelude.{◌≡◌, ◌<◌, ◌≤◌, ◌⊎◌, ℕ, pos, List, [], All, length, map};
-ghost use Rattle.std.specs.Prelude.{Ok, Err, IfOk, IfErr, IfSome};
-ghost use Rattle.std.specs.Prelude.{IsOk, IsSome, MatchResult, OnErr, OnOk, Some, slice_get};
+ghost use Rattle.std.specs.Prelude.{◌≡◌, ◌<◌, ◌≤◌, ◌⊎◌, ℕ, pos, List, [], All, length, map, slice_get, Some, Ok, Err};
+ghost use Rattle.std.specs.Prelude.{IfOk, IfErr, IfSome, IsOk, IsSome, MatchResult, OnErr, OnOk};
 ghost use Rattle.std.specs.Global.{Vec as Octets};
 ghost use Rattle.std.specs.Option.{option_map};
 ghost use Rattle.engine_clock.specs.Pairs.{IsPair};

@@ -1,7 +1,7 @@
 -- What was sealed is accepted by who has its user and allows its engine.
 use Rattle.snmp_message.specs.declared.refusal.Refusal.TheVariants.{NotInWindow}
 use Rattle.snmp_message.specs.declared.refusal.Refusal.{Refusal}
-use Rattle.std.proofs.Common.{◌≡◌, ℕ, ◌-◌, ◌<◌, ◌≤◌, arith, List, [], ◌+◌, ◌++◌, Bool, true, false, length, drop, refl, sym, ap, subst, ◌∙◌, inl, inr, append-nil}
+use Rattle.std.proofs.Common.{◌≡◌, ℕ, ◌-◌, ◌≤◌, arith, List, [], ◌+◌, ◌++◌, Bool, true, false, length, drop, refl, sym, ap, subst, ◌∙◌, inl, inr, append-nil}
 use Rattle.std.specs.Prelude.{if◌then◌else◌, ◌&&◌, Result, Ok, Err, Option, Some, None, is_some, IsSomeAnd, MatchBool}
 use Rattle.std.proofs.lemmas.Bool.{cases_lt}
 use Rattle.snmp_ber.specs.Element.{IsElement}

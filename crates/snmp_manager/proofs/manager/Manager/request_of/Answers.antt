@@ -3,7 +3,7 @@ use Rattle.std.specs.Prelude.{map, Ok}
 use Rattle.engine_clock.specs.Pairs.{BootsAndTime, IsPair}
 use Rattle.engine_clock.specs.Marks.{mark_at}
 use Rattle.usm_core.specs.Sealed.{Seals}
-use Rattle.snmp_outgoing.specs.Requests.{request, written_pair}
+use Rattle.snmp_outgoing.specs.Requests.{request}
 use Rattle.snmp_outgoing.specs.Speaks.{Speech, spoken, SpeechFits}
 use Rattle.snmp_manager.specs.Views.{Held}
 use Rattle.snmp_manager.specs.Sent.{IsAcceptedByAgents}
