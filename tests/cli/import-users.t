@@ -32,6 +32,19 @@ counterpart here.
   f:8: user name="h6" auth="sha256" auth-password="maplesyrup"
   context: context name=""
 
+Of three users of a name the last counts.
+
+  $ cat > f <<'END'
+  > createUser ann MD5 maplesyrup
+  > createUser ann SHA maplesyrup
+  > createUser ann SHA-256 maplesyrup
+  > END
+  $ snmpsec import-snmpd f | rows
+  ! f:1: ignored: createUser: the row of f:3 has the same index
+  ! f:2: ignored: createUser: the row of f:3 has the same index
+  f:3: user name="ann" auth="sha256" auth-password="maplesyrup"
+  context: context name=""
+
 An empty name of a hash means none, and then no key can be made.
 
   $ cat > f <<'END'

@@ -4,10 +4,10 @@ ghost use Rattle.std.specs.Prelude.{map, IfOk};
 ghost use Rattle.snmpd_import.specs.Rows.{ComesTo};
 ghost use Rattle.snmpd_import.specs.Notes.{told_of};
 
+use crate::all_notes::all_notes;
 use crate::notes::Told;
 use crate::read_back::{TextFault, configuration};
 use crate::rows::kept_of;
-use crate::told::all_notes;
 use snmpd_tables::{Item, lists_of, meant};
 use std::alloc::Global;
 use vacm_core::ContextRow;
@@ -34,7 +34,8 @@ pub fn import(
     items: Vec<Item>,
     contexts: Vec<ContextRow>,
 ) -> Result<Imported, TextFault>
-    ensures { IfOk result (λ done. ComesTo items.items contexts.items done.text.items (map told_of done.notes.items)) }
+    ensures { IfOk result (λ done. ComesTo items.items contexts.items done.text.items
+        (map told_of done.notes.items)) }
 {
     let lines = meant(alloc, items)?;
     let lists = lists_of(alloc, &lines)?;

@@ -260,7 +260,8 @@ fn of_line(made: &Made) -> Option<Reason>
 
 /// Appends the note on a line, where there is one.
 fn put_note(alloc: Global, notes: &mut Vec<Told>, item: &Item) -> Result<(), AllocError>
-    ensures { OnOk result (map told_of notes.new.items ≡ map told_of notes.old.items ++ tells item.now) }
+    ensures { OnOk result
+        (map told_of notes.new.items ≡ map told_of notes.old.items ++ tells item.now) }
 {
     let Some(reason) = of_line(&item.made) else {
         return Ok(());
