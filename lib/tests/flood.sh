@@ -59,17 +59,21 @@ socket.socket(socket.AF_INET, socket.SOCK_RAW, socket.IPPROTO_UDP).sendto(struct
     check "datagrams from port 0 write no line" "" "$(cat "$work/agent.err")"
 }
 
-# Whether users keep a tenth of their rate or more beside a flood, in one of three tries. Other work on
-# the machine lowers the rates, so bench/hostile measures them, beside five times as many messages.
+# Whether users keep half of their rate or more beside a flood of 100,000 messages a second. It is counted by seconds of the agent's processor, in
+# which the agent answers up to 140,000 times alone: so a hostile message may cost it as much as 0.7 answers. What one costs is what a turn beside the
+# flood lacks of the best turn alone, for each hostile message that came. It is taken from the best of twenty turns, of those where half of the flood
+# came, so that neither the machine's speed nor other work on it fails this. bench/hostile measures by the clock.
 withstands() { # KIND
-    local signed tries
-    signed=$(message signed)
-    for tries in 1 2 3; do
-        "$OUT/flood" "$port" "$signed" "$(message "$1")" 20000 5 300 > "$work/flood.out"
-        awk '{ alone += $1; beside += $2; sent += $3 } END { printf "%d a second alone, %d beside %d\n", alone / NR, beside / NR, sent / NR; exit 10 * beside < alone }' \
-            "$work/flood.out" > "$work/flood.told" && return
-    done
-    return 1
+    "$OUT/flood" "$port" "$(message signed)" "$(message "$1")" 1.5 20 100 "$agent" > "$work/flood.out"
+    awk '{ if ($1 > alone) alone = $1 }
+         $3 > 0.5 * 1.5 * $1 { beside[++turns] = $2; came[turns] = $3 }
+         END {
+             if (!turns) { print "skipped: in no turn half of the flood came to the agent"; exit }
+             least = 1000
+             for (turn in beside) { cost = (alone - beside[turn]) / came[turn]; if (cost < least) least = cost }
+             printf "%d answers in a second of its processor alone; a hostile message costs as much as %.2f, in the best of %d turns\n", alone, least, turns
+             exit least > 0.7
+         }' "$work/flood.out" > "$work/flood.told"
 }
 
 test_floods() {
@@ -78,7 +82,7 @@ test_floods() {
     begin_full '1.3.6.1.4.1.99999.2.&.0'
     for kind in bulk discovery forged; do
         withstands $kind
-        check "users keep a tenth of their rate beside a flood, $kind" "0" "$?"
+        check "users keep half of their rate beside a flood, $kind" "0" "$?"
         echo "flood: $kind: $(cat "$work/flood.told")"
     done
     end_agent

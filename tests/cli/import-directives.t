@@ -113,12 +113,12 @@ These are the names of hashes.
   > createUser 11 SHA512 maplesyrup
   > END
   $ snmpsec import-snmpd f | rows
-  ! f:5: left out: createUser: there is no counterpart to its hash, or a key stands in the place of a passphrase
-  ! f:6: left out: createUser: there is no counterpart to its hash, or a key stands in the place of a passphrase
-  ! f:9: left out: createUser: there is no counterpart to its hash, or a key stands in the place of a passphrase
-  ! f:10: left out: createUser: there is no counterpart to its hash, or a key stands in the place of a passphrase
-  ! f:11: left out: createUser: there is no counterpart to its hash, or a key stands in the place of a passphrase
-  ! f:12: left out: createUser: there is no counterpart to its hash, or a key stands in the place of a passphrase
+  ! f:5: left out: createUser: no counterpart to its hash, or a key instead of a passphrase
+  ! f:6: left out: createUser: no counterpart to its hash, or a key instead of a passphrase
+  ! f:9: left out: createUser: no counterpart to its hash, or a key instead of a passphrase
+  ! f:10: left out: createUser: no counterpart to its hash, or a key instead of a passphrase
+  ! f:11: left out: createUser: no counterpart to its hash, or a key instead of a passphrase
+  ! f:12: left out: createUser: no counterpart to its hash, or a key instead of a passphrase
   f:1: user name="0" auth="md5" auth-password="maplesyrup"
   f:2: user name="1" auth="sha1" auth-password="maplesyrup"
   f:3: user name="2" auth="sha1" auth-password="maplesyrup"
@@ -146,18 +146,18 @@ These are the names of ciphers, and two that aren't.
   > createUser 13 SHA-512 maplesyrup AES-128-C
   > END
   $ snmpsec import-snmpd f | rows
-  ! f:1: left out: createUser: there is no counterpart to its hash, or a key stands in the place of a passphrase
-  ! f:2: left out: createUser: there is no counterpart to its hash, or a key stands in the place of a passphrase
-  ! f:3: left out: createUser: there is no counterpart to its hash, or a key stands in the place of a passphrase
-  ! f:4: left out: createUser: there is no counterpart to its hash, or a key stands in the place of a passphrase
-  ! f:5: left out: createUser: there is no counterpart to its hash, or a key stands in the place of a passphrase
-  ! f:6: left out: createUser: there is no counterpart to its hash, or a key stands in the place of a passphrase
-  ! f:7: left out: createUser: there is no counterpart to its hash, or a key stands in the place of a passphrase
-  ! f:8: left out: createUser: there is no counterpart to its hash, or a key stands in the place of a passphrase
-  ! f:9: left out: createUser: there is no counterpart to its hash, or a key stands in the place of a passphrase
-  ! f:10: left out: createUser: there is no counterpart to its hash, or a key stands in the place of a passphrase
-  ! f:11: left out: createUser: there is no counterpart to its hash, or a key stands in the place of a passphrase
-  ! f:12: left out: createUser: there is no counterpart to its hash, or a key stands in the place of a passphrase
+  ! f:1: left out: createUser: no counterpart to its hash, or a key instead of a passphrase
+  ! f:2: left out: createUser: no counterpart to its hash, or a key instead of a passphrase
+  ! f:3: left out: createUser: no counterpart to its hash, or a key instead of a passphrase
+  ! f:4: left out: createUser: no counterpart to its hash, or a key instead of a passphrase
+  ! f:5: left out: createUser: no counterpart to its hash, or a key instead of a passphrase
+  ! f:6: left out: createUser: no counterpart to its hash, or a key instead of a passphrase
+  ! f:7: left out: createUser: no counterpart to its hash, or a key instead of a passphrase
+  ! f:8: left out: createUser: no counterpart to its hash, or a key instead of a passphrase
+  ! f:9: left out: createUser: no counterpart to its hash, or a key instead of a passphrase
+  ! f:10: left out: createUser: no counterpart to its hash, or a key instead of a passphrase
+  ! f:11: left out: createUser: no counterpart to its hash, or a key instead of a passphrase
+  ! f:12: left out: createUser: no counterpart to its hash, or a key instead of a passphrase
   ! f:13: refused by snmpd: createUser: unknown privProtocol
   ! f:14: refused by snmpd: createUser: unknown privProtocol
   context: context name=""
@@ -169,8 +169,8 @@ These are the names of ciphers, and two that aren't.
   > createUser 4 SHA maplesyrup AES-192 secondsyrup
   > END
   $ snmpsec import-snmpd f | rows
-  ! f:1: left out: createUser: there is no counterpart to its cipher, or a key stands in the place of a passphrase: the user is without privacy
-  ! f:5: left out: createUser: there is no counterpart to its cipher, or a key stands in the place of a passphrase: the user is without privacy
+  ! f:1: left out: createUser: no counterpart to its cipher, or a key instead of a passphrase: the user is without privacy
+  ! f:5: left out: createUser: no counterpart to its cipher, or a key instead of a passphrase: the user is without privacy
   f:1: user name="0" auth="sha1" auth-password="maplesyrup"
   f:2: user name="1" auth="sha1" auth-password="maplesyrup" priv-password="secondsyrup"
   f:3: user name="2" auth="sha1" auth-password="maplesyrup" priv-password="secondsyrup"

@@ -33,6 +33,19 @@ A file that isn't there has a note. With `--no-include` none is opened.
   ! f:1: left out: includeFile: not followed: name the files on the command line
   context: context name=""
 
+Of a word that is no directive's only what could be one is shown: a file may be named by mistake that holds secrets.
+
+  $ echo 'includeFile shadow' > f
+  $ cat > shadow <<'END'
+  > root:$6$salt$k0bhGK:19000:0:99999:7:::
+  > correct-horse-battery-staple-1234567890 rest
+  > END
+  $ snmpsec import-snmpd f | rows
+  ! f:1: other: includeFile: read in its place
+  ! shadow:1: refused by snmpd: root...: nothing behind it
+  ! shadow:2: other: correct-horse-battery-staple-123...
+  context: context name=""
+
 The file is read at the place of the line. Its name is relative to the file that names it.
 
   $ mkdir folder

@@ -39,7 +39,7 @@ Only directives of the section `[snmpd]` matter. A section may be on the line of
   $ snmpsec import-snmpd f | rows
   ! f:2: other: rouser
   ! f:3: other: RoUser
-  ! f:4: refused by snmpd: rouser#ann: nothing behind it
+  ! f:4: refused by snmpd: rouser...: nothing behind it
   ! f:5: refused by snmpd: rouser: nothing behind it
   ! f:6: other: rouser
   ! f:8: refused by snmpd: [snmpd]: nothing behind it

@@ -19,10 +19,10 @@ counterpart here.
   > END
   $ snmpsec import-snmpd f | rows
   ! f:2: refused by snmpd: createUser: could not generate the authentication key from the supplied pass phrase
-  ! f:6: left out: createUser: there is no counterpart to its hash, or a key stands in the place of a passphrase
-  ! f:7: left out: createUser: there is no counterpart to its hash, or a key stands in the place of a passphrase
-  ! f:9: left out: createUser: there is no counterpart to its hash, or a key stands in the place of a passphrase
-  ! f:10: left out: createUser: there is no counterpart to its hash, or a key stands in the place of a passphrase
+  ! f:6: left out: createUser: no counterpart to its hash, or a key instead of a passphrase
+  ! f:7: left out: createUser: no counterpart to its hash, or a key instead of a passphrase
+  ! f:9: left out: createUser: no counterpart to its hash, or a key instead of a passphrase
+  ! f:10: left out: createUser: no counterpart to its hash, or a key instead of a passphrase
   ! f:11: refused by snmpd: createUser: unknown authProtocol
   ! f:12: refused by snmpd: createUser: unknown authProtocol
   f:1: user name="a"
@@ -30,6 +30,19 @@ counterpart here.
   f:4: user name="h2" auth="sha1" auth-password="maplesyrup"
   f:5: user name="h3" auth="md5" auth-password="maplesyrup"
   f:8: user name="h6" auth="sha256" auth-password="maplesyrup"
+  context: context name=""
+
+Of three users of a name the last counts.
+
+  $ cat > f <<'END'
+  > createUser ann MD5 maplesyrup
+  > createUser ann SHA maplesyrup
+  > createUser ann SHA-256 maplesyrup
+  > END
+  $ snmpsec import-snmpd f | rows
+  ! f:1: ignored: createUser: the row of f:3 has the same index
+  ! f:2: ignored: createUser: the row of f:3 has the same index
+  f:3: user name="ann" auth="sha256" auth-password="maplesyrup"
   context: context name=""
 
 An empty name of a hash means none, and then no key can be made.
@@ -56,10 +69,10 @@ SHA-224 makes keys of 28 octets, SHA-384 and SHA-512 of 48 and 64. AES-256 needs
   > END
   $ snmpsec import-snmpd f | rows
   ! f:1: refused by snmpd: createUser: privKey length is less than required by privProtocol
-  ! f:2: left out: createUser: there is no counterpart to its cipher, or a key stands in the place of a passphrase: the user is without privacy
-  ! f:3: left out: createUser: there is no counterpart to its hash, or a key stands in the place of a passphrase
-  ! f:4: left out: createUser: there is no counterpart to its hash, or a key stands in the place of a passphrase
-  ! f:5: left out: createUser: there is no counterpart to its hash, or a key stands in the place of a passphrase
+  ! f:2: left out: createUser: no counterpart to its cipher, or a key instead of a passphrase: the user is without privacy
+  ! f:3: left out: createUser: no counterpart to its hash, or a key instead of a passphrase
+  ! f:4: left out: createUser: no counterpart to its hash, or a key instead of a passphrase
+  ! f:5: left out: createUser: no counterpart to its hash, or a key instead of a passphrase
   f:2: user name="b" auth="sha256" auth-password="maplesyrup"
   context: context name=""
 
@@ -80,11 +93,11 @@ A prefix of a cipher's name is enough, in either case. Only AES-128 has a counte
   > createUser c SHA maplesyrup '' secondsyrup
   > END
   $ snmpsec import-snmpd f | rows
-  ! f:2: left out: createUser: there is no counterpart to its cipher, or a key stands in the place of a passphrase: the user is without privacy
-  ! f:5: left out: createUser: there is no counterpart to its cipher, or a key stands in the place of a passphrase: the user is without privacy
-  ! f:6: left out: createUser: there is no counterpart to its cipher, or a key stands in the place of a passphrase: the user is without privacy
-  ! f:7: left out: createUser: there is no counterpart to its cipher, or a key stands in the place of a passphrase: the user is without privacy
-  ! f:8: left out: createUser: there is no counterpart to its cipher, or a key stands in the place of a passphrase: the user is without privacy
+  ! f:2: left out: createUser: no counterpart to its cipher, or a key instead of a passphrase: the user is without privacy
+  ! f:5: left out: createUser: no counterpart to its cipher, or a key instead of a passphrase: the user is without privacy
+  ! f:6: left out: createUser: no counterpart to its cipher, or a key instead of a passphrase: the user is without privacy
+  ! f:7: left out: createUser: no counterpart to its cipher, or a key instead of a passphrase: the user is without privacy
+  ! f:8: left out: createUser: no counterpart to its cipher, or a key instead of a passphrase: the user is without privacy
   ! f:9: refused by snmpd: createUser: unknown privProtocol
   ! f:10: refused by snmpd: createUser: unknown privProtocol
   ! f:11: refused by snmpd: createUser: unknown privProtocol
@@ -112,7 +125,7 @@ Without its own passphrase the cipher uses the key of the hash. SHA makes 20 oct
   > createUser c6 SHA maplesyrup AES256C
   > END
   $ snmpsec import-snmpd f | rows
-  ! f:1: left out: createUser: there is no counterpart to its cipher, or a key stands in the place of a passphrase: the user is without privacy
+  ! f:1: left out: createUser: no counterpart to its cipher, or a key instead of a passphrase: the user is without privacy
   ! f:4: refused by snmpd: createUser: privKey length is less than required by privProtocol
   ! f:5: refused by snmpd: createUser: privKey length is less than required by privProtocol
   ! f:6: refused by snmpd: createUser: privKey length is less than required by privProtocol
@@ -134,11 +147,11 @@ SHA-224 makes 28 octets.
   > createUser c6 SHA-224 maplesyrup AES256C
   > END
   $ snmpsec import-snmpd f | rows
-  ! f:1: left out: createUser: there is no counterpart to its hash, or a key stands in the place of a passphrase
-  ! f:2: left out: createUser: there is no counterpart to its hash, or a key stands in the place of a passphrase
-  ! f:3: left out: createUser: there is no counterpart to its hash, or a key stands in the place of a passphrase
-  ! f:4: left out: createUser: there is no counterpart to its hash, or a key stands in the place of a passphrase
-  ! f:5: left out: createUser: there is no counterpart to its hash, or a key stands in the place of a passphrase
+  ! f:1: left out: createUser: no counterpart to its hash, or a key instead of a passphrase
+  ! f:2: left out: createUser: no counterpart to its hash, or a key instead of a passphrase
+  ! f:3: left out: createUser: no counterpart to its hash, or a key instead of a passphrase
+  ! f:4: left out: createUser: no counterpart to its hash, or a key instead of a passphrase
+  ! f:5: left out: createUser: no counterpart to its hash, or a key instead of a passphrase
   ! f:6: refused by snmpd: createUser: privKey length is less than required by privProtocol
   ! f:7: refused by snmpd: createUser: privKey length is less than required by privProtocol
   context: context name=""
@@ -167,7 +180,7 @@ A word that begins with `default` selects the default protocol.
   > createUser -M ann XX defaultpass defaultAES secondsyrup
   > END
   $ snmpsec import-snmpd f | rows
-  ! f:1: left out: createUser: there is no counterpart to its cipher, or a key stands in the place of a passphrase: the user is without privacy
+  ! f:1: left out: createUser: no counterpart to its cipher, or a key instead of a passphrase: the user is without privacy
   f:1: user name="ann" auth="md5" auth-password="defaultpass"
   context: context name=""
 
@@ -184,8 +197,8 @@ A quoted passphrase selects no default.
   > createUser bob MD5 maplesyrup AES-256 secondsyrup
   > END
   $ snmpsec import-snmpd f | rows
-  ! f:1: left out: createUser: there is no counterpart to its hash, or a key stands in the place of a passphrase
-  ! f:2: left out: createUser: there is no counterpart to its cipher, or a key stands in the place of a passphrase: the user is without privacy
+  ! f:1: left out: createUser: no counterpart to its hash, or a key instead of a passphrase
+  ! f:2: left out: createUser: no counterpart to its cipher, or a key instead of a passphrase: the user is without privacy
   f:2: user name="bob" auth="md5" auth-password="maplesyrup"
   context: context name=""
 
@@ -196,7 +209,7 @@ A user may have no passphrase. One with a key instead of a passphrase is left ou
   > createUser ann SHA -l 0x1234 AES secondsyrup
   > END
   $ snmpsec import-snmpd f | rows
-  ! f:2: left out: createUser: there is no counterpart to its hash, or a key stands in the place of a passphrase
+  ! f:2: left out: createUser: no counterpart to its hash, or a key instead of a passphrase
   f:1: user name="-M"
   context: context name=""
 

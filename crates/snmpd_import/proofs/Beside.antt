@@ -10,12 +10,12 @@ use Rattle.snmpd_tables.specs.declared.rows.HeldFamily.{HeldFamily}
 use Rattle.snmpd_tables.specs.Orders.{order_of_families}
 use Rattle.snmpd_tables.proofs.Indexes.{of_same_subtree}
 use Rattle.snmpd_tables.specs.declared.rows.Place.{Place}
-use Rattle.snmpd_tables.specs.Kept.{IsFirstLike}
+use Rattle.snmpd_tables.specs.EffectiveRows.{IsFirstLike}
 use Rattle.snmpd_tables.proofs.Runs.{in_front}
 use Rattle.snmpd_import.specs.declared.notes.Kind.{Kind}
-use Rattle.snmpd_import.specs.declared.second.Second.{Second}
+use Rattle.snmpd_import.specs.declared.duplicates.Second.{Second}
 use Rattle.snmpd_import.specs.Notes.{tells_kind}
-use Rattle.snmpd_import.specs.Seconds.{IsBeside, AreTold, kind_in, IsFamilyKind, IsSecondFamily, place_of_family}
+use Rattle.snmpd_import.specs.Duplicates.{IsBeside, AreTold, kind_in, IsFamilyKind, IsSecondFamily, place_of_family}
 
 -- ---- one row
 

@@ -3,7 +3,7 @@ use Rattle.std.proofs.Common.{◌≡◌, ℕ, ◌<◌, ◌≤◌, suc, List, len
 use Rattle.std.proofs.lemmas.List.{get_or-set_same, get_or-set_other, length-set}
 use Rattle.vacm_core.specs.Allowed.{mask_bit, FitsVariable}
 use Rattle.vacm_core.specs.declared.rows.FamilyRow.{FamilyRow}
-use Rattle.snmpd_import.specs.Seconds.{Covers}
+use Rattle.snmpd_import.specs.Duplicates.{Covers}
 
 -- each arc that the first compares the second compares too
 pub covering : (first second : FamilyRow) → first.view ≡ second.view → first.subtree ≡ second.subtree

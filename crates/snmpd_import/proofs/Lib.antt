@@ -1,3 +1,5 @@
 pub mod Beside
 pub mod Covering
 pub mod Makers
+pub mod LastUsers
+pub mod SecurityNames

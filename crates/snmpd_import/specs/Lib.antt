@@ -1,5 +1,5 @@
 pub mod Rows
 pub mod Notes
 pub mod Users
-pub mod Seconds
+pub mod Duplicates
 pub mod Included

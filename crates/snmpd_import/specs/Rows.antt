@@ -9,9 +9,9 @@ use Rattle.std.specs.List.{flat_map}
 use Rattle.vacm_core.specs.Tables.{Tables}
 use Rattle.vacm_core.specs.declared.rows.ContextRow.{ContextRow}
 use Rattle.snmpsec_config.specs.Refusals.{SaysSound}
-use Rattle.snmpd_tables.specs.Kept.{AreGroupsKept, AreAccessKept, AreFamiliesKept}
+use Rattle.snmpd_tables.specs.EffectiveRows.{AreGroupsKept, AreAccessKept, AreFamiliesKept}
 use Rattle.snmpd_tables.specs.Lists.{Tables as HeldTables, at_start, HoldsAfter}
-use Rattle.snmpd_tables.specs.Meant.{AreMeant}
+use Rattle.snmpd_tables.specs.ExpandedItems.{AreMeant}
 use Rattle.snmpd_tables.specs.declared.items.Item.{Item}
 use Rattle.snmpd_tables.specs.declared.rows.Place.{Place}
 use Rattle.snmpd_tables.specs.declared.rows.HeldGroup.{HeldGroup}
@@ -21,7 +21,7 @@ use Rattle.snmpd_import.specs.declared.rows.KeptRows.{KeptRows}
 use Rattle.snmpd_import.specs.declared.notes.Kind.{Kind}
 use Rattle.snmpd_import.specs.Notes.{tells as tells_of, change_told, difference_told}
 use Rattle.snmpd_import.specs.Users.{said_with_place, AreUsers, AreUsersOf}
-use Rattle.snmpd_import.specs.Seconds.{TellsSeconds}
+use Rattle.snmpd_import.specs.Duplicates.{TellsSeconds}
 use Rattle.usm_users.specs.declared.load.UserRow.{UserRow}
 use Rattle.snmpd_tables.specs.Compared.{Sides, TellsDifferences}
 use Rattle.snmpd_tables.specs.declared.comparison.Difference.{Difference}
@@ -62,7 +62,8 @@ compared held kept = record {
 -- What is told, in this order: of each of the lines that makes no row; of each that changed a row of another
 -- index than its own; of rows beside which others count; and of each row that snmpd chooses for messages for
 -- which RFC 3415 comes to other views, over the rows that are kept.
-pub record TellsAll (lines : List Item) (held : HeldTables) (kept : KeptRows) (told : List (Place × Kind)) : Type 0 where
+pub record TellsAll (lines : List Item) (held : HeldTables) (kept : KeptRows)
+    (told : List (Place × Kind)) : Type 0 where
   pub second : List (Place × Kind)
   pub seconds : TellsSeconds lines held kept second
   pub differences : List Difference

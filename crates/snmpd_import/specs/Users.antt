@@ -6,6 +6,11 @@
 use Rattle.std.specs.Prelude.{◌≡◌, ◌≢◌, ℕ, ◌<◌, Bool, true, false, List, [], ◌∷◌, ◌++◌, length, get_or, Contains}
 use Rattle.std.specs.Prelude.{Option, Some, None, MatchOption}
 use Rattle.std.specs.Option.{option_map}
+use Rattle.std.specs.Ordering.{nat_cmp}
+use Rattle.std.specs.Cmp.Lexicographic.{slice_cmp}
+use Rattle.std.specs.declared.cmp.Ordering.{Ordering}
+use Rattle.std.specs.BTreeMap as tree
+use Rattle.std.specs.BTreeMap.{BTreeMap}
 use Rattle.std.specs.Global.{Vec}
 use Rattle.usm_keys.specs.declared.auth.Auth.{Auth}
 use Rattle.usm_keys.specs.declared.auth.Auth.TheVariants as auths
@@ -134,11 +139,21 @@ AreUsers (item ∷ later) users =
     × MatchOption found ((said : Said) → IsUser item later said → ⊥) (IsUser item later)
     × (users ≡ with_place item.place found ++ others) × AreUsers later others
 
--- the users after a line, before these lines
-abbrev pub TakesUser : Item → List Item → List (Place × Said) → List (Place × Said) → Type 0
-TakesUser item later before after =
-    (found : Option Said) × MatchOption found ((said : Said) → IsUser item later said → ⊥) (IsUser item later)
-    × (after ≡ before ++ with_place item.place found)
+-- ---- where the last user of each name is made
+
+-- the last of the lines that makes a user of this name stands here
+pub record IsLast (items : List Item) (name : List ℕ) (place : ℕ) : Type 0 where
+  pub within : place < length items
+  pub makes : (d : Item) → MakesUser (get_or items place d) name
+  pub last : (k : ℕ) (d : Item) → place < k → k < length items → MakesUser (get_or items k d) name → ⊥
+
+abbrev pub name_cmp : Vec ℕ → Vec ℕ → Ordering
+name_cmp a b = slice_cmp nat_cmp a.items b.items
+
+-- the map has the place of the last line that makes a user of each name, and no other name
+abbrev pub AreLast : List Item → BTreeMap (Vec ℕ) ℕ → Type 0
+AreLast items last = (name : Vec ℕ)
+    → MatchOption (tree.get name_cmp last name) (MakeUser items name.items → ⊥) (IsLast items name.items)
 
 -- ---- what has no counterpart
 

@@ -1,13 +1,13 @@
-//! From lines to the configuration that they come to, and what is told of them.
+//! From lines to the configuration that they result in, and the notes on them.
 
 ghost use Rattle.std.specs.Prelude.{map, IfOk};
 ghost use Rattle.snmpd_import.specs.Rows.{ComesTo};
 ghost use Rattle.snmpd_import.specs.Notes.{told_of};
 
+use crate::all_notes::all_notes;
 use crate::notes::Told;
 use crate::read_back::{TextFault, configuration};
 use crate::rows::kept_of;
-use crate::told::all_notes;
 use snmpd_tables::{Item, lists_of, meant};
 use std::alloc::Global;
 use vacm_core::ContextRow;
@@ -24,7 +24,7 @@ pub struct Imported {
 /// The configuration that these lines come to, with these contexts, given the names of the files that the
 /// lines are from.
 ///
-/// Each line is in its rows, or is told: first those that make no row, in their order; then those that
+/// Each line is in its rows, or has a note: first those that make no row, in their order; then those that
 /// changed a row of another index than their own; then the rows beside which another one counts; and at last
 /// for which messages snmpd and RFC 3415 choose rows with other views. The fault is out of memory, or
 /// `NotReadBack`.
@@ -34,7 +34,8 @@ pub fn import(
     items: Vec<Item>,
     contexts: Vec<ContextRow>,
 ) -> Result<Imported, TextFault>
-    ensures { IfOk result (λ done. ComesTo items.items contexts.items done.text.items (map told_of done.notes.items)) }
+    ensures { IfOk result (λ done. ComesTo items.items contexts.items done.text.items
+        (map told_of done.notes.items)) }
 {
     let lines = meant(alloc, items)?;
     let lists = lists_of(alloc, &lines)?;

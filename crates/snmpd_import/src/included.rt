@@ -228,7 +228,7 @@ fn follow_once<R: Files + AllocGlobal>(rt: &R, sources: Sources) -> Result<Sourc
     Ok(followed)
 }
 
-/// What a line comes to that names files which aren't read.
+/// The result for a line that names files which aren't read.
 fn without_files(made: Made, followed: Followed) -> Made
     ensures left { NamesNone result }
 {
@@ -267,8 +267,10 @@ pub fn follow<R: Files + AllocGlobal>(
     sources: Sources,
     no_include: bool,
 ) -> Result<Sources, AllocError>
-    ensures followed { IfOk result (λ followed. All (λ item. NamesNone item.made) followed.items.items) }
-    ensures left_out { no_include ≡ true → IfOk result (λ followed. followed.names ≡ sources.names) }
+    ensures followed { IfOk result
+        (λ followed. All (λ item. NamesNone item.made) followed.items.items) }
+    ensures left_out { no_include ≡ true
+        → IfOk result (λ followed. followed.names ≡ sources.names) }
 {
     if no_include {
         return leave(rt.alloc(), sources, Followed::LeftOut);

@@ -13,22 +13,22 @@
 //! ```
 #![tactic(auto)]
 
+mod all_notes;
 mod blocks;
+mod duplicates;
 mod imported;
 mod included;
 mod notes;
 mod read_back;
 mod rows;
-mod second;
 mod texts;
-mod told;
 mod users;
 
+pub use duplicates::second_notes;
 pub use imported::{Imported, import};
 pub use included::{Sources, follow};
 pub use notes::{Kind, Told, Why, line_notes};
 pub use read_back::{TextFault, configuration};
 pub use rows::{KeptRows, kept_of};
-pub use second::second_notes;
 pub use texts::{is_serious, notes_text};
 pub use users::{HeldUser, users_of};

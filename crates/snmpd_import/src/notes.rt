@@ -1,4 +1,4 @@
-//! What is told of lines that are no rows.
+//! The notes on lines that aren't rows.
 
 ghost use Rattle.std.specs.Prelude.{◌≡◌, ◌++◌, map, IfOk, OnOk};
 ghost use Rattle.std.specs.List.{flat_map};
@@ -13,10 +13,10 @@ use snmpd_tables::{Difference, Followed, Include, Item, Made, Place};
 use std::alloc::{AllocError, Global};
 use std::fmt;
 
-/// Why a line whose types of views have another word among them is told.
+/// Why a line whose types of views have another word among them has a note.
 const NO_TYPE: &str = "a word that is for no type of views";
 
-/// Why a line for a community is told.
+/// Why a line for a community has a note.
 const COMMUNITY: &str =
     "messages of SNMPv1 and SNMPv2c are refused here; its rows are for a name of its own";
 
@@ -53,7 +53,7 @@ impl fmt::Display for Kind {
     }
 }
 
-/// Why something is told.
+/// Why there is a note.
 #[derive(Drop)]
 pub enum Why {
     /// The kind says it.
@@ -224,12 +224,12 @@ fn of_user(created: &Created) -> Option<Reason>
     } else if lacks_auth(&protection.authentication) {
         (
             Kind::LeftOut,
-            "there is no counterpart to its hash, or a key stands in the place of a passphrase",
+            "no counterpart to its hash, or a key instead of a passphrase",
         )
     } else if lacks_privacy(&protection.privacy) {
         (
             Kind::LeftOut,
-            "there is no counterpart to its cipher, or a key stands in the place of a passphrase: the user is without privacy",
+            "no counterpart to its cipher, or a key instead of a passphrase: the user is without privacy",
         )
     } else if is_defaulted(&protection.authentication) {
         (
@@ -260,7 +260,8 @@ fn of_line(made: &Made) -> Option<Reason>
 
 /// Appends the note on a line, where there is one.
 fn put_note(alloc: Global, notes: &mut Vec<Told>, item: &Item) -> Result<(), AllocError>
-    ensures { OnOk result (map told_of notes.new.items ≡ map told_of notes.old.items ++ tells item.now) }
+    ensures { OnOk result
+        (map told_of notes.new.items ≡ map told_of notes.old.items ++ tells item.now) }
 {
     let Some(reason) = of_line(&item.made) else {
         return Ok(());

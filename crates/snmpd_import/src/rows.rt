@@ -1,7 +1,7 @@
 //! The rows that are printed.
 
 ghost use Rattle.std.specs.Prelude.{◌≡◌, IfOk};
-ghost use Rattle.snmpd_tables.specs.Kept.{HasOneEach};
+ghost use Rattle.snmpd_tables.specs.EffectiveRows.{HasOneEach};
 ghost use Rattle.snmpd_tables.specs.Lists.{tables_of};
 ghost use Rattle.snmpd_import.specs.Rows.{AreKept};
 

@@ -30,6 +30,26 @@ pub(crate) fn put_shown(out: &mut Vec<u8>, octets: &[u8]) -> Result<(), AllocErr
     Ok(())
 }
 
+/// The most octets of a directive's word that are shown.
+const WORD_SHOWN: usize = 32;
+
+/// The octet can be one of a directive's word, or of a section in brackets.
+fn is_of_word(octet: u8) -> bool {
+    octet.is_ascii_alphanumeric() || matches!(octet, b'-' | b'_' | b'[' | b']')
+}
+
+/// Appends a directive's word. What can't be one is cut, since it may be a secret of a file that a line names
+/// by mistake, as the lines of shadow(5) are.
+fn put_word(out: &mut Vec<u8>, word: &[u8]) -> Result<(), AllocError> {
+    for (count, octet) in word.iter().enumerate() {
+        if count == WORD_SHOWN || !is_of_word(*octet) {
+            return out.extend_from_slice(b"...");
+        }
+        out.push(*octet)?;
+    }
+    Ok(())
+}
+
 /// Appends the row from there.
 fn put_same(
     alloc: Global,
@@ -92,7 +112,7 @@ fn put_chosen(
     }
 }
 
-/// Appends why it is told.
+/// Appends the reason of the note.
 fn put_why(
     alloc: Global,
     out: &mut Vec<u8>,
@@ -125,7 +145,7 @@ fn put_told(
     out.extend_from_slice(format!(in alloc; ": {kind}")?.as_bytes())?;
     if !told.word.is_empty() {
         out.extend_from_slice(b": ")?;
-        put_shown(out, &told.word)?;
+        put_word(out, &told.word)?;
     }
     put_why(alloc, out, files, &told.why)?;
     out.extend_from_slice(b"\n")

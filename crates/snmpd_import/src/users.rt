@@ -1,18 +1,19 @@
 //! The users that lines come to.
 
-ghost use Rattle.std.specs.Prelude.{◌≡◌, ◌↔◌, false, map, IsTrue, IfOk, OnOk, Some, None, MatchOption};
+ghost use Rattle.std.specs.Prelude.{◌≡◌, ◌+◌, ◌++◌, false, map, drop, IfOk, OnOk, Some, None, MatchOption};
 ghost use Rattle.std.specs.Option.{option_map};
 ghost use Rattle.usm_users.specs.Rows.{is_bad_name};
 ghost use Rattle.snmpd_import.specs.Users as spec;
 ghost use Rattle.snmpd_import.specs.Users.{Said, said_of, said_auth, said_privacy, said_with_place, passphrase_in};
-ghost use Rattle.snmpd_import.specs.Users.{auth_for, passphrase_for, privacy_for, HasAuth, IsSaid, MakesUser};
-ghost use Rattle.snmpd_import.specs.Users.{MakeUser, IsUser, TakesUser, AreUsers, lacks_auth, lacks_cipher};
+ghost use Rattle.snmpd_import.specs.Users.{auth_for, passphrase_for, privacy_for, HasAuth, IsSaid, IsLast, AreLast};
+ghost use Rattle.snmpd_import.specs.Users.{MakeUser, IsUser, with_place, AreUsers, lacks_auth, lacks_cipher};
 ghost use Rattle.snmpd_import.specs.Users.{lacks_privacy, is_defaulted};
 
 use snmpd_lines::{Authentication, Cipher, Created, Hash, Privacy, Secret};
 use snmpd_rows::Entry;
 use snmpd_tables::{Item, Made, Place};
 use std::alloc::{AllocError, Global};
+use std::collections::BTreeMap;
 use usm_keys::Auth;
 use usm_users::UserRow;
 
@@ -77,7 +78,8 @@ fn passphrase_for(
     cipher: Cipher,
     secret: &Secret,
 ) -> Result<Option<Vec<u8>>, AllocError>
-    ensures { IfOk result (λ passphrase. said_privacy passphrase ≡ passphrase_for cipher secret.now) }
+    ensures { IfOk result
+        (λ passphrase. said_privacy passphrase ≡ passphrase_for cipher secret.now) }
 {
     match cipher {
         Cipher::Aes128 => passphrase_in(alloc, secret),
@@ -142,66 +144,84 @@ pub(crate) fn created_in(made: &Made) -> Option<&Created>
     }
 }
 
-/// The user has this name.
-fn is_named(created: &Created, name: &[u8]) -> bool
-    ensures { IsTrue result ↔ (created.now.name.items ≡ name.now) }
+/// Where the last line stands that makes a user of each name.
+pub(crate) fn last_users(
+    alloc: Global,
+    items: &[Item],
+) -> Result<BTreeMap<Vec<u8>, usize>, AllocError>
+    ensures { IfOk result (AreLast items.now) }
 {
-    created.name.as_slice() == name
-}
-
-/// The line makes a user of this name.
-fn makes_user(item: &Item, name: &[u8]) -> bool
-    ensures { IsTrue result ↔ MakesUser item.now name.now }
-{
-    match created_in(&item.made) {
-        Some(created) => is_named(created, name),
-        None => false,
-    }
-}
-
-/// The place of the first of the lines that makes a user of this name.
-pub(crate) fn user_at(items: &[Item], name: &[u8]) -> Option<Place>
-    ensures { MatchOption result (MakeUser items.now name.now → ⊥) (λ place. MakeUser items.now name.now) }
-{
-    for item in items {
-        if makes_user(item, name) {
-            return Some(item.place);
+    let mut last = BTreeMap::new(alloc);
+    for (at, item) in items.iter().enumerate() {
+        if let Some(created) = created_in(&item.made) {
+            let name = Vec::from_slice(alloc, &created.name)?;
+            last.insert(name, at)?;
         }
     }
-    None
+    Ok(last)
 }
 
-/// The user that a line comes to, before these lines.
-fn user_in(alloc: Global, item: &Item, later: &[Item]) -> Result<Option<UserRow>, AllocError>
+/// Which of the lines is the last that makes a user of this name.
+fn last_place(items: &[Item], last: &BTreeMap<Vec<u8>, usize>, name: &Vec<u8>) -> Option<usize>
+    requires { AreLast items.now last.now }
+    ensures { MatchOption result (MakeUser items.now name.now.items → ⊥)
+        (IsLast items.now name.now.items) }
+{
+    last.get(name).copied()
+}
+
+/// The place of the last line that makes a user of this name, where it is behind the line that stands here.
+pub(crate) fn user_behind(
+    items: &[Item],
+    last: &BTreeMap<Vec<u8>, usize>,
+    at: usize,
+    name: &Vec<u8>,
+) -> Option<Place>
+    requires { AreLast items.now last.now }
+    ensures { MatchOption result (MakeUser (drop (at + 1) items.now) name.now.items → ⊥)
+        (λ place. MakeUser (drop (at + 1) items.now) name.now.items) }
+{
+    match last_place(items, last, name) {
+        Some(place) => {
+            if place > at {
+                Some(items[place].place)
+            } else {
+                None
+            }
+        }
+        None => None,
+    }
+}
+
+/// The user that the line here makes, if no later one makes a user of its name.
+fn user_in(
+    alloc: Global,
+    items: &[Item],
+    last: &BTreeMap<Vec<u8>, usize>,
+    at: usize,
+    item: &Item,
+) -> Result<Option<UserRow>, AllocError>
+    requires { AreLast items.now last.now }
     ensures { IfOk result
-        (λ row. MatchOption row ((said : Said) → IsUser item.now later.now said → ⊥)
-        (λ row. IsUser item.now later.now (said_of row))) }
+        (λ row. MatchOption row ((said : Said) → IsUser item.now (drop (at + 1) items.now) said → ⊥)
+        (λ row. IsUser item.now (drop (at + 1) items.now) (said_of row))) }
 {
     let Some(created) = created_in(&item.made) else {
         return Ok(None);
     };
-    match user_at(later, &created.name) {
+    match user_behind(items, last, at, &created.name) {
         Some(_) => Ok(None),
         None => user_of(alloc, created),
     }
 }
 
-/// Appends the user that a line comes to, before these lines.
-fn put_user(
-    alloc: Global,
-    users: &mut Vec<HeldUser>,
-    item: &Item,
-    later: &[Item],
-) -> Result<(), AllocError>
-    ensures { OnOk result
-        (TakesUser item.now later.now (map said_with_place users.old.items)
-        (map said_with_place users.new.items)) }
+/// Appends the user of a line, where there is one.
+fn put_user(users: &mut Vec<HeldUser>, place: Place, row: Option<UserRow>) -> Result<(), AllocError>
+    ensures { OnOk result (map said_with_place users.new.items ≡ map said_with_place users.old.items
+        ++ with_place place (option_map said_of row)) }
 {
-    if let Some(row) = user_in(alloc, item, later)? {
-        users.push(HeldUser {
-            place: item.place,
-            row,
-        })?;
+    if let Some(row) = row {
+        users.push(HeldUser { place, row })?;
     }
     Ok(())
 }
@@ -212,9 +232,11 @@ fn put_user(
 pub fn users_of(alloc: Global, items: &[Item]) -> Result<Vec<HeldUser>, AllocError>
     ensures { IfOk result (λ users. AreUsers items.now (map said_with_place users.items)) }
 {
+    let last = last_users(alloc, items)?;
     let mut users = Vec::new(alloc);
-    for (place, item) in items.iter().enumerate() {
-        put_user(alloc, &mut users, item, &items[place + 1..])?;
+    for (at, item) in items.iter().enumerate() {
+        let row = user_in(alloc, items, &last, at, item)?;
+        put_user(&mut users, item.place, row)?;
     }
     Ok(users)
 }

@@ -41,7 +41,8 @@ pub(crate) fn digit_of(octet: u8, base: u8) -> Option<u8>
 fn read_digits(digits: &[u8], base: u8) -> Option<u64>
     requires some { 2 ≤ base }
     requires most { base ≤ 16 }
-    ensures found { IfSome result (λ number. (n : ℕ) × IsInBase base digits.now n × IsCapped n number) }
+    ensures found { IfSome result
+        (λ number. (n : ℕ) × IsInBase base digits.now n × IsCapped n number) }
     ensures none { IfNone result ((n : ℕ) → IsInBase base digits.now n → ⊥) }
 {
     if digits.is_empty() {
@@ -96,7 +97,8 @@ fn number_of(text: &[u8]) -> Option<u64>
 /// The numbers of a text that has a dot between each two, at most 128; `TOO_LARGE` for each that is too large.
 fn numbers_of(text: &[u8]) -> Option<ArrayVec<u64, 128>>
     ensures found { IfSome result
-        (λ numbers. (ns : List ℕ) × AreNumbers text.now ns × (length ns ≤ 128) × AreCapped ns numbers.items) }
+        (λ numbers. (ns : List ℕ) × AreNumbers text.now ns × (length ns ≤ 128)
+        × AreCapped ns numbers.items) }
     ensures none { IfNone result ((ns : List ℕ) → AreNumbers text.now ns → length ns ≤ 128 → ⊥) }
 {
     let mut numbers = ArrayVec::new();
@@ -131,7 +133,8 @@ fn behind_dot(text: &[u8]) -> &[u8]
 fn arcs_of(numbers: &[u64]) -> Option<Oid>
     requires some { 1 ≤ length numbers.now }
     requires most { length numbers.now ≤ 128 }
-    ensures found { IfSome result (λ arcs. (arcs ≡ numbers.now) × AllByRecursion (λ arc. arc < 2 ^ 32) numbers.now) }
+    ensures found { IfSome result
+        (λ arcs. (arcs ≡ numbers.now) × AllByRecursion (λ arc. arc < 2 ^ 32) numbers.now) }
     ensures none { IfNone result (HasTooLarge numbers.now) }
 {
     let mut arcs = ArrayVec::<u32, 128>::new();

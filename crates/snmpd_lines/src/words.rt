@@ -132,7 +132,8 @@ fn read_word(alloc: Global, text: &[u8]) -> Result<(Vec<u8>, &[u8]), AllocError>
 /// The error is out of memory.
 pub fn take_word(alloc: Global, text: &[u8], most: usize) -> Result<Word<'_>, AllocError>
     ensures { IfOk result
-        (λ word. TakesWord most text.now word.octets.items (option_map (λ rest. rest.now) word.rest)) }
+        (λ word. TakesWord most text.now word.octets.items
+        (option_map (λ rest. rest.now) word.rest)) }
 {
     let (mut octets, rest) = read_word(alloc, text)?;
     octets.truncate(most);

@@ -10,4 +10,4 @@ pub mod Files
 pub mod Line
 pub mod Names
 pub mod Rights
-pub mod Stands
+pub mod Expansion

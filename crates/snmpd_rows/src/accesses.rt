@@ -36,7 +36,8 @@ struct ConditionTokens<'a> {
 fn take_conditions(text: &[u8]) -> Option<(ConditionTokens<'_>, &[u8])>
     ensures found { IfSome result
         (λ r. AreTokens text.now
-        (r.0.group.now ∷ r.0.context.now ∷ r.0.model.now ∷ r.0.level.now ∷ r.0.matching.now ∷ []) r.1.now) }
+        (r.0.group.now ∷ r.0.context.now ∷ r.0.model.now ∷ r.0.level.now
+        ∷ r.0.matching.now ∷ []) r.1.now) }
     ensures none { IfNone result (HasFewer 5 text.now) }
 {
     let (group, rest) = take_token(text)?;
@@ -101,7 +102,8 @@ struct ViewTokens<'a> {
 
 /// The first three tokens.
 fn take_views(text: &[u8]) -> Option<ViewTokens<'_>>
-    ensures found { IfSome result (λ r. HasViewTokens text.now r.read.now r.write.now r.notify.now) }
+    ensures found { IfSome result
+        (λ r. HasViewTokens text.now r.read.now r.write.now r.notify.now) }
     ensures none { IfNone result (HasFewer 3 text.now) }
 {
     let (read, rest) = take_token(text)?;
@@ -148,9 +150,11 @@ pub fn access_row(text: &[u8]) -> Result<AccessRow, LineFault>
 /// The row with these views.
 fn row_of(conditions: Conditions<'_>, views: ViewTokens<'_>) -> Result<AccessRow, LineFault>
     ensures row { IfOk result
-        (IsAccess conditions.entry views.entry.read.now views.entry.write.now views.entry.notify.now) }
+        (IsAccess conditions.entry views.entry.read.now views.entry.write.now
+        views.entry.notify.now) }
     ensures fault { IfErr result
-        (TellsTooLong conditions.entry views.entry.read.now views.entry.write.now views.entry.notify.now) }
+        (TellsTooLong conditions.entry views.entry.read.now views.entry.write.now
+        views.entry.notify.now) }
 {
     let (Some(read), Some(write), Some(notify)) = (
         view_name(views.read),

@@ -76,7 +76,8 @@ fn before_blanks(text: &[u8]) -> &[u8]
 
 /// A note on a line of this directive; out of memory isn't one.
 fn note_of(directive: Directive, fault: LineFault) -> Result<Entry, AllocError>
-    ensures { (text : List ℕ) → TellsNoRow directive text fault → IfOk result (IsMade directive text) }
+    ensures { (text : List ℕ) → TellsNoRow directive text fault
+        → IfOk result (IsMade directive text) }
 {
     match fault {
         LineFault::OutOfMemory => Err(AllocError),

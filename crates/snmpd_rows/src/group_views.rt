@@ -60,7 +60,8 @@ fn take_model_and_view(text: &[u8]) -> Result<(u32, &[u8], &[u8]), LineFault>
 
 /// The group and the view, and the model that stands between them, or else any.
 fn take_group_and_view(text: &[u8]) -> Result<GroupView<'_>, LineFault>
-    ensures found { IfOk result (λ r. HasGroupAndView text.now r.group.now r.model r.view.now r.rest.now) }
+    ensures found { IfOk result
+        (λ r. HasGroupAndView text.now r.group.now r.model r.view.now r.rest.now) }
     ensures fault { IfErr result (TellsNoGroupAndView text.now) }
 {
     let Some((group, second, behind)) = take_two(text) else {

@@ -22,6 +22,7 @@
 mod accesses;
 mod choice;
 mod entries;
+mod expansion;
 mod files;
 mod group_views;
 mod groups;
@@ -30,17 +31,16 @@ mod names;
 mod rights;
 mod settings;
 mod simple;
-mod stands;
 mod views;
 
 pub use accesses::access_row;
 pub use choice::{fits_message, is_taken};
 pub use entries::{Entry, Note, entry_of, read_entry};
+pub use expansion::lines_of;
 pub use files::{first_line, read_entries, section_behind};
 pub use group_views::auth_access;
 pub use groups::group_row;
 pub use line::MadeLine;
 pub use settings::{Setting, set_access};
 pub use simple::{Named, Reach, Simple, SimpleKind, Versions, View, Who, simple_line};
-pub use stands::lines_of;
 pub use views::family_row;

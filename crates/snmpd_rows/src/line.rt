@@ -17,7 +17,8 @@ pub struct MadeLine {
 
 /// Words with a space between each two.
 fn join_with_spaces(alloc: Global, first: &[u8], others: &[&[u8]]) -> Result<Vec<u8>, AllocError>
-    ensures { IfOk result (λ text. text.items ≡ spec.joined first.now (map (λ word. word.now) others.now)) }
+    ensures { IfOk result
+        (λ text. text.items ≡ spec.joined first.now (map (λ word. word.now) others.now)) }
 {
     let mut text = Vec::from_slice(alloc, first)?;
     for word in others {

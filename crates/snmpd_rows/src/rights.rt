@@ -108,7 +108,11 @@ fn put_set<'x>(
     view: &'x [u8],
 ) -> Result<(), AllocError>
     ensures { OnOk result (map line_of lines.new.items ≡ map line_of lines.old.items
-        ++ (directives.SetAccess, joined group.now (conditions words.entry ++ kind.now ∷ view.now ∷ [])) ∷ []) }
+        ++ (
+          directives.SetAccess,
+          joined group.now
+              (conditions words.entry ++ kind.now ∷ view.now ∷ []),
+        ) ∷ []) }
 {
     let (context, model, level, matching) = (
         words.context,
@@ -192,7 +196,8 @@ pub(crate) fn put_rights(
     view: &[u8],
 ) -> Result<(), AllocError>
     ensures { OnOk result
-        (map line_of lines.new.items ≡ map line_of lines.old.items ++ right_lines simple.now group.now view.now) }
+        (map line_of lines.new.items ≡ map line_of lines.old.items
+        ++ right_lines simple.now group.now view.now) }
 {
     if !is_access_line(simple.types) {
         return put_types(alloc, lines, simple, group, view);

@@ -35,7 +35,8 @@ fn take_type_and_view(text: &[u8]) -> Option<(&[u8], &[u8], &[u8])>
 
 /// The names of an index, where they aren't too long.
 fn index_of(conditions: Conditions<'_>) -> Option<(Name, Name)>
-    ensures found { IfSome result (λ r. (r.0 ≡ conditions.entry.group.now) × (r.1 ≡ conditions.entry.context.now)) }
+    ensures found { IfSome result
+        (λ r. (r.0 ≡ conditions.entry.group.now) × (r.1 ≡ conditions.entry.context.now)) }
     ensures none { IfNone result (HasLongIndex conditions.entry) }
 {
     match (Name::of(conditions.group), Name::of(conditions.context)) {

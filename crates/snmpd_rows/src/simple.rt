@@ -148,7 +148,8 @@ struct Modeled<'a> {
 /// The name behind a model.
 fn take_model_behind(alloc: Global, text: &[u8]) -> Result<Modeled<'_>, LineFault>
     ensures modeled { IfOk result
-        (λ m. HasModelBehind text.now m.model.items m.name.items (option_map (λ rest. rest.now) m.rest)) }
+        (λ m. HasModelBehind text.now m.model.items m.name.items
+        (option_map (λ rest. rest.now) m.rest)) }
     ensures fault { IfErr result (TellsNoModelBehind text.now) }
 {
     let model = take_word(alloc, text, WORD_MAX)?;
@@ -238,7 +239,8 @@ fn take_user<'a>(
 
 /// The community that a line is for, behind which its source is passed over.
 fn take_community(alloc: Global, text: &[u8]) -> Result<(Named, Option<&[u8]>), LineFault>
-    ensures named { IfOk result (λ r. HasNamed kinds.Community text.now r.0 (option_map (λ rest. rest.now) r.1)) }
+    ensures named { IfOk result
+        (λ r. HasNamed kinds.Community text.now r.0 (option_map (λ rest. rest.now) r.1)) }
     ensures fault { IfErr result (TellsNoModel (codes "-v") text.now) }
 {
     let modeled = take_model(alloc, text, b"-v", b"any")?;
@@ -259,7 +261,8 @@ fn take_named(
     kind: SimpleKind,
     text: &[u8],
 ) -> Result<(Named, Option<&[u8]>), LineFault>
-    ensures named { IfOk result (λ r. HasNamed kind text.now r.0 (option_map (λ rest. rest.now) r.1)) }
+    ensures named { IfOk result
+        (λ r. HasNamed kind text.now r.0 (option_map (λ rest. rest.now) r.1)) }
     ensures fault { IfErr result (TellsNoModel (option_of kind) text.now) }
 {
     match kind {
@@ -285,7 +288,8 @@ fn take_view_name(alloc: Global, text: &[u8]) -> Result<Word<'_>, LineFault>
 /// The view, and what the line goes on with.
 fn take_view(alloc: Global, text: Option<&[u8]>) -> Result<(View, Option<&[u8]>), LineFault>
     ensures view { IfOk result
-        (λ r. HasView (option_map (λ t. t.now) text.entry) r.0 (option_map (λ rest. rest.now) r.1)) }
+        (λ r. HasView (option_map (λ t. t.now) text.entry) r.0
+        (option_map (λ rest. rest.now) r.1)) }
     ensures fault { IfErr result (TellsNoView (option_map (λ t. t.now) text.entry)) }
 {
     let Some(text) = text else {

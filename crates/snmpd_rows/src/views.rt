@@ -22,7 +22,8 @@ struct ViewWords<'a> {
 
 /// The first three tokens, and what follows them.
 fn take_view_words(text: &[u8]) -> Option<ViewWords<'_>>
-    ensures found { IfSome result (λ r. AreViewWords text.now r.view.now r.kind.now r.subtree.now r.mask.now) }
+    ensures found { IfSome result
+        (λ r. AreViewWords text.now r.view.now r.kind.now r.subtree.now r.mask.now) }
     ensures none { IfNone result (HasFewer 3 text.now) }
 {
     let (view, rest) = take_token(text)?;

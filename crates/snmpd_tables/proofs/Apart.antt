@@ -4,7 +4,7 @@ use Rattle.std.proofs.lemmas.Bool.{cases_lt}
 use Rattle.std.proofs.lemmas.List.{get_or-set_same, get_or-set_other, get_or_push, get_or_append_left, get_or_default, length-set, length_push}
 use Rattle.snmpd_tables.specs.declared.rows.HeldAccess.{HeldAccess}
 use Rattle.snmpd_tables.specs.Orders.{order_of_access}
-use Rattle.snmpd_tables.specs.Kept.{IsNew, IsFirstLike, Settles, HasOneEach}
+use Rattle.snmpd_tables.specs.EffectiveRows.{IsNew, IsFirstLike, Settles, HasOneEach}
 use Rattle.snmpd_tables.proofs.Indexes.{IsOfOneIndex, of_one_index, ordered_equal, turned}
 
 -- rows of one index stand at one place

@@ -15,7 +15,7 @@ use Rattle.snmpd_tables.specs.declared.questions.Contexts.TheVariants.{Named, Be
 use Rattle.snmpd_tables.specs.declared.questions.Question.{Question}
 use Rattle.snmpd_tables.specs.Questions.{IsAbout, FitsContexts, FitsQuestion, IsNextAt, BestOf, ChoosesAt}
 use Rattle.snmpd_tables.specs.declared.rows.Place.{Place}
-use Rattle.snmpd_tables.specs.Kept.{HasOneEach}
+use Rattle.snmpd_tables.specs.EffectiveRows.{HasOneEach}
 use Rattle.snmpd_tables.specs.Differences.{FitsHeld, held_order, HaveSameViews, ChoosesOther, Differs}
 
 -- ---- snmpd's choice

@@ -11,12 +11,12 @@ use Rattle.snmpd_tables.specs.declared.rows.HeldAccess.{HeldAccess}
 use Rattle.snmpd_tables.specs.declared.rows.HeldFamily.{HeldFamily}
 use Rattle.snmpd_tables.specs.Orders.{by_length, order_of_access, order_of_families}
 
-then_equal : (o p : Ordering) → ordering_then o p ≡ Equal → (o ≡ Equal) × (p ≡ Equal)
+pub then_equal : (o p : Ordering) → ordering_then o p ≡ Equal → (o ≡ Equal) × (p ≡ Equal)
 then_equal Less p h = cc
 then_equal Equal p h = (refl, h)
 then_equal Greater p h = cc
 
-both_equal : (o p : Ordering) → o ≡ Equal → p ≡ Equal → ordering_then o p ≡ Equal
+pub both_equal : (o p : Ordering) → o ≡ Equal → p ≡ Equal → ordering_then o p ≡ Equal
 both_equal Less p e f = cc
 both_equal Equal p e f = f
 both_equal Greater p e f = cc

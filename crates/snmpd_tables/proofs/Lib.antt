@@ -16,3 +16,4 @@ pub mod Seeing
 pub mod Gathering
 pub mod OfGroup
 pub mod PrefixTelling
+pub mod Pairs

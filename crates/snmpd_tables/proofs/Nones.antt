@@ -9,7 +9,7 @@ use Rattle.vacm_core.specs.declared.rows.AccessRow.{AccessRow}
 use Rattle.snmpd_tables.specs.declared.rows.HeldAccess.{HeldAccess}
 use Rattle.snmpd_tables.specs.declared.questions.Question.{Question}
 use Rattle.snmpd_tables.specs.Questions.{IsBetterAt, BestOf, FitsQuestion, ChoosesAt}
-use Rattle.snmpd_tables.specs.Kept.{Settles, SettlesAfter, AreAccessKept}
+use Rattle.snmpd_tables.specs.EffectiveRows.{Settles, SettlesAfter, AreAccessKept}
 use Rattle.snmpd_tables.specs.Differences.{FitsHeld}
 
 -- ---- none of the rows fits

@@ -1,19 +1,19 @@
 -- A group's rows by their prefixes, and which of them fit messages.
-use Rattle.std.proofs.Common.{◌≡◌, ℕ, ◌<◌, List, [], ◌∷◌, ◌++◌, length, get_or, take, Contains, Result, Ok, Err, IfOk, sym, ◌∙◌, ap, subst, refl, inl, inr, append-nil, arith}
+use Rattle.std.proofs.Common.{◌≡◌, ℕ, ◌<◌, List, [], length, get_or, Contains, Result, Ok, Err, IfOk, sym, ◌∙◌, subst, inl, inr, append-nil}
 use Rattle.std.specs.declared.vec.Vec.{Vec}
 use Rattle.std.specs.declared.alloc.Global.{Global}
 use Rattle.std.specs.declared.alloc.AllocError.{AllocError}
 use Rattle.std.specs.BTreeMap.{BTreeMap}
-use Rattle.vacm_core.specs.Allowed.{IsPrefixOf, FitsMessage, FitsContext}
+use Rattle.vacm_core.specs.Allowed.{IsPrefixOf, FitsContext}
 use Rattle.vacm_core.specs.declared.rows.AccessRow.{AccessRow}
 use Rattle.snmp_ber.specs.declared.level.Level.{Level}
 use Rattle.snmpd_tables.specs.declared.rows.HeldAccess.{HeldAccess}
 use Rattle.snmpd_tables.specs.declared.questions.Contexts.{Contexts}
 use Rattle.snmpd_tables.specs.declared.questions.Contexts.TheVariants.{Named, Beyond}
 use Rattle.snmpd_tables.specs.declared.questions.Question.{Question}
-use Rattle.snmpd_tables.specs.Questions.{FitsContexts, FitsQuestion}
+use Rattle.snmpd_tables.specs.Questions.{FitsContexts}
 use Rattle.snmpd_tables.specs.Differences.{FitsHeld}
-use Rattle.snmpd_tables.specs.Among.{AreAmong}
+use Rattle.snmpd_tables.specs.FittingPlaces.{AreAmong}
 use Rattle.snmpd_tables.specs.Near.{name_of, AreOfGroup, AreNear}
 use Rattle.snmpd_tables.specs.Places.{named_places, AreBy, group_of, prefix_of}
 

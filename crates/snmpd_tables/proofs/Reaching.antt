@@ -1,14 +1,13 @@
 -- snmpd's choice where the rows that fit stand at some places, one place after another.
-use Rattle.std.proofs.Common.{◌≡◌, ℕ, zero, suc, ◌+◌, ◌<◌, ◌≤◌, List, [], ◌∷◌, length, get_or, Contains, Option, None, Some, sym, ◌∙◌, ap, subst, refl, inl, inr, arith}
-use Rattle.std.specs.List.Sorted.{IsStrictlyIncreasing}
+use Rattle.std.proofs.Common.{◌≡◌, ℕ, zero, suc, ◌+◌, ◌<◌, ◌≤◌, List, [], ◌∷◌, length, get_or, Option, None, sym, ◌∙◌, ap, subst, refl, inl, inr, arith}
 use Rattle.std.proofs.lemmas.Bool.{cases_lt}
 use Rattle.std.proofs.lemmas.List.{get_or_default}
 use Rattle.std.proofs.lemmas.List.Elements.{Contains-get_or}
 use Rattle.std.proofs.lemmas.Map.Keys.{below_from_sorted, sorted_from_strictly_increasing}
 use Rattle.vacm_core.specs.declared.rows.AccessRow.{AccessRow}
 use Rattle.snmpd_tables.specs.declared.rows.HeldAccess.{HeldAccess}
-use Rattle.snmpd_tables.specs.Among.{AreAmong}
-use Rattle.snmpd_tables.specs.Questions.{BestOf, IsNextAt, ChoosesAt}
+use Rattle.snmpd_tables.specs.FittingPlaces.{AreAmong}
+use Rattle.snmpd_tables.specs.Questions.{BestOf}
 
 -- so many of the places are below a number, and no other one
 pub record Reaches (places : List ℕ) (j n : ℕ) : Type 0 where

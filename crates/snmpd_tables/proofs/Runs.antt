@@ -7,9 +7,9 @@ use Rattle.snmpd_tables.specs.declared.rows.HeldFamily.{HeldFamily}
 use Rattle.snmpd_tables.specs.declared.items.Item.{Item}
 use Rattle.snmpd_rows.specs.declared.line.MadeLine.{MadeLine}
 use Rattle.snmpd_rows.specs.Line.{line_of}
-use Rattle.snmpd_tables.specs.Meant.{IsOwn, AreOwn, Meant, Means, MeansAfter}
+use Rattle.snmpd_tables.specs.ExpandedItems.{IsOwn, AreOwn, Meant, Means, MeansAfter}
 use Rattle.snmpd_tables.specs.Lists.{Tables, Takes, HoldsAfter}
-use Rattle.snmpd_tables.specs.Kept.{Keeps, KeepsAfter, Settles, SettlesAfter, IsWanted, AreWanted}
+use Rattle.snmpd_tables.specs.EffectiveRows.{Keeps, KeepsAfter, Settles, SettlesAfter, IsWanted, AreWanted}
 
 pub in_front : {R : Type 0} (rows : List R) (i : ℕ) (row : R) → i < length rows → row ≡ get_or rows i row → drop i rows ≡ row ∷ drop (i + 1) rows
 in_front rows i row within is =

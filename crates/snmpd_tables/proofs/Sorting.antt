@@ -1,9 +1,8 @@
 -- A stable sort puts rows where they would go one after another, and where snmpd has them.
-use Rattle.std.proofs.Common.{◌≡◌, ◌≢◌, ℕ, ◌<◌, ◌≤◌, zero, suc, Bool, true, false, cond, ◌&&◌, not, List, [], ◌∷◌, ◌++◌, length, get_or, set, sym, ◌∙◌, ap, subst, refl, inl, inr, arith, append_assoc, append-nil, Result, Ok, Err, OnOk}
-use Rattle.std.specs.Prelude.{◌⊎◌}
-use Rattle.std.specs.Ordering.{is_lt, is_gt, is_eq, ordering_reverse}
+use Rattle.std.proofs.Common.{◌≡◌, ◌≢◌, ℕ, ◌<◌, ◌≤◌, zero, suc, Bool, true, false, cond, ◌&&◌, not, List, [], ◌∷◌, ◌++◌, length, get_or, set, sym, ◌∙◌, ap, subst, refl, arith, append_assoc, append-nil, Result, Ok, Err, OnOk}
+use Rattle.std.specs.Ordering.{is_lt, is_gt, ordering_reverse}
 use Rattle.std.specs.List.{filter}
-use Rattle.std.specs.List.Sorted.{IsSortedBy, IsSorted, IsStableBy, IsStable, ties}
+use Rattle.std.specs.List.Sorted.{IsSortedBy, IsSorted, IsStable, ties}
 use Rattle.std.specs.Cmp.{IsTotalOrder, IsStrictWeakOrder}
 use Rattle.std.specs.declared.cmp.Ordering.{Ordering}
 use Rattle.std.specs.declared.cmp.Ordering.TheVariants.{Less, Equal, Greater}
@@ -12,7 +11,6 @@ use Rattle.std.proofs.lemmas.Bool.{false≢true}
 use Rattle.std.proofs.lemmas.Cmp.{tied_itself}
 use Rattle.std.proofs.lemmas.List.Elements.{filter-append}
 use Rattle.std.specs.declared.alloc.AllocError.{AllocError}
-use Rattle.std.specs.List.{insert}
 use Rattle.snmpd_tables.specs.Rising.{inserted, with_rows, in_order}
 use Rattle.snmpd_tables.specs.Orders.{GoesAt, Adds}
 

@@ -69,7 +69,7 @@ level_cases P a b c AuthPriv = c
 
 -- ---- one row more
 
-more : {R : Type 0} (xs : List R) (i : ℕ) (x : R) → i < length xs → x ≡ get_or xs i x → take (i + 1) xs ≡ take i xs ++ x ∷ []
+pub more : {R : Type 0} (xs : List R) (i : ℕ) (x : R) → i < length xs → x ≡ get_or xs i x → take (i + 1) xs ≡ take i xs ++ x ∷ []
 more xs i x within at = take_more xs i x within ∙ ap (λ y. take i xs ++ y ∷ []) (sym at)
 
 module _ (held : List HeldAccess) (group : List ℕ) (model : ℕ) (place : ℕ) (row : HeldAccess) (within : place < length held) (at : row ≡ get_or held place row) where

@@ -1,5 +1,9 @@
 -- For which messages snmpd and RFC 3415 are compared.
-use Rattle.std.specs.Prelude.{◌≡◌, ◌⊎◌, ℕ, ◌<◌, List, ◌∷◌, length, get_or, Contains}
+use Rattle.std.specs.Prelude.{◌≡◌, ◌⊎◌, ◌↔◌, ℕ, ◌<◌, List, ◌∷◌, length, get_or, Contains, IsTrue}
+use Rattle.std.specs.Ordering.{nat_cmp, ordering_then}
+use Rattle.std.specs.Cmp.Lexicographic.{slice_cmp}
+use Rattle.std.specs.BTreeSet.{BTreeSet, contains}
+use Rattle.std.specs.declared.cmp.Ordering.{Ordering}
 use Rattle.vacm_core.specs.Allowed.{HasContext, FitsContext}
 use Rattle.vacm_core.specs.declared.rows.ContextRow.{ContextRow}
 use Rattle.snmpd_tables.specs.declared.rows.HeldAccess.{HeldAccess}
@@ -14,7 +18,7 @@ use Rattle.snmpd_tables.specs.declared.compared.Compared.{Compared}
 use Rattle.snmpd_tables.specs.declared.comparison.Near.{Near}
 use Rattle.snmpd_tables.specs.declared.compared.Groups.{Groups}
 use Rattle.snmpd_tables.specs.declared.compared.Prefixes.{Prefixes}
-use Rattle.snmpd_tables.specs.Among.{AreAmong}
+use Rattle.snmpd_tables.specs.FittingPlaces.{AreAmong}
 use Rattle.snmpd_tables.specs.Differences.{FitsHeld, IsDifference, Differs}
 use Rattle.snmpd_tables.specs.Near.{AreOfGroup}
 use Rattle.snmpd_tables.specs.Places.{named_places, AreBy, group_of}
@@ -115,6 +119,14 @@ IsNear rows near group contexts = (question : Question) → question.group ≡ g
 abbrev pub AreOfBoth : Chosen → Prefixes → List ℕ → Type 0
 AreOfBoth rows prefixes group = AreOfGroup rows.held.now group prefixes.held
     × AreOfGroup rows.kept.now group prefixes.kept
+
+abbrev pub pair_cmp : List ℕ × ℕ → List ℕ × ℕ → Ordering
+pair_cmp a b = ordering_then (slice_cmp nat_cmp a.0 b.0) (nat_cmp a.1 b.1)
+
+-- the pairs of group and model that these rows have, and no other
+abbrev pub ArePairsOf : List HeldGroup → BTreeSet (List ℕ × ℕ) → Type 0
+ArePairsOf groups pairs = (group : List ℕ) (model : ℕ)
+    → IsTrue (contains pair_cmp pairs (group, model)) ↔ HasPair groups group model
 
 -- where the rows of each group stand, of all and of those that are kept
 abbrev pub AreGroupsOf : Chosen → Groups → Type 0

@@ -5,11 +5,11 @@ pub mod Items
 pub mod Questions
 pub mod Sets
 pub mod Lists
-pub mod Kept
+pub mod EffectiveRows
 pub mod Index
-pub mod Meant
+pub mod ExpandedItems
 pub mod Differences
 pub mod Compared
 pub mod Places
 pub mod Near
-pub mod Among
+pub mod FittingPlaces

@@ -1,7 +1,6 @@
 -- The orders of rows by their indexes are total.
 use Rattle.std.specs.Prelude.{ℕ, List, length}
 use Rattle.std.specs.Cmp.{IsTotalOrder}
-use Rattle.std.specs.Ordering.{nat_cmp, ordering_then}
 use Rattle.std.proofs.lemmas.Cmp.{nat_cmp_total, nat_list_cmp_total, on_total, then_total}
 use Rattle.snmp_ber.specs.Level.{level_number}
 use Rattle.snmpd_tables.specs.declared.rows.HeldGroup.{HeldGroup}

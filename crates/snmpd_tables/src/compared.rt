@@ -2,8 +2,8 @@
 //! that rows tell apart.
 
 ghost use Rattle.std.specs.Prelude.{◌≡◌, ◌↔◌, ◌+◌, ◌<◌, IsTrue, OnOk, IfOk, length, take};
-ghost use Rattle.snmpd_tables.specs.Kept.{HasOneEach};
-ghost use Rattle.snmpd_tables.specs.Compared.{sides_of, IsLike, HasPrefix, HasPair, IsOfPrefix, IsOfPrefixes};
+ghost use Rattle.snmpd_tables.specs.EffectiveRows.{HasOneEach};
+ghost use Rattle.snmpd_tables.specs.Compared.{sides_of, IsLike, HasPrefix, ArePairsOf, IsOfPrefix, IsOfPrefixes};
 ghost use Rattle.snmpd_tables.specs.Compared.{IsOfEither, IsOfPairs, Tells, GoesOn, TellsDifferences, IsNear};
 ghost use Rattle.snmpd_tables.specs.Compared.{AreOfBoth, AreGroupsOf, ArePlacesOf, BeginsWith, IsOfPlaces};
 ghost use Rattle.snmpd_tables.specs.Near as spec;
@@ -16,7 +16,7 @@ use crate::questions::{Contexts, Question};
 use crate::rows::HeldGroup;
 use snmp_ber::Level;
 use std::alloc::{AllocError, Global};
-use std::collections::BTreeMap;
+use std::collections::{BTreeMap, BTreeSet};
 use vacm_core::{ContextRow, GroupRow, Name};
 
 /// The contexts and groups that are asked for, and the rows that are chosen from.
@@ -141,8 +141,8 @@ fn put_prefix(
     requires one_each { HasOneEach rows.now.kept.now }
     requires prefixes { AreOfBoth rows.now asking.now.prefixes.now asking.now.group.now }
     ensures { OnOk result
-        (Tells rows.now (IsOfPrefix asking.now.group.now asking.now.model prefix.now) found.old.items
-        found.new.items) }
+        (Tells rows.now (IsOfPrefix asking.now.group.now asking.now.model prefix.now)
+        found.old.items found.new.items) }
 {
     put_contexts(found, rows, asking, &Contexts::Named(copy_name(prefix)))?;
     put_contexts(found, rows, asking, &Contexts::Beyond(copy_name(prefix)))
@@ -169,7 +169,8 @@ fn put_next_prefix(
     requires within { at < length places.now }
     ensures { let group = asking.now.group.now in let model = asking.now.model in
         let prefixes = asking.now.prefixes.now in
-        OnOk result (GoesOn rows.now (IsOfPlaces rows.now.held.now prefixes group model (take at places.now))
+        OnOk result (GoesOn rows.now
+        (IsOfPlaces rows.now.held.now prefixes group model (take at places.now))
         (IsOfPlaces rows.now.held.now prefixes group model (take (at + 1) places.now))
         found.old.items found.new.items) }
 {
@@ -192,8 +193,8 @@ fn put_prefixes(
     requires prefixes { AreOfBoth rows.now asking.now.prefixes.now asking.now.group.now }
     requires places { ArePlacesOf rows.now.held.now asking.now.group.now places.now }
     ensures { OnOk result
-        (Tells rows.now (IsOfPrefixes rows.now.held.now asking.now.group.now asking.now.model) found.old.items
-        found.new.items) }
+        (Tells rows.now (IsOfPrefixes rows.now.held.now asking.now.group.now asking.now.model)
+        found.old.items found.new.items) }
 {
     for at in 0..places.len() {
         put_next_prefix(found, rows, asking, places, at)?;
@@ -221,8 +222,10 @@ fn put_next_context(
     requires within { place < length compared.now.contexts.now }
     ensures { let group = asking.now.group.now in let model = asking.now.model
         in let held = compared.now.rows.held.now in
-        OnOk result (GoesOn compared.now.rows (IsOfEither held (take place compared.now.contexts.now) group model)
-        (IsOfEither held (take (place + 1) compared.now.contexts.now) group model) found.old.items found.new.items) }
+        OnOk result (GoesOn compared.now.rows
+        (IsOfEither held (take place compared.now.contexts.now) group model)
+        (IsOfEither held (take (place + 1) compared.now.contexts.now) group model)
+        found.old.items found.new.items) }
 {
     let name = &compared.contexts[place].name;
     if has_prefix(&compared.rows, asking, name) {
@@ -248,7 +251,8 @@ fn put_group(
     requires places { ArePlacesOf compared.now.rows.held.now asking.now.group.now places.now }
     ensures { OnOk result
         (Tells compared.now.rows
-        (IsOfEither compared.now.rows.held.now compared.now.contexts.now asking.now.group.now asking.now.model)
+        (IsOfEither compared.now.rows.held.now compared.now.contexts.now
+        asking.now.group.now asking.now.model)
         found.old.items found.new.items) }
 {
     put_prefixes(found, &compared.rows, asking, places)?;
@@ -256,15 +260,6 @@ fn put_group(
         put_next_context(found, compared, asking, place)?;
     }
     Ok(())
-}
-
-/// A row is of the group and model.
-fn has_pair(groups: &[HeldGroup], group: &Name, model: u32) -> bool
-    ensures { IsTrue result ↔ HasPair groups.now group.now model }
-{
-    groups
-        .iter()
-        .any(|held| held.row.group == *group && held.row.model == model)
 }
 
 /// Where the rows of each group stand: of all, and of those of which there is one of each index.
@@ -286,7 +281,8 @@ fn put_pair(
     requires groups { AreGroupsOf compared.now.rows groups.now }
     ensures { OnOk result
         (Tells compared.now.rows
-        (IsOfEither compared.now.rows.held.now compared.now.contexts.now row.now.group row.now.model)
+        (IsOfEither compared.now.rows.held.now compared.now.contexts.now
+        row.now.group row.now.model)
         found.old.items found.new.items) }
 {
     let rows = compared.rows;
@@ -312,6 +308,7 @@ fn put_pair(
 fn put_next_group(
     alloc: Global,
     found: &mut Vec<Difference>,
+    asked: &mut BTreeSet<(Name, u32)>,
     compared: &Compared<'_>,
     groups: &Groups,
     place: usize,
@@ -319,12 +316,14 @@ fn put_next_group(
     requires one_each { HasOneEach compared.now.rows.kept.now }
     requires groups { AreGroupsOf compared.now.rows groups.now }
     requires within { place < length compared.now.groups.now }
-    ensures { let groups = compared.now.groups.now in
+    requires asked { ArePairsOf (take place compared.now.groups.now) asked.old }
+    ensures asked { OnOk result (ArePairsOf (take (place + 1) compared.now.groups.now) asked.new) }
+    ensures goes_on { let groups = compared.now.groups.now in
         OnOk result (GoesOn compared.now.rows (IsOfPairs compared.now (take place groups))
         (IsOfPairs compared.now (take (place + 1) groups)) found.old.items found.new.items) }
 {
     let row = &compared.groups[place].row;
-    if has_pair(&compared.groups[..place], &row.group, row.model) {
+    if !asked.insert((copy_name(&row.group), row.model))? {
         return Ok(());
     }
     put_pair(alloc, found, compared, groups, row)
@@ -343,9 +342,10 @@ pub fn differences(alloc: Global, compared: &Compared<'_>) -> Result<Vec<Differe
         held: places_by_group(alloc, compared.rows.held)?,
         kept: places_by_group(alloc, compared.rows.kept)?,
     };
+    let mut asked = BTreeSet::new(alloc);
     let mut found = Vec::new(alloc);
     for place in 0..compared.groups.len() {
-        put_next_group(alloc, &mut found, compared, &groups, place)?;
+        put_next_group(alloc, &mut found, &mut asked, compared, &groups, place)?;
     }
     Ok(found)
 }

@@ -1,7 +1,7 @@
 //! Where the first row of each index stands.
 
 ghost use Rattle.std.specs.Prelude.{◌++◌, ◌∷◌, [], IfOk, OnOk, MatchOption};
-ghost use Rattle.snmpd_tables.specs.Kept.{IsNew, IsFirstLike};
+ghost use Rattle.snmpd_tables.specs.EffectiveRows.{IsNew, IsFirstLike};
 ghost use Rattle.snmpd_tables.specs.Index.{Finds};
 
 use crate::rows::Held;
@@ -11,7 +11,8 @@ use std::collections::BTreeMap;
 /// The place of the first row that has the index of this one, given where the first of each stands.
 pub fn find<H: Held>(rows: &[H], places: &BTreeMap<H, usize>, row: &H) -> Option<usize>
     requires { Finds H.cmp rows.now places.now }
-    ensures { MatchOption result (IsNew H.cmp rows.now row.now) (IsFirstLike H.cmp rows.now row.now) }
+    ensures { MatchOption result (IsNew H.cmp rows.now row.now)
+        (IsFirstLike H.cmp rows.now row.now) }
 {
     places.get(row).copied()
 }

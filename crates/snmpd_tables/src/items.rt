@@ -132,7 +132,8 @@ fn is_text_access(row: &AccessRow) -> bool
 
 /// The names of what is set are UTF-8.
 fn is_text_setting(setting: &Setting) -> bool
-    ensures { IsTrue result ↔ (IsUtf8 setting.now.group × IsUtf8 setting.now.context × IsUtf8 setting.now.view) }
+    ensures { IsTrue result
+        ↔ (IsUtf8 setting.now.group × IsUtf8 setting.now.context × IsUtf8 setting.now.view) }
 {
     is_text(&setting.group) && is_text(&setting.context) && is_text(&setting.view)
 }
@@ -192,7 +193,8 @@ pub(crate) fn is_text_entry(entry: &Entry) -> bool
 
 /// What a line makes whose word names no other files.
 fn entry_made(alloc: Global, line: &[u8], section: Section) -> Result<Made, AllocError>
-    ensures { (parsed : ALine) → ¬ NamesFiles (word_of parsed) → IfOk result (IsMade section line.now parsed) }
+    ensures { (parsed : ALine) → ¬ NamesFiles (word_of parsed)
+        → IfOk result (IsMade section line.now parsed) }
 {
     let entry = read_entry(alloc, line, section)?;
     if is_text_entry(&entry) {
@@ -210,7 +212,8 @@ fn directive_made(
     word: &[u8],
     text: Option<&[u8]>,
 ) -> Result<Made, AllocError>
-    ensures { (parsed : ALine) → word_of parsed ≡ word.now → spec.text_of parsed ≡ option_map (λ t. t.now) text.entry
+    ensures { (parsed : ALine) → word_of parsed ≡ word.now
+        → spec.text_of parsed ≡ option_map (λ t. t.now) text.entry
         → IfOk result (IsMade section line.now parsed) }
 {
     if names_files(word) {

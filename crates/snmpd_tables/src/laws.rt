@@ -4,7 +4,7 @@ ghost use Rattle.std.specs.Prelude.{◌↔◌, List, ℕ, Contains, None};
 ghost use Rattle.vacm_core.specs.Allowed.{FitsMessage, NoneFits};
 ghost use Rattle.snmpd_tables.specs.declared.questions.Question.{Question};
 ghost use Rattle.snmpd_tables.specs.declared.rows.HeldAccess.{HeldAccess};
-ghost use Rattle.snmpd_tables.specs.Kept.{AreAccessKept};
+ghost use Rattle.snmpd_tables.specs.EffectiveRows.{AreAccessKept};
 ghost use Rattle.snmpd_tables.specs.Questions.{IsAbout, FitsQuestion, ChoosesAt};
 ghost use Rattle.snmpd_tables.specs.Differences.{FitsHeld};
 ghost use Rattle.snmpd_tables.specs.Compared.{Sides, IsCovered};
@@ -13,7 +13,8 @@ ghost use Rattle.snmpd_tables.specs.Compared.{Sides, IsCovered};
 pub fn beyond_is_each_such_name()
     ensures { (rows : List HeldAccess) (question : Question) (context : List ℕ) (held : HeldAccess)
         → IsAbout rows question.group question.contexts context → Contains rows held
-        → FitsQuestion question held.row ↔ FitsMessage question.group question.model question.level context held.row }
+        → FitsQuestion question held.row
+        ↔ FitsMessage question.group question.model question.level context held.row }
 {}
 
 /// Of each group each context is asked for, by its name or with others beyond a prefix of the group's rows,

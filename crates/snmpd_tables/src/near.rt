@@ -72,7 +72,8 @@ fn gather(
     prefixes: &BTreeMap<Name, Vec<usize>>,
     name: &Name,
 ) -> Result<Vec<usize>, AllocError>
-    ensures { IfOk result (λ places. AreGathered prefixes.now name.now (length name.now + 1) places.items) }
+    ensures { IfOk result
+        (λ places. AreGathered prefixes.now name.now (length name.now + 1) places.items) }
 {
     let mut places = Vec::new(alloc);
     for count in 0..name.as_slice().len() + 1 {

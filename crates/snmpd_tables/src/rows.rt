@@ -82,7 +82,8 @@ impl Eq for HeldGroup {
 impl PartialOrd for HeldGroup {
     ghost partial_cmp = { as_partial_cmp order_of_groups };
 
-    ghost laws = { partial_order_from_agreeing_total order_of_groups order_of_groups-total (λ x y. refl) (λ x y. refl) };
+    ghost laws = { partial_order_from_agreeing_total order_of_groups order_of_groups-total
+        (λ x y. refl) (λ x y. refl) };
 
     fn partial_cmp(&self, other: &HeldGroup) -> Option<Ordering> {
         Some(self.cmp(other))
@@ -132,7 +133,8 @@ impl Eq for HeldAccess {
 impl PartialOrd for HeldAccess {
     ghost partial_cmp = { as_partial_cmp order_of_access };
 
-    ghost laws = { partial_order_from_agreeing_total order_of_access order_of_access-total (λ x y. refl) (λ x y. refl) };
+    ghost laws = { partial_order_from_agreeing_total order_of_access order_of_access-total
+        (λ x y. refl) (λ x y. refl) };
 
     fn partial_cmp(&self, other: &HeldAccess) -> Option<Ordering> {
         Some(self.cmp(other))
@@ -184,7 +186,8 @@ impl Eq for HeldFamily {
 impl PartialOrd for HeldFamily {
     ghost partial_cmp = { as_partial_cmp order_of_families };
 
-    ghost laws = { partial_order_from_agreeing_total order_of_families order_of_families-total (λ x y. refl) (λ x y. refl) };
+    ghost laws = { partial_order_from_agreeing_total order_of_families order_of_families-total
+        (λ x y. refl) (λ x y. refl) };
 
     fn partial_cmp(&self, other: &HeldFamily) -> Option<Ordering> {
         Some(self.cmp(other))

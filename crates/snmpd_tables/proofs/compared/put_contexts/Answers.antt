@@ -1,4 +1,4 @@
-use Rattle.std.proofs.Common.{List, ℕ, sym, ◌∙◌, ap, subst}
+use Rattle.std.proofs.Common.{sym, ◌∙◌, ap, subst}
 use Rattle.snmpd_tables.specs.Near.{name_of, AreNear}
 use Rattle.snmpd_tables.proofs.OfGroup.{among_near}
 use Rattle.snmpd_tables.proofs.compared.put_contexts.Goals as goal

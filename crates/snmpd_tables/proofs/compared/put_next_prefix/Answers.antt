@@ -1,7 +1,6 @@
-use Rattle.std.proofs.Common.{◌≡◌, ℕ, ◌+◌, ◌<◌, true, false, List, get_or, length, take, refl, sym, ap, subst, ◌∙◌, rules}
+use Rattle.std.proofs.Common.{◌≡◌, ℕ, ◌+◌, ◌<◌, true, false, List, get_or, length, take, refl, sym, subst, rules}
 use Rattle.std.proofs.lemmas.List.{get_or_read}
 use Rattle.std.proofs.lemmas.List.Elements.{Contains-get_or}
-use Rattle.snmpd_tables.specs.declared.rows.HeldAccess.{HeldAccess}
 use Rattle.snmpd_tables.specs.Compared.{Tells, GoesOn, IsOfPrefix, BeginsWith, IsOfPlaces}
 use Rattle.snmpd_tables.specs.Places.{named_places}
 use Rattle.snmpd_tables.proofs.PrefixTelling.{placed_told, placed_left}

@@ -1,5 +1,4 @@
 use Rattle.std.proofs.Common.{◌++◌, ap, ◌∙◌}
-use Rattle.snmpd_tables.specs.Places.{named_places}
 use Rattle.snmpd_tables.proofs.Gathering.{gathered_none, gathered_more}
 use Rattle.snmpd_tables.proofs.near.gather.Goals as goal
 

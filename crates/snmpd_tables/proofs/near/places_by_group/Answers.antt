@@ -1,8 +1,8 @@
-use Rattle.std.proofs.Common.{◌<◌, ◌+◌, sym, ap, subst, inl, inr, length, get_or, arith, ◌≡◌, ◌∙◌, ℕ}
+use Rattle.std.proofs.Common.{◌<◌, ◌+◌, sym, ap, inl, inr, length, arith, ◌∙◌}
 use Rattle.std.proofs.lemmas.Bool.{cases_lt}
 use Rattle.std.proofs.lemmas.List.{get_or_read}
 use Rattle.snmpd_tables.specs.declared.rows.HeldAccess.{HeldAccess}
-use Rattle.snmpd_tables.specs.Places.{AreBy, group_of}
+use Rattle.snmpd_tables.specs.Places.{group_of}
 use Rattle.snmpd_tables.proofs.ByName.{by_none, by_more, by_same}
 use Rattle.snmpd_tables.proofs.near.places_by_group.Goals as goal
 

@@ -1,9 +1,9 @@
-use Rattle.std.proofs.Common.{◌≡◌, ℕ, ◌+◌, ◌<◌, ◌++◌, ◌∷◌, [], length, get_or, take, Contains, sym, ap, subst, inl, inr, arith, ◌∙◌, rules}
-use Rattle.std.proofs.lemmas.List.{get_or_read, take_more, take_all}
+use Rattle.std.proofs.Common.{◌≡◌, ◌+◌, ◌<◌, ◌++◌, ◌∷◌, [], length, get_or, take, Contains, sym, ap, subst, inl, inr, ◌∙◌, rules}
+use Rattle.std.proofs.lemmas.List.{get_or_read, take_more}
 use Rattle.std.proofs.lemmas.List.Elements.{Contains-get_or, Contains-append_left, Contains-push, Contains-push_cases}
 use Rattle.snmpd_tables.specs.declared.rows.HeldAccess.{HeldAccess}
-use Rattle.snmpd_tables.specs.Places.{AreBy, prefix_of}
-use Rattle.snmpd_tables.proofs.ByName.{by_none, by_more, by_same, nothing_in}
+use Rattle.snmpd_tables.specs.Places.{prefix_of}
+use Rattle.snmpd_tables.proofs.ByName.{by_none, by_more, nothing_in}
 use Rattle.snmpd_tables.proofs.near.places_by_prefix.Goals as goal
 
 pub loop-place-init : goal.loop-place-init

@@ -1,4 +1,4 @@
-use Rattle.std.proofs.Common.{ℕ, ◌<◌, length, Contains, subst}
+use Rattle.std.proofs.Common.{Contains, subst}
 use Rattle.snmpd_tables.proofs.OfGroup.{of_group_ok}
 use Rattle.snmpd_tables.proofs.near.prefixes_of.Goals as goal
 

@@ -4,7 +4,7 @@ use Rattle.vacm_core.specs.declared.rows.AccessRow.{AccessRow}
 use Rattle.snmpd_tables.specs.declared.questions.Question.{Question}
 use Rattle.snmpd_tables.specs.declared.rows.HeldAccess.{HeldAccess}
 use Rattle.snmpd_tables.specs.Questions.{FitsQuestion, ChoosesAt}
-use Rattle.snmpd_tables.specs.Sets.{set_row, TellsChange}
+use Rattle.snmpd_tables.specs.Sets.{set_row}
 use Rattle.snmpd_tables.proofs.Setting.{set_new, set_chosen}
 use Rattle.snmpd_tables.proofs.sets.set_access.Goals as goal
 
