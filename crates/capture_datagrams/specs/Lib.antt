@@ -1,6 +1,6 @@
 pub mod Datagrams
-pub mod Packets
 pub mod Dumped
-pub mod Texts
 pub mod Forms
-pub mod Shown
+pub mod Packets
+pub mod Printout
+pub mod Texts

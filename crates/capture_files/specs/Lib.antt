@@ -1,9 +1,9 @@
+pub mod Datagrams
+pub mod Field
+pub mod Formats
 pub mod Items
+pub mod Packet
+pub mod Packets
 pub mod Pcap
 pub mod Pcapng
-pub mod Formats
-pub mod Datagrams
-pub mod Packets
-pub mod Field
-pub mod Packet
-pub mod Passed
+pub mod Tally

@@ -1,10 +1,10 @@
-pub mod Counting
-pub mod Counts
 pub mod Agent
-pub mod Report
-pub mod Decides
-pub mod Sent
-pub mod Dispatch
-pub mod Responses
 pub mod CounterReports
+pub mod Counts
+pub mod Decides
+pub mod Dispatch
+pub mod RefusalCounters
+pub mod Report
+pub mod Responses
+pub mod Sent
 pub mod Statuses
