@@ -10,7 +10,7 @@ use Rattle.snmp_ber.proofs.Integers.{signed_number-low, signed_number-high, sign
 use Rattle.snmp_ber.specs.Octets.{AreOctets}
 
 -- digits in base 256 are those of their number, where there are as many
-same_digits : (h k : ℕ) (xs ys : List ℕ) → AreOctets xs → AreOctets ys → length xs ≡ length ys → fold (λ high octet. 256 * high + octet) h xs ≡ fold (λ high octet. 256 * high + octet) k ys → (h ≡ k) × (xs ≡ ys)
+pub same_digits : (h k : ℕ) (xs ys : List ℕ) → AreOctets xs → AreOctets ys → length xs ≡ length ys → fold (λ high octet. 256 * high + octet) h xs ≡ fold (λ high octet. 256 * high + octet) k ys → (h ≡ k) × (xs ≡ ys)
 same_digits h k [] [] a b l e = (e, refl)
 same_digits h k [] (y ∷ ys) a b l e = absurd (omega arith)
 same_digits h k (x ∷ xs) [] a b l e = absurd (omega arith)
@@ -110,7 +110,7 @@ high_most a b small small2 h =
       ]
     ]
 
-positive_size : (xs : List ℕ) → AreOctets xs → IsFewest xs → length xs ≤ 5 → get_or xs 0 0 < 128 → octet_count (pos (number xs)) ≡ length xs
+pub positive_size : (xs : List ℕ) → AreOctets xs → IsFewest xs → length xs ≤ 5 → get_or xs 0 0 < 128 → octet_count (pos (number xs)) ≡ length xs
 positive_size [] b f l lt = absurd f
 positive_size (a0 ∷ []) b f l lt = positive_count_1 (number (a0 ∷ [])) (omega (arith, b 0))
 positive_size (a0 ∷ a1 ∷ []) b f l lt = positive_count_2 (number (a0 ∷ a1 ∷ [])) (omega (arith, b 0, b 1, low_least a0 a1 f.0)) (omega (arith, b 0, b 1))

@@ -7,6 +7,9 @@ use Rattle.snmp_ber.specs.Octets.{AreOctets}
 use Rattle.std.proofs.Math.Nat.{pow-succ'}
 use Rattle.std.proofs.Math.Seq.{take-length}
 use Rattle.snmp_ber.specs.Reading.{has_fewest}
+use Rattle.snmp_ber.specs.Spelling.{integer, octet_count}
+use Rattle.snmp_ber.proofs.Spellings.{integer-is}
+use Rattle.snmp_ber.proofs.Uniques.{same_digits, positive_size}
 use Rattle.snmp_ber.proofs.Integers.{has_fewest-is, powers_rise, signed_number-low, signed_number-high}
 
 abbrev digits_after : ℕ → List ℕ → ℕ
@@ -160,3 +163,25 @@ behind_zero (x ∷ xs) are unsigned many =
       | inl few ↦ absurd (omega (arith, few, many))
       | inr more ↦ (more.0, let zero_first : x ≡ 0 = more.1 in let rest : suc (length xs) - 1 ≡ length xs = omega arith in rw (zero_first, rest, take-length xs) refl)
     ]
+
+-- ---- one content
+
+at_most_five : (content : List ℕ) → FitsIn 4 content → length content ≤ 5
+at_most_five content (inl few) = omega (arith, few)
+at_most_five content (inr more) = let size = more.0 in omega (arith, size)
+
+pub unsigned_spelled : (n : ℕ) → n < 2 ^ 32 → IsUnsigned 4 n (integer (pos n))
+unsigned_spelled n below = record {
+  integer = integer-is (pos n) (omega (arith, ints)) (omega (arith, ints, below));
+  below = omega (arith, below);
+}
+
+pub one_unsigned : (n : ℕ) (xs ys : List ℕ) → AreOctets xs → AreOctets ys → IsUnsigned 4 n xs → IsUnsigned 4 n ys → xs ≡ ys
+one_unsigned n xs ys a b i j =
+    let x = unsigned_only 4 n xs a i in
+    let y = unsigned_only 4 n ys b j in
+    let digits : number xs ≡ number ys = x.3 ∙ sym y.3 in
+    let first = positive_size xs a x.0 (at_most_five xs x.2) x.1 in
+    let second = positive_size ys b y.0 (at_most_five ys y.2) y.1 in
+    let same : length xs ≡ length ys = sym first ∙ ap (λ (m : ℕ). octet_count (pos m)) digits ∙ second in
+    (same_digits 0 0 xs ys a b same digits).1

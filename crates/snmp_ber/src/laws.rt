@@ -2,7 +2,7 @@
 
 ghost use Rattle.std.specs.Prelude.{◌≡◌, ◌<◌, ◌≤◌, ◌≤ℤ◌, ◌^◌, ℕ, ℤ, pos, negsuc, List, ◌++◌, length};
 ghost use Rattle.snmp_ber.specs.Octets.{AreOctets};
-ghost use Rattle.snmp_ber.specs.Number.{IsInteger32};
+ghost use Rattle.snmp_ber.specs.Number.{IsInteger32, IsUnsigned};
 ghost use Rattle.snmp_ber.specs.Element.{IsTag, IsElement};
 ghost use Rattle.snmp_ber.specs.Spelling.{element, integer};
 ghost use Rattle.snmp_ber.specs.Oid.{AreArcs, IsObjectId, IsIdentifier, identifier};
@@ -21,12 +21,17 @@ pub fn one_element()
 {}
 
 /// The numbers of 32 bits with sign are those that two's complement spells in at most 4 octets and no fewer
-/// than needed, and each has one such content (X.690, section 8.3).
+/// than needed, and each has one such content (X.690, section 8.3). So has each number of 32 bits without sign.
 pub fn one_integer()
     ensures spelled { (z : ℤ) → negsuc MAX_INTEGER32 ≤ℤ z → z ≤ℤ pos MAX_INTEGER32 → IsInteger32 z (integer z) }
     ensures range { (z : ℤ) (content : List ℕ) → AreOctets content → IsInteger32 z content
         → (negsuc MAX_INTEGER32 ≤ℤ z) × (z ≤ℤ pos MAX_INTEGER32) }
     ensures one { (z : ℤ) (a b : List ℕ) → AreOctets a → AreOctets b → IsInteger32 z a → IsInteger32 z b → a ≡ b }
+
+    // From 2147483648 on a number without sign takes 5 octets.
+    ensures unsigned { (n : ℕ) → n < 2 ^ 32 → IsUnsigned 4 n (integer (pos n)) }
+    ensures one_unsigned { (n : ℕ) (a b : List ℕ) → AreOctets a → AreOctets b → IsUnsigned 4 n a → IsUnsigned 4 n b
+        → a ≡ b }
 {}
 
 /// An identifier whose first two arcs a subidentifier can tell has one content, which is its canonical one,
