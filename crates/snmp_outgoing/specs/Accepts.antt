@@ -1,7 +1,7 @@
 -- When what was sealed is accepted by who takes it.
 --
--- `IsTakenInTime`. What comes of a message where it is taken: where its pair is in the time window, or auth
--- is clear, it is accepted with what was sent given on, else it is refused as NotInWindow; and it has no
+-- `IsTakenInTime`. What comes of a message where it is taken: it is accepted if and only if its pair is in the
+-- time window or auth is clear, with what was sent given on; else it is refused as NotInWindow; and it has no
 -- other answer. `IsFor`: who takes it allows its engine and has its user, at a level with authentication
 -- the sender's own.
 use Rattle.snmp_message.specs.declared.refusal.Refusal.TheVariants.{NotInWindow}
