@@ -16,7 +16,7 @@ mod worlds;
 
 pub use agents::same_answer;
 pub use keys::two_keys_one_code;
-pub use managers::{take_all_the_same, take_one};
+pub use managers::{take_all_the_same, take_one, take_wrong_digest};
 pub use replays::accept_twice;
 pub use requests::ask;
 pub use responses::answer;

@@ -5,6 +5,7 @@ ghost use Rattle.snmp_manager.specs.Views.{BeginAlike, HoldSamePairs};
 ghost use Rattle.snmp_manager.specs.Runs.{HasTaken};
 
 use snmp_manager::{Manager, same_authentic_same_pairs, takes_are_joined};
+use snmp_message::Refusal;
 
 /// Takes a datagram at the moment `now`, in seconds. False if memory ran out, and then nothing was taken.
 pub fn take_one(manager: &mut Manager, now: u64, datagram: &[u8]) -> bool
@@ -18,6 +19,20 @@ pub fn take_one(manager: &mut Manager, now: u64, datagram: &[u8]) -> bool
         return false;
     }
     true
+}
+
+/// Takes a datagram at the moment `now`, in seconds. True if its code is wrong (RFC 3414, section 3.2, step 6). Then the
+/// manager holds the same pair of each engine as before.
+pub fn take_wrong_digest(manager: &mut Manager, now: u64, datagram: &[u8]) -> bool
+    ensures { IsTrue result → HoldSamePairs manager.old manager.new }
+{
+    let Err(fault) = manager.take(now, datagram) else {
+        return false;
+    };
+    match fault.refusal {
+        Refusal::WrongDigest => true,
+        _ => false,
+    }
 }
 
 /// The headline at its smallest: two managers that begin alike take two datagrams, each in its own order and at its own
