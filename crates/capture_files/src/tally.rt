@@ -40,7 +40,7 @@ pub struct Tally {
 }
 
 /// So many counts of nothing.
-#[tactic(auto, unfolding(crate::specs::Passed::zeros))]
+#[tactic(auto, unfolding(crate::specs::Tally::zeros))]
 fn zeros(alloc: Global, count: usize) -> Result<Vec<u64>, AllocError>
     ensures { IfOk result (λ counts. counts.items ≡ zeros count) }
 {
