@@ -8,7 +8,7 @@ use std::collections::BTreeMap;
 /// How many engines are followed.
 pub(crate) const ENGINES_LIMIT: usize = 65_536;
 
-/// The engines that sent something, each with the address and port that it sent from last, if that is known.
+/// The engines that sent something, each with the address and port that it answered from last, if that is known.
 #[derive(Drop)]
 pub(crate) struct Agents {
     endpoints: BTreeMap<EngineId, Option<Endpoint>>,
@@ -26,17 +26,22 @@ impl Agents {
         self.endpoints.len() >= ENGINES_LIMIT && self.endpoints.get(engine).is_none()
     }
 
-    /// The engine sent something from there.
+    /// The engine sent something from there. A notification, which comes from any port, tells this only where nothing
+    /// is known yet.
     pub(crate) fn saw(
         &mut self,
         engine: &EngineId,
         from: Option<Endpoint>,
+        notifies: bool,
     ) -> Result<(), AllocError> {
+        if notifies && self.endpoint(engine).is_some() {
+            return Ok(());
+        }
         self.endpoints.insert(engine.copy(), from)?;
         Ok(())
     }
 
-    /// From where the engine sent last.
+    /// From where the engine answered last.
     pub(crate) fn endpoint(&self, engine: &EngineId) -> Option<Endpoint> {
         match self.endpoints.get(engine) {
             Some(endpoint) => *endpoint,

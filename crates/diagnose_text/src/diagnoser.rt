@@ -309,8 +309,9 @@ impl Diagnoser {
             Judged::SentTo { taken, verdict } => self.request(line, &taken, verdict),
             Judged::SentBy { taken, in_window } => {
                 let from = line.route.map(|route| route.from);
-                self.agents.saw(&taken.engine, from)?;
-                if taken.tag == PduType::SNMPv2Trap.tag() {
+                let notifies = taken.tag == PduType::SNMPv2Trap.tag();
+                self.agents.saw(&taken.engine, from, notifies)?;
+                if notifies {
                     self.tell_alone(line, &taken)
                 } else {
                     self.answer(line, &taken, in_window)
