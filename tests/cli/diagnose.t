@@ -40,13 +40,13 @@ the answer to the same msgID goes to another port. 26 is a copy of 3, ten minute
       window not judged: nothing is known of the engine's clock yet
       answered after 0.3 ms: 1.3.6.1.2.1.1.3.0 = Timeticks 16
   26  22:23:20.000000  10.0.0.9:40001 > 10.0.0.5:161  bob authNoPriv  Get 1.3.6.1.2.1.1.5.0
-      copy of 3
+      copy of 3, a replay that the time window refuses
   summary
     bob  answered 5, errors 1, refused 2, no answer 1
     eve  answered 0, errors 0, refused 1, no answer 0
     ann  answered 1, errors 0, refused 0, no answer 0
-    engine 80001f88046b6f77616e7169  boots 7, time 1030, seen at 1700000030
-    engine 80001f88046e6d73  boots 1, time 50, seen at 1700000031
+    engine 80001f88046b6f77616e7169  boots 7, time 1030 at 22:13:50; agent 10.0.0.5:161
+    engine 80001f88046e6d73  boots 1, time 50 at 22:13:51; agent [2001:db8::9]:162
   [1]
 
 A refused configuration is one line.
@@ -59,4 +59,45 @@ A file that isn't there.
 
   $ snmpsec diagnose "$TOP/examples/no-answer.toml" missing
   ! snmpsec: cannot read missing
+  [2]
+
+One user's exchanges. Only these are counted, and only they decide the status.
+
+  $ snmpsec diagnose --user ann "$TOP/examples/no-answer.toml" "$TOP/examples/diagnose.pcap"
+  24  22:13:51.000000  [2001:db8::5]:50000 > [2001:db8::9]:162  ann authNoPriv  Inform 1.3.6.1.2.1.1.3.0
+      window not judged: nothing is known of the engine's clock yet
+      answered after 0.3 ms: 1.3.6.1.2.1.1.3.0 = Timeticks 16
+  summary
+    ann  answered 1, errors 0, refused 0, no answer 0
+    engine 80001f88046b6f77616e7169  boots 7, time 1030 at 22:13:50; agent 10.0.0.5:161
+    engine 80001f88046e6d73  boots 1, time 50 at 22:13:51; agent [2001:db8::9]:162
+
+One engine's exchanges, as JSON: an object a line.
+
+  $ snmpsec diagnose --json --engine 80001f88046e6d73 "$TOP/examples/no-answer.toml" "$TOP/examples/diagnose.pcap"
+  {"counts":true,"ending":{"after_microseconds":300,"datagram":25,"in_window":true,"kind":"answered","says":{"kind":"values","more_values":0,"values":[{"name":"1.3.6.1.2.1.1.3.0","type":"Timeticks","value":16}]}},"request":{"copy_of":null,"datagram":24,"engine":"80001f88046e6d73","from":"[2001:db8::5]:50000","level":"authNoPriv","microseconds":0,"refused":null,"remark":"window not judged","retransmission_of":null,"seconds":1700000031,"time":"22:13:51.000000","to":"[2001:db8::9]:162","user":"ann","what":{"kind":"Inform","more_names":0,"names":["1.3.6.1.2.1.1.3.0"]}}}
+  {"summary":{"engines":[{"agent":"10.0.0.5:161","boots":7,"engine":"80001f88046b6f77616e7169","seen":1700000030,"time":1030},{"agent":"[2001:db8::9]:162","boots":1,"engine":"80001f88046e6d73","seen":1700000031,"time":50}],"users":[{"answered":1,"errors":0,"no_answer":0,"refused":0,"user":"ann"}]}}
+
+An engine ID that is none.
+
+  $ snmpsec diagnose --engine 80 "$TOP/examples/no-answer.toml" "$TOP/examples/diagnose.pcap"
+  ! snmpsec: bad word ENGINE
+  [2]
+
+A capture that is cut: what was found before is printed, and the status is 2.
+
+  $ head -c 900 "$TOP/examples/diagnose.pcap" > cut.pcap
+  $ snmpsec diagnose "$TOP/examples/no-answer.toml" cut.pcap
+  1  22:13:20.001000  10.0.0.9:40001 > 10.0.0.5:161  discovery
+      answered after 0.4 ms: engine 80001f88046b6f77616e7169
+  3  22:13:20.002000  10.0.0.9:40001 > 10.0.0.5:161  bob authNoPriv  Get 1.3.6.1.2.1.1.5.0
+      window not judged: nothing is known of the engine's clock yet
+      answered after 0.8 ms: 1.3.6.1.2.1.1.5.0 = STRING "router-7"
+  refused datagrams cut.pcap octet 746
+  5  22:13:25.000000  10.0.0.9:40001 > 10.0.0.5:161  bob authNoPriv  Get 1.3.6.1.2.1.1.5.0
+      no answer in the capture
+      NotInWindow: the boots or the time in the message aren't the engine's: a restart, a wrong clock, or a message that was kept
+  summary
+    bob  answered 1, errors 0, refused 0, no answer 1
+    engine 80001f88046b6f77616e7169  boots 7, time 1000 at 22:13:20; agent 10.0.0.5:161
   [2]

@@ -1,6 +1,8 @@
 //! Datagrams that were seen before, by their digests.
 
-ghost use Rattle.std.specs.Prelude.{◌≡◌, ◌++◌, nat_eq, IfOk};
+ghost use Rattle.std.specs.Prelude.{◌≡◌, ◌≤◌, ◌↔◌, ◌++◌, nat_eq, IfOk, IsTrue};
+ghost use Rattle.std.specs.VecDeque.{deque_len};
+ghost use Rattle.diagnose_exchanges.specs.Copies.{copies_limit};
 ghost use Rattle.std.specs.HashMap.{get};
 ghost use Rattle.std.specs.Cmp.Lexicographic.{pointwise};
 ghost use Rattle.md5.specs.Md5.{md5};
@@ -22,37 +24,44 @@ pub fn digest_of(first: &[u8], second: &[u8]) -> [u8; 16]
     digest.finalize()
 }
 
-/// The digests of the last datagrams, each with the number of the first datagram that has it.
+/// The digests of the last datagrams, each with what is kept of the first datagram that has it.
 #[derive(Drop)]
-pub struct Copies {
-    numbers: HashMap<[u8; 16], u64>,
+pub struct Copies<V: Copy + Drop> {
+    kept: HashMap<[u8; 16], V>,
     order: VecDeque<[u8; 16]>,
 }
 
-impl Copies {
+impl<V: Copy + Drop> Copies<V> {
     /// No datagram was seen. This takes no memory.
-    pub fn new(alloc: Global) -> Copies {
+    pub fn new(alloc: Global) -> Copies<V> {
         Copies {
-            numbers: HashMap::new(alloc),
+            kept: HashMap::new(alloc),
             order: VecDeque::new(alloc),
         }
     }
 
-    /// The number of the first datagram with this digest, or None; then it is kept under this number, and the oldest
-    /// digest goes where there are over 1,048,576.
-    pub fn note(&mut self, digest: [u8; 16], number: u64) -> Result<Option<u64>, AllocError>
-        ensures { IfOk result (λ found. found ≡ get (pointwise nat_eq) self.old.numbers digest) }
+    /// What is kept of the first datagram with this digest, or None; then this is kept of it, and the oldest digest goes
+    /// where there are over 1,048,576.
+    pub fn note(&mut self, digest: [u8; 16], value: V) -> Result<Option<V>, AllocError>
+        ensures { IfOk result (λ found. found ≡ get (pointwise nat_eq) self.old.kept digest) }
     {
-        if let Some(found) = self.numbers.get(&digest) {
+        if let Some(found) = self.kept.get(&digest) {
             return Ok(Some(*found));
         }
-        if self.order.len() >= COPIES_LIMIT {
+        if self.is_full() {
             if let Some(oldest) = self.order.pop_front() {
-                self.numbers.remove(&oldest);
+                self.kept.remove(&oldest);
             }
         }
         self.order.push_back(digest)?;
-        self.numbers.insert(digest, number)?;
+        self.kept.insert(digest, value)?;
         Ok(None)
+    }
+
+    /// No further digest is kept unless the oldest goes.
+    pub fn is_full(&self) -> bool
+        ensures { IsTrue result ↔ (copies_limit ≤ deque_len self.now.order) }
+    {
+        self.order.len() >= COPIES_LIMIT
     }
 }

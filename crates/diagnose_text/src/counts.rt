@@ -1,21 +1,14 @@
 //! How the exchanges of each user ended.
 
+use crate::facts::{Answer, Says};
 use crate::heads::name_text;
+use diagnose_exchanges::Ending;
+use serde_json::{Value as Json, json};
 use std::alloc::{AllocError, Global};
 use usm_users::UserName;
 
-/// How an exchange ended.
-#[derive(Clone, Copy, Debug, PartialEq, Eq)]
-pub(crate) enum Ending {
-    /// With values.
-    Answered,
-    /// With an error-status.
-    Error,
-    /// With a Report.
-    Refused,
-    /// Nothing came.
-    NoAnswer,
-}
+/// Of how many users the exchanges are counted.
+const USERS: usize = 1_024;
 
 /// How the exchanges of a user ended.
 #[derive(Drop)]
@@ -26,9 +19,6 @@ struct UserCounts {
     refused: u64,
     no_answer: u64,
 }
-
-/// Of how many users the exchanges are counted.
-const USERS: usize = 1_024;
 
 /// How the exchanges of each user ended.
 #[derive(Drop)]
@@ -44,7 +34,11 @@ impl Counts {
     }
 
     /// Counts an exchange of this user.
-    pub(crate) fn count(&mut self, user: &[u8], ending: Ending) -> Result<(), AllocError> {
+    pub(crate) fn count<K: Drop>(
+        &mut self,
+        user: &[u8],
+        ending: &Ending<K, Answer>,
+    ) -> Result<(), AllocError> {
         for counts in self.users.iter_mut() {
             if counts.user.as_slice() == user {
                 counts.count(ending);
@@ -72,6 +66,16 @@ impl Counts {
         }
         Ok(text)
     }
+
+    /// An object for each user.
+    pub(crate) fn objects(&self, alloc: Global) -> Result<Json, AllocError> {
+        let mut list = Vec::new(alloc);
+        for counts in &self.users {
+            let object = counts.object(alloc)?;
+            list.push(object)?;
+        }
+        Ok(Json::Array(list))
+    }
 }
 
 impl UserCounts {
@@ -85,12 +89,21 @@ impl UserCounts {
         }
     }
 
-    fn count(&mut self, ending: Ending) {
+    fn count<K: Drop>(&mut self, ending: &Ending<K, Answer>) {
         match ending {
-            Ending::Answered => self.answered = self.answered.saturating_add(1),
-            Ending::Error => self.errors = self.errors.saturating_add(1),
-            Ending::Refused => self.refused = self.refused.saturating_add(1),
-            Ending::NoAnswer => self.no_answer = self.no_answer.saturating_add(1),
+            Ending::Answered { answer, .. } => self.count_answer(&answer.says),
+            Ending::NoAnswer | Ending::NotFollowed => {
+                self.no_answer = self.no_answer.saturating_add(1);
+            }
+            Ending::Waits(_) | Ending::Alone | Ending::SentAgain(_) => {}
+        }
+    }
+
+    fn count_answer(&mut self, says: &Says) {
+        match says {
+            Says::Values(..) | Says::Engine(_) => self.answered = self.answered.saturating_add(1),
+            Says::Error(..) | Says::Unread(_) => self.errors = self.errors.saturating_add(1),
+            Says::Report(..) => self.refused = self.refused.saturating_add(1),
         }
     }
 
@@ -106,5 +119,15 @@ impl UserCounts {
         format!(in alloc;
             "  {name}  answered {answered}, errors {errors}, refused {refused}, no answer {no_answer}\n"
         )
+    }
+
+    fn object(&self, alloc: Global) -> Result<Json, AllocError> {
+        let user = name_text(alloc, self.user.as_slice())?;
+        let (answered, errors) = (self.answered, self.errors);
+        let (refused, no_answer) = (self.refused, self.no_answer);
+        json!(in alloc; {
+            "user": user, "answered": answered, "errors": errors, "refused": refused,
+            "no_answer": no_answer
+        })
     }
 }

@@ -1,14 +1,13 @@
 //! The line of a datagram: when it was captured, from whom to whom it went, and what it is.
 
+use crate::facts::{First, PduNames, Sender, What};
 use crate::names::{level_name, pdu_name};
 use crate::values::octets_text;
 use capture_files::Route;
-use snmp_ber::Level;
-use snmp_msg::Pdu;
 use std::alloc::{AllocError, Global};
 
 /// When a datagram was captured.
-#[derive(Clone, Copy, Debug, PartialEq, Eq)]
+#[derive(Clone, Copy, Debug, PartialEq, Eq, Drop)]
 pub(crate) struct Stamp {
     /// In seconds.
     pub(crate) seconds: u64,
@@ -28,12 +27,18 @@ impl Stamp {
     }
 }
 
-/// The time of day of a stamp, in UTC.
-fn time_text(alloc: Global, at: Stamp) -> Result<String, AllocError> {
+/// The time of day of a stamp, in UTC, with its microseconds.
+pub(crate) fn time_text(alloc: Global, at: Stamp) -> Result<String, AllocError> {
+    let clock = clock_text(alloc, at)?;
+    let micros = at.micros;
+    format!(in alloc; "{clock}.{micros:06}")
+}
+
+/// The time of day of a stamp, in UTC, in whole seconds.
+pub(crate) fn clock_text(alloc: Global, at: Stamp) -> Result<String, AllocError> {
     let day = at.seconds % 86_400;
     let (hours, minutes, seconds) = (day / 3_600, day / 60 % 60, day % 60);
-    let micros = at.micros;
-    format!(in alloc; "{hours:02}:{minutes:02}:{seconds:02}.{micros:06}")
+    format!(in alloc; "{hours:02}:{minutes:02}:{seconds:02}")
 }
 
 /// A span in milliseconds with one digit below.
@@ -53,27 +58,30 @@ fn route_text(alloc: Global, route: Option<Route>) -> Result<String, AllocError>
     }
 }
 
-/// The line of a datagram that is this.
-pub(crate) fn head_line(
-    alloc: Global,
-    number: u64,
-    at: Stamp,
-    route: Option<Route>,
-    what: &str,
-) -> Result<String, AllocError> {
-    let time = time_text(alloc, at)?;
-    let route = route_text(alloc, route)?;
-    format!(in alloc; "{number}  {time}  {route}{what}\n")
+/// The line of the first datagram of an exchange.
+pub(crate) fn head_line(alloc: Global, number: u64, first: &First) -> Result<String, AllocError> {
+    let time = time_text(alloc, first.at)?;
+    let route = route_text(alloc, first.route)?;
+    let sender = match &first.sender {
+        Some(sender) => sender_text(alloc, sender)?,
+        None => String::new(alloc),
+    };
+    let what = what_text(alloc, &first.what)?;
+    format!(in alloc; "{number}  {time}  {route}{sender}{what}\n")
 }
 
-/// A user name and a level.
-pub(crate) fn sender_text(alloc: Global, user: &[u8], level: Level) -> Result<String, AllocError> {
-    let level = level_name(level);
+/// A user name and a level, with two blanks behind them.
+fn sender_text(alloc: Global, sender: &Sender) -> Result<String, AllocError> {
+    let level = match sender.level {
+        Some(level) => level_name(level),
+        None => "privacy without authentication",
+    };
+    let user = sender.user.as_slice();
     if user.is_empty() {
-        return String::from_str(alloc, level);
+        return format!(in alloc; "{level}  ");
     }
     let name = name_text(alloc, user)?;
-    format!(in alloc; "{name} {level}")
+    format!(in alloc; "{name} {level}  ")
 }
 
 /// A user name: as it is if it is letters, digits and marks, or else between quotes or in hex.
@@ -86,23 +94,25 @@ pub(crate) fn name_text(alloc: Global, user: &[u8]) -> Result<String, AllocError
     }
 }
 
-/// How many names of a request are printed.
-const NAMES: usize = 8;
-
-/// A PDU: its name and the names of its variables, at most 8 of them.
-pub(crate) fn pdu_text(alloc: Global, pdu: &Pdu<'_>) -> Result<String, AllocError> {
-    let mut text = String::from_str(alloc, pdu_name(pdu.tag))?;
-    let mut count = 0usize;
-    for binding in pdu.bindings() {
-        if count < NAMES {
-            let name = &binding.name;
-            let part = format!(in alloc; " {name}")?;
-            text.push_str(&part)?;
-        }
-        count = count.saturating_add(1);
+/// What a datagram is.
+fn what_text(alloc: Global, what: &What) -> Result<String, AllocError> {
+    match what {
+        What::Discovery => String::from_str(alloc, "discovery"),
+        What::Pdu(pdu) => pdu_text(alloc, pdu),
+        What::Sealed => String::from_str(alloc, "sealed (its direction is a guess)"),
+        What::Unreadable => String::from_str(alloc, "not read"),
     }
-    if count > NAMES {
-        let more = count - NAMES;
+}
+
+/// A PDU: its name and the names of its variables.
+fn pdu_text(alloc: Global, pdu: &PduNames) -> Result<String, AllocError> {
+    let mut text = String::from_str(alloc, pdu_name(pdu.tag))?;
+    for name in &pdu.names {
+        let part = format!(in alloc; " {name}")?;
+        text.push_str(&part)?;
+    }
+    if pdu.more > 0 {
+        let more = pdu.more;
         let part = format!(in alloc; " and {more} more")?;
         text.push_str(&part)?;
     }

@@ -1,25 +1,33 @@
 //! What `snmpsec diagnose` prints: who asked whom for what, and what became of it.
 //!
 //! ```
-//! use diagnose_text::Diagnoser;
+//! use diagnose_text::{DiagnoseOptions, Diagnoser};
 //! use engine_clock::Clocks;
 //! use usm_core::Users;
 //!
 //! let users = Users::load(rt.alloc(), &[])?;
-//! let mut diagnoser = Diagnoser::new(rt.alloc(), users, Clocks::new(rt.alloc()));
+//! let options = DiagnoseOptions::all(rt.alloc());
+//! let mut diagnoser = Diagnoser::new(rt.alloc(), users, Clocks::new(rt.alloc()), options);
 //! let (text, failed) = diagnoser.finish()?;
 //! assert!(rt; text.starts_with(b"summary\n") && !failed);
 //! ```
 #![tactic(auto)]
 
-mod answers;
+mod agents;
 mod blocks;
 mod causes;
 mod counts;
 mod diagnoser;
+mod facts;
 mod heads;
 mod names;
+mod objects;
+mod options;
+mod reading;
+mod report;
 mod summary;
+mod unread;
 mod values;
 
 pub use diagnoser::Diagnoser;
+pub use options::{DiagnoseOptions, Style};

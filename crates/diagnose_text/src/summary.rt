@@ -1,44 +1,118 @@
 //! What stands at the end: how the exchanges of each user ended, and what is known of each engine.
 
+use crate::agents::Agents;
 use crate::counts::Counts;
-use engine_clock::Clocks;
+use crate::heads::{Stamp, clock_text};
+use capture_files::Endpoint;
+use engine_clock::{Clocks, EngineId};
+use serde_json::{Value as Json, json};
 use std::alloc::{AllocError, Global};
 
-/// The summary.
-pub(crate) fn summary(
+/// What is known of an engine.
+#[derive(Drop)]
+struct EngineFacts {
+    engine: EngineId,
+    boots: u32,
+    time: u32,
+    seen: u64,
+    agent: Option<Endpoint>,
+}
+
+/// The summary as lines.
+pub(crate) fn summary_text(
     alloc: Global,
     counts: &Counts,
     clocks: &Clocks,
+    agents: &Agents,
 ) -> Result<String, AllocError> {
     let users = counts.lines(alloc)?;
-    let engines = engine_lines(alloc, clocks)?;
-    format!(in alloc; "summary\n{users}{engines}")
-}
-
-/// A line for each engine, in the order of their octets.
-fn engine_lines(alloc: Global, clocks: &Clocks) -> Result<String, AllocError> {
-    let saved = clocks.save()?;
-    let mut text = String::new(alloc);
-    let Ok(saved) = std::str::from_utf8(&saved) else {
-        return Ok(text);
-    };
-    for line in saved.lines().skip(1) {
-        let line = engine_line(alloc, line)?;
+    let mut text = format!(in alloc; "summary\n{users}")?;
+    for facts in &engines_of(alloc, clocks, agents)? {
+        let line = engine_line(alloc, facts)?;
         text.push_str(&line)?;
     }
     Ok(text)
 }
 
-/// The line of an engine, of which this is the line in saved clocks.
-fn engine_line(alloc: Global, saved: &str) -> Result<String, AllocError> {
-    let Some((engine, rest)) = saved.split_once(' ') else {
-        return Ok(String::new(alloc));
+/// The summary as a JSON object.
+pub(crate) fn summary_line(
+    alloc: Global,
+    counts: &Counts,
+    clocks: &Clocks,
+    agents: &Agents,
+) -> Result<String, AllocError> {
+    let users = counts.objects(alloc)?;
+    let mut engines = Vec::new(alloc);
+    for facts in &engines_of(alloc, clocks, agents)? {
+        let object = engine_object(alloc, facts)?;
+        engines.push(object)?;
+    }
+    let engines = Json::Array(engines);
+    let object = json!(in alloc; {"summary": {"users": users, "engines": engines}})?;
+    let text = object.to_string(alloc)?;
+    format!(in alloc; "{text}\n")
+}
+
+/// What is known of the engines, in the order of their octets.
+fn engines_of(
+    alloc: Global,
+    clocks: &Clocks,
+    agents: &Agents,
+) -> Result<Vec<EngineFacts>, AllocError> {
+    let mut engines = Vec::new(alloc);
+    let saved = clocks.save()?;
+    let Ok(saved) = std::str::from_utf8(&saved) else {
+        return Ok(engines);
     };
-    let Some((boots, rest)) = rest.split_once(' ') else {
-        return Ok(String::new(alloc));
+    for line in saved.lines().skip(1) {
+        let digits = line.split_once(' ').map_or(line, |parts| parts.0);
+        let Ok(octets) = hex::decode(alloc, digits) else {
+            continue;
+        };
+        if let Some(facts) = engine_of(&octets, clocks, agents) {
+            engines.push(facts)?;
+        }
+    }
+    Ok(engines)
+}
+
+/// What is known of the engine with this identifier.
+fn engine_of(octets: &[u8], clocks: &Clocks, agents: &Agents) -> Option<EngineFacts> {
+    let engine = EngineId::of(octets)?;
+    let mark = clocks.mark(&engine)?;
+    let agent = agents.endpoint(&engine);
+    Some(EngineFacts {
+        engine,
+        boots: mark.pair.boots,
+        time: mark.pair.time,
+        seen: mark.seen,
+        agent,
+    })
+}
+
+/// The line of an engine.
+fn engine_line(alloc: Global, facts: &EngineFacts) -> Result<String, AllocError> {
+    let (engine, boots, time) = (&facts.engine, facts.boots, facts.time);
+    let at = Stamp {
+        seconds: facts.seen,
+        micros: 0,
     };
-    let Some((time, seen)) = rest.split_once(' ') else {
-        return Ok(String::new(alloc));
+    let seen = clock_text(alloc, at)?;
+    let agent = match facts.agent {
+        Some(agent) => format!(in alloc; "; agent {agent}")?,
+        None => String::new(alloc),
     };
-    format!(in alloc; "  engine {engine}  boots {boots}, time {time}, seen at {seen}\n")
+    format!(in alloc; "  engine {engine}  boots {boots}, time {time} at {seen}{agent}\n")
+}
+
+/// The object of an engine.
+fn engine_object(alloc: Global, facts: &EngineFacts) -> Result<Json, AllocError> {
+    let (boots, time, seen) = (facts.boots, facts.time, facts.seen);
+    let engine = &facts.engine;
+    let engine = format!(in alloc; "{engine}")?;
+    let agent = match facts.agent {
+        Some(agent) => Json::from(format!(in alloc; "{agent}")?),
+        None => Json::Null,
+    };
+    json!(in alloc; {"engine": engine, "boots": boots, "time": time, "seen": seen, "agent": agent})
 }

@@ -4,6 +4,23 @@ use snmp_ber::{read_int, read_oid, read_unsigned};
 use snmp_msg::{Binding, Syntax};
 use std::alloc::{AllocError, Global};
 
+/// The value of a variable (RFC 3416, section 3).
+#[derive(Drop)]
+pub(crate) enum Value {
+    Integer(i32),
+    /// The name of its type, and the number.
+    Unsigned(&'static str, u32),
+    Counter64(u64),
+    /// Octets that can be read as they are.
+    Text(String),
+    Identifier(String),
+    Address([u8; 4]),
+    /// The name of its type, and its octets in hex.
+    Octets(&'static str, String),
+    /// NULL, or an exception.
+    Bare(&'static str),
+}
+
 /// The octets can be read as they are: all are of printable ASCII, and none is a quote or a backslash.
 fn is_plain(octets: &[u8]) -> bool {
     octets.iter().all(|octet| *octet >= 0x20 && *octet < 0x7f && *octet != b'"' && *octet != b'\\')
@@ -29,79 +46,82 @@ fn read_wide(content: &[u8]) -> u64 {
     number
 }
 
-/// A number without sign after the name of its type, or its octets where they are no such number.
-fn unsigned_text(alloc: Global, name: &str, content: &[u8]) -> Result<String, AllocError> {
+/// Octets of a type.
+fn octets_of(alloc: Global, name: &'static str, content: &[u8]) -> Result<Value, AllocError> {
+    Ok(Value::Octets(name, hex::encode(alloc, content)?))
+}
+
+/// A number without sign of a type, or its octets where they are no such number.
+fn unsigned_of(alloc: Global, name: &'static str, content: &[u8]) -> Result<Value, AllocError> {
     match read_unsigned(content) {
-        Some(number) => format!(in alloc; "{name} {number}"),
-        None => other_text(alloc, name, content),
+        Some(number) => Ok(Value::Unsigned(name, number)),
+        None => octets_of(alloc, name, content),
     }
 }
 
-/// The octets of a value after the name of its type.
-fn other_text(alloc: Global, name: &str, content: &[u8]) -> Result<String, AllocError> {
-    let digits = hex::encode(alloc, content)?;
-    format!(in alloc; "{name} 0x{digits}")
-}
-
 /// A number with sign.
-fn integer_text(alloc: Global, content: &[u8]) -> Result<String, AllocError> {
+fn integer_of(alloc: Global, content: &[u8]) -> Result<Value, AllocError> {
     match read_int(content) {
-        Some(number) => format!(in alloc; "INTEGER {number}"),
-        None => other_text(alloc, "INTEGER", content),
+        Some(number) => Ok(Value::Integer(number)),
+        None => octets_of(alloc, "INTEGER", content),
     }
 }
 
 /// An object identifier.
-fn identifier_text(alloc: Global, content: &[u8]) -> Result<String, AllocError> {
+fn identifier_of(alloc: Global, content: &[u8]) -> Result<Value, AllocError> {
     match read_oid(content) {
-        Some(oid) => format!(in alloc; "OID {oid}"),
-        None => other_text(alloc, "OID", content),
+        Some(oid) => Ok(Value::Identifier(format!(in alloc; "{oid}")?)),
+        None => octets_of(alloc, "OID", content),
     }
 }
 
 /// An address of IPv4.
-fn address_text(alloc: Global, content: &[u8]) -> Result<String, AllocError> {
+fn address_of(alloc: Global, content: &[u8]) -> Result<Value, AllocError> {
     match content {
-        [a, b, c, d] => format!(in alloc; "IpAddress {a}.{b}.{c}.{d}"),
-        _ => other_text(alloc, "IpAddress", content),
+        [a, b, c, d] => Ok(Value::Address([*a, *b, *c, *d])),
+        _ => octets_of(alloc, "IpAddress", content),
     }
 }
 
 /// Octets, as text if they can be read.
-fn string_text(alloc: Global, content: &[u8]) -> Result<String, AllocError> {
-    let text = octets_text(alloc, content)?;
-    format!(in alloc; "STRING {text}")
-}
-
-/// A number of 64 bits.
-fn wide_text(alloc: Global, content: &[u8]) -> Result<String, AllocError> {
-    let number = read_wide(content);
-    format!(in alloc; "Counter64 {number}")
-}
-
-/// A value with this tag, after the name of its type (RFC 3416, section 3).
-fn value_text(alloc: Global, tag: u8, content: &[u8]) -> Result<String, AllocError> {
-    match Syntax::of(tag) {
-        Some(Syntax::Integer32) => integer_text(alloc, content),
-        Some(Syntax::OctetString) => string_text(alloc, content),
-        Some(Syntax::ObjectIdentifier) => identifier_text(alloc, content),
-        Some(Syntax::IpAddress) => address_text(alloc, content),
-        Some(Syntax::Counter32) => unsigned_text(alloc, "Counter32", content),
-        Some(Syntax::Unsigned32) => unsigned_text(alloc, "Gauge32", content),
-        Some(Syntax::TimeTicks) => unsigned_text(alloc, "Timeticks", content),
-        Some(Syntax::Counter64) => wide_text(alloc, content),
-        Some(Syntax::Opaque) => other_text(alloc, "Opaque", content),
-        Some(Syntax::Null) => String::from_str(alloc, "NULL"),
-        Some(Syntax::NoSuchObject) => String::from_str(alloc, "noSuchObject"),
-        Some(Syntax::NoSuchInstance) => String::from_str(alloc, "noSuchInstance"),
-        Some(Syntax::EndOfMibView) => String::from_str(alloc, "endOfMibView"),
-        None => other_text(alloc, "value", content),
+fn string_of(alloc: Global, content: &[u8]) -> Result<Value, AllocError> {
+    match std::str::from_utf8(content) {
+        Ok(text) if is_plain(content) => Ok(Value::Text(String::from_str(alloc, text)?)),
+        _ => octets_of(alloc, "STRING", content),
     }
 }
 
-/// A variable binding, its name and its value.
-pub(crate) fn binding_text(alloc: Global, binding: &Binding<'_>) -> Result<String, AllocError> {
-    let value = value_text(alloc, binding.tag, binding.content)?;
-    let name = &binding.name;
-    format!(in alloc; "{name} = {value}")
+/// The value of a binding.
+pub(crate) fn value_of(alloc: Global, binding: &Binding<'_>) -> Result<Value, AllocError> {
+    let content = binding.content;
+    match Syntax::of(binding.tag) {
+        Some(Syntax::Integer32) => integer_of(alloc, content),
+        Some(Syntax::OctetString) => string_of(alloc, content),
+        Some(Syntax::ObjectIdentifier) => identifier_of(alloc, content),
+        Some(Syntax::IpAddress) => address_of(alloc, content),
+        Some(Syntax::Counter32) => unsigned_of(alloc, "Counter32", content),
+        Some(Syntax::Unsigned32) => unsigned_of(alloc, "Gauge32", content),
+        Some(Syntax::TimeTicks) => unsigned_of(alloc, "Timeticks", content),
+        Some(Syntax::Counter64) => Ok(Value::Counter64(read_wide(content))),
+        Some(Syntax::Opaque) => octets_of(alloc, "Opaque", content),
+        Some(Syntax::Null) => Ok(Value::Bare("NULL")),
+        Some(Syntax::NoSuchObject) => Ok(Value::Bare("noSuchObject")),
+        Some(Syntax::NoSuchInstance) => Ok(Value::Bare("noSuchInstance")),
+        Some(Syntax::EndOfMibView) => Ok(Value::Bare("endOfMibView")),
+        None => octets_of(alloc, "value", content),
+    }
+}
+
+/// A value after the name of its type.
+pub(crate) fn value_text(alloc: Global, value: &Value) -> Result<String, AllocError> {
+    match value {
+        Value::Integer(number) => format!(in alloc; "INTEGER {number}"),
+        Value::Unsigned(name, number) => format!(in alloc; "{name} {number}"),
+        Value::Counter64(number) => format!(in alloc; "Counter64 {number}"),
+        Value::Text(text) => format!(in alloc; "STRING \"{text}\""),
+        Value::Identifier(text) => format!(in alloc; "OID {text}"),
+        Value::Address([a, b, c, d]) => format!(in alloc; "IpAddress {a}.{b}.{c}.{d}"),
+        Value::Octets(name, digits) => format!(in alloc; "{name} 0x{digits}"),
+        Value::Bare(name) => String::from_str(alloc, name),
+    }
 }

@@ -6,7 +6,7 @@ use crate::given_words::{word_of, words_of};
 use clap::ArgMatches;
 
 /// What a file of datagrams is.
-const SOURCE: &str =
+pub(crate) const SOURCE: &str =
     "A capture (pcap or pcapng), pasted hex, or a dump as hexdump -C prints it; - is standard input";
 
 /// The file of datagrams as an option.

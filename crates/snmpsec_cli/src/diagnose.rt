@@ -1,9 +1,9 @@
 //! The command line of `diagnose`.
 
 use crate::Command;
-use crate::capture::{DatagramsWords, FORM, IP, MOMENT, PORT, datagrams_words};
+use crate::capture::{DatagramsWords, FORM, IP, MOMENT, PORT, SOURCE, datagrams_words};
 use crate::forms::{Form, Kind};
-use crate::given_words::word_of;
+use crate::given_words::{word_of, words_of};
 use clap::ArgMatches;
 
 /// The command diagnose.
@@ -11,14 +11,38 @@ pub(crate) static DIAGNOSE: Form = Form {
     command: Command::Diagnose,
     name: "diagnose",
     about: "Print what became of each request in a capture: answered, refused and why, or no answer",
-    status: "A request is judged as the agent judges it, and an answer as the manager does; only what an engine sent teaches its clock.
-Example: snmpsec diagnose examples/replay/config.toml examples/replay/captured.pcap
-Status: 0 each request was answered without an error, 1 something failed, or the configuration, the clocks or FILE is refused, 2 a fault of the command line or a file that can't be read.",
+    status: "It judges a request as the agent does, and an answer as the manager does. Only what an engine
+sent teaches it the engine's clock.
+
+Example: snmpsec diagnose examples/no-answer.toml examples/diagnose.pcap
+
+Exit status:
+  0  each request was answered without an error
+  1  something failed, or the configuration or the clocks are refused
+  2  the command line or FILE is wrong, or a file can't be read",
     words: &[
         FORM,
         PORT,
         MOMENT,
         IP,
+        (
+            Kind::Flag,
+            "json",
+            "json",
+            "Print JSON, an object on a line: one for each exchange, and the summary",
+        ),
+        (
+            Kind::Values,
+            "NAME",
+            "user",
+            "Print and count only exchanges of this user; may be repeated",
+        ),
+        (
+            Kind::Values,
+            "ENGINE",
+            "engine",
+            "Print and count only exchanges of this engine ID in hex; may be repeated",
+        ),
         (
             Kind::SourceValue,
             "CLOCKS",
@@ -31,12 +55,7 @@ Status: 0 each request was answered without an error, 1 something failed, or the
             "",
             "TOML file with the users of the messages",
         ),
-        (
-            Kind::Given,
-            "FILE",
-            "",
-            "A capture in the format of libpcap or pcapng, as tcpdump -w and Wireshark write it, pasted hex, or a dump, as hexdump -C prints it; - is standard input",
-        ),
+        (Kind::Given, "FILE", "", SOURCE),
     ],
 };
 
@@ -47,6 +66,12 @@ pub struct DiagnoseWords<'a> {
     pub config: &'a str,
     /// The name of the clocks file.
     pub clocks: Option<&'a str>,
+    /// Whether JSON is printed.
+    pub json: bool,
+    /// The names of the users that are wanted.
+    pub users: &'a [&'a str],
+    /// The engine IDs that are wanted, in hex.
+    pub engines: &'a [&'a str],
     /// What is asked of the file of datagrams.
     pub source: DatagramsWords<'a>,
 }
@@ -56,6 +81,9 @@ pub fn diagnose_words<'m>(words: &'m ArgMatches<'_>) -> DiagnoseWords<'m> {
     DiagnoseWords {
         config: word_of(words, "CONFIG"),
         clocks: words.get_str("CLOCKS"),
+        json: words.get_flag("json"),
+        users: words_of(words, "NAME"),
+        engines: words_of(words, "ENGINE"),
         source: datagrams_words(words),
     }
 }

@@ -52,7 +52,8 @@ pub enum Command {
     CheckLog,
     /// `datagrams [--form FORM] [--port PORT].. [--moment MOMENT] [--ip] FILE`
     Datagrams,
-    /// `diagnose [--form FORM] [--port PORT].. [--moment MOMENT] [--ip] [--clocks CLOCKS] CONFIG FILE`
+    /// `diagnose [--form FORM] [--port PORT].. [--moment MOMENT] [--ip] [--json] [--user NAME].. [--engine ENGINE]..
+    /// [--clocks CLOCKS] CONFIG FILE`
     Diagnose,
     /// `manual [COMMAND]`
     Manual,

@@ -6,8 +6,10 @@ use crate::complaint::Complaint;
 use crate::replay::first_line_of;
 use capture_datagrams::datagrams::{PortsFault, ports_of};
 use capture_datagrams::forms::{Form, form_of, may_be_dumps};
+use engine_clock::EngineId;
 use snmpsec_output::moment_of;
 use std::alloc::Global;
+use usm_users::UserName;
 
 /// MOMENT, in whole seconds, or 0 if it is left out.
 pub(crate) fn moment_argument(alloc: Global, word: Option<&str>) -> Result<u64, Complaint> {
@@ -70,5 +72,27 @@ pub(crate) fn ports_argument(alloc: Global, words: &[&str]) -> Result<Vec<u16>, 
             Err(Complaint::word(alloc, "PORT", word, why, "161 is the port of agents"))
         }
         Err(PortsFault::OutOfMemory) => Err(Complaint::OutOfMemory),
+    }
+}
+
+/// NAME, a user name of at most 32 octets.
+pub(crate) fn user_argument(alloc: Global, word: &str) -> Result<UserName, Complaint> {
+    let why = "it has over 32 octets";
+    match UserName::of(word.as_bytes()) {
+        Some(user) => Ok(user),
+        None => Err(Complaint::word(alloc, "NAME", word, why, "a user name has at most 32")),
+    }
+}
+
+/// ENGINE, an engine ID in hex.
+pub(crate) fn engine_argument(alloc: Global, word: &str) -> Result<EngineId, Complaint> {
+    let why = "it isn't 5 to 32 octets in hex";
+    let engine = match hex::decode(alloc, word) {
+        Ok(octets) => EngineId::of(&octets),
+        Err(_) => None,
+    };
+    match engine {
+        Some(engine) => Ok(engine),
+        None => Err(Complaint::word(alloc, "ENGINE", word, why, "write it as 80001f8804616263")),
     }
 }

@@ -1,11 +1,12 @@
 //! `snmpsec diagnose`: what became of each request in a capture.
 
+use crate::arguments::{engine_argument, user_argument};
 use crate::complaint::Complaint;
 use crate::datagrams::{Wanted, wanted_of};
 use crate::files::octets_of;
 use capture_datagrams::datagrams::Unread;
 use capture_datagrams::forms::print_datagrams;
-use diagnose_text::Diagnoser;
+use diagnose_text::{DiagnoseOptions, Diagnoser, Style};
 use engine_clock::Clocks;
 use snmpsec_cli::DiagnoseWords;
 use snmpsec_config::Config;
@@ -25,18 +26,37 @@ pub(crate) fn diagnose_file<R: Files + Input + AllocGlobal, O: Write, E: Write>(
 ) -> Result<Output, Complaint> {
     let alloc = rt.alloc();
     let wanted = wanted_of(alloc, &words.source)?;
+    let options = diagnose_options(alloc, words)?;
     let config = octets_of(rt, words.config)?;
     let clocks = match words.clocks {
         Some(name) => octets_of(rt, name)?,
         None => Vec::new(alloc),
     };
-    match diagnoser_of(alloc, &config, words.clocks, &clocks)? {
+    match diagnoser_of(alloc, &config, words.clocks, &clocks, options)? {
         Ok(mut diagnoser) => {
             let name = words.source.file;
             diagnose_named(rt, &mut diagnoser, &wanted, name, out, err)
         }
         Err(refused) => Ok(refused),
     }
+}
+
+/// What the words ask to be printed. The names are looked at first, and then the engine IDs.
+fn diagnose_options(
+    alloc: Global,
+    words: &DiagnoseWords<'_>,
+) -> Result<DiagnoseOptions, Complaint> {
+    let mut options = DiagnoseOptions::all(alloc);
+    if words.json {
+        options.style = Style::Json;
+    }
+    for word in words.users {
+        options.users.push(user_argument(alloc, word)?)?;
+    }
+    for word in words.engines {
+        options.engines.push(engine_argument(alloc, word)?)?;
+    }
+    Ok(options)
 }
 
 /// The diagnoser with the users of the configuration and the clocks of the clocks file; or what is printed where one of
@@ -46,6 +66,7 @@ fn diagnoser_of(
     config: &[u8],
     clocks_name: Option<&str>,
     clocks: &[u8],
+    options: DiagnoseOptions,
 ) -> Result<Result<Diagnoser, Output>, Complaint> {
     let config = match Config::read(alloc, config) {
         Ok(config) => config,
@@ -54,10 +75,10 @@ fn diagnoser_of(
     };
     let Some(name) = clocks_name else {
         let clocks = Clocks::new(alloc);
-        return Ok(Ok(Diagnoser::new(alloc, config.users, clocks)));
+        return Ok(Ok(Diagnoser::new(alloc, config.users, clocks, options)));
     };
     match Clocks::read_saved(alloc, clocks, 0) {
-        Ok(clocks) => Ok(Ok(Diagnoser::new(alloc, config.users, clocks))),
+        Ok(clocks) => Ok(Ok(Diagnoser::new(alloc, config.users, clocks, options))),
         Err(fault) => Ok(Err(refused_clocks(alloc, name, fault, clocks)?)),
     }
 }
@@ -105,7 +126,9 @@ fn diagnose_read<R: Read + Drop, O: Write, E: Write>(
     }
     let failed = ended?;
     match answer {
-        Ok(status) => Ok(Output::out(alloc, Vec::new(alloc), status.max(u8::from(failed)))),
+        Ok(0) => Ok(Output::out(alloc, Vec::new(alloc), u8::from(failed))),
+        // (the file is out of its form from some place on)
+        Ok(_) => Ok(Output::out(alloc, Vec::new(alloc), 2)),
         Err(Unread::CannotRead) => {
             let fault = reader.get_ref().fault().unwrap_or(ReadFault::TooLarge);
             Err(Complaint::unread(alloc, name, fault))

@@ -21,15 +21,15 @@ pub fn take_one(manager: &mut Manager, now: u64, datagram: &[u8]) -> bool
     true
 }
 
-/// Takes a datagram at the moment `now`, in seconds. True if its code is wrong (RFC 3414, section 3.2, step 6). Then the
-/// manager holds the same pair of each engine as before.
+/// Takes a datagram at the moment `now`, in seconds. True if its code is wrong (RFC 3414, section 3.2, step 6).
+/// Then the manager holds the same pair of each engine as before.
 pub fn take_wrong_digest(manager: &mut Manager, now: u64, datagram: &[u8]) -> bool
     ensures { IsTrue result → HoldSamePairs manager.old manager.new }
 {
-    let Err(fault) = manager.take(now, datagram) else {
+    let Err(refused) = manager.take(now, datagram) else {
         return false;
     };
-    match fault.refusal {
+    match refused.refusal {
         Refusal::WrongDigest => true,
         _ => false,
     }

@@ -1,0 +1,179 @@
+-- Exchanges in the order of their first datagrams, and the steps by which a capture makes them.
+--
+-- `Begins`: a datagram is the first of a new exchange, behind all others. `Answers`: it answers the one exchange at
+-- a place, which waited for it. `Ends`: an exchange at a place that waited ends without an answer.
+use Rattle.std.specs.Prelude.{◌≡◌, ◌⊎◌, Some, None, ◌+◌, ◌++◌, ℕ, List, [], ◌∷◌, Bool, true, false, length}
+use Rattle.std.specs.Prelude.{◌^◌, ◌-◌, ◌<◌, slice_index_or, slice_set, cond, min, nat_eq}
+use Rattle.std.specs.List.{count_by, sum_by}
+use Rattle.std.specs.HashMap.{HashMap, IsUnchanged, Updates, get}
+use Rattle.diagnose_exchanges.specs.declared.exchange.Ending.{Ending}
+use Rattle.diagnose_exchanges.specs.declared.exchange.Ending.TheVariants.{Waits, Alone, Answered, SentAgain, NoAnswer, NotFollowed}
+use Rattle.diagnose_exchanges.specs.declared.exchange.Exchange.{Exchange}
+
+-- how many exchanges are held at once
+abbrev pub exchanges_limit : ℕ
+exchanges_limit = 65536
+
+module _ {K A : Type 0} where
+  -- an ending that is none yet
+  abbrev pub is_waiting : Ending K A → Bool
+  is_waiting (Waits asked) = true
+  is_waiting Alone = false
+  is_waiting (Answered by answer) = false
+  is_waiting (SentAgain number) = false
+  is_waiting NoAnswer = false
+  is_waiting NotFollowed = false
+
+module _ {K Q A : Type 0} where
+  -- its answer isn't there yet
+  abbrev pub waits : Exchange K Q A → Bool
+  waits e = is_waiting e.ending
+
+  -- the exchange with another ending
+  abbrev pub ended : Ending K A → Exchange K Q A → Exchange K Q A
+  ended ending e = record { number = e.number; first = e.first; counts = e.counts; ending = ending }
+
+  -- an exchange as it begins
+  abbrev pub begun : ℕ → Q → Bool → Ending K A → Exchange K Q A
+  begun number first counts ending = record { number = number; first = first; counts = counts; ending = ending }
+
+  -- the exchange, whose request was sent again with the datagram of this number, and which doesn't count any more
+  abbrev pub resent : ℕ → Exchange K Q A → Exchange K Q A
+  resent number e = record { number = e.number; first = e.first; counts = false; ending = SentAgain number }
+
+  -- the exchange, which counts or doesn't
+  abbrev pub counting : Bool → Exchange K Q A → Exchange K Q A
+  counting counts e = record { number = e.number; first = e.first; counts = counts; ending = e.ending }
+
+  -- at this index of the list, and at this place behind so many that are gone, an exchange waits
+  pub record IsWaiting (gone : ℕ) (list : List (Exchange K Q A)) (place index : ℕ) : Type 0 where
+    pub place_is : place ≡ gone + index
+    pub within : index < length list
+    pub exchange : Exchange K Q A
+    pub exchange_is : exchange ≡ slice_index_or list index exchange
+    pub waiting : waits exchange ≡ true
+
+  -- the exchange at this place waits
+  abbrev pub WaitsAt : ℕ → List (Exchange K Q A) → ℕ → Type 0
+  WaitsAt gone list place = (index : ℕ) × IsWaiting gone list place index
+
+  -- The exchange at this place waited, and has this ending now. All others are as before.
+  pub record Ends (gone : ℕ) (old new : List (Exchange K Q A)) (place : ℕ) (ending : Ending K A) : Type 0 where
+    pub index : ℕ
+    pub waited : IsWaiting gone old place index
+    pub new_is : new ≡ slice_set old index (ended ending waited.exchange)
+
+module _ {K Q A : Type 0} where
+  -- at this index of the list, and at this place behind so many that are gone, an exchange is finished and doesn't count
+  pub record IsUncounted (gone : ℕ) (list : List (Exchange K Q A)) (place index : ℕ) : Type 0 where
+    pub place_is : place ≡ gone + index
+    pub within : index < length list
+    pub exchange : Exchange K Q A
+    pub exchange_is : exchange ≡ slice_index_or list index exchange
+    pub finished : waits exchange ≡ false
+    pub uncounted : exchange.counts ≡ false
+
+  -- The exchange at `first` waited. Its request was sent again as that at `place`, which is finished and didn't
+  -- count. Now the first one is finished too, and the other one counts in its place. All others are as before.
+  pub record HandsOver (gone : ℕ) (old new : List (Exchange K Q A)) (first place : ℕ) : Type 0 where
+    pub index : ℕ
+    pub other : ℕ
+    pub waited : IsWaiting gone old first index
+    pub again : IsUncounted gone old place other
+    pub new_is : new ≡ slice_set (slice_set old index (resent again.exchange.number waited.exchange)) other
+        (counting waited.exchange.counts again.exchange)
+
+module _ {K S : Type 0} where
+  -- what was held for this place may be gone, and nothing else
+  abbrev pub Forgets : (K → K → Bool) → HashMap K ℕ S → HashMap K ℕ S → ℕ → Type 0
+  Forgets eq old new place = IsUnchanged old new
+      ⊎ ((asked : K) × (get eq old asked ≡ Some place) × Updates eq old new asked None)
+
+-- so many places after a place; the last place that there is isn't passed
+abbrev pub place_after : ℕ → ℕ → ℕ
+place_after place n = min (place + n) (2 ^ 64 - 1)
+
+-- ---- runs of steps
+
+-- how often a number stands among those of datagrams
+abbrev pub times : ℕ → List ℕ → ℕ
+times n numbers = count_by (nat_eq n) numbers
+
+module _ {K A : Type 0} where
+  -- the datagram that answers
+  abbrev pub answers_in : Ending K A → List ℕ
+  answers_in (Waits asked) = []
+  answers_in Alone = []
+  answers_in (Answered by answer) = by ∷ []
+  answers_in (SentAgain number) = []
+  answers_in NoAnswer = []
+  answers_in NotFollowed = []
+
+  -- an ending that no datagram makes
+  abbrev pub IsUnanswered : Ending K A → Type 0
+  IsUnanswered ending = answers_in ending ≡ []
+
+module _ {K Q A : Type 0} where
+  -- the numbers of the datagrams of an exchange
+  abbrev pub datagrams_of : Exchange K Q A → List ℕ
+  datagrams_of e = e.number ∷ answers_in e.ending
+
+  -- how many exchanges count
+  abbrev pub counted : List (Exchange K Q A) → ℕ
+  counted list = count_by (λ e. e.counts) list
+
+  -- how often a datagram is in the exchanges
+  abbrev pub times_in : ℕ → List (Exchange K Q A) → ℕ
+  times_in n list = sum_by (λ e. times n (datagrams_of e)) list
+
+-- What becomes of exchanges. `begins`: a datagram is the first of a new one. `answers`: a datagram answers the one at
+-- this place. `ends`: the one at this place ends without an answer. `finishes`: the first is taken out.
+pub data Step (K Q A : Type 0) : Type 0 where
+  begins : (number : ℕ) (first : Q) (counts : Bool) (ending : Ending K A) → Step K Q A
+  answers : (place by : ℕ) (answer : A) → Step K Q A
+  ends : (place : ℕ) (ending : Ending K A) → Step K Q A
+  hands_over : (first place : ℕ) → Step K Q A
+  finishes : Step K Q A
+
+module _ {K Q A : Type 0} where
+  -- the datagrams that the steps take, in order
+  abbrev pub taken_by : List (Step K Q A) → List ℕ
+  taken_by [] = []
+  taken_by (begins number first counts ending ∷ steps) = number ∷ taken_by steps
+  taken_by (answers place by answer ∷ steps) = by ∷ taken_by steps
+  taken_by (ends place ending ∷ steps) = taken_by steps
+  taken_by (hands_over first place ∷ steps) = taken_by steps
+  taken_by (finishes ∷ steps) = taken_by steps
+
+  -- the first datagrams of the exchanges that the steps begin, in order
+  abbrev pub begun_by : List (Step K Q A) → List ℕ
+  begun_by [] = []
+  begun_by (begins number first counts ending ∷ steps) = number ∷ begun_by steps
+  begun_by (answers place by answer ∷ steps) = begun_by steps
+  begun_by (ends place ending ∷ steps) = begun_by steps
+  begun_by (hands_over first place ∷ steps) = begun_by steps
+  begun_by (finishes ∷ steps) = begun_by steps
+
+  -- how many of the exchanges that the steps begin count
+  abbrev pub counted_by : List (Step K Q A) → ℕ
+  counted_by [] = 0
+  counted_by (begins number first counts ending ∷ steps) = cond counts 1 0 + counted_by steps
+  counted_by (answers place by answer ∷ steps) = counted_by steps
+  counted_by (ends place ending ∷ steps) = counted_by steps
+  counted_by (hands_over first place ∷ steps) = counted_by steps
+  counted_by (finishes ∷ steps) = counted_by steps
+
+  -- `HasRun gone old steps finished new`: by these steps the exchanges in `finished` are taken out, in this order
+  abbrev pub HasRun : ℕ → List (Exchange K Q A) → List (Step K Q A) → List (Exchange K Q A) → List (Exchange K Q A) → Type 0
+  HasRun gone old [] finished new = (finished ≡ []) × (new ≡ old)
+  HasRun gone old (begins number first counts ending ∷ steps) finished new =
+      IsUnanswered ending × HasRun gone (old ++ begun number first counts ending ∷ []) steps finished new
+  HasRun gone old (answers place by answer ∷ steps) finished new =
+      (mid : List (Exchange K Q A)) × Ends gone old mid place (Answered by answer) × HasRun gone mid steps finished new
+  HasRun gone old (ends place ending ∷ steps) finished new =
+      (mid : List (Exchange K Q A)) × IsUnanswered ending × Ends gone old mid place ending × HasRun gone mid steps finished new
+  HasRun gone old (hands_over first place ∷ steps) finished new =
+      (mid : List (Exchange K Q A)) × HandsOver gone old mid first place × HasRun gone mid steps finished new
+  HasRun gone old (finishes ∷ steps) finished new =
+      (e : Exchange K Q A) × (mid rest : List (Exchange K Q A)) × (old ≡ e ∷ mid) × (finished ≡ e ∷ rest)
+      × (waits e ≡ false) × HasRun (place_after gone 1) mid steps rest new

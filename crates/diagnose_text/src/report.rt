@@ -1,0 +1,118 @@
+//! What is printed of a capture: exchanges one after another, and the summary.
+
+use crate::agents::Agents;
+use crate::blocks::block_text;
+use crate::counts::Counts;
+use crate::facts::{Answer, First, Says};
+use crate::objects::object_line;
+use crate::options::{DiagnoseOptions, Style};
+use crate::summary::{summary_line, summary_text};
+use diagnose_exchanges::{COPIES_LIMIT, Ending, Exchange};
+use engine_clock::{Clocks, EngineId};
+use std::alloc::{AllocError, Global};
+
+/// What is printed of a capture.
+#[derive(Drop)]
+pub(crate) struct Report {
+    alloc: Global,
+    options: DiagnoseOptions,
+    counts: Counts,
+    failed: bool,
+    digests_full: bool,
+}
+
+impl Report {
+    pub(crate) fn new(alloc: Global, options: DiagnoseOptions) -> Report {
+        Report {
+            alloc,
+            options,
+            counts: Counts::new(alloc),
+            failed: false,
+            digests_full: false,
+        }
+    }
+
+    /// Something failed.
+    pub(crate) fn failed(&self) -> bool {
+        self.failed
+    }
+
+    /// Prints an exchange that is finished, if it is wanted, and counts it.
+    pub(crate) fn print<K: Drop>(
+        &mut self,
+        exchange: &Exchange<K, First, Answer>,
+        out: &mut Vec<u8>,
+    ) -> Result<(), AllocError> {
+        let first = &exchange.first;
+        let engine = engine_of(first, &exchange.ending);
+        if !self.options.wants(first.user(), engine) {
+            return Ok(());
+        }
+        if exchange.counts {
+            self.counts.count(first.user(), &exchange.ending)?;
+        }
+        if fails(exchange) {
+            self.failed = true;
+        }
+        let text = match self.options.style {
+            Style::Text => block_text(self.alloc, exchange)?,
+            Style::Json => object_line(self.alloc, exchange)?,
+        };
+        out.extend_from_slice(text.as_bytes())
+    }
+
+    /// Says once that the digests are full.
+    pub(crate) fn print_full(&mut self, out: &mut Vec<u8>) -> Result<(), AllocError> {
+        if self.digests_full {
+            return Ok(());
+        }
+        self.digests_full = true;
+        let text = match self.options.style {
+            Style::Text => format!(in self.alloc;
+                "limit: digests of {COPIES_LIMIT} datagrams are kept; copies of older ones aren't found\n"
+            )?,
+            Style::Json => format!(in self.alloc;
+                "{{\"limit\":\"digests\",\"kept\":{COPIES_LIMIT}}}\n"
+            )?,
+        };
+        out.extend_from_slice(text.as_bytes())
+    }
+
+    /// The summary.
+    pub(crate) fn summary(&self, clocks: &Clocks, agents: &Agents) -> Result<String, AllocError> {
+        match self.options.style {
+            Style::Text => summary_text(self.alloc, &self.counts, clocks, agents),
+            Style::Json => summary_line(self.alloc, &self.counts, clocks, agents),
+        }
+    }
+}
+
+/// The engine of an exchange: that of its request, or that which a discovery found.
+fn engine_of<'a, K: Drop>(first: &'a First, ending: &'a Ending<K, Answer>) -> Option<&'a EngineId> {
+    if let Ending::Answered { answer, .. } = ending {
+        if let Says::Engine(engine) = &answer.says {
+            return Some(engine);
+        }
+    }
+    first.engine.as_ref()
+}
+
+/// Something failed in the exchange. A copy, a notification and a discovery without an answer fail nothing, nor does a
+/// request that was sent again.
+fn fails<K: Drop>(exchange: &Exchange<K, First, Answer>) -> bool {
+    let first = &exchange.first;
+    match &exchange.ending {
+        Ending::Waits(_) | Ending::Alone => first.copy_of.is_none() && first.refusal.is_some(),
+        Ending::Answered { answer, .. } => !answer.in_window || says_failure(&answer.says),
+        Ending::SentAgain(_) => false,
+        Ending::NoAnswer | Ending::NotFollowed => exchange.counts,
+    }
+}
+
+/// An answer says that something failed.
+fn says_failure(says: &Says) -> bool {
+    match says {
+        Says::Engine(_) | Says::Values(..) => false,
+        Says::Error(..) | Says::Report(..) | Says::Unread(_) => true,
+    }
+}
