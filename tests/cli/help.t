@@ -255,12 +255,15 @@ The help of each command. `manual` prints on standard output what `--help` print
         --port <PORT>      A port that the datagrams are from or to, 0 to 65535; may be given again; 161 and 162 if left out
         --moment <MOMENT>  When pasted hex or a dump was received, in whole seconds; 0 if left out
         --ip               FILE is dumps of packets, each from its IP header on, as tcpdump -x prints them; their UDP datagrams are taken
+        --json             Print an object of JSON a line: one for each exchange, and the summary
+        --user <NAME>      A user whose exchanges are printed and counted; may be given again; all if left out
+        --engine <ENGINE>  An engine ID in hex whose exchanges are printed and counted; may be given again; all if left out
         --clocks <CLOCKS>  Saved clocks of engines that are known before the capture begins
     -h, --help             Print help
   
   A request is judged as the agent judges it, and an answer as the manager does; only what an engine sent teaches its clock.
   Example: snmpsec diagnose examples/replay/config.toml examples/replay/captured.pcap
-  Status: 0 each request was answered without an error, 1 something failed, or the configuration, the clocks or FILE is refused, 2 a fault of the command line or a file that can't be read.
+  Status: 0 each request was answered without an error, 1 something failed, or the configuration or the clocks are refused, 2 a fault of the command line, a file that can't be read, or a fault in FILE.
   $ snmpsec manual manual
   Print the help of a command, or of all, on standard output
   
