@@ -5,7 +5,7 @@ _snmpsec_place() {
   local at=2 place=1
   while [ "$at" -lt "$COMP_CWORD" ]; do
     case ${COMP_WORDS[at]} in
-      --clocks | --context | --form | --from | --from-line | --moment | --port) at=$((at + 1)) ;;
+      --clocks | --context | --engine | --form | --from | --from-line | --moment | --port | --user) at=$((at + 1)) ;;
       --*) ;;
       *) place=$((place + 1)) ;;
     esac
@@ -25,7 +25,7 @@ _snmpsec() {
         mapfile -t COMPREPLY < <(compgen -f -- "$word")
         return
         ;;
-      --clocks | --context | --form | --from | --from-line | --moment | --port) return ;;
+      --clocks | --context | --engine | --form | --from | --from-line | --moment | --port | --user) return ;;
     esac
     case $command:$(_snmpsec_place) in
       open:1) files=yes ;;
@@ -70,7 +70,7 @@ _snmpsec() {
       check-clocks) choices="$choices --why" ;;
       check-log) choices="$choices --why" ;;
       datagrams) choices="$choices --form --why --port --moment --ip" ;;
-      diagnose) choices="$choices --form --why --port --moment --ip --clocks" ;;
+      diagnose) choices="$choices --form --why --port --moment --ip --json --user --engine --clocks" ;;
       manual) choices="$choices --why" ;;
       version) choices="$choices --why" ;;
     esac
