@@ -317,7 +317,7 @@ The help of each command. `manual` prints on standard output what `--help` print
   
   Arguments:
     <CONFIG>  TOML file with the users of the messages
-    <FILE>    A capture in the format of libpcap or pcapng, as tcpdump -w and Wireshark write it, pasted hex, or a dump, as hexdump -C prints it; - is standard input
+    <FILE>    A capture (pcap or pcapng), pasted hex, or a dump as hexdump -C prints it; - is standard input
   
   Options:
         --form <FORM>      The form of FILE: pcap (also for pcapng), hex or dump; found by its first octets if left out
@@ -325,12 +325,21 @@ The help of each command. `manual` prints on standard output what `--help` print
         --port <PORT>      A port that the datagrams are from or to; may be repeated; 161 and 162 if left out
         --moment <MOMENT>  When pasted hex or a dump was received, in seconds; 0 if left out
         --ip               FILE is dumps of packets from their IP headers on, as tcpdump -x prints them
+        --json             Print JSON, an object on a line: one for each exchange, and the summary
+        --user <NAME>      Print and count only exchanges of this user; may be repeated
+        --engine <ENGINE>  Print and count only exchanges of this engine ID in hex; may be repeated
         --clocks <CLOCKS>  Saved clocks of engines that are known before the capture begins
     -h, --help             Print help
   
-  A request is judged as the agent judges it, and an answer as the manager does; only what an engine sent teaches its clock.
-  Example: snmpsec diagnose examples/replay/config.toml examples/replay/captured.pcap
-  Status: 0 each request was answered without an error, 1 something failed, or the configuration, the clocks or FILE is refused, 2 a fault of the command line or a file that can't be read.
+  It judges a request as the agent does, and an answer as the manager does. Only what an engine
+  sent teaches it the engine's clock.
+  
+  Example: snmpsec diagnose examples/no-answer.toml examples/diagnose.pcap
+  
+  Exit status:
+    0  each request was answered without an error
+    1  something failed, or the configuration or the clocks are refused
+    2  the command line or FILE is wrong, or a file can't be read
   $ snmpsec manual manual
   Print the help of a command, or of all, on standard output
   
