@@ -7,7 +7,8 @@ use Rattle.std.specs.Prelude.{◌^◌, ◌-◌, ◌<◌, slice_index_or, slice_s
 use Rattle.std.specs.List.{count_by, sum_by}
 use Rattle.std.specs.HashMap.{HashMap, IsUnchanged, Updates, get}
 use Rattle.diagnose_exchanges.specs.declared.exchange.Ending.{Ending}
-use Rattle.diagnose_exchanges.specs.declared.exchange.Ending.TheVariants.{Waits, Alone, Answered, SentAgain, NoAnswer, NotFollowed}
+use Rattle.diagnose_exchanges.specs.declared.exchange.Ending.TheVariants.{Waits, Alone, Answered, SentAgain}
+use Rattle.diagnose_exchanges.specs.declared.exchange.Ending.TheVariants.{NoAnswer, NotFollowed}
 use Rattle.diagnose_exchanges.specs.declared.exchange.Exchange.{Exchange}
 
 -- how many exchanges are held at once
@@ -64,7 +65,8 @@ module _ {K Q A : Type 0} where
     pub new_is : new ≡ slice_set old index (ended ending waited.exchange)
 
 module _ {K Q A : Type 0} where
-  -- at this index of the list, and at this place behind so many that are gone, an exchange is finished and doesn't count
+  -- at this index of the list, and at this place after so many that are gone, an exchange is finished and doesn't
+  -- count
   pub record IsUncounted (gone : ℕ) (list : List (Exchange K Q A)) (place index : ℕ) : Type 0 where
     pub place_is : place ≡ gone + index
     pub within : index < length list
@@ -164,14 +166,16 @@ module _ {K Q A : Type 0} where
   counted_by (finishes ∷ steps) = counted_by steps
 
   -- `HasRun gone old steps finished new`: by these steps the exchanges in `finished` are taken out, in this order
-  abbrev pub HasRun : ℕ → List (Exchange K Q A) → List (Step K Q A) → List (Exchange K Q A) → List (Exchange K Q A) → Type 0
+  abbrev pub HasRun : ℕ → List (Exchange K Q A) → List (Step K Q A) → List (Exchange K Q A)
+      → List (Exchange K Q A) → Type 0
   HasRun gone old [] finished new = (finished ≡ []) × (new ≡ old)
   HasRun gone old (begins number first counts ending ∷ steps) finished new =
       IsUnanswered ending × HasRun gone (old ++ begun number first counts ending ∷ []) steps finished new
   HasRun gone old (answers place by answer ∷ steps) finished new =
       (mid : List (Exchange K Q A)) × Ends gone old mid place (Answered by answer) × HasRun gone mid steps finished new
   HasRun gone old (ends place ending ∷ steps) finished new =
-      (mid : List (Exchange K Q A)) × IsUnanswered ending × Ends gone old mid place ending × HasRun gone mid steps finished new
+      (mid : List (Exchange K Q A)) × IsUnanswered ending × Ends gone old mid place ending
+      × HasRun gone mid steps finished new
   HasRun gone old (hands_over first place ∷ steps) finished new =
       (mid : List (Exchange K Q A)) × HandsOver gone old mid first place × HasRun gone mid steps finished new
   HasRun gone old (finishes ∷ steps) finished new =

@@ -5,7 +5,7 @@ ghost use Rattle.diagnose_exchanges.specs.Routes.{back_if_known};
 
 use capture_files::Route;
 
-/// The way of a request, from whom and to whom, if that is known, and its msgID. An answer has the same msgID, and comes
+/// The way of a request, from whom and to whom, if that is known, and its msgID. An answer has the same msgID, and is
 /// the other way (RFC 3412, section 7.2, step 10).
 #[derive(Clone, Copy, Debug, PartialEq, Eq, Hash, Drop)]
 pub struct Asked {

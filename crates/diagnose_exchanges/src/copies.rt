@@ -40,8 +40,8 @@ impl<V: Copy + Drop> Copies<V> {
         }
     }
 
-    /// What is kept of the first datagram with this digest, or None; then this is kept of it, and the oldest digest goes
-    /// where there are over 1,048,576.
+    /// What is kept of the first datagram with this digest, or None. Then this is kept of it, and the oldest digest
+    /// goes if there are over 1,048,576.
     pub fn note(&mut self, digest: [u8; 16], value: V) -> Result<Option<V>, AllocError>
         ensures { IfOk result (λ found. found ≡ get (pointwise nat_eq) self.old.kept digest) }
     {

@@ -1,11 +1,13 @@
 //! The exchanges of a capture, in the order of their first datagrams.
 
-ghost use Rattle.std.specs.Prelude.{◌≡◌, ◌+◌, ◌++◌, ℕ, [], ◌∷◌, length, true, false, IfOk, IfErr, IfSome, OnErr, IfNone, OnOk};
+ghost use Rattle.std.specs.Prelude.{◌≡◌, ◌+◌, ◌++◌, ℕ, [], ◌∷◌, length, true, false};
+ghost use Rattle.std.specs.Prelude.{IfOk, IfErr, IfSome, OnErr, IfNone, OnOk};
 ghost use Rattle.std.specs.Prelude.{◌<◌, ◌≢◌, ◌↔◌, IsTrue, OnSome, Some, None, slice_get, slice_index_or, slice_set};
 ghost use Rattle.diagnose_exchanges.specs.declared.exchange.Exchange.{Exchange as ExchangeIs};
 ghost use Rattle.std.specs.VecDeque.{deque_len};
 ghost use Rattle.std.specs.HashMap.{IsUnchanged, Updates, get};
-ghost use Rattle.diagnose_exchanges.specs.Exchanges.{Ends, Forgets, HandsOver, IsUncounted, IsWaiting, WaitsAt, begun, counting};
+ghost use Rattle.diagnose_exchanges.specs.Exchanges.{Ends, Forgets, HandsOver, IsUncounted, IsWaiting, WaitsAt};
+ghost use Rattle.diagnose_exchanges.specs.Exchanges.{begun, counting};
 ghost use Rattle.diagnose_exchanges.specs.Exchanges.{exchanges_limit, is_waiting, place_after, resent, waits};
 ghost use Rattle.diagnose_exchanges.specs.declared.exchange.Ending.TheVariants.{Waits, Alone, Answered};
 
@@ -63,7 +65,8 @@ impl<K: Eq + Hash + Copy + Drop, Q: Drop, A: Drop> Exchanges<K, Q, A> {
     /// A datagram with this number that nothing answers is an exchange of its own. The error is out of memory, and then
     /// all is as before.
     pub fn tell(&mut self, number: u64, first: Q) -> Result<(), AllocError>
-        ensures ok { OnOk result (self.new.list.items ≡ self.old.list.items ++ begun number first false Alone ∷ []) }
+        ensures ok { OnOk result (self.new.list.items
+            ≡ self.old.list.items ++ begun number first false Alone ∷ []) }
         ensures err { OnErr result (self.new.list.items ≡ self.old.list.items) }
         ensures gone { self.new.gone ≡ self.old.gone }
         ensures waiting { IsUnchanged self.old.waiting.numbers self.new.waiting.numbers }
@@ -77,11 +80,14 @@ impl<K: Eq + Hash + Copy + Drop, Q: Drop, A: Drop> Exchanges<K, Q, A> {
         Ok(())
     }
 
-    /// A request with this number begins an exchange, and waits for an answer that is known by what it asked. An earlier
-    /// one that asked the same gets no answer any more. One that is sent again doesn't count. The error is out of memory, and then all is as before.
+    /// A request with this number begins an exchange, and waits for an answer that is known by what it asked. An
+    /// earlier one that asked the same gets no answer any more. One that is sent again doesn't count. The error is
+    /// out of memory, and then all is as before.
     pub fn ask(&mut self, number: u64, asked: K, counts: bool, first: Q) -> Result<(), AllocError>
-        ensures ok { OnOk result (self.new.list.items ≡ self.old.list.items ++ begun number first counts (Waits asked) ∷ []) }
-        ensures waits { OnOk result (Updates K.eq self.old.waiting.numbers self.new.waiting.numbers asked
+        ensures ok { OnOk result (self.new.list.items
+            ≡ self.old.list.items ++ begun number first counts (Waits asked) ∷ []) }
+        ensures waits { OnOk result (Updates K.eq self.old.waiting.numbers
+            self.new.waiting.numbers asked
             (Some (place_after self.old.gone (length self.old.list.items)))) }
         ensures err { OnErr result ((self.new.list.items ≡ self.old.list.items)
             × IsUnchanged self.old.waiting.numbers self.new.waiting.numbers) }
@@ -120,12 +126,16 @@ impl<K: Eq + Hash + Copy + Drop, Q: Drop, A: Drop> Exchanges<K, Q, A> {
     /// The datagram `by` answers the exchange that waits for an answer with these, which then waits no longer, and
     /// gives its place. Or no exchange waits for it: the answer is given back, and the list stays as it is.
     pub fn answer(&mut self, asked: &K, by: u64, answer: A) -> Result<u64, A>
-        ensures answered { IfOk result (λ place. (get K.eq self.old.waiting.numbers asked.now ≡ Some place)
-            × Ends self.old.gone self.old.list.items self.new.list.items place (Answered by answer)) }
-        ensures alone { IfErr result (λ back. (back ≡ answer) × (self.new.list.items ≡ self.old.list.items)
+        ensures answered { IfOk result
+            (λ place. (get K.eq self.old.waiting.numbers asked.now ≡ Some place)
+            × Ends self.old.gone self.old.list.items self.new.list.items place
+            (Answered by answer)) }
+        ensures alone { IfErr result (λ back. (back ≡ answer)
+            × (self.new.list.items ≡ self.old.list.items)
             × ((place : ℕ) → get K.eq self.old.waiting.numbers asked.now ≡ Some place
             → WaitsAt self.old.gone self.old.list.items place → ⊥)) }
-        ensures waiting { Updates K.eq self.old.waiting.numbers self.new.waiting.numbers asked.now None }
+        ensures waiting { Updates K.eq self.old.waiting.numbers
+            self.new.waiting.numbers asked.now None }
         ensures gone { self.new.gone ≡ self.old.gone }
     {
         let Some(place) = self.waiting.answer(asked) else {
@@ -140,7 +150,8 @@ impl<K: Eq + Hash + Copy + Drop, Q: Drop, A: Drop> Exchanges<K, Q, A> {
 
     /// The exchange at this place, if it waits, ends so, without an answer. Says whether it waited.
     pub fn end(&mut self, place: u64, ending: Ending<K, A>) -> bool
-        ensures ended { result ≡ true → Ends self.old.gone self.old.list.items self.new.list.items place ending }
+        ensures ended { result ≡ true → Ends self.old.gone self.old.list.items
+            self.new.list.items place ending }
         ensures stays { result ≡ false → (self.new.list.items ≡ self.old.list.items)
             × (WaitsAt self.old.gone self.old.list.items place → ⊥) }
         ensures gone { self.new.gone ≡ self.old.gone }
@@ -157,7 +168,8 @@ impl<K: Eq + Hash + Copy + Drop, Q: Drop, A: Drop> Exchanges<K, Q, A> {
     /// The request of the exchange at `first`, if that still waits, was sent again as the one at `place`, which is
     /// answered and didn't count. So the first one ends, and the other one counts in its place. Says whether it was so.
     pub fn sent_again(&mut self, first: u64, place: u64) -> bool
-        ensures handed { result ≡ true → HandsOver self.old.gone self.old.list.items self.new.list.items first place }
+        ensures handed { result ≡ true
+            → HandsOver self.old.gone self.old.list.items self.new.list.items first place }
         ensures stays { result ≡ false → self.new.list.items ≡ self.old.list.items }
         ensures gone { self.new.gone ≡ self.old.gone }
         ensures waiting { Forgets K.eq self.old.waiting.numbers self.new.waiting.numbers first }
@@ -178,8 +190,10 @@ impl<K: Eq + Hash + Copy + Drop, Q: Drop, A: Drop> Exchanges<K, Q, A> {
         ensures first { IfSome result
             (λ e. (self.old.list.items ≡ e ∷ self.new.list.items) × (is_waiting e.ending ≡ false)) }
         ensures gone { OnSome result (self.new.gone ≡ place_after self.old.gone 1) }
-        ensures none { IfNone result ((self.new.list.items ≡ self.old.list.items) × (self.new.gone ≡ self.old.gone)) }
-        ensures waits { IfNone result (IfSome (slice_get self.old.list.items 0) (λ e. waits e ≡ true)) }
+        ensures none { IfNone result ((self.new.list.items ≡ self.old.list.items)
+            × (self.new.gone ≡ self.old.gone)) }
+        ensures waits { IfNone result (IfSome (slice_get self.old.list.items 0)
+            (λ e. waits e ≡ true)) }
         ensures waiting { self.new.waiting ≡ self.old.waiting }
     {
         if self.list.front()?.waits() {
@@ -257,7 +271,8 @@ fn hand_over<K: Drop, Q: Drop, A: Drop>(
     requires apart { other ≢ index }
     ensures { (x y : ExchangeIs K Q A) → x ≡ slice_index_or list.old.items index x
         → y ≡ slice_index_or list.old.items other y
-        → list.new.items ≡ slice_set (slice_set list.old.items index (resent y.number x)) other (counting x.counts y) }
+        → list.new.items ≡ slice_set (slice_set list.old.items index (resent y.number x)) other
+        (counting x.counts y) }
 {
     let number = list[other].number;
     let first = &mut list[index];

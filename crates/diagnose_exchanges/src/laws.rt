@@ -1,7 +1,8 @@
 //! Laws of exchanges. Each function does nothing: its contract is the law.
 
 ghost use Rattle.std.specs.Prelude.{◌≡◌, ◌+◌, ◌++◌, ℕ, List, [], length, map};
-ghost use Rattle.diagnose_exchanges.specs.Exchanges.{HasRun, Step, begun_by, counted, counted_by, taken_by, times, times_in};
+ghost use Rattle.diagnose_exchanges.specs.Exchanges.{HasRun, Step, begun_by, counted, counted_by, taken_by};
+ghost use Rattle.diagnose_exchanges.specs.Exchanges.{times, times_in};
 ghost use Rattle.diagnose_exchanges.specs.declared.exchange.Exchange.{Exchange};
 
 /// Each datagram is in exactly one exchange, and exchanges are finished in the order of their first datagrams. Whatever

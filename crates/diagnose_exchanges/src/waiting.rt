@@ -27,7 +27,8 @@ impl<K: Eq + Hash + Drop> Waiting<K> {
     /// error, which is out of memory, all is as before.
     pub fn ask(&mut self, asked: K, number: u64) -> Result<Option<u64>, AllocError>
         ensures old { IfOk result (λ old. old ≡ get K.eq self.old.numbers asked) }
-        ensures waits { OnOk result (Updates K.eq self.old.numbers self.new.numbers asked (Some number)) }
+        ensures waits { OnOk result (Updates K.eq self.old.numbers self.new.numbers asked
+            (Some number)) }
         ensures err { OnErr result (IsUnchanged self.old.numbers self.new.numbers) }
     {
         Ok(self.numbers.insert(asked, number)?)

@@ -68,7 +68,8 @@ impl Observer {
     /// The error is out of memory, and then all is as before.
     pub fn judge<'a>(&mut self, now: u64, datagram: &'a [u8]) -> Result<Judged<'a>, AllocError>
         ensures judged { IfOk result
-            (λ judged. IsSomeAnd (judgement_of judged) (λ j. IsJudged self.old now datagram.now j self.new)) }
+            (λ judged. IsSomeAnd (judgement_of judged)
+            (λ j. IsJudged self.old now datagram.now j self.new)) }
         ensures err { OnErr result (self.new ≡ self.old) }
     {
         let checked = match self.users.open_auth(Role::Manager, datagram) {
@@ -108,10 +109,12 @@ fn open<'a>(
 ) -> Result<Result<Taken<'a>, RefusedAt>, AllocError>
     requires read { IsReadAs datagram.now (verified_of checked.now) }
     requires private { checked.now.level ≡ AuthPriv
-        → HasUserAt users.old.users checked.now.security.user.now AuthPriv × (tag_of checked.now.message.body ≡ 4) }
+        → HasUserAt users.old.users checked.now.security.user.now AuthPriv
+        × (tag_of checked.now.message.body ≡ 4) }
     ensures users { users.new.users ≡ users.old.users }
     ensures opens { IfOk result
-        (λ answer. IsSomeAnd (answer_of answer) (Opens users.old.users datagram.now (verified_of checked.now))) }
+        (λ answer. IsSomeAnd (answer_of answer)
+        (Opens users.old.users datagram.now (verified_of checked.now))) }
 {
     let Some(text) = scoped_octets(users, datagram, checked)? else {
         return Ok(Err(RefusedAt::plain(Refusal::DecryptionError)));

@@ -24,7 +24,8 @@ pub(crate) fn cause(refusal: Refusal) -> &'static str {
             "the password or the hash of the user in this configuration isn't the sender's"
         }
         Refusal::NotInWindow => {
-            "the boots or the time in the message aren't the engine's: a restart, a wrong clock, or a message that was kept"
+            "the boots or the time in the message aren't the engine's: a restart, a wrong clock, \
+             or a message that was kept"
         }
         Refusal::DecryptionError => "the salt hasn't 8 octets: the sender is at fault",
         Refusal::BadScoped => {

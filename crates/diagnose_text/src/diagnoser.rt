@@ -259,8 +259,8 @@ impl Diagnoser {
         }
     }
 
-    /// An answer that wasn't opened. A Report that isn't sealed tells why the agent refuses the request; it came without
-    /// authentication, or its code is wrong, so that it is a hint.
+    /// An answer that wasn't opened. A Report that isn't sealed says why the agent refuses the request. It came
+    /// without authentication, or its code is wrong, so it is a hint.
     fn unread_answer(
         &mut self,
         line: Line,
