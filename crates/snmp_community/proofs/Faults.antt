@@ -1,5 +1,5 @@
 -- Where a datagram stops being a message: a message has no fault, and neither has a datagram of another version.
-use Rattle.std.proofs.Common.{◌≡◌, ◌≢◌, ◌⊎◌, ℕ, ◌+◌, ◌<◌, List, [], ◌++◌, length, take, Option, Some, None, refl, sym, ap, subst, ◌∙◌, append_assoc, arith, ℤ, pos, inl, inr}
+use Rattle.std.proofs.Common.{◌≡◌, ℕ, ◌+◌, ◌<◌, List, [], ◌++◌, length, take, Option, Some, None, refl, sym, ap, subst, ◌∙◌, append_assoc, arith, ℤ, pos, inl, inr}
 use Rattle.std.proofs.lemmas.List.{append-nil, length-append}
 use Rattle.snmp_ber.specs.Number.{IsInteger32}
 use Rattle.snmp_ber.specs.Element.{IsElement, Begins}
@@ -12,7 +12,7 @@ use Rattle.snmp_message.proofs.Outers.{version_in-is}
 use Rattle.snmp_message.proofs.Steps.{same_some, element_in-is, element_in-again, begins_from_element}
 use Rattle.snmp_community.specs.Versions.{version_number}
 use Rattle.snmp_community.specs.Layout.{Parts, IsVersion, IsMessage, OtherVersion}
-use Rattle.snmp_community.specs.Faults.{HasNo, HasNoNumber, MoreThanElement, PduFaultsAt, AfterCommunity, RestFaultsAt, AfterVersion, ContentFaultsAt, WithinSequence, MoreThanMessage, FaultsAt}
+use Rattle.snmp_community.specs.Faults.{HasNo, HasNoNumber, PduFaultsAt, RestFaultsAt, ContentFaultsAt, WithinSequence, MoreThanMessage, FaultsAt}
 use Rattle.snmp_community.specs.declared.version.Version.{Version}
 use Rattle.snmp_community.specs.Reading.{parts_in}
 use Rattle.snmp_community.specs.Refusals.{RefusesMessage}

@@ -8,11 +8,15 @@ use Rattle.snmp_message.specs.Spelling.{number}
 use Rattle.snmp_message.proofs.Writes.{element-length, number-is}
 use Rattle.snmp_community.specs.Versions.{version_number}
 use Rattle.snmp_community.specs.Layout.{IsMessage}
+use Rattle.snmp_msg.specs.Pdu.{pdu_text}
+use Rattle.snmp_msg.specs.Variables.{Variable, variables_text}
+use Rattle.snmp_community.specs.Fronts.{pdu_before, pdu_after, text_after}
+use Rattle.snmp_community.specs.declared.bindings.CommunityFront.{CommunityFront}
 use Rattle.snmp_community.specs.Spelling.{front_text, content_text, community_text, written}
 use Rattle.snmp_community.specs.declared.version.Version.{Version}
 use Rattle.snmp_community.proofs.Messages.{version_at_most}
 
-front_text-length : (v : Version) (community : List ℕ) → length (front_text v community) ≡ length (number (version_number v)) + length (element 4 community)
+pub front_text-length : (v : Version) (community : List ℕ) → length (front_text v community) ≡ length (number (version_number v)) + length (element 4 community)
 unfolding front_text
 front_text-length v community = length-append (number (version_number v)) (element 4 community)
 
@@ -21,7 +25,7 @@ unfolding content_text
 content_text-length v community pdu =
     omega (arith, length-append (front_text v community) pdu, front_text-length v community, element-length 4 community)
 
-pub content_joined : (v : Version) (community pdu : List ℕ) → content_text v community pdu ≡ number (version_number v) ++ (element 4 community ++ pdu)
+content_joined : (v : Version) (community pdu : List ℕ) → content_text v community pdu ≡ number (version_number v) ++ (element 4 community ++ pdu)
 unfolding content_text front_text
 content_joined v community pdu = append_assoc (number (version_number v)) (element 4 community) pdu
 
@@ -59,7 +63,24 @@ community_text-is v community pdu one most =
       pdu_place = ap (λ (n : ℕ). length (head_of 48 (length content)) + n) (front_text-length v community);
     }
 
+-- a message by what stands in front of its PDU, whose content has so many octets
+pub community_text-front : (v : Version) (community pdu : List ℕ) (size : ℕ) → size ≡ length (front_text v community) + length pdu → community_text v community pdu ≡ (head_of 48 size ++ front_text v community) ++ pdu
+unfolding community_text content_text
+community_text-front v community pdu size size_is =
+    let whole : length (front_text v community ++ pdu) ≡ size = length-append (front_text v community) pdu ∙ sym size_is in
+    ap (λ (n : ℕ). head_of 48 n ++ (front_text v community ++ pdu)) whole ∙ sym (append_assoc (head_of 48 size) (front_text v community) pdu)
+
 -- the size of a message, as it was computed
-pub measured : (v : Version) (community pdu : List ℕ) (inner size : ℕ) → inner ≡ length (content_text v community pdu) → size ≡ head_size inner + inner → length (community_text v community pdu) ≡ size
+pub measured : (v : Version) (community pdu : List ℕ) (inner size : ℕ) → inner ≡ length (front_text v community) + length pdu → size ≡ head_size inner + inner → length (community_text v community pdu) ≡ size
+unfolding content_text
 measured v community pdu inner size inner_is size_is =
-    community_text-size v community pdu ∙ sym (size_is ∙ ap (λ (n : ℕ). head_size n + n) inner_is)
+    let content : inner ≡ length (content_text v community pdu) = inner_is ∙ sym (length-append (front_text v community) pdu) in
+    community_text-size v community pdu ∙ sym (size_is ∙ ap (λ (n : ℕ). head_size n + n) content)
+
+-- the same, of a message that is measured by its front and its bindings
+pub measured_bindings : (f : CommunityFront) (vs : List Variable) (list_len pdu_len inner size : ℕ) → list_len ≡ length (variables_text vs)
+    → ((list : List ℕ) → length list ≡ list_len → pdu_len ≡ length (pdu_text (pdu_before f list)))
+    → inner ≡ length (front_text f.version f.community.now) + pdu_len → size ≡ head_size inner + inner → length (text_after f vs) ≡ size
+measured_bindings f vs list_len pdu_len inner size list_is pdu_is inner_is size_is =
+    let pdu = pdu_is (variables_text vs) (sym list_is) in
+    measured f.version f.community.now (pdu_text (pdu_after f vs)) inner size (inner_is ∙ ap (λ (n : ℕ). length (front_text f.version f.community.now) + n) pdu) size_is

@@ -5,3 +5,4 @@ pub mod Reading
 pub mod Faults
 pub mod Refusals
 pub mod Spelling
+pub mod Fronts

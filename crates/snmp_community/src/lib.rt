@@ -29,12 +29,14 @@
 //! ```
 #![tactic(auto)]
 
+mod bindings;
 mod laws;
 mod message;
 mod version;
+mod writing;
 
+pub use bindings::{CommunityFront, write_community_bindings};
 pub use laws::{community_written_again, one_community_fault, one_community_message};
-pub use message::{
-    CommunityMessage, read_community_message, read_community_pdu, write_community_message,
-};
+pub use message::{CommunityMessage, read_community_message, read_community_pdu};
 pub use version::Version;
+pub use writing::write_community_message;

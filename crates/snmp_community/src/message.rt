@@ -1,13 +1,11 @@
-//! The message around a PDU (RFC 1157, section 4; RFC 1901, section 3).
+//! The message around a PDU (RFC 1157, section 4; RFC 1901, section 3), read.
 
-ghost use Rattle.std.specs.Prelude.{◌≡◌, ℕ, ◌+◌, ◌*◌, ◌<◌, ◌≤◌, ◌++◌, Some, length, slice_range, option_map};
-ghost use Rattle.std.specs.Prelude.{IfErr, IfOk, OnOk, OnErr, MatchResult};
+ghost use Rattle.std.specs.Prelude.{◌≡◌, ℕ, ◌+◌, ◌≤◌, Some, length, slice_range, option_map};
+ghost use Rattle.std.specs.Prelude.{IfErr, IfOk, OnErr, MatchResult};
 ghost use Rattle.std.specs.Result.{result_ok};
-ghost use Rattle.snmp_ber.specs.Spelling.{element};
 ghost use Rattle.snmp_message.specs.Reading.{version_in};
 ghost use Rattle.snmp_message.specs.Scoped.{IsOneElement};
-ghost use Rattle.snmp_message.specs.Refusals.{IsRefused, IsWriteRefusal};
-ghost use Rattle.snmp_message.specs.declared.refusal.Refusal.TheVariants.{NotMessage, OutOfMemory, TooLarge};
+ghost use Rattle.snmp_message.specs.declared.refusal.Refusal.TheVariants.{NotMessage};
 ghost use Rattle.snmp_msg.specs.Pdu.{PduParts, PduText, PduFits, pdu_of};
 ghost use Rattle.snmp_msg.specs.Refusals.{RefusesPdu};
 ghost use Rattle.snmp_community.specs.Layout.{Parts, IsMessage};
@@ -15,22 +13,17 @@ ghost use Rattle.snmp_community.specs.Message.{parts};
 ghost use Rattle.snmp_community.specs.Reading.{parts_in};
 ghost use Rattle.snmp_community.specs.Faults.{FaultsAt, RestFaultsAt};
 ghost use Rattle.snmp_community.specs.Refusals.{RefusesMessage};
-ghost use Rattle.snmp_community.specs.Spelling.{front_text, content_text, community_text, written};
 
 use crate::version::Version;
-use snmp_ber::{BerFault, put_head, put_int, put_tlv, read_int, read_tlv};
-use snmp_message::{
-    INTEGER, LARGEST, OCTET_STRING, Refusal, RefusedAt, SEQUENCE, element_len, integer_len,
-    read_element,
-};
+use snmp_ber::{BerFault, read_int, read_tlv};
+use snmp_message::{INTEGER, OCTET_STRING, Refusal, RefusedAt, SEQUENCE, read_element};
 use snmp_msg::{Pdu, read_pdu};
-use std::alloc::{AllocError, Global};
 
 /// What a message with a community says, lent from the datagram.
 #[derive(Clone, Copy, Debug, PartialEq, Eq)]
 pub struct CommunityMessage<'a> {
     pub version: Version,
-    /// The community, of any octets. Who knows it is taken for its owner, so it is a secret.
+    /// The community, of any octets: a secret that several share, and that is sent in the clear.
     pub community: &'a [u8],
     /// The data, one whole element. Whether it is a PDU isn't looked at.
     pub pdu: &'a [u8],
@@ -155,67 +148,4 @@ pub fn read_community_pdu<'a>(
     ensures fits { IfOk result (λ p. PduFits (pdu_of p)) }
 {
     read_pdu(datagram, message.pdu_at, datagram.len())
-}
-
-/// How many octets the content of a message has.
-fn content_len(version: Version, community: &[u8], pdu: &[u8]) -> usize
-    requires community { length community.now ≤ LARGEST }
-    requires pdu { length pdu.now ≤ LARGEST }
-    ensures size { result ≡ length (content_text version community.now pdu.now) }
-    ensures most { result ≤ 3 * LARGEST }
-{
-    integer_len(version.number()) + element_len(community.len()) + pdu.len()
-}
-
-/// Writes the message into `size` octets of memory.
-#[tactic(auto, unfolding(crate::specs::Spelling::community_text))]
-fn spell_message(
-    alloc: Global,
-    version: Version,
-    community: &[u8],
-    pdu: &[u8],
-    size: usize,
-) -> Result<Vec<u8>, AllocError>
-    requires community { length community.now ≤ LARGEST }
-    requires pdu { length pdu.now ≤ LARGEST }
-    ensures { IfOk result (λ v. v.items ≡ community_text version community.now pdu.now) }
-{
-    let mut out = Vec::with_capacity(alloc, size)?;
-    put_head(&mut out, SEQUENCE, content_len(version, community, pdu))?;
-    put_int(&mut out, version.number())?;
-    put_tlv(&mut out, OCTET_STRING, community)?;
-    out.extend_from_slice(pdu)?;
-    Ok(out)
-}
-
-/// The message, in the shortest spelling, around its PDU, which is one whole element. It takes memory once.
-///
-/// The error TooLarge (16) comes exactly where the text would be longer than 65,507 octets, and OutOfMemory only
-/// where it wouldn't.
-pub fn write_community_message(
-    alloc: Global,
-    version: Version,
-    community: &[u8],
-    pdu: &[u8],
-) -> Result<Vec<u8>, RefusedAt>
-    requires { IsOneElement pdu.now }
-    ensures ok { IfOk result (λ v. v.items ≡ community_text version community.now pdu.now) }
-    ensures size { IfOk result (λ v. length v.items ≤ LARGEST) }
-    ensures spelled { IfOk result
-        (λ v. IsMessage v.items (written version community.now pdu.now)) }
-    ensures refusal { IfErr result (λ e. IsWriteRefusal e.refusal) }
-    ensures too_large { IsRefused result TooLarge
-        → LARGEST < length (community_text version community.now pdu.now) }
-    ensures memory { IsRefused result OutOfMemory
-        → length (community_text version community.now pdu.now) ≤ LARGEST }
-{
-    if community.len().max(pdu.len()) > LARGEST {
-        return Err(RefusedAt::plain(Refusal::TooLarge));
-    }
-    let size = element_len(content_len(version, community, pdu));
-    if size > LARGEST {
-        return Err(RefusedAt::plain(Refusal::TooLarge));
-    }
-    let out = spell_message(alloc, version, community, pdu, size)?;
-    Ok(out)
 }

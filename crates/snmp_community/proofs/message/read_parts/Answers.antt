@@ -1,4 +1,4 @@
-use Rattle.std.proofs.Common.{◌≡◌, ◌-◌, ℕ, List, length, Option, Some, None, refl, sym, arith, inl}
+use Rattle.std.proofs.Common.{◌-◌, refl, sym, arith, inl}
 use Rattle.std.specs.Prelude.{slice_range}
 use Rattle.std.proofs.lemmas.List.Edits.{length-between}
 use Rattle.snmp_ber.specs.Tlv.{front_at}

@@ -1,4 +1,4 @@
-use Rattle.std.proofs.Common.{◌≡◌, ℕ, List, length, Option, Some, None, refl, sym, subst, arith, inl}
+use Rattle.std.proofs.Common.{◌≡◌, ℕ, List, length, Some, None, refl, sym, subst, arith, inl}
 use Rattle.snmp_ber.specs.Reading.{integer32_of}
 use Rattle.snmp_ber.specs.Tlv.{front_at}
 use Rattle.snmp_message.specs.Reading.{element_in}
