@@ -101,11 +101,13 @@ fn read_parts(
     })
 }
 
-/// The message that the datagram is, of version-1 or SNMPv2c. Its data is one element of any tag, and isn't looked into.
+/// The message that the datagram is, of version-1 or SNMPv2c. Its data is one element of any tag, and isn't looked
+/// into.
 ///
 /// BadVersion comes exactly where the datagram begins with a SEQUENCE whose content begins with an INTEGER of
-/// neither version, as an SNMPv3Message does. NotMessage comes exactly where it doesn't, and isn't a message.
-/// Its place is that of the first octet of the element that was expected. No memory is taken.
+/// neither version, as an SNMPv3Message does. (Its words in the table of refusals are "not version 3".)
+/// NotMessage comes exactly where it doesn't, and isn't a message. Its place is that of the first octet of the
+/// element that was expected. No memory is taken.
 pub fn read_community_message(datagram: &[u8]) -> Result<CommunityMessage<'_>, RefusedAt>
     ensures exact { MatchResult result (λ m. IsMessage datagram.now (parts m))
         (λ e. RefusesMessage datagram.now e.refusal e.at) }
