@@ -5,7 +5,7 @@
 -- m. `OtherVersion w`: w begins with a SEQUENCE whose content begins with an INTEGER that is the number of
 -- neither version, as an SNMPv3Message does.
 --
--- The data is one element of any tag: RFC 1901 says ANY. Places count from 0 in the datagram.
+-- The data is one element of any tag: both RFCs say ANY. Places count from 0 in the datagram.
 use Rattle.std.specs.Prelude.{◌≡◌, ◌≢◌, ℕ, ℤ, pos, ◌+◌, List, ◌++◌, length}
 use Rattle.snmp_ber.specs.Number.{IsInteger32}
 use Rattle.snmp_ber.specs.Element.{IsHead, IsElement, Begins}
