@@ -7,14 +7,14 @@ use Rattle.snmp_message.specs.Scoped.{IsOneElement}
 use Rattle.snmp_message.specs.Spelling.{number}
 use Rattle.snmp_message.proofs.Writes.{element-length, number-is}
 use Rattle.snmp_community.specs.Versions.{version_number}
-use Rattle.snmp_community.specs.Layout.{IsMessage}
+use Rattle.snmp_community.specs.Layout.{Parts, IsMessage}
 use Rattle.snmp_msg.specs.Pdu.{pdu_text}
 use Rattle.snmp_msg.specs.Variables.{Variable, variables_text}
 use Rattle.snmp_community.specs.Fronts.{pdu_before, pdu_after, text_after}
 use Rattle.snmp_community.specs.declared.bindings.CommunityFront.{CommunityFront}
 use Rattle.snmp_community.specs.Spelling.{front_text, content_text, community_text, written}
 use Rattle.snmp_community.specs.declared.version.Version.{Version}
-use Rattle.snmp_community.proofs.Messages.{version_at_most}
+use Rattle.snmp_community.proofs.Messages.{version_at_most, one_message}
 
 pub front_text-length : (v : Version) (community : List ℕ) → length (front_text v community) ≡ length (number (version_number v)) + length (element 4 community)
 unfolding front_text
@@ -62,6 +62,10 @@ community_text-is v community pdu one most =
       whole = refl;
       pdu_place = ap (λ (n : ℕ). length (head_of 48 (length content)) + n) (front_text-length v community);
     }
+
+-- What is read of a message that was written is what was written.
+pub read_as_written : (v : Version) (community pdu : List ℕ) (m : Parts) → IsOneElement pdu → length (community_text v community pdu) ≤ 65507 → IsMessage (community_text v community pdu) m → m ≡ written v community pdu
+read_as_written v community pdu m one most is = one_message (community_text v community pdu) m (written v community pdu) is (community_text-is v community pdu one most)
 
 -- a message by what stands in front of its PDU, whose content has so many octets
 pub community_text-front : (v : Version) (community pdu : List ℕ) (size : ℕ) → size ≡ length (front_text v community) + length pdu → community_text v community pdu ≡ (head_of 48 size ++ front_text v community) ++ pdu

@@ -25,9 +25,13 @@ pub fn one_community_fault()
     ensures version { (w : List ℕ) (at : ℕ) → FaultsAt w at → OtherVersion w → ⊥ }
 {}
 
-/// What is written is read again: each message has the layout that it is written in.
+/// What is written is read again: each message has the layout that it is written in, and what is read of it is
+/// what was written.
 pub fn community_written_again()
-    ensures { (version : Version) (community pdu : List ℕ) → IsOneElement pdu
+    ensures spelled { (version : Version) (community pdu : List ℕ) → IsOneElement pdu
         → length (community_text version community pdu) ≤ LARGEST
         → IsMessage (community_text version community pdu) (written version community pdu) }
+    ensures same { (version : Version) (community pdu : List ℕ) (m : Parts) → IsOneElement pdu
+        → length (community_text version community pdu) ≤ LARGEST
+        → IsMessage (community_text version community pdu) m → m ≡ written version community pdu }
 {}
