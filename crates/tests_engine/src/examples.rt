@@ -3,6 +3,7 @@ mod of_engine_clock;
 mod of_snmp_agent;
 mod of_snmp_agent_statuses;
 mod of_snmp_ber;
+mod of_snmp_community;
 mod of_snmp_engine;
 mod of_snmp_handles;
 mod of_snmp_handles_bindings;
