@@ -17,7 +17,7 @@ use snmp_msg::{Spelled, bindings_len, put_pdu_of, written_pdu_len};
 use std::alloc::{AllocError, Global};
 
 /// What stands in a message in front of the bindings of its PDU.
-#[derive(Clone, Copy, Debug, PartialEq, Eq)]
+#[derive(Clone, Copy, PartialEq, Eq)]
 pub struct CommunityFront<'a> {
     pub version: Version,
     /// The community, of any octets.

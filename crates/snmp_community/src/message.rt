@@ -19,8 +19,8 @@ use snmp_ber::{BerFault, read_int, read_tlv};
 use snmp_message::{INTEGER, OCTET_STRING, Refusal, RefusedAt, SEQUENCE, read_element};
 use snmp_msg::{Pdu, read_pdu};
 
-/// What a message with a community says, lent from the datagram.
-#[derive(Clone, Copy, Debug, PartialEq, Eq)]
+/// What a message with a community says, lent from the datagram. It has no `Debug`, which would print the community.
+#[derive(Clone, Copy, PartialEq, Eq)]
 pub struct CommunityMessage<'a> {
     pub version: Version,
     /// The community, of any octets: a secret that several share, and that is sent in the clear.
