@@ -110,7 +110,7 @@ impl Diagnoser {
         }
         let summary = self.report.summary(self.observer.clocks(), &self.agents)?;
         text.extend_from_slice(summary.as_bytes())?;
-        Ok((text, self.report.failed()))
+        Ok((text, self.report.has_failed()))
     }
 
     /// Prints the exchanges that are finished, up to the first one that isn't.

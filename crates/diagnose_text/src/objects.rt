@@ -192,25 +192,35 @@ fn values_object(
 /// A variable, with the type of its value.
 fn value_object(alloc: Global, name: &String, value: &Value) -> Result<Json, AllocError> {
     match value {
-        Value::Integer(number) => typed(alloc, name, "INTEGER", Json::from(*number)),
-        Value::Unsigned(kind, number) => typed(alloc, name, kind, Json::from(*number)),
-        Value::Counter64(number) => typed(alloc, name, "Counter64", Json::from(*number)),
-        Value::Text(text) => typed(alloc, name, "STRING", Json::try_from_str(alloc, text)?),
-        Value::Identifier(text) => typed(alloc, name, "OID", Json::try_from_str(alloc, text)?),
+        Value::Integer(number) => object_of_type(alloc, name, "INTEGER", Json::from(*number)),
+        Value::Unsigned(kind, number) => object_of_type(alloc, name, kind, Json::from(*number)),
+        Value::Counter64(number) => object_of_type(alloc, name, "Counter64", Json::from(*number)),
+        Value::Text(text) => object_of_type(
+            alloc,
+            name,
+            "STRING",
+            Json::try_from_str(alloc, text)?,
+        ),
+        Value::Identifier(text) => object_of_type(
+            alloc,
+            name,
+            "OID",
+            Json::try_from_str(alloc, text)?,
+        ),
         Value::Address([a, b, c, d]) => {
             let text = format!(in alloc; "{a}.{b}.{c}.{d}")?;
-            typed(alloc, name, "IpAddress", Json::from(text))
+            object_of_type(alloc, name, "IpAddress", Json::from(text))
         }
         Value::Octets(kind, digits) => {
             let kind = *kind;
             json!(in alloc; {"name": name, "type": kind, "hex": digits})
         }
-        Value::Bare(kind) => typed(alloc, name, kind, Json::Null),
+        Value::Bare(kind) => object_of_type(alloc, name, kind, Json::Null),
     }
 }
 
 /// A variable whose value is this.
-fn typed(
+fn object_of_type(
     alloc: Global,
     name: &String,
     kind: &'static str,

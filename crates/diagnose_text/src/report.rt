@@ -33,7 +33,7 @@ impl Report {
     }
 
     /// Something failed.
-    pub(crate) fn failed(&self) -> bool {
+    pub(crate) fn has_failed(&self) -> bool {
         self.failed
     }
 
