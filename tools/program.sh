@@ -37,5 +37,5 @@ if ! is_of_these "$program"; then
       try_it "$@"
     fi
   fi
-  say "nothing of this build is proved; ./prove proves it, in about 23 minutes"
+  say "nothing of this build is proved; ./prove proves it, in about 21 minutes"
 fi
