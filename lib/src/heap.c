@@ -29,8 +29,8 @@ static void freed(void *block) { free(block); }
 /* what a growth gives, in two registers */
 struct tried { unsigned long ok; void *block; };
 
-/* A block is aligned to so many octets, as malloc's is. The handles want no more: crates/snmp_c has that of their types, and nothing is given
- * to whoever does. */
+/* A block is aligned to so many octets, as malloc's is. The handles want no more: crates/snmp_c has the alignment of their types.
+ * A request for a greater one gets no block. */
 enum { ALIGNED = 16 };
 _Static_assert(_Alignof(max_align_t) >= ALIGNED, "malloc aligns its blocks to 16 octets");
 
@@ -53,7 +53,7 @@ static void *from_room(size_t size) {
 
 /* Before each block stand how many of its octets were ever asked for, and how many it has, a multiple of 16. It is aligned to 16. */
 struct head { size_t used, size; } __attribute__((aligned(16)));
-_Static_assert(sizeof(struct head) == ALIGNED, "what stands behind a head is aligned as the head is");
+_Static_assert(sizeof(struct head) == ALIGNED, "the block after a head is aligned as the head is");
 
 /* the least octets that a block has, the most for which one that grows gets as many again, and the most that are wiped word by word */
 enum { LEAST = 48, MOST_DOUBLED = 1 << 16, FEW = 256 };

@@ -1,6 +1,6 @@
 /* Variable bindings as octets: bindings CONFIG CAPTURED-LOG
  *
- * Arguments out of their ranges, buffers that are too short, want of memory, and any octets in the place of a list. Not proved. */
+ * Arguments out of their ranges, buffers that are too short, out of memory, and any octets in the place of a list. Not proved. */
 #include "checks.h"
 #include <stdio.h>
 #include <string.h>
@@ -96,7 +96,7 @@ static void refused_memory(void) {
         left = n;
         answer = snmpsec_binding_write(name, NAME, 0x05, nothing, 0, out, sizeof out, &written);
         left = -1;
-        if (answer) check("want of memory", SNMPSEC_OUT_OF_MEMORY, answer);
+        if (answer) check("out of memory", SNMPSEC_OUT_OF_MEMORY, answer);
     }
     check("written with memory", 0, answer);
 }

@@ -43,9 +43,9 @@ static void check_config_fault(void) {
         left = granted;
         answer = snmpsec_config_fault((const uint8_t *)text, strlen(text), &place, out, sizeof out, &written);
         left = -1;
-        check("want of memory writes nothing", 1, answer != SNMPSEC_OUT_OF_MEMORY || place.table == 9);
+        check("out of memory writes nothing", 1, answer != SNMPSEC_OUT_OF_MEMORY || place.table == 9);
     }
-    check("and then it is told", SNMPSEC_BAD_CONFIGURATION, answer);
+    check("and then the fault is written", SNMPSEC_BAD_CONFIGURATION, answer);
 }
 
 /* Each _new of the archive writes its handle where it answers 0, which no contract says, and else nothing. */
@@ -57,14 +57,14 @@ static void handles(void) {
     check("no manager", SNMPSEC_BAD_CLOCKS, proved_manager_new(config, config_len, config, 1, NOW, &manager));
     check("no handle is written", 1, !agent && !manager);
     for (long granted = 0; answer == SNMPSEC_OUT_OF_MEMORY; granted++) {
-        check("want of memory writes no agent", 1, !agent);
+        check("out of memory writes no agent", 1, !agent);
         left = granted;
         answer = proved_agent_new(config, config_len, engine, sizeof engine, BOOTS, NOW, &agent);
         left = -1;
     }
     check("an agent is written", 1, answer == SNMPSEC_OK && agent);
     for (long granted = 0; granted == 0 || answer == SNMPSEC_OUT_OF_MEMORY; granted++) {
-        check("want of memory writes no manager", 1, !manager);
+        check("out of memory writes no manager", 1, !manager);
         left = granted;
         answer = proved_manager_new(config, config_len, (const uint8_t *)clocks, sizeof clocks - 1, NOW, &manager);
         left = -1;
@@ -275,7 +275,7 @@ static void refused_memory(void) {
         int answer = all_calls(request);
         left = -1;
         if (!answer) break;
-        check("want of memory", SNMPSEC_OUT_OF_MEMORY, answer);
+        check("out of memory", SNMPSEC_OUT_OF_MEMORY, answer);
     }
     printf("%ld growths of memory refused in turn\n", n);
     check("some growths", 1, n > 10);

@@ -1,4 +1,4 @@
-/* A manager under hostile octets and under want of memory: hostile CONFIG CAPTURED-LOG
+/* A manager under hostile octets and out of memory: hostile CONFIG CAPTURED-LOG
  *
  * Each captured datagram, cut at every length and with each bit turned, is taken: none is authentic, so that the saved clocks stay.
  * Saved texts are cut and turned, and the configuration is cut. And each growth of memory is refused in turn: the call answers so, the

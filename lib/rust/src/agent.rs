@@ -78,7 +78,7 @@ impl Agent {
     /// An agent of a configuration, with its engine ID and boots, that started at this moment in seconds.
     ///
     /// The errors are BadArgument, where the engine ID hasn't 5 to 32 octets or is all 00 or all ff, or boots are above 2147483647;
-    /// BadConfiguration; and want of memory.
+    /// BadConfiguration; and OutOfMemory.
     pub fn new(config: &[u8], engine: &[u8], boots: u32, started: u64) -> Result<Agent, Error> {
         let held = Held::of(&CALLS, |at| unsafe {
             snmpsec_agent_new(

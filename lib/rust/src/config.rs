@@ -79,7 +79,7 @@ impl fmt::Display for ConfigFault {
 
 impl std::error::Error for ConfigFault {}
 
-/// Why a text is refused as a configuration, or None where it isn't. The error is want of memory.
+/// Why a text is refused as a configuration, or None where it isn't. The error is OutOfMemory.
 pub fn config_fault(config: &[u8]) -> Result<Option<ConfigFault>, Error> {
     let mut place = calls::ConfigPlace::default();
     let mut text = vec![0; 4096];
