@@ -2,8 +2,9 @@
 -- `open` do, behind a line of its own.
 --
 -- `TellsPrintout printout asked streams status`, `StopsPrintout`. The same for `show --from` and `open
--- --from`: P is `PrintsShown` or `PrintsOpened`, a line `datagram N MOMENT` and behind it what `show` or
--- `open` prints of the datagram, with names if they are asked for. The refusal of a configuration stands alone.
+-- --from`: P is `PrintsShown`, `PrintsAnyVersion` (`show --community`) or `PrintsOpened`, a line `datagram N
+-- MOMENT` and after it what the command prints of the datagram, with names if they are asked for. The refusal of
+-- a configuration stands alone.
 use Rattle.std.specs.Prelude.{◌≡◌, ◌⊎◌, ⊤, ℕ, ◌==◌, not, Bool, true, false, List, ◌++◌, codes, decimal, Option}
 use Rattle.std.specs.Io.KnownBytes.{Appends, Keeps}
 use Rattle.snmpsec_io.specs.Transfer.{WritesFront}
@@ -16,6 +17,7 @@ use Rattle.snmpsec_config.specs.Told.{IsWhy}
 use Rattle.snmpsec_output.specs.Open.{OpensBy}
 use Rattle.snmpsec_output.specs.Questions.{Printed}
 use Rattle.snmpsec_output.specs.Show.{ShowsDatagram}
+use Rattle.snmpsec_output.specs.Community.{ShowsAnyVersion}
 use Rattle.capture_datagrams.specs.Forms.{StopsFile, TellsFile}
 use Rattle.capture_datagrams.specs.declared.forms.ReadOptions.{ReadOptions}
 use Rattle.capture_datagrams.specs.declared.datagrams.Unread.{Unread}
@@ -38,6 +40,11 @@ pub record StandsBehind (n moment : ℕ) (printed : Printed) (text : List ℕ)
 -- as `show` prints it
 abbrev pub PrintsShown : Bool → ℕ → ℕ → List ℕ → List ℕ → Bool → Type 0
 PrintsShown names n moment datagram text refused = (printed : Printed) × ShowsDatagram names datagram printed
+    × StandsBehind n moment printed text refused
+
+-- as `show --community` prints it
+abbrev pub PrintsAnyVersion : Bool → ℕ → ℕ → List ℕ → List ℕ → Bool → Type 0
+PrintsAnyVersion names n moment datagram text refused = (printed : Printed) × ShowsAnyVersion names datagram printed
     × StandsBehind n moment printed text refused
 
 -- as `open` prints it, by these users
@@ -103,9 +110,11 @@ StopsOpening names config a s f =
 abbrev pub TellsPrintout : Printout → ReadOptions → Streams → ℕ → Type 0
 TellsPrintout printout.Log a s status = TellsFile PrintsLine a s status
 TellsPrintout (printout.Shown names) a s status = TellsFile (PrintsShown names) a s status
+TellsPrintout (printout.ShownAnyVersion names) a s status = TellsFile (PrintsAnyVersion names) a s status
 TellsPrintout (printout.Opened config names) a s status = OpensFile names config.now a s status
 
 abbrev pub StopsPrintout : Printout → ReadOptions → Streams → Unread → Type 0
 StopsPrintout printout.Log a s f = StopsFile PrintsLine a s f
 StopsPrintout (printout.Shown names) a s f = StopsFile (PrintsShown names) a s f
+StopsPrintout (printout.ShownAnyVersion names) a s f = StopsFile (PrintsAnyVersion names) a s f
 StopsPrintout (printout.Opened config names) a s f = StopsOpening names config.now a s f

@@ -3,9 +3,9 @@
 
 ghost use Rattle.std.specs.Prelude.{◌≡◌, IfErr, IfOk, string_bytes};
 ghost use Rattle.capture_files.specs.Datagrams.{streams};
-ghost use Rattle.capture_datagrams.specs.Printout.{LoadsUsers, OpensFile, PrintsOpened, PrintsShown};
-ghost use Rattle.capture_datagrams.specs.Printout.{StandsBehind, StopsOpening, StopsPrintout, TellsNoUsers};
-ghost use Rattle.capture_datagrams.specs.Printout.{TellsConfig, TellsPrintout, head_line};
+ghost use Rattle.capture_datagrams.specs.Printout.{LoadsUsers, OpensFile, PrintsAnyVersion, PrintsOpened};
+ghost use Rattle.capture_datagrams.specs.Printout.{PrintsShown, StandsBehind, StopsOpening, StopsPrintout};
+ghost use Rattle.capture_datagrams.specs.Printout.{TellsConfig, TellsNoUsers, TellsPrintout, head_line};
 ghost use Rattle.capture_datagrams.specs.declared.printout.NoUsers.TheVariants as none;
 ghost use Rattle.snmpsec_output.specs.Questions.{Printed as PrintedIs};
 
@@ -14,7 +14,7 @@ use crate::forms::{ReadOptions, print_datagrams};
 use crate::texts::{Told, write_told};
 use capture_files::{Lines, Printed, Printer};
 use snmpsec_config::{Config, ConfigFault};
-use snmpsec_output::{Output, open_datagram, refusal_and_why, show_datagram};
+use snmpsec_output::{Output, open_datagram, refusal_and_why, show_any_version, show_datagram};
 use std::alloc::{AllocError, Global};
 use std::io::{Read, Write};
 use thiserror::Error;
@@ -23,6 +23,13 @@ use usm_core::Users;
 /// Prints each datagram as `show` does, behind a line `datagram N MOMENT`.
 #[derive(Clone, Copy, Debug)]
 pub struct Shows {
+    /// Whether names follow the lines that have one.
+    pub names: bool,
+}
+
+/// Prints each datagram as `show --community` does, behind a line `datagram N MOMENT`.
+#[derive(Clone, Copy, Debug)]
+pub struct ShowsAnyVersion {
     /// Whether names follow the lines that have one.
     pub names: bool,
 }
@@ -79,6 +86,21 @@ impl Printer for Shows {
     }
 }
 
+impl Printer for ShowsAnyVersion {
+    ghost prints = { λ p. PrintsAnyVersion p.names };
+
+    fn print(
+        &mut self,
+        alloc: Global,
+        number: u64,
+        moment: u64,
+        datagram: &[u8],
+    ) -> Result<Printed, AllocError> {
+        let output = show_any_version(alloc, self.names, datagram)?;
+        behind_head(alloc, number, moment, output)
+    }
+}
+
 impl Printer for Opens {
     ghost prints = { λ p. PrintsOpened p.names p.users.users };
 
@@ -101,6 +123,8 @@ pub enum Printout<'a> {
     Log,
     /// What `show` prints of each, with names where they are asked for.
     Shown { names: bool },
+    /// What `show --community` prints of each, with names where they are asked for.
+    ShownAnyVersion { names: bool },
     /// What `open` prints of each by the users of this configuration, with names where they are asked for.
     Opened { config: &'a [u8], names: bool },
 }
@@ -207,6 +231,10 @@ pub fn write_printout<R: Read, L: Write, N: Write>(
         Printout::Log => print_datagrams(alloc, asked, &mut Lines, reader, log, notes),
         Printout::Shown { names } => {
             let mut printer = Shows { names };
+            print_datagrams(alloc, asked, &mut printer, reader, log, notes)
+        }
+        Printout::ShownAnyVersion { names } => {
+            let mut printer = ShowsAnyVersion { names };
             print_datagrams(alloc, asked, &mut printer, reader, log, notes)
         }
         Printout::Opened { config, names } => {

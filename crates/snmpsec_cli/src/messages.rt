@@ -12,6 +12,14 @@ const NAMES: Word = (
     "Print ' # NAME' after the lines that have a name: users, contexts, PDUs, counters",
 );
 
+/// Whether messages with a community are printed too.
+const COMMUNITY: Word = (
+    Kind::Flag,
+    "community",
+    "community",
+    "Print messages of SNMPv1 and SNMPv2c too: version, community and PDU; without it they are refused",
+);
+
 /// The datagram as a word.
 const HEX: Word = (
     Kind::Datagram,
@@ -33,7 +41,7 @@ Exit status:
   0  the message is printed
   1  a message is refused (a line 'refused N NAME at PLACE'), or the file of --from is
   2  the command line is wrong, or a file can't be read",
-    words: &[NAMES, FROM, FORM, PORT, MOMENT, IP, HEX],
+    words: &[NAMES, COMMUNITY, FROM, FORM, PORT, MOMENT, IP, HEX],
 };
 
 /// The command open.

@@ -13,7 +13,7 @@ use snmpsec_cli::{
     Command, Invocation, access_words, datagrams_words, diagnose_words, manual_text, replay_words,
     version_text, word_of, words_of,
 };
-use snmpsec_output::{Output, show_named};
+use snmpsec_output::{Output, show_any_version_text, show_named};
 use std::alloc::{AllocError, Global};
 use std::io::{Input, Write};
 use std::rt::Files;
@@ -47,9 +47,19 @@ fn show<R: Files + Input + AllocGlobal, O: Write, E: Write>(
     out: &mut O,
     err: &mut E,
 ) -> Result<Output, Complaint> {
+    let (alloc, names) = (rt.alloc(), asked.names);
+    let community = asked.words.get_flag("community");
     match asked.words.get_str("HEX") {
-        Some(digits) => Ok(show_named(rt.alloc(), asked.names, digits)?),
-        None => show_file(rt, &datagrams_words(asked.words), asked.names, out, err),
+        Some(digits) if community => Ok(show_any_version_text(alloc, names, digits)?),
+        Some(digits) => Ok(show_named(alloc, names, digits)?),
+        None => show_file(
+            rt,
+            &datagrams_words(asked.words),
+            names,
+            community,
+            out,
+            err,
+        ),
     }
 }
 

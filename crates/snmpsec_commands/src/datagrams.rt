@@ -55,16 +55,23 @@ pub(crate) fn log_file<R: Files + Input + AllocGlobal, O: Write, E: Write>(
     print_file(rt, Printout::Log, &wanted, words.file, out, err)
 }
 
-/// Looks at the words before it opens the file, and then writes what `show` prints of each datagram.
+/// Looks at the words before it opens the file, and then writes what `show` prints of each datagram, of messages with
+/// a community too where these are asked for.
 pub(crate) fn show_file<R: Files + Input + AllocGlobal, O: Write, E: Write>(
     rt: &R,
     words: &DatagramsWords<'_>,
     names: bool,
+    community: bool,
     out: &mut O,
     err: &mut E,
 ) -> Result<Output, Complaint> {
     let wanted = wanted_of(rt.alloc(), words)?;
-    print_file(rt, Printout::Shown { names }, &wanted, words.file, out, err)
+    let shown = if community {
+        Printout::ShownAnyVersion { names }
+    } else {
+        Printout::Shown { names }
+    };
+    print_file(rt, shown, &wanted, words.file, out, err)
 }
 
 /// Looks at the words, reads the configuration whole and opens the file, before it looks at what they say;

@@ -33,7 +33,12 @@ pub fn octets_line(alloc: Global, name: &str, octets: &[u8]) -> Result<String, A
 }
 
 /// A line with a name and octets that may be text, with the text as a note if names are asked for.
-fn text_line(alloc: Global, names: bool, name: &str, octets: &[u8]) -> Result<String, AllocError>
+pub(crate) fn text_line(
+    alloc: Global,
+    names: bool,
+    name: &str,
+    octets: &[u8],
+) -> Result<String, AllocError>
     ensures { IfOk result (λ text. IsNamed names (spec.octets_line name.now octets.now)
         (string_bytes text)) }
 {
@@ -124,7 +129,7 @@ fn pdu_line(alloc: Global, names: bool, pdu: &Pdu<'_>) -> Result<String, AllocEr
 }
 
 /// The line of a PDU, and its bindings, a line each.
-fn pdu_lines(alloc: Global, names: bool, pdu: &Pdu<'_>) -> Result<String, AllocError>
+pub(crate) fn pdu_lines(alloc: Global, names: bool, pdu: &Pdu<'_>) -> Result<String, AllocError>
     ensures { IfOk result
         (λ text. IsNamed names (pdu_line (pdu_of pdu.now) ++ flat_map binding_line
         (variables_of pdu.now.list.now))
