@@ -12,7 +12,7 @@ use arrayvec::ArrayVec;
 use engine_clock::EngineId;
 use snmp_agent::Agent;
 use snmp_ber::Level;
-use snmp_manager::Manager;
+use snmp_manager::{Manager, Target};
 use snmp_msg::{Binding, Pdu, VariableBinding, read_pdu};
 use snmp_outgoing::{Body, Front};
 use std::alloc::{AllocError, Global};
@@ -109,17 +109,13 @@ fn request_of(
         second: pdu.second,
         third: pdu.third,
     };
-    let bindings = variables_of(alloc, pdu)?;
-    let (text, _pending) = manager.request_of(
-        MOMENT,
-        ID,
+    let target = Target {
         engine,
-        OAK,
-        Level::AuthPriv,
-        &front,
-        &bindings,
-        SALT,
-    )?;
+        user: OAK,
+        level: Level::AuthPriv,
+    };
+    let bindings = variables_of(alloc, pdu)?;
+    let (text, _pending) = manager.request_of(MOMENT, ID, &target, &front, &bindings, SALT)?;
     Ok(text)
 }
 

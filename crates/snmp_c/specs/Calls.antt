@@ -1,6 +1,6 @@
 -- What the calls on a handle answer and leave.
 --
--- `Done`, `Accesses`: the answer is the number of what is told. `Takes`, `Allows`, `May`, `Counter`,
+-- `Done`, `Accesses`: the answer is the number of the result. `Takes`, `Allows`, `May`, `Counter`,
 -- `RespondsTo`, `Notifies`, `TellsPart`, `TellsMessage`, `TellsNumbers`, `ClearsAgent`: what each export
 -- answers and leaves. `Makes`: the answer of `_new`. `ReadsBinding`, `Writes`: bindings as octets.
 -- `TellsConfiguration`: why a configuration is refused. `MaxSize`, `RespondsToWithin`, `UnhandledBy`,
@@ -27,7 +27,7 @@ use Rattle.snmp_msg.specs.Values.{IsValueOf}
 use Rattle.snmp_handles.specs.Agents.{AgentHeld, Clears, MakesAgent, TakesHeld, TakesNoMemory, AllowsHeld, MaySee}
 use Rattle.snmp_handles.specs.Agents.{Counts, RespondsHeld, Notice, NotifiesHeld}
 
--- The answer is the number of what is told, of which this is said.
+-- The answer is the number of the result, of which this is said.
 abbrev pub Done : (Result ⊤ CallFault → Type 0) → ℤ → Type 0
 Done Says answer = (told : Result ⊤ CallFault) × (answer ≡ code told) × Says told
 
@@ -40,7 +40,7 @@ abbrev pub Makes : List ℕ → List ℕ → ℕ → ℕ → ℤ → Type 0
 Makes config engine boots started answer = (told : Result AgentHeld CallFault) × (answer ≡ code told)
     × MakesAgent config engine boots started told
 
--- 14, want of memory, isn't answered where none is wanted.
+-- 14, OutOfMemory, isn't answered where no memory is asked for.
 abbrev pub Takes : ℕ → List ℕ → AgentHeld → AgentHeld → ℤ → Type 0
 Takes now w old new answer = Done (λ told. TakesHeld old now w told new) answer
     × (TakesNoMemory old.agent now w → answer ≢ pos 14)
@@ -74,12 +74,12 @@ abbrev pub RespondsToWithin : ℕ → ℕ → ℕ → List ℕ → ℕ → ℕ �
 RespondsToWithin now status index list salt limit old new answer =
     Done (λ told. RespondsHeldWithin old now status index list (to_be_bytes w64 salt) limit told new) answer
 
--- The count is told where there is a Response, and else stays.
+-- The count is written where there is a Response, and else stays.
 abbrev pub TellsCount : ℕ → ℕ → Result ℕ CallFault → Type 0
 TellsCount count count_new (Ok told) = count_new ≡ told
 TellsCount count count_new (Err _) = count_new ≡ count
 
--- As many of the bindings are answered as have room, from the first on, and how many they are is told.
+-- As many of the bindings are answered as have room, from the first on, and their number is written.
 abbrev pub RespondsToFront : ℕ → ℕ → ℕ → List ℕ → ℕ → ℕ → ℕ → ℕ → AgentHeld → AgentHeld → ℤ → Type 0
 RespondsToFront now status index list salt limit count count_new old new answer =
     (told : Result ℕ CallFault) × (answer ≡ code told)
@@ -90,7 +90,7 @@ abbrev pub UnhandledBy : AgentHeld → AgentHeld → ℤ → Type 0
 UnhandledBy old new answer = (new ≡ old)
     × ((told : Result (Option Unhandled) CallFault) × (answer ≡ unhandled_code told) × TellsUnhandled old told)
 
--- What is kept is counted and its report left to be sent; a number of nothing is told as such, and changes nothing.
+-- What is kept is counted and its report left to be sent; a number of nothing is answered as such, and changes nothing.
 abbrev pub RefusesKept : ℕ → ℕ → ℕ → AgentHeld → AgentHeld → ℤ → Type 0
 RefusesKept now why salt old new answer =
     MatchOption (unhandled_of why) ((answer ≡ fault_code BadArgument) × (new ≡ old))

@@ -27,7 +27,7 @@ MakesAManager config clocks now answer = (told : Result ManagerHeld CallFault) �
 abbrev pub Clears : ManagerHeld → ManagerHeld → ℤ → Type 0
 Clears old new answer = Done (λ told. ClearsManager old told new) answer
 
--- 14, want of memory, isn't answered where none is wanted.
+-- 14, OutOfMemory, isn't answered where no memory is asked for.
 abbrev pub ManagerTook : ℕ → List ℕ → ManagerHeld → ManagerHeld → ℤ → Type 0
 ManagerTook now w old new answer = Done (λ told. ManagerTakes old now w told new) answer
     × (TakesNoMemory old.manager now w → answer ≢ pos 14)

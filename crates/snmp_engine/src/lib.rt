@@ -53,5 +53,5 @@ pub mod world;
 
 pub use snmp_agent::{Agent, Decision, Refused};
 pub use snmp_incoming::{Kept, TakeFault, Taken};
-pub use snmp_manager::{Answer, Manager, Outcome, Pending, Stopped, answer_of};
+pub use snmp_manager::{Answer, Manager, Outcome, Pending, Stopped, Target, answer_of};
 pub use snmp_outgoing::{Body, Front};

@@ -11,7 +11,7 @@ use Rattle.snmp_handles.specs.Parts.{Copies, CopiesNothing}
 use Rattle.snmp_handles.specs.declared.fault.CallFault.{CallFault}
 use Rattle.snmp_handles.specs.declared.fault.CallFault.TheVariants.{Refused, BadArgument, BadBindings, ShortBuffer}
 
--- they are no bindings, one after another; or there was want of memory
+-- they are no bindings, one after another; or memory ran out
 abbrev pub RefusesBindings : List ℕ → CallFault → Type 0
 RefusesBindings octets BadBindings = (vs : List Variable) → AreBindings vs octets → ⊥
 RefusesBindings octets (Refused fault) = fault ≡ OutOfMemory

@@ -71,20 +71,20 @@ numbers_of (faults.BadKey of position fault) = table_number of ∷ position ∷ 
 numbers_of (faults.Row of position wrong) = table_number of ∷ position ∷ wrong_number wrong ∷ 0 ∷ []
 numbers_of faults.OutOfMemory = 0 ∷ 0 ∷ 1 ∷ 0 ∷ []
 
--- ---- what is told
+-- ---- what is reported
 
 -- two lines: the refusal, and what is wrong and what is wanted
 abbrev pub IsTold : ConfigFault → List ℕ → Type 0
 IsTold fault text = (why : List ℕ) × IsWhy fault why
     × (text ≡ refusal_line fault ++ (codes "\n" ++ (why ++ codes "\n")))
 
--- The text is refused for this fault, whose numbers stand in the front, and this is told of it.
+-- The text is refused for this fault, whose numbers stand in the front, and this is reported of it.
 abbrev pub RefusesConfig : List ℕ → List ℕ → List ℕ → List ℕ → Type 0
 RefusesConfig config numbers numbers_new text =
     (fault : ConfigFault) × RefusesText config fault × (numbers_new ≡ numbers_of fault ++ drop 4 numbers)
     × IsTold fault text
 
--- Whether a text is a configuration, and what is told where it is none.
+-- Whether a text is a configuration, and what is reported where it is none.
 abbrev pub TellsConfig : {V : Type 0} → List ℕ → List ℕ → List ℕ → List ℕ → List ℕ → ℕ → ℕ → Result V CallFault → Type 0
 TellsConfig config numbers numbers_new out out_new written written_new (Ok done) =
     ((users : List UserRow) × (rows : Tables) × SaysSound config users rows) × (4 ≤ length numbers)

@@ -71,7 +71,7 @@ StopsFront agent now g status index list salt limit fault =
     ⊎ (CanSendAt agent now g.user g.level
     × IfSome (refusal_answer fault) (RespondsFront agent now g status index list salt limit))
 
--- The Response to what is kept, with the longest front that has room, is to be sent, and its count is told. A
+-- The Response to what is kept, with the longest front that has room, is to be sent, and its count is written. A
 -- refusal changes nothing.
 abbrev pub RespondsHeldFront : AgentHeld → ℕ → ℕ → ℕ → List ℕ → List ℕ → ℕ → Result ℕ CallFault → AgentHeld → Type 0
 RespondsHeldFront old now status index list salt limit (Ok count) new = AreInRange status index
@@ -115,7 +115,7 @@ abbrev pub Reports : AgentState → ℕ → Given → Unhandled → List ℕ →
 Reports old now g why salt answer new =
     (c : Contexts) (p : PduParts) → ScopedFront g.text c → PduText c.pdu p → Refuses old now g p why salt answer new
 
--- the refusal as a report's; None for want of memory
+-- the refusal as a report's; None if memory ran out
 abbrev pub report_refusal : Refusal → Option (Result (Option (List ℕ)) Refusal)
 report_refusal fault = refusal_answer fault
 

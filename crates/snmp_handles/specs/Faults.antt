@@ -37,7 +37,7 @@ abbrev pub access_code : Result Access CallFault → ℤ
 access_code (Ok access) = pos (access_number access)
 access_code (Err fault) = fault_code fault
 
--- a number that is told as it is
+-- a number that is given as it is
 abbrev pub value_code : Result ℕ CallFault → ℤ
 value_code (Ok value) = pos value
 value_code (Err fault) = fault_code fault

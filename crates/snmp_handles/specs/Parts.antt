@@ -23,7 +23,7 @@ use Rattle.snmp_handles.specs.declared.parts.Part.TheVariants.{Bindings, User, C
 -- ---- octets
 
 -- The octets stand in the front of the buffer, which is else as it was; or it has no room for them, and is as
--- it was. Either way it is told how many they are.
+-- it was. Either way their number is written.
 abbrev pub Copies : {V : Type 0} → List ℕ → List ℕ → List ℕ → ℕ → Result V CallFault → Type 0
 Copies octets old new written (Ok done) = (length octets ≤ length old) × (written ≡ length octets)
     × (new ≡ octets ++ drop (length octets) old)
@@ -46,7 +46,7 @@ part_of n =
     then Some ContextName else
     if n == 4 then Some Engine else None
 
--- Nothing is copied, and no number of octets is told.
+-- Nothing is copied, and no number of octets is written.
 abbrev pub CopiesNothing : List ℕ → List ℕ → ℕ → ℕ → Type 0
 CopiesNothing old new written written_new = (new ≡ old) × (written_new ≡ written)
 

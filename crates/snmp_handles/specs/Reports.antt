@@ -1,6 +1,6 @@
 -- What a manager's calls on the answers to its requests tell and leave (RFC 3412, section 7.2, steps 10 to 12).
 --
--- `TakesAnswer`: what is kept is told as by `TellsAnswer`, and its Response ends the waiting.
+-- `TakesAnswer`: the answer is that of `TellsAnswer`, and its Response ends the waiting.
 -- `TellsReport`: what it tells, where it is a Report on the request.
 use Rattle.std.specs.Prelude.{◌≡◌, Option, Some, Result, Ok, Err}
 use Rattle.snmp_message.specs.Scoped.{Contexts, ScopedFront}
@@ -13,7 +13,7 @@ use Rattle.snmp_manager.specs.declared.replies.Report.{Report}
 use Rattle.snmp_handles.specs.Managers.{ManagerHeld, RefusesAnswer}
 use Rattle.snmp_handles.specs.declared.fault.CallFault.{CallFault}
 
--- What the message that is kept is to the request is told, and its Response ends the waiting. An error changes nothing.
+-- The answer says what the kept message is to the request, and its Response ends the waiting. An error changes nothing.
 abbrev pub TakesAnswer : ManagerHeld → Result Answer CallFault → ManagerHeld → Type 0
 TakesAnswer old (Ok answer) new =
     (g : Given) × (a : Pending) × (old.last ≡ Some g) × (old.pending ≡ Some a)

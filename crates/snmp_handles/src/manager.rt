@@ -19,7 +19,7 @@ use crate::parts::{Part, copied_message, copied_part, numbers_of};
 use engine_clock::{ClockFault, Clocks, EngineId, Pair};
 use snmp_ber::MAX_INTEGER32;
 use snmp_incoming::Kept;
-use snmp_manager::{Answer, Manager, Pending, answer_of};
+use snmp_manager::{Answer, Manager, Pending, Target, answer_of};
 use snmp_msg::Refusal;
 use snmp_outgoing::Front;
 use snmpsec_config::{Config, ConfigFault};
@@ -114,7 +114,12 @@ fn request(
         second: of.second as i32,
         third: of.third as i32,
     };
-    match manager.request_of(now, of.id, engine, of.user, level, &front, &bindings, salt) {
+    let target = Target {
+        engine,
+        user: of.user,
+        level,
+    };
+    match manager.request_of(now, of.id, &target, &front, &bindings, salt) {
         Ok(sent) => Ok(sent),
         Err(fault) => Err(CallFault::Refused(fault.refusal)),
     }

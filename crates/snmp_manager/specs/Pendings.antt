@@ -26,7 +26,7 @@ abbrev pub IsPending : Pending → ℕ → List ℕ → List ℕ → Level → F
 IsPending a id engine user level front = Remembers a id engine user level front.context_engine.now
     front.context_name.now front.id
 
--- the text that was written, or the refusal; None for want of memory
+-- the text that was written, or the refusal; None if memory ran out
 abbrev pub request_answer : Result (Vec ℕ × Pending) RefusedAt → Option (Result (List ℕ) Refusal)
 request_answer (Ok sent) = Some (Ok sent.0.items)
 request_answer (Err e) = refusal_answer e.refusal

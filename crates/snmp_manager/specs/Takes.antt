@@ -1,7 +1,7 @@
 -- What a manager answers to a datagram, and what it leaves.
 --
 -- `Takes`. What a take leaves and answers: the users as before, `LearnsFrom`, and the table's answer by the
--- window of what is then held; for want of memory no answer, and all as before. `IsOnceLearned`: a refusal
+-- window of what is then held; if memory runs out no answer, and all as before. `IsOnceLearned`: a refusal
 -- that comes behind the learning. `HoldsAuthentic`, `TakesNoMemory`: it wants no memory, also where what is
 -- accepted is to be copied; `kept_answer`: the answer of a call that copies it.
 use Rattle.snmp_message.specs.declared.refusal.Refusal.{Refusal}
@@ -19,7 +19,7 @@ use Rattle.snmp_manager.specs.Views.{Held}
 use Rattle.snmp_manager.specs.Learning.{LearnsFrom}
 
 -- The answer is the table's, by the window of what is held after learning, and nothing but marks has changed.
--- For want of memory there is no answer, and all is as before.
+-- If memory runs out there is no answer, and all is as before.
 abbrev pub Takes : Held → ℕ → List ℕ → Option (Result Given Refusal) → Held → Type 0
 Takes old now w None new = new ≡ old
 Takes old now w (Some answer) new = (new.users ≡ old.users) × LearnsFrom old.users now w old.clocks new.clocks
@@ -45,7 +45,7 @@ pub record TakesNoMemory (held : Held) (now : ℕ) (w : List ℕ) : Type 0 where
   pub holds : HoldsAuthentic held w
   pub refused : (g : Given) (new : Held) → Takes held now w (Some (Ok g)) new → ⊥
 
--- the answer of a call that keeps what is accepted, as the table has it; None for want of memory
+-- the answer of a call that keeps what is accepted, as the table has it; None if memory ran out
 abbrev pub kept_answer : Result Given RefusedAt → Option (Result Given Refusal)
 kept_answer (Ok g) = Some (Ok g)
 kept_answer (Err e) = refusal_answer e.refusal

@@ -48,6 +48,7 @@ mod pending;
 mod replies;
 mod requests;
 mod steps;
+mod target;
 mod weighing;
 mod world;
 mod world_laws;
@@ -62,6 +63,7 @@ pub use manager::Manager;
 pub use outcome::{Outcome, Stopped};
 pub use pending::{Answer, Pending};
 pub use replies::{Report, answer_of, report_of, take_answer};
+pub use target::Target;
 pub use world::World;
 pub use world_laws::{
     equal_knowledge_equal_marks, equal_knowledge_in_two_worlds, equal_pairs_known_equal_pairs,

@@ -31,6 +31,7 @@ use crate::learning::learn;
 use crate::outcome::{Outcome, Stopped};
 use crate::pending::Pending;
 use crate::requests::{no_pair, written_pair};
+use crate::target::Target;
 use crate::weighing::{weigh, weigh_kept};
 use engine_clock::{Clocks, EngineId, Mark, Pair};
 use snmp_ber::Level;
@@ -286,16 +287,12 @@ impl Manager {
         ensures spelled { IfOk result (λ _. IsSpelled (pdu_in body.now)) }
         ensures same { self.new ≡ self.old }
     {
-        self.request_of(
-            now,
-            id,
+        let target = Target {
             engine,
             user,
             level,
-            &body.front(),
-            body.bindings,
-            salt,
-        )
+        };
+        self.request_of(now, id, &target, &body.front(), body.bindings, salt)
     }
 
     /// The same request, with this front and bindings in any form that can be written: `VariableBinding` is
@@ -306,33 +303,32 @@ impl Manager {
         &mut self,
         now: u64,
         id: u32,
-        engine: &EngineId,
-        user: &[u8],
-        level: Level,
+        target: &Target<'_>,
         front: &Front<'_>,
         bindings: &[B],
         salt: [u8; 8],
     ) -> Result<(Vec<u8>, Pending), RefusedAt>
         requires id { id ≤ MAX_INTEGER32 }
-        requires user { length user.now ≤ 32 }
+        requires user { length target.now.user.now ≤ 32 }
         requires tag { IsPduTag front.now.tag }
         requires fit { All (λ b. B.fits b) bindings.now }
         ensures text { IfSome (request_answer result)
             (Seals self.old.users
-            (requesting (mark_at self.old.clocks engine.now) now id
-            engine.now user.now level front.now
+            (requesting (mark_at self.old.clocks target.now.engine.now) now id
+            target.now.engine.now target.now.user.now target.now.level front.now
             (map B.says bindings.now) salt)) }
         ensures memory { IsRefused result OutOfMemory
             → IsSealable self.old.users
-            (requesting (mark_at self.old.clocks engine.now) now id
-            engine.now user.now level front.now
+            (requesting (mark_at self.old.clocks target.now.engine.now) now id
+            target.now.engine.now target.now.user.now target.now.level front.now
             (map B.says bindings.now) salt) }
         ensures pending { IfOk result (λ sent. IsPending sent.1 id
-            engine.now user.now level front.now) }
+            target.now.engine.now target.now.user.now target.now.level front.now) }
         ensures accepted { IfOk result (λ sent. IsAcceptedByAgents self.old.users
-            (request (mark_at self.old.clocks engine.now) now id engine.now user.now level front.now
+            (request (mark_at self.old.clocks target.now.engine.now) now id
+            target.now.engine.now target.now.user.now target.now.level front.now
             (map B.says bindings.now) salt) sent.0.items) }
-        ensures pair { (mark : SeenPair) → mark_at self.old.clocks engine.now ≡ Some mark
+        ensures pair { (mark : SeenPair) → mark_at self.old.clocks target.now.engine.now ≡ Some mark
             → IsPair mark.pair }
         ensures spelled { IfOk result (λ _. IsSpelled
             (pdu_after front.now (map B.says bindings.now))) }
@@ -340,12 +336,12 @@ impl Manager {
     {
         spoken_is_accepted();
         let envelope = Envelope {
-            level,
+            level: target.level,
             id,
             reportable: is_confirmed(front.tag),
-            engine: engine.as_slice(),
-            pair: written_pair(&self.clocks, engine, level, now),
-            user,
+            engine: target.engine.as_slice(),
+            pair: written_pair(&self.clocks, target.engine, target.level, now),
+            user: target.user,
             salt,
         };
         let text = write_body_of(&mut self.users, &envelope, front, bindings)?;

@@ -8,7 +8,7 @@ ghost use Rattle.snmp_msg.specs.Variables.{CanBeWritten, variable_of};
 
 use engine_clock::{Clocks, EngineId};
 use snmp_ber::Level;
-use snmp_manager::{Manager, Outcome, Pending, answer_of};
+use snmp_manager::{Manager, Outcome, Pending, Target, answer_of};
 use snmp_msg::{Binding, Pdu, Refusal, RefusedAt, VariableBinding};
 use snmp_outgoing::{Body, Front};
 use std::alloc::{AllocError, Global};
@@ -331,9 +331,12 @@ fn asked_in_octets(
         second: pdu.second,
         third: pdu.third,
     };
-    manager.request_of(
-        said.now, said.id, engine, said.user, said.level, &front, bindings, said.salt,
-    )
+    let target = Target {
+        engine,
+        user: said.user,
+        level: said.level,
+    };
+    manager.request_of(said.now, said.id, &target, &front, bindings, said.salt)
 }
 
 /// The engine that a request is for.

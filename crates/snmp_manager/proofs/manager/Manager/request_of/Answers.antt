@@ -17,7 +17,7 @@ returns-in_err-of-clause-memory g c =
 
 pub returns-clause-accepted : goal.returns-clause-accepted
 returns-clause-accepted g c =
-    let s : Speech = request (mark_at c.self.inside.clocks c.args.engine.now) c.args.now c.args.id c.args.engine.now c.args.user.now c.args.level c.args.front.now (map g.B.Spelled.says c.args.bindings.now) c.args.salt in
+    let s : Speech = request (mark_at c.self.inside.clocks c.args.target.now.engine.now) c.args.now c.args.id c.args.target.now.engine.now c.args.target.now.user.now c.args.target.now.level c.args.front.now (map g.B.Spelled.says c.args.bindings.now) c.args.salt in
     let seals : Seals c.self.inside.users.users (spoken s) (Ok c.in_ok-text.text.items) = rw (c.is_confirmed.ensures, c.as_slice.ensures.value, c.written_pair.ensures.pair) at c.in_ok-text.ensures.rows in
     let spelled = c.in_ok-text.ensures.spelled in
     let is_pair : IsPair c.written_pair.result = search rules in
@@ -33,5 +33,5 @@ returns-clause-accepted g c =
       bindings = spelled.fit;
       list = spelled.list_is;
     } in
-    subst (λ (h : Held). IsAcceptedByAgents h.users (request (mark_at h.clocks c.args.engine.now) c.args.now c.args.id c.args.engine.now c.args.user.now c.args.level c.args.front.now (map g.B.Spelled.says c.args.bindings.now) c.args.salt) c.in_ok-text.text.items)
+    subst (λ (h : Held). IsAcceptedByAgents h.users (request (mark_at h.clocks c.args.target.now.engine.now) c.args.now c.args.id c.args.target.now.engine.now c.args.target.now.user.now c.args.target.now.level c.args.front.now (map g.B.Spelled.says c.args.bindings.now) c.args.salt) c.in_ok-text.text.items)
     c.self.view_is (by_agents c.spoken_is_accepted.ensures c.self.inside.users.users s c.in_ok-text.text.items fits seals)
