@@ -1,7 +1,7 @@
 -- What `snmpsec datagrams`, `show --from` and `open --from` do with a capture.
 --
 -- `Tells P ports name streams status`, `TellsNot`. What `datagrams` has read and written where it ends,
--- with P for the line of a datagram: the log of the capture (`IsLogOf`), what is told and the line of
+-- with P for the line of a datagram: the log of the capture (`IsLogOf`), what is reported and the line of
 -- counts; or the log as far as it is one, and the line for the first octet that isn't. And where it stops
 -- with a fault: within the capture, or a front of that last line is written. `AskPorts`: the ports that
 -- words ask for.
@@ -125,7 +125,7 @@ LosesLine old new line unread.CannotRead = ⊥
 LosesLine old new line unread.CannotWrite = WritesFront old new line
 LosesLine old new line unread.OutOfMemory = Keeps old new
 
--- the line for what was passed over is told, or isn't
+-- the line for what was passed over is written, or isn't
 abbrev pub TellsPassed : Counts → Option (List ℕ) → Option (List ℕ) → Type 0
 TellsPassed c old new = (line : List ℕ) × IsPassedLine c line × Appends old new line
 

@@ -20,7 +20,7 @@ PrintsAll P n moment (octets ∷ others) text refused =
     × PrintsAll P (n + 1) moment others later tell
     × (text ≡ first ++ later) × (refused ≡ (tells || tell))
 
--- nothing is told beside, and the status is 1 where a refusal is told
+-- nothing is reported beside, and the status is 1 where a refusal is printed
 abbrev pub PrintsDumps : Printing → ℕ → List (List ℕ) → List ℕ → List ℕ → ℕ → Type 0
 PrintsDumps P moment dumps text note status = (refused : Bool) × PrintsAll P 1 moment dumps text refused × (note ≡ [])
     × (status ≡ status_of refused)
@@ -45,7 +45,7 @@ fault_line fault.OutOfMemory = 1
 abbrev pub refused_row : List ℕ → ℕ → List ℕ
 refused_row name line = codes "refused datagrams " ++ (name ++ (codes " line " ++ (decimal line ++ codes "\n")))
 
--- what is told beside that
+-- what is reported beside that
 abbrev pub dump_note : DumpFault → List ℕ
 dump_note fault.NoDump = codes
     "snmpsec: no line has the offset 0 and an octet after it; --form hex reads hex without offsets\n"
@@ -69,13 +69,13 @@ IsOfText (fault.NotBegun line) = ⊤
 IsOfText (fault.OtherCount line) = ⊤
 IsOfText fault.OutOfMemory = ⊥
 
--- The text is refused by the line at which it is no dump, with status 1, and the reason is told beside.
+-- The text is refused by the line at which it is no dump, with status 1, and the reason is reported beside.
 abbrev pub IsRefusedDump : List ℕ → List ℕ → List ℕ → List ℕ → ℕ → Type 0
 IsRefusedDump name text line note status =
     (why : DumpFault) × IsUnread text why × IsOfText why × (line ≡ refused_row name (fault_line why))
     × (note ≡ dump_note why) × (status ≡ 1)
 
--- what is printed of a text of dumps, what is told beside, and the status: that of the octets of each dump,
+-- what is printed of a text of dumps, what is reported beside, and the status: that of the octets of each dump,
 -- in their order, or of the refusal alone
 abbrev pub IsDumpsOf : Printing → TextForm → ℕ → List ℕ → List ℕ → List ℕ → List ℕ → ℕ → Type 0
 IsDumpsOf P form moment name text line note status =

@@ -5,8 +5,8 @@ use Rattle.capture_files.specs.Packets.{ComeTo}
 use Rattle.capture_files.specs.Tally.{Counts}
 use Rattle.capture_datagrams.specs.Datagrams.{IsPassedLine, status_of}
 
--- What is printed of packets that were received at this moment, what is told beside, and the status: they
--- come to what records of a capture do, and behind what is told of them by their numbers stands the line for
+-- What is printed of packets that were received at this moment, what is reported beside, and the status: they
+-- come to what records of a capture do, and after what is reported of them by their numbers comes the line for
 -- what was passed over.
 pub record PrintsPackets (P : Printing) (ports : List ℕ) (moment : ℕ) (packets : List (List ℕ)) (text note : List ℕ)
     (status : ℕ) : Type 0 where

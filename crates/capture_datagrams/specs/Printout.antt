@@ -5,7 +5,7 @@
 -- --from`: P is `PrintsShown`, `PrintsAnyVersion` (`show --community`) or `PrintsOpened`, a line `datagram N
 -- MOMENT` and after it what the command prints of the datagram, with names if they are asked for. The refusal of
 -- a configuration stands alone.
-use Rattle.std.specs.Prelude.{◌≡◌, ◌⊎◌, ⊤, ℕ, ◌==◌, not, Bool, true, false, List, ◌++◌, codes, decimal, Option}
+use Rattle.std.specs.Prelude.{◌≡◌, ◌⊎◌, ⊤, ℕ, ◌==◌, not, Bool, List, ◌++◌, codes, decimal, Option}
 use Rattle.std.specs.Io.KnownBytes.{Appends, Keeps}
 use Rattle.snmpsec_io.specs.Transfer.{WritesFront}
 use Rattle.usm_users.specs.User.{User}

@@ -39,7 +39,7 @@ IsPlainText Dump text = ⊥
 IsPlainText (Packets ports) text = ⊥
 IsPlainText Found text = HasNoDump text
 
--- what is printed of a text that is read so, what is told beside, and the status
+-- what is printed of a text that is read so, what is reported beside it, and the status
 abbrev pub IsTextOf : Printing → TextForm → ℕ → List ℕ → List ℕ → List ℕ → List ℕ → ℕ → Type 0
 IsTextOf P form moment name text line note status =
     (IsDumpText form text × IsDumpsOf P form moment name text line note status)
@@ -60,7 +60,7 @@ pub record IsText (P : Printing) (form : TextForm) (moment : ℕ) (name : List �
 abbrev pub WritesBoth : Streams → List ℕ → List ℕ → Type 0
 WritesBoth s line note = Appends s.held s.written line × Appends s.untold s.told note
 
--- what is printed is written but for an end, or what is told beside
+-- what is printed is written but for an end, or what is reported beside it
 abbrev pub WritesPart : Streams → List ℕ → List ℕ → Type 0
 WritesPart s line note = (WritesFront s.held s.written line × Keeps s.untold s.told)
     ⊎ (Appends s.held s.written line × WritesFront s.untold s.told note)

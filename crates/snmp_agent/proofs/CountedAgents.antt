@@ -50,7 +50,7 @@ some_answer : (o : Option Refusal) → o ≢ None → IsSome (refused {X = Given
 some_answer None other = absurd (other refl)
 some_answer (Some n) other = refl
 
--- a refusal that isn't want of memory is an answer
+-- a refusal that isn't OutOfMemory is an answer
 pub answer_some : (r : Refusal) → in_table r ≢ None → IsSome (refusal_answer {X = Given} r)
 answer_some r other = some_answer (in_table r) other
 

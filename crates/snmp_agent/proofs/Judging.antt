@@ -21,7 +21,7 @@ not_both b P h e p = let wrong : true ≡ false = sym (h.1 p) ∙ e in cc wrong
 pub inside : (own q : BootsAndTime) (v : Verified) → own ≡ q → (v.parts.header.auth ≡ true → InAgentWindow own (pair_in v)) → v.parts.header.auth ≡ true → InAgentWindow q (pair_in v)
 inside own q v same fresh auth = subst (λ (p : BootsAndTime). InAgentWindow p (pair_in v)) same (fresh auth)
 
--- a refusal of the layout has no counter, and is no want of memory
+-- a refusal of the layout has no counter, and isn't OutOfMemory
 pub uncounted : (r : Refusal) → IsOfLayout r → counter_of r ≡ None
 uncounted NotMessage of = refl
 uncounted BadVersion of = refl

@@ -1,7 +1,6 @@
 -- Messages that ask for reports.
 use Rattle.std.proofs.Common.{◌≡◌, ℕ, List, true, false, sym, ap, subst, ◌∙◌}
 use Rattle.snmp_message.specs.Layout.{Parts, Outer}
-use Rattle.snmp_message.specs.Security.{Fields, SecText}
 use Rattle.snmp_message.specs.Scoped.{Contexts, HasScoped}
 use Rattle.snmp_msg.specs.Pdu.{PduParts, PduText}
 use Rattle.snmp_msg.specs.PduTypes.{is_confirmed}

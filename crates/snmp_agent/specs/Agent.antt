@@ -1,7 +1,7 @@
 -- An agent, and what its taking of a datagram answers and leaves.
 --
 -- `AgentTakes`. What a take answers and leaves: the table's answer, one more in the counter of a refusal
--- that has one, modulo 2^32, and nothing else changed; for want of memory no answer, and all as before.
+-- that has one, modulo 2^32, and nothing else changed; if memory runs out no answer, and all as before.
 -- `IsOpened`: the message comes as far as its opening and is sealed, the one case in which a take needs
 -- memory besides a report.
 use Rattle.usm_core.specs.Table.{refusal_answer}
@@ -35,12 +35,12 @@ taker_of a = as_agent a.engine a.boots a.started
 abbrev pub taker_at : Engine → Taker
 taker_at e = as_agent e.id e.boots e.started
 
--- the answer to a datagram; None for want of memory, which is no answer of the table
+-- the answer to a datagram; None if memory ran out, which is no answer of the table
 abbrev pub taken_answer : Result Taken Refused → Option (Result Given Refusal)
 taken_answer (Ok t) = Some (Ok (given_of t))
 taken_answer (Err r) = refusal_answer r.why.refusal
 
--- The answer is the table's, and nothing but the counter of the refusal changes. For want of memory there is
+-- The answer is the table's, and nothing but the counter of the refusal changes. If memory runs out there is
 -- no answer, and all is as before.
 abbrev pub AgentTakes : AgentState → ℕ → List ℕ → Option (Result Given Refusal) → AgentState → Type 0
 AgentTakes old now w None new = new ≡ old

@@ -91,7 +91,7 @@ Refuses old now g p why salt
     × SendsRefusal old now g p counter salt (Err refusal))
     × (new ≡ old)
 
--- what the call answers; None for want of memory
+-- what the call answers; None if memory ran out
 abbrev pub refusing_answer : Result (Option (Vec ℕ)) RefusedAt → Option (Result (Option (List ℕ)) Refusal)
 refusing_answer (Ok text) = Some (Ok (report_of text))
 refusing_answer (Err e) = refusal_answer e.refusal

@@ -215,8 +215,8 @@ impl Agent {
 
     /// Whether a request by name may see each variable that it names, in their order: a GetRequest by the
     /// read view, and a SetRequest by the write view. The names that another PDU asks for are known only as
-    /// they are answered: for them there is `allows`, and no memory is taken here. The error is want of
-    /// memory.
+    /// they are answered: for them there is `allows`, and no memory is taken here. The error says
+    /// that memory ran out.
     pub fn decide(&self, taken: &Taken<'_>) -> Result<Decision, AllocError>
         ensures decision { IfOk result
             (λ d. (c : Contexts) (p : PduParts) → ScopedFront (text_of taken.now.text) c
@@ -275,7 +275,7 @@ impl Agent {
             (given_of taken.now) c p status index
             (map variable_of bindings.now) salt)) }
 
-        // The refusals before the text come before want of memory.
+        // The refusals before the text come before OutOfMemory.
         ensures memory { (c : Contexts) (p : PduParts)
             → ScopedFront (text_of taken.now.text) c → PduText c.pdu p
             → IsRefused result OutOfMemory
@@ -367,7 +367,7 @@ impl Agent {
             (front_in body.now)
             (variables_in body.now) salt)) }
 
-        // The refusals before the text come before want of memory.
+        // The refusals before the text come before OutOfMemory.
         ensures memory { IsRefused result OutOfMemory
             → CanBeSent self.old now
             (λ own. notifying self.old.engine own id user.now level (front_in body.now)

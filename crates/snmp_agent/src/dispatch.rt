@@ -103,7 +103,7 @@ impl Agent {
             → IfSome (refusing_answer result)
             (λ answer. Refuses self.old now (given_of taken.now) p why salt answer self.new) }
 
-        // There is a report, and the refusals before its text come before want of memory.
+        // There is a report, and the refusals before its text come before OutOfMemory.
         ensures memory { (c : Contexts) (p : PduParts)
             → ScopedFront (text_of taken.now.text) c → PduText c.pdu p
             → IsRefused result OutOfMemory
@@ -182,7 +182,7 @@ impl Agent {
             (λ own. responding self.old.engine own (given_of taken.now) c p status index
             (map variable_of bindings.now) salt))) }
 
-        // The refusals before the text come before want of memory.
+        // The refusals before the text come before OutOfMemory.
         ensures memory { (c : Contexts) (p : PduParts)
             → ScopedFront (text_of taken.now.text) c → PduText c.pdu p
             → IsRefused result OutOfMemory
@@ -190,7 +190,7 @@ impl Agent {
             (λ own. responding self.old.engine own (given_of taken.now) c p status index
             (map variable_of bindings.now) salt) }
 
-        // What is too long is told before memory is asked for.
+        // What is too long is refused before memory is asked for.
         ensures counted { (c : Contexts) (p : PduParts)
             → ScopedFront (text_of taken.now.text) c → PduText c.pdu p
             → IsRefused result OutOfMemory
@@ -235,7 +235,7 @@ impl Agent {
             (λ own. responding self.old.engine own (given_of taken.now) c p status index
             (map B.says bindings.now) salt) }
 
-        // What is too long is told before memory is asked for.
+        // What is too long is refused before memory is asked for.
         ensures counted { (c : Contexts) (p : PduParts)
             → ScopedFront (text_of taken.now.text) c → PduText c.pdu p
             → IsRefused result OutOfMemory

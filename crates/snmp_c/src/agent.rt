@@ -24,8 +24,8 @@ const _: () = prove!(align_of::<AgentHandle>() <= 16);
 /// nothing is written. That the pointer is written where it answers 0 is trusted, and tested from C.
 ///
 /// It answers -1 where the engine ID hasn't 5 to 32 octets, or has only 0 or only 255 (SnmpEngineID, RFC
-/// 3411, section 5), or boots are above 2147483647, -6 where the configuration is refused, and 14 for want of
-/// memory.
+/// 3411, section 5), or boots are above 2147483647, -6 where the configuration is refused, and 14 if memory
+/// runs out.
 #[unsafe(no_mangle)]
 pub extern "C" fn proved_agent_new(
     alloc: Global,

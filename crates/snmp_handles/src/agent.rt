@@ -325,8 +325,8 @@ impl AgentHandle {
     /// to be sent. On an error nothing changes.
     ///
     /// The errors are, the first that applies: BadArgument, where a number of `to` is out of its range or the
-    /// name is longer than 32 octets; those of `Agent::supports`; then BadBindings, TooLarge (16), or want of
-    /// memory, whichever is met first.
+    /// name is longer than 32 octets; those of `Agent::supports`; then BadBindings, TooLarge (16), or
+    /// OutOfMemory (14), whichever is met first.
     pub fn notify(
         &mut self,
         now: u64,

@@ -157,7 +157,7 @@ abbrev pub StepsAll : WorldState → List Event → WorldState → Type 0
 StepsAll old [] new = new ≡ old
 StepsAll old (event ∷ events) new = (mid : WorldState) × Steps old event mid × StepsAll mid events new
 
--- The event that stands behind those that counted is refused by the world that they left, for this reason.
+-- The event after those that counted is refused by the world that they left, for this reason.
 pub record StopsAt (events : List Event) (world : WorldState) (stopped : WorldStopped) : Type 0 where
   pub event : Event
   pub next : slice_get events stopped.done ≡ Some event

@@ -27,8 +27,8 @@ pub fn same_authentic_same_latest()
 
 /// Two managers that begin with the same users and the same pairs, and take lists with the same authentic
 /// datagrams, in any order, at any moments, with any repeats and any other octets between, hold the same pair
-/// of each engine. A datagram is taken by `take`, `take_one` or `run` wherever the answer isn't want of
-/// memory.
+/// of each engine. A datagram is taken by `take`, `take_one` or `run` wherever memory doesn't run
+/// out.
 pub fn same_authentic_same_pairs()
     ensures { (a b a_after b_after : Held) (xs ys : List (ℕ × List ℕ)) → BeginAlike a b
         → HaveSameAuthentic a.users (octets_of xs) (octets_of ys)

@@ -175,8 +175,8 @@ impl Manager {
         kept
     }
 
-    /// Takes a datagram at the moment `now`, and tells what it was answered. On an error, which is want of
-    /// memory, all is as before. It takes memory where `take` does.
+    /// Takes a datagram at the moment `now`, and tells what it was answered. On an error, which says that
+    /// memory ran out, all is as before. It takes memory where `take` does.
     pub fn take_one(&mut self, now: u64, datagram: &[u8]) -> Result<Outcome, AllocError>
         ensures outcome { IfOk result (λ outcome. TakesOne self.old
             now datagram.now outcome self.new) }

@@ -41,7 +41,7 @@ pub fn sealed_is_accepted()
     one_answer();
 }
 
-/// The same of each message that is spoken: it is for whoever allows its engine and has its user.
+/// The same of each message that is spoken: each receiver that allows its engine and has its user accepts it.
 pub fn spoken_is_accepted()
     ensures { (taker : Taker) (senders users : List User) (now : ℕ) (s : Speech) (text : List ℕ)
         → SpeechFits s → AllowsEngine (side_at taker) s.engine

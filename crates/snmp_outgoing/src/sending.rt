@@ -54,7 +54,7 @@ pub fn write_body(
     ensures rows { IfSome (seal_answer result)
         (Seals users.old.users (sent envelope.now body.now)) }
 
-    // The refusals before the text come before want of memory.
+    // The refusals before the text come before OutOfMemory.
     ensures memory { IsRefused result OutOfMemory
         → IsSealable users.old.users (sent envelope.now body.now) }
 
@@ -142,7 +142,7 @@ pub fn write_within<B: Spelled>(
         → IsSealable users.old.users (sent_with envelope.now
         (scoped_after front.now (map B.says bindings.now))) }
 
-    // What is too long is told before memory is asked for.
+    // What is too long is refused before memory is asked for.
     ensures counted { IsRefused result OutOfMemory
         → IsBeyond users.old.users (room limit)
         (sent_with envelope.now (scoped_after front.now (map B.says bindings.now))) → ⊥ }

@@ -2,7 +2,7 @@
 use Rattle.usm_core.specs.Table.{refused, refusal_answer}
 use Rattle.snmp_message.specs.declared.refusal.Refusal.TheVariants.{DecryptionError, OutOfMemory}
 use Rattle.snmp_message.specs.declared.refusal.Refusal.{Refusal}
-use Rattle.std.proofs.Common.{◌≡◌, ℕ, Bool, List, refl, Option, Some, None, sym, subst}
+use Rattle.std.proofs.Common.{ℕ, Bool, List, refl, Option, Some, None, sym, subst}
 use Rattle.std.specs.Prelude.{◌≢◌, Result, Ok, Err, IfOk, IfSome, IsSomeAnd}
 use Rattle.usm_users.specs.User.{User}
 use Rattle.usm_core.specs.Table.{holds, fails, gives, refuses}

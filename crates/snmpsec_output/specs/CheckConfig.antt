@@ -31,7 +31,7 @@ pub record Counts (config : List ℕ) (printed : Printed) : Type 0 where
   pub err : printed.err ≡ []
   pub status : printed.status ≡ 0
 
--- The refusal of the configuration is told, and beside it what is wrong and what is wanted.
+-- The refusal of the configuration is printed, and beside it what is wrong and what is wanted.
 pub record Explains (config : List ℕ) (printed : Printed) : Type 0 where
   pub fault : ConfigFault
   pub told : RefusesText config fault

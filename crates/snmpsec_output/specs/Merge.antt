@@ -18,7 +18,7 @@ texts_of files = map (λ file. file.1) files
 abbrev pub refused_line : List ℕ → ℕ → List ℕ
 refused_line name n = codes "refused clocks " ++ (name ++ (codes " line " ++ (decimal n ++ codes "\n")))
 
--- what is printed for a fault; for want of memory nothing is
+-- what is printed for a fault; if memory runs out nothing is
 abbrev pub TellsFault : List ℕ → ClockFault → Printed → Type 0
 TellsFault name (clock_faults.Line n) printed = (printed.out ≡ refused_line name n) × (printed.err ≡ [])
     × (printed.status ≡ 1)
@@ -31,7 +31,7 @@ pub record Merges (moment : ℕ) (files : List NamedText) (printed : Printed) : 
   pub err : printed.err ≡ []
   pub status : printed.status ≡ 0
 
--- The files up to one are saved clocks, that one is none, and its first fault is told.
+-- The files up to one are saved clocks, that one is none, and its first fault is printed.
 pub record RefusesFile (moment : ℕ) (files : List NamedText) (printed : Printed) : Type 0 where
   pub before : List NamedText
   pub file : NamedText
@@ -45,6 +45,6 @@ pub record RefusesFile (moment : ℕ) (files : List NamedText) (printed : Printe
   pub err : printed.err ≡ []
   pub status : printed.status ≡ 1
 
--- The files are merged, or the first that is no saved text is told.
+-- The files are merged, or the first that is no saved text is refused.
 abbrev pub MergeAnswers : ℕ → List NamedText → Printed → Type 0
 MergeAnswers moment files printed = Merges moment files printed ⊎ RefusesFile moment files printed

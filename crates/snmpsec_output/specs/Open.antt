@@ -20,7 +20,7 @@ pub record Opened (names : Bool) (users : List User) (w : List ℕ) (printed : P
   pub err : printed.err ≡ []
   pub status : printed.status ≡ 0
 
--- The refusal of the message is told, at whatever place of it.
+-- The refusal of the message is printed, with any place.
 pub record RefusesOpening (users : List User) (w : List ℕ) (printed : Printed) : Type 0 where
   pub told : RefusedAt
   pub cause : Opens users w (Err told.refusal)
@@ -42,6 +42,6 @@ pub record OpensWord (names : Bool) (config digits : List ℕ) (printed : Printe
   pub decoded : decode_of digits ≡ Ok datagram
   pub told : TellsRefused config printed ⊎ OpensFrom names config datagram printed
 
--- A word out of its form is told first, then a configuration that is refused.
+-- A word out of its form is reported first, then a configuration that is refused.
 abbrev pub OpensText : Bool → List ℕ → List ℕ → Printed → Type 0
 OpensText names config digits printed = TellsNoHex digits printed ⊎ OpensWord names config digits printed

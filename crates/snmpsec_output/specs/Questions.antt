@@ -106,7 +106,7 @@ pub record Answers (rows : Tables) (asked : Asked) (printed : Printed) : Type 0 
   pub err : printed.err ≡ []
   pub status : printed.status ≡ access_status answer
 
--- The first word out of its form is told.
+-- The first word out of its form is reported.
 pub record TellsWord (words : List (List ℕ)) (printed : Printed) : Type 0 where
   pub argument : Argument
   pub first : IsFirstWrong words argument
@@ -114,7 +114,7 @@ pub record TellsWord (words : List (List ℕ)) (printed : Printed) : Type 0 wher
   pub err : printed.err ≡ codes "snmpsec: " ++ ((codes "bad word " ++ argument_name argument) ++ codes "\n")
   pub status : printed.status ≡ 2
 
--- The refusal of the configuration is told.
+-- The refusal of the configuration is printed.
 pub record TellsRefused (config : List ℕ) (printed : Printed) : Type 0 where
   pub fault : ConfigFault
   pub told : RefusesText config fault
@@ -128,7 +128,7 @@ abbrev pub AnswersFrom : (Tables → Asked → Printed → Type 0) → List ℕ 
 AnswersFrom Tells config asked printed = (users : List UserRow) × (rows : Tables) × SaysSound config users rows
     × Tells rows asked printed
 
--- A word out of its form is told first, then a configuration that is refused, and else the question is answered.
+-- A word out of its form is reported first, then a configuration that is refused, and else the question is answered.
 abbrev pub AnswersAs : (Tables → Asked → Printed → Type 0) → List ℕ → List (List ℕ) → Printed → Type 0
 AnswersAs Tells config words printed =
     TellsWord words printed

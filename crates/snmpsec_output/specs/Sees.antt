@@ -1,6 +1,6 @@
 -- What `snmpsec sees` prints.
 --
--- `PrintsSeen config word name printed`. A MODEL out of its form is told first (`TellsModel`), then a
+-- `PrintsSeen config word name printed`. A MODEL out of its form is reported first (`TellsModel`), then a
 -- configuration that is refused with what is wrong with it, and else what the name sees (`ListsSeen`).
 use Rattle.std.specs.Prelude.{◌≡◌, ◌⊎◌, ℕ, Bool, if◌then◌else◌, List, [], codes}
 use Rattle.usm_users.specs.declared.load.UserRow.{UserRow}
@@ -10,7 +10,7 @@ use Rattle.snmpsec_access.specs.Seen.{TellsSeen}
 use Rattle.snmpsec_output.specs.CheckConfig.{Explains}
 use Rattle.snmpsec_output.specs.Questions.{Printed, IsModelWord, IsNoModel}
 
--- The word MODEL is told, which is out of its form.
+-- The word MODEL, which is out of its form, is reported.
 pub record TellsModel (word : List ℕ) (printed : Printed) : Type 0 where
   pub wrong : IsNoModel word
   pub out : printed.out ≡ []
@@ -28,7 +28,7 @@ pub record ListsSeen (config : List ℕ) (model : ℕ) (name : List ℕ) (printe
   pub err : printed.err ≡ []
   pub status : printed.status ≡ (if included then 0 else 1)
 
--- A word out of its form is told first, then a configuration that is refused and what is wrong with it, and
+-- A word out of its form is reported first, then a configuration that is refused and what is wrong with it, and
 -- else what the name sees.
 abbrev pub PrintsSeen : List ℕ → List ℕ → List ℕ → Printed → Type 0
 PrintsSeen config word name printed =

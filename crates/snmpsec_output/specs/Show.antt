@@ -69,7 +69,7 @@ pub record Shown (names : Bool) (w : List ℕ) (printed : Printed) : Type 0 wher
   pub err : printed.err ≡ []
   pub status : printed.status ≡ 0
 
--- Why the datagram isn't shown is told, and this isn't out of memory.
+-- The refusal of the datagram is printed, and it isn't OutOfMemory.
 pub record TellsRefusal (w : List ℕ) (printed : Printed) : Type 0 where
   pub told : RefusedAt
   pub cause : RefusesShow w told.refusal
@@ -78,23 +78,23 @@ pub record TellsRefusal (w : List ℕ) (printed : Printed) : Type 0 where
   pub err : printed.err ≡ []
   pub status : printed.status ≡ 1
 
--- The word is told.
+-- The word is reported.
 pub record TellsNoHex (digits : List ℕ) (printed : Printed) : Type 0 where
   pub none : IsNoHex digits
   pub out : printed.out ≡ []
   pub err : printed.err ≡ codes "snmpsec: " ++ (codes "bad word HEX" ++ codes "\n")
   pub status : printed.status ≡ 2
 
--- The datagram is shown, or why it isn't is told.
+-- The datagram is shown, or its refusal is printed.
 abbrev pub ShowsDatagram : Bool → List ℕ → Printed → Type 0
 ShowsDatagram names w printed = Shown names w printed ⊎ TellsRefusal w printed
 
--- The datagram that the word's digits write is shown, or why it isn't is told.
+-- The datagram that the word's digits write is shown, or its refusal is printed.
 pub record ShowsWord (names : Bool) (digits : List ℕ) (printed : Printed) : Type 0 where
   pub datagram : List ℕ
   pub decoded : decode_of digits ≡ Ok datagram
   pub told : ShowsDatagram names datagram printed
 
--- A word out of its form is told first.
+-- A word out of its form is reported first.
 abbrev pub ShowsText : Bool → List ℕ → Printed → Type 0
 ShowsText names digits printed = TellsNoHex digits printed ⊎ ShowsWord names digits printed

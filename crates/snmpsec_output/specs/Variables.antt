@@ -39,7 +39,7 @@ TellsNumber at part (faults.TooMany count) = ⊥
 
 -- ---- the word
 
--- The parts before one are numbers, and of that one this fault is told.
+-- The parts before one are numbers, and that one has this fault.
 pub record TellsPart (word : List ℕ) (fault : VariableFault) : Type 0 where
   pub place : ℕ
   pub part : List ℕ

@@ -1,6 +1,6 @@
 -- What `snmpsec who-sees` prints.
 --
--- `PrintsWho config words only printed`. A word out of its form is told first (`IsFirstWrong`), then a
+-- `PrintsWho config words only printed`. A word out of its form is reported first (`IsFirstWrong`), then a
 -- configuration that is refused with what is wrong with it, and else who sees the variable (`Lists`), for
 -- the view that is asked for or for each (`views_of`).
 use Rattle.std.specs.Prelude.{◌≡◌, ◌⊎◌, ⊤, ℕ, Bool, List, [], ◌∷◌, ◌++◌, codes, Option, Some, None, IsSomeAnd}
@@ -48,7 +48,7 @@ IsFirstWrong words View = ((arcs : List ℕ) × AreArcs arcs × (words.variable 
 IsFirstWrong words Model = ⊥
 IsFirstWrong words LevelWord = ⊥
 
--- The first word out of its form is told.
+-- The first word out of its form is reported.
 pub record TellsWord (words : WhoWords) (printed : Printed) : Type 0 where
   pub argument : Argument
   pub first : IsFirstWrong words argument
@@ -71,7 +71,7 @@ pub record Lists (config : List ℕ) (only_users : Bool) (variable : List ℕ) (
   pub err : printed.err ≡ []
   pub status : printed.status ≡ line_status printed.out
 
--- A word out of its form is told first, then a configuration that is refused and what is wrong with it, and
+-- A word out of its form is reported first, then a configuration that is refused and what is wrong with it, and
 -- else who sees the variable.
 abbrev pub PrintsWho : List ℕ → WhoWords → Bool → Printed → Type 0
 PrintsWho config words only_users printed =

@@ -33,7 +33,7 @@ pub fn cut_message(datagram: &[u8]) -> Option<CutMessage>
     }
 }
 
-/// How many octets stand behind the first octet of a length, by the definite form of at most four octets more
+/// How many octets come after the first octet of a length, by the definite form of at most four octets more
 /// (X.690, section 8.1.3).
 fn content_len(first: u8, rest: &[u8]) -> Option<usize> {
     if first < 0x80 {

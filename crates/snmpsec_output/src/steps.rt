@@ -64,8 +64,8 @@ fn put_group(alloc: Global, out: &mut Vec<u8>, group: &Option<GroupStep>) -> Res
 }
 
 /// Appends what decides, as far as it comes: the lines `context POSITION`, `group POSITION NAME`, `access
-/// POSITION`, `view NAME` and `family POSITION`. A name is written as its octets stand. The error is want of
-/// memory.
+/// POSITION`, `view NAME` and `family POSITION`. A name is written as its octets stand. The error says that
+/// memory ran out.
 pub(crate) fn put_steps(
     alloc: Global,
     out: &mut Vec<u8>,

@@ -87,7 +87,7 @@ fn joined(rt: &impl Abort, alloc: Global) -> Result<Clocks, AllocError> {
     Ok(clocks)
 }
 
-// Run by `tools/refuse-memory`, this shows that a refused growth is answered as want of memory, that
+// Run by `tools/refuse-memory`, this shows that a refused growth is answered as out of memory, that
 // it changes nothing, and that the same call succeeds afterwards.
 #[test]
 fn a_refused_growth_changes_no_clocks(rt: HostRuntime) -> Result<(), Fail> {

@@ -1,4 +1,4 @@
-use Rattle.std.proofs.Common.{◌≡◌, ◌≤◌, ◌<◌, ℕ, length, refl, sym, subst, arith, rules}
+use Rattle.std.proofs.Common.{◌≡◌, ℕ, length, refl, sym, subst, arith, rules}
 use Rattle.std.specs.Prelude.{map, IfSome}
 use Rattle.usm_core.specs.Answers.{seal_answer}
 use Rattle.usm_core.specs.Sealed.{SendingFits, Seals, IsSealable}

@@ -1,5 +1,4 @@
-use Rattle.std.proofs.Common.{rules, ◌≡◌, ◌++◌, ℕ, List, refl, ◌∙◌, ap, sym, append_assoc}
-use Rattle.std.specs.Prelude.{string_bytes}
+use Rattle.std.proofs.Common.{rules, ◌≡◌, ◌++◌, refl, ◌∙◌, ap, sym, append_assoc}
 use Rattle.std.specs.List.{flat_map}
 use Rattle.snmp_msg.specs.Variables.{variable_of, bindings_left}
 use Rattle.snmpsec_output.specs.Lines.{binding_line}
