@@ -1,5 +1,6 @@
 pub mod Merges
 pub mod Shows
+pub mod Communities
 pub mod Checks
 pub mod Opens
 pub mod Whos

@@ -52,7 +52,7 @@ pub record ShowsCommunity (names : Bool) (w text : List ℕ) : Type 0 where
 abbrev pub RefusesCommunity : List ℕ → RefusedAt → Type 0
 RefusesCommunity w refused =
     ((OtherVersion w → ⊥) × ((at : ℕ) × FaultsAt w at
-    × (refused ≡ record { refusal = refusals.NotMessage; at = Some at })))
+    × (refused.refusal ≡ refusals.NotMessage) × (refused.at ≡ Some at)))
     ⊎ ((m : Parts) × IsMessage w m × RefusesPdu m.pdu refused.refusal)
 
 -- The lines of a message with a community are printed.

@@ -95,10 +95,12 @@ pub fn show_any_version(alloc: Global, names: bool, datagram: &[u8]) -> Result<O
 {
     let message = match read_community_message(datagram) {
         Ok(message) => message,
-        Err(refused) if refused.refusal == Refusal::BadVersion => {
-            return show_datagram(alloc, names, datagram);
+        Err(refused) => {
+            return match refused.refusal {
+                Refusal::BadVersion => show_datagram(alloc, names, datagram),
+                _ => refused_output(alloc, refused, datagram),
+            };
         }
-        Err(refused) => return refused_output(alloc, refused, datagram),
     };
     match community_text(alloc, names, datagram, &message) {
         Ok(text) => Ok(Output::out(alloc, text.into_bytes(), 0)),
