@@ -1,0 +1,6 @@
+use Rattle.std.proofs.Common.{◌≤◌, IfSome}
+use Rattle.vacm_next.proofs.Arcs.{NoneCompares}
+use Rattle.vacm_next.proofs.arc.arc_after.Given as goal
+
+abbrev pub invariant-loop-place : goal.invariant-loop-place
+invariant-loop-place l = NoneCompares l.rows l.beginning l.arc l.least l.place × IfSome l.least (λ other. l.arc ≤ other)
