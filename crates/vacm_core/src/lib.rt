@@ -64,6 +64,7 @@ mod row;
 mod rows;
 mod steps;
 mod table;
+mod under;
 mod vacm;
 mod view;
 mod view_rows;

@@ -1,12 +1,13 @@
 //! The family rows of one view, and whether they have a variable.
-ghost use Rattle.std.specs.Prelude.{◌≡◌, ◌++◌, ◌↔◌, ◌^◌, ◌<◌, length, get_or, IsTrue};
+ghost use Rattle.std.specs.Prelude.{◌≡◌, ◌++◌, ◌↔◌, ◌^◌, ℕ, ◌<◌, ◌≤◌, length, get_or, IsTrue};
 ghost use Rattle.vacm_core.specs.Allowed.{family_order};
 ghost use Rattle.vacm_core.specs.RowOrder.{AreFalling};
-ghost use Rattle.vacm_core.specs.View.{AreExact, AreDistinct, Includes};
+ghost use Rattle.vacm_core.specs.View.{AreExact, AreDistinct, Includes, IsExact, NoneUnder};
 ghost use Rattle.vacm_core.specs.Wildcard.{wildcard_order};
 ghost use Rattle.vacm_core.specs.declared.rows.FamilyRow.{FamilyRow as Family};
 
 use crate::rows::FamilyRow;
+use crate::under::next_under;
 use crate::view::deciding_row;
 use crate::wildcard::WildcardRow;
 use std::marker::Model;
@@ -66,6 +67,29 @@ impl<'a> ViewRows<'a> {
             &self.exact[place]
         } else {
             self.others[place - self.exact.len()].row()
+        }
+    }
+
+    /// Returns how many rows, from the first place on, compare each of their arcs.
+    pub fn count_exact(&self) -> usize
+        ensures exact { (k : ℕ) (d : Family) → k < result → IsExact (get_or self.now k d) }
+        ensures within { result ≤ length self.now }
+    {
+        self.exact.len()
+    }
+
+    /// Returns the next place, from this one on, at which there may be a row that is longer than the beginning of a
+    /// name and agrees with it. Rows with wildcards are passed over by no search.
+    pub fn next_under(&self, beginning: &[u32], place: usize) -> usize
+        requires { place ≤ length self.now }
+        ensures from_on { place ≤ result }
+        ensures within { result ≤ length self.now }
+        ensures none { NoneUnder self.now beginning.now place result }
+    {
+        if place < self.exact.len() {
+            next_under(self.exact, beginning, place)
+        } else {
+            place
         }
     }
 

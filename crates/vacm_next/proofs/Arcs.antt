@@ -2,12 +2,10 @@
 use Rattle.std.proofs.Common.{◌≡◌, ◌≢◌, ℕ, zero, suc, ◌+◌, ◌^◌, ◌<◌, ◌≤◌, Option, Some, None, MatchOption, List, [], ◌∷◌, ◌++◌, length, get_or, Contains, sym, ap, subst, ◌∙◌, refl, inl, inr, arith}
 use Rattle.std.specs.List.{AllByRecursion}
 use Rattle.std.specs.Option.{SomeIff}
-use Rattle.std.proofs.lemmas.Bool.{cases_lt}
-use Rattle.std.proofs.lemmas.List.{get_or_default}
 use Rattle.vacm_core.specs.declared.rows.FamilyRow.{FamilyRow}
 use Rattle.vacm_core.specs.Allowed.{mask_bit}
-use Rattle.vacm_core.specs.View.{HasArcs}
-use Rattle.vacm_next.specs.Opening.{OpensAt, ComparesNext, IsFree, IsUnder}
+use Rattle.vacm_core.specs.View.{HasArcs, NoneUnder}
+use Rattle.vacm_next.specs.Opening.{OpensAt, ComparesNext, IsFree, IsLowerThan}
 use Rattle.vacm_next.proofs.Order.{which}
 
 -- ---- names that differ in one arc
@@ -89,27 +87,28 @@ arc_below rows w a o = arc_limit (λ arc. arc < 2 ^ 32) w o.rest a o.are_arcs.li
 
 -- the rows before this place compare no arc from this one on that is less than the least so far
 abbrev pub NoneCompares : List FamilyRow → List ℕ → ℕ → Option ℕ → ℕ → Type 0
-NoneCompares rows w arc least place = (k : ℕ) (d : FamilyRow) → k < place → (other : ℕ) → arc ≤ other → IsUnder other least → ¬ ComparesNext w (get_or rows k d) other
+NoneCompares rows w arc least place = (k : ℕ) (d : FamilyRow) → k < place → (other : ℕ) → arc ≤ other → IsLowerThan other least → ¬ ComparesNext w (get_or rows k d) other
 
 module _ (rows : List FamilyRow) (w : List ℕ) (arc : ℕ) where
-  pub all_free : (least : Option ℕ) → NoneCompares rows w arc least (length rows) → (other : ℕ) → arc ≤ other → IsUnder other least → IsFree rows w other
+  pub all_free : (least : Option ℕ) → NoneCompares rows w arc least (length rows) → (other : ℕ) → arc ≤ other → IsLowerThan other least → IsFree rows w other
   all_free least none other from under row there next =
       none there.0 row there.1 other from under (subst (λ (r : FamilyRow). ComparesNext w r other) (sym there.2) next)
 
-  -- a row that compares another arc, or none
-  pub one_more : (least more : Option ℕ) (place : ℕ) (row : FamilyRow) → place < length rows → row ≡ get_or rows place row → ((other : ℕ) → IsUnder other more → IsUnder other least)
-      → ((other : ℕ) → arc ≤ other → IsUnder other more → ¬ ComparesNext w row other) → NoneCompares rows w arc least place → NoneCompares rows w arc more (place + 1)
-  one_more least more place row within at upto not_this none k d before other from under next = elim (cases_lt k place) [
-    | inl lower ↦ none k d lower other from (upto other under) next
-    | inr past ↦
-        let e : k ≡ place = omega arith in
-        not_this other from under
-        (subst (λ (r : FamilyRow). ComparesNext w r other) (ap (λ n. get_or rows n d) e ∙ get_or_default rows place d row within ∙ sym at) next)
+  -- one more row is looked at, and others are passed over that don't agree with the beginning
+  pub one_more : (least more : Option ℕ) (place next : ℕ) (row : FamilyRow) → ((d : FamilyRow) → row ≡ get_or rows place d) → ((other : ℕ) → IsLowerThan other more → IsLowerThan other least)
+      → ((other : ℕ) → arc ≤ other → IsLowerThan other more → ¬ ComparesNext w row other) → NoneUnder rows w (place + 1) next → NoneCompares rows w arc least place → NoneCompares rows w arc more next
+  one_more least more place next row at upto not_this skipped none k d before other from under compares = elim (which k place) [
+    | inl lower ↦ none k d lower other from (upto other under) compares
+    | inr (inl same) ↦ not_this other from under (subst (λ (r : FamilyRow). ComparesNext w r other) (ap (λ n. get_or rows n d) same ∙ sym (at d)) compares)
+    | inr (inr past) ↦ skipped k d (omega (arith, past)) before (record { longer = compares.longer; agrees = compares.agrees })
   ]
+
+  pub none_first : (next : ℕ) → NoneUnder rows w 0 next → NoneCompares rows w arc None next
+  none_first next skipped k d before other from under compares = skipped k d (omega arith) before (record { longer = compares.longer; agrees = compares.agrees })
 
   module _ (place : ℕ) (past : length rows ≤ place) (limit : arc < 2 ^ 32) where
     -- no arc that was passed over opens, unless this one does
-    pub passed : (least : Option ℕ) → NoneCompares rows w arc least place → (other : ℕ) → arc < other → IsUnder arc least → IsUnder other least → OpensAt rows w other → OpensAt rows w arc
+    pub passed : (least : Option ℕ) → NoneCompares rows w arc least place → (other : ℕ) → arc < other → IsLowerThan arc least → IsLowerThan other least → OpensAt rows w other → OpensAt rows w arc
     passed least none other greater under other_under opens =
         let free = all_free least (λ k d within. none k d (omega arith)) in
         alike rows w other arc (free other (omega arith) other_under) (free arc (omega arith) under) limit opens

@@ -3,17 +3,20 @@ use Rattle.std.proofs.Common.{◌≡◌, ◌≢◌, ℕ, zero, suc, ◌+◌, ◌
 use Rattle.std.specs.List.{AllByRecursion, All, range_with_len}
 use Rattle.std.specs.Ordering.{nat_cmp, ordering_then}
 use Rattle.std.specs.Cmp.Lexicographic.{slice_cmp}
-use Rattle.std.specs.declared.cmp.Ordering.TheVariants.{Less, Greater}
+use Rattle.std.specs.declared.cmp.Ordering.TheVariants.{Less, Equal, Greater}
 use Rattle.std.proofs.lemmas.Bool.{cases_lt}
 use Rattle.std.proofs.lemmas.Bool.Decides.{Decides-eqb}
+use Rattle.std.proofs.lemmas.Cmp.{tied_itself}
+use Rattle.std.proofs.lemmas.Grind.{same_number_lists}
 use Rattle.std.proofs.lemmas.List.{append-nil}
 use Rattle.std.proofs.lemmas.List.Elements.{All-append, All-map, All-from_recursion, recursion_from_All}
 use Rattle.std.proofs.lemmas.List.FromFn.{length-map-range_with_len, get_or-map-range_with_len}
 use Rattle.snmp_ber.specs.Oid.{AreArcs}
 use Rattle.vacm_core.specs.declared.rows.FamilyRow.{FamilyRow}
 use Rattle.vacm_core.specs.Allowed.{IsBestOf, family_order, mask_bit}
-use Rattle.vacm_core.specs.View.{HasArcs, Includes}
-use Rattle.vacm_next.specs.Opening.{Opens, Agrees, Covers, IsExceeded, IncludesLonger}
+use Rattle.vacm_core.specs.Laws.{family_order-total}
+use Rattle.vacm_core.specs.View.{HasArcs, Includes, Agrees, IsExact, IsUnder, NoneUnder}
+use Rattle.vacm_next.specs.Opening.{Opens, Covers, IsExceeded, IncludesLonger, Exceeds}
 use Rattle.vacm_next.proofs.Order.{is_greater}
 use Rattle.vacm_next.proofs.Fresh.{fresh}
 
@@ -181,12 +184,42 @@ module _ (rows : List FamilyRow) (w : List ℕ) where
 
 -- ---- going through the rows
 
--- none of the rows up to this place is so
-pub none_more : {R : Type 0} (P : R → Type 0) (rows : List R) (place : ℕ) (row : R) → place < length rows → ((d : R) → row ≡ get_or rows place d) → ¬ P row
-    → ((k : ℕ) (d : R) → k < place → ¬ P (get_or rows k d)) → (k : ℕ) (d : R) → k < place + 1 → ¬ P (get_or rows k d)
-none_more P rows place row within at not_this none k d before so = elim (cases_lt k place) [
+-- none of the rows up to the next place is so, if such rows are longer than the beginning and agree with it
+pub none_skipped : (P : FamilyRow → Type 0) (rows : List FamilyRow) (w : List ℕ) (at next : ℕ) → ((row : FamilyRow) → P row → IsUnder w row) → ((k : ℕ) (d : FamilyRow) → k < at → ¬ P (get_or rows k d))
+    → NoneUnder rows w at next → (k : ℕ) (d : FamilyRow) → k < next → ¬ P (get_or rows k d)
+none_skipped P rows w at next is_under none skipped k d before so = elim (cases_lt k at) [
+  | inl lower ↦ none k d lower so
+  | inr from ↦ skipped k d from before (is_under (get_or rows k d) so)
+]
+
+-- none of the rows up to the place after this one is so
+pub none_here : (P : FamilyRow → Type 0) (rows : List FamilyRow) (place : ℕ) (row : FamilyRow) → ((d : FamilyRow) → row ≡ get_or rows place d) → ¬ P row
+    → ((k : ℕ) (d : FamilyRow) → k < place → ¬ P (get_or rows k d)) → (k : ℕ) (d : FamilyRow) → k < place + 1 → ¬ P (get_or rows k d)
+none_here P rows place row at not_this none k d before so = elim (cases_lt k place) [
   | inl lower ↦ none k d lower so
   | inr past ↦
       let e : k ≡ place = omega arith in
       not_this (subst P (ap (λ n. get_or rows n d) e ∙ sym (at d)) so)
 ]
+
+pub includes_is_under : (rows : List FamilyRow) (w : List ℕ) (row : FamilyRow) → IncludesLonger rows w row → IsUnder w row
+includes_is_under rows w row h = record { longer = h.longer; agrees = h.agrees }
+
+pub exceeds_is_under : (w : List ℕ) (row : FamilyRow) → IsUnder w row → (other : FamilyRow) → Exceeds w row other → IsUnder w other
+exceeds_is_under w row under other more = record {
+  longer = let e = more.covers.same_length in let l = under.longer in omega arith;
+  agrees = more.agrees;
+}
+
+-- of rows that compare each arc none exceeds another
+pub exact_not_exceeded : (w : List ℕ) (row other : FamilyRow) → IsUnder w row → IsExact row → IsExact other → ¬ Exceeds w row other
+exact_not_exceeded w row other under exact other_exact more =
+    let long = more.covers.same_length in
+    let same : row.subtree ≡ other.subtree = same_number_lists _ _ (sym long)
+    (λ k within. elim (cases_lt k (length w)) [
+      | inl before ↦ under.agrees k within before (exact k within) ∙ sym (more.agrees k (omega (arith, within, long)) before (other_exact k (omega (arith, within, long))))
+      | inr from ↦ sym (more.covers.arcs k from (omega (arith, within, long)) (other_exact k (omega (arith, within, long)))).1
+    ]) in
+    let tie : family_order row other ≡ Equal =
+    ap (λ xs. ordering_then (nat_cmp (length row.subtree) (length xs)) (slice_cmp nat_cmp row.subtree xs)) (sym same) ∙ tied_itself family_order-total row in
+    let no : Equal ≡ Less = sym tie ∙ more.better in cc

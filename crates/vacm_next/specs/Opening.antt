@@ -1,15 +1,13 @@
 -- What of a view begins with some arcs (RFC 3415, section 4, vacmViewTreeFamilyTable).
 --
--- `Opens rows beginning`: some name of 1 to 128 arcs below 2^32 begins so and is in the view. `Agrees`: the
--- subtree of a row and the beginning have the same arcs, where both have one and the mask compares it.
--- `Covers`: from some depth on, the row compares only arcs that the other row compares too, and they are equal.
+-- `Opens rows beginning`: some name of 1 to 128 arcs below 2^32 begins so and is in the view. `Covers`: from some depth on, the row compares only arcs that the other row compares too, and they are equal.
 -- So of names that begin alike, the row has each that the other row has, if both agree with their beginning.
 use Rattle.std.specs.Prelude.{◌≡◌, ⊤, ℕ, ◌<◌, ◌≤◌, true, List, [], ◌∷◌, ◌++◌, length, slice_index, Contains}
 use Rattle.std.specs.Prelude.{Option, MatchOption}
 use Rattle.std.specs.declared.cmp.Ordering.TheVariants.{Less}
 use Rattle.snmp_ber.specs.Oid.{AreArcs}
 use Rattle.vacm_core.specs.Allowed.{family_order, mask_bit}
-use Rattle.vacm_core.specs.View.{Includes}
+use Rattle.vacm_core.specs.View.{Includes, Agrees}
 use Rattle.vacm_core.specs.declared.rows.FamilyRow.{FamilyRow}
 
 -- some name begins so and is in the view
@@ -21,11 +19,6 @@ pub record Opens (rows : List FamilyRow) (beginning : List ℕ) : Type 0 where
 -- some name begins so, goes on with the arc, and is in the view
 abbrev pub OpensAt : List FamilyRow → List ℕ → ℕ → Type 0
 OpensAt rows beginning arc = Opens rows (beginning ++ arc ∷ [])
-
--- the subtree of the row and the beginning have the same arcs, where both have one and the mask compares it
-abbrev pub Agrees : List ℕ → FamilyRow → Type 0
-Agrees beginning row = (k : ℕ) → k < length row.subtree → k < length beginning → mask_bit row.mask k ≡ 1
-    → slice_index row.subtree k ≡ slice_index beginning k
 
 -- from this depth on, each arc that the row compares the other row of its length compares too, and they are equal
 pub record Covers (depth : ℕ) (row other : FamilyRow) : Type 0 where
@@ -62,8 +55,8 @@ abbrev pub IsFree : List FamilyRow → List ℕ → ℕ → Type 0
 IsFree rows beginning arc = (row : FamilyRow) → Contains rows row → ¬ ComparesNext beginning row arc
 
 -- less than the least so far, if there is one
-abbrev pub IsUnder : ℕ → Option ℕ → Type 0
-IsUnder arc least = MatchOption least ⊤ (λ other. arc < other)
+abbrev pub IsLowerThan : ℕ → Option ℕ → Type 0
+IsLowerThan arc least = MatchOption least ⊤ (λ other. arc < other)
 
 -- of the arcs from the first on, the second is the least that a name in the view may go on with
 pub record IsLeastArc (rows : List FamilyRow) (beginning : List ℕ) (low arc : ℕ) : Type 0 where

@@ -1,6 +1,6 @@
 //! The least arc with which a name in a view goes on.
 ghost use Rattle.std.specs.Prelude.{◌≡◌, ◌↔◌, [], ◌∷◌, ◌++◌, ℕ, ◌<◌, ◌≤◌, length, IsTrue, IfSome, MatchOption};
-ghost use Rattle.vacm_next.specs.Opening.{ComparesNext, IsLeastArc, IsUnder, OpensAt};
+ghost use Rattle.vacm_next.specs.Opening.{ComparesNext, IsLeastArc, IsLowerThan, OpensAt};
 
 use crate::opening::{agrees, opens};
 use arrayvec::ArrayVec;
@@ -24,8 +24,8 @@ fn next_arc(row: &FamilyRow, beginning: &[u32]) -> Option<u32>
 /// Returns the lesser of two arcs: the least one so far, if there is one, and the one after the beginning that the
 /// row compares, if there is one from `low` on.
 fn nearer(least: Option<u32>, row: &FamilyRow, beginning: &[u32], low: u32) -> Option<u32>
-    ensures under { (arc : ℕ) → IsUnder arc result → IsUnder arc least }
-    ensures row { (arc : ℕ) → low ≤ arc → IsUnder arc result → ¬ ComparesNext beginning.now row.now arc }
+    ensures under { (arc : ℕ) → IsLowerThan arc result → IsLowerThan arc least }
+    ensures row { (arc : ℕ) → low ≤ arc → IsLowerThan arc result → ¬ ComparesNext beginning.now row.now arc }
     ensures from_on { IfSome least (λ arc. low ≤ arc) → IfSome result (λ arc. low ≤ arc) }
 {
     let Some(arc) = next_arc(row, beginning) else {
@@ -50,8 +50,10 @@ fn arc_after(rows: &ViewRows<'_>, beginning: &[u32], arc: u32) -> Option<u32>
         → OpensAt rows.now beginning.now other → OpensAt rows.now beginning.now arc)) }
 {
     let mut least = None;
-    for place in 0..rows.count() {
+    let mut place = rows.next_under(beginning, 0);
+    while place < rows.count() {
         least = nearer(least, rows.row(place), beginning, arc);
+        place = rows.next_under(beginning, place + 1);
     }
     match least {
         Some(other) if other > arc => Some(other),
