@@ -11,3 +11,4 @@ pub mod Views
 pub mod Places
 pub mod Runs
 pub mod Wildcards
+pub mod Fronts

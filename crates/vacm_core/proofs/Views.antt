@@ -1,5 +1,5 @@
 -- The rows of a view in two tables, and what they answer.
-use Rattle.std.proofs.Common.{◌≡◌, ◌≢◌, ℕ, ◌<◌, ◌⊎◌, List, [], ◌∷◌, ◌++◌, length, Contains, Bool, true, false, cond, Option, Some, None, MatchOption, Bor, sym, subst, refl, inl, inr, arith}
+use Rattle.std.proofs.Common.{◌≡◌, ◌≢◌, ℕ, ◌<◌, ◌⊎◌, List, [], ◌∷◌, ◌++◌, length, Contains, Bool, true, false, cond, Option, Some, None, MatchOption, Bor, sym, ◌∙◌, subst, refl, inl, inr, arith}
 use Rattle.std.proofs.lemmas.List.Elements.{Contains-append_left, Contains-append_right, Contains-append_cases}
 use Rattle.vacm_core.specs.declared.access.Access.{Access}
 use Rattle.vacm_core.specs.declared.access.Access.TheVariants.{NoSuchContext, NoGroupName, NoAccessEntry, NoSuchView, NotInView, AccessAllowed}
@@ -15,7 +15,7 @@ use Rattle.vacm_core.specs.Steps.{HasNoGroup, DecidesView, DecidesAccess, Decide
 use Rattle.vacm_core.specs.Allowed.{Allowed, ByView, Requester, HasContext, HasView, IsInGroup, IsGroupRow, IsBestOf, NoneFits, FitsMessage, FitsVariable, access_order, family_order, view_name}
 use Rattle.vacm_core.specs.RowOrder.{IsRunOf}
 use Rattle.vacm_core.specs.Place.{family_name}
-use Rattle.vacm_core.specs.View.{HasArcs, AnswersView}
+use Rattle.vacm_core.specs.View.{HasArcs, AnswersView, AreDistinct, AreRowsOf}
 use Rattle.vacm_core.specs.Wildcard.{wildcard_order}
 use Rattle.vacm_core.proofs.First.{best_of_table, none_of_table}
 
@@ -50,6 +50,12 @@ module _ (xs ys xr yr : List FamilyRow) (view : List ℕ) (first : IsRunOf famil
     pub best_of_view : (row : FamilyRow) → IsBestOf (xr ++ yr) (HasArcs variable) family_order row → IsBestOf (xs ++ ys) (FitsVariable view variable) family_order row
     best_of_view = best_of_table (FitsVariable view variable) (HasArcs variable) family_order family_name view (xs ++ ys) (xr ++ yr) among whole
         (λ row f. f.same_view) (λ row f. record { long = f.long; arcs = f.arcs }) (λ row there h. record { same_view = named row there; long = h.long; arcs = h.arcs })
+
+  pub rows_of_view : AreRowsOf (xs ++ ys) view (xr ++ yr)
+  rows_of_view = record { both = λ row. (λ there. (among row there, named row there), λ h. whole row h.0 h.1) }
+
+  pub distinct_of_view : ((x y : FamilyRow) → Contains (xs ++ ys) x → Contains (xs ++ ys) y → x.view ≡ y.view → x.subtree ≡ y.subtree → x ≡ y) → AreDistinct (xr ++ yr)
+  distinct_of_view one x y a b same = one x y (among x a) (among y b) (named x a ∙ sym (named y b)) same
 
   pub has_view_where : (view ≢ []) × ((0 < length xr) ⊎ (0 < length yr)) → HasView (xs ++ ys) view
   has_view_where h = record { named = h.0; has_row = by_row h.1 }

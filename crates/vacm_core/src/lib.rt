@@ -64,8 +64,10 @@ mod row;
 mod rows;
 mod steps;
 mod table;
+mod under;
 mod vacm;
 mod view;
+mod view_rows;
 mod wildcard;
 
 pub use access::{Access, ViewType};
@@ -77,3 +79,4 @@ pub use rows::{AccessRow, ContextRow, FamilyRow, GroupRow, Matching, Rows, arcs_
 pub use steps::{AccessStep, Asking, ContextStep, Explained, GroupStep, ViewStep};
 pub use table::OrderedTable;
 pub use vacm::Vacm;
+pub use view_rows::ViewRows;

@@ -116,7 +116,8 @@ impl<R: NamedRow> OrderedTable<R> {
 
     /// The rows of this name, from the best down.
     pub fn rows_of(&self, wanted: &[u8]) -> &[R]
-        ensures { IsRunOf R.name_of R.rank wanted.now self.now result.now }
+        ensures run { IsRunOf R.name_of R.rank wanted.now self.now result.now }
+        ensures short { length result.now ≤ length self.now }
     {
         let rows = &self.rows;
         let Some(run) = self.run_of(wanted) else {

@@ -1,5 +1,6 @@
 //! The tables that answer (RFC 3415, section 3).
-ghost use Rattle.std.specs.Prelude.{◌≡◌, ◌≢◌, ◌↔◌, ◌++◌, [], ℕ, List, IsTrue, IfOk, IfErr, OnOk, MatchResult};
+ghost use Rattle.std.specs.Prelude.{◌≡◌, ◌≢◌, ◌↔◌, ◌++◌, ◌^◌, ◌<◌, [], ℕ, List, length};
+ghost use Rattle.std.specs.Prelude.{IsTrue, IfOk, IfErr, OnOk, MatchResult};
 ghost use Rattle.std.specs.List.Sorted.{IsPermutation};
 ghost use Rattle.vacm_core.specs.Tables.{tables_of, HaveSameRows};
 ghost use Rattle.vacm_core.specs.Faults.{AreSound, IsTold};
@@ -9,7 +10,7 @@ ghost use Rattle.vacm_core.specs.declared.access.Access.{Access as Answer};
 ghost use Rattle.vacm_core.specs.Allowed as spec;
 ghost use Rattle.vacm_core.specs.declared.access.Access.TheVariants.{NotInView, AccessAllowed};
 ghost use Rattle.vacm_core.specs.Allowed.{Allowed, ByView, HasContext};
-ghost use Rattle.vacm_core.specs.View.{AreExact};
+ghost use Rattle.vacm_core.specs.View.{AreExact, AreRowsOf};
 ghost use Rattle.vacm_core.specs.Steps.{DecidesContext, TellsContext, requester_of};
 
 use crate::ask::{Deciding, context_row, decide_over};
@@ -19,11 +20,15 @@ use crate::named_row::NamedRow;
 use crate::rows::{AccessRow, ContextRow, FamilyRow, GroupRow};
 use crate::steps::{Asking, Explained};
 use crate::table::OrderedTable;
+use crate::view_rows::ViewRows;
 use crate::wildcard::WildcardRow;
 use crate::{Access, Name, Rows, VacmFault, ViewType};
 use snmp_ber::{Level, Oid};
 use std::alloc::{AllocError, Global};
 use std::marker::Model;
+
+/// As many family rows as there may be: fewer than the arcs of one place, so that one is left that no row has.
+const MOST_FAMILIES: usize = u32::MAX as usize;
 
 /// The four tables, each without two rows of one index.
 ///
@@ -56,19 +61,20 @@ impl Model for Vacm {
     } };
 
     ghost use Rattle.vacm_core.specs.Distinct.{HasOneRowEach};
-    ghost use Rattle.vacm_core.specs.View.{AreExact};
+    ghost use Rattle.vacm_core.specs.View.{AreExact, AreRowsOf};
+    ghost use Rattle.std.specs.Prelude.{◌^◌, ◌<◌, length};
 
     ghost invariant = { λ v. HasOneRowEach
         (record { contexts = v.contexts; groups = v.groups; access = v.access; families = v.exact ++ v.others })
-        × AreExact v.exact };
+        × AreExact v.exact × (length (v.exact ++ v.others) < 2 ^ 32) };
 }
 
 impl Vacm {
     /// Makes the tables of these rows.
     ///
     /// A fault is reported for the first row at fault, exactly there: see `VacmFault`. Out of memory leaves
-    /// nothing behind, and may be reported instead of a fault. For n rows it takes O(n log n) comparisons,
-    /// whatever the rows and their order.
+    /// nothing behind, and may be reported instead of a fault. It is also reported for 2^32 family rows or more.
+    /// For n rows it takes O(n log n) comparisons, whatever the rows and their order.
     pub fn load(alloc: Global, rows: &Rows) -> Result<Vacm, VacmFault>
         ensures sound { OnOk result (AreSound (tables_of rows.now)) }
         ensures same_rows { IfOk result (λ vacm. HaveSameRows (tables_of rows.now) vacm) }
@@ -86,6 +92,9 @@ impl Vacm {
             Ok(Some(fault)) => return Err(fault),
             Err(_) => return Err(VacmFault::OutOfMemory),
         }
+        if rows.families.len() > MOST_FAMILIES {
+            return Err(VacmFault::OutOfMemory);
+        }
         match Vacm::made_of(alloc, rows) {
             Ok(vacm) => Ok(vacm),
             Err(_) => Err(VacmFault::OutOfMemory),
@@ -94,7 +103,8 @@ impl Vacm {
 
     /// The tables of rows without a fault.
     fn made_of(alloc: Global, rows: &Rows) -> Result<Vacm, AllocError>
-        requires { AreSound (tables_of rows.now) }
+        requires sound { AreSound (tables_of rows.now) }
+        requires few { length rows.now.families.items < 2 ^ 32 }
         ensures { IfOk result (λ vacm. HaveSameRows (tables_of rows.now) vacm) }
     {
         let contexts = OrderedTable::of(alloc, &rows.contexts)?;
@@ -151,11 +161,12 @@ impl Vacm {
     /// messages, if no row names a view: `NoSuchContext`, `NoGroupName`, `NoAccessEntry` or `NoSuchView` (RFC
     /// 3415, section 3.2). `asking.variable` isn't looked at.
     pub fn view_of(&self, asking: &Asking<'_>) -> Result<&Name, Access>
-        ensures { MatchResult result
+        ensures view { MatchResult result
             (λ name. (name.now ≢ [])
             × ByView self.now (requester_of asking.now) asking.now.view (λ view. view ≡ name.now))
             (λ answer. (answer ≢ NotInView) × (answer ≢ AccessAllowed) × ((variable : List ℕ)
             → Allowed self.now (requester_of asking.now) asking.now.view variable answer)) }
+        ensures one_row_each { HasOneRowEach self.now }
     {
         let decided = self.decide(asking);
         let Some(_context) = decided.context else {
@@ -172,6 +183,13 @@ impl Vacm {
             return Err(Access::NoSuchView);
         }
         Ok(name)
+    }
+
+    /// Returns the family rows of the view of this name: none if no row has it. It takes no memory.
+    pub fn rows_of_view(&self, view: &[u8]) -> ViewRows<'_>
+        ensures { AreRowsOf self.now.families view.now result }
+    {
+        ViewRows::of(self.exact.rows_of(view), self.others.rows_of(view))
     }
 
     /// What decides on the question: its answer, and the rows that decide, by their positions. It takes no memory.

@@ -117,7 +117,7 @@ fn is_decided(found: Option<&FamilyRow>, rest: &[WildcardRow]) -> bool
 
 /// Returns the row that decides on the variable. The other rows are searched by length and mask, from the longest
 /// down. The search ends when all that is left is shorter than the best row so far.
-fn deciding_row<'a>(
+pub(crate) fn deciding_row<'a>(
     exact: &'a [FamilyRow],
     others: &'a [WildcardRow],
     variable: &[u32],

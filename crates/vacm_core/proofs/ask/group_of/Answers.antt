@@ -22,11 +22,11 @@ pub returns-then-row-model : goal.returns-then-row-model
 returns-then-row-model c =
     let row = c.row-item.result in
     let there : Contains c.rows_of-run.result.now row = (c.loop-row.row-index, c.loop-row-test.true, sym c.row-item.is) in
-    (c.rows_of-run.ensures.among row there, record { same_model = c.if-row-model.true; same_name = c.rows_of-run.ensures.named row there })
+    (c.rows_of-run.ensures.run.among row there, record { same_model = c.if-row-model.true; same_name = c.rows_of-run.ensures.run.named row there })
 
 pub returns : goal.returns
 returns c group h =
-    let there = c.rows_of-run.ensures.whole h.0 h.1 h.2.same_name in
+    let there = c.rows_of-run.ensures.run.whole h.0 h.1 h.2.same_name in
     let past = c.loop-row-test.false in
     let before : there.0 < c.loop-row.row-index = omega (arith, there.1, past) in
     c.loop-row.invariant there.0 h.0 before there.1 (ap (λ (r : GroupRow). r.model) there.2 ∙ h.2.same_model)

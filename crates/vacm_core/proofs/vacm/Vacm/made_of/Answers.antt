@@ -1,5 +1,6 @@
-use Rattle.std.proofs.Common.{◌++◌, subst}
+use Rattle.std.proofs.Common.{◌++◌, ◌<◌, ◌^◌, length, subst}
 use Rattle.std.specs.List.Sorted.{IsPermutation}
+use Rattle.std.proofs.lemmas.List.Sorted.{length_permutation}
 use Rattle.vacm_core.specs.Tables.{Tables, tables_of}
 use Rattle.vacm_core.proofs.Uniqueness.{one_row_each}
 use Rattle.vacm_core.proofs.Parts.{same_set, one_row_each_of_same}
@@ -16,4 +17,7 @@ returns c =
     }
 
 pub invariant_of-result : goal.invariant_of-result
-invariant_of-result c = (one_row_each_of_same (tables_of c.args.rows.now) _ (returns c) (one_row_each (tables_of c.args.rows.now) c.requires), c.in_ok-exact.ensures.exact)
+invariant_of-result c = (one_row_each_of_same (tables_of c.args.rows.now) _ (returns c) (one_row_each (tables_of c.args.rows.now) c.requires.sound), c.in_ok-exact.ensures.exact, few)
+  where
+    few : length (c.in_ok-exact.exact ++ c.in_ok-exact.others) < 2 ^ 32
+    few = rw (length_permutation _ _ (subst (λ xs. IsPermutation xs (c.in_ok-exact.exact ++ c.in_ok-exact.others)) c.deref-4.ensures.value c.in_ok-exact.ensures.same)) c.requires.few

@@ -1,0 +1,3 @@
+pub mod Next
+pub mod Opening
+pub mod Walk
