@@ -73,6 +73,11 @@ pub enum LoadFault {
 /// Why a configuration isn't read. Positions count from 0.
 #[derive(Debug, Drop)]
 pub enum ConfigFault {
+    /// The bracket here, counted from 1, opens beside 16 that are open.
+    Nested {
+        line: usize,
+        column: usize,
+    },
     /// The text isn't TOML in UTF-8.
     Toml {
         fault: toml::de::Error,
@@ -148,6 +153,9 @@ impl ConfigFault {
         ensures { IfOk result (λ words. IsWhy self.now (string_bytes words)) }
     {
         match self {
+            ConfigFault::Nested { line, column } => format!(in alloc;
+                "line {line}, column {column}: 16 brackets are open, and no more may be"
+            ),
             ConfigFault::Toml { fault } => toml_words(alloc, fault),
             ConfigFault::Top { key } => format!(in alloc;
                 "{key}: at the top stand the arrays of tables user, context, group, access and family, and nothing else"
@@ -191,7 +199,9 @@ impl fmt::Display for ConfigFault {
 
     fn fmt<W: fmt::Write>(&self, f: &mut fmt::Formatter<W>) -> fmt::Result {
         match self {
-            ConfigFault::Toml { .. } => f.write_str("refused config toml"),
+            ConfigFault::Nested { .. } | ConfigFault::Toml { .. } => {
+                f.write_str("refused config toml")
+            }
             ConfigFault::Top { .. } => f.write_str("refused config top"),
             ConfigFault::BadKey {
                 table,

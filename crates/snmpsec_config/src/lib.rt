@@ -18,6 +18,7 @@ mod fault;
 mod keys;
 mod laws;
 mod near;
+mod nesting;
 mod rows;
 mod table;
 mod wanted;
