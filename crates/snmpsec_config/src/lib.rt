@@ -20,6 +20,7 @@ mod laws;
 mod near;
 mod nesting;
 mod rows;
+mod shown;
 mod table;
 mod wanted;
 mod words;

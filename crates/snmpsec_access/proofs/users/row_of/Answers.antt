@@ -1,6 +1,5 @@
-use Rattle.std.proofs.Common.{◌≡◌, List, Option, Some, None, ℕ, ap, sym, ◌∙◌, slice_get}
+use Rattle.std.proofs.Common.{◌≡◌, Some, None, ap, sym, ◌∙◌, slice_get}
 use Rattle.std.specs.Option.{option_and_then, option_copied}
-use Rattle.std.specs.Borrow.{Bor}
 use Rattle.snmpsec_access.specs.UserPlaces.{place_of}
 use Rattle.snmpsec_access.proofs.FirstPlaces.{read_at}
 use Rattle.snmpsec_access.proofs.users.row_of.Goals as goal

@@ -2,7 +2,7 @@ use Rattle.std.proofs.Common.{◌≡◌, ◌≤◌, ◌∙◌, ℕ, List, Option
 use Rattle.std.specs.Borrow.{Bor}
 use Rattle.toml_parser.specs.Lexical.{skip_blank}
 use Rattle.snmpsec_config.specs.declared.nesting.Mark.{Mark}
-use Rattle.snmpsec_config.specs.Nesting.{piece, open_behind, OpensTooMany}
+use Rattle.snmpsec_config.specs.Nesting.{piece, OpensTooMany}
 use Rattle.snmpsec_config.proofs.Nested.{deep_here, deep_in_front, deep_behind, deep_nowhere, open_within}
 use Rattle.snmpsec_config.proofs.nesting.too_deep.Goals as goal
 
