@@ -1,7 +1,7 @@
 //! The datagrams of a capture, as the lines of a log.
 
 ghost use Rattle.std.specs.Prelude.{◌≡◌, ◌+◌, ◌<◌, ◌≤◌, List, ℕ, Option, length, IfOk, IfErr, IfSome, OnOk};
-ghost use Rattle.std.specs.Prelude.{option_map, string_bytes};
+ghost use Rattle.std.specs.Prelude.{option_map, string_bytes, vec_len};
 ghost use Rattle.std.specs.Io.KnownBytes.{Appends, Consumes, IsAtEnd};
 ghost use Rattle.capture_files.specs.Formats.{state_of};
 ghost use Rattle.capture_files.specs.Items.{record_of};
@@ -208,75 +208,98 @@ pub(crate) fn write_record<P: Printer, L: Write, N: Write>(
     }
 }
 
-/// Writes the record of an item, whose packet is in the room, and answers the number of the next record.
+/// An item that was read.
+#[derive(Clone, Copy)]
+struct Taken<'a> {
+    /// The number of the next record, from 1.
+    number: u64,
+    /// What is known of the item's packet, where it is a record.
+    packet: Option<Head>,
+    /// The octets that the packet lies in.
+    room: &'a [u8],
+}
+
+/// Writes the record of an item, and answers the number of the next record.
 fn write_item<P: Printer, L: Write, N: Write>(
     alloc: Global,
     ports: &[u16],
-    number: u64,
-    packet: Option<Head>,
-    room: &[u8],
+    item: Taken<'_>,
     printer: &mut P,
     passed: &mut Tally,
     log: &mut L,
     notes: &mut N,
 ) -> Result<u64, CaptureFault>
-    requires within { IfSome packet (λ h. h.at + h.size ≤ length room.now) }
-    requires number { number < 18446744073709551615 }
+    requires within { IfSome item.packet (λ h. h.at + h.size ≤ length item.room.now) }
+    requires number { item.number < 18446744073709551615 }
     requires below { IsBelow (counts_of passed.old) 18446744073709551615 }
     ensures ok { IfOk result
         (λ next. WritesItem (P.prints printer.old) ports.now
-        (option_map (λ h. record_of h room.now) packet) number next
+        (option_map (λ h. record_of h item.entry.room.now) item.entry.packet) item.entry.number next
         (counts_of passed.old) (counts_of passed.new)
         (L.contents log.old) (L.contents log.new) (N.contents notes.old) (N.contents notes.new)) }
     ensures err { IfErr result
         (StopsWrite (P.prints printer.old) ports.now
-        (option_map (λ h. record_of h room.now) packet) number
+        (option_map (λ h. record_of h item.entry.room.now) item.entry.packet) item.entry.number
         (counts_of passed.old).datagrams (L.contents log.old)
         (L.contents log.new) (N.contents notes.old)
         (N.contents notes.new)) }
     ensures keeps { PrintsAs (P.prints printer.new) (P.prints printer.old) }
 {
-    let Some(head) = packet else {
-        return Ok(number);
+    let Some(head) = item.packet else {
+        return Ok(item.number);
     };
     let captured = Captured {
-        number,
+        number: item.number,
         head,
-        packet: &room[head.at..head.at + head.size],
+        packet: &item.room[head.at..head.at + head.size],
     };
     match write_record(alloc, ports, captured, printer, passed, log, notes) {
-        Ok(()) => Ok(number + 1),
+        Ok(()) => Ok(item.number + 1),
         Err(fault) => Err(fault),
     }
+}
+
+/// A capture whose beginning was read, before its first item.
+#[derive(Drop)]
+struct Start {
+    begun: Begun,
+    /// The octets that each packet is read into.
+    room: Vec<u8>,
+    /// What was passed over: nothing.
+    passed: Tally,
 }
 
 /// Reads the items of a capture behind its beginning, and writes what they come to.
 fn write_items<P: Printer, R: Read, L: Write, N: Write>(
     alloc: Global,
     ports: &[u16],
-    begun: Begun,
-    mut passed: Tally,
-    room: &mut [u8],
+    start: Start,
     printer: &mut P,
     reader: &mut R,
     log: &mut L,
     notes: &mut N,
 ) -> Result<Tally, CaptureFault>
-    requires room { length room.old ≡ 262172 }
-    requires near { begun.place ≤ 4294967295 }
-    requires none { counts_of passed ≡ none_passed }
+    requires room { vec_len start.room ≡ 262172 }
+    requires near { start.begun.place ≤ 4294967295 }
+    requires none { counts_of start.passed ≡ none_passed }
     ensures ok { IfOk result
-        (λ passed. Stands (P.prints printer.old) ports.now (state_of begun.format)
+        (λ passed. Stands (P.prints printer.old) ports.now (state_of start.begun.format)
         (streams (R.remaining reader.old) (R.remaining reader.new)
         (L.contents log.old) (L.contents log.new)
         (N.contents notes.old) (N.contents notes.new))
         (IsEnd (R.remaining reader.new)) (counts_of passed)) }
     ensures err { IfErr result
-        (StopsItems (P.prints printer.old) ports.now (state_of begun.format) begun.place
+        (StopsItems (P.prints printer.old) ports.now (state_of start.begun.format) start.begun.place
         (streams (R.remaining reader.old) (R.remaining reader.new)
         (L.contents log.old) (L.contents log.new)
         (N.contents notes.old) (N.contents notes.new))) }
 {
+    let Start {
+        begun,
+        room: mut octets,
+        mut passed,
+    } = start;
+    let room = octets.as_mut_slice();
     let (mut format, mut place) = (begun.format, begun.place);
     let mut number = 1u64;
     while place < MOST {
@@ -285,17 +308,12 @@ fn write_items<P: Printer, R: Read, L: Write, N: Write>(
             Next::End => return Ok(passed),
             Next::OutOfForm => return Err(CaptureFault::Octet(place)),
         };
-        number = write_item(
-            alloc,
-            ports,
+        let taken = Taken {
             number,
-            item.packet,
+            packet: item.packet,
             room,
-            printer,
-            &mut passed,
-            log,
-            notes,
-        )?;
+        };
+        number = write_item(alloc, ports, taken, printer, &mut passed, log, notes)?;
         place += item.size as u64;
     }
     Err(CaptureFault::Octet(place))
@@ -376,15 +394,10 @@ pub fn print_datagrams_behind<P: Printer, R: Read, L: Write, N: Write>(
         return Err(CaptureFault::OutOfMemory);
     };
     let begun = begin(alloc, front, room.as_mut_slice(), reader)?;
-    write_items(
-        alloc,
-        ports,
+    let start = Start {
         begun,
+        room,
         passed,
-        room.as_mut_slice(),
-        printer,
-        reader,
-        log,
-        notes,
-    )
+    };
+    write_items(alloc, ports, start, printer, reader, log, notes)
 }

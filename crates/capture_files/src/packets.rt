@@ -25,7 +25,7 @@ pub struct PacketLog {
     pub passed: Tally,
 }
 
-/// Writes the record of the packet with this number.
+/// Writes the record of the packet with this number, behind what the packets before it come to.
 fn write_packet<P: Printer>(
     alloc: Global,
     ports: &[u16],
@@ -33,15 +33,14 @@ fn write_packet<P: Printer>(
     moment: u64,
     packet: &[u8],
     printer: &mut P,
-    passed: &mut Tally,
-    log: &mut Vec<u8>,
-    notes: &mut Vec<u8>,
+    told: &mut PacketLog,
 ) -> Result<(), AllocError>
-    requires { IsBelow (counts_of passed.old) 18446744073709551615 }
+    requires { IsBelow (counts_of told.old.passed) 18446744073709551615 }
     ensures ok { OnOk result
         (WritesRecord (P.prints printer.old) ports.now (packet_record moment packet.now) number
-        (counts_of passed.old) (counts_of passed.new) (Some log.old.items) (Some log.new.items)
-        (Some notes.old.items) (Some notes.new.items)) }
+        (counts_of told.old.passed) (counts_of told.new.passed)
+        (Some told.old.log.items) (Some told.new.log.items)
+        (Some told.old.notes.items) (Some told.new.notes.items)) }
     ensures keeps { PrintsAs (P.prints printer.new) (P.prints printer.old) }
 {
     let head = Head {
@@ -57,7 +56,15 @@ fn write_packet<P: Printer>(
         head,
         packet,
     };
-    match write_record(alloc, ports, captured, printer, passed, log, notes) {
+    match write_record(
+        alloc,
+        ports,
+        captured,
+        printer,
+        &mut told.passed,
+        &mut told.log,
+        &mut told.notes,
+    ) {
         Ok(()) => Ok(()),
         Err(_) => Err(AllocError),
     }
@@ -79,9 +86,11 @@ pub fn packets_log<P: Printer>(
         (map (λ packet. packet.items) packets.now) told.log.items told.notes.items
         (counts_of told.passed)) }
 {
-    let mut passed = Tally::none(alloc)?;
-    let mut log = Vec::new(alloc);
-    let mut notes = Vec::new(alloc);
+    let mut told = PacketLog {
+        passed: Tally::none(alloc)?,
+        log: Vec::new(alloc),
+        notes: Vec::new(alloc),
+    };
     for (place, packet) in packets.iter().enumerate() {
         write_packet(
             alloc,
@@ -90,10 +99,8 @@ pub fn packets_log<P: Printer>(
             moment,
             packet,
             printer,
-            &mut passed,
-            &mut log,
-            &mut notes,
+            &mut told,
         )?;
     }
-    Ok(PacketLog { log, notes, passed })
+    Ok(told)
 }

@@ -64,6 +64,7 @@ row_numbers (Value key) = (5, key_number key)
 
 -- the table, the position in it, the fault and the key; 0 where there is none
 abbrev pub numbers_of : ConfigFault → List ℕ
+numbers_of (faults.Nested line column) = 0 ∷ 0 ∷ 1 ∷ 0 ∷ []
 numbers_of (faults.Toml fault) = 0 ∷ 0 ∷ 1 ∷ 0 ∷ []
 numbers_of (faults.Top key) = 0 ∷ 0 ∷ 2 ∷ 0 ∷ []
 numbers_of (faults.BadKey of position fault) = table_number of ∷ position ∷ (row_numbers fault).0

@@ -73,7 +73,9 @@ fn numbers_of(fault: &ConfigFault) -> [usize; 4]
     ensures { result ≡ numbers_by fault.now }
 {
     match fault {
-        ConfigFault::Toml { .. } | ConfigFault::OutOfMemory => [0, 0, 1, 0],
+        ConfigFault::Nested { .. } | ConfigFault::Toml { .. } | ConfigFault::OutOfMemory => {
+            [0, 0, 1, 0]
+        }
         ConfigFault::Top { .. } => [0, 0, 2, 0],
         ConfigFault::BadKey {
             table,

@@ -1,4 +1,5 @@
 pub mod Rows
+pub mod Known
 pub mod Notes
 pub mod Users
 pub mod Duplicates

@@ -8,6 +8,7 @@ pub mod Begins
 pub mod Shortens
 pub mod Deciding
 pub mod Picks
+pub mod FirstPlaces
 pub mod Longest
 pub mod Kepts
 pub mod Tolds

@@ -1,5 +1,6 @@
 pub mod Words
 pub mod Askers
+pub mod UserPlaces
 pub mod WhoSees
 pub mod Seen
 pub mod Rising

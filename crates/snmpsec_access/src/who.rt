@@ -5,14 +5,16 @@ ghost use Rattle.vacm_core.specs.Allowed.{Allowed};
 ghost use Rattle.vacm_core.specs.Tables.{tables_of};
 ghost use Rattle.vacm_core.specs.declared.access.Access.TheVariants.{AccessAllowed};
 ghost use Rattle.snmpsec_access.specs.Askers.{asker, asker_line, of_group, of_view};
+ghost use Rattle.snmpsec_access.specs.UserPlaces.{AreFirstPlaces};
 ghost use Rattle.snmpsec_access.specs.WhoSees.{IsWanted, IsReady, SeesIt, GoesOn, TellsWho};
 
-use crate::users::has_user_at;
+use crate::users::{first_places, has_user_at};
 use crate::words::{put_context, put_name, view_word};
 use snmp_ber::{Level, Oid};
 use snmp_message::USER_BASED;
 use snmpsec_config::level_word;
 use std::alloc::{AllocError, Global};
+use std::collections::BTreeMap;
 use usm_users::UserRow;
 use vacm_core::{Access, ContextRow, GroupRow, Rows, Vacm, ViewType};
 
@@ -29,7 +31,13 @@ pub struct WhoSeesQuery<'a> {
 }
 
 /// The name of the group row is wanted at this level.
-fn is_wanted(wanted: &WhoSeesQuery<'_>, group: &GroupRow, level: Level) -> bool
+fn is_wanted(
+    wanted: &WhoSeesQuery<'_>,
+    places: &BTreeMap<&[u8], usize>,
+    group: &GroupRow,
+    level: Level,
+) -> bool
+    requires { AreFirstPlaces wanted.now.users.now places.now }
     ensures { let is_wanted = IsWanted wanted.now.only_users wanted.now.users.now
         group.now.model group.now.name level
         in MatchBool result is_wanted (¬ is_wanted) }
@@ -37,7 +45,7 @@ fn is_wanted(wanted: &WhoSeesQuery<'_>, group: &GroupRow, level: Level) -> bool
     if !wanted.only_users {
         return true;
     }
-    group.model == USER_BASED && has_user_at(wanted.users, group.name.as_slice(), level)
+    group.model == USER_BASED && has_user_at(wanted.users, places, group.name.as_slice(), level)
 }
 
 /// The question is answered accessAllowed.
@@ -116,17 +124,19 @@ fn put_level(
     alloc: Global,
     out: &mut Vec<u8>,
     wanted: &WhoSeesQuery<'_>,
+    places: &BTreeMap<&[u8], usize>,
     view: ViewType,
     group: &GroupRow,
     level: Level,
 ) -> Result<(), AllocError>
-    requires { IsReady wanted.now }
+    requires ready { IsReady wanted.now }
+    requires places { AreFirstPlaces wanted.now.users.now places.now }
     ensures { OnOk result
         (GoesOn (SeesIt wanted.now)
         (map (asker view group.now level) wanted.now.rows.now.contexts.items)
         out.old.items out.new.items) }
 {
-    if !is_wanted(wanted, group, level) {
+    if !is_wanted(wanted, places, group, level) {
         return Ok(());
     }
     'contexts: for context in &wanted.rows.contexts {
@@ -140,17 +150,19 @@ fn put_group(
     alloc: Global,
     out: &mut Vec<u8>,
     wanted: &WhoSeesQuery<'_>,
+    places: &BTreeMap<&[u8], usize>,
     view: ViewType,
     group: &GroupRow,
 ) -> Result<(), AllocError>
-    requires { IsReady wanted.now }
+    requires ready { IsReady wanted.now }
+    requires places { AreFirstPlaces wanted.now.users.now places.now }
     ensures { OnOk result
         (GoesOn (SeesIt wanted.now)
         (of_group wanted.now.rows.now.contexts.items view group.now) out.old.items out.new.items) }
 {
-    put_level(alloc, out, wanted, view, group, Level::NoAuthNoPriv)?;
-    put_level(alloc, out, wanted, view, group, Level::AuthNoPriv)?;
-    put_level(alloc, out, wanted, view, group, Level::AuthPriv)
+    put_level(alloc, out, wanted, places, view, group, Level::NoAuthNoPriv)?;
+    put_level(alloc, out, wanted, places, view, group, Level::AuthNoPriv)?;
+    put_level(alloc, out, wanted, places, view, group, Level::AuthPriv)
 }
 
 /// Appends the lines of the group rows.
@@ -158,15 +170,17 @@ fn put_view(
     alloc: Global,
     out: &mut Vec<u8>,
     wanted: &WhoSeesQuery<'_>,
+    places: &BTreeMap<&[u8], usize>,
     view: ViewType,
 ) -> Result<(), AllocError>
-    requires { IsReady wanted.now }
+    requires ready { IsReady wanted.now }
+    requires places { AreFirstPlaces wanted.now.users.now places.now }
     ensures { OnOk result
         (GoesOn (SeesIt wanted.now) (of_view (tables_of wanted.now.rows.now) view)
         out.old.items out.new.items) }
 {
     'groups: for group in &wanted.rows.groups {
-        put_group(alloc, out, wanted, view, group)?;
+        put_group(alloc, out, wanted, places, view, group)?;
     }
     Ok(())
 }
@@ -177,7 +191,7 @@ fn put_view(
 ///
 /// There is no line but of the names that group rows have, in the contexts that there are, since each other
 /// question is answered noGroupName or noSuchContext. For v views, g group rows and c contexts 3vgc questions
-/// are asked. The error is out of memory.
+/// are asked. Each looks its name up among the users' once. The error is out of memory.
 pub fn who_sees(
     alloc: Global,
     wanted: &WhoSeesQuery<'_>,
@@ -189,9 +203,10 @@ pub fn who_sees(
         wanted.now.only_users wanted.now.users.now
         wanted.now.variable.now text.items) }
 {
+    let places = first_places(alloc, wanted.users)?;
     let mut out = Vec::new(alloc);
     'views: for view in views {
-        put_view(alloc, &mut out, wanted, *view)?;
+        put_view(alloc, &mut out, wanted, &places, *view)?;
     }
     Ok(out)
 }

@@ -152,7 +152,8 @@ no_row_told users others rows tables.Access position wrong e sound fine told = n
 no_row_told users others rows tables.Family position wrong e sound fine told = no_access_fault rows vacm_tables.Families position wrong fine told.1
 
 pub unrefused : (text : List ℕ) (users : List UserRow) (rows : Tables) (fault : ConfigFault) → SaysSound text users rows → RefusesText text fault → ⊥
-unrefused text users rows (faults.Toml fault) s r = let never : None ≡ Some s.says.document = sym (r.cause s.says.is_document.utf8) ∙ s.says.is_document.parsed in cc
+unrefused text users rows (faults.Nested line column) s r = s.says.is_document.shallow r.cause.1.0 r.cause.1.1
+unrefused text users rows (faults.Toml fault) s r = let never : None ≡ Some s.says.document = sym (r.cause s.says.is_document.utf8).1 ∙ s.says.is_document.parsed in cc
 unrefused text users rows (faults.Top key) s r =
     let is = one_document text r.cause.0 s.says.document r.cause.1 s.says.is_document in
     no_first IsTopMember s.says.document _ (rw is at r.cause.2) s.says.stands.top

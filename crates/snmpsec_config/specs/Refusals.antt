@@ -33,12 +33,14 @@ use Rattle.snmpsec_config.specs.declared.fault.ConfigFault.TheVariants as faults
 use Rattle.snmpsec_config.specs.Keys.{at, HasOnlyListed, IsFirstUnlisted, table_name}
 use Rattle.snmpsec_config.specs.Values.{IsFirstWrong}
 use Rattle.snmpsec_config.specs.declared.keys.ValueFault.{ValueFault}
+use Rattle.snmpsec_config.specs.Nesting.{IsShallow, IsTooDeepAt}
 use Rattle.snmpsec_config.specs.Documents.{IsBadTop, StandsFor, IsBadKeyAt, IsFirstBad, values_of}
 use Rattle.std.specs.Prelude.{string_bytes}
 
--- The text is TOML, in UTF-8, of this document.
+-- The text is TOML, in UTF-8, of this document, and at most 16 of its brackets are open at a time.
 pub record IsDocument (text : List ℕ) (document : Members) : Type 0 where
   pub utf8 : IsUtf8 text
+  pub shallow : IsShallow text
   pub parsed : parse_document text ≡ Some document
 
 -- The text stands for these rows.
@@ -102,7 +104,8 @@ TellsKeyAt document of position fault = (row : Members)
 
 -- What a refusal says of the document, in the order of looking.
 abbrev pub RefusesDocument : Members → ConfigFault → Type 0
-RefusesDocument document (faults.Toml line) = ⊥
+RefusesDocument document (faults.Nested line column) = ⊥
+RefusesDocument document (faults.Toml fault) = ⊥
 RefusesDocument document (faults.Top key) = IsBadTop document (string_bytes key)
 RefusesDocument document (faults.BadKey of position fault) = IsBadKeyAt document of position
     × TellsKeyAt document of position fault
@@ -112,7 +115,8 @@ RefusesDocument document faults.OutOfMemory = ⊤
 
 -- What a refusal says of the text: the first cause, or that memory ran out.
 abbrev pub Refuses : List ℕ → ConfigFault → Type 0
-Refuses text (faults.Toml fault) = IsUtf8 text → parse_document text ≡ None
+Refuses text (faults.Nested line column) = IsUtf8 text × IsTooDeepAt text line column
+Refuses text (faults.Toml fault) = IsUtf8 text → IsShallow text × (parse_document text ≡ None)
 Refuses text faults.OutOfMemory = ⊤
 Refuses text fault = (document : Members) × IsDocument text document × RefusesDocument document fault
 
@@ -172,6 +176,7 @@ wrong_name BadRow = codes "BadRow"
 wrong_name Duplicate = codes "Duplicate"
 
 abbrev pub refusal_line : ConfigFault → List ℕ
+refusal_line (faults.Nested line column) = codes "refused config toml"
 refusal_line (faults.Toml fault) = codes "refused config toml"
 refusal_line (faults.Top key) = codes "refused config top"
 refusal_line (faults.BadKey of position fault) = codes "refused config "

@@ -2,6 +2,7 @@
 --
 -- `IsWhy fault words`. What is told beside that line: what is wrong and what is wanted.
 use Rattle.std.specs.Prelude.{◌≡◌, ⊤, ℕ, List, ◌++◌, codes, decimal, string_bytes, Option, Some, None, IfSome, Contains}
+use Rattle.snmpsec_config.specs.Shown.{shown_key}
 use Rattle.snmpsec_config.specs.declared.table.ConfigTable.{ConfigTable}
 use Rattle.snmpsec_config.specs.declared.table.ConfigTable.TheVariants as tables
 use Rattle.snmpsec_config.specs.declared.table.ConfigKey.{ConfigKey}
@@ -65,16 +66,21 @@ near_words (Some key) = codes ", the nearest is " ++ key_name key
 abbrev pub IsKeyWords : ConfigTable → KeyFault → List ℕ → Type 0
 IsKeyWords of (Unlisted key) text =
     (near : Option ConfigKey) × IfSome near (Contains (listed of))
-    × (text ≡ string_bytes key ++ (codes ": not a key of this table" ++ near_words near))
+    × (text ≡ shown_key (string_bytes key) ++ (codes ": not a key of this table" ++ near_words near))
 IsKeyWords of (Missing key) text = text ≡ key_name key ++ (codes ": missing, " ++ wanted_words (wanted_at of key))
 IsKeyWords of (Value key) text = text ≡ key_name key ++ (codes ": " ++ wanted_words (wanted_at of key))
 
+-- what is told of a key that has no place at the top
+abbrev pub top_words : List ℕ → List ℕ
+top_words key = shown_key key
+    ++ codes ": at the top stand the arrays of tables user, context, group, access and family, and nothing else"
+
 -- What is wrong and what is wanted. Of a text that isn't TOML it is told in the words of the TOML reader.
 abbrev pub IsWhy : ConfigFault → List ℕ → Type 0
+IsWhy (faults.Nested line column) text =
+    text ≡ codes "line " ++ (decimal line ++ (codes ", column " ++ (decimal column ++ codes ": 16 brackets are open, and no more may be")))
 IsWhy (faults.Toml fault) text = ⊤
-IsWhy (faults.Top key) text =
-    text ≡ string_bytes key
-    ++ codes ": at the top stand the arrays of tables user, context, group, access and family, and nothing else"
+IsWhy (faults.Top key) text = text ≡ top_words (string_bytes key)
 IsWhy (faults.BadKey of position fault) text = (words : List ℕ) × IsKeyWords of fault words
     × (text ≡ row_words of position words)
 IsWhy (faults.Row of position wrong) text = text ≡ row_words of position (wrong_words of wrong)

@@ -4,11 +4,13 @@ ghost use Rattle.std.specs.Prelude.{◌≡◌, ◌≢◌, ◌++◌, codes, Optio
 ghost use Rattle.std.specs.Prelude.{string_bytes};
 ghost use Rattle.snmpsec_config.specs.Keys.{listed};
 ghost use Rattle.snmpsec_config.specs.Refusals.{user_refusal, vacm_refusal, wrong_name, refusal_line};
-ghost use Rattle.snmpsec_config.specs.Told.{wrong_words, near_words, IsKeyWords, IsWhy};
+ghost use Rattle.snmpsec_config.specs.Shown.{shown_key};
+ghost use Rattle.snmpsec_config.specs.Told.{wrong_words, near_words, top_words, IsKeyWords, IsWhy};
 ghost use Rattle.snmpsec_config.specs.declared.table.ConfigKey.{ConfigKey as AKey};
 ghost use Rattle.snmpsec_config.specs.declared.fault.ConfigFault.TheVariants.{OutOfMemory};
 
 use crate::near::nearest;
+use crate::shown::shown_key;
 use crate::table::{ConfigKey, ConfigTable};
 use crate::wanted::Wanted;
 use std::alloc::{AllocError, AllocFailed, Global};
@@ -43,16 +45,37 @@ impl KeyFault {
     }
 }
 
+/// The words for a key that is shown like this, and isn't listed, with a listed one that is like it.
+fn near_told(alloc: Global, shown: &str, near: Option<ConfigKey>) -> Result<String, AllocError>
+    ensures { IfOk result (λ words. string_bytes words
+        ≡ shown.now ++ (codes ": not a key of this table" ++ near_words near)) }
+{
+    match near {
+        Some(near) => format!(in alloc; "{shown}: not a key of this table, the nearest is {near}"),
+        None => format!(in alloc; "{shown}: not a key of this table"),
+    }
+}
+
 /// The words for a key that the table doesn't list.
 fn unlisted_words(alloc: Global, table: ConfigTable, key: &str) -> Result<String, AllocError>
     ensures { IfOk result
         (λ words. (near : Option AKey) × IfSome near (Contains (listed table))
-        × (string_bytes words ≡ key.now ++ (codes ": not a key of this table" ++ near_words near))) }
+        × (string_bytes words
+        ≡ shown_key key.now ++ (codes ": not a key of this table" ++ near_words near))) }
 {
-    match nearest(table, key) {
-        Some(near) => format!(in alloc; "{key}: not a key of this table, the nearest is {near}"),
-        None => format!(in alloc; "{key}: not a key of this table"),
-    }
+    let near = nearest(table, key);
+    let shown = shown_key(alloc, key)?;
+    near_told(alloc, shown.as_str(), near)
+}
+
+/// The words for a key that has no place at the top.
+fn top_words(alloc: Global, key: &str) -> Result<String, AllocError>
+    ensures { IfOk result (λ words. string_bytes words ≡ top_words key.now) }
+{
+    let shown = shown_key(alloc, key)?;
+    format!(in alloc;
+        "{shown}: at the top stand the arrays of tables user, context, group, access and family, and nothing else"
+    )
 }
 
 /// What is wrong with a row whose keys are right.
@@ -73,6 +96,11 @@ pub enum LoadFault {
 /// Why a configuration isn't read. Positions count from 0.
 #[derive(Debug, Drop)]
 pub enum ConfigFault {
+    /// The bracket here, counted from 1, opens beside 16 that are open.
+    Nested {
+        line: usize,
+        column: usize,
+    },
     /// The text isn't TOML in UTF-8.
     Toml {
         fault: toml::de::Error,
@@ -148,10 +176,11 @@ impl ConfigFault {
         ensures { IfOk result (λ words. IsWhy self.now (string_bytes words)) }
     {
         match self {
-            ConfigFault::Toml { fault } => toml_words(alloc, fault),
-            ConfigFault::Top { key } => format!(in alloc;
-                "{key}: at the top stand the arrays of tables user, context, group, access and family, and nothing else"
+            ConfigFault::Nested { line, column } => format!(in alloc;
+                "line {line}, column {column}: 16 brackets are open, and no more may be"
             ),
+            ConfigFault::Toml { fault } => toml_words(alloc, fault),
+            ConfigFault::Top { key } => top_words(alloc, key.as_str()),
             ConfigFault::BadKey {
                 table,
                 position,
@@ -191,7 +220,9 @@ impl fmt::Display for ConfigFault {
 
     fn fmt<W: fmt::Write>(&self, f: &mut fmt::Formatter<W>) -> fmt::Result {
         match self {
-            ConfigFault::Toml { .. } => f.write_str("refused config toml"),
+            ConfigFault::Nested { .. } | ConfigFault::Toml { .. } => {
+                f.write_str("refused config toml")
+            }
             ConfigFault::Top { .. } => f.write_str("refused config top"),
             ConfigFault::BadKey {
                 table,

@@ -1,31 +1,45 @@
 //! `snmpsec import-snmpd`: the configuration that files of snmpd.conf come to.
 
-use snmpd_import::{Imported, Sources, TextFault, follow, import, is_serious, notes_text};
+use snmpd_import::{
+    Imported, Sources, TextFault, follow, import, is_none_known, is_serious, notes_text,
+};
 use snmpd_tables::read_items;
 use snmpsec_cli::ImportWords;
 use snmpsec_commands::Complaint;
 use snmpsec_io::load_file;
 use snmpsec_output::Output;
 use std::alloc::{AllocError, Global};
+use std::collections::BTreeSet;
 use std::rt::Files;
 use vacm_core::{ContextRow, Name};
 
 /// The contexts of these names, each once, behind the one without a name; `None` where one has more than 32 octets.
 fn contexts_of(alloc: Global, names: &[&str]) -> Result<Option<Vec<ContextRow>>, AllocError> {
     let mut contexts = Vec::new(alloc);
-    let Some(none) = Name::of(b"") else {
-        unreachable!();
-    };
-    contexts.push(ContextRow { name: none })?;
+    let mut seen = BTreeSet::new(alloc);
+    put_context(&mut contexts, &mut seen, "")?;
     for name in names {
-        let Some(name) = Name::of(name.as_bytes()) else {
+        if !put_context(&mut contexts, &mut seen, name)? {
             return Ok(None);
-        };
-        if !contexts.iter().any(|row| row.name == name) {
-            contexts.push(ContextRow { name })?;
         }
     }
     Ok(Some(contexts))
+}
+
+/// Puts the context of this name behind those that are there, where it isn't one of them. False if it has more
+/// than 32 octets.
+fn put_context<'a>(
+    contexts: &mut Vec<ContextRow>,
+    seen: &mut BTreeSet<&'a str>,
+    name: &'a str,
+) -> Result<bool, AllocError> {
+    let Some(row) = Name::of(name.as_bytes()) else {
+        return Ok(false);
+    };
+    if seen.insert(name)? {
+        contexts.push(ContextRow { name: row })?;
+    }
+    Ok(true)
 }
 
 /// Puts the lines of a file behind those that are there.
@@ -54,7 +68,8 @@ fn put_source(
 }
 
 /// Looks at the names of contexts before it opens a file, reads the files in their order and those that they
-/// name, and then prints the configuration. The first file that isn't read ends it.
+/// name, and then prints the configuration. The first file that isn't read ends it. Where no line of them is
+/// known, there is none.
 pub(crate) fn import_snmpd<R: Files + AllocGlobal>(
     rt: &R,
     words: &ImportWords<'_>,
@@ -68,6 +83,9 @@ pub(crate) fn import_snmpd<R: Files + AllocGlobal>(
         read_source(rt, &mut sources, name)?;
     }
     let Sources { names, items } = follow(rt, sources, words.no_include)?;
+    if is_none_known(&items) {
+        return Ok(none_known_output(alloc)?);
+    }
     match import(alloc, &names, items, contexts) {
         Ok(done) => Ok(import_output(alloc, &names, done, words.strict)?),
         Err(TextFault::OutOfMemory) => Err(Complaint::OutOfMemory),
@@ -76,6 +94,19 @@ pub(crate) fn import_snmpd<R: Files + AllocGlobal>(
             "the configuration isn't read back as it was written",
         )),
     }
+}
+
+/// No configuration, where no line of the files is known.
+fn none_known_output(alloc: Global) -> Result<Output, AllocError> {
+    Ok(Output {
+        out: Vec::new(alloc),
+        err: Vec::from_slice(
+            alloc,
+            b"snmpsec: no line is known as one of snmpd.conf on users or access, so there is no configuration\n",
+        )?,
+        status: 1,
+        why: None,
+    })
 }
 
 /// The configuration on standard output and the notes on standard error.

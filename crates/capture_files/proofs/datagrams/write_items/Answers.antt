@@ -1,4 +1,4 @@
-use Rattle.std.proofs.Common.{arith, refl, inr}
+use Rattle.std.proofs.Common.{◌∙◌, arith, refl, inr}
 use Rattle.std.proofs.lemmas.Result.{err_from_is_err_and}
 use Rattle.capture_files.proofs.Logs.{starts, reads_part, reads_item, stops_item, stops_reading, next_number, writes_as, stops_as}
 use Rattle.capture_files.proofs.Counts.{starts_below, below_next}
@@ -13,7 +13,7 @@ loop-place-init g c =
       below = starts_below _ c.requires.none;
       near = omega arith;
       most = omega (arith, near);
-      room = c.requires.room;
+      room = c.as_mut_slice-room.ensures.len ∙ c.requires.room;
     }
 
 pub returns-in_err-item-clause-err : goal.returns-in_err-item-clause-err

@@ -7,8 +7,8 @@ use Rattle.capture_files.proofs.datagrams.write_items.Given as goal
 
 abbrev pub invariant-loop-place : goal.invariant-loop-place
 invariant-loop-place g l = record {
-  stands : Stands (g.P.Printer.prints l.fn.printer) l.ports (state_of l.fn.begun.format) (streams (g.R.Read.remaining l.fn.reader) (g.R.Read.remaining l.reader) (g.L.Write.contents l.fn.log) (g.L.Write.contents l.log) (g.N.Write.contents l.fn.notes) (g.N.Write.contents l.notes))
-      (IsBefore l.fn.begun.place l.number l.place (state_of l.format)) (counts_of l.passed);
+  stands : Stands (g.P.Printer.prints l.fn.printer) l.ports (state_of l.fn.start.begun.format) (streams (g.R.Read.remaining l.fn.reader) (g.R.Read.remaining l.reader) (g.L.Write.contents l.fn.log) (g.L.Write.contents l.log) (g.N.Write.contents l.fn.notes) (g.N.Write.contents l.notes))
+      (IsBefore l.fn.start.begun.place l.number l.place (state_of l.format)) (counts_of l.passed);
   keeps : PrintsAs (g.P.Printer.prints l.printer) (g.P.Printer.prints l.fn.printer);
   below : IsBelow (counts_of l.passed) l.number;
   near : l.number ≤ l.place + 1;

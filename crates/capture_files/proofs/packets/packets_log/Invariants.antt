@@ -6,7 +6,7 @@ use Rattle.capture_files.proofs.packets.packets_log.Given as goal
 
 abbrev pub invariant-loop-place : goal.invariant-loop-place
 invariant-loop-place g l = record {
-  sorts : Sorts (g.P.Printer.prints l.fn.printer) l.ports 1 (map (packet_record l.moment) (map (λ packet. packet.items) (take l.place l.packets))) none_passed l.log.items l.notes.items (counts_of l.passed);
+  sorts : Sorts (g.P.Printer.prints l.fn.printer) l.ports 1 (map (packet_record l.moment) (map (λ packet. packet.items) (take l.place l.packets))) none_passed l.told.log.items l.told.notes.items (counts_of l.told.passed);
   keeps : PrintsAs (g.P.Printer.prints l.printer) (g.P.Printer.prints l.fn.printer);
-  below : IsBelow (counts_of l.passed) (l.place + 1);
+  below : IsBelow (counts_of l.told.passed) (l.place + 1);
 }
