@@ -7,3 +7,4 @@ pub mod Packets
 pub mod Pcap
 pub mod Pcapng
 pub mod Tally
+pub mod Routes

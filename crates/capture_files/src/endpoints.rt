@@ -1,8 +1,12 @@
 //! From whom a datagram is, and to whom.
 
-ghost use Rattle.std.specs.Prelude.{◌≡◌, ◌+◌, ◌≤◌};
+ghost use Rattle.std.specs.Prelude.{◌≡◌, ◌+◌, ◌≤◌, length, slice_range, true, IfNone, IfSome};
+ghost use Rattle.capture_files.specs.Packet.{FindsIpv4, FindsIpv6};
+ghost use Rattle.capture_files.specs.Routes.{HasNoDatagram, IsNone, IsRoute4, IsRoute6, IsRouteOf};
+ghost use Rattle.capture_files.specs.declared.endpoints.Address.TheVariants.{V4, V6};
+ghost use Rattle.capture_files.specs.declared.packet.Found.{Found as FoundIs};
 
-use crate::packet::{Found, Network, find_datagram, unframe};
+use crate::packet::{Found, Network, find_in_ipv4, find_in_ipv6, unframe};
 use std::fmt;
 
 /// An address of IP.
@@ -41,8 +45,24 @@ impl Route {
 
 /// From whom the datagram of a packet is, and to whom, if the packet on a link of this type (a number of LINKTYPE)
 /// has a whole datagram.
-pub fn route_of(link: u16, packet: &[u8]) -> Option<Route> {
-    let found = find_datagram(u32::from(link), packet, true);
+pub fn route_of(link: u16, packet: &[u8]) -> Option<Route>
+    ensures found { IfSome result (IsRouteOf link packet.now) }
+    ensures none { IfNone result (HasNoDatagram link packet.now) }
+{
+    match unframe(u32::from(link), packet) {
+        Network::Ipv4(octets) => route_in_ipv4(octets),
+        Network::Ipv6(octets) => route_in_ipv6(octets),
+        Network::NotIp => None,
+        Network::OtherLink => None,
+    }
+}
+
+/// The route of the datagram of a packet of IPv4 (RFC 791, section 3.1).
+fn route_in_ipv4(octets: &[u8]) -> Option<Route>
+    ensures found { IfSome result (IsRoute4 octets.now) }
+    ensures none { IfNone result ((f : FoundIs) × FindsIpv4 octets.now true f × IsNone f) }
+{
+    let found = find_in_ipv4(octets, true);
     let Found::Datagram {
         source,
         destination,
@@ -51,49 +71,60 @@ pub fn route_of(link: u16, packet: &[u8]) -> Option<Route> {
     else {
         return None;
     };
-    let (from, to) = addresses(link, packet)?;
     let from = Endpoint {
-        address: from,
+        address: address_v4(octets, 12),
         port: source,
     };
     let to = Endpoint {
-        address: to,
+        address: address_v4(octets, 16),
         port: destination,
     };
     Some(Route { from, to })
 }
 
-/// The two addresses of a packet, from whom and to whom (RFC 791, section 3.1; RFC 8200, section 3).
-fn addresses(link: u16, packet: &[u8]) -> Option<(Address, Address)> {
-    match unframe(u32::from(link), packet) {
-        Network::Ipv4(octets) => Some((address_v4(octets, 12)?, address_v4(octets, 16)?)),
-        Network::Ipv6(octets) => Some((address_v6(octets, 8)?, address_v6(octets, 24)?)),
-        Network::NotIp | Network::OtherLink => None,
-    }
+/// The route of the datagram of a packet of IPv6 (RFC 8200, section 3).
+fn route_in_ipv6(octets: &[u8]) -> Option<Route>
+    ensures found { IfSome result (IsRoute6 octets.now) }
+    ensures none { IfNone result ((f : FoundIs) × FindsIpv6 octets.now true f × IsNone f) }
+{
+    let found = find_in_ipv6(octets, true);
+    let Found::Datagram {
+        source,
+        destination,
+        ..
+    } = found
+    else {
+        return None;
+    };
+    let from = Endpoint {
+        address: address_v6(octets, 8),
+        port: source,
+    };
+    let to = Endpoint {
+        address: address_v6(octets, 24),
+        port: destination,
+    };
+    Some(Route { from, to })
 }
 
-/// The address of IPv4 at this place, if the octets go on so far.
-fn address_v4(octets: &[u8], at: usize) -> Option<Address>
-    requires { at ≤ 16 }
+/// The address of IPv4 at this place.
+fn address_v4(octets: &[u8], at: usize) -> Address
+    requires { at + 4 ≤ length octets.now }
+    ensures { result ≡ V4 (slice_range octets.now at (at + 4)) }
 {
-    if octets.len() < at + 4 {
-        return None;
-    }
     let mut address = [0; 4];
     address.copy_from_slice(&octets[at..at + 4]);
-    Some(Address::V4(address))
+    Address::V4(address)
 }
 
-/// The address of IPv6 at this place, if the octets go on so far.
-fn address_v6(octets: &[u8], at: usize) -> Option<Address>
-    requires { at ≤ 24 }
+/// The address of IPv6 at this place.
+fn address_v6(octets: &[u8], at: usize) -> Address
+    requires { at + 16 ≤ length octets.now }
+    ensures { result ≡ V6 (slice_range octets.now at (at + 16)) }
 {
-    if octets.len() < at + 16 {
-        return None;
-    }
     let mut address = [0; 16];
     address.copy_from_slice(&octets[at..at + 16]);
-    Some(Address::V6(address))
+    Address::V6(address)
 }
 
 /// The eight groups of an address of IPv6.

@@ -129,7 +129,7 @@ fn raw(packet: &[u8]) -> Network<'_>
 }
 
 /// The datagram of a packet of IPv4 (RFC 791, section 3.1).
-fn find_in_ipv4(octets: &[u8], whole: bool) -> Found<'_>
+pub(crate) fn find_in_ipv4(octets: &[u8], whole: bool) -> Found<'_>
     ensures { FindsIpv4 octets.now whole result }
 {
     if octets.len() < 20 {
@@ -164,7 +164,7 @@ fn behind(octets: &[u8], from: usize) -> &[u8]
 }
 
 /// The datagram of a packet of IPv6 (RFC 8200, section 3).
-fn find_in_ipv6(octets: &[u8], whole: bool) -> Found<'_>
+pub(crate) fn find_in_ipv6(octets: &[u8], whole: bool) -> Found<'_>
     ensures { FindsIpv6 octets.now whole result }
 {
     if octets.len() < 40 {

@@ -1,7 +1,8 @@
 -- Exchanges in the order of their first datagrams, and the steps by which a capture makes them.
 --
--- `Begins`: a datagram is the first of a new exchange, behind all others. `Answers`: it answers the one exchange at
--- a place, which waited for it. `Ends`: an exchange at a place that waited ends without an answer.
+-- `begun`: an exchange as a datagram begins it. `IsWaiting`, `WaitsAt`: at a place an exchange waits. `Ends`: it
+-- ends, by an answer or without one. `HandsOver`: a request that was sent again counts in the place of the first.
+-- `Step`, `HasRun`: the steps, and runs of them.
 use Rattle.std.specs.Prelude.{◌≡◌, ◌⊎◌, Some, None, ◌+◌, ◌++◌, ℕ, List, [], ◌∷◌, Bool, true, false, length}
 use Rattle.std.specs.Prelude.{◌^◌, ◌-◌, ◌<◌, slice_index_or, slice_set, cond, min, nat_eq}
 use Rattle.std.specs.List.{count_by, sum_by}

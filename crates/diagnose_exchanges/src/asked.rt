@@ -27,10 +27,10 @@ impl Asked {
         ensures route { result.route ≡ back_if_known route }
         ensures id { result.id ≡ id }
     {
-        let route = match route {
+        let back = match route {
             Some(route) => Some(route.back()),
             None => None,
         };
-        Asked { route, id }
+        Asked { route: back, id }
     }
 }

@@ -5,7 +5,7 @@ ghost use Rattle.std.specs.Prelude.{IfOk, IfErr, IfSome, OnErr, IfNone, OnOk};
 ghost use Rattle.std.specs.Prelude.{◌<◌, ◌≢◌, ◌↔◌, IsTrue, OnSome, Some, None, slice_get, slice_index_or, slice_set};
 ghost use Rattle.diagnose_exchanges.specs.declared.exchange.Exchange.{Exchange as ExchangeIs};
 ghost use Rattle.std.specs.VecDeque.{deque_len};
-ghost use Rattle.std.specs.HashMap.{IsUnchanged, Updates, get};
+ghost use Rattle.std.specs.HashMap.{IsEmpty, IsUnchanged, Updates, get};
 ghost use Rattle.diagnose_exchanges.specs.Exchanges.{Ends, Forgets, HandsOver, IsUncounted, IsWaiting, WaitsAt};
 ghost use Rattle.diagnose_exchanges.specs.Exchanges.{begun, counting};
 ghost use Rattle.diagnose_exchanges.specs.Exchanges.{exchanges_limit, is_waiting, place_after, resent, waits};
@@ -32,7 +32,9 @@ pub struct Exchanges<K: Eq + Hash + Copy + Drop, Q: Drop, A: Drop> {
 impl<K: Eq + Hash + Copy + Drop, Q: Drop, A: Drop> Exchanges<K, Q, A> {
     /// No datagram was seen. This takes no memory.
     pub fn new(alloc: Global) -> Exchanges<K, Q, A>
-        ensures { result.list.items ≡ [] }
+        ensures list { result.list.items ≡ [] }
+        ensures gone { result.gone ≡ 0 }
+        ensures waiting { IsEmpty result.waiting.numbers }
     {
         Exchanges {
             waiting: Waiting::new(alloc),
@@ -41,18 +43,26 @@ impl<K: Eq + Hash + Copy + Drop, Q: Drop, A: Drop> Exchanges<K, Q, A> {
         }
     }
 
+    /// The place of the exchange at this index of those that are held.
+    fn place_at(&self, index: usize) -> u64
+        ensures place { result ≡ place_after self.now.gone index }
+        ensures first { index ≡ 0 → result ≡ self.now.gone }
+    {
+        self.gone.saturating_add(index as u64)
+    }
+
     /// The place of the exchange that begins next.
     pub fn next_place(&self) -> u64
         ensures { result ≡ place_after self.now.gone (length self.now.list.items) }
     {
-        self.gone.saturating_add(self.list.len() as u64)
+        self.place_at(self.list.len())
     }
 
     /// The place of the first exchange.
     pub fn first_place(&self) -> u64
         ensures { result ≡ self.now.gone }
     {
-        self.gone
+        self.place_at(0)
     }
 
     /// There are over 65,536 exchanges: the first is to be ended.
@@ -200,7 +210,7 @@ impl<K: Eq + Hash + Copy + Drop, Q: Drop, A: Drop> Exchanges<K, Q, A> {
             return None;
         }
         let first = self.list.pop_front()?;
-        self.gone = self.gone.saturating_add(1);
+        self.gone = self.place_at(1);
         Some(first)
     }
 }
