@@ -3,7 +3,7 @@
 -- `IsDecision` (RFC 3413, section 3.2, RFC 3415, section 3). For each variable that a GetRequest or a
 -- SetRequest names, in their order, `Allowed` of the message's user and level, its context's name, the
 -- user-based model and the read or the write view.
-use Rattle.std.specs.Prelude.{◌≡◌, ◌≢◌, ◌⊎◌, ℕ, List}
+use Rattle.std.specs.Prelude.{◌≡◌, ◌≢◌, ◌⊎◌, ℕ, List, Option, Some, None}
 use Rattle.std.specs.List.{AllZip}
 use Rattle.snmp_ber.specs.declared.level.Level.{Level}
 use Rattle.snmp_message.specs.Scoped.{Contexts}
@@ -16,6 +16,7 @@ use Rattle.vacm_core.specs.Allowed.{Requester, Allowed}
 use Rattle.vacm_core.specs.declared.access.ViewType.{ViewType}
 use Rattle.vacm_core.specs.declared.access.ViewType.TheVariants.{Read, Write}
 use Rattle.vacm_core.specs.declared.access.Access.{Access}
+use Rattle.vacm_next.specs.Next.{IsLeastFrom, NoneFrom, Sees}
 use Rattle.snmp_agent.specs.declared.decision.Decision.{Decision}
 use Rattle.snmp_agent.specs.declared.decision.Decision.TheVariants.{ByName, NotByName}
 use Rattle.snmp_incoming.specs.Outcome.{Given}
@@ -28,6 +29,11 @@ question user level context = record { model = 3; name = user; level = level; co
 -- the same of an accepted message: its user and level, and the name of its context
 abbrev pub question_of : Given → Contexts → Requester
 question_of g c = question g.user g.level c.name
+
+-- The least name, at or after this one, that such a message may see; or there is none (RFC 3416, section 4.2.2).
+abbrev pub NextSeen : Tables → Requester → ViewType → List ℕ → Option (List ℕ) → Type 0
+NextSeen tables message view from None = NoneFrom (Sees tables message view) from
+NextSeen tables message view from (Some next) = IsLeastFrom (Sees tables message view) from next
 
 -- A GetRequest is decided by the read view, and a SetRequest by the write view.
 abbrev pub IsDecidedBy : ℕ → ViewType → Type 0

@@ -31,6 +31,7 @@ use std::alloc::{AllocError, Global};
 use std::marker::Model;
 use usm_core::{Users, read_layout};
 use vacm_core::{Access, Vacm, ViewType};
+use vacm_next::next_in_view;
 
 /// An authoritative engine (RFC 3414, section 1.5.1), with its users, its view-based access (RFC 3415) and
 /// the counters of what it refused. All moments are in seconds from one beginning, which the caller keeps.
@@ -74,7 +75,7 @@ impl Agent {
     ghost use Rattle.snmp_incoming.specs.Answers.{given_of};
     ghost use Rattle.snmp_outgoing.specs.Bodies.{BodyFits, front_in, variables_in};
     ghost use Rattle.usm_core.specs.Answers.{seal_answer};
-    ghost use Rattle.snmp_agent.specs.Decides.{question, question_of, IsDecision};
+    ghost use Rattle.snmp_agent.specs.Decides.{NextSeen, question, question_of, IsDecision};
     ghost use Rattle.snmp_incoming.specs.Outcome.{own_pair};
     ghost use Rattle.snmp_agent.specs.Responses.{response, responding};
     ghost use Rattle.snmp_agent.specs.Sent.{notification, notifying, Sends, CanBeSent, CanSendAt, RefusesSenderAt};
@@ -196,7 +197,26 @@ impl Agent {
         )
     }
 
-    /// The same without a message: whether this user at this level may see the variable in the context of
+    /// The least name, at or after this one, that the sender of an accepted message may see in the message's
+    /// context: the one for which `allows` answers `AccessAllowed`. None if there is no such name. It takes no memory.
+    pub fn next_in_view(&self, taken: &Taken<'_>, view: ViewType, from: &Oid) -> Option<Oid>
+        ensures { (c : Contexts) → ScopedFront (text_of taken.now.text) c
+            → NextSeen self.now.tables (question_of (given_of taken.now) c) view from.now result }
+    {
+        one_content();
+        let scoped = taken.scoped();
+        next_in_view(
+            &self.vacm,
+            USER_BASED,
+            taken.user,
+            taken.level,
+            view,
+            scoped.name,
+            from,
+        )
+    }
+
+    /// Whether this user at this level may see the variable, without a message, in the context of
     /// this name, as for the notify view of a notification. It takes no memory.
     pub fn may(
         &self,

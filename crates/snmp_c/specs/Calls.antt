@@ -1,7 +1,7 @@
 -- What the calls on a handle answer and leave.
 --
 -- `Done`, `Accesses`: the answer is the number of the result. `Takes`, `Allows`, `May`, `Counter`,
--- `RespondsTo`, `Notifies`, `TellsPart`, `TellsMessage`, `TellsNumbers`, `ClearsAgent`: what each export
+-- `WritesNextName`, `RespondsTo`, `Notifies`, `TellsPart`, `TellsMessage`, `TellsNumbers`, `ClearsAgent`: what each export
 -- answers and leaves. `Makes`: the answer of `_new`. `ReadsBinding`, `Writes`: bindings as octets.
 -- `TellsConfiguration`: why a configuration is refused. `MaxSize`, `RespondsToWithin`, `UnhandledBy`,
 -- `RefusesKept`, `CountOf`, `DropsSilently`: those that go with an agent's answers. `ManagerMaxSize`,
@@ -26,6 +26,7 @@ use Rattle.snmp_incoming.specs.Outcome.{Given}
 use Rattle.snmp_msg.specs.Values.{IsValueOf}
 use Rattle.snmp_handles.specs.Agents.{AgentHeld, Clears, MakesAgent, TakesHeld, TakesNoMemory, AllowsHeld, MaySee}
 use Rattle.snmp_handles.specs.Agents.{Counts, RespondsHeld, Notice, NotifiesHeld}
+use Rattle.snmp_handles.specs.Walks.{WritesNext}
 
 -- The answer is the number of the result, of which this is said.
 abbrev pub Done : (Result ⊤ CallFault → Type 0) → ℤ → Type 0
@@ -112,6 +113,11 @@ abbrev pub TellsPart : ℕ → List ℕ → List ℕ → ℕ → ℕ → AgentHe
 TellsPart n out out_new written written_new old new answer = (new ≡ old)
     × MatchOption (part_of n) ((answer ≡ fault_code BadArgument) × CopiesNothing out out_new written written_new)
     (λ part. Done (λ told. CopiesPart old.last part out out_new written written_new told) answer)
+
+-- the least name, at or after these arcs, that the sender of what is kept may see is in the buffer
+abbrev pub WritesNextName : ℕ → List ℕ → List ℕ → List ℕ → ℕ → ℕ → AgentHeld → AgentHeld → ℤ → Type 0
+WritesNextName view from out out_new written written_new old new answer = (new ≡ old)
+    × Done (λ told. WritesNext old view from out out_new written written_new told) answer
 
 -- the message to be sent is in the buffer
 abbrev pub TellsMessage : List ℕ → List ℕ → ℕ → ℕ → AgentHeld → AgentHeld → ℤ → Type 0

@@ -6,10 +6,10 @@ ghost use Rattle.std.specs.Ptr.{lies_at};
 ghost use Rattle.snmp_handles.specs.contracts.agent.AgentHandle as agents;
 ghost use Rattle.snmp_handles.specs.Agents.{AgentHeld};
 ghost use Rattle.snmp_c.specs.Calls.{Makes, ClearsAgent, Takes, Allows, May, Counter, RespondsTo, Notifies};
-ghost use Rattle.snmp_c.specs.Calls.{TellsPart, TellsMessage, TellsNumbers};
+ghost use Rattle.snmp_c.specs.Calls.{TellsPart, TellsMessage, TellsNumbers, WritesNextName};
 
 use crate::agent_calls::{
-    allows, clear, counter, may, message, notify, numbers, part, respond, take,
+    allows, clear, counter, may, message, next, notify, numbers, part, respond, take,
 };
 use snmp_handles::{AgentHandle, CallFault};
 use snmp_msg::Refusal;
@@ -90,7 +90,30 @@ pub unsafe extern "C" fn proved_agent_allows(at: *mut u8, view: u32, arcs: &[u32
     allows(&mut *(at as *mut AgentHandle), view, arcs)
 }
 
-/// The same without a message: whether this user at the level 1 (noAuthNoPriv), 2 (authNoPriv) or 3
+/// Writes the least name, at or after these arcs, that the sender of the message that is kept may see by the view
+/// 0 (read), 1 (write) or 2 (notify), in the message's context (RFC 3415, section 3; RFC 3416, section 4.2.2): its
+/// arcs to the beginning of the buffer, and how many they are, or 0 if there is no such name. It answers 0; -1 where
+/// no view has the number or there aren't 1 to 128 arcs, and -2 where no message is kept, and then nothing is
+/// written; -5 where the buffer is too short, and then only how many arcs there are.
+#[unsafe(no_mangle)]
+pub unsafe extern "C" fn proved_agent_next(
+    at: *mut u8,
+    view: u32,
+    from: &[u32],
+    out: &mut [u32],
+    written: &mut usize,
+) -> i32
+    ghost held: { AgentHeld }
+    requires* { sem 𝓛 (lies_at agents.the_row full_share at held) }
+    ensures* { ∃ₛ (λ (new : AgentHeld). sem 𝓛
+        (lies_at agents.the_row full_share at new) ∗ ⌜ WritesNextName
+        view from.now out.old out.new written.old written.new held
+        new result ⌝) }
+{
+    next(&mut *(at as *mut AgentHandle), view, from, out, written)
+}
+
+/// Without a message: whether this user at the level 1 (noAuthNoPriv), 2 (authNoPriv) or 3
 /// (authPriv) may see the variable in the context of this name.
 #[unsafe(no_mangle)]
 pub unsafe extern "C" fn proved_agent_may(

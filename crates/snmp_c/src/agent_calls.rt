@@ -1,7 +1,7 @@
 //! What the calls on an agent do, without pointers.
 
 ghost use Rattle.snmp_c.specs.Calls.{ClearsAgent, Takes, Allows, May, Counter, RespondsTo, Notifies, TellsPart};
-ghost use Rattle.snmp_c.specs.Calls.{TellsMessage, TellsNumbers};
+ghost use Rattle.snmp_c.specs.Calls.{TellsMessage, TellsNumbers, WritesNextName};
 
 use snmp_handles::{
     AgentHandle, CallFault, NoticeTo, Part, access_code_of, code_of, value_code_of,
@@ -19,6 +19,20 @@ pub(crate) fn allows(handle: &mut AgentHandle, view: u32, arcs: &[u32]) -> i32
     ensures { Allows view arcs.now handle.old handle.new result }
 {
     access_code_of(handle.allows(view, arcs))
+}
+
+/// Writes the next name that the sender of what is kept may see.
+pub(crate) fn next(
+    handle: &mut AgentHandle,
+    view: u32,
+    from: &[u32],
+    out: &mut [u32],
+    written: &mut usize,
+) -> i32
+    ensures { WritesNextName view from.now out.old out.new written.old written.new
+        handle.old handle.new result }
+{
+    code_of(handle.next(view, from, out, written))
 }
 
 /// Whether a user may see the variable.

@@ -8,4 +8,5 @@ pub mod Faults
 pub mod Numbers
 pub mod Bindings
 pub mod Parts
+pub mod Walks
 pub mod Configurations

@@ -34,6 +34,7 @@ mod manager;
 mod numbers;
 mod parts;
 mod reports;
+mod walks;
 
 pub use agent::{AgentHandle, NoticeTo};
 pub use bindings::{bindings_of, read_binding_at, write_binding};

@@ -1,0 +1,42 @@
+-- What a walk gets of a handle: the next name that the sender of what is kept may see (RFC 3416, sections 4.2.2
+-- and 4.2.3; RFC 3415, section 3).
+--
+-- `WritesNext`: the arcs of the least such name, at or after a name, go into a buffer of the caller. If there is
+-- no such name, the number of arcs is 0.
+use Rattle.std.specs.Prelude.{◌≡◌, ◌⊎◌, ⊤, ℕ, List, Option, Some, None, Result, Ok, Err, IsOk, IsSome}
+use Rattle.snmp_message.specs.Scoped.{Contexts, ScopedFront}
+use Rattle.snmp_incoming.specs.Outcome.{Given}
+use Rattle.snmp_agent.specs.Decides.{NextSeen, question_of}
+use Rattle.vacm_core.specs.Tables.{Tables}
+use Rattle.vacm_core.specs.Allowed.{Requester}
+use Rattle.vacm_core.specs.declared.access.ViewType.{ViewType}
+use Rattle.snmp_handles.specs.declared.fault.CallFault.{CallFault}
+use Rattle.snmp_handles.specs.declared.fault.CallFault.TheVariants.{BadArgument, NothingTaken, ShortBuffer}
+use Rattle.snmp_handles.specs.Agents.{AgentHeld, AreNoArcs}
+use Rattle.snmp_handles.specs.Numbers.{view_of}
+use Rattle.snmp_handles.specs.Parts.{Copies, CopiesNothing}
+
+-- the least name that such a message may see is copied, or there is none
+abbrev pub WritesSeen : Tables → Requester → ViewType → List ℕ → List ℕ → List ℕ → ℕ → Result ⊤ CallFault → Type 0
+WritesSeen tables message view from old new written told =
+    (NextSeen tables message view from None × IsOk told × (new ≡ old) × (written ≡ 0))
+    ⊎ ((next : List ℕ) × NextSeen tables message view from (Some next) × Copies next old new written told)
+
+-- the same of the message that is kept, by the view of this number
+abbrev pub WritesHeld : AgentHeld → ℕ → List ℕ → List ℕ → List ℕ → ℕ → Result ⊤ CallFault → Type 0
+WritesHeld held view from old new written told =
+    (g : Given) × (asked : ViewType) × (held.last ≡ Some g) × (view_of view ≡ Some asked)
+    × (AreNoArcs from → ⊥)
+    × ((c : Contexts) → ScopedFront g.text c
+    → WritesSeen held.agent.tables (question_of g c) asked from old new written told)
+
+abbrev pub WritesNext : AgentHeld → ℕ → List ℕ → List ℕ → List ℕ → ℕ → ℕ → Result ⊤ CallFault → Type 0
+WritesNext held view from old new written written_new (Ok done) =
+    WritesHeld held view from old new written_new (Ok done)
+WritesNext held view from old new written written_new (Err ShortBuffer) =
+    WritesHeld held view from old new written_new (Err ShortBuffer)
+WritesNext held view from old new written written_new (Err BadArgument) =
+    ((view_of view ≡ None) ⊎ AreNoArcs from) × CopiesNothing old new written written_new
+WritesNext held view from old new written written_new (Err NothingTaken) =
+    ((held.last ≡ None) × IsSome (view_of view) × (AreNoArcs from → ⊥)) × CopiesNothing old new written written_new
+WritesNext held view from old new written written_new (Err _) = ⊥
