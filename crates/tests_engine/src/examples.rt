@@ -23,3 +23,4 @@ mod of_usm_users;
 mod of_usm_users_kept_keys;
 mod of_vacm_core;
 mod of_vacm_core_tables;
+mod of_vacm_next;

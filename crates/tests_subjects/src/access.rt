@@ -8,6 +8,7 @@ use tests_messages::row::{Fault, Row, keep};
 use tests_messages::shown::Text;
 use tests_messages::subjects::Subject;
 use vacm_core::*;
+use vacm_next::{next_in_view, walk_from};
 
 /// Rows, and the tables of rows that were loaded.
 #[derive(Drop)]
@@ -53,9 +54,11 @@ impl Views {
     }
 
     /// `allowed MODEL NAME LEVEL VIEW CONTEXT ARCS`: what the loaded tables answer, and its number.
+    /// `next` and `walk` with the same words: the name that they answer.
     fn allowed(&self, row: &mut Row<'_>) {
         match &self.tables {
-            Some(tables) => question(tables, row),
+            Some(tables) if row.kind == "allowed" => question(tables, row),
+            Some(tables) => follow(tables, row),
             None => row.fail("tables that are loaded"),
         }
     }
@@ -70,7 +73,7 @@ impl Subject for Views {
         match row.kind {
             "new" => *self = Views::new(row.alloc),
             "load" => self.load(row),
-            "allowed" => self.allowed(row),
+            "allowed" | "next" | "walk" => self.allowed(row),
             "explain" => explain(&self.rows, row),
             _ => add(&mut self.rows, row),
         }
@@ -184,6 +187,26 @@ pub fn question(tables: &Vacm, row: &mut Row<'_>) {
             row,
             tables.is_access_allowed(model, name, level, view, context, &arcs),
         );
+    }
+}
+
+/// `next MODEL NAME LEVEL VIEW CONTEXT ARCS`: the next name from there on that may be seen. `walk` with the same
+/// words: the name from which a walk asks that has come to this name.
+fn follow(tables: &Vacm, row: &mut Row<'_>) {
+    let is_walk = row.kind == "walk";
+    let (model, name, level) = (row.number32(), row.name(), row.level());
+    let (view, context) = (view_of(row), row.name());
+    let Some(arcs) = row.arcs() else {
+        return;
+    };
+    let found = if is_walk {
+        walk_from(tables, model, name, level, view, context, &arcs)
+    } else {
+        next_in_view(tables, model, name, level, view, context, &arcs)
+    };
+    match found {
+        Some(name) => row.say(format!(in row.alloc; "{name}")),
+        None => row.none(),
     }
 }
 

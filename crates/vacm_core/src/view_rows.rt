@@ -55,7 +55,8 @@ impl<'a> ViewRows<'a> {
         ensures count { result ≡ length self.now }
         ensures few { length self.now < 2 ^ 32 }
     {
-        self.exact.len() + self.others.len()
+        let (exact, others) = (self.exact.len(), self.others.len());
+        exact + others
     }
 
     /// Returns the row at this place, counted from 0.
@@ -63,10 +64,9 @@ impl<'a> ViewRows<'a> {
         requires { place < length self.now }
         ensures { (d : Family) → result.now ≡ get_or self.now place d }
     {
-        if place < self.exact.len() {
-            &self.exact[place]
-        } else {
-            self.others[place - self.exact.len()].row()
+        match self.exact.get(place) {
+            Some(row) => row,
+            None => self.others[place - self.exact.len()].row(),
         }
     }
 

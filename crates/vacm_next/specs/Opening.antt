@@ -1,7 +1,8 @@
 -- What of a view begins with some arcs (RFC 3415, section 4, vacmViewTreeFamilyTable).
 --
--- `Opens rows beginning`: some name of 1 to 128 arcs below 2^32 begins so and is in the view. `Covers`: from some depth on, the row compares only arcs that the other row compares too, and they are equal.
--- So of names that begin alike, the row has each that the other row has, if both agree with their beginning.
+-- `Opens rows beginning`: some name of 1 to 128 arcs below 2^32 begins so and is in the view. `Covers`: from some
+-- depth on, the row compares only arcs that the other row compares too, and they are equal. So of names that begin
+-- alike, the row has each that the other row has, if both agree with their beginning.
 use Rattle.std.specs.Prelude.{◌≡◌, ⊤, ℕ, ◌<◌, ◌≤◌, true, List, [], ◌∷◌, ◌++◌, length, slice_index, Contains}
 use Rattle.std.specs.Prelude.{Option, MatchOption}
 use Rattle.std.specs.declared.cmp.Ordering.TheVariants.{Less}

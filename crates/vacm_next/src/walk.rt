@@ -4,7 +4,8 @@ ghost use Rattle.snmp_ber.specs.Oid.{AreArcs, IsObjectId};
 ghost use Rattle.vacm_core.specs.Allowed as spec;
 ghost use Rattle.vacm_core.specs.Steps.{requester_of};
 ghost use Rattle.vacm_next.specs.Next.{IsBefore, IsUpto, Sees};
-ghost use Rattle.vacm_next.specs.Walk.{ComesAfter, IsLeastOf, IsSeenAfter, IsSeenFrom, NoneOf, PassesNothing, WalksFrom};
+ghost use Rattle.vacm_next.specs.Walk.{ComesAfter, IsLeastOf, IsSeenAfter, IsSeenFrom, NoneOf};
+ghost use Rattle.vacm_next.specs.Walk.{PassesNothing, WalksFrom};
 ghost use Rattle.vacm_next.specs.Walk as walk;
 
 use crate::arc::with_arc;
