@@ -1,7 +1,7 @@
 #include "looks.h"
 #include <string.h>
 
-/* in the place of a number of rows */
+/* instead of a number of rows */
 enum { READABLE = UINT16_MAX };
 
 void looks_begin(struct looks *looks, snmpsec_agent *agent, const struct table *table, snmpsec_pdu pdu, size_t named) {
@@ -29,22 +29,23 @@ bool looks_may(struct looks *looks, snmpsec_view view, const uint32_t *arcs, siz
     return status == SNMPSEC_NO_ERROR;
 }
 
+/* How many rows, from this hidden one on, come before the next name that the sender may see (RFC 3416, section 4.2.2). */
+static uint16_t hidden_from(const struct looks *looks, size_t i) {
+    uint32_t arcs[MOST_ARCS];
+    size_t len = 0, end = looks->table->rows_len;
+    const struct row *row = &looks->table->rows[i];
+    int answer = snmpsec_agent_next(looks->agent, SNMPSEC_READ, row->arcs, row->arcs_len, arcs, MOST_ARCS, &len);
+    if (!answer && len) end = table_from(looks->table, arcs, len);
+    return (uint16_t)(end > i ? end - i : 1);
+}
+
 static bool is_readable(struct looks *looks, size_t i) {
     const struct row *row = &looks->table->rows[i];
     uint16_t known = looks->hidden[i];
     if (known) return known == READABLE && has_look(looks);
     bool may = looks_may(looks, SNMPSEC_READ, row->arcs, row->arcs_len);
-    if (!looks->are_used_up) looks->hidden[i] = may ? READABLE : 1;
+    if (!looks->are_used_up) looks->hidden[i] = may ? READABLE : hidden_from(looks, i);
     return may;
-}
-
-/* The place behind the hidden rows that begin at this one. Each run that is passed is joined to the one behind it, so that it is passed in one step
- * then. */
-static size_t after_hidden(struct looks *looks, size_t i) {
-    size_t end = i + looks->hidden[i];
-    uint16_t more = end < looks->table->rows_len ? looks->hidden[end] : 0;
-    if (more != READABLE) looks->hidden[i] = (uint16_t)(looks->hidden[i] + more);
-    return end;
 }
 
 static bool begins_with(const struct row *row, const uint32_t *arcs, size_t arcs_len) {
@@ -52,7 +53,7 @@ static bool begins_with(const struct row *row, const uint32_t *arcs, size_t arcs
 }
 
 const struct row *looks_readable(struct looks *looks, size_t from, const uint32_t *arcs, size_t arcs_len) {
-    for (size_t i = from; i < looks->table->rows_len; i = after_hidden(looks, i)) {
+    for (size_t i = from; i < looks->table->rows_len; i += looks->hidden[i]) {
         if (!begins_with(&looks->table->rows[i], arcs, arcs_len)) return NULL;
         if (is_readable(looks, i)) return &looks->table->rows[i];
         if (looks->are_used_up || looks->are_unauthorized) return NULL;

@@ -23,7 +23,7 @@ struct looks {
     bool are_used_up;
     /* the sender has no group, no access or no view for a variable: nothing of the request is answered (RFC 3413, section 3.2) */
     bool are_unauthorized;
-    /* how many rows, from each on, are known as ones that the sender may not read; READABLE of one that it may */
+    /* how many rows, from each on, the sender may not read; READABLE of one that it may, and 0 where that isn't known yet */
     uint16_t hidden[MOST_ROWS];
 };
 
@@ -32,7 +32,8 @@ void looks_begin(struct looks *looks, snmpsec_agent *agent, const struct table *
 /* Whether the sender may see, or set, this variable. It takes a look. */
 bool looks_may(struct looks *looks, snmpsec_view view, const uint32_t *arcs, size_t arcs_len);
 /* The first row from this place on that the sender may read, among those whose names begin with these arcs; NULL, where there is none or where the
- * looks are used up. The row that it gives takes a look, and so does each that is passed for the first time. */
+ * looks are used up. The row that it gives takes a look, and so does each hidden one that it meets first. From there it goes on at the next name
+ * that the sender may see, and steps over no row. */
 const struct row *looks_readable(struct looks *looks, size_t from, const uint32_t *arcs, size_t arcs_len);
 
 #endif

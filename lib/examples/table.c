@@ -120,14 +120,21 @@ int table_load(struct table *table, const char *path) {
     return bad ? -1 : sort_rows(table, path);
 }
 
-size_t table_after(const struct table *table, const uint32_t *arcs, size_t arcs_len) {
+size_t table_from(const struct table *table, const uint32_t *arcs, size_t arcs_len) {
     size_t low = 0, high = table->rows_len;
     while (low < high) {
         size_t middle = low + (high - low) / 2;
         const struct row *row = &table->rows[middle];
-        if (compare(row->arcs, row->arcs_len, arcs, arcs_len) <= 0) low = middle + 1; else high = middle;
+        if (compare(row->arcs, row->arcs_len, arcs, arcs_len) < 0) low = middle + 1; else high = middle;
     }
     return low;
+}
+
+size_t table_after(const struct table *table, const uint32_t *arcs, size_t arcs_len) {
+    size_t from = table_from(table, arcs, arcs_len);
+    if (from == table->rows_len) return from;
+    const struct row *row = &table->rows[from];
+    return compare(row->arcs, row->arcs_len, arcs, arcs_len) ? from : from + 1;
 }
 
 struct row *table_at(struct table *table, const uint32_t *arcs, size_t arcs_len) {

@@ -26,6 +26,8 @@ struct table {
 int table_load(struct table *table, const char *path);
 /* The row of this name, or NULL. */
 struct row *table_at(struct table *table, const uint32_t *arcs, size_t arcs_len);
+/* The place of the first row with this name or a later one. */
+size_t table_from(const struct table *table, const uint32_t *arcs, size_t arcs_len);
 /* The place of the first row after this name. */
 size_t table_after(const struct table *table, const uint32_t *arcs, size_t arcs_len);
 

@@ -177,7 +177,12 @@ SNMPSEC_CHECK int snmpsec_agent_message(snmpsec_agent *agent, uint8_t *out, size
 SNMPSEC_CHECK bool snmpsec_agent_allows(snmpsec_agent *agent, snmpsec_view view, const uint32_t *arcs, size_t arcs_len);
 /* The same with the reason: SNMPSEC_BAD_ARGUMENT: no such view, or not 1 to 128 arcs; SNMPSEC_NOTHING_TAKEN. */
 SNMPSEC_CHECK int snmpsec_agent_access(snmpsec_agent *agent, snmpsec_view view, const uint32_t *arcs, size_t arcs_len, snmpsec_access *out);
-/* Both for a user at a level in a context, without a message. */
+/* The least name, at or after these arcs, that the sender of what is kept may see (RFC 3416, section 4.2.2): its arcs in *out, and how many they
+ * are in *written, at most 128, or 0 if there is no such name. An agent that walks goes on there, and steps over no variable that is hidden.
+ * SNMPSEC_SHORT_BUFFER: *written says how many arcs are wanted; SNMPSEC_BAD_ARGUMENT or SNMPSEC_NOTHING_TAKEN, as above: nothing is written. */
+SNMPSEC_CHECK int snmpsec_agent_next(snmpsec_agent *agent, snmpsec_view view, const uint32_t *arcs, size_t arcs_len, uint32_t *out, size_t out_len,
+                                     size_t *written);
+/* As snmpsec_agent_allows and _access, for a user at a level in a context, without a message. */
 SNMPSEC_CHECK bool snmpsec_agent_user_allows(snmpsec_agent *agent, snmpsec_octets user, snmpsec_level level, snmpsec_octets context,
                                              snmpsec_view view, const uint32_t *arcs, size_t arcs_len);
 SNMPSEC_CHECK int snmpsec_agent_user_access(snmpsec_agent *agent, snmpsec_octets user, snmpsec_level level, snmpsec_octets context,

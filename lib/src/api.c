@@ -8,11 +8,13 @@
 static const uint8_t no_octets[16];
 static uint8_t no_room[16];
 static const uint32_t no_arcs[1];
+static uint32_t no_room_for_arcs[1];
 
 /* A slice is never null, though its length be 0. */
 static const uint8_t *in(const uint8_t *at, size_t len) { return len ? at : no_octets; }
 static uint8_t *room(uint8_t *at, size_t len) { return len ? at : no_room; }
 static const uint32_t *name(const uint32_t *at, size_t len) { return len ? at : no_arcs; }
+static uint32_t *room_for_arcs(uint32_t *at, size_t len) { return len ? at : no_room_for_arcs; }
 
 /* After a call that sees a key. */
 static int done(int32_t answer) {
@@ -90,6 +92,12 @@ int snmpsec_agent_access(snmpsec_agent *agent, snmpsec_view view, const uint32_t
 bool snmpsec_agent_allows(snmpsec_agent *agent, snmpsec_view view, const uint32_t *arcs, size_t arcs_len) {
     snmpsec_access access;
     return snmpsec_agent_access(agent, view, arcs, arcs_len, &access) == SNMPSEC_OK && access == SNMPSEC_ACCESS_ALLOWED;
+}
+
+int snmpsec_agent_next(snmpsec_agent *agent, snmpsec_view view, const uint32_t *arcs, size_t arcs_len, uint32_t *out, size_t out_len,
+                       size_t *written) {
+    if (!agent || !written) return SNMPSEC_BAD_ARGUMENT;
+    return proved_agent_next(agent, view, name(arcs, arcs_len), arcs_len, room_for_arcs(out, out_len), out_len, written);
 }
 
 int snmpsec_agent_user_access(snmpsec_agent *agent, snmpsec_octets user, snmpsec_level level, snmpsec_octets context, snmpsec_view view,

@@ -76,7 +76,7 @@ static void handles(void) {
 
 static void arguments(void) {
     snmpsec_agent *agent = NULL;
-    uint32_t arcs[129] = {1, 3, 6};
+    uint32_t arcs[129] = {1, 3, 6}, next[3];
     uint8_t out[8];
     size_t written = 0;
     snmpsec_info info;
@@ -109,6 +109,9 @@ static void arguments(void) {
     check("no view", SNMPSEC_BAD_ARGUMENT, snmpsec_agent_access(agent, (snmpsec_view)3, arcs, 3, &access));
     check("129 arcs", SNMPSEC_BAD_ARGUMENT, snmpsec_agent_access(agent, SNMPSEC_READ, arcs, 129, &access));
     check("no arcs", SNMPSEC_BAD_ARGUMENT, snmpsec_agent_access(agent, SNMPSEC_READ, NULL, 0, &access));
+    check("next of nothing", SNMPSEC_NOTHING_TAKEN, snmpsec_agent_next(agent, SNMPSEC_READ, arcs, 3, next, 3, &written));
+    check("next in no view", SNMPSEC_BAD_ARGUMENT, snmpsec_agent_next(agent, (snmpsec_view)3, arcs, 3, next, 3, &written));
+    check("next of no arcs", SNMPSEC_BAD_ARGUMENT, snmpsec_agent_next(agent, SNMPSEC_READ, NULL, 0, next, 3, &written));
     check("no level", SNMPSEC_BAD_ARGUMENT, snmpsec_agent_user_access(agent, ann, (snmpsec_level)0, empty, SNMPSEC_READ, arcs, 3, &access));
     check("no level: not allowed", false, snmpsec_agent_user_allows(agent, ann, (snmpsec_level)0, empty, SNMPSEC_READ, arcs, 3));
     check("user", 0, snmpsec_agent_user_access(agent, ann, SNMPSEC_NO_AUTH_NO_PRIV, empty, SNMPSEC_READ, arcs, 3, &access));
@@ -136,6 +139,7 @@ static void nulls(void) {
     check("null: part", SNMPSEC_BAD_ARGUMENT, snmpsec_agent_part(NULL, SNMPSEC_USER, out, sizeof out, &written));
     check("null: message", SNMPSEC_BAD_ARGUMENT, snmpsec_agent_message(NULL, out, sizeof out, &written));
     check("null: allows", false, snmpsec_agent_allows(NULL, SNMPSEC_READ, NULL, 0));
+    check("null: next", SNMPSEC_BAD_ARGUMENT, snmpsec_agent_next(NULL, SNMPSEC_READ, NULL, 0, NULL, 0, &written));
     check("null: respond", SNMPSEC_BAD_ARGUMENT, snmpsec_agent_respond(NULL, NOW, 0, 0, NULL, 0, 1));
     check("null: notify", SNMPSEC_BAD_ARGUMENT, snmpsec_agent_notify(NULL, NOW, &notice));
     check("null: counters", SNMPSEC_BAD_ARGUMENT, snmpsec_agent_counters(NULL, &counters));

@@ -135,6 +135,10 @@ class Exchange(unittest.TestCase):
             self.assertIs(agent.access(View.WRITE, NAME), Access.NO_SUCH_VIEW)
             self.assertFalse(agent.access(View.READ, (1, 3, 7)))
             self.assertFalse(agent.allows(View.READ, (1, 3, 7)))
+            self.assertEqual(agent.next(View.READ, NAME), NAME)
+            self.assertEqual(agent.next(View.READ, (1, 3, 5)), (1, 3, 6, 1))
+            self.assertIsNone(agent.next(View.READ, (1, 3, 7)))
+            self.assertIsNone(agent.next(View.WRITE, NAME))
             self.assertTrue(agent.user_access(b"ann", Level.AUTH_PRIV, b"", View.READ, NAME))
             self.assertIs(agent.user_access(b"eve", Level.AUTH_PRIV, b"", View.READ, NAME), Access.NO_GROUP_NAME)
 

@@ -3,13 +3,17 @@
 use crate::calls::{
     self, snmpsec_agent_access, snmpsec_agent_counters, snmpsec_agent_counts, snmpsec_agent_free,
     snmpsec_agent_info, snmpsec_agent_max_size, snmpsec_agent_message, snmpsec_agent_new,
-    snmpsec_agent_notify, snmpsec_agent_part, snmpsec_agent_refuse, snmpsec_agent_respond,
-    snmpsec_agent_respond_front, snmpsec_agent_respond_within, snmpsec_agent_silent_drop,
-    snmpsec_agent_take, snmpsec_agent_unhandled, snmpsec_agent_user_access, snmpsec_status_of,
+    snmpsec_agent_next, snmpsec_agent_notify, snmpsec_agent_part, snmpsec_agent_refuse,
+    snmpsec_agent_respond, snmpsec_agent_respond_front, snmpsec_agent_respond_within,
+    snmpsec_agent_silent_drop, snmpsec_agent_take, snmpsec_agent_unhandled,
+    snmpsec_agent_user_access, snmpsec_status_of,
 };
 use crate::fault::{done, Error};
 use crate::held::{Calls, Held};
 use crate::words::{Access, Info, Level, Part, Pdu, Status, Unhandled, View};
+
+/// The most arcs of a name.
+const MOST_ARCS: usize = 128;
 
 static CALLS: Calls = Calls {
     free: snmpsec_agent_free,
@@ -123,6 +127,26 @@ impl Agent {
     /// Whether the sender of what is kept may see the variable; false on each error too.
     pub fn allows(&self, view: View, arcs: &[u32]) -> bool {
         self.access(view, arcs) == Ok(Access::Allowed)
+    }
+
+    /// The least name, at or after these arcs, that the sender of what is kept may see (RFC 3416, section 4.2.2). None
+    /// if there is no such name. An agent that walks goes on there.
+    pub fn next(&self, view: View, arcs: &[u32]) -> Result<Option<Vec<u32>>, Error> {
+        let mut name = vec![0; MOST_ARCS];
+        let mut len = 0;
+        done(unsafe {
+            snmpsec_agent_next(
+                self.held.at(),
+                view as u32,
+                arcs.as_ptr(),
+                arcs.len(),
+                name.as_mut_ptr(),
+                name.len(),
+                &mut len,
+            )
+        })?;
+        name.truncate(len);
+        Ok((len > 0).then_some(name))
     }
 
     /// As `access`, for a user at a level in a context.

@@ -178,6 +178,15 @@ extern "C" {
         len: usize,
         out: *mut u32,
     ) -> i32;
+    pub fn snmpsec_agent_next(
+        agent: *mut Opaque,
+        view: u32,
+        arcs: *const u32,
+        len: usize,
+        out: *mut u32,
+        out_len: usize,
+        written: *mut usize,
+    ) -> i32;
     pub fn snmpsec_agent_user_access(
         agent: *mut Opaque,
         user: Octets<'_>,

@@ -47,6 +47,7 @@ fn an_agent_answers_the_requests() {
                 Ok(Access::NoSuchContext)
             );
             assert!(!agent.allows(View::Read, &asked.name));
+            assert_eq!(agent.next(View::Read, &asked.name), Ok(None));
             let text = binding(&asked.name, 4, b"hello").unwrap();
             agent.respond(1000, 0, 0, &text, accepted).unwrap();
             assert!(!agent.message().unwrap().is_empty());
@@ -72,6 +73,10 @@ fn an_agent_refuses_what_is_out_of_range() {
         Err(Error::NothingTaken)
     );
     assert!(!agent().allows(View::Read, &[1, 3]));
+    assert_eq!(
+        agent().next(View::Read, &[1, 3]),
+        Err(Error::NothingTaken)
+    );
     for engine in [b"1234".as_slice(), &[0; 12], &[255; 12]] {
         assert_eq!(
             Agent::new(config.as_bytes(), engine, 1, 0).err(),

@@ -35,7 +35,7 @@ import operator
 import os
 import threading
 from enum import IntEnum
-from typing import Iterator, NamedTuple, Optional, Sequence, Union
+from typing import Iterator, NamedTuple, Optional, Sequence, Tuple, Union
 
 from . import _library
 from ._library import CALLS, Octets as _Slice
@@ -49,6 +49,7 @@ __all__ = ["Access", "Agent", "AuthProtocol", "BadArgument", "BadBindings", "Bad
 Buffer = Union[bytes, bytearray, memoryview]
 Path = Union[str, "os.PathLike[str]"]
 LARGEST, LARGEST_KEY = 65507, 32
+_MOST_ARCS = 128
 NO_CLOCKS = b"snmp-clocks 2\n"
 
 
@@ -572,8 +573,16 @@ class Agent(_Held):
     def allows(self, view: View, name: Sequence[int]) -> bool:
         return bool(self.access(view, name))
 
+    def next(self, view: View, name: Sequence[int]) -> Optional[Tuple[int, ...]]:
+        """The least name, at or after this one, that the sender of what is kept may see (RFC 3416, section 4.2.2), or None.
+
+        An agent that walks goes on there, and steps over no variable that is hidden."""
+        out, written = (ctypes.c_uint32 * _MOST_ARCS)(), ctypes.c_size_t()
+        _done(self._call("next", view, *_arcs(name), out, _MOST_ARCS, ctypes.byref(written)))
+        return tuple(out[: written.value]) or None
+
     def user_access(self, user: Buffer, level: Level, context: Buffer, view: View, name: Sequence[int]) -> Access:
-        """The same for a user at a level in a context."""
+        """What `access` returns, for a user at a level in a context."""
         out = _library.Enumeration()
         _done(self._call("user_access", _slice(user), level, _slice(context), view, *_arcs(name), ctypes.byref(out)))
         return Access(out.value)
