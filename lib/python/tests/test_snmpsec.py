@@ -136,7 +136,7 @@ class Exchange(unittest.TestCase):
             self.assertFalse(agent.access(View.READ, (1, 3, 7)))
             self.assertFalse(agent.allows(View.READ, (1, 3, 7)))
             self.assertEqual(agent.next(View.READ, NAME), NAME)
-            self.assertEqual(agent.next(View.READ, (1, 3, 5)), (1, 3, 6, 1))
+            self.assertEqual(agent.next(View.READ, (1, 3, 5)), (1, 3, 6, 1, 2, 1, 1))
             self.assertIsNone(agent.next(View.READ, (1, 3, 7)))
             self.assertIsNone(agent.next(View.WRITE, NAME))
             self.assertTrue(agent.user_access(b"ann", Level.AUTH_PRIV, b"", View.READ, NAME))
