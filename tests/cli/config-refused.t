@@ -25,6 +25,42 @@ The text isn't TOML, or has something other than the five tables.
   ! snmpsec: TOML parse error at line 3, column 1: invalid value, expected a string, number, boolean, date-time, array or inline table
   [1]
   $ check <<'END'
+  > user = [[[[[[[[[[[[[[[[
+  > END
+  refused config toml
+  refused config toml
+  ! snmpsec: TOML parse error at line 2, column 1: invalid value, expected a string, number, boolean, date-time, array or inline table
+  [1]
+
+At most 16 brackets are open, outside of strings and comments. A key has 80 parts at most, and a bracket behind each of 78 such keys
+would be 6,000 tables in one another.
+
+  $ check <<'END'
+  > # [[[[[[[[[[[[[[[[[
+  > [[user]]
+  > name = """a " b [[[[[[[[[[[[[[[[[
+  > """
+  > auth = ['[[[[[[[[[[[[[[[[[', "\"[[[[[[[[[[[[[[[[["]
+  > priv = ["ß", [[[[[[[[[[[[[[[[
+  > END
+  refused config toml
+  refused config toml
+  ! snmpsec: line 6, column 24: 16 brackets are open, and no more may be
+  [1]
+  $ python3 -c "key = '.'.join(['a'] * 79); print((key + '={') * 78 + 'b=1' + '}' * 78)" > config
+  $ snmpsec check-config config
+  refused config toml
+  ! snmpsec: line 1, column 2703: 16 brackets are open, and no more may be
+  [1]
+  $ python3 -c "key = '.'.join(['a'] * 79); print((key + '={') * 16 + 'b=1' + '}' * 16)" > config
+  $ snmpsec check-config config
+  refused config top
+  ! snmpsec: a: at the top stand the arrays of tables user, context, group, access and family, and nothing else
+  [1]
+
+The top has five arrays of tables.
+
+  $ check <<'END'
   > users = []
   > END
   refused config top
@@ -67,6 +103,37 @@ The text isn't TOML, or has something other than the five tables.
   refused config top
   refused config top
   ! snmpsec: other: at the top stand the arrays of tables user, context, group, access and family, and nothing else
+  [1]
+
+A key is shown as TOML has it, so that no control character is on standard error.
+
+  $ check <<'END'
+  > "\u001B[31m\"\\\u007F" = 1
+  > END
+  refused config top
+  refused config top
+  ! snmpsec: ?
+  [1]
+  $ check <<'END'
+  > user = [{ "na\u0007me" = 'ann' }]
+  > END
+  refused config user 0 BadKey
+  refused config user 0 BadKey
+  ! snmpsec: ?
+  [1]
+  $ check <<'END'
+  > user = [{ "größe" = 'ann' }]
+  > END
+  refused config user 0 BadKey
+  refused config user 0 BadKey
+  ! snmpsec: ?
+  [1]
+  $ check <<'END'
+  > "" = 1
+  > END
+  refused config top
+  refused config top
+  ! snmpsec: ?
   [1]
 
 A `user` row has an unknown key, lacks a key, or has a wrong value.

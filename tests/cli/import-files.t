@@ -46,6 +46,24 @@ Of a word that is no directive's only what could be one is shown: a file may be 
   ! shadow:2: other: correct-horse-battery-staple-123...
   context: context name=""
 
+Where no line is known there is no configuration. Comments and headings are no lines, and one file with a known line is enough.
+
+  $ snmpsec import-snmpd shadow
+  ! snmpsec: no line is known as one of snmpd.conf on users or access, so there is no configuration
+  [1]
+  $ printf '# nothing\n[snmpd]\n\n' > nothing
+  $ snmpsec import-snmpd nothing | rows
+  context: context name=""
+  $ printf 'engineBoots 7\n[snmp]\n' > boots
+  $ snmpsec import-snmpd boots
+  ! snmpsec: no line is known as one of snmpd.conf on users or access, so there is no configuration
+  [1]
+  $ echo 'GROUP' > group
+  $ snmpsec import-snmpd boots group | rows
+  ! boots:1: other: engineBoots
+  ! group:1: refused by snmpd: GROUP: nothing behind it
+  context: context name=""
+
 The file is read at the place of the line. Its name is relative to the file that names it.
 
   $ mkdir folder

@@ -1,3 +1,4 @@
+pub mod Knowing
 pub mod Beside
 pub mod Covering
 pub mod Makers

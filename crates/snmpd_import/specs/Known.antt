@@ -1,38 +1,36 @@
 -- Which lines of a file are known as lines of snmpd.conf on users and access.
 --
--- `none_is_known items`. There is a line that isn't known, and none that is.
-use Rattle.std.specs.Prelude.{Bool, true, false, not, ◌&&◌, List}
+-- `NoneIsKnown items`. A line has a directive, and no line has one that is on users or access, or names files.
+use Rattle.std.specs.Prelude.{◌≢◌, ◌⊎◌, ⊤, IsTrue, ℕ, Bool, not, ◌==◌, List, [], ◌∷◌, length}
 use Rattle.std.specs.List.{list_any}
-use Rattle.snmpd_rows.specs.declared.entries.Note.{Note}
-use Rattle.snmpd_rows.specs.declared.entries.Note.TheVariants as notes
-use Rattle.snmpd_rows.specs.declared.entries.Entry.{Entry}
-use Rattle.snmpd_rows.specs.declared.entries.Entry.TheVariants as entries
+use Rattle.snmpd_lines.specs.Directives.{IsDirective}
+use Rattle.snmpd_lines.specs.declared.directives.Directive.{Directive}
+use Rattle.snmpd_lines.specs.declared.directives.Directive.TheVariants.{Other}
 use Rattle.snmpd_tables.specs.declared.items.Made.{Made}
 use Rattle.snmpd_tables.specs.declared.items.Made.TheVariants as made
 use Rattle.snmpd_tables.specs.declared.items.Item.{Item}
 
--- a note on a line whose word says nothing of users and access, or that has no word and text behind it
-abbrev pub is_foreign : Note → Bool
-is_foreign notes.Unclosed = true
-is_foreign notes.NoSection = true
-is_foreign notes.Bare = true
-is_foreign notes.Other = true
-is_foreign _ = false
+-- the line names other files
+abbrev pub NamesFiles : Made → Type 0
+NamesFiles (made.Include files) = ⊤
+NamesFiles (made.Followed followed) = ⊤
+NamesFiles _ = ⊥
 
--- the line isn't known
-abbrev pub is_unknown : Made → Bool
-is_unknown (made.Entry (entries.Told note)) = is_foreign note
-is_unknown _ = false
+-- the word names a directive on users or access
+abbrev pub IsKnownWord : List ℕ → Type 0
+IsKnownWord word = (directive : Directive) × IsDirective word directive × (directive ≢ Other)
 
--- the line is neither empty nor a heading
-abbrev pub says_something : Made → Bool
-says_something (made.Entry entries.Nothing) = false
-says_something (made.Entry (entries.Begins section)) = false
-says_something _ = true
+-- its directive is on users or access, or it names other files
+abbrev pub IsKnown : Item → Type 0
+IsKnown item = NamesFiles item.made ⊎ IsKnownWord item.word.items
 
--- the line is known
-abbrev pub is_known : Made → Bool
-is_known m = says_something m && not (is_unknown m)
+abbrev pub NoneOf : List Item → Type 0
+NoneOf [] = ⊤
+NoneOf (item ∷ items) = (IsKnown item → ⊥) × NoneOf items
 
-abbrev pub none_is_known : List Item → Bool
-none_is_known items = list_any (λ item. is_unknown item.made) items && not (list_any (λ item. is_known item.made) items)
+-- the line has a directive
+abbrev pub has_directive : Item → Bool
+has_directive item = not (length item.word.items == 0)
+
+abbrev pub NoneIsKnown : List Item → Type 0
+NoneIsKnown items = IsTrue (list_any has_directive items) × NoneOf items

@@ -1,50 +1,58 @@
 //! Whether any line is known as one of snmpd.conf on users and access.
 
-ghost use Rattle.std.specs.Prelude.{◌≡◌};
-ghost use Rattle.snmpd_import.specs.Known as spec;
-ghost use Rattle.snmpd_import.specs.Known.{none_is_known};
+ghost use Rattle.std.specs.Prelude.{◌≡◌, MatchBool};
+ghost use Rattle.std.specs.List.{list_any};
+ghost use Rattle.snmpd_import.specs.Known.{NamesFiles, IsKnown, IsKnownWord, NoneOf, NoneIsKnown, has_directive};
 
-use snmpd_rows::{Entry, Note};
+use snmpd_lines::{Directive, directive_of};
 use snmpd_tables::{Item, Made};
 
-/// A line with this note says nothing of users and access.
-fn is_foreign(note: Note) -> bool
-    ensures { result ≡ spec.is_foreign note }
+/// The line names other files.
+fn names_files(made: &Made) -> bool
+    ensures { MatchBool result (NamesFiles made.now) (NamesFiles made.now → ⊥) }
 {
-    matches!(
-        note,
-        Note::Unclosed | Note::NoSection | Note::Bare | Note::Other
-    )
+    matches!(made, Made::Include(_) | Made::Followed(_))
 }
 
-/// The line isn't known.
-fn is_unknown(made: &Made) -> bool
-    ensures { result ≡ spec.is_unknown made.now }
+/// The word names a directive on users or access.
+fn is_known_word(word: &[u8]) -> bool
+    ensures { MatchBool result (IsKnownWord word.now) (IsKnownWord word.now → ⊥) }
 {
-    match made {
-        Made::Entry(Entry::Told(note)) => is_foreign(*note),
-        _ => false,
+    match directive_of(word) {
+        Directive::Other => false,
+        _ => true,
     }
 }
 
-/// The line is neither empty nor a heading.
-fn says_something(made: &Made) -> bool
-    ensures { result ≡ spec.says_something made.now }
+/// The line's directive is on users or access, or the line names other files.
+fn is_known(item: &Item) -> bool
+    ensures { MatchBool result (IsKnown item.now) (IsKnown item.now → ⊥) }
 {
-    !matches!(made, Made::Entry(Entry::Nothing | Entry::Begins(_)))
+    names_files(&item.made) || is_known_word(&item.word)
 }
 
-/// The line is known.
-fn is_known(made: &Made) -> bool
-    ensures { result ≡ spec.is_known made.now }
+/// None of the lines is known.
+fn is_none(items: &[Item]) -> bool
+    ensures { MatchBool result (NoneOf items.now) (NoneOf items.now → ⊥) }
 {
-    says_something(made) && !is_unknown(made)
+    for item in items {
+        if is_known(item) {
+            return false;
+        }
+    }
+    true
 }
 
-/// There is a line that isn't known, and none that is. Empty lines, comments and headings are neither.
+/// A line has a directive.
+fn has_directives(items: &[Item]) -> bool
+    ensures { result ≡ list_any has_directive items.now }
+{
+    items.iter().any(|item| !item.word.is_empty())
+}
+
+/// There is a line with a directive, and none that is known. Empty lines, comments and headings are neither.
 pub fn is_none_known(items: &[Item]) -> bool
-    ensures { result ≡ none_is_known items.now }
+    ensures { MatchBool result (NoneIsKnown items.now) (NoneIsKnown items.now → ⊥) }
 {
-    items.iter().any(|item| is_unknown(&item.made))
-        && !items.iter().any(|item| is_known(&item.made))
+    has_directives(items) && is_none(items)
 }

@@ -78,7 +78,10 @@ top_words key = shown_key key
 -- What is wrong and what is wanted. Of a text that isn't TOML it is told in the words of the TOML reader.
 abbrev pub IsWhy : ConfigFault → List ℕ → Type 0
 IsWhy (faults.Nested line column) text =
-    text ≡ codes "line " ++ (decimal line ++ (codes ", column " ++ (decimal column ++ codes ": 16 brackets are open, and no more may be")))
+    text
+    ≡ codes "line "
+    ++ (decimal line
+    ++ (codes ", column " ++ (decimal column ++ codes ": 16 brackets are open, and no more may be")))
 IsWhy (faults.Toml fault) text = ⊤
 IsWhy (faults.Top key) text = text ≡ top_words (string_bytes key)
 IsWhy (faults.BadKey of position fault) text = (words : List ℕ) × IsKeyWords of fault words
