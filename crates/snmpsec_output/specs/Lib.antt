@@ -12,3 +12,4 @@ pub mod Lines
 pub mod Opening
 pub mod Variables
 pub mod Names
+pub mod Counters
