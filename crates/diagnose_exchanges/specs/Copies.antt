@@ -15,7 +15,7 @@ module _ {K V S : Type 0} where
   LetsGo eq order later kept new =
       ((length order ≤ copies_limit) × (later ≡ order) × IsUnchanged kept new)
       ⊎ ((copies_limit < length order)
-          × ((oldest : K) × (order ≡ oldest ∷ later) × Updates eq kept new oldest None))
+      × ((oldest : K) × (order ≡ oldest ∷ later) × Updates eq kept new oldest None))
 
   -- the digest comes behind the others with its value, and the oldest goes where they are too many then
   abbrev pub Notes : (K → K → Bool) → List K → List K → HashMap K V S → HashMap K V S → K → V → Type 0

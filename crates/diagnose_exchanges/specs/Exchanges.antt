@@ -2,8 +2,8 @@
 --
 -- `begun`: an exchange as a datagram begins it. `IsWaiting`, `WaitsAt`: at a place an exchange waits. `Ends`: it
 -- ends, by an answer or without one. `HandsOver`: a request that was sent again counts in the place of the first.
--- `Step`, `HasRun`: the steps, and runs of them.
-use Rattle.std.specs.Prelude.{◌≡◌, ◌⊎◌, Some, None, ◌+◌, ◌++◌, ℕ, List, [], ◌∷◌, Bool, true, false, length}
+-- `Step`, `HasRun`: the steps, and runs of them. `Takes`: a run that takes exactly these datagrams.
+use Rattle.std.specs.Prelude.{◌≡◌, ◌≢◌, ◌⊎◌, Option, Some, None, ◌+◌, ◌++◌, ℕ, List, [], ◌∷◌, Bool, true, false, length}
 use Rattle.std.specs.Prelude.{◌^◌, ◌-◌, ◌<◌, slice_index_or, slice_set, cond, min, nat_eq}
 use Rattle.std.specs.List.{count_by, sum_by}
 use Rattle.std.specs.HashMap.{HashMap, IsUnchanged, Updates, get}
@@ -182,3 +182,18 @@ module _ {K Q A : Type 0} where
   HasRun gone old (finishes ∷ steps) finished new =
       (e : Exchange K Q A) × (mid rest : List (Exchange K Q A)) × (old ≡ e ∷ mid) × (finished ≡ e ∷ rest)
       × (waits e ≡ false) × HasRun (place_after gone 1) mid steps rest new
+
+module _ {K Q A : Type 0} where
+  -- by some steps, of which none takes an exchange out, exactly these datagrams are taken
+  abbrev pub Takes : List ℕ → ℕ → List (Exchange K Q A) → List (Exchange K Q A) → Type 0
+  Takes numbers gone old new = (steps : List (Step K Q A)) × (taken_by steps ≡ numbers) × HasRun gone old steps [] new
+
+module _ {K Q A : Type 0} where
+  -- Where an earlier request waits that asked the same, at this place, it ends without an answer. It waits on where it
+  -- is the one that is kept.
+  abbrev pub LeavesEarlier : ℕ → List (Exchange K Q A) → List (Exchange K Q A) → Option ℕ → Option ℕ → Type 0
+  LeavesEarlier gone old new None kept = new ≡ old
+  LeavesEarlier gone old new (Some place) kept =
+      ((kept ≡ Some place) × (new ≡ old))
+      ⊎ ((kept ≢ Some place) × (Ends gone old new place NoAnswer
+      ⊎ ((new ≡ old) × (WaitsAt gone old place → ⊥))))

@@ -7,6 +7,7 @@ ghost use Rattle.diagnose_exchanges.specs.declared.exchange.Exchange.{Exchange a
 ghost use Rattle.std.specs.VecDeque.{deque_len};
 ghost use Rattle.std.specs.HashMap.{IsEmpty, IsUnchanged, Updates, get};
 ghost use Rattle.diagnose_exchanges.specs.Exchanges.{Ends, Forgets, HandsOver, IsUncounted, IsWaiting, WaitsAt};
+ghost use Rattle.diagnose_exchanges.specs.Exchanges.{LeavesEarlier, Takes};
 ghost use Rattle.diagnose_exchanges.specs.Exchanges.{begun, counting};
 ghost use Rattle.diagnose_exchanges.specs.Exchanges.{exchanges_limit, is_waiting, place_after, resent, waits};
 ghost use Rattle.diagnose_exchanges.specs.declared.exchange.Ending.TheVariants.{Waits, Alone, Answered};
@@ -80,6 +81,7 @@ impl<K: Eq + Hash + Copy + Drop, Q: Drop, A: Drop> Exchanges<K, Q, A> {
         ensures err { OnErr result (self.new.list.items ≡ self.old.list.items) }
         ensures gone { self.new.gone ≡ self.old.gone }
         ensures waiting { IsUnchanged self.old.waiting.numbers self.new.waiting.numbers }
+        ensures takes { OnOk result (Takes (number ∷ []) self.old.gone self.old.list.items self.new.list.items) }
     {
         self.list.push_back(Exchange {
             number,
@@ -115,6 +117,35 @@ impl<K: Eq + Hash + Copy + Drop, Q: Drop, A: Drop> Exchanges<K, Q, A> {
         Ok(())
     }
 
+    /// A request with this number begins an exchange, as `ask` says. The earlier one that asked the same ends without
+    /// an answer, unless it is the one at the place `kept`, whose request is sent again with this one.
+    pub fn ask_anew(
+        &mut self,
+        number: u64,
+        asked: K,
+        kept: Option<u64>,
+        counts: bool,
+        first: Q,
+    ) -> Result<(), AllocError>
+        ensures asks { OnOk result (LeavesEarlier self.old.gone
+            (self.old.list.items ++ begun number first counts (Waits asked) ∷ [])
+            self.new.list.items (get K.eq self.old.waiting.numbers asked) kept) }
+        ensures takes { OnOk result
+            (Takes (number ∷ []) self.old.gone self.old.list.items self.new.list.items) }
+        ensures err { OnErr result ((self.new.list.items ≡ self.old.list.items)
+            × IsUnchanged self.old.waiting.numbers self.new.waiting.numbers) }
+        ensures gone { self.new.gone ≡ self.old.gone }
+    {
+        let earlier = self.waits(&asked);
+        self.ask(number, asked, counts, first)?;
+        if let Some(place) = earlier {
+            if kept != Some(place) {
+                self.end(place, Ending::NoAnswer);
+            }
+        }
+        Ok(())
+    }
+
     /// The place of the exchange that waits for an answer with these.
     pub fn waits(&self, asked: &K) -> Option<u64>
         ensures { result ≡ get K.eq self.now.waiting.numbers asked.now }
@@ -140,6 +171,8 @@ impl<K: Eq + Hash + Copy + Drop, Q: Drop, A: Drop> Exchanges<K, Q, A> {
             (λ place. (get K.eq self.old.waiting.numbers asked.now ≡ Some place)
             × Ends self.old.gone self.old.list.items self.new.list.items place
             (Answered by answer)) }
+        ensures takes { OnOk result
+            (Takes (by ∷ []) self.old.gone self.old.list.items self.new.list.items) }
         ensures alone { IfErr result (λ back. (back ≡ answer)
             × (self.new.list.items ≡ self.old.list.items)
             × ((place : ℕ) → get K.eq self.old.waiting.numbers asked.now ≡ Some place
@@ -180,6 +213,7 @@ impl<K: Eq + Hash + Copy + Drop, Q: Drop, A: Drop> Exchanges<K, Q, A> {
     pub fn sent_again(&mut self, first: u64, place: u64) -> bool
         ensures handed { result ≡ true
             → HandsOver self.old.gone self.old.list.items self.new.list.items first place }
+        ensures takes { Takes [] self.old.gone self.old.list.items self.new.list.items }
         ensures stays { result ≡ false → self.new.list.items ≡ self.old.list.items }
         ensures gone { self.new.gone ≡ self.old.gone }
         ensures waiting { Forgets K.eq self.old.waiting.numbers self.new.waiting.numbers first }

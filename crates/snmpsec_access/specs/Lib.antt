@@ -10,3 +10,4 @@ pub mod Lines
 pub mod Known
 pub mod Headings
 pub mod Found
+pub mod Explaining

@@ -24,6 +24,7 @@
 //! ```
 #![tactic(auto)]
 
+mod explainer;
 mod headings;
 mod hint;
 mod known;
@@ -38,6 +39,7 @@ mod viewer;
 mod who;
 mod words;
 
+pub use explainer::Explainer;
 pub use hint::{Hint, Oddity};
 pub use laws::no_other_sees;
 pub use lines::hint_text;

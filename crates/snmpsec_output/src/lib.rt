@@ -21,6 +21,7 @@
 #![tactic(auto)]
 
 mod arguments;
+mod causes;
 mod check;
 mod check_config;
 mod choices;
@@ -33,6 +34,7 @@ mod lines;
 mod merge;
 mod messages;
 mod names;
+mod near_names;
 mod open;
 mod opened;
 mod output;
@@ -45,17 +47,20 @@ mod who_sees;
 mod words;
 
 pub use arguments::argument_words;
+pub use causes::cause;
 pub use check::check_text;
 pub use check_config::{check_config_hinted, check_config_text, refusal_and_why};
 pub use community::{show_any_version, show_any_version_text};
+pub use counters::counter_named;
 pub use explain::explain_text;
 pub use laws::one_opening;
 pub use lines::{message_lines, octets_line, scoped_lines};
 pub use merge::{merge_text, refused_clocks};
+pub use near_names::group_why;
 pub use open::{open_datagram, open_named, open_text};
 pub use opened::opened_lines;
 pub use output::Output;
 pub use sees::sees_text;
 pub use show::{show_datagram, show_named, show_text};
 pub use who_sees::who_text;
-pub use words::moment_of;
+pub use words::{model_of, moment_of};

@@ -13,8 +13,8 @@ ghost use Rattle.snmpsec_output.specs.Questions.{Printed};
 ghost use Rattle.snmpsec_output.specs.Refusals.{refused_line};
 
 use crate::arguments::bad_digits;
+use crate::causes::cause_of;
 use crate::lines::{message_lines, octets_line, scoped_lines};
-use crate::messages::cut_message;
 use crate::output::Output;
 use crate::refusal_text::RefusalText;
 use hex::FromHexError;
@@ -146,7 +146,7 @@ pub fn show_datagram(alloc: Global, names: bool, datagram: &[u8]) -> Result<Outp
     }
 }
 
-/// The line for a refused message, explained where the message says more octets than the datagram has.
+/// The line for a refused message, with what it comes from.
 /// `AllocError` if memory runs out.
 pub(crate) fn refused_output(
     alloc: Global,
@@ -161,10 +161,7 @@ pub(crate) fn refused_output(
     if refused.refusal == Refusal::OutOfMemory {
         return Err(AllocError);
     }
-    let why = match cut_message(datagram) {
-        Some(cut) => Some(format!(in alloc; "{cut}")?),
-        None => None,
-    };
+    let why = Some(cause_of(alloc, refused.refusal, datagram)?);
     let text = RefusalText { refused };
     let line = format!(in alloc; "{text}\n")?;
     Ok(Output::refuse(alloc, line, why))

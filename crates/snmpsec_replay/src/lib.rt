@@ -18,6 +18,7 @@
 #![tactic(auto)]
 
 mod checked;
+mod entries;
 mod fault;
 mod laws;
 mod line_fault;
@@ -26,8 +27,10 @@ mod printing;
 mod replay;
 
 pub use checked::{CheckedLog, check_log};
+pub use entries::{NextEntry, next_entry};
 pub use fault::ReplayFault;
 pub use laws::{one_log, pieces_of_logs_are_joined};
 pub use line_fault::LogLineFault;
+pub use log::{LINE_LIMIT, LoggedDatagram};
 pub use printing::Printing;
-pub use replay::{replay_as, replay_log};
+pub use replay::{answer_line, replay_as, replay_log};

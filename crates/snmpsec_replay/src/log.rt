@@ -12,19 +12,20 @@ use std::io::{BufRead, ErrorKind, Read};
 use std::marker::Model;
 
 /// The most octets of a line without its line feed.
-pub(crate) const LINE_LIMIT: usize = 131_072;
+pub const LINE_LIMIT: usize = 131_072;
 
 /// The most lines of a log.
 pub(crate) const LINES_LIMIT: u64 = 1_000_000;
 
 /// A datagram, and the moment at which it came.
 #[derive(Drop)]
-pub(crate) struct Entry {
-    pub(crate) moment: u64,
-    pub(crate) datagram: Vec<u8>,
+pub struct LoggedDatagram {
+    /// In seconds.
+    pub moment: u64,
+    pub datagram: Vec<u8>,
 }
 
-impl Model for Entry {
+impl Model for LoggedDatagram {
     ghost use Rattle.snmpsec_replay.specs.Log.{LogEntry};
 
     ghost Value = { LogEntry };
@@ -49,7 +50,7 @@ fn read_pairs(alloc: Global, digits: &[u8]) -> Result<Option<Vec<u8>>, AllocErro
 }
 
 /// What a line says, without its line feed.
-pub(crate) fn read_entry(alloc: Global, line: &[u8]) -> Result<Option<Entry>, AllocError>
+pub(crate) fn read_entry(alloc: Global, line: &[u8]) -> Result<Option<LoggedDatagram>, AllocError>
     ensures { IfOk result (λ entry. IsReadAs line.now entry) }
 {
     let Some((digits, pairs)) = split_once(line, b' ') else {
@@ -59,7 +60,7 @@ pub(crate) fn read_entry(alloc: Global, line: &[u8]) -> Result<Option<Entry>, Al
         return Ok(None);
     };
     match read_pairs(alloc, pairs)? {
-        Some(datagram) => Ok(Some(Entry { moment, datagram })),
+        Some(datagram) => Ok(Some(LoggedDatagram { moment, datagram })),
         None => Ok(None),
     }
 }

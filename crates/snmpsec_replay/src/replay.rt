@@ -63,9 +63,9 @@ fn outcome_text(alloc: Global, outcome: Outcome) -> Result<String, AllocError>
     }
 }
 
-/// The line for the datagram of line `number`.
+/// The line for the datagram of line `number`: its number, its moment and the outcome. The error is out of memory.
 #[tactic(auto, unfolding(crate::specs::Replay::answer_line))]
-fn answer_line(
+pub fn answer_line(
     alloc: Global,
     number: u64,
     moment: u64,
