@@ -205,15 +205,8 @@ impl Agent {
     {
         one_content();
         let scoped = taken.scoped();
-        next_in_view(
-            &self.vacm,
-            USER_BASED,
-            taken.user,
-            taken.level,
-            view,
-            scoped.name,
-            from,
-        )
+        let (user, level, context) = (taken.user, taken.level, scoped.name);
+        next_in_view(&self.vacm, USER_BASED, user, level, view, context, from)
     }
 
     /// Whether this user at this level may see the variable, without a message, in the context of
