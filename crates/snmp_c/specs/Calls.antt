@@ -1,8 +1,8 @@
 -- What the calls on a handle answer and leave.
 --
--- `Done`, `Accesses`: the answer is the number of the result. `Takes`, `Allows`, `May`, `Counter`,
--- `WritesNextName`, `RespondsTo`, `Notifies`, `TellsPart`, `TellsMessage`, `TellsNumbers`, `ClearsAgent`: what each export
--- answers and leaves. `Makes`: the answer of `_new`. `ReadsBinding`, `Writes`: bindings as octets.
+-- `Done`, `Accesses`: the answer is the number of the result. `Takes`, `Allows`, `WritesNextName`, `May`,
+-- `Counter`, `RespondsTo`, `Notifies`, `TellsPart`, `TellsMessage`, `TellsNumbers`, `ClearsAgent`: what each
+-- export answers and leaves. `Makes`: the answer of `_new`. `ReadsBinding`, `Writes`: bindings as octets.
 -- `TellsConfiguration`: why a configuration is refused. `MaxSize`, `RespondsToWithin`, `UnhandledBy`,
 -- `RefusesKept`, `CountOf`, `DropsSilently`: those that go with an agent's answers. `ManagerMaxSize`,
 -- `TookAnswer`, `ToldReport`, `HasReport`: those on the answers to a manager's requests. `IsValueCode`:

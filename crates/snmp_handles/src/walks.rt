@@ -51,8 +51,8 @@ fn copy_next(
 }
 
 impl AgentHandle {
-    /// Writes the arcs of the least name, at or after these arcs, that the sender of what is kept may see by the view of
-    /// this number, to the beginning of the buffer, and how many they are: 0 if there is no such name.
+    /// Writes the arcs of the least name, at or after these arcs, that the sender of what is kept may see by the view
+    /// of this number, to the beginning of the buffer, and how many they are: 0 if there is no such name.
     ///
     /// The errors are BadArgument, where no view has the number or there aren't 1 to 128 arcs, and NothingTaken, which
     /// write nothing; and ShortBuffer, which writes how many arcs there are, at most 128, and leaves the buffer.
