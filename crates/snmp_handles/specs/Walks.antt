@@ -7,8 +7,6 @@ use Rattle.std.specs.Prelude.{◌≡◌, ◌⊎◌, ⊤, ℕ, List, Option, Some
 use Rattle.snmp_message.specs.Scoped.{Contexts, ScopedFront}
 use Rattle.snmp_incoming.specs.Outcome.{Given}
 use Rattle.snmp_agent.specs.Decides.{NextSeen, question_of}
-use Rattle.vacm_core.specs.Tables.{Tables}
-use Rattle.vacm_core.specs.Allowed.{Requester}
 use Rattle.vacm_core.specs.declared.access.ViewType.{ViewType}
 use Rattle.snmp_handles.specs.declared.fault.CallFault.{CallFault}
 use Rattle.snmp_handles.specs.declared.fault.CallFault.TheVariants.{BadArgument, NothingTaken, ShortBuffer}
@@ -16,19 +14,18 @@ use Rattle.snmp_handles.specs.Agents.{AgentHeld, AreNoArcs}
 use Rattle.snmp_handles.specs.Numbers.{view_of}
 use Rattle.snmp_handles.specs.Parts.{Copies, CopiesNothing}
 
--- the least name that such a message may see is copied, or there is none
-abbrev pub WritesSeen : Tables → Requester → ViewType → List ℕ → List ℕ → List ℕ → ℕ → Result ⊤ CallFault → Type 0
-WritesSeen tables message view from old new written told =
-    (NextSeen tables message view from None × IsOk told × (new ≡ old) × (written ≡ 0))
-    ⊎ ((next : List ℕ) × NextSeen tables message view from (Some next) × Copies next old new written told)
+-- the arcs of the name are copied, or there is no name
+abbrev pub CopiesName : Option (List ℕ) → List ℕ → List ℕ → ℕ → Result ⊤ CallFault → Type 0
+CopiesName None old new written told = IsOk told × (new ≡ old) × (written ≡ 0)
+CopiesName (Some name) old new written told = Copies name old new written told
 
--- the same of the message that is kept, by the view of this number
+-- the least name that the sender of what is kept may see, by the view of this number, is copied
 abbrev pub WritesHeld : AgentHeld → ℕ → List ℕ → List ℕ → List ℕ → ℕ → Result ⊤ CallFault → Type 0
 WritesHeld held view from old new written told =
-    (g : Given) × (asked : ViewType) × (held.last ≡ Some g) × (view_of view ≡ Some asked)
+    (g : Given) × (asked : ViewType) × (next : Option (List ℕ)) × (held.last ≡ Some g) × (view_of view ≡ Some asked)
     × (AreNoArcs from → ⊥)
-    × ((c : Contexts) → ScopedFront g.text c
-    → WritesSeen held.agent.tables (question_of g c) asked from old new written told)
+    × ((c : Contexts) → ScopedFront g.text c → NextSeen held.agent.tables (question_of g c) asked from next)
+    × CopiesName next old new written told
 
 abbrev pub WritesNext : AgentHeld → ℕ → List ℕ → List ℕ → List ℕ → ℕ → ℕ → Result ⊤ CallFault → Type 0
 WritesNext held view from old new written written_new (Ok done) =

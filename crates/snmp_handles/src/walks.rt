@@ -2,9 +2,9 @@
 
 ghost use Rattle.std.specs.Prelude.{◌≡◌};
 ghost use Rattle.snmp_message.specs.Scoped.{Contexts, ScopedFront};
-ghost use Rattle.snmp_agent.specs.Decides.{question_of};
+ghost use Rattle.snmp_agent.specs.Decides.{NextSeen, question_of};
 ghost use Rattle.snmp_handles.specs.Parts.{Copies};
-ghost use Rattle.snmp_handles.specs.Walks.{WritesSeen, WritesNext};
+ghost use Rattle.snmp_handles.specs.Walks.{CopiesName, WritesNext};
 
 use crate::agent::AgentHandle;
 use crate::fault::CallFault;
@@ -27,27 +27,26 @@ fn copy_arcs(arcs: &[u32], out: &mut [u32], written: &mut usize) -> Result<(), C
     Ok(())
 }
 
-/// Copies the least name, at or after this one, that the sender of what was kept may see.
-fn copy_next(
-    agent: &Agent,
-    kept: &Kept,
-    view: ViewType,
-    from: &Oid,
-    out: &mut [u32],
-    written: &mut usize,
-) -> Result<(), CallFault>
-    ensures { (c : Contexts) → ScopedFront kept.now.text c
-        → WritesSeen agent.now.tables (question_of kept.now c) view from.now
-        out.old out.new written.new result }
+/// Copies the arcs of the name in the same way. If there is no name, their number is 0.
+fn copy_name(name: Option<Oid>, out: &mut [u32], written: &mut usize) -> Result<(), CallFault>
+    ensures { CopiesName name out.old out.new written.new result }
 {
-    let taken = kept.taken();
-    match agent.next_in_view(&taken, view, from) {
-        Some(next) => copy_arcs(next.as_slice(), out, written),
+    match name {
+        Some(name) => copy_arcs(name.as_slice(), out, written),
         None => {
             *written = 0;
             Ok(())
         }
     }
+}
+
+/// The least name, at or after this one, that the sender of what was kept may see.
+fn next_of_sender(agent: &Agent, kept: &Kept, view: ViewType, from: &Oid) -> Option<Oid>
+    ensures { (c : Contexts) → ScopedFront kept.now.text c
+        → NextSeen agent.now.tables (question_of kept.now c) view from.now result }
+{
+    let taken = kept.taken();
+    agent.next_in_view(&taken, view, from)
 }
 
 impl AgentHandle {
@@ -70,7 +69,10 @@ impl AgentHandle {
             return Err(CallFault::BadArgument);
         };
         match &self.last {
-            Some(kept) => copy_next(&self.agent, kept, view, &from, out, written),
+            Some(kept) => {
+                let next = next_of_sender(&self.agent, kept, view, &from);
+                copy_name(next, out, written)
+            }
             None => Err(CallFault::NothingTaken),
         }
     }
