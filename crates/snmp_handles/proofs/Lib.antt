@@ -1,3 +1,3 @@
 pub mod Told
 pub mod Helds
-pub mod Walks
+pub mod NextNames

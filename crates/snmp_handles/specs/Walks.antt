@@ -3,7 +3,7 @@
 --
 -- `WritesNext`: the arcs of the least such name, at or after a name, go into a buffer of the caller. If there is
 -- no such name, the number of arcs is 0.
-use Rattle.std.specs.Prelude.{◌≡◌, ◌⊎◌, ⊤, ℕ, List, Option, Some, None, Result, Ok, Err, IsOk, IsSome}
+use Rattle.std.specs.Prelude.{◌≡◌, ◌⊎◌, ⊤, ℕ, List, Option, Some, None, Result, Ok, Err, IsSome}
 use Rattle.snmp_message.specs.Scoped.{Contexts, ScopedFront}
 use Rattle.snmp_incoming.specs.Outcome.{Given}
 use Rattle.snmp_agent.specs.Decides.{NextSeen, question_of}
@@ -16,7 +16,8 @@ use Rattle.snmp_handles.specs.Parts.{Copies, CopiesNothing}
 
 -- the arcs of the name are copied, or there is no name
 abbrev pub CopiesName : Option (List ℕ) → List ℕ → List ℕ → ℕ → Result ⊤ CallFault → Type 0
-CopiesName None old new written told = IsOk told × (new ≡ old) × (written ≡ 0)
+CopiesName None old new written (Ok done) = (new ≡ old) × (written ≡ 0)
+CopiesName None old new written (Err _) = ⊥
 CopiesName (Some name) old new written told = Copies name old new written told
 
 -- the least name that the sender of what is kept may see, by the view of this number, is copied

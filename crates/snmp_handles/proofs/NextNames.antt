@@ -1,16 +1,17 @@
 -- A walk is given a name, or none, or it is told that its buffer is too short.
-use Rattle.std.proofs.Common.{⊤, ℕ, List, Option, Some, None, Result, Ok, Err}
+use Rattle.std.specs.Prelude.{⊤}
+use Rattle.std.proofs.Common.{ℕ, List, Option, Some, None, Result, Ok, Err}
 use Rattle.snmp_handles.specs.declared.fault.CallFault.{CallFault}
 use Rattle.snmp_handles.specs.declared.fault.CallFault.TheVariants.{BadArgument, NothingTaken, NotAsked, BadBindings, ShortBuffer, BadConfiguration, BadClocks, Refused}
 use Rattle.snmp_handles.specs.Agents.{AgentHeld}
 use Rattle.snmp_handles.specs.Walks.{CopiesName, WritesHeld, WritesNext}
 
-IsShort : CallFault → Type 0
+abbrev IsShort : CallFault → Type 0
 IsShort ShortBuffer = ⊤
 IsShort _ = ⊥
 
 is_short : (old new : List ℕ) (written : ℕ) (next : Option (List ℕ)) (fault : CallFault) → CopiesName next old new written (Err fault) → IsShort fault
-is_short old new written None fault copies = absurd copies.0
+is_short old new written None fault copies = absurd copies
 is_short old new written (Some name) ShortBuffer copies = tt
 is_short old new written (Some name) BadArgument copies = absurd copies
 is_short old new written (Some name) NothingTaken copies = absurd copies
