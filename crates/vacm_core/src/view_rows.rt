@@ -78,8 +78,8 @@ impl<'a> ViewRows<'a> {
         self.exact.len()
     }
 
-    /// Returns the next place, from this one on, at which there is a row that is longer than the beginning of a name and
-    /// agrees with it, or the number of rows if there is none. Rows are found by halving, by length and mask.
+    /// Returns the next place, from this one on, at which a row is longer than the beginning of a name and agrees
+    /// with it, or the number of rows if there is none. Rows are found by halving, by length and mask.
     pub fn next_under(&self, beginning: &[u32], place: usize) -> usize
         requires { place ≤ length self.now }
         ensures from_on { place ≤ result }
