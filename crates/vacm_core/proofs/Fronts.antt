@@ -37,7 +37,7 @@ fronts_by Less p q more h = h
 fronts_by Equal p q more h = more h
 fronts_by Greater p q more h = h
 
-fronts_fall : (n : ℕ) (xs ys : List ℕ) → slice_cmp nat_cmp xs ys ≢ Less → slice_cmp nat_cmp (take n xs) (take n ys) ≢ Less
+pub fronts_fall : (n : ℕ) (xs ys : List ℕ) → slice_cmp nat_cmp xs ys ≢ Less → slice_cmp nat_cmp (take n xs) (take n ys) ≢ Less
 fronts_fall zero xs ys h e = cc
 fronts_fall (suc n) [] [] h e = cc
 fronts_fall (suc n) [] (y ∷ ys) h e = h refl

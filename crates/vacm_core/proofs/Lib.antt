@@ -12,3 +12,4 @@ pub mod Places
 pub mod Runs
 pub mod Wildcards
 pub mod Fronts
+pub mod Shapes

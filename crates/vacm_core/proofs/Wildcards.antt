@@ -55,16 +55,16 @@ all_alike (x ∷ xs) (y ∷ ys) same =
 -- ---- the arcs that a mask compares
 
 module _ (mask : List ℕ) where
-  compared_long : (arcs : List ℕ) → length (compared_arcs mask arcs) ≡ length arcs
+  pub compared_long : (arcs : List ℕ) → length (compared_arcs mask arcs) ≡ length arcs
   compared_long arcs = length-map-range_with_len _ 0 (length arcs)
 
-  compared_at : (arcs : List ℕ) (k : ℕ) → k < length arcs → get_or (compared_arcs mask arcs) k 0 ≡ cond (mask_bit mask k == 1) (get_or arcs k 0) 0
+  pub compared_at : (arcs : List ℕ) (k : ℕ) → k < length arcs → get_or (compared_arcs mask arcs) k 0 ≡ cond (mask_bit mask k == 1) (get_or arcs k 0) 0
   compared_at arcs k within = get_or-map-range_with_len _ 0 (length arcs) k k 0 within (omega arith)
 
   arc_at : (arcs : List ℕ) (k : ℕ) → k < length arcs → mask_bit mask k ≡ 1 → get_or (compared_arcs mask arcs) k 0 ≡ get_or arcs k 0
   arc_at arcs k within bit = compared_at arcs k within ∙ ap (λ b. cond b (get_or arcs k 0) 0) ((Decides-eqb (mask_bit mask k) 1).1 bit)
 
-  same_at : (xs ys : List ℕ) (k : ℕ) → k < length xs → k < length ys → (mask_bit mask k ≡ 1 → get_or xs k 0 ≡ get_or ys k 0)
+  pub same_at : (xs ys : List ℕ) (k : ℕ) → k < length xs → k < length ys → (mask_bit mask k ≡ 1 → get_or xs k 0 ≡ get_or ys k 0)
       → get_or (compared_arcs mask xs) k 0 ≡ get_or (compared_arcs mask ys) k 0
   same_at xs ys k a b same = compared_at xs k a ∙ by (mask_bit mask k == 1) (λ e. same ((Decides-eqb (mask_bit mask k) 1).0 e)) ∙ sym (compared_at ys k b)
     where
@@ -136,7 +136,7 @@ module _ {R : Type 0} (rank : R → R → Ordering) (rows : List R) (falling : A
 
 -- ---- rows of one length and one mask
 
-like_by : (first row : FamilyRow) → shape_order first row ≡ Equal → IsLike first row
+pub like_by : (first row : FamilyRow) → shape_order first row ≡ Equal → IsLike first row
 like_by first row h =
     let parts = then_equal _ _ h in
     record { same_length = sym (exact_unsigned _ _ parts.0); same_mask = sym (exact_bytes _ _ parts.1) }

@@ -4,7 +4,7 @@
 -- then by all arcs. So rows of one length and one mask stand together, `AreAlike`, and those of them that have
 -- a variable are those whose compared arcs are the variable's. `IsDecider`: a row that decides on the variable
 -- among these rows, or none where none has it.
-use Rattle.std.specs.Prelude.{◌≡◌, ℕ, ◌==◌, if◌then◌else◌, Bool, nat_lt, List, length, map, slice_index, Option}
+use Rattle.std.specs.Prelude.{◌≡◌, ℕ, ◌==◌, if◌then◌else◌, Bool, nat_lt, List, length, take, map, slice_index, Option}
 use Rattle.std.specs.Prelude.{MatchOption, Contains}
 use Rattle.std.specs.List.{range_with_len}
 use Rattle.std.specs.Borrow.{Bor}
@@ -54,3 +54,11 @@ AreAlike rows = (first row : FamilyRow) → Contains rows first → Contains row
 abbrev pub IsDecider : List ℕ → List FamilyRow → Option (Bor FamilyRow) → Type 0
 IsDecider variable rows found = MatchOption found (NoneFits rows (HasArcs variable))
     (λ row. IsBestOf rows (HasArcs variable) family_order row.now)
+
+-- the row is of a greater length or mask than the first one, or of its length and mask and its first arcs, as many as
+-- the beginning has and as the mask compares them, are greater than the beginning
+abbrev pub is_before_alike : FamilyRow → List ℕ → FamilyRow → Bool
+is_before_alike first beginning row =
+    nat_lt (ordering_index (ordering_then (shape_order first row)
+    (slice_cmp nat_cmp (compared_arcs first.mask beginning)
+    (compared_arcs first.mask (take (length beginning) row.subtree))))) 1

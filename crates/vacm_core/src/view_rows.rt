@@ -7,7 +7,7 @@ ghost use Rattle.vacm_core.specs.Wildcard.{wildcard_order};
 ghost use Rattle.vacm_core.specs.declared.rows.FamilyRow.{FamilyRow as Family};
 
 use crate::rows::FamilyRow;
-use crate::under::next_under;
+use crate::under::{next_under, next_wildcard};
 use crate::view::deciding_row;
 use crate::wildcard::WildcardRow;
 use std::marker::Model;
@@ -78,19 +78,20 @@ impl<'a> ViewRows<'a> {
         self.exact.len()
     }
 
-    /// Returns the next place, from this one on, at which there may be a row that is longer than the beginning of a
-    /// name and agrees with it. Rows with wildcards are passed over by no search.
+    /// Returns the next place, from this one on, at which a row is longer than the beginning of a name and agrees
+    /// with it, or the number of rows if there is none. Rows are found by halving, by length and mask.
     pub fn next_under(&self, beginning: &[u32], place: usize) -> usize
         requires { place ≤ length self.now }
         ensures from_on { place ≤ result }
         ensures within { result ≤ length self.now }
         ensures none { NoneUnder self.now beginning.now place result }
     {
-        if place < self.exact.len() {
-            next_under(self.exact, beginning, place)
-        } else {
-            place
+        let exact = self.exact.len();
+        let next = next_under(self.exact, beginning, place.min(exact));
+        if next < exact {
+            return next;
         }
+        exact + next_wildcard(self.others, beginning, place.max(exact) - exact)
     }
 
     /// Returns true if the view has the variable: of the rows whose subtrees have it, the best includes it (RFC

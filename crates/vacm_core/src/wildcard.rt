@@ -33,7 +33,7 @@ impl Model for WildcardRow {
 }
 
 /// Compares the arcs that the mask compares.
-fn compared_order(mask: &Mask, first: &[u32], second: &[u32]) -> Ordering
+pub(crate) fn compared_order(mask: &Mask, first: &[u32], second: &[u32]) -> Ordering
     ensures { result ≡ slice_cmp nat_cmp (compared_arcs mask.now first.now)
         (compared_arcs mask.now second.now) }
 {
@@ -69,7 +69,7 @@ impl WildcardRow {
     }
 
     /// Compares the lengths of the subtrees, then the masks.
-    fn shape_order(&self, other: &WildcardRow) -> Ordering
+    pub(crate) fn shape_order(&self, other: &WildcardRow) -> Ordering
         ensures { result ≡ shape_order self.now other.now }
     {
         let (first, second) = (self.row.mask.as_slice(), other.row.mask.as_slice());
@@ -105,7 +105,7 @@ impl NamedRow for WildcardRow {
 }
 
 /// Returns false if the row comes after all rows with the first row's length and mask.
-fn is_upto(first: &WildcardRow, row: &WildcardRow) -> bool
+pub(crate) fn is_upto(first: &WildcardRow, row: &WildcardRow) -> bool
     ensures { result ≡ is_upto first.now row.now }
 {
     first.shape_order(row).is_le()

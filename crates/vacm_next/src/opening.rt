@@ -91,8 +91,7 @@ fn includes_longer(rows: &ViewRows<'_>, beginning: &[u32], row: &FamilyRow, firs
 /// Returns true if some name that begins with these arcs is in the view: the beginning itself, or a longer name.
 ///
 /// A longer one is in the view if and only if a row includes names that begin so, and no better row decides on all
-/// of them. Rows that compare each arc are found by halving, and those with wildcards are gone over. It takes no
-/// memory.
+/// of them. The rows that agree with the beginning are found by halving. It takes no memory.
 pub fn opens(rows: &ViewRows<'_>, beginning: &[u32]) -> bool
     requires some { 1 ≤ length beginning.now }
     requires most { length beginning.now ≤ 128 }

@@ -101,12 +101,12 @@ fn place_between(after: &Oid, next: &Oid) -> Oid
 {
     match Oid::of(place_before(next).as_slice()) {
         Some(place) if is_behind(&place, after) => place,
-        _ => same(after),
+        _ => copy(after),
     }
 }
 
-/// Returns the same name.
-fn same(name: &Oid) -> Oid
+/// Returns the same name. It takes no memory.
+fn copy(name: &Oid) -> Oid
     ensures { result ≡ name.now }
 {
     let Ok(name) = name.clone() else {
