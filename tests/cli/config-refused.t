@@ -45,7 +45,7 @@ would be 6,000 tables in one another.
   > END
   refused config toml
   refused config toml
-  ! snmpsec: line 6, column 24: 16 brackets are open, and no more may be
+  ! snmpsec: line 6, column 29: 16 brackets are open, and no more may be
   [1]
   $ python3 -c "key = '.'.join(['a'] * 79); print((key + '={') * 78 + 'b=1' + '}' * 78)" > config
   $ snmpsec check-config config
@@ -112,28 +112,28 @@ A key is shown as TOML has it, so that no control character is on standard error
   > END
   refused config top
   refused config top
-  ! snmpsec: ?
+  ! snmpsec: "\u001B[31m\"\\\u007F": at the top stand the arrays of tables user, context, group, access and family, and nothing else
   [1]
   $ check <<'END'
   > user = [{ "na\u0007me" = 'ann' }]
   > END
   refused config user 0 BadKey
   refused config user 0 BadKey
-  ! snmpsec: ?
+  ! snmpsec: user 0: "na\u0007me": not a key of this table, the nearest is name
   [1]
   $ check <<'END'
   > user = [{ "größe" = 'ann' }]
   > END
   refused config user 0 BadKey
   refused config user 0 BadKey
-  ! snmpsec: ?
+  ! snmpsec: user 0: "gr\xc3\xb6\xc3\x9fe": not a key of this table, the nearest is name (esc)
   [1]
   $ check <<'END'
   > "" = 1
   > END
   refused config top
   refused config top
-  ! snmpsec: ?
+  ! snmpsec: "": at the top stand the arrays of tables user, context, group, access and family, and nothing else
   [1]
 
 A `user` row has an unknown key, lacks a key, or has a wrong value.

@@ -88,6 +88,7 @@ Others have nothing to do with users and access.
   > com2sec7 a b c
   > usmUsers 1
   > syslocation here
+  > group g usm ann
   > END
   $ snmpsec import-snmpd f | rows
   ! f:1: other: groups
@@ -95,6 +96,7 @@ Others have nothing to do with users and access.
   ! f:3: other: usmUsers
   ! f:4: other: syslocation
   context: context name=""
+  f:5: group model=3 name="ann" group="g"
 
 These are the names of hashes.
 
