@@ -57,19 +57,19 @@ _snmpsec() {
       manual:1) choices='show open check-access explain-access who-sees sees check-config import-snmpd replay merge-clocks check-clocks check-log datagrams diagnose manual version' ;;
     esac
     case $command in
-      show) choices="$choices --names --why --community --from --form --port --moment --ip" ;;
-      open) choices="$choices --names --why --from --form --port --moment --ip" ;;
+      show) choices="$choices --names --why --from --form --port --from-port --moment --ip" ;;
+      open) choices="$choices --names --why --from --form --port --from-port --moment --ip" ;;
       check-access) choices="$choices --why" ;;
       explain-access) choices="$choices --why" ;;
       who-sees) choices="$choices --users --why" ;;
       sees) choices="$choices --why" ;;
       check-config) choices="$choices --why" ;;
       import-snmpd) choices="$choices --strict --why --no-include --context" ;;
-      replay) choices="$choices --moment --why --clocks-only --from-line" ;;
+      replay) choices="$choices --moment --why --clocks-only --from-line --from --form --port --from-port" ;;
       merge-clocks) choices="$choices --moment --why" ;;
       check-clocks) choices="$choices --why" ;;
       check-log) choices="$choices --why" ;;
-      datagrams) choices="$choices --form --why --port --moment --ip" ;;
+      datagrams) choices="$choices --form --why --port --from-port --moment --ip" ;;
       diagnose) choices="$choices --form --why --port --moment --ip --json --user --engine --clocks" ;;
       manual) choices="$choices --why" ;;
       version) choices="$choices --why" ;;

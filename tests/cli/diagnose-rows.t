@@ -63,3 +63,25 @@ The answer to 17 comes from another address. The last record is a fragment.
     engine 80001f88046267656e74  boots 3, time 50 at 22:14:22; agent 10.0.0.5:161
   ! snmpsec: record 19: fragment
   [1]
+
+100,000 discoveries that nothing answers. The oldest are let go when more than 65,536 wait.
+
+  $ awk 'BEGIN { for (i = 0; i < 100000; i++) printf "5 303b02010330110204%08x020300ffe30401040201030410300e0400020100020100040004000400301104000400a00b0201010201000201003000\n", 16777216 + i }' > many
+  $ snmpsec diagnose "$TOP/examples/no-answer.toml" many > told
+  $ grep -c 'not followed further: over 65536 exchanges wait' told
+  34464
+  $ grep -c 'no answer in the capture' told
+  65536
+  $ tail -n 1 told
+  summary
+
+A user of the configuration without a password: the agent accepts what can't be opened here.
+
+  $ printf '[[user]]\nname = "bob"\n' > bob.toml
+  $ snmpsec diagnose bob.toml "$TOP/examples/diagnose.pcap" | sed -n '3,8p'
+  3  22:13:20.002000  10.0.0.9:40001 > 10.0.0.5:161  bob authNoPriv  Get 1.3.6.1.2.1.1.5.0
+      answered after 0.8 ms; the answer isn't read
+      UnsupportedLevel: this configuration has no password of the user for the level
+  5  22:13:25.000000  10.0.0.9:40001 > 10.0.0.5:161  bob authNoPriv  Get 1.3.6.1.2.1.1.5.0
+      refused by the agent after 0.5 ms: usmStatsNotInTimeWindows is 1
+      UnsupportedLevel: this configuration has no password of the user for the level

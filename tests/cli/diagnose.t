@@ -24,8 +24,10 @@ the answer to the same msgID goes to another port. 26 is a copy of 3, ten minute
       UnknownUser: no user of this name is in this configuration; a hash or a cipher that isn't known here keeps one out
   13  22:13:32.000000  10.0.0.9:40001 > 10.0.0.5:161  bob authNoPriv  Set 1.3.6.1.2.1.1.4.0
       answered after 0.9 ms: error authorizationError at 1
+      by this configuration noGroupName: context row 0 (line 20)
   15  22:13:33.000000  10.0.0.9:40001 > 10.0.0.5:161  bob authNoPriv  Get 1.3.6.1.2.1.99.0
       answered after 0.4 ms: 1.3.6.1.2.1.99.0 = noSuchObject
+      by this configuration noGroupName: context row 0 (line 20)
   17  22:13:40.000000  10.0.0.9:40001 > 10.0.0.5:161  bob authNoPriv  Get 1.3.6.1.2.1.1.5.0
       sent again and answered as 18
   18  22:13:41.000000  10.0.0.9:40001 > 10.0.0.5:161  bob authNoPriv  Get 1.3.6.1.2.1.1.5.0
@@ -69,14 +71,13 @@ One user's exchanges. Only these are counted, and only they decide the status.
       answered after 0.3 ms: 1.3.6.1.2.1.1.3.0 = Timeticks 16
   summary
     ann  answered 1, errors 0, refused 0, no answer 0
-    engine 80001f88046b6f77616e7169  boots 7, time 1030 at 22:13:50; agent 10.0.0.5:161
     engine 80001f88046e6d73  boots 1, time 50 at 22:13:51; agent [2001:db8::9]:162
 
 One engine's exchanges, as JSON: an object a line.
 
   $ snmpsec diagnose --json --engine 80001f88046e6d73 "$TOP/examples/no-answer.toml" "$TOP/examples/diagnose.pcap"
-  {"counts":true,"ending":{"after_microseconds":300,"datagram":25,"in_window":true,"kind":"answered","says":{"kind":"values","more_values":0,"values":[{"name":"1.3.6.1.2.1.1.3.0","type":"Timeticks","value":16}]}},"request":{"copy_of":null,"datagram":24,"engine":"80001f88046e6d73","from":"[2001:db8::5]:50000","level":"authNoPriv","microseconds":0,"refused":null,"remark":"window not judged","retransmission_of":null,"seconds":1700000031,"time":"22:13:51.000000","to":"[2001:db8::9]:162","user":"ann","what":{"kind":"Inform","more_names":0,"names":["1.3.6.1.2.1.1.3.0"]}}}
-  {"summary":{"engines":[{"agent":"10.0.0.5:161","boots":7,"engine":"80001f88046b6f77616e7169","seen":1700000030,"time":1030},{"agent":"[2001:db8::9]:162","boots":1,"engine":"80001f88046e6d73","seen":1700000031,"time":50}],"users":[{"answered":1,"errors":0,"no_answer":0,"refused":0,"user":"ann"}]}}
+  {"counts":true,"ending":{"after_microseconds":300,"datagram":25,"in_window":true,"kind":"answered","says":{"kind":"values","more_values":0,"values":[{"name":"1.3.6.1.2.1.1.3.0","type":"Timeticks","value":16}]},"views":[]},"request":{"copy_of":null,"datagram":24,"engine":"80001f88046e6d73","from":"[2001:db8::5]:50000","level":"authNoPriv","microseconds":0,"refused":null,"remark":"window not judged","retransmission_of":null,"seconds":1700000031,"time":"22:13:51.000000","to":"[2001:db8::9]:162","user":"ann","what":{"kind":"Inform","more_names":0,"names":["1.3.6.1.2.1.1.3.0"]}}}
+  {"summary":{"engines":[{"agent":"[2001:db8::9]:162","boots":1,"engine":"80001f88046e6d73","seen":1700000031,"time":50}],"users":[{"answered":1,"errors":0,"no_answer":0,"refused":0,"user":"ann"}]}}
 
 An engine ID that is none.
 
@@ -101,3 +102,8 @@ A capture that is cut: what was found before is printed, and the status is 2.
     bob  answered 1, errors 0, refused 0, no answer 1
     engine 80001f88046b6f77616e7169  boots 7, time 1000 at 22:13:20; agent 10.0.0.5:161
   [2]
+
+The same as JSON: the line that refuses the file is an object too.
+
+  $ snmpsec diagnose --json "$TOP/examples/no-answer.toml" cut.pcap | grep refused_datagrams
+  {"refused_datagrams":{"column":null,"file":"cut.pcap","line":null,"octet":746}}

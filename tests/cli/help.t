@@ -9,14 +9,15 @@ The help of each command. `manual` prints on standard output what `--help` print
     [HEX]  The datagram as pairs of hex digits, without blanks, colons or 0x; instead of --from
   
   Options:
-        --names            Print ' # NAME' after the lines that have a name: users, contexts, PDUs, counters
-        --why              After a refusal, print on standard error what is wrong and what is expected
-        --from <FILE>      A capture (pcap or pcapng), pasted hex, or a dump as hexdump -C prints it; - is standard input
-        --form <FORM>      The form of FILE: pcap (also for pcapng), hex or dump; found by its first octets if left out
-        --port <PORT>      A port that the datagrams are from or to; may be repeated; 161 and 162 if left out
-        --moment <MOMENT>  When pasted hex or a dump was received, in seconds; 0 if left out
-        --ip               FILE is dumps of packets from their IP headers on, as tcpdump -x prints them
-    -h, --help             Print help
+        --names                  Print ' # NAME' after the lines that have a name: users, contexts, PDUs, counters
+        --why                    After a refusal, print on standard error what is wrong and what is expected
+        --from <FILE>            A capture (pcap or pcapng), a log, pasted hex, or a dump as hexdump -C prints it; - is standard input
+        --form <FORM>            The form of FILE: pcap or pcapng, log, hex or dump; found by its first octets if left out
+        --port <PORT>            A port that the datagrams are from or to; may be repeated; 161 and 162 if left out
+        --from-port <FROM_PORT>  Take only datagrams from this port, as 161 for what agents send; both directions if left out
+        --moment <MOMENT>        When pasted hex or a dump was received, in seconds; 0 if left out
+        --ip                     FILE is dumps of packets from their IP headers on, as tcpdump -x prints them
+    -h, --help                   Print help
   
   With --from, a line 'datagram N MOMENT' comes before the fields of each datagram. N counts from 1.
   
@@ -36,14 +37,15 @@ The help of each command. `manual` prints on standard output what `--help` print
     [HEX]     The datagram as pairs of hex digits, without blanks, colons or 0x; instead of --from
   
   Options:
-        --names            Print ' # NAME' after the lines that have a name: users, contexts, PDUs, counters
-        --why              After a refusal, print on standard error what is wrong and what is expected
-        --from <FILE>      A capture (pcap or pcapng), pasted hex, or a dump as hexdump -C prints it; - is standard input
-        --form <FORM>      The form of FILE: pcap (also for pcapng), hex or dump; found by its first octets if left out
-        --port <PORT>      A port that the datagrams are from or to; may be repeated; 161 and 162 if left out
-        --moment <MOMENT>  When pasted hex or a dump was received, in seconds; 0 if left out
-        --ip               FILE is dumps of packets from their IP headers on, as tcpdump -x prints them
-    -h, --help             Print help
+        --names                  Print ' # NAME' after the lines that have a name: users, contexts, PDUs, counters
+        --why                    After a refusal, print on standard error what is wrong and what is expected
+        --from <FILE>            A capture (pcap or pcapng), a log, pasted hex, or a dump as hexdump -C prints it; - is standard input
+        --form <FORM>            The form of FILE: pcap or pcapng, log, hex or dump; found by its first octets if left out
+        --port <PORT>            A port that the datagrams are from or to; may be repeated; 161 and 162 if left out
+        --from-port <FROM_PORT>  Take only datagrams from this port, as 161 for what agents send; both directions if left out
+        --moment <MOMENT>        When pasted hex or a dump was received, in seconds; 0 if left out
+        --ip                     FILE is dumps of packets from their IP headers on, as tcpdump -x prints them
+    -h, --help                   Print help
   
   It doesn't check the time window. With --from, a line 'datagram N MOMENT' comes before the
   fields of each datagram. N counts from 1.
@@ -203,20 +205,25 @@ The help of each command. `manual` prints on standard output what `--help` print
   $ snmpsec manual replay
   Process a log of datagrams as a manager does: print a line for each, and then the clocks
   
-  Usage: snmpsec replay [OPTIONS] <CONFIG> <CLOCKS> <LOG>
+  Usage: snmpsec replay [OPTIONS] <CONFIG> <CLOCKS> [LOG]
   
   Arguments:
     <CONFIG>  TOML file with the manager's users
     <CLOCKS>  Saved clocks that the manager begins with, at most 16 MiB
-    <LOG>     Lines MOMENT HEX: when a datagram came, in whole seconds, and its octets
+    [LOG]     Lines MOMENT HEX: when a datagram came, in whole seconds, and its octets; instead of --from
   
   Options:
-        --moment <MOMENT>  When the clocks of a file without timestamps were seen, in seconds; 0 if left out
-        --why              After a refusal, print on standard error what is wrong and what is expected
-        --clocks-only      Print the saved clocks alone, and no line for a datagram
-        --from-line <N>    Number of the log's first line, 1 to 1000000000000000; 1 if left out
-    -h, --help             Print help
+        --moment <MOMENT>        When the clocks of a file without timestamps were seen, in seconds; 0 if left out
+        --why                    After a refusal, print on standard error what is wrong and what is expected
+        --clocks-only            Print the saved clocks alone, and no line for a datagram
+        --from-line <N>          Number of the log's first line, 1 to 1000000000000000; 1 if left out
+        --from <FILE>            A capture (pcap or pcapng), a log, pasted hex, or a dump as hexdump -C prints it; - is standard input
+        --form <FORM>            The form of FILE: pcap or pcapng, log, hex or dump; found by its first octets if left out
+        --port <PORT>            A port that the datagrams are from or to; may be repeated; 161 and 162 if left out
+        --from-port <FROM_PORT>  Take only datagrams from this port, as 161 for what agents send; both directions if left out
+    -h, --help                   Print help
   
+  With --from it processes the datagrams of a capture, and needs no log.
   A log has at most 1000000 lines. Replay a longer one in pieces, each with --clocks-only;
   merge-clocks joins the clocks that they print.
   
@@ -288,15 +295,16 @@ The help of each command. `manual` prints on standard output what `--help` print
   Usage: snmpsec datagrams [OPTIONS] <FILE>
   
   Arguments:
-    <FILE>  A capture (pcap or pcapng), pasted hex, or a dump as hexdump -C prints it; - is standard input
+    <FILE>  A capture (pcap or pcapng), a log, pasted hex, or a dump as hexdump -C prints it; - is standard input
   
   Options:
-        --form <FORM>      The form of FILE: pcap (also for pcapng), hex or dump; found by its first octets if left out
-        --why              After a refusal, print on standard error what is wrong and what is expected
-        --port <PORT>      A port that the datagrams are from or to; may be repeated; 161 and 162 if left out
-        --moment <MOMENT>  When pasted hex or a dump was received, in seconds; 0 if left out
-        --ip               FILE is dumps of packets from their IP headers on, as tcpdump -x prints them
-    -h, --help             Print help
+        --form <FORM>            The form of FILE: pcap or pcapng, log, hex or dump; found by its first octets if left out
+        --why                    After a refusal, print on standard error what is wrong and what is expected
+        --port <PORT>            A port that the datagrams are from or to; may be repeated; 161 and 162 if left out
+        --from-port <FROM_PORT>  Take only datagrams from this port, as 161 for what agents send; both directions if left out
+        --moment <MOMENT>        When pasted hex or a dump was received, in seconds; 0 if left out
+        --ip                     FILE is dumps of packets from their IP headers on, as tcpdump -x prints them
+    -h, --help                   Print help
   
   It counts on standard error the packets that aren't datagrams of these ports, and reports
   each that may be a part of one. Pasted hex is one datagram. A dump is one, unless --ip is given.
@@ -317,10 +325,10 @@ The help of each command. `manual` prints on standard output what `--help` print
   
   Arguments:
     <CONFIG>  TOML file with the users of the messages
-    <FILE>    A capture (pcap or pcapng), pasted hex, or a dump as hexdump -C prints it; - is standard input
+    <FILE>    A capture (pcap or pcapng), a log, pasted hex, or a dump as hexdump -C prints it; - is standard input
   
   Options:
-        --form <FORM>      The form of FILE: pcap (also for pcapng), hex or dump; found by its first octets if left out
+        --form <FORM>      The form of FILE: pcap or pcapng, log, hex or dump; found by its first octets if left out
         --why              After a refusal, print on standard error what is wrong and what is expected
         --port <PORT>      A port that the datagrams are from or to; may be repeated; 161 and 162 if left out
         --moment <MOMENT>  When pasted hex or a dump was received, in seconds; 0 if left out

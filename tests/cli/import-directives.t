@@ -71,6 +71,7 @@ These are left out.
   > vacmAuthAccess 1
   > END
   $ snmpsec import-snmpd f | rows
+  ! snmpsec: 1 usmUser line has localised keys, which can't be taken over: give such users by createUser
   ! f:1: left out: com2sec: a community's name here is that of a group row of model 1 or 2
   ! f:2: left out: com2sec6: a community's name here is that of a group row of model 1 or 2
   ! f:3: left out: com2secunix: a community's name here is that of a group row of model 1 or 2

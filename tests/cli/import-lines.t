@@ -83,6 +83,7 @@ Directives may be upper-case or lower-case.
   > createUser bob
   > END
   $ snmpsec import-snmpd f | rows
+  ! snmpsec: 1 usmUser line has localised keys, which can't be taken over: give such users by createUser
   ! f:4: left out: rocommunity6: messages of SNMPv1 and SNMPv2c are refused here; its rows are for a name of its own
   ! f:5: left out: com2secunix: a community's name here is that of a group row of model 1 or 2
   ! f:6: left out: usmUser: a row that snmpd itself has saved

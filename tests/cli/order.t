@@ -75,7 +75,7 @@ The options are checked before a file is opened. The configuration is read befor
 
   $ snmpsec show --from /no/such/file --form x
   ! snmpsec: bad word FORM
-  ! snmpsec: FORM "x": unknown form; use pcap, hex or dump
+  ! snmpsec: FORM "x": unknown form; use pcap, pcapng, log, hex or dump
   [2]
   $ snmpsec show --from /no/such/file
   ! snmpsec: cannot read /no/such/file
@@ -254,7 +254,7 @@ The form is checked first, then the ports, then the timestamp.
 
   $ snmpsec datagrams --form PCAP --port -1 --moment x /no/such/file
   ! snmpsec: bad word FORM
-  ! snmpsec: FORM "PCAP": unknown form; use pcap, hex or dump
+  ! snmpsec: FORM "PCAP": unknown form; use pcap, pcapng, log, hex or dump
   [2]
   $ snmpsec datagrams --port -1 --moment x /no/such/file
   ! snmpsec: bad word PORT
@@ -289,7 +289,7 @@ With `--ip` another form is refused before the ports are checked.
   [2]
   $ snmpsec datagrams --ip --form x /no/such/file
   ! snmpsec: bad word FORM
-  ! snmpsec: FORM "x": unknown form; use pcap, hex or dump
+  ! snmpsec: FORM "x": unknown form; use pcap, pcapng, log, hex or dump
   [2]
   $ snmpsec datagrams --ip --port 65536 /no/such/file
   ! snmpsec: bad word PORT

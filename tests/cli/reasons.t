@@ -20,6 +20,7 @@ A message of 58 octets was cut after 45.
   [1]
   $ snmpsec show --why 3000
   refused 1 NotMessage at 2
+  ! snmpsec: another protocol on the port, or a message that was cut
   [1]
   $ snmpsec check-access --why /no/such/file 0 ann none see @ 1
   ! snmpsec: cannot read /no/such/file
@@ -84,7 +85,7 @@ Newer commands explain without `--why`.
   [2]
   $ snmpsec datagrams --ip --form jpeg /dev/null
   ! snmpsec: bad word FORM
-  ! snmpsec: FORM "jpeg": unknown form; use pcap, hex or dump
+  ! snmpsec: FORM "jpeg": unknown form; use pcap, pcapng, log, hex or dump
   [2]
   $ snmpsec merge-clocks --why --moment 1.5 /dev/null
   ! snmpsec: bad word MOMENT
@@ -143,3 +144,41 @@ Input from a pipe is explained too, since no file is read twice.
   ! snmpsec: cannot read -
   ! snmpsec: -: it is a folder
   [2]
+
+Of a message that isn't opened, whose password is wrong. Of a name that is in no group, the nearest.
+
+  $ snmpsec datagrams "$TOP/examples/diagnose.pcap" | cut -d ' ' -f 2 > hex
+  $ snmpsec open --why "$TOP/examples/no-answer.toml" $(sed -n 9p hex)
+  refused 9 WrongDigest
+  ! snmpsec: wrong password or hash for user "bob"
+  [1]
+  $ snmpsec open --why "$TOP/examples/no-answer.toml" $(sed -n 11p hex)
+  refused 7 UnknownUser
+  ! snmpsec: no user "eve" in this configuration
+  [1]
+  $ snmpsec check-access --why "$TOP/examples/access.toml" 3 nagio authPriv read @ 1.3
+  noGroupName
+  ! snmpsec: no group row of model 3 has the name "nagio", the nearest is "nagios"
+  [1]
+  $ snmpsec explain-access --why "$TOP/examples/access.toml" 3 zoe authPriv read @ 1.3
+  noGroupName
+  context 0
+  ! snmpsec: no group row of model 3 has the name "zoe"
+  [1]
+  $ snmpsec check-access "$TOP/examples/access.toml" 3 nagio authPriv read @ 1.3
+  noGroupName
+  [1]
+
+A file of net-snmp isn't a configuration.
+
+  $ cp "$TOP/examples/snmpd.conf" .
+  $ snmpsec check-config snmpd.conf
+  refused config toml
+  ! snmpsec: TOML parse error at line 2, column 13: key with no value, expected `=`
+  ! snmpsec: snmpd.conf looks like an snmpd.conf; import-snmpd makes a configuration of one
+  [1]
+  $ echo 'view = 5' > view.toml
+  $ snmpsec check-config view.toml
+  refused config top
+  ! snmpsec: view: at the top stand the arrays of tables user, context, group, access and family, and nothing else
+  [1]

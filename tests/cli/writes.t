@@ -39,4 +39,3 @@ The reader of the pipe has ended.
   $ seq -f '%.0f 30' 100000 > log; snmpsec replay empty clocks log | head -n 2
   1 1 refused 1 NotMessage
   2 2 refused 1 NotMessage
-  ! snmpsec: cannot write

@@ -22,9 +22,9 @@ use Rattle.capture_datagrams.specs.declared.forms.ReadOptions.{ReadOptions}
 use Rattle.capture_datagrams.specs.declared.datagrams.Unread.{Unread}
 use Rattle.capture_datagrams.specs.declared.datagrams.Unread.TheVariants as unread
 
--- the word for a form; dumps of packets have none
+-- the words for a form; dumps of packets have none
 abbrev pub IsFormWord : Form → List ℕ → Type 0
-IsFormWord Pcap word = word ≡ codes "pcap"
+IsFormWord Pcap word = (word ≡ codes "pcap") ⊎ (word ≡ codes "pcapng")
 IsFormWord Hex word = word ≡ codes "hex"
 IsFormWord Dump word = word ≡ codes "dump"
 IsFormWord Packets word = ⊥

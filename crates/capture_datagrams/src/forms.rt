@@ -25,12 +25,12 @@ pub enum Form {
     Packets,
 }
 
-/// The form of this name: `pcap`, `hex` or `dump`. Dumps of packets have none.
+/// The form of this name: `pcap` or `pcapng`, `hex`, or `dump`. Dumps of packets have none.
 pub fn form_of(word: &str) -> Option<Form>
     ensures found { IfSome result (λ form. IsFormWord form word.now) }
     ensures all { (form : FormIs) → IsFormWord form word.now → result ≡ Some form }
 {
-    if word == "pcap" {
+    if word == "pcap" || word == "pcapng" {
         return Some(Form::Pcap);
     }
     if word == "hex" {

@@ -22,6 +22,8 @@
 pub mod datagrams;
 mod dump_texts;
 pub mod forms;
+pub mod logs;
+pub mod one_way;
 mod packets;
 pub mod printout;
 mod texts;

@@ -5,6 +5,7 @@ use crate::facts::{Answer, First, Remark, Says};
 use crate::heads::{head_line, span_text};
 use crate::names::status_name;
 use crate::values::{Value, value_text};
+use crate::view_lines::views_text;
 use diagnose_exchanges::{EXCHANGES_LIMIT, Ending, Exchange};
 use engine_clock::EngineId;
 use snmp_msg::Refusal;
@@ -104,6 +105,8 @@ fn answer_lines(alloc: Global, first: &First, answer: &Answer) -> Result<String,
         Says::Report(counter, value) => report_lines(alloc, first, &span, counter, *value)?,
         Says::Unread(refusal) => unread_lines(alloc, &span, *refusal)?,
     };
+    let views = views_text(alloc, first, &answer.views)?;
+    text.push_str(&views)?;
     if !answer.in_window {
         text.push_str("    the answer isn't in the time window of what is known of its engine\n")?;
     }

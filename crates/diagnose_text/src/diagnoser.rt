@@ -1,6 +1,7 @@
 //! Takes the datagrams of a capture one after another, and prints a block for each exchange.
 
-ghost use Rattle.std.specs.Prelude.{⊤};
+ghost use Rattle.std.specs.Prelude.{◌≡◌, ⊤, [], ◌∷◌, true, false, OnOk};
+ghost use Rattle.diagnose_exchanges.specs.Exchanges.{Takes};
 
 use crate::agents::Agents;
 use crate::facts::{Answer, First, Remark, Says, Sender, Sent, What};
@@ -9,12 +10,14 @@ use crate::options::DiagnoseOptions;
 use crate::reading::{names_of, says_of};
 use crate::report::Report;
 use crate::unread::{Unread, engine_in, unread_in};
+use crate::views::{Viewed, views_of};
 use capture_files::{Printed, Printer, Route, route_of};
 use diagnose_exchanges::{Asked, Copies, EXCHANGES_LIMIT, Ending, Exchanges, digest_of};
 use diagnose_judge::{Judged, Observer, Verdict};
 use engine_clock::{Clocks, EngineId};
 use snmp_incoming::Taken;
 use snmp_msg::{PduType, Refusal, read_message};
+use snmpsec_access::Explainer;
 use std::alloc::{AllocError, Global};
 use usm_core::Users;
 use usm_users::UserName;
@@ -28,6 +31,7 @@ const SNMP: [u16; 2] = [161, 162];
 pub struct Diagnoser {
     alloc: Global,
     observer: Observer,
+    views: Option<Explainer>,
     agents: Agents,
     exchanges: Exchanges<Asked, First, Answer>,
     copies: Copies<u64>,
@@ -82,11 +86,19 @@ fn sender_of(taken: &Taken<'_>) -> Sender {
 }
 
 impl Diagnoser {
-    /// Nothing was captured yet. Messages are opened by the keys of these users, and these clocks are known.
-    pub fn new(alloc: Global, users: Users, clocks: Clocks, options: DiagnoseOptions) -> Diagnoser {
+    /// Nothing was captured yet. Messages are opened by the keys of these users, and these clocks are known. Of
+    /// variables that an answer refuses it is printed what these rows of access say, if they are given.
+    pub fn new(
+        alloc: Global,
+        users: Users,
+        clocks: Clocks,
+        views: Option<Explainer>,
+        options: DiagnoseOptions,
+    ) -> Diagnoser {
         Diagnoser {
             alloc,
             observer: Observer::new(users, clocks),
+            views,
             agents: Agents::new(alloc),
             exchanges: Exchanges::new(alloc),
             copies: Copies::new(alloc),
@@ -95,6 +107,11 @@ impl Diagnoser {
             route: None,
             micros: 0,
         }
+    }
+
+    /// Each line that is printed is a JSON object.
+    pub fn prints_json(&self) -> bool {
+        self.report.prints_json()
     }
 
     /// What is printed when the capture ends, and whether something failed in it: the exchanges that still wait for an
@@ -126,28 +143,27 @@ impl Diagnoser {
 
     /// A request, which waits for its answer from now on, unless it is a copy. What asked the same before gets none,
     /// unless it is the one that is sent again.
-    fn ask(&mut self, line: Line, id: u32, first: First) -> Result<(), AllocError> {
+    fn ask(&mut self, line: Line, id: u32, first: First) -> Result<(), AllocError>
+        ensures { OnOk result ((self.new.exchanges.gone ≡ self.old.exchanges.gone)
+            × Takes (line.number ∷ []) self.old.exchanges.gone self.old.exchanges.list.items
+            self.new.exchanges.list.items) }
+    {
         if line.copy_of.is_some() {
             return self.exchanges.tell(line.number, first);
         }
         let asked = Asked::by_request(line.route, id);
         let again = first.again.map(|again| again.place);
-        if let Some(place) = self.exchanges.waits(&asked) {
-            if again != Some(place) {
-                self.exchanges.end(place, Ending::NoAnswer);
-            }
-        }
         let counts = first.again.is_none() && !first.is_discovery();
-        self.exchanges.ask(line.number, asked, counts, first)
+        self.exchanges
+            .ask_anew(line.number, asked, again, counts, first)
     }
 
     /// A request that was opened.
-    fn request(
-        &mut self,
-        line: Line,
-        taken: &Taken<'_>,
-        verdict: Verdict,
-    ) -> Result<(), AllocError> {
+    fn request(&mut self, line: Line, taken: &Taken<'_>, verdict: Verdict) -> Result<(), AllocError>
+        ensures { OnOk result ((self.new.exchanges.gone ≡ self.old.exchanges.gone)
+            × Takes (line.number ∷ []) self.old.exchanges.gone self.old.exchanges.list.items
+            self.new.exchanges.list.items) }
+    {
         let what = What::Pdu(names_of(self.alloc, &taken.pdu())?);
         let mut first = line.first(what);
         first.sender = Some(sender_of(taken));
@@ -162,7 +178,9 @@ impl Diagnoser {
     }
 
     /// The request with the same user and PDU that was seen before, unless this is a copy.
-    fn note_request(&mut self, line: Line, taken: &Taken<'_>) -> Result<Option<Sent>, AllocError> {
+    fn note_request(&mut self, line: Line, taken: &Taken<'_>) -> Result<Option<Sent>, AllocError>
+        ensures { self.new.exchanges ≡ self.old.exchanges }
+    {
         let digest = digest_of(taken.user, taken.scoped().pdu);
         let sent = Sent {
             number: line.number,
@@ -176,25 +194,70 @@ impl Diagnoser {
     }
 
     /// An answer that was opened.
-    fn answer(&mut self, line: Line, taken: &Taken<'_>, in_window: bool) -> Result<(), AllocError> {
+    fn answer(&mut self, line: Line, taken: &Taken<'_>, in_window: bool) -> Result<(), AllocError>
+        ensures { OnOk result ((self.new.exchanges.gone ≡ self.old.exchanges.gone)
+            × Takes (line.number ∷ []) self.old.exchanges.gone self.old.exchanges.list.items
+            self.new.exchanges.list.items) }
+    {
         let asked = Asked::by_answer(line.route, taken.id);
         let says = match self.asks_engine(&asked) {
             Some(true) => Says::Engine(taken.engine.copy()),
             Some(false) => says_of(self.alloc, &taken.pdu())?,
             None => return self.tell_alone(line, taken),
         };
+        let views = self.views_said(&asked, &says, taken)?;
         let answer = Answer {
             at: line.at,
             says,
+            views,
             in_window,
         };
-        match self.exchanges.answer(&asked, line.number, answer) {
-            Ok(place) => {
-                self.end_first(place);
-                Ok(())
-            }
-            Err(_) => self.tell_alone(line, taken),
+        if self.answers(&asked, line.number, answer) {
+            return Ok(());
         }
+        self.tell_alone(line, taken)
+    }
+
+    /// Whether the datagram with this number answers the exchange that waits for an answer with these, if one does.
+    fn answers(&mut self, asked: &Asked, number: u64, answer: Answer) -> bool
+        ensures gone { self.new.exchanges.gone ≡ self.old.exchanges.gone }
+        ensures answers { result ≡ true → Takes (number ∷ []) self.old.exchanges.gone
+            self.old.exchanges.list.items self.new.exchanges.list.items }
+        ensures stays { result ≡ false
+            → self.new.exchanges.list.items ≡ self.old.exchanges.list.items }
+    {
+        let Ok(place) = self.exchanges.answer(asked, number, answer) else {
+            return false;
+        };
+        self.end_first(place);
+        true
+    }
+
+    /// What the views say of the variables of an answer to what was asked.
+    fn views_said(
+        &self,
+        asked: &Asked,
+        says: &Says,
+        taken: &Taken<'_>,
+    ) -> Result<Vec<Viewed>, AllocError> {
+        let Some(explainer) = &self.views else {
+            return Ok(Vec::new(self.alloc));
+        };
+        let Some(place) = self.exchanges.waits(asked) else {
+            return Ok(Vec::new(self.alloc));
+        };
+        let Some(exchange) = self.exchanges.at(place) else {
+            return Ok(Vec::new(self.alloc));
+        };
+        let context = taken.scoped().name;
+        views_of(
+            self.alloc,
+            explainer,
+            &exchange.first,
+            says,
+            context,
+            &taken.pdu(),
+        )
     }
 
     /// Whether what waits for an answer with these is a discovery, if something waits.
@@ -205,7 +268,11 @@ impl Diagnoser {
     }
 
     /// The request that was sent again with the one at this place, which has its answer now, is answered too.
-    fn end_first(&mut self, place: u64) {
+    fn end_first(&mut self, place: u64)
+        ensures gone { self.new.exchanges.gone ≡ self.old.exchanges.gone }
+        ensures takes { Takes [] self.old.exchanges.gone self.old.exchanges.list.items
+            self.new.exchanges.list.items }
+    {
         let again = match self.exchanges.at(place) {
             Some(exchange) => exchange.first.again,
             None => None,
@@ -216,7 +283,11 @@ impl Diagnoser {
     }
 
     /// A notification, or an answer of which the request isn't known.
-    fn tell_alone(&mut self, line: Line, taken: &Taken<'_>) -> Result<(), AllocError> {
+    fn tell_alone(&mut self, line: Line, taken: &Taken<'_>) -> Result<(), AllocError>
+        ensures { OnOk result ((self.new.exchanges.gone ≡ self.old.exchanges.gone)
+            × Takes (line.number ∷ []) self.old.exchanges.gone self.old.exchanges.list.items
+            self.new.exchanges.list.items) }
+    {
         let what = What::Pdu(names_of(self.alloc, &taken.pdu())?);
         let mut first = line.first(what);
         first.sender = Some(sender_of(taken));
@@ -228,7 +299,11 @@ impl Diagnoser {
     }
 
     /// A datagram that wasn't opened.
-    fn unread(&mut self, line: Line, datagram: &[u8], refusal: Refusal) -> Result<(), AllocError> {
+    fn unread(&mut self, line: Line, datagram: &[u8], refusal: Refusal) -> Result<(), AllocError>
+        ensures { OnOk result ((self.new.exchanges.gone ≡ self.old.exchanges.gone)
+            × Takes (line.number ∷ []) self.old.exchanges.gone self.old.exchanges.list.items
+            self.new.exchanges.list.items) }
+    {
         let Some(unread) = unread_in(self.alloc, datagram)? else {
             let mut first = line.first(What::Unreadable);
             first.refusal = Some(refusal);
@@ -266,7 +341,11 @@ impl Diagnoser {
         line: Line,
         mut unread: Unread,
         refusal: Refusal,
-    ) -> Result<(), AllocError> {
+    ) -> Result<(), AllocError>
+        ensures { OnOk result ((self.new.exchanges.gone ≡ self.old.exchanges.gone)
+            × Takes (line.number ∷ []) self.old.exchanges.gone self.old.exchanges.list.items
+            self.new.exchanges.list.items) }
+    {
         let asked = Asked::by_answer(line.route, unread.id);
         let says = match unread.report.take() {
             Some(report) => report,
@@ -275,22 +354,22 @@ impl Diagnoser {
         let answer = Answer {
             at: line.at,
             says,
+            views: Vec::new(self.alloc),
             in_window: true,
         };
-        match self.exchanges.answer(&asked, line.number, answer) {
-            Ok(place) => {
-                self.end_first(place);
-                Ok(())
-            }
-            Err(_) => {
-                let first = unread_first(line, unread, refusal);
-                self.exchanges.tell(line.number, first)
-            }
+        if self.answers(&asked, line.number, answer) {
+            return Ok(());
         }
+        let first = unread_first(line, unread, refusal);
+        self.exchanges.tell(line.number, first)
     }
 
     /// A discovery.
-    fn discovery(&mut self, line: Line, datagram: &[u8]) -> Result<(), AllocError> {
+    fn discovery(&mut self, line: Line, datagram: &[u8]) -> Result<(), AllocError>
+        ensures { OnOk result ((self.new.exchanges.gone ≡ self.old.exchanges.gone)
+            × Takes (line.number ∷ []) self.old.exchanges.gone self.old.exchanges.list.items
+            self.new.exchanges.list.items) }
+    {
         let id = match read_message(datagram) {
             Ok(message) => message.header.id,
             Err(_) => 0,
@@ -298,8 +377,12 @@ impl Diagnoser {
         self.ask(line, id, line.first(What::Discovery))
     }
 
-    /// Takes a datagram.
-    fn take(&mut self, line: Line, datagram: &[u8]) -> Result<(), AllocError> {
+    /// Takes a datagram, by exactly one step that begins an exchange with it or answers one by it.
+    fn take(&mut self, line: Line, datagram: &[u8]) -> Result<(), AllocError>
+        ensures { OnOk result ((self.new.exchanges.gone ≡ self.old.exchanges.gone)
+            × Takes (line.number ∷ []) self.old.exchanges.gone self.old.exchanges.list.items
+            self.new.exchanges.list.items) }
+    {
         if let Some(engine) = engine_in(datagram) {
             if self.agents.leaves_out(&engine) {
                 return self.leave_out(line, engine);
@@ -323,7 +406,11 @@ impl Diagnoser {
     }
 
     /// A datagram of an engine beyond the limit.
-    fn leave_out(&mut self, line: Line, engine: EngineId) -> Result<(), AllocError> {
+    fn leave_out(&mut self, line: Line, engine: EngineId) -> Result<(), AllocError>
+        ensures { OnOk result ((self.new.exchanges.gone ≡ self.old.exchanges.gone)
+            × Takes (line.number ∷ []) self.old.exchanges.gone self.old.exchanges.list.items
+            self.new.exchanges.list.items) }
+    {
         let mut first = line.first(What::Sealed);
         first.engine = Some(engine);
         first.remark = Remark::EnginesLimit;

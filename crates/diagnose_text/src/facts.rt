@@ -2,6 +2,7 @@
 
 use crate::heads::Stamp;
 use crate::values::Value;
+use crate::views::Viewed;
 use capture_files::Route;
 use engine_clock::EngineId;
 use snmp_ber::Level;
@@ -110,6 +111,8 @@ pub(crate) enum Says {
 pub(crate) struct Answer {
     pub(crate) at: Stamp,
     pub(crate) says: Says,
+    /// What the views of the configuration say of the variables that it refuses, or hasn't.
+    pub(crate) views: Vec<Viewed>,
     /// It is in the time window of what is known of its engine.
     pub(crate) in_window: bool,
 }

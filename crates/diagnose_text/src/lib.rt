@@ -7,7 +7,7 @@
 //!
 //! let users = Users::load(rt.alloc(), &[])?;
 //! let options = DiagnoseOptions::all(rt.alloc());
-//! let mut diagnoser = Diagnoser::new(rt.alloc(), users, Clocks::new(rt.alloc()), options);
+//! let mut diagnoser = Diagnoser::new(rt.alloc(), users, Clocks::new(rt.alloc()), None, options);
 //! let (text, failed) = diagnoser.finish()?;
 //! assert!(rt; text.starts_with(b"summary\n") && !failed);
 //! ```
@@ -28,6 +28,8 @@ mod report;
 mod summary;
 mod unread;
 mod values;
+mod view_lines;
+mod views;
 
 pub use diagnoser::Diagnoser;
 pub use options::{DiagnoseOptions, Style};

@@ -1,4 +1,4 @@
-//! Names of PDUs, levels, error-statuses and counters, as RFCs and tcpdump write them.
+//! Names of PDUs, levels and error-statuses, as RFCs and tcpdump write them.
 
 use snmp_ber::Level;
 use snmp_msg::PduType;
@@ -56,30 +56,4 @@ pub(crate) fn status_name(status: i32) -> &'static str {
         Ok(status) => STATUSES.get(status).copied().unwrap_or("unknown error"),
         Err(_) => "unknown error",
     }
-}
-
-/// The counters that Reports name, and the refusal that each counts, if it counts one of the table (RFC 3412,
-/// section 5; RFC 3413, section 4.1.2; RFC 3414, section 5).
-static COUNTERS: [(&str, &str); 11] = [
-    ("1.3.6.1.6.3.15.1.1.1.0", "usmStatsUnsupportedSecLevels"),
-    ("1.3.6.1.6.3.15.1.1.2.0", "usmStatsNotInTimeWindows"),
-    ("1.3.6.1.6.3.15.1.1.3.0", "usmStatsUnknownUserNames"),
-    ("1.3.6.1.6.3.15.1.1.4.0", "usmStatsUnknownEngineIDs"),
-    ("1.3.6.1.6.3.15.1.1.5.0", "usmStatsWrongDigests"),
-    ("1.3.6.1.6.3.15.1.1.6.0", "usmStatsDecryptionErrors"),
-    ("1.3.6.1.6.3.11.2.1.1.0", "snmpUnknownSecurityModels"),
-    ("1.3.6.1.6.3.11.2.1.2.0", "snmpInvalidMsgs"),
-    ("1.3.6.1.6.3.11.2.1.3.0", "snmpUnknownPDUHandlers"),
-    ("1.3.6.1.6.3.12.1.4.0", "snmpUnavailableContexts"),
-    ("1.3.6.1.6.3.12.1.5.0", "snmpUnknownContexts"),
-];
-
-/// The name of the counter with this identifier, in decimals with dots between.
-pub(crate) fn counter_name(variable: &str) -> Option<&'static str> {
-    for (known, name) in &COUNTERS {
-        if *known == variable {
-            return Some(name);
-        }
-    }
-    None
 }

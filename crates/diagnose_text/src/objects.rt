@@ -1,15 +1,16 @@
 //! The JSON object of an exchange: the facts of its text under fixed names. What isn't known is null.
 
-use crate::causes::cause;
 use crate::facts::{Answer, First, PduNames, Remark, Says, What};
 use crate::heads::{name_text, time_text};
 use crate::names::{level_name, pdu_name, status_name};
 use crate::values::Value;
+use crate::view_lines::view_objects;
 use capture_files::Endpoint;
 use diagnose_exchanges::{Ending, Exchange};
 use serde_json::{Value as Json, json};
 use snmp_ber::Level;
 use snmp_msg::Refusal;
+use snmpsec_output::cause;
 use std::alloc::{AllocError, Global};
 
 /// An address with its port, or null.
@@ -144,10 +145,11 @@ fn answer_object(
     answer: &Answer,
 ) -> Result<Json, AllocError> {
     let says = says_object(alloc, &answer.says)?;
+    let views = view_objects(alloc, &answer.views)?;
     let (after, in_window) = (answer.at.since(first.at), answer.in_window);
     json!(in alloc; {
         "kind": "answered", "datagram": by, "after_microseconds": after, "in_window": in_window,
-        "says": says
+        "says": says, "views": views
     })
 }
 

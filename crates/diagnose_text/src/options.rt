@@ -33,6 +33,11 @@ impl DiagnoseOptions {
         }
     }
 
+    /// Exchanges of all users and engines are wanted.
+    pub(crate) fn wants_all(&self) -> bool {
+        self.users.is_empty() && self.engines.is_empty()
+    }
+
     /// Exchanges of this user and engine are wanted.
     pub(crate) fn wants(&self, user: &[u8], engine: Option<&EngineId>) -> bool {
         self.wants_user(user) && self.wants_engine(engine)

@@ -1,10 +1,10 @@
 //! Reads of a PDU what is printed of it.
 
 use crate::facts::{PduNames, Says};
-use crate::names::counter_name;
 use crate::values::{Value, value_of};
 use snmp_ber::read_unsigned;
 use snmp_msg::{Pdu, PduType};
+use snmpsec_output::counter_named;
 use std::alloc::{AllocError, Global};
 
 /// How many variables of a PDU are printed.
@@ -63,7 +63,7 @@ pub(crate) fn report_of(alloc: Global, pdu: &Pdu<'_>) -> Result<Says, AllocError
     };
     let variable = &binding.name;
     let variable = format!(in alloc; "{variable}")?;
-    let counter = match counter_name(&variable) {
+    let counter = match counter_named(&variable) {
         Some(name) => String::from_str(alloc, name)?,
         None => variable,
     };

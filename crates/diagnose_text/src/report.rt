@@ -1,15 +1,16 @@
 //! What is printed of a capture: exchanges one after another, and the summary.
 
-use crate::agents::Agents;
+use crate::agents::{Agents, ENGINES_LIMIT};
 use crate::blocks::block_text;
 use crate::counts::Counts;
 use crate::facts::{Answer, First, Says};
 use crate::objects::object_line;
 use crate::options::{DiagnoseOptions, Style};
-use crate::summary::{summary_line, summary_text};
+use crate::summary::{Summary, summary_line, summary_text};
 use diagnose_exchanges::{COPIES_LIMIT, Ending, Exchange};
 use engine_clock::{Clocks, EngineId};
 use std::alloc::{AllocError, Global};
+use std::collections::BTreeSet;
 
 /// What is printed of a capture.
 #[derive(Drop)]
@@ -17,6 +18,8 @@ pub(crate) struct Report {
     alloc: Global,
     options: DiagnoseOptions,
     counts: Counts,
+    /// The engines of exchanges that were printed, where not all are wanted.
+    engines: BTreeSet<EngineId>,
     failed: bool,
     digests_full: bool,
 }
@@ -27,9 +30,15 @@ impl Report {
             alloc,
             options,
             counts: Counts::new(alloc),
+            engines: BTreeSet::new(alloc),
             failed: false,
             digests_full: false,
         }
+    }
+
+    /// Each line that is printed is a JSON object.
+    pub(crate) fn prints_json(&self) -> bool {
+        self.options.style == Style::Json
     }
 
     /// Something failed.
@@ -48,6 +57,7 @@ impl Report {
         if !self.options.wants(first.user(), engine) {
             return Ok(());
         }
+        self.note_engine(engine)?;
         if exchange.counts {
             self.counts.count(first.user(), &exchange.ending)?;
         }
@@ -59,6 +69,17 @@ impl Report {
             Style::Json => object_line(self.alloc, exchange)?,
         };
         out.extend_from_slice(text.as_bytes())
+    }
+
+    /// Notes the engine of an exchange that is printed, where not all are wanted.
+    fn note_engine(&mut self, engine: Option<&EngineId>) -> Result<(), AllocError> {
+        let Some(engine) = engine else {
+            return Ok(());
+        };
+        if !self.options.wants_all() && self.engines.len() < ENGINES_LIMIT {
+            self.engines.insert(engine.copy())?;
+        }
+        Ok(())
     }
 
     /// Says once that the digests are full.
@@ -78,11 +99,23 @@ impl Report {
         out.extend_from_slice(text.as_bytes())
     }
 
-    /// The summary.
+    /// The summary. It has all engines of which the clock is known, or those of the exchanges that were printed, where
+    /// not all are wanted.
     pub(crate) fn summary(&self, clocks: &Clocks, agents: &Agents) -> Result<String, AllocError> {
+        let wanted = if self.options.wants_all() {
+            None
+        } else {
+            Some(&self.engines)
+        };
+        let summary = Summary {
+            counts: &self.counts,
+            clocks,
+            agents,
+            wanted,
+        };
         match self.options.style {
-            Style::Text => summary_text(self.alloc, &self.counts, clocks, agents),
-            Style::Json => summary_line(self.alloc, &self.counts, clocks, agents),
+            Style::Text => summary_text(self.alloc, &summary),
+            Style::Json => summary_line(self.alloc, &summary),
         }
     }
 }

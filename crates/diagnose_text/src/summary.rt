@@ -7,6 +7,27 @@ use capture_files::Endpoint;
 use engine_clock::{Clocks, EngineId};
 use serde_json::{Value as Json, json};
 use std::alloc::{AllocError, Global};
+use std::collections::BTreeSet;
+
+/// What the summary is made of.
+#[derive(Clone, Copy)]
+pub(crate) struct Summary<'a> {
+    pub(crate) counts: &'a Counts,
+    pub(crate) clocks: &'a Clocks,
+    pub(crate) agents: &'a Agents,
+    /// The engines that are printed, where not all are.
+    pub(crate) wanted: Option<&'a BTreeSet<EngineId>>,
+}
+
+impl Summary<'_> {
+    /// This engine is printed.
+    fn wants(&self, engine: &EngineId) -> bool {
+        match self.wanted {
+            Some(wanted) => wanted.contains(engine),
+            None => true,
+        }
+    }
+}
 
 /// What is known of an engine.
 #[derive(Drop)]
@@ -19,15 +40,10 @@ struct EngineFacts {
 }
 
 /// The summary as lines.
-pub(crate) fn summary_text(
-    alloc: Global,
-    counts: &Counts,
-    clocks: &Clocks,
-    agents: &Agents,
-) -> Result<String, AllocError> {
-    let users = counts.lines(alloc)?;
+pub(crate) fn summary_text(alloc: Global, summary: &Summary<'_>) -> Result<String, AllocError> {
+    let users = summary.counts.lines(alloc)?;
     let mut text = format!(in alloc; "summary\n{users}")?;
-    for facts in &engines_of(alloc, clocks, agents)? {
+    for facts in &engines_of(alloc, summary)? {
         let line = engine_line(alloc, facts)?;
         text.push_str(&line)?;
     }
@@ -35,15 +51,10 @@ pub(crate) fn summary_text(
 }
 
 /// The summary as a JSON object.
-pub(crate) fn summary_line(
-    alloc: Global,
-    counts: &Counts,
-    clocks: &Clocks,
-    agents: &Agents,
-) -> Result<String, AllocError> {
-    let users = counts.objects(alloc)?;
+pub(crate) fn summary_line(alloc: Global, summary: &Summary<'_>) -> Result<String, AllocError> {
+    let users = summary.counts.objects(alloc)?;
     let mut engines = Vec::new(alloc);
-    for facts in &engines_of(alloc, clocks, agents)? {
+    for facts in &engines_of(alloc, summary)? {
         let object = engine_object(alloc, facts)?;
         engines.push(object)?;
     }
@@ -53,14 +64,10 @@ pub(crate) fn summary_line(
     format!(in alloc; "{text}\n")
 }
 
-/// What is known of the engines, in the order of their octets.
-fn engines_of(
-    alloc: Global,
-    clocks: &Clocks,
-    agents: &Agents,
-) -> Result<Vec<EngineFacts>, AllocError> {
+/// What is known of the engines that are printed, in the order of their octets.
+fn engines_of(alloc: Global, summary: &Summary<'_>) -> Result<Vec<EngineFacts>, AllocError> {
     let mut engines = Vec::new(alloc);
-    let saved = clocks.save()?;
+    let saved = summary.clocks.save()?;
     let Ok(saved) = std::str::from_utf8(&saved) else {
         return Ok(engines);
     };
@@ -69,8 +76,10 @@ fn engines_of(
         let Ok(octets) = hex::decode(alloc, digits) else {
             continue;
         };
-        if let Some(facts) = engine_of(&octets, clocks, agents) {
-            engines.push(facts)?;
+        if let Some(facts) = engine_of(&octets, summary.clocks, summary.agents) {
+            if summary.wants(&facts.engine) {
+                engines.push(facts)?;
+            }
         }
     }
     Ok(engines)

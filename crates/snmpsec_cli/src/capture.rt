@@ -7,7 +7,7 @@ use clap::ArgMatches;
 
 /// What a file of datagrams is.
 pub(crate) const SOURCE: &str =
-    "A capture (pcap or pcapng), pasted hex, or a dump as hexdump -C prints it; - is standard input";
+    "A capture (pcap or pcapng), a log, pasted hex, or a dump as hexdump -C prints it; - is standard input";
 
 /// The file of datagrams as an option.
 pub(crate) const FROM: Word = (Kind::SourceValue, "FILE", "from", SOURCE);
@@ -17,7 +17,7 @@ pub(crate) const FORM: Word = (
     Kind::SourceValue,
     "FORM",
     "form",
-    "The form of FILE: pcap (also for pcapng), hex or dump; found by its first octets if left out",
+    "The form of FILE: pcap or pcapng, log, hex or dump; found by its first octets if left out",
 );
 
 /// The ports of the datagrams that are wanted.
@@ -26,6 +26,14 @@ pub(crate) const PORT: Word = (
     "PORT",
     "port",
     "A port that the datagrams are from or to; may be repeated; 161 and 162 if left out",
+);
+
+/// The port that the datagrams that are wanted are from.
+pub(crate) const FROM_PORT: Word = (
+    Kind::SourceNumber,
+    "FROM_PORT",
+    "from-port",
+    "Take only datagrams from this port, as 161 for what agents send; both directions if left out",
 );
 
 /// The moment of what has none.
@@ -61,7 +69,14 @@ Exit status:
      for a capture, 'refused datagrams FILE line N column M' for hex, and
      'refused datagrams FILE line N' for a dump
   2  the command line is wrong, or a file can't be read",
-    words: &[FORM, PORT, MOMENT, IP, (Kind::Given, "FILE", "", SOURCE)],
+    words: &[
+        FORM,
+        PORT,
+        FROM_PORT,
+        MOMENT,
+        IP,
+        (Kind::Given, "FILE", "", SOURCE),
+    ],
 };
 
 /// The words of datagrams, and of show and open over a file of datagrams.
@@ -71,6 +86,8 @@ pub struct DatagramsWords<'a> {
     pub form: Option<&'a str>,
     /// The ports of the datagrams that are wanted.
     pub ports: &'a [&'a str],
+    /// The port that they are from.
+    pub from_port: Option<&'a str>,
     /// When pasted hex or a dump was received.
     pub moment: Option<&'a str>,
     /// Whether each dump is a packet.
@@ -84,6 +101,7 @@ pub fn datagrams_words<'m>(words: &'m ArgMatches<'_>) -> DatagramsWords<'m> {
     DatagramsWords {
         form: words.get_str("FORM"),
         ports: words_of(words, "PORT"),
+        from_port: words.get_str("FROM_PORT"),
         moment: words.get_str("MOMENT"),
         ip: words.get_flag("ip"),
         file: word_of(words, "FILE"),

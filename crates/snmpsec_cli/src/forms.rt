@@ -13,7 +13,7 @@ pub(crate) enum Kind {
     Given,
     /// It may be left out, and its place says which word it is.
     Optional,
-    /// It is a datagram, which must be given where no file of datagrams is.
+    /// It is a datagram or a log, which must be given where no file of datagrams is.
     Datagram,
     /// One or more of them must be given, as the last words.
     Files,
@@ -138,7 +138,7 @@ fn arg_of<'a>(alloc: Global, word: &Word) -> Result<Arg<'a>, AllocError> {
     match word.0 {
         Kind::Datagram => arg.required_unless_present("FILE"),
         Kind::SourceFlag | Kind::SourceValue | Kind::SourceNumber | Kind::SourceNumbers => {
-            arg.conflicts_with("HEX")
+            arg.conflicts_with("HEX")?.conflicts_with("LOG")
         }
         _ => Ok(arg),
     }

@@ -42,7 +42,7 @@ pub enum Command {
     CheckConfig,
     /// `import-snmpd [--strict] [--no-include] [--context NAME].. FILE..`
     ImportSnmpd,
-    /// `replay [--moment MOMENT] [--clocks-only] [--from-line N] CONFIG CLOCKS LOG`
+    /// `replay [--moment MOMENT] [--clocks-only] [--from-line N] CONFIG CLOCKS LOG`, or with `--from FILE` for LOG
     Replay,
     /// `merge-clocks [--moment MOMENT] FILE..`
     MergeClocks,

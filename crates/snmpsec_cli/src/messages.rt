@@ -1,7 +1,7 @@
 //! The command lines of `show` and `open`.
 
 use crate::Command;
-use crate::capture::{FORM, FROM, IP, MOMENT, PORT};
+use crate::capture::{FORM, FROM, FROM_PORT, IP, MOMENT, PORT};
 use crate::forms::{Form, Kind, Word};
 
 /// Whether names are to stand behind the lines that have one.
@@ -41,7 +41,9 @@ Exit status:
   0  the message is printed
   1  a message is refused (a line 'refused N NAME at PLACE'), or the file of --from is
   2  the command line is wrong, or a file can't be read",
-    words: &[NAMES, COMMUNITY, FROM, FORM, PORT, MOMENT, IP, HEX],
+    words: &[
+        NAMES, COMMUNITY, FROM, FORM, PORT, FROM_PORT, MOMENT, IP, HEX,
+    ],
 };
 
 /// The command open.
@@ -64,6 +66,7 @@ Exit status:
         FROM,
         FORM,
         PORT,
+        FROM_PORT,
         MOMENT,
         IP,
         (Kind::Given, "CONFIG", "", "TOML file with the users"),

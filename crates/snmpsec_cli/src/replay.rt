@@ -1,9 +1,10 @@
 //! Commands over saved clocks: the replay of a log, and the join.
 
 use crate::Command;
+use crate::capture::{FORM, FROM, FROM_PORT, PORT};
 use crate::file_checks::SAVED;
 use crate::forms::{Form, Kind, Word};
-use crate::given_words::word_of;
+use crate::given_words::{word_of, words_of};
 use clap::ArgMatches;
 
 /// The moment that marks get which have none of their own.
@@ -19,7 +20,8 @@ pub(crate) static REPLAY: Form = Form {
     command: Command::Replay,
     name: "replay",
     about: "Process a log of datagrams as a manager does: print a line for each, and then the clocks",
-    status: "A log has at most 1000000 lines. Replay a longer one in pieces, each with --clocks-only;
+    status: "With --from it processes the datagrams of a capture, and needs no log.
+A log has at most 1000000 lines. Replay a longer one in pieces, each with --clocks-only;
 merge-clocks joins the clocks that they print.
 
 Example: snmpsec replay examples/replay/config.toml examples/replay/begin.clocks
@@ -43,6 +45,10 @@ Exit status:
             "from-line",
             "Number of the log's first line, 1 to 1000000000000000; 1 if left out",
         ),
+        FROM,
+        FORM,
+        PORT,
+        FROM_PORT,
         (
             Kind::Given,
             "CONFIG",
@@ -56,10 +62,10 @@ Exit status:
             "Saved clocks that the manager begins with, at most 16 MiB",
         ),
         (
-            Kind::Given,
+            Kind::Datagram,
             "LOG",
             "",
-            "Lines MOMENT HEX: when a datagram came, in whole seconds, and its octets",
+            "Lines MOMENT HEX: when a datagram came, in whole seconds, and its octets; instead of --from",
         ),
     ],
 };
@@ -91,12 +97,20 @@ pub struct ReplayWords<'a> {
     pub config: &'a str,
     /// The name of the clocks file.
     pub clocks: &'a str,
-    /// The name of the log's file.
+    /// The name of the log's file, or no text where the datagrams are those of a file.
     pub log: &'a str,
+    /// The name of the file of datagrams.
+    pub from: Option<&'a str>,
+    /// The form of that file, where its octets aren't to tell.
+    pub form: Option<&'a str>,
+    /// The ports of the datagrams that are wanted.
+    pub ports: &'a [&'a str],
+    /// The port that they are from.
+    pub from_port: Option<&'a str>,
 }
 
 /// The words of replay.
-pub fn replay_words<'a>(words: &ArgMatches<'a>) -> ReplayWords<'a> {
+pub fn replay_words<'m>(words: &'m ArgMatches<'_>) -> ReplayWords<'m> {
     ReplayWords {
         moment: words.get_str("MOMENT"),
         clocks_only: words.get_flag("clocks-only"),
@@ -104,5 +118,9 @@ pub fn replay_words<'a>(words: &ArgMatches<'a>) -> ReplayWords<'a> {
         config: word_of(words, "CONFIG"),
         clocks: word_of(words, "CLOCKS"),
         log: word_of(words, "LOG"),
+        from: words.get_str("FILE"),
+        form: words.get_str("FORM"),
+        ports: words_of(words, "PORT"),
+        from_port: words.get_str("FROM_PORT"),
     }
 }

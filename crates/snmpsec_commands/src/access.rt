@@ -5,8 +5,8 @@ use crate::files::octets_of;
 use clap::ArgMatches;
 use snmpsec_cli::{AccessWords, word_of};
 use snmpsec_output::{
-    Output, check_config_hinted, check_config_text, check_text, explain_text, open_named,
-    sees_text, who_text,
+    Output, check_config_hinted, check_config_text, check_text, explain_text, group_why, model_of,
+    open_named, sees_text, who_text,
 };
 use std::rt::Files;
 
@@ -22,19 +22,26 @@ fn question_of<'a>(words: &AccessWords<'a>) -> [&'a str; 6] {
     ]
 }
 
-/// The answer to a question, with what decides if that is wanted.
+/// The answer to a question, with what decides if that is wanted, and with the nearest name where the name is in no
+/// group, if what explains an answer is asked for.
 pub(crate) fn answer_on_access<R: Files + AllocGlobal>(
     rt: &R,
     words: &AccessWords<'_>,
     is_explained: bool,
+    why: bool,
 ) -> Result<Output, Complaint> {
     let question = question_of(words);
     let config = octets_of(rt, words.config)?;
-    if is_explained {
-        Ok(explain_text(rt.alloc(), &config, &question)?)
+    let mut output = if is_explained {
+        explain_text(rt.alloc(), &config, &question)?
     } else {
-        Ok(check_text(rt.alloc(), &config, &question)?)
+        check_text(rt.alloc(), &config, &question)?
+    };
+    if why && output.out.starts_with(b"noGroupName\n") {
+        let model = model_of(words.model).unwrap_or(0);
+        output.why = group_why(rt.alloc(), &config, model, words.name)?;
     }
+    Ok(output)
 }
 
 /// Who sees the variable.
@@ -68,16 +75,56 @@ pub(crate) fn open_message<R: Files + AllocGlobal>(
     Ok(open_named(rt.alloc(), names, &config, digits)?)
 }
 
-/// How many rows the configuration has or what is wrong with it, with what is probably a mistake if that is wanted.
+/// How many rows the configuration has or what is wrong with it, with what is probably a mistake if that is wanted. Of
+/// one that is refused and looks like a file of net-snmp it is said what to do with it.
 pub(crate) fn check_config<R: Files + AllocGlobal>(
     rt: &R,
     name: &str,
     is_hinted: bool,
 ) -> Result<Output, Complaint> {
     let config = octets_of(rt, name)?;
-    if is_hinted {
-        Ok(check_config_hinted(rt.alloc(), &config)?)
+    let mut output = if is_hinted {
+        check_config_hinted(rt.alloc(), &config)?
     } else {
-        Ok(check_config_text(rt.alloc(), &config)?)
+        check_config_text(rt.alloc(), &config)?
+    };
+    if output.status == 1 && looks_like_snmpd(&config) {
+        let line = format!(in rt.alloc();
+            "snmpsec: {name} looks like an snmpd.conf; import-snmpd makes a configuration of one\n"
+        )?;
+        output.err.extend_from_slice(line.as_bytes())?;
     }
+    Ok(output)
+}
+
+/// Words with which lines of snmpd.conf begin that set who may see what (snmpd.conf(5)).
+static DIRECTIVES: [&str; 12] = [
+    "rouser",
+    "rwuser",
+    "rocommunity",
+    "rwcommunity",
+    "rocommunity6",
+    "rwcommunity6",
+    "createUser",
+    "com2sec",
+    "com2sec6",
+    "view",
+    "access",
+    "group",
+];
+
+/// Whether a line of the text is one of snmpd.conf: it begins with such a word and a blank.
+fn looks_like_snmpd(text: &[u8]) -> bool {
+    let Ok(text) = std::str::from_utf8(text) else {
+        return false;
+    };
+    for line in text.lines() {
+        let mut words = line.split_whitespace();
+        if let (Some(first), Some(second)) = (words.next(), words.next()) {
+            if DIRECTIVES.contains(&first) && !second.starts_with('=') {
+                return true;
+            }
+        }
+    }
+    false
 }

@@ -56,7 +56,7 @@ pub(crate) fn form_argument(
 
 /// The form of this name.
 fn named_form(alloc: Global, word: &str) -> Result<Form, Complaint> {
-    let wanted = "use pcap, hex or dump";
+    let wanted = "use pcap, pcapng, log, hex or dump";
     match form_of(word) {
         Some(form) => Ok(form),
         None => Err(Complaint::word(alloc, "FORM", word, "unknown form", wanted)),
@@ -73,6 +73,18 @@ pub(crate) fn ports_argument(alloc: Global, words: &[&str]) -> Result<Vec<u16>, 
         }
         Err(PortsFault::OutOfMemory) => Err(Complaint::OutOfMemory),
     }
+}
+
+/// FROM_PORT, or None if it is left out.
+pub(crate) fn from_port_argument(
+    alloc: Global,
+    word: Option<&str>,
+) -> Result<Option<u16>, Complaint> {
+    let Some(word) = word else {
+        return Ok(None);
+    };
+    let ports = ports_argument(alloc, &[word])?;
+    Ok(ports.first().copied())
 }
 
 /// NAME, a user name of at most 32 octets.

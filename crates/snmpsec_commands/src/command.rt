@@ -34,8 +34,10 @@ pub(crate) fn command<R: Files + Input + AllocGlobal, O: Write, E: Write>(
         Command::Open => open(rt, asked, out, err),
         Command::Datagrams => log_file(rt, &datagrams_words(words), out, err),
         Command::Diagnose => diagnose_file(rt, &diagnose_words(words), out, err),
-        Command::Replay => replay_log(rt, &replay_words(words), out),
+        Command::Replay => replay_log(rt, &replay_words(words), out, err),
         Command::CheckConfig => check_config(rt, word_of(words, "CONFIG"), asked.why),
+        Command::CheckAccess => answer_on_access(rt, &access_words(words), false, asked.why),
+        Command::ExplainAccess => answer_on_access(rt, &access_words(words), true, asked.why),
         named => command_of_texts(rt, named, words),
     }
 }
@@ -84,8 +86,6 @@ fn command_of_texts<R: Files + AllocGlobal>(
     words: &ArgMatches<'_>,
 ) -> Result<Output, Complaint> {
     match command {
-        Command::CheckAccess => answer_on_access(rt, &access_words(words), false),
-        Command::ExplainAccess => answer_on_access(rt, &access_words(words), true),
         Command::WhoSees => who_sees(rt, words),
         Command::Sees => list_seen(rt, &access_words(words)),
         Command::ImportSnmpd => Err(Complaint::line(rt.alloc(), NOT_HERE)),

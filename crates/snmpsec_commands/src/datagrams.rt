@@ -1,13 +1,17 @@
 //! Commands over the datagrams of a file: `datagrams`, `show --from` and `open --from`.
 
-use crate::arguments::{form_argument, moment_argument, ports_argument};
+use crate::arguments::{form_argument, from_port_argument, moment_argument, ports_argument};
 use crate::complaint::Complaint;
 use capture_datagrams::datagrams::Unread;
-use capture_datagrams::forms::{Form, ReadOptions};
-use capture_datagrams::printout::{Printout, write_printout};
+use capture_datagrams::forms::{Form, ReadOptions, print_datagrams};
+use capture_datagrams::logs::{FRONT, begins_log, print_log};
+use capture_datagrams::one_way::OneWay;
+use capture_datagrams::printout::{Opens, Printout, Shows, write_printout};
+use capture_files::{Lines, Printer};
 use snmpsec_cli::DatagramsWords;
-use snmpsec_io::{ReadFault, Watched, load_file, open_log};
-use snmpsec_output::Output;
+use snmpsec_config::Config;
+use snmpsec_io::{ReadFault, Watched, load_file, open_log, read_full, write_whole};
+use snmpsec_output::{Output, refusal_and_why};
 use std::alloc::Global;
 use std::io::{BufReader, BufWriter, Input, Read, Write};
 use std::rt::Files;
@@ -16,7 +20,10 @@ use std::rt::Files;
 #[derive(Drop)]
 pub(crate) struct Wanted {
     form: Option<Form>,
+    /// Whether the file is a log, or None if its octets are to tell it.
+    is_log: Option<bool>,
     ports: Vec<u16>,
+    from_port: Option<u16>,
     moment: u64,
 }
 
@@ -30,16 +37,35 @@ impl Wanted {
             name,
         }
     }
+
+    /// The port that the datagrams are from, if one is asked for.
+    pub(crate) fn from_port(&self) -> Option<u16> {
+        self.from_port
+    }
+
+    /// The file that begins so is read as a log: that is asked for, or it begins as one where no form is.
+    fn reads_log(&self, front: &[u8]) -> bool {
+        match self.is_log {
+            Some(is_log) => is_log,
+            None => begins_log(front),
+        }
+    }
 }
 
 /// Looks at the form, the ports and the moment, in this order.
 pub(crate) fn wanted_of(alloc: Global, words: &DatagramsWords<'_>) -> Result<Wanted, Complaint> {
-    let form = form_argument(alloc, words.form, words.ip)?;
+    let is_log = words.form == Some("log") && !words.ip;
+    let word = if is_log { None } else { words.form };
+    let form = form_argument(alloc, word, words.ip)?;
     let ports = ports_argument(alloc, words.ports)?;
+    let from_port = from_port_argument(alloc, words.from_port)?;
     let moment = moment_argument(alloc, words.moment)?;
+    let is_told = words.form.is_some() || words.ip;
     Ok(Wanted {
         form,
+        is_log: if is_told { Some(is_log) } else { None },
         ports,
+        from_port,
         moment,
     })
 }
@@ -132,8 +158,7 @@ fn print_read<R: Read + Drop, O: Write, E: Write>(
     let Ok(mut log) = BufWriter::new(alloc, out) else {
         return Err(Complaint::OutOfMemory);
     };
-    let asked = wanted.options(name);
-    let answer = write_printout(alloc, printout, asked, reader, &mut log, err);
+    let answer = print_printout(alloc, printout, wanted, name, reader, &mut log, err);
     if log.flush().is_err() {
         return Err(Complaint::line(alloc, "cannot write"));
     }
@@ -147,4 +172,123 @@ fn print_read<R: Read + Drop, O: Write, E: Write>(
         Err(Unread::CannotWrite) => Err(Complaint::line(alloc, "cannot write")),
         Err(Unread::OutOfMemory) => Err(Complaint::OutOfMemory),
     }
+}
+
+/// Writes what is printed of what is read.
+fn print_printout<R: Read, O: Write, E: Write>(
+    alloc: Global,
+    printout: Printout<'_>,
+    wanted: &Wanted,
+    name: &str,
+    reader: &mut R,
+    log: &mut O,
+    err: &mut E,
+) -> Result<u8, Unread> {
+    let mut octets = [0u8; FRONT];
+    let Ok(count) = read_full(reader, &mut octets) else {
+        return Err(Unread::CannotRead);
+    };
+    let front = &octets[..count];
+    let source = Source {
+        wanted,
+        name,
+        is_log: wanted.reads_log(front),
+    };
+    let mut whole = front.chain(reader);
+    if !source.is_log && wanted.from_port.is_none() {
+        return write_printout(alloc, printout, wanted.options(name), &mut whole, log, err);
+    }
+    match printout {
+        Printout::Log => print_one_way(alloc, source, Lines, &mut whole, log, err),
+        Printout::Shown { names } => {
+            print_one_way(alloc, source, Shows { names }, &mut whole, log, err)
+        }
+        Printout::Opened { config, names } => match Config::read(alloc, config) {
+            Ok(config) => {
+                let users = config.users;
+                print_one_way(alloc, source, Opens { names, users }, &mut whole, log, err)
+            }
+            Err(fault) if fault.is_memory() => Err(Unread::OutOfMemory),
+            Err(fault) => match refusal_and_why(alloc, &fault) {
+                Ok(refusal) => write_refusal(&refusal, log, err),
+                Err(_) => Err(Unread::OutOfMemory),
+            },
+        },
+    }
+}
+
+/// A file of datagrams, and what is asked of it.
+#[derive(Clone, Copy)]
+struct Source<'a> {
+    wanted: &'a Wanted,
+    name: &'a str,
+    is_log: bool,
+}
+
+/// Writes the lines of a configuration that is refused.
+fn write_refusal<O: Write, E: Write>(
+    refusal: &Output,
+    log: &mut O,
+    err: &mut E,
+) -> Result<u8, Unread> {
+    if write_whole(log, &refusal.out).is_err() || write_whole(err, &refusal.err).is_err() {
+        return Err(Unread::CannotWrite);
+    }
+    Ok(refusal.status)
+}
+
+/// Writes what a printer makes of the datagrams of a file, from one port if that is asked for.
+fn print_one_way<P: Printer + Drop, R: Read, O: Write, E: Write>(
+    alloc: Global,
+    source: Source<'_>,
+    printer: P,
+    reader: &mut R,
+    log: &mut O,
+    err: &mut E,
+) -> Result<u8, Unread> {
+    let mut printer = OneWay::new(printer, source.wanted.from_port);
+    print_all(alloc, source, &mut printer, reader, log, err)
+}
+
+/// Writes what a printer makes of the datagrams of a file.
+fn print_all<P: Printer, R: Read, O: Write, E: Write>(
+    alloc: Global,
+    source: Source<'_>,
+    printer: &mut P,
+    reader: &mut R,
+    log: &mut O,
+    err: &mut E,
+) -> Result<u8, Unread> {
+    if !source.is_log {
+        let asked = source.wanted.options(source.name);
+        return print_datagrams(alloc, asked, printer, reader, log, err);
+    }
+    match BufReader::new(alloc, reader) {
+        Ok(mut lines) => print_log(alloc, source.name, printer, &mut lines, log, err),
+        Err(_) => Err(Unread::OutOfMemory),
+    }
+}
+
+/// Writes what a printer makes of the datagrams that are read, from one port if that is asked for.
+pub(crate) fn print_source<P: Printer, R: Read, O: Write, E: Write>(
+    alloc: Global,
+    wanted: &Wanted,
+    name: &str,
+    printer: &mut P,
+    reader: &mut R,
+    log: &mut O,
+    err: &mut E,
+) -> Result<u8, Unread> {
+    let mut octets = [0u8; FRONT];
+    let Ok(count) = read_full(reader, &mut octets) else {
+        return Err(Unread::CannotRead);
+    };
+    let front = &octets[..count];
+    let source = Source {
+        wanted,
+        name,
+        is_log: wanted.reads_log(front),
+    };
+    let mut whole = front.chain(reader);
+    print_all(alloc, source, printer, &mut whole, log, err)
 }

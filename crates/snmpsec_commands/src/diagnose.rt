@@ -2,14 +2,15 @@
 
 use crate::arguments::{engine_argument, user_argument};
 use crate::complaint::Complaint;
-use crate::datagrams::{Wanted, wanted_of};
+use crate::datagrams::{Wanted, print_source, wanted_of};
 use crate::files::octets_of;
+use crate::json_log::JsonLog;
 use capture_datagrams::datagrams::Unread;
-use capture_datagrams::forms::print_datagrams;
 use diagnose_text::{DiagnoseOptions, Diagnoser, Style};
 use engine_clock::Clocks;
+use snmpsec_access::Explainer;
 use snmpsec_cli::DiagnoseWords;
-use snmpsec_config::Config;
+use snmpsec_config::{AccessConfig, Config};
 use snmpsec_io::{ReadFault, Watched, open_log, write_whole};
 use snmpsec_output::{Output, refused_clocks};
 use std::alloc::Global;
@@ -63,24 +64,34 @@ fn diagnose_options(
 /// them is refused.
 fn diagnoser_of(
     alloc: Global,
-    config: &[u8],
+    text: &[u8],
     clocks_name: Option<&str>,
-    clocks: &[u8],
+    saved: &[u8],
     options: DiagnoseOptions,
 ) -> Result<Result<Diagnoser, Output>, Complaint> {
-    let config = match Config::read(alloc, config) {
+    let config = match Config::read(alloc, text) {
         Ok(config) => config,
         Err(fault) if fault.is_memory() => return Err(Complaint::OutOfMemory),
         Err(fault) => return Ok(Err(Output::refusal(alloc, &fault)?)),
     };
-    let Some(name) = clocks_name else {
-        let clocks = Clocks::new(alloc);
-        return Ok(Ok(Diagnoser::new(alloc, config.users, clocks, options)));
+    let clocks = match clocks_name {
+        Some(name) => match Clocks::read_saved(alloc, saved, 0) {
+            Ok(clocks) => clocks,
+            Err(fault) => return Ok(Err(refused_clocks(alloc, name, fault, saved)?)),
+        },
+        None => Clocks::new(alloc),
     };
-    match Clocks::read_saved(alloc, clocks, 0) {
-        Ok(clocks) => Ok(Ok(Diagnoser::new(alloc, config.users, clocks, options))),
-        Err(fault) => Ok(Err(refused_clocks(alloc, name, fault, clocks)?)),
-    }
+    let views = views_of(alloc, text)?;
+    Ok(Ok(Diagnoser::new(alloc, config.users, clocks, views, options)))
+}
+
+/// The rows of access of a configuration that is read, if it has one.
+fn views_of(alloc: Global, text: &[u8]) -> Result<Option<Explainer>, Complaint> {
+    let Ok(config) = AccessConfig::read(alloc, text) else {
+        return Err(Complaint::OutOfMemory);
+    };
+    let explainer = Explainer::of(alloc, text, config)?;
+    Ok(Some(explainer).filter(|explainer| explainer.has_rows()))
 }
 
 /// Opens the file, `-` for standard input, and writes what is made of its datagrams.
@@ -118,8 +129,12 @@ fn diagnose_read<R: Read + Drop, O: Write, E: Write>(
     let Ok(mut log) = BufWriter::new(alloc, out) else {
         return Err(Complaint::OutOfMemory);
     };
-    let asked = wanted.options(name);
-    let answer = print_datagrams(alloc, asked, diagnoser, reader, &mut log, err);
+    let answer = if diagnoser.prints_json() {
+        let mut log = JsonLog::new(alloc, name, &mut log);
+        print_source(alloc, wanted, name, diagnoser, reader, &mut log, err)
+    } else {
+        print_source(alloc, wanted, name, diagnoser, reader, &mut log, err)
+    };
     let ended = end(alloc, diagnoser, &mut log);
     if log.flush().is_err() {
         return Err(Complaint::line(alloc, "cannot write"));

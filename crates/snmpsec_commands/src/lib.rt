@@ -31,9 +31,13 @@ mod complaint;
 mod datagrams;
 mod diagnose;
 mod files;
+mod json_log;
 mod log;
 mod merge;
+mod piped;
 pub mod replay;
+mod replay_source;
 pub mod run;
 
 pub use complaint::Complaint;
+pub use piped::Piped;

@@ -19,7 +19,7 @@ use thiserror::Error;
 
 /// Why no manager begins.
 #[derive(Debug, Drop, Error)]
-enum NoManager {
+pub(crate) enum NoManager {
     /// A text is refused, by this line and what explains it.
     #[error("a text is refused")]
     Refused(Output),
@@ -111,7 +111,7 @@ pub fn replay<R: BufRead, W: Write>(
 }
 
 /// The manager with the users of the configuration and the clocks of the clocks file.
-fn manager_of(alloc: Global, beginning: Beginning<'_>) -> Result<Manager, NoManager>
+pub(crate) fn manager_of(alloc: Global, beginning: Beginning<'_>) -> Result<Manager, NoManager>
     ensures begins { IfOk result (Begins (handed_of beginning.entry)) }
     ensures refused { IfErr result (TellsNoManager (handed_of beginning.entry)) }
 {

@@ -5,6 +5,7 @@ ghost use Rattle.snmpsec_commands.specs.Run.{why_line};
 
 use crate::command::command;
 use crate::complaint::Complaint;
+use crate::piped::Piped;
 use clap::ArgMatches;
 use clap::error::ErrorKind;
 use snmpsec_cli::{Command, Invocation, arguments, asked_by, parse};
@@ -24,16 +25,21 @@ pub fn run<R: Files + Env + Input + AllocGlobal, O: Write, E: Write + IsTerminal
     out: &mut O,
     err: &mut E,
 ) -> u8 {
-    let answered = answer(rt, out, err);
-    finish(answered, out, err)
+    let mut out = Piped::new(out);
+    let answered = answer(rt, &mut out, err);
+    finish(answered, &mut out, err)
 }
 
-/// Writes what a command prints, or that memory ran out, and returns the status.
+/// Writes what a command prints, or that memory ran out, and returns the status. Where nobody reads standard output
+/// any more, nothing is said of it.
 pub fn finish<O: Write, E: Write>(
     answered: Result<Output, AllocError>,
-    out: &mut O,
+    out: &mut Piped<O>,
     err: &mut E,
 ) -> u8 {
+    if out.is_closed() {
+        return 2;
+    }
     match answered {
         Ok(output) => print(&output, out, err),
         Err(_) => {
@@ -44,9 +50,11 @@ pub fn finish<O: Write, E: Write>(
 }
 
 /// Writes what a command prints. A write that fails gives status 2.
-fn print<O: Write, E: Write>(output: &Output, out: &mut O, err: &mut E) -> u8 {
+fn print<O: Write, E: Write>(output: &Output, out: &mut Piped<O>, err: &mut E) -> u8 {
     if write_whole(out, &output.out).is_err() {
-        let _ = write_whole(err, CANNOT_WRITE);
+        if !out.is_closed() {
+            let _ = write_whole(err, CANNOT_WRITE);
+        }
         return 2;
     }
     if write_whole(err, &output.err).is_err() {

@@ -1,5 +1,6 @@
 //! `snmpsec import-snmpd`: the configuration that files of snmpd.conf come to.
 
+use crate::saved_users::saved_users_line;
 use snmpd_import::{
     Imported, Sources, TextFault, follow, import, is_none_known, is_serious, notes_text,
 };
@@ -117,7 +118,8 @@ fn import_output(
     strict: bool,
 ) -> Result<Output, AllocError> {
     let is_told = done.notes.iter().any(|told| is_serious(told.kind));
-    let err = notes_text(alloc, names, &done.notes)?;
+    let mut err = saved_users_line(alloc, &done.notes)?;
+    err.append(&mut notes_text(alloc, names, &done.notes)?)?;
     Ok(Output {
         out: done.text,
         err,

@@ -6,6 +6,7 @@ use std::process::ExitCode;
 
 mod import;
 mod run;
+mod saved_users;
 
 fn main(rt: HostRuntime) -> ExitCode {
     ExitCode::from(run::run(&rt, &mut rt.stdout(), &mut rt.stderr()))

@@ -3,6 +3,7 @@
 use crate::import::import_snmpd;
 use clap::ArgMatches;
 use snmpsec_cli::{Command, arguments, asked_by, import_words, parse};
+use snmpsec_commands::Piped;
 use snmpsec_commands::run::{explain, finish, output_of, usage};
 use snmpsec_output::Output;
 use std::alloc::AllocError;
@@ -15,7 +16,7 @@ pub(crate) fn run<R: Files + Env + AllocGlobal, O: Write, E: Write>(
     out: &mut O,
     err: &mut E,
 ) -> u8 {
-    finish(answer(rt), out, err)
+    finish(answer(rt), &mut Piped::new(out), err)
 }
 
 /// What the program prints.

@@ -8,7 +8,7 @@ use usm_core::Users;
 fn nothing_failed_in_an_empty_capture(rt: HostRuntime) -> Result<(), Fail> {
     let users = Users::load(rt.alloc(), &[])?;
     let options = DiagnoseOptions::all(rt.alloc());
-    let mut diagnoser = Diagnoser::new(rt.alloc(), users, Clocks::new(rt.alloc()), options);
+    let mut diagnoser = Diagnoser::new(rt.alloc(), users, Clocks::new(rt.alloc()), None, options);
     let (text, failed) = diagnoser.finish()?;
     assert!(rt; text.starts_with(b"summary\n") && !failed);
     Ok(())

@@ -1,0 +1,118 @@
+//! `snmpsec replay --from`: the datagrams of a file, taken by a manager.
+
+ghost use Rattle.std.specs.Prelude.{⊤};
+
+use crate::complaint::Complaint;
+use crate::datagrams::{Wanted, print_source};
+use crate::replay::{Beginning, NoManager, manager_of};
+use capture_datagrams::datagrams::Unread;
+use capture_datagrams::one_way::OneWay;
+use capture_files::{Printed, Printer};
+use snmp_manager::Manager;
+use snmpsec_io::{ReadFault, Watched, open_log, write_whole};
+use snmpsec_output::Output;
+use snmpsec_replay::{Printing, answer_line};
+use std::alloc::{AllocError, Global};
+use std::io::{BufReader, BufWriter, Input, Read, Write};
+use std::rt::Files;
+
+/// A manager that takes each datagram, and the line for it where lines are wanted.
+#[derive(Drop)]
+struct Taking {
+    manager: Manager,
+    printing: Printing,
+}
+
+impl Printer for Taking {
+    ghost prints = { λ taking number moment datagram text refused. ⊤ };
+
+    fn print(
+        &mut self,
+        alloc: Global,
+        number: u64,
+        moment: u64,
+        datagram: &[u8],
+    ) -> Result<Printed, AllocError> {
+        let outcome = self.manager.take_one(moment, datagram)?;
+        let text = if self.printing.lines {
+            let number = self.printing.first.saturating_sub(1).saturating_add(number);
+            answer_line(alloc, number, moment, outcome)?.into_bytes()
+        } else {
+            Vec::new(alloc)
+        };
+        Ok(Printed {
+            text,
+            refused: false,
+        })
+    }
+}
+
+/// Opens the file, `-` for standard input, and replays its datagrams. The configuration is looked at first, then the
+/// clocks file, then the file of datagrams.
+pub(crate) fn replay_file<R: Files + Input + AllocGlobal, O: Write, E: Write>(
+    rt: &R,
+    beginning: Beginning<'_>,
+    printing: Printing,
+    wanted: &Wanted,
+    name: &str,
+    out: &mut O,
+    err: &mut E,
+) -> Result<Output, Complaint> {
+    let alloc = rt.alloc();
+    let manager = match manager_of(alloc, beginning) {
+        Ok(manager) => manager,
+        Err(NoManager::Refused(output)) => return Ok(output),
+        Err(NoManager::OutOfMemory) => return Err(Complaint::OutOfMemory),
+    };
+    let taking = Taking { manager, printing };
+    if name == "-" {
+        let Ok(mut reader) = BufReader::new(alloc, Watched::new(rt.reader())) else {
+            return Err(Complaint::OutOfMemory);
+        };
+        return replay_read(alloc, taking, wanted, name, &mut reader, out, err);
+    }
+    match open_log(rt, name) {
+        Ok(mut reader) => replay_read(alloc, taking, wanted, name, &mut reader, out, err),
+        Err(fault) => Err(Complaint::unread(alloc, name, fault)),
+    }
+}
+
+/// Writes the lines of the datagrams that are read, and then the saved clocks, unless the file is out of its form.
+fn replay_read<R: Read + Drop, O: Write, E: Write>(
+    alloc: Global,
+    taking: Taking,
+    wanted: &Wanted,
+    name: &str,
+    reader: &mut BufReader<Watched<R>>,
+    out: &mut O,
+    err: &mut E,
+) -> Result<Output, Complaint> {
+    let Ok(mut log) = BufWriter::new(alloc, out) else {
+        return Err(Complaint::OutOfMemory);
+    };
+    let mut printer = OneWay::new(taking, wanted.from_port());
+    let answer = print_source(alloc, wanted, name, &mut printer, reader, &mut log, err);
+    let saved = match answer {
+        Ok(0) => write_saved(&printer.into_printer().manager, &mut log),
+        _ => Ok(()),
+    };
+    if log.flush().is_err() {
+        return Err(Complaint::line(alloc, "cannot write"));
+    }
+    match answer {
+        Ok(status) => saved.map(|()| Output::out(alloc, Vec::new(alloc), status)),
+        Err(Unread::CannotRead) => {
+            let fault = reader.get_ref().fault().unwrap_or(ReadFault::TooLarge);
+            Err(Complaint::unread(alloc, name, fault))
+        }
+        Err(Unread::CannotWrite) => Err(Complaint::line(alloc, "cannot write")),
+        Err(Unread::OutOfMemory) => Err(Complaint::OutOfMemory),
+    }
+}
+
+/// Writes the saved text of what the manager holds. A write that fails shows when the buffer is written.
+fn write_saved<W: Write>(manager: &Manager, log: &mut W) -> Result<(), Complaint> {
+    let text = manager.save()?;
+    let _ = write_whole(log, &text);
+    Ok(())
+}
