@@ -6,7 +6,7 @@ use capture_datagrams::datagrams::Unread;
 use capture_datagrams::forms::{Form, ReadOptions, print_datagrams};
 use capture_datagrams::logs::{FRONT, begins_log, print_log};
 use capture_datagrams::one_way::OneWay;
-use capture_datagrams::printout::{Opens, Printout, Shows, write_printout};
+use capture_datagrams::printout::{Opens, Printout, Shows, ShowsAnyVersion, write_printout};
 use capture_files::{Lines, Printer};
 use snmpsec_cli::DatagramsWords;
 use snmpsec_config::Config;
@@ -202,6 +202,10 @@ fn print_printout<R: Read, O: Write, E: Write>(
         Printout::Log => print_one_way(alloc, source, Lines, &mut whole, log, err),
         Printout::Shown { names } => {
             print_one_way(alloc, source, Shows { names }, &mut whole, log, err)
+        }
+        Printout::ShownAnyVersion { names } => {
+            let shows = ShowsAnyVersion { names };
+            print_one_way(alloc, source, shows, &mut whole, log, err)
         }
         Printout::Opened { config, names } => match Config::read(alloc, config) {
             Ok(config) => {
