@@ -57,7 +57,7 @@ _snmpsec() {
       manual:1) choices='show open check-access explain-access who-sees sees check-config import-snmpd replay merge-clocks check-clocks check-log datagrams diagnose manual version' ;;
     esac
     case $command in
-      show) choices="$choices --names --why --from --form --port --from-port --moment --ip" ;;
+      show) choices="$choices --names --why --community --from --form --port --from-port --moment --ip" ;;
       open) choices="$choices --names --why --from --form --port --from-port --moment --ip" ;;
       check-access) choices="$choices --why" ;;
       explain-access) choices="$choices --why" ;;
