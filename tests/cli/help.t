@@ -11,6 +11,7 @@ The help of each command. `manual` prints on standard output what `--help` print
   Options:
         --names                  Print ' # NAME' after the lines that have a name: users, contexts, PDUs, counters
         --why                    After a refusal, print on standard error what is wrong and what is expected
+        --community              Print messages of SNMPv1 and SNMPv2c too: version, community and PDU; without it they are refused
         --from <FILE>            A capture (pcap or pcapng), a log, pasted hex, or a dump as hexdump -C prints it; - is standard input
         --form <FORM>            The form of FILE: pcap or pcapng, log, hex or dump; found by its first octets if left out
         --port <PORT>            A port that the datagrams are from or to; may be repeated; 161 and 162 if left out
