@@ -176,7 +176,7 @@ wrong_name BadRow = codes "BadRow"
 wrong_name Duplicate = codes "Duplicate"
 
 abbrev pub refusal_line : ConfigFault → List ℕ
-refusal_line (faults.Nested line column) = codes "refused config toml"
+refusal_line (faults.Nested line column) = codes "refused config nesting"
 refusal_line (faults.Toml fault) = codes "refused config toml"
 refusal_line (faults.Top key) = codes "refused config top"
 refusal_line (faults.BadKey of position fault) = codes "refused config "

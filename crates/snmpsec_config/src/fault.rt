@@ -220,9 +220,8 @@ impl fmt::Display for ConfigFault {
 
     fn fmt<W: fmt::Write>(&self, f: &mut fmt::Formatter<W>) -> fmt::Result {
         match self {
-            ConfigFault::Nested { .. } | ConfigFault::Toml { .. } => {
-                f.write_str("refused config toml")
-            }
+            ConfigFault::Nested { .. } => f.write_str("refused config nesting"),
+            ConfigFault::Toml { .. } => f.write_str("refused config toml"),
             ConfigFault::Top { .. } => f.write_str("refused config top"),
             ConfigFault::BadKey {
                 table,
