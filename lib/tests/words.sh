@@ -55,7 +55,7 @@ test_configurations() {
     check "a key that is no key" $'poll: W/misspelt.toml: refused config user 4 BadKey\npoll: W/misspelt.toml: user 4: auht: not a key of this table, the nearest is auth' \
         "$(told=$("$programs/poll" "$work/misspelt.toml" "$work/c" "$port" sha 2 1.3.6.1 2>&1); echo "${told//$work/W}")"
     printf '[[user]]\n"a\\u001b[2Jb\\u009bc" = 1\n' > "$work/control.toml"
-    check "no control character of a key reaches the terminal" 'a\x1b[2Jb\x9bc: not a key of this table, the nearest is auth' \
+    check "no control character of a key reaches the terminal" '"a\u001B[2Jb\x9bc": not a key of this table, the nearest is auth' \
         "$("$programs/agent" "$work/control.toml" "$examples/table.txt" $engine "$work/b" "$port" 2>&1 | sed -n 's/.*user 0: //p')"
     refused_words "W/none: No such file or directory" "$programs/poll" "$work/none" "$work/c" "$port" sha 2 1.3.6.1
     refused_words "W/folder: not a regular file" "$programs/poll" "$examples/agent.toml" "$work/folder" "$port" sha 2 1.3.6.1

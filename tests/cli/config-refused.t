@@ -43,13 +43,13 @@ would be 6,000 tables in one another.
   > auth = ['[[[[[[[[[[[[[[[[[', "\"[[[[[[[[[[[[[[[[["]
   > priv = ["ß", [[[[[[[[[[[[[[[[
   > END
-  refused config toml
-  refused config toml
+  refused config nesting
+  refused config nesting
   ! snmpsec: line 6, column 29: 16 brackets are open, and no more may be
   [1]
   $ python3 -c "key = '.'.join(['a'] * 79); print((key + '={') * 78 + 'b=1' + '}' * 78)" > config
   $ snmpsec check-config config
-  refused config toml
+  refused config nesting
   ! snmpsec: line 1, column 2703: 16 brackets are open, and no more may be
   [1]
   $ python3 -c "key = '.'.join(['a'] * 79); print((key + '={') * 16 + 'b=1' + '}' * 16)" > config

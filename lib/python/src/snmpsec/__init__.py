@@ -577,9 +577,9 @@ class Agent(_Held):
         """The least name, at or after this one, that the sender of what is kept may see (RFC 3416, section 4.2.2), or None.
 
         An agent that walks goes on there, and steps over no variable that is hidden."""
-        out, written = (ctypes.c_uint32 * _MOST_ARCS)(), ctypes.c_size_t()
+        out, written = (_library.Written * _MOST_ARCS)(), ctypes.c_size_t()
         _done(self._call("next", view, *_arcs(name), out, _MOST_ARCS, ctypes.byref(written)))
-        return tuple(out[: written.value]) or None
+        return tuple(it.value for it in out[: written.value]) or None
 
     def user_access(self, user: Buffer, level: Level, context: Buffer, view: View, name: Sequence[int]) -> Access:
         """What `access` returns, for a user at a level in a context."""

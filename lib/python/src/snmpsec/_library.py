@@ -89,7 +89,7 @@ SIGNATURES = {
     "config_fault": (c_int, _slice + [POINTER(ConfigPlace)] + _out),
     "agent_new": (c_int, _slice * 2 + [c_uint32, c_uint64, POINTER(c_void_p)]),
     "agent_access": (c_int, [c_void_p, c_uint] + _arcs + [POINTER(Enumeration)]),
-    "agent_next": (c_int, [c_void_p, c_uint] + _arcs + [POINTER(c_uint32), c_size_t, POINTER(c_size_t)]),
+    "agent_next": (c_int, [c_void_p, c_uint] + _arcs + [POINTER(Written), c_size_t, POINTER(c_size_t)]),
     "agent_user_access": (c_int, [c_void_p, Octets, c_uint, Octets, c_uint] + _arcs + [POINTER(Enumeration)]),
     "agent_respond": (c_int, [c_void_p, c_uint64, c_uint32, c_uint32] + _slice + [c_uint64]),
     "agent_respond_within": (c_int, [c_void_p, c_uint64, c_uint32, c_uint32] + _slice + [c_uint64, c_uint32]),
