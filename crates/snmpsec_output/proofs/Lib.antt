@@ -1,6 +1,7 @@
 pub mod Merges
 pub mod Shows
 pub mod Communities
+pub mod TomlLines
 pub mod Checks
 pub mod Opens
 pub mod Whos

@@ -1,4 +1,5 @@
 use Rattle.snmpsec_output.proofs.Checks.{if_answered, if_no_refusal}
+use Rattle.snmpsec_output.proofs.TomlLines.{if_toml}
 use Rattle.snmpsec_output.proofs.check.check_text.Goals as goal
 
 pub returns-in-Ok-read-clause-checks : goal.returns-in-Ok-read-clause-checks
@@ -7,3 +8,6 @@ returns-in-Ok-read-clause-checks c =
 
 pub returns-in-Ok-read-clause-toml : goal.returns-in-Ok-read-clause-toml
 returns-in-Ok-read-clause-toml c = if_no_refusal _ c.answer_output.result (λ output. output.out.items) _ c.answer_output.ensures.out
+
+pub returns-in-Err-2-clause-toml : goal.returns-in-Err-2-clause-toml
+returns-in-Err-2-clause-toml c = if_toml c.refusal.result (λ output. output.out.items) c.args.config.now c.in-Err-2.fault c.in-Err-2.ensures.refuses c.refusal.ensures.out
