@@ -5,7 +5,7 @@ use Rattle.toml.specs.Parse.{parse_document}
 use Rattle.snmpsec_config.specs.declared.fault.ConfigFault.{ConfigFault}
 use Rattle.snmpsec_config.specs.declared.fault.ConfigFault.TheVariants as faults
 use Rattle.snmpsec_config.specs.declared.table.ConfigTable.TheVariants as tables
-use Rattle.snmpsec_config.specs.Refusals.{Refuses, RefusesText, refusal_line}
+use Rattle.snmpsec_config.specs.Refusals.{Refuses, refusal_line}
 
 toml_cause : (config : List ℕ) (fault : ConfigFault) → Refuses config fault → refusal_line fault ++ codes "\n" ≡ codes "refused config toml\n" → IsUtf8 config → parse_document config ≡ None
 toml_cause config (faults.Toml fault) cause e utf8 = (cause utf8).1
@@ -23,7 +23,7 @@ toml_cause config (faults.Row tables.Access position wrong) cause e utf8 = let b
 toml_cause config (faults.Row tables.Family position wrong) cause e utf8 = let bad : 102 ≡ 116 = ap (λ (t : List ℕ). get_or t 15 0) e in absurd (omega (arith, bad))
 toml_cause config faults.OutOfMemory cause e utf8 = let bad : 111 ≡ 114 = ap (λ (t : List ℕ). get_or t 0 0) e in absurd (omega (arith, bad))
 
-pub if_toml : {A E : Type 0} (r : Result A E) (out : A → List ℕ) (config : List ℕ) (fault : ConfigFault) → RefusesText config fault
+pub if_toml : {A E : Type 0} (r : Result A E) (out : A → List ℕ) (config : List ℕ) (fault : ConfigFault) → Refuses config fault
     → IfOk r (λ x. out x ≡ refusal_line fault ++ codes "\n") → IfOk r (λ x. out x ≡ codes "refused config toml\n" → IsUtf8 config → parse_document config ≡ None)
-if_toml (Ok x) out config fault refuses o = λ e utf8. toml_cause config fault refuses.cause (rw o at e) utf8
+if_toml (Ok x) out config fault refuses o = λ e utf8. toml_cause config fault refuses (rw o at e) utf8
 if_toml (Err x) out config fault refuses o = tt
