@@ -10,4 +10,4 @@ pub returns-in-Ok-read-clause-toml : goal.returns-in-Ok-read-clause-toml
 returns-in-Ok-read-clause-toml c = if_no_refusal _ c.answer_output.result (λ output. output.out.items) _ c.answer_output.ensures.out
 
 pub returns-in-Err-2-clause-toml : goal.returns-in-Err-2-clause-toml
-returns-in-Err-2-clause-toml c = if_toml c.refusal.result (λ output. output.out.items) c.args.config.now c.in-Err-2.fault c.in-Err-2.ensures.refuses c.refusal.ensures.out
+returns-in-Err-2-clause-toml c = if_toml c.refusal.result (λ output. output.out.items) c.args.config.now c.in-Err-read.fault c.in-Err-read.ensures.refuses c.refusal.ensures.out
