@@ -1,6 +1,6 @@
 /* Variable bindings as octets: bindings CONFIG CAPTURED-LOG
  *
- * Arguments out of their ranges, buffers that are too short, out of memory, and any octets in the place of a list. Not proved. */
+ * Arguments out of their ranges, buffers that are too short, refused memory, and any octets instead of a list. Not proved. */
 #include "checks.h"
 #include <stdio.h>
 #include <string.h>

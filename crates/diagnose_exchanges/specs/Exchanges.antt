@@ -1,7 +1,7 @@
 -- Exchanges in the order of their first datagrams, and the steps by which a capture makes them.
 --
 -- `begun`: an exchange as a datagram begins it. `IsWaiting`, `WaitsAt`: at a place an exchange waits. `Ends`: it
--- ends, by an answer or without one. `HandsOver`: a request that was sent again counts in the place of the first.
+-- ends, by an answer or without one. `HandsOver`: a request that was sent again counts instead of the first.
 -- `Step`, `HasRun`: the steps, and runs of them. `Takes`: a run that takes exactly these datagrams.
 use Rattle.std.specs.Prelude.{◌≡◌, ◌≢◌, ◌⊎◌, Option, Some, None, ◌+◌, ◌++◌, ℕ, List, [], ◌∷◌, Bool, true, false, length}
 use Rattle.std.specs.Prelude.{◌^◌, ◌-◌, ◌<◌, slice_index_or, slice_set, cond, min, nat_eq}

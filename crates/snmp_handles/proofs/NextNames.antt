@@ -1,4 +1,4 @@
--- A walk is given a name, or none, or it is told that its buffer is too short.
+-- A walk gets a name or none, or its buffer is too short.
 use Rattle.std.specs.Prelude.{⊤}
 use Rattle.std.proofs.Common.{ℕ, List, Option, Some, None, Result, Ok, Err}
 use Rattle.snmp_handles.specs.declared.fault.CallFault.{CallFault}

@@ -70,7 +70,7 @@ IsKeyWords of (Unlisted key) text =
 IsKeyWords of (Missing key) text = text ≡ key_name key ++ (codes ": missing, " ++ wanted_words (wanted_at of key))
 IsKeyWords of (Value key) text = text ≡ key_name key ++ (codes ": " ++ wanted_words (wanted_at of key))
 
--- what is told of a key that has no place at the top
+-- what is reported of a key that has no place at the top
 abbrev pub top_words : List ℕ → List ℕ
 top_words key = shown_key key
     ++ codes ": at the top stand the arrays of tables user, context, group, access and family, and nothing else"
