@@ -5,7 +5,7 @@ _snmpsec_place() {
   local at=2 place=1
   while [ "$at" -lt "$COMP_CWORD" ]; do
     case ${COMP_WORDS[at]} in
-      --clocks | --context | --engine | --form | --from | --from-line | --moment | --port | --user) at=$((at + 1)) ;;
+      --agent | --clocks | --context | --engine | --form | --from | --from-line | --moment | --port | --user) at=$((at + 1)) ;;
       --*) ;;
       *) place=$((place + 1)) ;;
     esac
@@ -25,7 +25,7 @@ _snmpsec() {
         mapfile -t COMPREPLY < <(compgen -f -- "$word")
         return
         ;;
-      --clocks | --context | --engine | --form | --from | --from-line | --moment | --port | --user) return ;;
+      --agent | --clocks | --context | --engine | --form | --from | --from-line | --moment | --port | --user) return ;;
     esac
     case $command:$(_snmpsec_place) in
       open:1) files=yes ;;
@@ -61,7 +61,7 @@ _snmpsec() {
       open) choices="$choices --names --why --from --form --port --from-port --moment --ip" ;;
       check-access) choices="$choices --why" ;;
       explain-access) choices="$choices --why" ;;
-      who-sees) choices="$choices --users --why" ;;
+      who-sees) choices="$choices --users --why --below" ;;
       sees) choices="$choices --why" ;;
       check-config) choices="$choices --why" ;;
       import-snmpd) choices="$choices --strict --why --no-include --context" ;;
@@ -70,7 +70,7 @@ _snmpsec() {
       check-clocks) choices="$choices --why" ;;
       check-log) choices="$choices --why" ;;
       datagrams) choices="$choices --form --why --port --from-port --moment --ip" ;;
-      diagnose) choices="$choices --form --why --port --moment --ip --json --user --engine --clocks" ;;
+      diagnose) choices="$choices --form --why --port --moment --ip --json --user --engine --agent --clocks" ;;
       manual) choices="$choices --why" ;;
       version) choices="$choices --why" ;;
     esac

@@ -19,30 +19,37 @@ The file is empty, or its header lacks the last octet.
 
   $ head -c 0 two > c; snmpsec datagrams --form pcap --port 161 c
   refused datagrams c octet 0
+  ! snmpsec: c: it is cut or malformed from octet 0 on; copy a capture after its writer has ended
   [1]
   $ head -c 23 two > c; snmpsec datagrams --form pcap --port 161 c
   refused datagrams c octet 0
+  ! snmpsec: c: it is cut or malformed from octet 0 on; copy a capture after its writer has ended
   [1]
 
 The file begins with an unknown magic number, or with that of another format.
 
   $ changed 150 0 '\324\303\262\240'
   refused datagrams c octet 0
+  ! snmpsec: c: it is cut or malformed from octet 0 on; copy a capture after its writer has ended
   [1]
   $ changed 150 0 '\064\315\262\241'
   refused datagrams c octet 0
+  ! snmpsec: c: it is cut or malformed from octet 0 on; copy a capture after its writer has ended
   [1]
 
 The version is unknown, or the link type is above the maximum.
 
   $ changed 150 4 '\001'
   refused datagrams c octet 4
+  ! snmpsec: c: it is cut or malformed from octet 4 on; copy a capture after its writer has ended
   [1]
   $ changed 150 4 '\000\002'
   refused datagrams c octet 4
+  ! snmpsec: c: it is cut or malformed from octet 4 on; copy a capture after its writer has ended
   [1]
   $ changed 150 22 '\001'
   refused datagrams c octet 20
+  ! snmpsec: c: it is cut or malformed from octet 20 on; copy a capture after its writer has ended
   [1]
 
 The last record lacks an octet of its packet or of its header, or has only its first octet.
@@ -50,14 +57,17 @@ The last record lacks an octet of its packet or of its header, or has only its f
   $ head -c 149 two > c; snmpsec datagrams --form pcap --port 161 c
   1700000000 3003020103
   refused datagrams c octet 87
+  ! snmpsec: c: it is cut or malformed from octet 87 on; copy a capture after its writer has ended
   [1]
   $ head -c 102 two > c; snmpsec datagrams --form pcap --port 161 c
   1700000000 3003020103
   refused datagrams c octet 87
+  ! snmpsec: c: it is cut or malformed from octet 87 on; copy a capture after its writer has ended
   [1]
   $ head -c 88 two > c; snmpsec datagrams --form pcap --port 161 c
   1700000000 3003020103
   refused datagrams c octet 87
+  ! snmpsec: c: it is cut or malformed from octet 87 on; copy a capture after its writer has ended
   [1]
 
 The packet is one octet longer than the maximum.
@@ -65,6 +75,7 @@ The packet is one octet longer than the maximum.
   $ changed 150 95 '\001\000\004\000'
   1700000000 3003020103
   refused datagrams c octet 87
+  ! snmpsec: c: it is cut or malformed from octet 87 on; copy a capture after its writer has ended
   [1]
 
 A datagram is selected if it is from or to one of the ports.

@@ -30,6 +30,7 @@ The last octet is missing. The datagrams before are printed.
   1700000000 3003020103
   refused datagrams c octet 213
   ! snmpsec: record 2: fragment
+  ! snmpsec: c: it is cut or malformed from octet 213 on; copy a capture after its writer has ended
   [1]
 
 Three records are there.
@@ -58,6 +59,7 @@ The first lacks its last octet.
   $ head -c 86 capture > c
   $ snmpsec datagrams c
   refused datagrams c octet 24
+  ! snmpsec: c: it is cut or malformed from octet 24 on; copy a capture after its writer has ended
   [1]
 
 There is no record.
@@ -70,6 +72,7 @@ The header of the file lacks its last octet.
   $ head -c 23 capture > c
   $ snmpsec datagrams c
   refused datagrams c octet 0
+  ! snmpsec: c: it is cut or malformed from octet 0 on; copy a capture after its writer has ended
   [1]
 
 Standard input is `-`.
@@ -186,6 +189,7 @@ Four octets of a magic number are a capture that was cut. Three are a text.
   $ printf '\241\262\303\324' > f
   $ datagrams
   refused datagrams f octet 0
+  ! snmpsec: f: it is cut or malformed from octet 0 on; copy a capture after its writer has ended
   [1]
   $ printf '\241\262\303' > f
   $ datagrams
@@ -197,10 +201,12 @@ With `--form pcap`, what isn't a capture is refused.
   $ printf 3003020103 > f
   $ datagrams --form pcap
   refused datagrams f octet 0
+  ! snmpsec: f: it is cut or malformed from octet 0 on; copy a capture after its writer has ended
   [1]
   $ : > f
   $ datagrams --form pcap
   refused datagrams f octet 0
+  ! snmpsec: f: it is cut or malformed from octet 0 on; copy a capture after its writer has ended
   [1]
 
 With `--form hex` an offset is octets. Without a blank after its offset a text isn't a dump.
@@ -268,6 +274,7 @@ With `--form pcap` a dump is refused.
   $ echo '0000 30 03' > f
   $ datagrams --form pcap
   refused datagrams f octet 0
+  ! snmpsec: f: it is cut or malformed from octet 0 on; copy a capture after its writer has ended
   [1]
 
 With `--form dump` a capture is refused.

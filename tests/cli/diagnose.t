@@ -55,12 +55,14 @@ A refused configuration is one line.
 
   $ snmpsec diagnose "$TOP/examples/diagnose.pcap" "$TOP/examples/diagnose.pcap"
   refused config toml
+  ! snmpsec: TOML parse error at line 1, column 1: invalid UTF-8
   [1]
 
 A file that isn't there.
 
   $ snmpsec diagnose "$TOP/examples/no-answer.toml" missing
   ! snmpsec: cannot read missing
+  ! snmpsec: missing: there is no such file
   [2]
 
 One user's exchanges. Only these are counted, and only they decide the status.
@@ -83,9 +85,10 @@ An engine ID that is none.
 
   $ snmpsec diagnose --engine 80 "$TOP/examples/no-answer.toml" "$TOP/examples/diagnose.pcap"
   ! snmpsec: bad word ENGINE
+  ! snmpsec: ENGINE "80": it isn't 5 to 32 octets in hex; write it as 80001f8804616263
   [2]
 
-A capture that is cut: what was found before is printed, and the status is 2.
+A capture that is cut: what was found before is printed, standard error says from where on, and the status is 2.
 
   $ head -c 900 "$TOP/examples/diagnose.pcap" > cut.pcap
   $ snmpsec diagnose "$TOP/examples/no-answer.toml" cut.pcap
@@ -94,16 +97,75 @@ A capture that is cut: what was found before is printed, and the status is 2.
   3  22:13:20.002000  10.0.0.9:40001 > 10.0.0.5:161  bob authNoPriv  Get 1.3.6.1.2.1.1.5.0
       window not judged: nothing is known of the engine's clock yet
       answered after 0.8 ms: 1.3.6.1.2.1.1.5.0 = STRING "router-7"
-  refused datagrams cut.pcap octet 746
   5  22:13:25.000000  10.0.0.9:40001 > 10.0.0.5:161  bob authNoPriv  Get 1.3.6.1.2.1.1.5.0
       no answer in the capture
       NotInWindow: the boots or the time in the message aren't the engine's: a restart, a wrong clock, or a message that was kept
   summary
     bob  answered 1, errors 0, refused 0, no answer 1
     engine 80001f88046b6f77616e7169  boots 7, time 1000 at 22:13:20; agent 10.0.0.5:161
+  ! snmpsec: cut.pcap: it is cut or malformed from octet 746 on; copy a capture after its writer has ended
   [2]
 
 The same as JSON: the line that refuses the file is an object too.
 
   $ snmpsec diagnose --json "$TOP/examples/no-answer.toml" cut.pcap | grep refused_datagrams
+  ! snmpsec: cut.pcap: it is cut or malformed from octet 746 on; copy a capture after its writer has ended
   {"refused_datagrams":{"column":null,"file":"cut.pcap","line":null,"octet":746}}
+
+A log of which a line is none: standard error says what is wrong with the line, and from where on nothing is read.
+
+  $ snmpsec datagrams "$TOP/examples/diagnose.pcap" 2>/dev/null | head -n 2 > cut.log
+  $ echo '1700000001 30' >> cut.log; printf '1700000002 3' >> cut.log
+  $ snmpsec diagnose "$TOP/examples/no-answer.toml" cut.log > found
+  ! snmpsec: line 4: HEX "3": its 1 digits are an odd number
+  ! snmpsec: cut.log: it is out of its form from line 4 on; what stands before is printed
+  [2]
+  $ tail -n 1 found
+  summary
+
+A message that can't be opened, since its user isn't in the configuration. By its ports 15 is a request, and 16 its answer.
+
+  $ : > none.toml
+  $ sealed() { snmpsec diagnose "$@" none.toml "$TOP/examples/replay/captured.pcap" | grep -A 2 sealed | head -n 3; }
+  $ sealed
+  15  03:51:48.441017  127.0.0.1:40161 > 127.0.0.1:161  bob authPriv  sealed (its direction is a guess)
+      answered after 0.0 ms; the answer isn't read
+      UnknownUser: no user of this name is in this configuration; a hash or a cipher that isn't known here keeps one out
+  $ sealed --agent 127.0.0.1:161
+  15  03:51:48.441017  127.0.0.1:40161 > 127.0.0.1:161  bob authPriv  sealed
+      answered after 0.0 ms; the answer isn't read
+      UnknownUser: no user of this name is in this configuration; a hash or a cipher that isn't known here keeps one out
+
+By the agent that is named the direction is no guess. 15 is an answer then, and nothing answers 16.
+
+  $ sealed --agent 127.0.0.1:40161
+  15  03:51:48.441017  127.0.0.1:40161 > 127.0.0.1:161  bob authPriv  sealed
+      UnknownUser: no user of this name is in this configuration; a hash or a cipher that isn't known here keeps one out
+  16  03:51:48.441025  127.0.0.1:161 > 127.0.0.1:40161  bob authPriv  sealed
+  $ snmpsec diagnose --json --agent 127.0.0.1:161 none.toml "$TOP/examples/replay/captured.pcap" | grep -o '"what":{"guess[^}]*}' | uniq -c | sed 's/^ *//'
+  2 "what":{"guess":false,"kind":"sealed"}
+
+Both ends have this address: it is a guess. Exchanges with other agents are neither printed nor counted.
+
+  $ sealed --agent 127.0.0.1 | head -n 1
+  15  03:51:48.441017  127.0.0.1:40161 > 127.0.0.1:161  bob authPriv  sealed (its direction is a guess)
+  $ snmpsec diagnose --agent 2001:db8::5 --agent '[2001:db8::9]:161' "$TOP/examples/no-answer.toml" "$TOP/examples/diagnose.pcap"
+  24  22:13:51.000000  [2001:db8::5]:50000 > [2001:db8::9]:162  ann authNoPriv  Inform 1.3.6.1.2.1.1.3.0
+      window not judged: nothing is known of the engine's clock yet
+      answered after 0.3 ms: 1.3.6.1.2.1.1.3.0 = Timeticks 16
+  summary
+    ann  answered 1, errors 0, refused 0, no answer 0
+    engine 80001f88046e6d73  boots 1, time 50 at 22:13:51; agent [2001:db8::9]:162
+  $ snmpsec diagnose --agent 10.0.0.5:162 "$TOP/examples/no-answer.toml" "$TOP/examples/diagnose.pcap"
+  summary
+
+An agent is no name, and its port is a number.
+
+  $ snmpsec diagnose --agent localhost none.toml "$TOP/examples/replay/captured.pcap"
+  ! snmpsec: bad word AGENT
+  ! snmpsec: AGENT "localhost": it isn't an address, with or without a port; write it as 10.0.0.5, 10.0.0.5:161, 2001:db8::5 or [2001:db8::5]:161
+  [2]
+  $ snmpsec diagnose --agent 127.0.0.1:x none.toml "$TOP/examples/replay/captured.pcap"
+  ! snmpsec: bad word AGENT
+  ! snmpsec: AGENT "127.0.0.1:x": it isn't an address, with or without a port; write it as 10.0.0.5, 10.0.0.5:161, 2001:db8::5 or [2001:db8::5]:161
+  [2]

@@ -74,6 +74,7 @@ The file has one record, two, two and a part of the third, and all three.
   $ sed '1,/^canonical/d' shown
   $ head -c 223 capture > f
   $ snmpsec show --port 161 --from f > shown
+  ! snmpsec: f: it is cut or malformed from octet 175 on; copy a capture after its writer has ended
   [1]
   $ sed '1,/^canonical/d' shown
   refused datagrams f octet 175

@@ -123,11 +123,13 @@ The help of each command. `manual` prints on standard output what `--help` print
   Options:
         --users  Print the lines alone of names that are users of CONFIG and support the level
         --why    After a refusal, print on standard error what is wrong and what is expected
+        --below  Print who sees OID or some name below it, and not only who sees OID itself
     -h, --help   Print help
   
   It prints a line for each question of OID that check-access answers by accessAllowed. A
   name that no group row has sees nothing, and so does everyone in a context that CONFIG
-  doesn't have. A higher level may see less.
+  doesn't have. A higher level may see less. With --below it prints a line for each that sees OID
+  or some name below it, as 1.3.6.1.2.1.2.2 for a row of ifTable.
   
   Example: snmpsec who-sees examples/access.toml 1.3.6.1.2.1.1.5.0 read
   
@@ -337,11 +339,13 @@ The help of each command. `manual` prints on standard output what `--help` print
         --json             Print JSON, an object on a line: one for each exchange, and the summary
         --user <NAME>      Print and count only exchanges of this user; may be repeated
         --engine <ENGINE>  Print and count only exchanges of this engine ID in hex; may be repeated
+        --agent <AGENT>    Print and count only exchanges with this agent, ADDRESS or ADDRESS:PORT; may be repeated
         --clocks <CLOCKS>  Saved clocks of engines that are known before the capture begins
     -h, --help             Print help
   
   It judges a request as the agent does, and an answer as the manager does. Only what an engine
-  sent teaches it the engine's clock.
+  sent teaches it the engine's clock. Which side sent a message that can't be opened is a guess by
+  the ports, unless one side is named by --agent.
   
   Example: snmpsec diagnose examples/no-answer.toml examples/diagnose.pcap
   

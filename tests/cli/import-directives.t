@@ -44,15 +44,15 @@ These make rows.
   f:2: access group="g" prefix="" model=3 level="authNoPriv" match="exact" read="v" write="v" notify="v"
   f:3: access group="g" prefix="a" model=3 level="authNoPriv" match="exact" read="v"
   f:4: access group="h" prefix="" model=0 level="authNoPriv" match="exact" read="v"
-  f:9: access group="i" prefix="" model=3 level="authNoPriv" match="prefix" read="_all_" write="none" notify="none"
-  f:6: access group="grpbob" prefix="" model=3 level="authNoPriv" match="prefix" read="_all_" write="none" notify="none"
+  f:9: access group="i" prefix="" model=3 level="authNoPriv" match="prefix" read="_all_"
+  f:6: access group="grpbob" prefix="" model=3 level="authNoPriv" match="prefix" read="_all_"
   f:7: access group="grpcarl" prefix="" model=3 level="authNoPriv" match="prefix" read="_all_" write="_all_" notify="_all_"
-  f:8: access group="grpdora" prefix="" model=3 level="authNoPriv" match="prefix" read="_all_" write="none" notify="none"
-  f:11: access group="grpcomm5" prefix="" model=0 level="noAuthNoPriv" match="prefix" read="_all_" write="none" notify="none"
-  f:12: access group="grpcomm6" prefix="" model=0 level="noAuthNoPriv" match="prefix" read="_all_" write="none" notify="none"
+  f:8: access group="grpdora" prefix="" model=3 level="authNoPriv" match="prefix" read="_all_"
+  f:11: access group="grpcomm5" prefix="" model=0 level="noAuthNoPriv" match="prefix" read="_all_"
+  f:12: access group="grpcomm6" prefix="" model=0 level="noAuthNoPriv" match="prefix" read="_all_"
   f:13: access group="grpcomm7" prefix="" model=0 level="noAuthNoPriv" match="prefix" read="_all_" write="_all_" notify="_all_"
   f:14: access group="grpcomm8" prefix="" model=0 level="noAuthNoPriv" match="prefix" read="_all_" write="_all_" notify="_all_"
-  f:15: access group="grpcomm9" prefix="" model=0 level="noAuthNoPriv" match="prefix" read="_all_" write="none" notify="none"
+  f:15: access group="grpcomm9" prefix="" model=0 level="noAuthNoPriv" match="prefix" read="_all_"
   f:5: family view="v" subtree="1" include=true
   built in: family view="_all_" subtree="0" include=true
   built in: family view="_all_" subtree="1" include=true
@@ -192,7 +192,7 @@ The views `_all_` and `_none_` are built in.
   $ snmpsec import-snmpd f | rows
   context: context name=""
   f:4: group model=3 name="ann" group="g"
-  f:2: access group="g" prefix="" model=3 level="authNoPriv" match="exact" read="v" write="none" notify="none"
+  f:2: access group="g" prefix="" model=3 level="authNoPriv" match="exact" read="v"
   f:3: access group="g" prefix="a" model=3 level="authNoPriv" match="exact" read="_none_" write="_none_" notify="_all_"
   f:1: family view="v" subtree="1.3.6" include=true
   built in: family view="_all_" subtree="0" include=true

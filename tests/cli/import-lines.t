@@ -20,7 +20,7 @@ A line may be empty, begin a section, or be wrong.
   ! f:9: refused by snmpd: no such section
   context: context name=""
   f:10: group model=3 name="ann" group="grpann"
-  f:10: access group="grpann" prefix="" model=3 level="authNoPriv" match="prefix" read="_all_" write="none" notify="none"
+  f:10: access group="grpann" prefix="" model=3 level="authNoPriv" match="prefix" read="_all_"
   built in: family view="_all_" subtree="0" include=true
   built in: family view="_all_" subtree="1" include=true
   built in: family view="_all_" subtree="2" include=true
@@ -45,7 +45,7 @@ Only directives of the section `[snmpd]` matter. A section may be on the line of
   ! f:8: refused by snmpd: [snmpd]: nothing behind it
   context: context name=""
   f:7: group model=3 name="zoe" group="grpzoe"
-  f:7: access group="grpzoe" prefix="" model=3 level="authNoPriv" match="prefix" read="_all_" write="none" notify="none"
+  f:7: access group="grpzoe" prefix="" model=3 level="authNoPriv" match="prefix" read="_all_"
   built in: family view="_all_" subtree="0" include=true
   built in: family view="_all_" subtree="1" include=true
   built in: family view="_all_" subtree="2" include=true
@@ -96,7 +96,7 @@ Directives may be upper-case or lower-case.
   f:3: group model=3 name="ann" group="grpann"
   f:1: access group="g" prefix="" model=3 level="authNoPriv" match="exact" read="v" write="w" notify="v"
   f:3: access group="grpann" prefix="" model=3 level="authNoPriv" match="prefix" read="_all_" write="_all_" notify="_all_"
-  f:4: access group="grpcomm2" prefix="" model=0 level="noAuthNoPriv" match="prefix" read="_all_" write="none" notify="none"
+  f:4: access group="grpcomm2" prefix="" model=0 level="noAuthNoPriv" match="prefix" read="_all_"
   f:9: family view="v" subtree="1" include=true
   built in: family view="_all_" subtree="0" include=true
   built in: family view="_all_" subtree="1" include=true
@@ -129,8 +129,8 @@ Each line makes a row, or has a note.
   context: context name=""
   f:13: group model=3 name="ann" group="grpann"
   f:2: group model=3 name="watcher" group="MyROGroup"
-  f:13: access group="grpann" prefix="" model=3 level="authPriv" match="prefix" read="_all_" write="none" notify="none"
-  f:4: access group="MyROGroup" prefix="" model=0 level="noAuthNoPriv" match="exact" read="all" write="none" notify="none"
+  f:13: access group="grpann" prefix="" model=3 level="authPriv" match="prefix" read="_all_"
+  f:4: access group="MyROGroup" prefix="" model=0 level="noAuthNoPriv" match="exact" read="all"
   f:3: family view="all" subtree="1" include=true mask="80"
   built in: family view="_all_" subtree="0" include=true
   built in: family view="_all_" subtree="1" include=true

@@ -26,9 +26,9 @@ Rows are printed in the order of their indexes. Of two rows with one index only 
   f:4: group model=2 name="ann" group="every"
   f:4: group model=3 name="ann" group="every"
   f:1: group model=3 name="walter" group="second"
-  f:7: access group="first" prefix="" model=0 level="noAuthNoPriv" match="exact" read="_all_" write="none" notify="none"
-  f:6: access group="first" prefix="" model=3 level="authNoPriv" match="exact" read="narrow" write="none" notify="none"
-  f:8: access group="first" prefix="a" model=3 level="authNoPriv" match="exact" read="narrow" write="none" notify="none"
+  f:7: access group="first" prefix="" model=0 level="noAuthNoPriv" match="exact" read="_all_"
+  f:6: access group="first" prefix="" model=3 level="authNoPriv" match="exact" read="narrow"
+  f:8: access group="first" prefix="a" model=3 level="authNoPriv" match="exact" read="narrow"
   f:11: family view="a" subtree="1.3.6" include=true
   f:9: family view="wide" subtree="1.3" include=true
   built in: family view="_all_" subtree="0" include=true
@@ -53,9 +53,9 @@ A simple line stands for several others.
   f:2: group model=3 name="ann" group="g"
   f:3: group model=4 name="carl" group="grpcarl"
   f:5: access group="g" prefix="" model=3 level="authNoPriv" match="prefix" write="v" notify="v"
-  f:1: access group="grpa_b" prefix="" model=3 level="authNoPriv" match="prefix" read="_all_" write="none" notify="none"
+  f:1: access group="grpa_b" prefix="" model=3 level="authNoPriv" match="prefix" read="_all_"
   f:3: access group="grpcarl" prefix="adm" model=4 level="authPriv" match="prefix" read="viewUSM2" write="viewUSM2" notify="viewUSM2"
-  f:4: access group="grpcomm3" prefix="" model=0 level="noAuthNoPriv" match="prefix" read="_all_" write="none" notify="none"
+  f:4: access group="grpcomm3" prefix="" model=0 level="noAuthNoPriv" match="prefix" read="_all_"
   built in: family view="_all_" subtree="0" include=true
   built in: family view="_all_" subtree="1" include=true
   built in: family view="_all_" subtree="2" include=true
@@ -75,6 +75,6 @@ A simple line stands for several others.
   ! f:2: differs: access: changes the row of f:1, which has another index
   ! f:4: differs: access: changes the row of f:3, which has another index
   context: context name=""
-  f:1: access group="g" prefix="" model=0 level="noAuthNoPriv" match="exact" read="wide" write="none" notify="none"
+  f:1: access group="g" prefix="" model=0 level="noAuthNoPriv" match="exact" read="wide"
   f:3: access group="g" prefix="adm" model=3 level="authNoPriv" match="exact" write="high" notify="low"
   f:5: access group="h" prefix="" model=0 level="authNoPriv" match="exact" read="all" write="all"

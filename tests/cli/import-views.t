@@ -16,8 +16,9 @@ A line makes a row with a subtree, a mask and a type.
   > 'view v included 1.6  . : \n' \
   > 'view\tv\tincluded\t0x1.010\t+7\n'
   $ snmpsec import-snmpd f | rows
+  ! f:6: differs: view: hex digits without a colon between them are one octet, for which the last two count
   context: context name=""
-  f:1: access group="g" prefix="" model=3 level="authNoPriv" match="exact" read="v" write="none" notify="none"
+  f:1: access group="g" prefix="" model=3 level="authNoPriv" match="exact" read="v"
   f:2: family view="v" subtree="1" include=true mask="80"
   f:3: family view="v" subtree="1.3" include=false
   f:7: family view="v" subtree="1.4" include=true mask="0f"
@@ -27,6 +28,37 @@ A line makes a row with a subtree, a mask and a type.
   f:5: family view="v" subtree="1.3.6.1.2.1.2.2.1.22" include=true mask="fffe"
   f:4: family view="v" subtree="1.3.6.1.2.1.2.2.1.0.5" include=true mask="ffa0"
   f:6: family view="v" subtree="1.3.6.1.2.1.2.2.1.0.7" include=true mask="a0"
+
+Three hex digits one behind another have a note, in a simple line too. Fewer have none, and neither has a wrong mask.
+
+  $ cat > f <<'END'
+  > access g "" usm auth exact v none none
+  > view v included .1.3.6.1.2.1.1.1 ff:a0
+  > view v included .1.3.6.1.2.1.1.2 0xff.0xA0
+  > view v included .1.3.6.1.2.1.1.3 f:f-a:0
+  > view v included .1.3.6.1.2.1.1.4 ffa
+  > view v included .1.3.6.1.2.1.1.5 ff:00FFa0
+  > view v included .1.3.6.1.2.1.1.6 ff fade
+  > view v included .1.3.6.1.2.1.1.7 # fade
+  > rouser ann auth ".1.3.6.1.2.1.1.8 0fe"
+  > END
+  $ snmpsec import-snmpd f | rows
+  ! f:5: differs: view: hex digits without a colon between them are one octet, for which the last two count
+  ! f:6: differs: view: hex digits without a colon between them are one octet, for which the last two count
+  ! f:7: differs: view: hex digits without a colon between them are one octet, for which the last two count
+  ! f:8: refused by snmpd: view: invalid MASK
+  ! f:9: differs: rouser: hex digits without a colon between them are one octet, for which the last two count
+  context: context name=""
+  f:9: group model=3 name="ann" group="grpann"
+  f:1: access group="g" prefix="" model=3 level="authNoPriv" match="exact" read="v"
+  f:9: access group="grpann" prefix="" model=3 level="authNoPriv" match="prefix" read="viewUSM1"
+  f:2: family view="v" subtree="1.3.6.1.2.1.1.1" include=true mask="ff"
+  f:3: family view="v" subtree="1.3.6.1.2.1.1.2" include=true mask="ff"
+  f:4: family view="v" subtree="1.3.6.1.2.1.1.3" include=true mask="0f"
+  f:5: family view="v" subtree="1.3.6.1.2.1.1.4" include=true mask="fa"
+  f:6: family view="v" subtree="1.3.6.1.2.1.1.5" include=true mask="ff"
+  f:7: family view="v" subtree="1.3.6.1.2.1.1.6" include=true mask="ff"
+  f:9: family view="viewUSM1" subtree="1.3.6.1.2.1.1.8" include=true mask="fe"
 
 A wrong line makes no row.
 
@@ -69,7 +101,7 @@ Arcs are decimal, octal after a 0, or hex after 0x.
   $ snmpsec import-snmpd f | rows
   ! f:9: ignored: view: the row of f:2 has the same index
   context: context name=""
-  f:1: access group="g" prefix="" model=3 level="authNoPriv" match="exact" read="v" write="none" notify="none"
+  f:1: access group="g" prefix="" model=3 level="authNoPriv" match="exact" read="v"
   f:2: family view="v" subtree="1" include=true
   f:11: family view="v" subtree="4294967295" include=true
   f:4: family view="v" subtree="0.0" include=true
@@ -95,7 +127,7 @@ No variable has an arc above 4294967295.
   ! f:4: ignored: view: no variable is below the subtree
   ! f:5: ignored: view: no variable is below the subtree
   context: context name=""
-  f:1: access group="g" prefix="" model=3 level="authNoPriv" match="exact" read="v" write="none" notify="none"
+  f:1: access group="g" prefix="" model=3 level="authNoPriv" match="exact" read="v"
 
 Other texts aren't numbers. One dot at the end is allowed.
 
@@ -129,7 +161,7 @@ Other texts aren't numbers. One dot at the end is allowed.
   ! f:13: left out: view: the subtree isn't in numbers
   ! f:14: left out: view: the subtree isn't in numbers
   context: context name=""
-  f:1: access group="g" prefix="" model=3 level="authNoPriv" match="exact" read="v" write="none" notify="none"
+  f:1: access group="g" prefix="" model=3 level="authNoPriv" match="exact" read="v"
   f:5: family view="v" subtree="1.3" include=true
 
 A subtree has up to 128 arcs.
@@ -142,3 +174,16 @@ A subtree has up to 128 arcs.
   $ snmpsec import-snmpd f | rows
   ! f:1: left out: view: the subtree isn't in numbers
   context: context name=""
+
+In an access row `none` is no view, and is left out. If a view has that name, it is a view like others.
+
+  $ cat > f <<'END'
+  > access g "" usm auth exact v none none
+  > view v included .1.3
+  > view none included .1.3.6
+  > END
+  $ snmpsec import-snmpd f | rows
+  context: context name=""
+  f:1: access group="g" prefix="" model=3 level="authNoPriv" match="exact" read="v" write="none" notify="none"
+  f:2: family view="v" subtree="1.3" include=true
+  f:3: family view="none" subtree="1.3.6" include=true

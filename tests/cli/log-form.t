@@ -74,12 +74,15 @@ A replay of the capture needs no log.
   ! snmpsec: passed over: another port 24
   $ head -c 900 "$capture" > cut.pcap
   $ snmpsec replay --from cut.pcap "$config" "$clocks" | tail -n 1
+  ! snmpsec: cut.pcap: it is cut or malformed from octet 794 on; copy a capture after its writer has ended
   refused datagrams cut.pcap octet 794
   $ snmpsec replay --from "$capture" "$clocks" "$clocks"
   refused config toml
+  ! snmpsec: TOML parse error at line 1, column 13: key with no value, expected `=`
   [1]
   $ snmpsec replay --from missing "$config" "$clocks"
   ! snmpsec: cannot read missing
+  ! snmpsec: missing: there is no such file
   [2]
   $ snmpsec replay --from "$capture" "$config" "$clocks" log 2>&1 | head -n 1
   ! error: the argument '--from <FILE>' cannot be used with '[LOG]'

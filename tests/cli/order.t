@@ -244,6 +244,7 @@ The ports are checked before the file is opened.
   [1]
   $ snmpsec datagrams --form pcap /dev/null
   refused datagrams /dev/null octet 0
+  ! snmpsec: /dev/null: it is cut or malformed from octet 0 on; copy a capture after its writer has ended
   [1]
   $ snmpsec datagrams --form dump /dev/null
   refused datagrams /dev/null line 1

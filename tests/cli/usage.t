@@ -107,6 +107,8 @@ Help is on standard error, with status 2. It names each command.
   ! Options:
   !       --why   After a refusal, print on standard error what is wrong and what is expected
   !   -h, --help  Print help
+  !
+  ! A file - is standard input, which can be read once.
   [2]
 
 The help of a command explains its arguments and its status.

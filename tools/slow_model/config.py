@@ -1,4 +1,5 @@
 """Configurations, and isAccessAllowed (README; RFC 3415 sections 3 and 4)."""
+import itertools
 import re
 import tomllib
 
@@ -252,16 +253,27 @@ def supports(rows, model, name, level):
     return model == 3 and user is not None and all(key in user for key in ["auth-password", "priv-password"][: level - 1])
 
 
-def who_sees(text, identifier, view=None, only_users=False):
+def names_below(rows, arcs):
+    """The name, and longer ones that begin so: each arc is one that a subtree has there, or one that none has."""
+    subtrees = [arcs_of(row["subtree"]) for row in rows["family"]]
+    other = max((max(subtree) for subtree in subtrees), default=0) + 1
+    for size in range(len(arcs), max((len(subtree) for subtree in subtrees), default=0) + 1):
+        there = [sorted({subtree[k] for subtree in subtrees if k < len(subtree)} | {other}) for k in range(len(arcs), size)]
+        yield from ([*arcs, *rest] for rest in itertools.product(*there))
+
+
+def who_sees(text, identifier, view=None, only_users=False, is_below=False):
     """What `who-sees` prints, and its status; None where it says why on standard error."""
     if arcs_of(identifier) is None:
-        return "", "snmpsec: bad word OID\n", 2
+        return "", None, 2
     if view not in (None, "read", "write", "notify"):
-        return "", "snmpsec: bad word VIEW\n", 2
+        return "", None, 2
     try:
         rows = read(text)
     except RefusedConfig as refused:
         return str(refused), None, 1
+    arcs = arcs_of(identifier)
+    names = [arcs, *names_below(rows, arcs)] if is_below else [arcs]
     lines = [
         f"{group['model']} {word(group['name'])} {level} {asked_view} {context_word(context['name'])}\n"
         for asked_view in ([view] if view else ["read", "write", "notify"])
@@ -269,7 +281,10 @@ def who_sees(text, identifier, view=None, only_users=False):
         for level, number in LEVELS.items()
         for context in rows["context"]
         if not only_users or supports(rows, group["model"], group["name"], number)
-        if explained(rows, group["model"], group["name"].encode(), number, asked_view, context["name"].encode(), arcs_of(identifier))[0] == "accessAllowed"
+        if any(
+            explained(rows, group["model"], group["name"].encode(), number, asked_view, context["name"].encode(), name)[0] == "accessAllowed"
+            for name in names
+        )
     ]
     return "".join(lines), "", 0 if lines else 1
 

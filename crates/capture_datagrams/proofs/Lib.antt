@@ -1,4 +1,5 @@
 pub mod Tellings
 pub mod Beginnings
 pub mod Dumps
+mod LogLines
 pub mod Refusals

@@ -1,6 +1,7 @@
 pub mod Datagrams
 pub mod Dumped
 pub mod Forms
+pub mod Logs
 pub mod Packets
 pub mod Printout
 pub mod Texts

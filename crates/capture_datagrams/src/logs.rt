@@ -1,8 +1,11 @@
 //! A log, of whose datagrams something else is printed.
 
+ghost use Rattle.std.specs.Prelude.{◌↔◌, ◌≤◌, IsTrue, length};
+ghost use Rattle.capture_datagrams.specs.Logs.{AreHexDigits, BeginsLog, IsFirstLine, IsMoment};
+
 use crate::datagrams::Unread;
 use capture_files::Printer;
-use snmp_ber::{find, read_decimal, split_once};
+use snmp_ber::{read_decimal, split_once};
 use snmpsec_io::write_whole;
 use snmpsec_replay::{LINE_LIMIT, LogLineFault, NextEntry, ReplayFault, next_entry};
 use std::alloc::{AllocError, Global};
@@ -13,14 +16,36 @@ pub const FRONT: usize = 24;
 
 /// A file that begins so is a log, as far as its first line is in these octets: a moment, a blank, and pairs of hex
 /// digits. The moment doesn't begin with the digits `30`, since messages in hex do.
-pub fn begins_log(front: &[u8]) -> bool {
+pub fn begins_log(front: &[u8]) -> bool
+    ensures { IsTrue result ↔ BeginsLog front.now }
+{
     let Some((moment, rest)) = split_once(front, b' ') else {
         return false;
     };
-    if moment.starts_with(b"30") || read_decimal(moment, u64::MAX).is_none() {
-        return false;
+    is_moment(moment) && are_pairs(first_line(rest))
+}
+
+/// Whether the word is whole seconds, and doesn't begin as a message in hex.
+fn is_moment(word: &[u8]) -> bool
+    ensures { IsTrue result ↔ IsMoment word.now }
+{
+    !word.starts_with(b"30") && read_decimal(word, u64::MAX).is_some()
+}
+
+/// The octets before the first line feed, or all of them.
+fn first_line(text: &[u8]) -> &[u8]
+    ensures { IsFirstLine text.now result.now }
+{
+    match split_once(text, b'\n') {
+        Some((line, _)) => line,
+        None => text,
     }
-    let digits = &rest[..find(rest, b'\n')];
+}
+
+/// Whether the octets are hex digits, two or more.
+fn are_pairs(digits: &[u8]) -> bool
+    ensures { IsTrue result ↔ (2 ≤ length digits.now × AreHexDigits digits.now) }
+{
     digits.len() >= 2 && digits.iter().all(|digit| digit.is_ascii_hexdigit())
 }
 

@@ -1,5 +1,5 @@
 -- Lines are blocks in one way, and no line can be told of lines that are blocks.
-use Rattle.std.proofs.Common.{◌≡◌, ◌⊎◌, ℕ, zero, suc, ◌+◌, List, [], ◌∷◌, ◌++◌, length, refl, sym, ap, ◌∙◌, subst, arith, inl, inr, append_assoc, append-nil}
+use Rattle.std.proofs.Common.{◌≡◌, ◌⊎◌, ℕ, zero, suc, List, [], ◌∷◌, ◌++◌, length, refl, sym, ap, ◌∙◌, subst, arith, inl, inr, append_assoc, append-nil}
 use Rattle.std.specs.Prelude.{⊤}
 use Rattle.capture_dumps.specs.Line.{AreLines, Kind, bad, begin, more, other, words}
 use Rattle.capture_dumps.specs.Dumps.{AreBlocks, GoOn, HasDumps, IsBlock, IsDump, IsDumpIn, IsNotBegun, IsOtherCount, IsPassedOver, IsUnread, IsUnreadable, MayEndBefore, StopsAt}

@@ -3,7 +3,7 @@ use Rattle.std.proofs.Common.{◌≡◌, ◌∙◌, ◌++◌, ℕ, Bool, true, f
 use Rattle.diagnose_exchanges.specs.declared.exchange.Ending.{Ending}
 use Rattle.diagnose_exchanges.specs.declared.exchange.Ending.TheVariants.{Answered}
 use Rattle.diagnose_exchanges.specs.declared.exchange.Exchange.{Exchange}
-use Rattle.diagnose_exchanges.specs.Exchanges.{Ends, HandsOver, HasRun, IsUnanswered, Step, Takes, begins, answers, ends, hands_over, finishes, begun, place_after, taken_by}
+use Rattle.diagnose_exchanges.specs.Exchanges.{Ends, HandsOver, HasRun, IsUnanswered, Step, Takes, begins, answers, ends, hands_over, finishes, begun, taken_by}
 
 module _ {K Q A : Type 0} where
   pub begun_takes : (number gone : ℕ) (old new : List (Exchange K Q A)) (first : Q) (counts : Bool) (ending : Ending K A) → IsUnanswered ending

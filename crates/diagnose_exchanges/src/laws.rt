@@ -1,6 +1,6 @@
 //! Laws of exchanges. Each function does nothing: its contract is the law.
 
-ghost use Rattle.std.specs.Prelude.{◌≡◌, ◌+◌, ◌++◌, ℕ, List, [], length, map};
+ghost use Rattle.std.specs.Prelude.{◌≡◌, ◌+◌, ◌++◌, ℕ, List, [], map};
 ghost use Rattle.diagnose_exchanges.specs.Exchanges.{HasRun, Step, begun_by, counted, counted_by, taken_by};
 ghost use Rattle.diagnose_exchanges.specs.Exchanges.{times, times_in};
 ghost use Rattle.diagnose_exchanges.specs.declared.exchange.Exchange.{Exchange};

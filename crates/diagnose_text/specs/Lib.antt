@@ -1,0 +1,5 @@
+pub mod Documents
+pub mod Following
+pub mod Names
+pub mod Printing
+pub mod Wanted

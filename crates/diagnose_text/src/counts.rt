@@ -1,9 +1,14 @@
 //! How the exchanges of each user ended.
 
+ghost use Rattle.std.specs.Prelude.{◌≡◌, IfOk, OnOk};
+ghost use Rattle.serde_json.specs.View.{members_view, view};
+ghost use Rattle.diagnose_text.specs.Documents.{IsUser, count_members, user_document};
+
 use crate::facts::{Answer, Says};
 use crate::heads::name_text;
+use crate::members::{Members, array_of, no_members, object_of, put_number, put_text};
 use diagnose_exchanges::Ending;
-use serde_json::{Value as Json, json};
+use serde_json::Value as Json;
 use std::alloc::{AllocError, Global};
 use usm_users::UserName;
 
@@ -57,14 +62,12 @@ impl Counts {
         Ok(())
     }
 
-    /// A line for each user.
-    pub(crate) fn lines(&self, alloc: Global) -> Result<String, AllocError> {
-        let mut text = String::new(alloc);
+    /// Adds a line for each user.
+    pub(crate) fn put_lines(&self, alloc: Global, out: &mut String) -> Result<(), AllocError> {
         for counts in &self.users {
-            let line = counts.line(alloc)?;
-            text.push_str(&line)?;
+            counts.put_line(alloc, out)?;
         }
-        Ok(text)
+        Ok(())
     }
 
     /// An object for each user.
@@ -74,7 +77,7 @@ impl Counts {
             let object = counts.object(alloc)?;
             list.push(object)?;
         }
-        Ok(Json::Array(list))
+        Ok(array_of(list))
     }
 }
 
@@ -107,27 +110,48 @@ impl UserCounts {
         }
     }
 
-    fn line(&self, alloc: Global) -> Result<String, AllocError> {
+    fn put_line(&self, alloc: Global, out: &mut String) -> Result<(), AllocError> {
         let octets = self.user.as_slice();
-        let name = if octets.is_empty() {
-            String::from_str(alloc, "(no user)")?
+        if octets.is_empty() {
+            out.push_str("  (no user)")?;
         } else {
-            name_text(alloc, octets)?
-        };
+            let name = name_text(alloc, octets)?;
+            write!(out, "  {name}")?;
+        }
         let (answered, errors) = (self.answered, self.errors);
         let (refused, no_answer) = (self.refused, self.no_answer);
-        format!(in alloc;
-            "  {name}  answered {answered}, errors {errors}, refused {refused}, no answer {no_answer}\n"
+        write!(
+            out,
+            "  answered {answered}, errors {errors}, refused {refused}, no answer {no_answer}\n"
         )
     }
 
-    fn object(&self, alloc: Global) -> Result<Json, AllocError> {
+    fn object(&self, alloc: Global) -> Result<Json, AllocError>
+        ensures { IfOk result (λ json. IsUser self.now (view json)) }
+    {
         let user = name_text(alloc, self.user.as_slice())?;
-        let (answered, errors) = (self.answered, self.errors);
-        let (refused, no_answer) = (self.refused, self.no_answer);
-        json!(in alloc; {
-            "user": user, "answered": answered, "errors": errors, "refused": refused,
-            "no_answer": no_answer
-        })
+        self.named_object(alloc, &user)
+    }
+
+    /// The object with the name as this text.
+    fn named_object(&self, alloc: Global, user: &str) -> Result<Json, AllocError>
+        ensures { IfOk result (λ json. view json ≡ user_document self.now user.now) }
+    {
+        let mut members = no_members(alloc);
+        self.put(alloc, &mut members, user)?;
+        Ok(object_of(members))
+    }
+
+    /// Adds the name as this text, and the counts.
+    #[tactic(auto, unfolding(crate::specs::Documents::count_members))]
+    fn put(&self, alloc: Global, members: &mut Members, user: &str) -> Result<(), AllocError>
+        ensures { OnOk result (members_view members.new.entries
+            ≡ count_members self.now user.now (members_view members.old.entries)) }
+    {
+        put_text(alloc, members, "user", user)?;
+        put_number(alloc, members, "answered", self.answered)?;
+        put_number(alloc, members, "errors", self.errors)?;
+        put_number(alloc, members, "refused", self.refused)?;
+        put_number(alloc, members, "no_answer", self.no_answer)
     }
 }

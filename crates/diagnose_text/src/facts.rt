@@ -1,16 +1,19 @@
 //! What is known of an exchange: that which text and JSON print.
 
+ghost use Rattle.std.specs.Prelude.{◌≡◌};
+ghost use Rattle.diagnose_text.specs.Names.{sender_user};
+
 use crate::heads::Stamp;
 use crate::values::Value;
 use crate::views::Viewed;
 use capture_files::Route;
 use engine_clock::EngineId;
 use snmp_ber::Level;
-use snmp_msg::Refusal;
+use snmp_msg::{PduType, Refusal};
 use usm_users::UserName;
 
 /// A datagram by its number, and the place of the exchange that it begins.
-#[derive(Clone, Copy, Debug, PartialEq, Eq, Drop)]
+#[derive(Clone, Copy, Drop)]
 pub(crate) struct Sent {
     pub(crate) number: u64,
     pub(crate) place: u64,
@@ -27,7 +30,8 @@ pub(crate) struct Sender {
 /// A PDU, by its type and the names of its variables.
 #[derive(Drop)]
 pub(crate) struct PduNames {
-    pub(crate) tag: u8,
+    /// None where no PDU has its tag.
+    pub(crate) kind: Option<PduType>,
     /// The first 8 names.
     pub(crate) names: Vec<String>,
     /// How many more there are.
@@ -40,14 +44,14 @@ pub(crate) enum What {
     /// A request without engine and user (RFC 3414, section 4).
     Discovery,
     Pdu(PduNames),
-    /// A message whose PDU isn't opened. Which side sent it is a guess.
-    Sealed,
+    /// A message whose PDU isn't opened. Which side sent it is a guess, unless the user names the agent.
+    Sealed { is_guess: bool },
     /// No message of SNMPv3.
     Unreadable,
 }
 
 /// What is said beside of a datagram.
-#[derive(Clone, Copy, Debug, PartialEq, Eq, Drop)]
+#[derive(Clone, Copy, Drop)]
 pub(crate) enum Remark {
     Nothing,
     /// Nothing was known of the clock of its engine.
@@ -83,7 +87,9 @@ impl First {
     }
 
     /// The octets of the user's name.
-    pub(crate) fn user(&self) -> &[u8] {
+    pub(crate) fn user(&self) -> &[u8]
+        ensures { result.now ≡ sender_user self.now.sender }
+    {
         match &self.sender {
             Some(sender) => sender.user.as_slice(),
             None => &[],

@@ -1,5 +1,9 @@
 //! The line of a datagram: when it was captured, from whom to whom it went, and what it is.
 
+ghost use Rattle.std.specs.Prelude.{◌≡◌, IfOk, string_bytes};
+ghost use Rattle.diagnose_text.specs.Documents.{IsNameText, span};
+ghost use Rattle.diagnose_text.specs.Documents as spec;
+
 use crate::facts::{First, PduNames, Sender, What};
 use crate::names::{level_name, pdu_name};
 use crate::values::octets_text;
@@ -7,7 +11,7 @@ use capture_files::Route;
 use std::alloc::{AllocError, Global};
 
 /// When a datagram was captured.
-#[derive(Clone, Copy, Debug, PartialEq, Eq, Drop)]
+#[derive(Clone, Copy, Drop)]
 pub(crate) struct Stamp {
     /// In seconds.
     pub(crate) seconds: u64,
@@ -17,13 +21,20 @@ pub(crate) struct Stamp {
 
 impl Stamp {
     /// How many microseconds it is after another one, or none.
-    pub(crate) fn since(self, other: Stamp) -> u64 {
-        let micros = |at: Stamp| {
-            at.seconds
-                .saturating_mul(1_000_000)
-                .saturating_add(u64::from(at.micros))
-        };
-        micros(self).saturating_sub(micros(other))
+    pub(crate) fn since(self, other: Stamp) -> u64
+        ensures { result ≡ span other self }
+    {
+        self.in_micros().saturating_sub(other.in_micros())
+    }
+
+    /// The moment in microseconds, as far as 64 bits hold it.
+    #[tactic(auto, unfolding(crate::specs::Documents::micros_of))]
+    fn in_micros(self) -> u64
+        ensures { result ≡ spec.micros_of self }
+    {
+        self.seconds
+            .saturating_mul(1_000_000)
+            .saturating_add(u64::from(self.micros))
     }
 }
 
@@ -47,45 +58,52 @@ pub(crate) fn span_text(alloc: Global, micros: u64) -> Result<String, AllocError
     format!(in alloc; "{whole}.{tenth} ms")
 }
 
-/// The way of a datagram, with two blanks behind it, or nothing where it isn't known.
-fn route_text(alloc: Global, route: Option<Route>) -> Result<String, AllocError> {
+/// Adds the line of the first datagram of an exchange.
+pub(crate) fn put_head(
+    alloc: Global,
+    out: &mut String,
+    number: u64,
+    first: &First,
+) -> Result<(), AllocError> {
+    let time = time_text(alloc, first.at)?;
+    write!(out, "{number}  {time}  ")?;
+    put_route(out, first.route)?;
+    if let Some(sender) = &first.sender {
+        put_sender(alloc, out, sender)?;
+    }
+    put_what(out, &first.what)?;
+    out.push_str("\n")
+}
+
+/// Adds the way of a datagram, with two blanks behind it, or nothing where it isn't known.
+fn put_route(out: &mut String, route: Option<Route>) -> Result<(), AllocError> {
     match route {
         Some(route) => {
             let (from, to) = (route.from, route.to);
-            format!(in alloc; "{from} > {to}  ")
+            write!(out, "{from} > {to}  ")
         }
-        None => Ok(String::new(alloc)),
+        None => Ok(()),
     }
 }
 
-/// The line of the first datagram of an exchange.
-pub(crate) fn head_line(alloc: Global, number: u64, first: &First) -> Result<String, AllocError> {
-    let time = time_text(alloc, first.at)?;
-    let route = route_text(alloc, first.route)?;
-    let sender = match &first.sender {
-        Some(sender) => sender_text(alloc, sender)?,
-        None => String::new(alloc),
-    };
-    let what = what_text(alloc, &first.what)?;
-    format!(in alloc; "{number}  {time}  {route}{sender}{what}\n")
-}
-
-/// A user name and a level, with two blanks behind them.
-fn sender_text(alloc: Global, sender: &Sender) -> Result<String, AllocError> {
+/// Adds a user name and a level, with two blanks behind them.
+fn put_sender(alloc: Global, out: &mut String, sender: &Sender) -> Result<(), AllocError> {
+    let user = sender.user.as_slice();
+    if !user.is_empty() {
+        let name = name_text(alloc, user)?;
+        write!(out, "{name} ")?;
+    }
     let level = match sender.level {
         Some(level) => level_name(level),
         None => "privacy without authentication",
     };
-    let user = sender.user.as_slice();
-    if user.is_empty() {
-        return format!(in alloc; "{level}  ");
-    }
-    let name = name_text(alloc, user)?;
-    format!(in alloc; "{name} {level}  ")
+    write!(out, "{level}  ")
 }
 
 /// A user name: as it is if it is letters, digits and marks, or else between quotes or in hex.
-pub(crate) fn name_text(alloc: Global, user: &[u8]) -> Result<String, AllocError> {
+pub(crate) fn name_text(alloc: Global, user: &[u8]) -> Result<String, AllocError>
+    ensures { IfOk result (λ text. IsNameText user.now (string_bytes text)) }
+{
     match std::str::from_utf8(user) {
         Ok(text) if user.iter().all(|octet| octet.is_ascii_graphic()) => {
             String::from_str(alloc, text)
@@ -94,27 +112,26 @@ pub(crate) fn name_text(alloc: Global, user: &[u8]) -> Result<String, AllocError
     }
 }
 
-/// What a datagram is.
-fn what_text(alloc: Global, what: &What) -> Result<String, AllocError> {
+/// Adds what a datagram is.
+fn put_what(out: &mut String, what: &What) -> Result<(), AllocError> {
     match what {
-        What::Discovery => String::from_str(alloc, "discovery"),
-        What::Pdu(pdu) => pdu_text(alloc, pdu),
-        What::Sealed => String::from_str(alloc, "sealed (its direction is a guess)"),
-        What::Unreadable => String::from_str(alloc, "not read"),
+        What::Discovery => out.push_str("discovery"),
+        What::Pdu(pdu) => put_pdu(out, pdu),
+        What::Sealed { is_guess: true } => out.push_str("sealed (its direction is a guess)"),
+        What::Sealed { is_guess: false } => out.push_str("sealed"),
+        What::Unreadable => out.push_str("not read"),
     }
 }
 
-/// A PDU: its name and the names of its variables.
-fn pdu_text(alloc: Global, pdu: &PduNames) -> Result<String, AllocError> {
-    let mut text = String::from_str(alloc, pdu_name(pdu.tag))?;
+/// Adds a PDU: its name and the names of its variables.
+fn put_pdu(out: &mut String, pdu: &PduNames) -> Result<(), AllocError> {
+    out.push_str(pdu_name(pdu.kind))?;
     for name in &pdu.names {
-        let part = format!(in alloc; " {name}")?;
-        text.push_str(&part)?;
+        write!(out, " {name}")?;
     }
     if pdu.more > 0 {
         let more = pdu.more;
-        let part = format!(in alloc; " and {more} more")?;
-        text.push_str(&part)?;
+        write!(out, " and {more} more")?;
     }
-    Ok(text)
+    Ok(())
 }

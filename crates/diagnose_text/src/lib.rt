@@ -14,22 +14,28 @@
 #![tactic(auto)]
 
 mod agents;
+mod answers;
 mod blocks;
 mod causes;
 mod counts;
 mod diagnoser;
 mod facts;
+mod follower;
 mod heads;
+mod line;
+mod members;
 mod names;
 mod objects;
 mod options;
 mod reading;
 mod report;
+mod says;
 mod summary;
 mod unread;
 mod values;
 mod view_lines;
+mod view_objects;
 mod views;
 
 pub use diagnoser::Diagnoser;
-pub use options::{DiagnoseOptions, Style};
+pub use options::{DiagnoseOptions, NamedAgent, Style};

@@ -1,11 +1,17 @@
 //! Names of PDUs, levels and error-statuses, as RFCs and tcpdump write them.
 
+ghost use Rattle.std.specs.Prelude.{◌≡◌};
+ghost use Rattle.snmpsec_config.specs.Words.{level_word};
+ghost use Rattle.diagnose_text.specs.Names.{pdu_word};
+
 use snmp_ber::Level;
 use snmp_msg::PduType;
 
-/// The name of the PDU with this tag (RFC 3416, section 3).
-pub(crate) fn pdu_name(tag: u8) -> &'static str {
-    match PduType::of(tag) {
+/// The name of a PDU of this type (RFC 3416, section 3).
+pub(crate) fn pdu_name(kind: Option<PduType>) -> &'static str
+    ensures { result.now ≡ pdu_word kind }
+{
+    match kind {
         Some(PduType::GetRequest) => "Get",
         Some(PduType::GetNextRequest) => "GetNext",
         Some(PduType::Response) => "Response",
@@ -19,7 +25,9 @@ pub(crate) fn pdu_name(tag: u8) -> &'static str {
 }
 
 /// The name of a level (RFC 3411, section 3.4.3).
-pub(crate) fn level_name(level: Level) -> &'static str {
+pub(crate) fn level_name(level: Level) -> &'static str
+    ensures { result.now ≡ level_word level }
+{
     match level {
         Level::NoAuthNoPriv => "noAuthNoPriv",
         Level::AuthNoPriv => "authNoPriv",

@@ -4,7 +4,7 @@ use crate::facts::{PduNames, Says};
 use crate::values::{Value, value_of};
 use snmp_ber::read_unsigned;
 use snmp_msg::{Pdu, PduType};
-use snmpsec_output::counter_named;
+use snmpsec_causes::counter_named;
 use std::alloc::{AllocError, Global};
 
 /// How many variables of a PDU are printed.
@@ -23,7 +23,7 @@ pub(crate) fn names_of(alloc: Global, pdu: &Pdu<'_>) -> Result<PduNames, AllocEr
         }
     }
     Ok(PduNames {
-        tag: pdu.tag,
+        kind: PduType::of(pdu.tag),
         names,
         more,
     })

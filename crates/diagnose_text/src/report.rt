@@ -1,5 +1,9 @@
 //! What is printed of a capture: exchanges one after another, and the summary.
 
+ghost use Rattle.std.specs.Prelude.{◌≡◌, ◌++◌, ◌||◌, List, ℕ, IfOk, OnOk, option_map, string_bytes, true};
+ghost use Rattle.diagnose_text.specs.Printing as spec;
+ghost use Rattle.diagnose_text.specs.Printing.{IsBlock, IsPrinted, counts_as_failed, is_json, is_wanted_exchange};
+
 use crate::agents::{Agents, ENGINES_LIMIT};
 use crate::blocks::block_text;
 use crate::counts::Counts;
@@ -7,6 +11,7 @@ use crate::facts::{Answer, First, Says};
 use crate::objects::object_line;
 use crate::options::{DiagnoseOptions, Style};
 use crate::summary::{Summary, summary_line, summary_text};
+use capture_files::Route;
 use diagnose_exchanges::{COPIES_LIMIT, Ending, Exchange};
 use engine_clock::{Clocks, EngineId};
 use std::alloc::{AllocError, Global};
@@ -25,7 +30,9 @@ pub(crate) struct Report {
 }
 
 impl Report {
-    pub(crate) fn new(alloc: Global, options: DiagnoseOptions) -> Report {
+    pub(crate) fn new(alloc: Global, options: DiagnoseOptions) -> Report
+        ensures { result.options ≡ options }
+    {
         Report {
             alloc,
             options,
@@ -37,42 +44,82 @@ impl Report {
     }
 
     /// Each line that is printed is a JSON object.
-    pub(crate) fn prints_json(&self) -> bool {
-        self.options.style == Style::Json
+    pub(crate) fn prints_json(&self) -> bool
+        ensures { result ≡ is_json self.now.options.style }
+    {
+        matches!(self.options.style, Style::Json)
+    }
+
+    /// Whether a datagram on this way is a request by the agents that the user names, if they tell it.
+    pub(crate) fn told_request(&self, route: Option<Route>) -> Option<bool> {
+        self.options.told_request(route?)
     }
 
     /// Something failed.
-    pub(crate) fn has_failed(&self) -> bool {
+    pub(crate) fn has_failed(&self) -> bool
+        ensures { result ≡ self.now.failed }
+    {
         self.failed
     }
 
-    /// Prints an exchange that is finished, if it is wanted, and counts it.
+    /// Prints an exchange that is finished, if it is wanted, and counts it. The error is out of memory.
     pub(crate) fn print<K: Drop>(
         &mut self,
         exchange: &Exchange<K, First, Answer>,
         out: &mut Vec<u8>,
-    ) -> Result<(), AllocError> {
-        let first = &exchange.first;
-        let engine = engine_of(first, &exchange.ending);
-        if !self.options.wants(first.user(), engine) {
+    ) -> Result<(), AllocError>
+        ensures printed { OnOk result ((text : List ℕ) × (out.new.items ≡ out.old.items ++ text)
+            × IsPrinted self.old.options exchange.now text) }
+        ensures failed { OnOk result (self.new.failed
+            ≡ (self.old.failed || counts_as_failed self.old.options exchange.now)) }
+        ensures options { self.new.options ≡ self.old.options }
+    {
+        if !self.wants(exchange) {
             return Ok(());
         }
-        self.note_engine(engine)?;
-        if exchange.counts {
-            self.counts.count(first.user(), &exchange.ending)?;
-        }
-        if fails(exchange) {
-            self.failed = true;
-        }
-        let text = match self.options.style {
-            Style::Text => block_text(self.alloc, exchange)?,
-            Style::Json => object_line(self.alloc, exchange)?,
-        };
+        self.count(exchange)?;
+        let text = self.text_of(exchange)?;
         out.extend_from_slice(text.as_bytes())
     }
 
+    /// The exchange is wanted.
+    fn wants<K: Drop>(&self, exchange: &Exchange<K, First, Answer>) -> bool
+        ensures { result ≡ is_wanted_exchange self.now.options exchange.now }
+    {
+        let first = &exchange.first;
+        let engine = engine_of(first, &exchange.ending);
+        self.options.wants(first.user(), engine, first.route)
+    }
+
+    /// Counts an exchange that is printed, and notes whether something failed in it.
+    fn count<K: Drop>(&mut self, exchange: &Exchange<K, First, Answer>) -> Result<(), AllocError>
+        ensures failed { OnOk result (self.new.failed ≡ (self.old.failed || spec.fails exchange.now)) }
+        ensures options { self.new.options ≡ self.old.options }
+    {
+        let first = &exchange.first;
+        self.note_engine(engine_of(first, &exchange.ending))?;
+        if exchange.counts {
+            self.counts.count(first.user(), &exchange.ending)?;
+        }
+        self.failed = self.failed || fails(exchange);
+        Ok(())
+    }
+
+    /// The text of an exchange.
+    fn text_of<K: Drop>(&self, exchange: &Exchange<K, First, Answer>) -> Result<String, AllocError>
+        ensures { IfOk result (λ text. IsBlock true self.now.options.style exchange.now (string_bytes text)) }
+    {
+        match self.options.style {
+            Style::Text => block_text(self.alloc, exchange),
+            Style::Json => object_line(self.alloc, exchange),
+        }
+    }
+
     /// Notes the engine of an exchange that is printed, where not all are wanted.
-    fn note_engine(&mut self, engine: Option<&EngineId>) -> Result<(), AllocError> {
+    fn note_engine(&mut self, engine: Option<&EngineId>) -> Result<(), AllocError>
+        ensures failed { self.new.failed ≡ self.old.failed }
+        ensures options { self.new.options ≡ self.old.options }
+    {
         let Some(engine) = engine else {
             return Ok(());
         };
@@ -83,7 +130,9 @@ impl Report {
     }
 
     /// Says once that the digests are full.
-    pub(crate) fn print_full(&mut self, out: &mut Vec<u8>) -> Result<(), AllocError> {
+    pub(crate) fn print_full(&mut self, out: &mut Vec<u8>) -> Result<(), AllocError>
+        ensures { self.new.options ≡ self.old.options }
+    {
         if self.digests_full {
             return Ok(());
         }
@@ -121,29 +170,49 @@ impl Report {
 }
 
 /// The engine of an exchange: that of its request, or that which a discovery found.
-fn engine_of<'a, K: Drop>(first: &'a First, ending: &'a Ending<K, Answer>) -> Option<&'a EngineId> {
-    if let Ending::Answered { answer, .. } = ending {
-        if let Says::Engine(engine) = &answer.says {
-            return Some(engine);
-        }
+fn engine_of<'a, K: Drop>(first: &'a First, ending: &'a Ending<K, Answer>) -> Option<&'a EngineId>
+    ensures { option_map (λ engine. engine.now) result ≡ spec.engine_of first.now ending.now }
+{
+    match ending {
+        Ending::Answered { answer, .. } => said_engine(first, &answer.says),
+        _ => first.engine.as_ref(),
     }
-    first.engine.as_ref()
+}
+
+/// The engine that a discovery found, or that of the first datagram.
+fn said_engine<'a>(first: &'a First, says: &'a Says) -> Option<&'a EngineId>
+    ensures { option_map (λ engine. engine.now) result ≡ spec.said_engine first.now says.now }
+{
+    match says {
+        Says::Engine(engine) => Some(engine),
+        _ => first.engine.as_ref(),
+    }
 }
 
 /// Something failed in the exchange. A copy, a notification and a discovery without an answer fail nothing, nor does a
 /// request that was sent again.
-fn fails<K: Drop>(exchange: &Exchange<K, First, Answer>) -> bool {
-    let first = &exchange.first;
+fn fails<K: Drop>(exchange: &Exchange<K, First, Answer>) -> bool
+    ensures { result ≡ spec.fails exchange.now }
+{
     match &exchange.ending {
-        Ending::Waits(_) | Ending::Alone => first.copy_of.is_none() && first.refusal.is_some(),
+        Ending::Waits(_) | Ending::Alone => is_refused(&exchange.first),
         Ending::Answered { answer, .. } => !answer.in_window || says_failure(&answer.says),
         Ending::SentAgain(_) => false,
         Ending::NoAnswer | Ending::NotFollowed => exchange.counts,
     }
 }
 
+/// This configuration refuses the datagram, and it is no copy.
+fn is_refused(first: &First) -> bool
+    ensures { result ≡ spec.is_refused first.now }
+{
+    first.copy_of.is_none() && first.refusal.is_some()
+}
+
 /// An answer says that something failed.
-fn says_failure(says: &Says) -> bool {
+fn says_failure(says: &Says) -> bool
+    ensures { result ≡ spec.says_failure says.now }
+{
     match says {
         Says::Engine(_) | Says::Values(..) => false,
         Says::Error(..) | Says::Report(..) | Says::Unread(_) => true,

@@ -1,11 +1,17 @@
 //! What stands at the end: how the exchanges of each user ended, and what is known of each engine.
 
+ghost use Rattle.std.specs.Prelude.{◌≡◌, IfOk, IfSome, OnOk};
+ghost use Rattle.serde_json.specs.View.{members_view, view};
+ghost use Rattle.diagnose_text.specs.Documents.{AreFactsOf, IsEngine, clock_members, engine_document};
+
 use crate::agents::Agents;
 use crate::counts::Counts;
 use crate::heads::{Stamp, clock_text};
+use crate::members::{Members, array_of, no_members, object_of, put_number, put_text};
+use crate::objects::line_of;
 use capture_files::Endpoint;
 use engine_clock::{Clocks, EngineId};
-use serde_json::{Value as Json, json};
+use serde_json::{Value as Json, put};
 use std::alloc::{AllocError, Global};
 use std::collections::BTreeSet;
 
@@ -41,11 +47,11 @@ struct EngineFacts {
 
 /// The summary as lines.
 pub(crate) fn summary_text(alloc: Global, summary: &Summary<'_>) -> Result<String, AllocError> {
-    let users = summary.counts.lines(alloc)?;
-    let mut text = format!(in alloc; "summary\n{users}")?;
-    for facts in &engines_of(alloc, summary)? {
-        let line = engine_line(alloc, facts)?;
-        text.push_str(&line)?;
+    let engines = engines_of(alloc, summary)?;
+    let mut text = String::from_str(alloc, "summary\n")?;
+    summary.counts.put_lines(alloc, &mut text)?;
+    for facts in &engines {
+        put_engine(alloc, &mut text, facts)?;
     }
     Ok(text)
 }
@@ -58,10 +64,18 @@ pub(crate) fn summary_line(alloc: Global, summary: &Summary<'_>) -> Result<Strin
         let object = engine_object(alloc, facts)?;
         engines.push(object)?;
     }
-    let engines = Json::Array(engines);
-    let object = json!(in alloc; {"summary": {"users": users, "engines": engines}})?;
-    let text = object.to_string(alloc)?;
-    format!(in alloc; "{text}\n")
+    let object = summary_object(alloc, users, array_of(engines))?;
+    line_of(alloc, &object)
+}
+
+/// The object of the summary.
+fn summary_object(alloc: Global, users: Json, engines: Json) -> Result<Json, AllocError> {
+    let mut summary = no_members(alloc);
+    put(&mut summary, alloc, "users", users)?;
+    put(&mut summary, alloc, "engines", engines)?;
+    let mut members = no_members(alloc);
+    put(&mut members, alloc, "summary", object_of(summary))?;
+    Ok(object_of(members))
 }
 
 /// What is known of the engines that are printed, in the order of their octets.
@@ -86,7 +100,9 @@ fn engines_of(alloc: Global, summary: &Summary<'_>) -> Result<Vec<EngineFacts>, 
 }
 
 /// What is known of the engine with this identifier.
-fn engine_of(octets: &[u8], clocks: &Clocks, agents: &Agents) -> Option<EngineFacts> {
+fn engine_of(octets: &[u8], clocks: &Clocks, agents: &Agents) -> Option<EngineFacts>
+    ensures { IfSome result (AreFactsOf clocks.now octets.now) }
+{
     let engine = EngineId::of(octets)?;
     let mark = clocks.mark(&engine)?;
     let agent = agents.endpoint(&engine);
@@ -99,29 +115,60 @@ fn engine_of(octets: &[u8], clocks: &Clocks, agents: &Agents) -> Option<EngineFa
     })
 }
 
-/// The line of an engine.
-fn engine_line(alloc: Global, facts: &EngineFacts) -> Result<String, AllocError> {
+/// Adds the line of an engine.
+fn put_engine(alloc: Global, out: &mut String, facts: &EngineFacts) -> Result<(), AllocError> {
     let (engine, boots, time) = (&facts.engine, facts.boots, facts.time);
     let at = Stamp {
         seconds: facts.seen,
         micros: 0,
     };
     let seen = clock_text(alloc, at)?;
-    let agent = match facts.agent {
-        Some(agent) => format!(in alloc; "; agent {agent}")?,
-        None => String::new(alloc),
-    };
-    format!(in alloc; "  engine {engine}  boots {boots}, time {time} at {seen}{agent}\n")
+    write!(
+        out,
+        "  engine {engine}  boots {boots}, time {time} at {seen}"
+    )?;
+    if let Some(agent) = facts.agent {
+        write!(out, "; agent {agent}")?;
+    }
+    out.push_str("\n")
 }
 
 /// The object of an engine.
-fn engine_object(alloc: Global, facts: &EngineFacts) -> Result<Json, AllocError> {
-    let (boots, time, seen) = (facts.boots, facts.time, facts.seen);
-    let engine = &facts.engine;
-    let engine = format!(in alloc; "{engine}")?;
+fn engine_object(alloc: Global, facts: &EngineFacts) -> Result<Json, AllocError>
+    ensures { IfOk result (λ json. IsEngine facts.now (view json)) }
+{
     let agent = match facts.agent {
         Some(agent) => Json::from(format!(in alloc; "{agent}")?),
         None => Json::Null,
     };
-    json!(in alloc; {"engine": engine, "boots": boots, "time": time, "seen": seen, "agent": agent})
+    clock_object(alloc, facts, agent)
+}
+
+/// The object of an engine that answered from there last.
+fn clock_object(alloc: Global, facts: &EngineFacts, agent: Json) -> Result<Json, AllocError>
+    ensures { IfOk result (λ json. view json ≡ engine_document facts.now (view agent)) }
+{
+    let mut members = no_members(alloc);
+    put_clock(alloc, &mut members, facts, agent)?;
+    Ok(object_of(members))
+}
+
+/// Adds what is known of an engine, and from where it answered last.
+#[tactic(auto, unfolding(crate::specs::Documents::clock_members))]
+fn put_clock(
+    alloc: Global,
+    members: &mut Members,
+    facts: &EngineFacts,
+    agent: Json,
+) -> Result<(), AllocError>
+    ensures { OnOk result (members_view members.new.entries
+        ≡ clock_members facts.now (view agent) (members_view members.old.entries)) }
+{
+    let engine = &facts.engine;
+    let engine = format!(in alloc; "{engine}")?;
+    put_text(alloc, members, "engine", &engine)?;
+    put_number(alloc, members, "boots", u64::from(facts.boots))?;
+    put_number(alloc, members, "time", u64::from(facts.time))?;
+    put_number(alloc, members, "seen", facts.seen)?;
+    put(members, alloc, "agent", agent)
 }

@@ -3,8 +3,8 @@
 ghost use Rattle.snmp_message.specs.Layout.{Outer};
 ghost use Rattle.snmp_message.specs.Message.{parts};
 
-use crate::diagnoser::user_of;
 use crate::facts::{Says, Sender, What};
+use crate::line::user_of;
 use crate::reading::{names_of, report_of};
 use engine_clock::EngineId;
 use snmp_msg::{
@@ -20,14 +20,19 @@ pub(crate) struct Unread {
     pub(crate) sender: Sender,
     pub(crate) engine: Option<EngineId>,
     pub(crate) what: What,
-    /// Whether its PDU is a request, if that isn't sealed.
+    /// Whether its PDU is a request, if that isn't sealed, or if it is known from the agents that the user names.
     pub(crate) is_request: Option<bool>,
     /// What it says, if it is a Report that isn't sealed.
     pub(crate) report: Option<Says>,
 }
 
-/// What can be said of a datagram that wasn't opened, if it is a message of SNMPv3.
-pub(crate) fn unread_in(alloc: Global, datagram: &[u8]) -> Result<Option<Unread>, AllocError> {
+/// What can be said of a datagram that wasn't opened, if it is a message of SNMPv3. If it is sealed, `told` is whether
+/// it is a request, where that is known.
+pub(crate) fn unread_in(
+    alloc: Global,
+    datagram: &[u8],
+    told: Option<bool>,
+) -> Result<Option<Unread>, AllocError> {
     let Ok(message) = read_message(datagram) else {
         return Ok(None);
     };
@@ -41,8 +46,10 @@ pub(crate) fn unread_in(alloc: Global, datagram: &[u8]) -> Result<Option<Unread>
             level: message.header.level(),
         },
         engine: EngineId::of(security.engine),
-        what: What::Sealed,
-        is_request: None,
+        what: What::Sealed {
+            is_guess: told.is_none(),
+        },
+        is_request: told,
         report: None,
     };
     if let Some(pdu) = plain_pdu(datagram, &message) {

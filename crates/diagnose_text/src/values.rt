@@ -1,5 +1,8 @@
 //! Values of variables, each with its type.
 
+ghost use Rattle.std.specs.Prelude.{IfOk, string_bytes};
+ghost use Rattle.diagnose_text.specs.Documents.{IsNameText};
+
 use snmp_ber::{read_int, read_oid, read_unsigned};
 use snmp_msg::{Binding, Syntax};
 use std::alloc::{AllocError, Global};
@@ -27,7 +30,9 @@ fn is_plain(octets: &[u8]) -> bool {
 }
 
 /// Octets as text between quotes if they can be read, and else in hex.
-pub(crate) fn octets_text(alloc: Global, octets: &[u8]) -> Result<String, AllocError> {
+pub(crate) fn octets_text(alloc: Global, octets: &[u8]) -> Result<String, AllocError>
+    ensures { IfOk result (λ text. IsNameText octets.now (string_bytes text)) }
+{
     match std::str::from_utf8(octets) {
         Ok(text) if is_plain(octets) => format!(in alloc; "\"{text}\""),
         _ => {
@@ -112,16 +117,16 @@ pub(crate) fn value_of(alloc: Global, binding: &Binding<'_>) -> Result<Value, Al
     }
 }
 
-/// A value after the name of its type.
-pub(crate) fn value_text(alloc: Global, value: &Value) -> Result<String, AllocError> {
+/// Adds a value after the name of its type.
+pub(crate) fn put_value(out: &mut String, value: &Value) -> Result<(), AllocError> {
     match value {
-        Value::Integer(number) => format!(in alloc; "INTEGER {number}"),
-        Value::Unsigned(name, number) => format!(in alloc; "{name} {number}"),
-        Value::Counter64(number) => format!(in alloc; "Counter64 {number}"),
-        Value::Text(text) => format!(in alloc; "STRING \"{text}\""),
-        Value::Identifier(text) => format!(in alloc; "OID {text}"),
-        Value::Address([a, b, c, d]) => format!(in alloc; "IpAddress {a}.{b}.{c}.{d}"),
-        Value::Octets(name, digits) => format!(in alloc; "{name} 0x{digits}"),
-        Value::Bare(name) => String::from_str(alloc, name),
+        Value::Integer(number) => write!(out, "INTEGER {number}"),
+        Value::Unsigned(name, number) => write!(out, "{name} {number}"),
+        Value::Counter64(number) => write!(out, "Counter64 {number}"),
+        Value::Text(text) => write!(out, "STRING \"{text}\""),
+        Value::Identifier(text) => write!(out, "OID {text}"),
+        Value::Address([a, b, c, d]) => write!(out, "IpAddress {a}.{b}.{c}.{d}"),
+        Value::Octets(name, digits) => write!(out, "{name} 0x{digits}"),
+        Value::Bare(name) => out.push_str(name),
     }
 }

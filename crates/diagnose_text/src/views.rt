@@ -18,7 +18,7 @@ const NO_ACCESS: i32 = 6;
 const AUTHORIZATION_ERROR: i32 = 16;
 
 /// A row of the configuration.
-#[derive(Clone, Copy, Debug, PartialEq, Eq, Drop)]
+#[derive(Clone, Copy, Drop)]
 pub(crate) struct RowPlace {
     /// Its position in its table, from 0.
     pub(crate) position: usize,
@@ -83,7 +83,7 @@ fn view_asked(what: &What) -> Option<ViewType> {
     let What::Pdu(pdu) = what else {
         return None;
     };
-    match PduType::of(pdu.tag)? {
+    match pdu.kind? {
         PduType::GetRequest | PduType::GetNextRequest | PduType::GetBulkRequest => {
             Some(ViewType::Read)
         }

@@ -5,13 +5,13 @@ use Rattle.engine_clock.specs.Saved.{BeginsWell, IsFirstFault}
 use Rattle.engine_clock.specs.declared.saved.ClockFault.{ClockFault}
 use Rattle.engine_clock.specs.declared.saved.ClockFault.TheVariants.{Line, OutOfMemory}
 
--- the fault is the text's; or it is want of memory, which comes only where the heading and an entry are as
+-- the fault is the text's; or it is OutOfMemory, which comes only where the heading and an entry are as
 -- they have to be
 abbrev pub IsFaultOf : ℕ → List ℕ → ClockFault → Type 0
 IsFaultOf now text (Line n) = IsFirstFault now text n
 IsFaultOf now text OutOfMemory = BeginsWell now text 2
 
--- the map is given back, unless there is want of memory
+-- the map is given back, unless memory runs out
 abbrev pub GivesBack : Marks → Result Marks ClockFault → Type 0
 GivesBack marks (Ok read) = read ≡ marks
 GivesBack marks (Err (Line n)) = ⊥

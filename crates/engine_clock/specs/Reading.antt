@@ -14,7 +14,7 @@ IsTail WithMoments text time seen rest = (text ≡ time ++ (32 ∷ (decimal seen
     × (seen < 2 ^ 64)
 IsTail (ReadAt now) text time seen rest = (text ≡ time ++ (10 ∷ rest)) × Lacks 10 time × (seen ≡ now) × (seen < 2 ^ 64)
 
--- the fault is the text's in this form; or it is want of memory, which comes only where an entry is as it has to be
+-- the fault is the text's in this form; or it is OutOfMemory, which comes only where an entry is as it has to be
 abbrev pub IsFaultIn : Form → List ℕ → ClockFault → Type 0
 IsFaultIn form text (Line n) = IsFirstFaultBy (heading_in form) (line_in form) (FitsIn form) text n
 IsFaultIn form text OutOfMemory = BeginsWellBy (heading_in form) (line_in form) (FitsIn form) text 2

@@ -64,7 +64,7 @@ impl Model for Agent {
 }
 
 impl Agent {
-    ghost use Rattle.std.specs.Prelude.{◌≢◌, All, map, length, IfOk, IsOk, IfSome, IsErrOf};
+    ghost use Rattle.std.specs.Prelude.{◌≢◌, All, map, length, IfOk, IsOk, IfSome};
     ghost use Rattle.snmp_message.specs.Scoped.{Contexts, ScopedFront};
     ghost use Rattle.snmp_msg.specs.PduTypes.{pdu_tag};
     ghost use Rattle.snmp_msg.specs.declared.pdu_type.PduType.TheVariants.{GetRequest, SetRequest, SNMPv2Trap};

@@ -1,6 +1,6 @@
 //! The report of one counter (RFC 3412, section 7.1, step 3).
 
-ghost use Rattle.std.specs.Prelude.{◌≡◌, ◌+◌, ◌<◌, length, IfSome, IsErrOf};
+ghost use Rattle.std.specs.Prelude.{◌≡◌, ◌+◌, ◌<◌, length, IfSome};
 ghost use Rattle.snmp_ber.specs.Oid.{IsObjectId};
 ghost use Rattle.usm_core.specs.Sealed.{Seals, IsSealable};
 ghost use Rattle.snmp_outgoing.specs.Sends.{sent_with};

@@ -1,7 +1,7 @@
 //! What an agent does with the messages that it accepts (RFC 3412, sections 4.2.2 and 7.1; RFC 3413, section
 //! 3.2), and Responses within a limit.
 
-ghost use Rattle.std.specs.Prelude.{◌≡◌, [], All, map, take, IfOk, IfSome, OnErr, IsErrOf, Some};
+ghost use Rattle.std.specs.Prelude.{◌≡◌, [], All, map, take, IfOk, IfSome, OnErr, Some};
 ghost use Rattle.snmp_message.specs.Scoped.{Contexts, ScopedFront, contexts_of};
 ghost use Rattle.snmp_msg.specs.Pdu.{PduParts, PduText, pdu_of};
 ghost use Rattle.snmp_msg.specs.Variables.{CanBeWritten, variable_of};

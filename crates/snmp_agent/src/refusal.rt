@@ -1,6 +1,6 @@
 //! Reports on accepted messages that nothing handles.
 
-ghost use Rattle.std.specs.Prelude.{◌≡◌, IfSome, IsErrOf};
+ghost use Rattle.std.specs.Prelude.{◌≡◌, IfSome};
 ghost use Rattle.snmp_msg.specs.Pdu.{pdu_of};
 ghost use Rattle.usm_core.specs.Sealed.{Seals, IsSealable};
 ghost use Rattle.snmp_incoming.specs.Answers.{given_of};

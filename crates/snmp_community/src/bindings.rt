@@ -7,7 +7,7 @@ ghost use Rattle.snmp_msg.specs.Pdu.{PduText, pdu_text};
 ghost use Rattle.snmp_msg.specs.PduTypes.{IsPduTag};
 ghost use Rattle.snmp_msg.specs.Variables.{AreBindings, variables_text};
 ghost use Rattle.snmp_community.specs.Layout.{IsMessage};
-ghost use Rattle.snmp_community.specs.Spelling.{front_text, community_text, written};
+ghost use Rattle.snmp_community.specs.Spelling.{front_text, written};
 ghost use Rattle.snmp_community.specs.Fronts.{pdu_before, pdu_after, text_after};
 
 use crate::version::Version;

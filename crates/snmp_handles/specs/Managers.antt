@@ -79,7 +79,7 @@ ClearsManager old (Err fault) new = (fault ≡ Refused OutOfMemory) × (new ≡ 
 
 -- ---- taking
 
--- An accepted datagram is kept. The request that is waited for stays. Want of memory leaves the manager as it was.
+-- An accepted datagram is kept. The request that is waited for stays. Where memory runs out, the manager is as it was.
 abbrev pub ManagerTakes : {V : Type 0} → ManagerHeld → ℕ → List ℕ → Result V CallFault → ManagerHeld → Type 0
 ManagerTakes old now w (Ok done) new =
     (g : Given) × (new.last ≡ Some g) × (new.message ≡ None) × (new.pending ≡ old.pending)

@@ -1,10 +1,9 @@
 //! Messages that go out.
 
-ghost use Rattle.std.specs.Prelude.{◌≡◌, ◌+◌, ◌<◌, ◌≤◌, All, [], length, map, take, IfOk, IfSome, MatchResult, OnOk};
-ghost use Rattle.std.specs.Prelude.{Ok, OnErr, true};
+ghost use Rattle.std.specs.Prelude.{◌≡◌, ◌+◌, ◌<◌, ◌≤◌, All, [], length, map, take, IfOk, IfSome, MatchResult};
+ghost use Rattle.std.specs.Prelude.{Ok};
 ghost use Rattle.snmp_ber.specs.declared.level.Level.TheVariants.{NoAuthNoPriv};
 ghost use Rattle.engine_clock.specs.Pairs.{IsPair};
-ghost use Rattle.usm_users.specs.Users.{HasUserAt};
 ghost use Rattle.usm_core.specs.Answers.{seal_answer};
 ghost use Rattle.usm_core.specs.Sealed.{Seals, IsSealable};
 ghost use Rattle.snmp_outgoing.specs.Sends.{sent, sent_with, CanSend, RefusesSender};
@@ -12,7 +11,7 @@ ghost use Rattle.snmp_outgoing.specs.Fronts.{IsBeyond, SealsFront, front_answer,
 ghost use Rattle.snmp_outgoing.specs.UpTo.{UpTo};
 ghost use Rattle.snmp_msg.specs.Pdu.{IsSpelled};
 ghost use Rattle.snmp_msg.specs.PduTypes.{IsPduTag};
-ghost use Rattle.snmp_outgoing.specs.Bodies.{has_auth, scoped_of, pdu_in, scoped_after, pdu_after, BodyFits};
+ghost use Rattle.snmp_outgoing.specs.Bodies.{scoped_of, pdu_in, scoped_after, pdu_after, BodyFits};
 ghost use Rattle.snmp_message.specs.declared.refusal.Refusal.TheVariants.{OutOfMemory, TooLarge};
 ghost use Rattle.snmp_message.specs.Refusals.{IsRefused};
 

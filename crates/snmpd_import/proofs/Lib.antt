@@ -4,3 +4,5 @@ pub mod Covering
 pub mod Makers
 pub mod LastUsers
 pub mod SecurityNames
+pub mod Printing
+pub mod Sharing

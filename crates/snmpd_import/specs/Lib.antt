@@ -1,4 +1,6 @@
 pub mod Rows
+pub mod Shared
+pub mod SharedLaws
 pub mod Known
 pub mod Notes
 pub mod Users

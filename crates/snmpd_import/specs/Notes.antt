@@ -1,8 +1,8 @@
 -- What is told of each line that isn't a row, and of each row that isn't printed.
 --
--- `tells item`. The place and the kind of the note on a line, none on a row, on an empty line and on one
--- that begins a section (`kind_of`). `IsSerious`: with such a note the configuration may not be what snmpd
--- does.
+-- `tells item`. The place and the kind of the note on a line, none on a row that is as it looks, on an empty
+-- line and on one that begins a section (`kind_of`). `IsSerious`: with such a note the configuration may not
+-- be what snmpd does.
 use Rattle.std.specs.Prelude.{⊤, ◌||◌, if◌then◌else◌, List, [], ◌∷◌, Option, Some, None}
 use Rattle.snmpd_lines.specs.declared.fault.LineFault.{LineFault}
 use Rattle.snmpd_lines.specs.declared.fault.LineFault.TheVariants as faults
@@ -11,6 +11,7 @@ use Rattle.snmpd_rows.specs.declared.entries.Note.TheVariants as notes
 use Rattle.snmpd_rows.specs.declared.entries.Entry.{Entry}
 use Rattle.snmpd_rows.specs.declared.entries.Entry.TheVariants as entries
 use Rattle.snmpd_lines.specs.declared.types.Types.{Types}
+use Rattle.snmpd_rows.specs.declared.views.FamilyLine.{FamilyLine}
 use Rattle.snmpd_rows.specs.declared.simple.Who.{Who}
 use Rattle.snmpd_rows.specs.declared.simple.Who.TheVariants as whom
 use Rattle.snmpd_rows.specs.declared.simple.Simple.{Simple}
@@ -90,15 +91,20 @@ user_kind created =
     created.protection.privacy then Some LeftOut
     else (if is_defaulted created.protection.authentication then Some Differs else None)
 
+-- snmpd reads a mask otherwise than its digits look
+abbrev pub family_kind : FamilyLine → Option Kind
+family_kind line = if line.has_long_octet then Some Differs else None
+
 abbrev pub entry_kind : Entry → Option Kind
 entry_kind (entries.Told note) = Some (note_kind note)
 entry_kind (entries.Simple simple) = simple_kind simple
 entry_kind (entries.Set setting) = set_kind setting.types
 entry_kind (entries.User created) = user_kind created
+entry_kind (entries.Family line) = family_kind line
 entry_kind _ = None
 
--- of what kind the note on a line is; none is on a row, on a simple line whose lines say all, on an empty
--- line, and on one that begins a section
+-- of what kind the note on a line is; none is on a row that is as it looks, on a simple line whose lines say
+-- all, on an empty line, and on one that begins a section
 abbrev pub kind_of : Made → Option Kind
 kind_of (made.Entry entry) = entry_kind entry
 kind_of made.NotText = Some LeftOut

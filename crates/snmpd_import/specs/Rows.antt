@@ -2,9 +2,10 @@
 --
 -- `ComesTo items contexts text told`. The users and the rows that count after what the lines mean
 -- (`AreKept`), with these contexts, are what the text says (`Prints`): it is a configuration with these
--- users (`AreUsersOf`), whose tables are those rows, row by row (`AreTablesOf`). `TellsAll`: what is told
--- of lines, of rows that lines changed, of second rows, and of other choices of snmpd.
-use Rattle.std.specs.Prelude.{◌≡◌, ◌<◌, ℕ, List, ◌++◌, length, get_or, map}
+-- users (`AreUsersOf`), whose tables are those rows, row by row (`AreTablesOf`). An access row that names the
+-- view `none` names no view, if no view has that name (`ArePrinted`). `TellsAll`: what is told of lines, of
+-- rows that lines changed, of second rows, of users who share a group, and of other choices of snmpd.
+use Rattle.std.specs.Prelude.{◌≡◌, ◌<◌, ℕ, Bool, true, false, List, [], ◌++◌, length, get_or, map, codes, Contains}
 use Rattle.std.specs.List.{flat_map}
 use Rattle.vacm_core.specs.Tables.{Tables}
 use Rattle.vacm_core.specs.declared.rows.ContextRow.{ContextRow}
@@ -22,6 +23,7 @@ use Rattle.snmpd_import.specs.declared.notes.Kind.{Kind}
 use Rattle.snmpd_import.specs.Notes.{tells as tells_of, change_told, difference_told}
 use Rattle.snmpd_import.specs.Users.{said_with_place, AreUsers, AreUsersOf}
 use Rattle.snmpd_import.specs.Duplicates.{TellsSeconds}
+use Rattle.snmpd_import.specs.Shared.{TellsSharers}
 use Rattle.usm_users.specs.declared.load.UserRow.{UserRow}
 use Rattle.snmpd_tables.specs.Compared.{Sides, TellsDifferences}
 use Rattle.snmpd_tables.specs.declared.comparison.Difference.{Difference}
@@ -43,6 +45,52 @@ abbrev pub Prints : KeptRows → List ℕ → Type 0
 Prints kept text = (users : List UserRow) × (rows : Tables) × SaysSound text users rows
     × AreUsersOf kept.users.items users × AreTablesOf kept rows
 
+-- ---- the view `none`
+
+-- a view has the name `none`
+abbrev pub HasNone : List HeldFamily → Type 0
+HasNone families = (held : HeldFamily) × Contains families held × (held.row.view ≡ codes "none")
+
+-- the name of a view as it is printed: that of no view for `none`, where no view has that name
+pub record IsPrintedView (has_none : Bool) (view printed : List ℕ) : Type 0 where
+  pub none : has_none ≡ false → view ≡ codes "none" → printed ≡ []
+  pub other : (has_none ≡ false → view ≡ codes "none" → ⊥) → printed ≡ view
+
+-- the row as it is printed: with its place, its index and its match, and the views
+pub record IsPrinted (has_none : Bool) (held printed : HeldAccess) : Type 0 where
+  pub place : printed.place ≡ held.place
+  pub group : printed.row.group ≡ held.row.group
+  pub prefix : printed.row.prefix ≡ held.row.prefix
+  pub model : printed.row.model ≡ held.row.model
+  pub level : printed.row.level ≡ held.row.level
+  pub matching : printed.row.matching ≡ held.row.matching
+  pub read : IsPrintedView has_none held.row.read printed.row.read
+  pub write : IsPrintedView has_none held.row.write printed.row.write
+  pub notify : IsPrintedView has_none held.row.notify printed.row.notify
+
+-- row by row the access rows are printed so
+pub record ArePrintedRows (has_none : Bool) (kept printed : List HeldAccess) : Type 0 where
+  pub count : length printed ≡ length kept
+  pub each : (k : ℕ) (d e : HeldAccess) → k < length kept
+      → IsPrinted has_none (get_or kept k d) (get_or printed k e)
+
+-- whether a view has the name `none`
+abbrev pub TellsNone : List HeldFamily → Bool → Type 0
+TellsNone families true = HasNone families
+TellsNone families false = HasNone families → ⊥
+
+-- What is kept is printed so: only the access rows are others.
+pub record ArePrinted (kept printed : KeptRows) : Type 0 where
+  pub users : printed.users ≡ kept.users
+  pub contexts : printed.contexts ≡ kept.contexts
+  pub groups : printed.groups ≡ kept.groups
+  pub families : printed.families ≡ kept.families
+  pub has_none : Bool
+  pub tells_none : TellsNone kept.families.items has_none
+  pub access : ArePrintedRows has_none kept.access.items printed.access.items
+
+-- ---- what the lines come to
+
 -- The lines come to these users, and of what snmpd holds after them these rows count.
 pub record AreKept (lines : List Item) (held : HeldTables) (kept : KeptRows) : Type 0 where
   pub users : AreUsers lines (map said_with_place kept.users.items)
@@ -59,20 +107,23 @@ compared held kept = record {
   kept = kept.access.items;
 }
 
--- What is told, in this order: of each of the lines that makes no row; of each that changed a row of another
--- index than its own; of rows beside which others count; and of each row that snmpd chooses for messages for
--- which RFC 3415 comes to other views, over the rows that are kept.
+-- What is told, in this order: of each of the lines that makes no row, or one that isn't as it looks; of each that
+-- changed a row of another index than its own; of rows beside which others count; of users who share a group that
+-- snmpd has named; and of each row that snmpd chooses for messages for which RFC 3415 comes to other views, over
+-- the rows that are kept.
 pub record TellsAll (lines : List Item) (held : HeldTables) (kept : KeptRows)
     (told : List (Place × Kind)) : Type 0 where
   pub second : List (Place × Kind)
   pub seconds : TellsSeconds lines held kept second
+  pub shared : List (Place × Kind)
+  pub sharers : TellsSharers lines shared
   pub differences : List Difference
   pub differ : TellsDifferences (compared held kept) differences
-  pub tells : told ≡ flat_map tells_of lines ++ map change_told held.changes ++ second
+  pub tells : told ≡ flat_map tells_of lines ++ map change_told held.changes ++ second ++ shared
       ++ map difference_told differences
 
 -- The lines come to the text, and this is told of them: the rows that count after what they mean, with these
--- contexts, are what the text says.
+-- contexts, are what the text says, as they are printed.
 pub record ComesTo (items : List Item) (contexts : List ContextRow) (text : List ℕ)
     (told : List (Place × Kind)) : Type 0 where
   pub meant : List Item
@@ -82,5 +133,7 @@ pub record ComesTo (items : List Item) (contexts : List ContextRow) (text : List
   pub holds : HoldsAfter at_start meant held
   pub are_kept : AreKept meant held kept
   pub are_contexts : kept.contexts.items ≡ contexts
-  pub prints : Prints kept text
+  pub printed : KeptRows
+  pub are_printed : ArePrinted kept printed
+  pub prints : Prints printed text
   pub tells_all : TellsAll meant held kept told

@@ -25,15 +25,15 @@ use std::alloc::{AllocError, Global};
 use std::collections::BTreeMap;
 use vacm_core::{FamilyRow, GroupRow, Matching, Name};
 
-/// What a row is beside which another one counts, and where that is from.
-#[derive(Clone, Copy, Debug, PartialEq, Eq)]
-struct Second {
-    kind: Kind,
-    first: Place,
+/// What a row is beside which another one counts.
+#[derive(Drop)]
+pub(crate) struct Second {
+    pub kind: Kind,
+    pub why: Why,
 }
 
 /// A row that snmpd holds.
-trait Beside: Held {
+pub(crate) trait Beside: Held {
     /// Where the rows that count stand.
     type Places: Drop;
 
@@ -76,7 +76,7 @@ fn second_user(
     match user_behind(items, last, at, &created.name) {
         Some(first) => Some(Second {
             kind: Kind::Ignored,
-            first,
+            why: Why::Same(first),
         }),
         None => None,
     }
@@ -113,7 +113,7 @@ impl Beside for HeldGroup {
             if first.place != self.place && is_for(&self.row, &first.row) {
                 return Some(Second {
                     kind: Kind::Ignored,
-                    first: first.place,
+                    why: Why::Same(first.place),
                 });
             }
         }
@@ -159,7 +159,7 @@ impl Beside for HeldAccess {
         }
         Some(Second {
             kind: access_kind(first.row.matching, self.row.matching),
-            first: first.place,
+            why: Why::Same(first.place),
         })
     }
 }
@@ -221,7 +221,7 @@ impl Beside for HeldFamily {
         }
         Some(Second {
             kind: family_kind(&first.row, &self.row),
-            first: first.place,
+            why: Why::Same(first.place),
         })
     }
 }
@@ -245,7 +245,7 @@ fn put_second(
         place,
         kind: second.kind,
         word: Vec::from_slice(alloc, word)?,
-        why: Why::Same(second.first),
+        why: second.why,
     })?;
     Ok(())
 }
@@ -264,7 +264,7 @@ fn user_notes(alloc: Global, items: &[Item]) -> Result<Vec<Told>, AllocError>
 }
 
 /// The notes on rows that don't count, each with the directive's word.
-fn row_notes<R: Beside>(
+pub(crate) fn row_notes<R: Beside>(
     alloc: Global,
     word: &[u8],
     held: &[R],

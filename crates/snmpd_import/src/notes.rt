@@ -8,7 +8,7 @@ ghost use Rattle.snmpd_import.specs.Notes.{told_of, tells};
 
 use crate::users::{is_bad_name, is_defaulted, lacks_auth, lacks_privacy};
 use snmpd_lines::{CreateUserFault, Created, Directive, LineFault, Types};
-use snmpd_rows::{Entry, Note, Simple, Who};
+use snmpd_rows::{Entry, FamilyLine, Note, Simple, Who};
 use snmpd_tables::{Difference, Followed, Include, Item, Made, Place};
 use std::alloc::{AllocError, Global};
 use std::fmt;
@@ -19,6 +19,10 @@ const NO_TYPE: &str = "a word that is for no type of views";
 /// Why a line for a community has a note.
 const COMMUNITY: &str =
     "messages of SNMPv1 and SNMPv2c are refused here; its rows are for a name of its own";
+
+/// Why a view has a note whose mask has more hex digits one behind another than an octet has.
+const LONG_OCTET: &str =
+    "hex digits without a colon between them are one octet, for which the last two count";
 
 /// What a note says of a line or a row.
 #[derive(Clone, Copy, Debug, PartialEq, Eq)]
@@ -66,6 +70,8 @@ pub enum Why {
     NoUser(CreateUserFault),
     /// The row from there has the same index.
     Same(Place),
+    /// The user from there is in the same group.
+    Shared(Place),
     /// The line changed the row from there, which has another index than the line names.
     Changed(Place),
     /// RFC 3415 chooses another row for such messages.
@@ -242,6 +248,16 @@ fn of_user(created: &Created) -> Option<Reason>
     Some(because(kind, words))
 }
 
+/// The same of a view, where snmpd reads its mask otherwise than it looks.
+fn of_family(line: &FamilyLine) -> Option<Reason>
+    ensures { option_map (λ reason. reason.kind) result ≡ spec.family_kind line.now }
+{
+    if line.has_long_octet {
+        return Some(because(Kind::Differs, LONG_OCTET));
+    }
+    None
+}
+
 /// The same of a line, where it has a note.
 fn of_line(made: &Made) -> Option<Reason>
     ensures { option_map (λ reason. reason.kind) result ≡ spec.kind_of made.now }
@@ -251,6 +267,7 @@ fn of_line(made: &Made) -> Option<Reason>
         Made::Entry(Entry::Simple(simple)) => of_simple(simple),
         Made::Entry(Entry::Set(setting)) => of_set(setting.types),
         Made::Entry(Entry::User(created)) => of_user(created),
+        Made::Entry(Entry::Family(line)) => of_family(line),
         Made::Entry(_) => None,
         Made::NotText => Some(because(Kind::LeftOut, "a name isn't UTF-8")),
         Made::Include(include) => Some(of_include(include)),
@@ -275,7 +292,8 @@ fn put_note(alloc: Global, notes: &mut Vec<Told>, item: &Item) -> Result<(), All
     Ok(())
 }
 
-/// The notes on these lines, one for each that is neither a row nor empty nor begins a section, in their order.
+/// The notes on these lines, in their order: one for each that is neither a row nor empty nor begins a section,
+/// and for each row that is otherwise than its line looks.
 ///
 /// The error is out of memory.
 pub fn line_notes(alloc: Global, items: &[Item]) -> Result<Vec<Told>, AllocError>

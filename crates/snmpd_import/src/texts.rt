@@ -62,6 +62,17 @@ fn put_same(
     out.extend_from_slice(b" has the same index")
 }
 
+/// Appends the user from there, who is in the same group.
+fn put_shared(
+    alloc: Global,
+    out: &mut Vec<u8>,
+    files: &[String],
+    place: Place,
+) -> Result<(), AllocError> {
+    out.extend_from_slice(b": the user shares the group with another, of ")?;
+    put_place(alloc, out, files, place)
+}
+
 /// Appends the row from there, which was changed.
 fn put_changed(
     alloc: Global,
@@ -128,6 +139,7 @@ fn put_why(
         Why::Fault(fault) => { out.extend_from_slice(format!(in alloc; ": {fault}")?.as_bytes()) }
         Why::NoUser(fault) => { out.extend_from_slice(format!(in alloc; ": {fault}")?.as_bytes()) }
         Why::Same(place) => put_same(alloc, out, files, *place),
+        Why::Shared(place) => put_shared(alloc, out, files, *place),
         Why::Changed(place) => put_changed(alloc, out, files, *place),
         Why::Chosen(difference) => put_chosen(alloc, out, files, difference),
     }

@@ -33,7 +33,7 @@ no_hex_at [] (suc i) none begins = begins
 no_hex_at (octet ∷ text) zero none begins = let wrong = none begins.0 begins.1 (below_16 octet begins.0 begins.1) in cc wrong
 no_hex_at (octet ∷ text) (suc i) none begins = no_hex_at text i none begins
 
-no_hex_behind : (text : List ℕ) (i : ℕ) → length text ≤ i → BeginsHex (drop i text) → ⊥
+pub no_hex_behind : (text : List ℕ) (i : ℕ) → length text ≤ i → BeginsHex (drop i text) → ⊥
 no_hex_behind [] zero all begins = begins
 no_hex_behind [] (suc i) all begins = begins
 no_hex_behind (octet ∷ text) zero all begins = absurd (omega arith)

@@ -1,8 +1,10 @@
 -- Masks of views, as snmpd.conf has them: octets in hex, cut at spaces, dots and colons (net-snmp 5.9.3).
 --
 -- `AreMaskOctets text octets`. Each token is one octet (`IsMaskOctet`): the longest front of hex digits
--- (`IsHexFront`) behind blanks, a sign and 0x (`HasDigitsAt`), modulo 256.
+-- (`IsHexFront`) behind blanks, a sign and 0x (`HasDigitsAt`), modulo 256. `HasLongOctet text`: three
+-- hex digits stand one behind another, and not all of them count.
 use Rattle.std.specs.Prelude.{◌≡◌, ◌≢◌, ◌⊎◌, ℕ, ◌+◌, ◌%◌, ◌<◌, ◌≤◌, Bool, true, false, List, [], ◌∷◌, ◌++◌, length}
+use Rattle.std.specs.Prelude.{drop}
 use Rattle.std.specs.List.{AllByRecursion}
 use Rattle.snmpd_lines.specs.Words.{IsBehindBlanks, IsCut, TakesPart}
 use Rattle.snmpd_lines.specs.Subtrees.{IsDigit, AreDigits, number, IsX}
@@ -15,6 +17,14 @@ use Rattle.snmpd_lines.specs.declared.fault.LineFault.TheVariants.{Refused}
 abbrev pub BeginsHex : List ℕ → Type 0
 BeginsHex [] = ⊥
 BeginsHex (octet ∷ text) = (value : ℕ) × IsDigit octet value
+
+-- three hex digits stand here, one behind another
+abbrev pub IsLongAt : List ℕ → ℕ → Type 0
+IsLongAt text at = BeginsHex (drop at text) × BeginsHex (drop (at + 1) text) × BeginsHex (drop (at + 2) text)
+
+-- Somewhere in the text three hex digits stand one behind another, without a mark between them.
+abbrev pub HasLongOctet : List ℕ → Type 0
+HasLongOctet text = (at : ℕ) × IsLongAt text at
 
 -- The text begins with hex digits, at least one and as many as there are; the octet is the number that they
 -- write, modulo 256.

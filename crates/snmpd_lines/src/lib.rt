@@ -35,7 +35,7 @@ mod words;
 pub use directives::{Directive, directive_of};
 pub use fault::{LineFault, LineRefusal};
 pub use lines::{Line, Section, read_line};
-pub use masks::{MASK_ROOM, mask_octets};
+pub use masks::{MASK_ROOM, has_long_octet, mask_octets};
 pub use protocols::{Cipher, Hash, cipher_of, hash_of};
 pub use subtrees::{Subtree, subtree_of};
 pub use types::{Types, ViewWord, types_of};

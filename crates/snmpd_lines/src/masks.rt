@@ -1,8 +1,8 @@
 //! Masks of views: octets in hex, cut at spaces, dots and colons.
 
-ghost use Rattle.std.specs.Prelude.{◌≡◌, ◌↔◌, ◌+◌, ◌*◌, ◌%◌, ◌<◌, IsTrue, IfSome, IfNone, IfOk, IfErr};
+ghost use Rattle.std.specs.Prelude.{◌≡◌, ◌↔◌, ◌+◌, ◌*◌, ◌%◌, ◌<◌, length, IsTrue, IfSome, IfNone, IfOk, IfErr};
 ghost use Rattle.snmpd_lines.specs.Masks.{BeginsHex, IsHexFront, IsBehindPrefix, IsBehindSign, IsSigned, IsMaskOctet};
-ghost use Rattle.snmpd_lines.specs.Masks.{IsNoMaskOctet, AreMaskOctets, TellsNoMask};
+ghost use Rattle.snmpd_lines.specs.Masks.{IsNoMaskOctet, AreMaskOctets, TellsNoMask, IsLongAt, HasLongOctet};
 
 use crate::fault::{LineFault, LineRefusal};
 use crate::subtrees::{digit_of, is_x};
@@ -110,4 +110,25 @@ pub fn mask_octets(text: &[u8]) -> Result<ArrayVec<u8, MASK_ROOM>, LineFault>
         rest = later;
     }
     Ok(octets)
+}
+
+/// Three hex digits stand here, one behind another.
+fn is_long_at(text: &[u8], at: usize) -> bool
+    requires { at + 2 < length text.now }
+    ensures { IsTrue result ↔ IsLongAt text.now at }
+{
+    begins_hex(&text[at..]) && begins_hex(&text[at + 1..]) && begins_hex(&text[at + 2..])
+}
+
+/// Somewhere in a mask three hex digits stand one behind another, without a mark between them. Not all of
+/// them count: snmpd reads one octet.
+pub fn has_long_octet(text: &[u8]) -> bool
+    ensures { IsTrue result ↔ HasLongOctet text.now }
+{
+    for at in 0..text.len().saturating_sub(2) {
+        if is_long_at(text, at) {
+            return true;
+        }
+    }
+    false
 }

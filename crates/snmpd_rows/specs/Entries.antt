@@ -95,7 +95,8 @@ IsEntry force line Nothing = IsLine force line lines.Nothing
 IsEntry force line (Begins section) = IsLine force line (lines.Begins section)
 IsEntry force line (Group row) = (text : List ℕ) × HasText force line directives.Group text × SaysGroup text row
 IsEntry force line (Access row) = (text : List ℕ) × HasText force line directives.Access text × SaysAccess text row
-IsEntry force line (Family row) = (text : List ℕ) × HasText force line directives.View text × SaysFamily text row
+IsEntry force line (Family family) = (text : List ℕ) × HasText force line directives.View text
+    × SaysFamily text family
 IsEntry force line (Set setting) = (directive : Directive) × (text : List ℕ) × HasText force line directive text
     × SaysSet directive text setting
 IsEntry force line (User created) = (text : List ℕ) × HasText force line directives.CreateUser text
@@ -108,7 +109,7 @@ IsEntry force line (Told note) = IsNote force line note
 abbrev pub IsMade : Directive → List ℕ → Entry → Type 0
 IsMade directive text (Group row) = (directive ≡ directives.Group) × SaysGroup text row
 IsMade directive text (Access row) = (directive ≡ directives.Access) × SaysAccess text row
-IsMade directive text (Family row) = (directive ≡ directives.View) × SaysFamily text row
+IsMade directive text (Family line) = (directive ≡ directives.View) × SaysFamily text line
 IsMade directive text (Set setting) = SaysSet directive text setting
 IsMade directive text (User created) = (directive ≡ directives.CreateUser) × SaysUser text created
 IsMade directive text (Simple simple) = SaysSimpleLine directive text simple

@@ -1,10 +1,10 @@
 -- What a line `view VIEW TYPE SUBTREE [MASK]` makes: a row of vacmViewTreeFamilyTable (net-snmp 5.9.3).
 use Rattle.std.specs.Prelude.{◌≡◌, ◌⊎◌, ℕ, ◌+◌, ◌/◌, ◌<◌, ◌≤◌, Bool, true, false, List, [], ◌∷◌, ◌++◌, take, length}
-use Rattle.std.specs.Prelude.{codes}
-use Rattle.vacm_core.specs.declared.rows.FamilyRow.{FamilyRow}
+use Rattle.std.specs.Prelude.{codes, ◌↔◌, IsTrue}
+use Rattle.snmpd_rows.specs.declared.views.FamilyLine.{FamilyLine}
 use Rattle.snmpd_rows.specs.Accesses.{AreTokens, HasFewer}
 use Rattle.snmpd_lines.specs.Subtrees.{SaysSubtree}
-use Rattle.snmpd_lines.specs.Masks.{AreMaskOctets, TellsNoMask}
+use Rattle.snmpd_lines.specs.Masks.{AreMaskOctets, HasLongOctet, TellsNoMask}
 use Rattle.snmpd_lines.specs.declared.subtrees.Subtree.{Subtree}
 use Rattle.snmpd_lines.specs.declared.subtrees.Subtree.TheVariants as subtrees
 use Rattle.snmpd_lines.specs.declared.fault.LineRefusal.TheVariants as refusals
@@ -33,17 +33,18 @@ held_mask octets subtree = take ((length subtree + 7) / 8) octets
 pub record AreViewWords (text view type subtree mask : List ℕ) : Type 0 where
   pub tokens : AreTokens text (view ∷ type ∷ subtree ∷ []) mask
 
--- The line makes the row.
-pub record SaysFamily (text : List ℕ) (row : FamilyRow) : Type 0 where
+-- The line makes the row; and whether not all digits of its mask count.
+pub record SaysFamily (text : List ℕ) (line : FamilyLine) : Type 0 where
   pub type : List ℕ
   pub subtree : List ℕ
   pub mask : List ℕ
   pub octets : List ℕ
-  pub words : AreViewWords text row.view type subtree mask
-  pub is_type : IsType type row.include
-  pub is_subtree : IsSubtree subtree (subtrees.Numbers row.subtree)
+  pub words : AreViewWords text line.row.view type subtree mask
+  pub is_type : IsType type line.row.include
+  pub is_subtree : IsSubtree subtree (subtrees.Numbers line.row.subtree)
   pub are_octets : AreMaskOctets mask octets
-  pub held : row.mask ≡ held_mask octets row.subtree
+  pub held : line.row.mask ≡ held_mask octets line.row.subtree
+  pub long : IsTrue line.has_long_octet ↔ HasLongOctet mask
 
 -- a word for the type, and a subtree in numbers
 pub record AreSound (type subtree : List ℕ) (said : Subtree) : Type 0 where

@@ -13,13 +13,13 @@ use crate::group_views::auth_access;
 use crate::groups::group_row;
 use crate::settings::{Setting, set_access};
 use crate::simple::{Simple, SimpleKind, simple_line, simple_of};
-use crate::views::family_row;
+use crate::views::{FamilyLine, family_line};
 use snmpd_lines::{
     CreateUserFault, Created, Directive, Line, LineFault, Section, Types, directive_of, is_blank,
     read_line, user_line,
 };
 use std::alloc::{AllocError, Global};
-use vacm_core::{AccessRow, FamilyRow, GroupRow};
+use vacm_core::{AccessRow, GroupRow};
 
 /// Why a line makes no row.
 #[derive(Clone, Copy, Debug, PartialEq, Eq, Drop)]
@@ -49,7 +49,7 @@ pub enum Entry {
     Begins(Section),
     Group(GroupRow),
     Access(AccessRow),
-    Family(FamilyRow),
+    Family(FamilyLine),
     /// What a simple line says: the lines that it stands for make its rows.
     Simple(Simple),
     /// Views that are set.
@@ -128,8 +128,8 @@ pub fn entry_of(alloc: Global, directive: Directive, text: &[u8]) -> Result<Entr
             Ok(row) => Ok(Entry::Access(row)),
             Err(fault) => note_of(directive, fault),
         },
-        Directive::View => match family_row(text) {
-            Ok(row) => Ok(Entry::Family(row)),
+        Directive::View => match family_line(text) {
+            Ok(line) => Ok(Entry::Family(line)),
             Err(fault) => note_of(directive, fault),
         },
         Directive::SetAccess => match set_access(text) {

@@ -43,4 +43,4 @@ pub use groups::group_row;
 pub use line::MadeLine;
 pub use settings::{Setting, set_access};
 pub use simple::{Named, Reach, Simple, SimpleKind, Versions, View, Who, simple_line};
-pub use views::family_row;
+pub use views::{FamilyLine, family_line};

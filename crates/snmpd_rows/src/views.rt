@@ -5,11 +5,21 @@ ghost use Rattle.snmpd_rows.specs.Accesses.{HasFewer};
 ghost use Rattle.snmpd_rows.specs.Views.{IsType, IsWithoutDot, held_mask, AreViewWords, SaysFamily, TellsNoFamily};
 
 use snmp_ber::Oid;
-use snmpd_lines::{LineFault, LineRefusal, Subtree, mask_octets, subtree_of, take_token};
+use snmpd_lines::{
+    LineFault, LineRefusal, Subtree, has_long_octet, mask_octets, subtree_of, take_token,
+};
 use vacm_core::{FamilyRow, Mask, Name};
 
 /// The bits of an octet.
 const OCTET_BITS: usize = 8;
+
+/// What a line `view` makes.
+#[derive(Drop)]
+pub struct FamilyLine {
+    pub row: FamilyRow,
+    /// In its mask three hex digits stand one behind another: snmpd reads one octet, for which not all of them count.
+    pub has_long_octet: bool,
+}
 
 /// The words of a line, and its mask.
 #[derive(Clone, Copy)]
@@ -71,12 +81,12 @@ fn mask_of(octets: &[u8], subtree: &Oid) -> Mask
     }
 }
 
-/// The row of a line `view VIEW included|excluded SUBTREE [MASK]`, given what follows the directive.
+/// What a line `view VIEW included|excluded SUBTREE [MASK]` makes, given what follows the directive.
 ///
 /// The fault is the first of `MissingWord`, `BadType`, `NotInNumbers`, `BadMask` or `LongMask`, `LongIndex`
 /// and `OutOfReach`.
-pub fn family_row(text: &[u8]) -> Result<FamilyRow, LineFault>
-    ensures row { IfOk result (SaysFamily text.now) }
+pub fn family_line(text: &[u8]) -> Result<FamilyLine, LineFault>
+    ensures line { IfOk result (SaysFamily text.now) }
     ensures fault { IfErr result (TellsNoFamily text.now) }
 {
     let Some(words) = take_view_words(text) else {
@@ -97,10 +107,14 @@ pub fn family_row(text: &[u8]) -> Result<FamilyRow, LineFault>
     let Some(subtree) = subtree else {
         return Err(LineFault::OutOfReach);
     };
-    Ok(FamilyRow {
+    let row = FamilyRow {
         view,
         mask: mask_of(octets.as_slice(), &subtree),
         subtree,
         include,
+    };
+    Ok(FamilyLine {
+        row,
+        has_long_octet: has_long_octet(words.mask),
     })
 }

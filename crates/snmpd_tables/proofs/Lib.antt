@@ -17,3 +17,8 @@ pub mod Gathering
 pub mod OfGroup
 pub mod PrefixTelling
 pub mod Pairs
+pub mod Listed
+pub mod Going
+pub mod Changing
+pub mod ChosenRows
+pub mod Placing

@@ -1,5 +1,5 @@
 -- A stable sort puts rows where they would go one after another, and where snmpd has them.
-use Rattle.std.proofs.Common.{◌≡◌, ◌≢◌, ℕ, ◌<◌, ◌≤◌, zero, suc, Bool, true, false, cond, ◌&&◌, not, List, [], ◌∷◌, ◌++◌, length, get_or, set, sym, ◌∙◌, ap, subst, refl, arith, append_assoc, append-nil, Result, Ok, Err, OnOk}
+use Rattle.std.proofs.Common.{◌≡◌, ◌≢◌, ℕ, ◌<◌, ◌≤◌, zero, suc, Bool, true, false, cond, ◌&&◌, not, List, [], ◌∷◌, ◌++◌, length, map, get_or, set, sym, ◌∙◌, ap, subst, refl, arith, append_assoc, append-nil, Result, Ok, Err, OnOk}
 use Rattle.std.specs.Ordering.{is_lt, is_gt, ordering_reverse}
 use Rattle.std.specs.List.{filter}
 use Rattle.std.specs.List.Sorted.{IsSortedBy, IsSorted, IsStable, ties}
@@ -53,6 +53,46 @@ same_tail false x xs ys e = e
 kept_head : {X : Type 0} (b : Bool) (x : X) (xs ys more : List X) → xs ≡ ys ++ more → cond b (x ∷ xs) xs ≡ cond b (x ∷ ys) ys ++ more
 kept_head true x xs ys more e = ap (λ l. x ∷ l) e
 kept_head false x xs ys more e = e
+
+-- ---- filters
+
+pub kept : {X : Type 0} (p : X → Bool) (x : X) (xs : List X) → p x ≡ true → filter p (x ∷ xs) ≡ x ∷ filter p xs
+kept p x xs is = ap (λ b. cond b (x ∷ filter p xs) (filter p xs)) is
+
+pub dropped : {X : Type 0} (p : X → Bool) (x : X) (xs : List X) → p x ≡ false → filter p (x ∷ xs) ≡ filter p xs
+dropped p x xs is = ap (λ b. cond b (x ∷ filter p xs) (filter p xs)) is
+
+both_ways : {X : Type 0} (p q : X → Bool) (x : X) (xs : List X) (a b : Bool) → p x ≡ a → q x ≡ b → filter p (filter q xs) ≡ filter q (filter p xs)
+    → filter p (cond b (x ∷ filter q xs) (filter q xs)) ≡ filter q (cond a (x ∷ filter p xs) (filter p xs))
+both_ways p q x xs true true of_p of_q same =
+    kept p x (filter q xs) of_p ∙ ap (λ l. x ∷ l) same ∙ sym (kept q x (filter p xs) of_q)
+both_ways p q x xs true false of_p of_q same = same ∙ sym (dropped q x (filter p xs) of_q)
+both_ways p q x xs false true of_p of_q same = dropped p x (filter q xs) of_p ∙ same
+both_ways p q x xs false false of_p of_q same = same
+
+filter_both : {X : Type 0} (p q : X → Bool) (xs : List X) → filter p (filter q xs) ≡ filter q (filter p xs)
+filter_both p q [] = refl
+filter_both p q (x ∷ xs) = both_ways p q x xs (p x) (q x) refl refl (filter_both p q xs)
+
+-- ---- rows of another kind in the same order
+
+module _ {A B : Type 0} (f : A → B) (first : A → A → Ordering) (second : B → B → Ordering) (same : (a b : A) → second (f a) (f b) ≡ first a b) where
+  by_test : (b : Bool) (x y : A) (ys zs : List A) (ws : List B) → map f zs ≡ ws → map f (cond b (x ∷ y ∷ ys) (y ∷ zs)) ≡ cond b (f x ∷ f y ∷ map f ys) (f y ∷ ws)
+  by_test true x y ys zs ws e = refl
+  by_test false x y ys zs ws e = ap (λ l. f y ∷ l) e
+
+  map_inserted : (xs : List A) (x : A) → map f (inserted first xs x) ≡ inserted second (map f xs) (f x)
+  map_inserted [] x = refl
+  map_inserted (y ∷ ys) x =
+      by_test (is_gt (first y x)) x y ys (inserted first ys x) (inserted second (map f ys) (f x)) (map_inserted ys x)
+      ∙ ap (λ (o : Ordering). cond (is_gt o) (f x ∷ f y ∷ map f ys) (f y ∷ inserted second (map f ys) (f x))) (sym (same y x))
+
+  map_with : (xs rows : List A) → map f (with_rows first xs rows) ≡ with_rows second (map f xs) (map f rows)
+  map_with xs [] = refl
+  map_with xs (row ∷ rows) = map_with (inserted first xs row) rows ∙ ap (λ l. with_rows second l (map f rows)) (map_inserted xs row)
+
+  pub map_in_order : (rows : List A) → map f (in_order first rows) ≡ in_order second (map f rows)
+  map_in_order rows = map_with [] rows
 
 module _ {R : Type 0} (order : R → R → Ordering) (laws : IsTotalOrder order) where
   abbrev lt : R → R → Bool
@@ -276,3 +316,21 @@ module _ {R : Type 0} (order : R → R → Ordering) (laws : IsTotalOrder order)
     above_set x xs i row (λ z d within. same z d (omega (arith, within))) rises.0,
     rises_set xs i row (λ z d within. same z d (omega (arith, within))) rises.1,
   )
+
+  -- ---- some of the rows
+
+  above_filter : (p : R → Bool) (x : R) (xs : List R) → AllAbove x xs → AllAbove x (filter p xs)
+  above_filter p x [] above = tt
+  above_filter p x (y ∷ ys) above =
+      choose (AllAbove x) (p y) (y ∷ filter p ys) (filter p ys) (λ is. (above.0, above_filter p x ys above.1)) (λ is. above_filter p x ys above.1)
+
+  rises_filter : (p : R → Bool) (xs : List R) → Rises xs → Rises (filter p xs)
+  rises_filter p [] rises = tt
+  rises_filter p (y ∷ ys) rises =
+      choose Rises (p y) (y ∷ filter p ys) (filter p ys) (λ is. (above_filter p y ys rises.0, rises_filter p ys rises.1)) (λ is. rises_filter p ys rises.1)
+
+  pub filter_in_order : (p : R → Bool) (rows : List R) → filter p (in_order order rows) ≡ in_order order (filter p rows)
+  filter_in_order p rows =
+      one_list (in_order order (filter p rows)) (filter p (in_order order rows)) (rises_in_order (filter p rows)) (rises_filter p (in_order order rows) (rises_in_order rows))
+      (λ z. filter_both (ties lt z) p (in_order order rows) ∙ ap (filter p) (filter_with z [] rows tt) ∙ filter_both p (ties lt z) rows
+      ∙ sym (filter_with z [] (filter p rows) tt))

@@ -80,7 +80,7 @@ IsTextUser created = IsUtf8 created.name.items × IsTextAuthentication created.p
 abbrev pub IsText : Entry → Type 0
 IsText (Group row) = IsUtf8 row.group × IsUtf8 row.name
 IsText (Access row) = IsUtf8 row.group × IsUtf8 row.prefix × IsUtf8 row.read × IsUtf8 row.write × IsUtf8 row.notify
-IsText (Family row) = IsUtf8 row.view
+IsText (Family line) = IsUtf8 line.row.view
 IsText (Set setting) = IsUtf8 setting.group × IsUtf8 setting.context × IsUtf8 setting.view
 IsText (User created) = IsTextUser created
 IsText _ = ⊤

@@ -4,6 +4,9 @@ pub mod Rising
 pub mod Items
 pub mod Questions
 pub mod Sets
+pub mod RowPlaces
+pub mod Candidates
+pub mod CandidateLaws
 pub mod Lists
 pub mod EffectiveRows
 pub mod Index

@@ -74,8 +74,8 @@ TakesEntry place (Access row) before after =
     Adds order_of_access before.access (record { place = place; row = row }) after.access
     × (after.groups ≡ before.groups) × (after.families ≡ before.families)
     × (after.changes ≡ before.changes)
-TakesEntry place (Family row) before after =
-    Adds order_of_families before.families (record { place = place; row = row }) after.families
+TakesEntry place (Family line) before after =
+    Adds order_of_families before.families (record { place = place; row = line.row }) after.families
     × (after.groups ≡ before.groups) × (after.access ≡ before.access)
     × (after.changes ≡ before.changes)
 TakesEntry place (Set setting) before after =

@@ -184,7 +184,7 @@ pub(crate) fn is_text_entry(entry: &Entry) -> bool
     match entry {
         Entry::Group(row) => is_text(&row.group) && is_text(&row.name),
         Entry::Access(row) => is_text_access(row),
-        Entry::Family(row) => is_text(&row.view),
+        Entry::Family(line) => is_text(&line.row.view),
         Entry::Set(setting) => is_text_setting(setting),
         Entry::User(created) => is_text_user(created),
         Entry::Nothing | Entry::Begins(_) | Entry::Simple(_) | Entry::Told(_) => true,

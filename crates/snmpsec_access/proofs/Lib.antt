@@ -2,6 +2,7 @@ pub mod Walks
 pub mod SeenLines
 pub mod Wholes
 pub mod Named
+pub mod Belows
 pub mod Refused
 pub mod Members
 pub mod Begins

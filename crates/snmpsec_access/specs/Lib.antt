@@ -1,6 +1,7 @@
 pub mod Words
 pub mod Askers
 pub mod UserPlaces
+pub mod Extent
 pub mod WhoSees
 pub mod Seen
 pub mod Rising

@@ -1,6 +1,6 @@
 //! What rows of a configuration decide on an access, and in which lines of its text they begin.
 
-ghost use Rattle.std.specs.Prelude.{◌≡◌, ◌≢◌, ◌⊎◌, [], IfOk, MatchBool};
+ghost use Rattle.std.specs.Prelude.{◌≡◌, IfOk, MatchBool};
 ghost use Rattle.vacm_core.specs.Allowed.{Allowed};
 ghost use Rattle.vacm_core.specs.Steps.{TellsContext, requester_of};
 ghost use Rattle.vacm_core.specs.Tables.{tables_of};

@@ -25,6 +25,7 @@
 #![tactic(auto)]
 
 mod explainer;
+mod extent;
 mod headings;
 mod hint;
 mod known;
@@ -40,6 +41,7 @@ mod who;
 mod words;
 
 pub use explainer::Explainer;
+pub use extent::Extent;
 pub use hint::{Hint, Oddity};
 pub use laws::no_other_sees;
 pub use lines::hint_text;

@@ -1,13 +1,16 @@
-//! Who may see a variable.
+//! Who may see a variable, or some name at or below it.
 
 ghost use Rattle.std.specs.Prelude.{◌≡◌, ◌∷◌, ◌++◌, [], map, OnOk, IfOk, MatchBool};
 ghost use Rattle.vacm_core.specs.Allowed.{Allowed};
 ghost use Rattle.vacm_core.specs.Tables.{tables_of};
 ghost use Rattle.vacm_core.specs.declared.access.Access.TheVariants.{AccessAllowed};
 ghost use Rattle.snmpsec_access.specs.Askers.{asker, asker_line, of_group, of_view};
+ghost use Rattle.snmpsec_access.specs.Extent.{SeesWanted, SeesBelow};
+ghost use Rattle.snmpsec_access.specs.declared.extent.Extent.TheVariants.{Below};
 ghost use Rattle.snmpsec_access.specs.UserPlaces.{AreFirstPlaces};
 ghost use Rattle.snmpsec_access.specs.WhoSees.{IsWanted, IsReady, SeesIt, GoesOn, TellsWho};
 
+use crate::extent::{Extent, sees_below};
 use crate::users::{first_places, has_user_at};
 use crate::words::{put_context, put_name, view_word};
 use snmp_ber::{Level, Oid};
@@ -16,9 +19,10 @@ use snmpsec_config::level_word;
 use std::alloc::{AllocError, Global};
 use std::collections::BTreeMap;
 use usm_users::UserRow;
-use vacm_core::{Access, ContextRow, GroupRow, Rows, Vacm, ViewType};
+use vacm_core::laws::order_is_free;
+use vacm_core::{Access, Asking, ContextRow, GroupRow, Rows, Vacm, ViewType};
 
-/// Which variable is asked for, in which configuration, and whether only its users are wanted.
+/// What is asked for, in which configuration, and whether only its users are wanted.
 #[derive(Clone, Copy)]
 pub struct WhoSeesQuery<'a> {
     /// The tables of the rows.
@@ -27,6 +31,8 @@ pub struct WhoSeesQuery<'a> {
     pub users: &'a [UserRow],
     /// Whether only names are wanted that are users' and support the level.
     pub only_users: bool,
+    /// Whether the variable is asked for, or names at or below it.
+    pub extent: Extent,
     pub variable: &'a Oid,
 }
 
@@ -73,6 +79,51 @@ fn is_allowed(
     matches!(answer, Access::AccessAllowed)
 }
 
+/// Some name at or below the variable is answered accessAllowed.
+fn is_allowed_below(
+    wanted: &WhoSeesQuery<'_>,
+    view: ViewType,
+    group: &GroupRow,
+    level: Level,
+    context: &ContextRow,
+) -> bool
+    requires ready { IsReady wanted.now }
+    requires below { wanted.now.extent ≡ Below }
+    ensures { let below = SeesBelow (tables_of wanted.now.rows.now)
+        (asker view group.now level context.now).message view wanted.now.variable.now
+        in MatchBool result below (¬ below) }
+{
+    order_is_free();
+    let asking = Asking {
+        model: group.model,
+        name: group.name.as_slice(),
+        level,
+        context: context.name.as_slice(),
+        view,
+        variable: wanted.variable.as_slice(),
+    };
+    sees_below(wanted.access, &asking)
+}
+
+/// What is asked for is answered accessAllowed.
+fn sees_wanted(
+    wanted: &WhoSeesQuery<'_>,
+    view: ViewType,
+    group: &GroupRow,
+    level: Level,
+    context: &ContextRow,
+) -> bool
+    requires { IsReady wanted.now }
+    ensures { let seen = SeesWanted (tables_of wanted.now.rows.now) wanted.now.extent
+        (asker view group.now level context.now).message view wanted.now.variable.now
+        in MatchBool result seen (¬ seen) }
+{
+    match wanted.extent {
+        Extent::Variable => is_allowed(wanted, view, group, level, context),
+        Extent::Below => is_allowed_below(wanted, view, group, level, context),
+    }
+}
+
 /// Appends the line of who asks.
 fn put_line(
     alloc: Global,
@@ -96,7 +147,7 @@ fn put_line(
     out.extend_from_slice(b"\n")
 }
 
-/// Appends the line, where the question is answered accessAllowed.
+/// Appends the line, where what is asked for is answered accessAllowed.
 fn put_allowed(
     alloc: Global,
     out: &mut Vec<u8>,
@@ -113,7 +164,7 @@ fn put_allowed(
         (GoesOn (SeesIt wanted.now) (asker view group.now level context.now ∷ [])
         out.old.items out.new.items) }
 {
-    if is_allowed(wanted, view, group, level, context) {
+    if sees_wanted(wanted, view, group, level, context) {
         return put_line(alloc, out, view, group, level, context);
     }
     Ok(())
@@ -185,9 +236,9 @@ fn put_view(
     Ok(())
 }
 
-/// Who may see the variable: a line `MODEL NAME LEVEL VIEW CONTEXT` for each question of it that is answered
-/// accessAllowed, by the view, then the group row, then the level, then the context row, rows by their
-/// positions.
+/// Who may see the variable, or some name at or below it, as it is asked: a line `MODEL NAME LEVEL VIEW CONTEXT` for
+/// each question of it that is answered accessAllowed, by the view, then the group row, then the level, then the
+/// context row, rows by their positions.
 ///
 /// There is no line but of the names that group rows have, in the contexts that there are, since each other
 /// question is answered noGroupName or noSuchContext. For v views, g group rows and c contexts 3vgc questions
@@ -200,7 +251,7 @@ pub fn who_sees(
     requires { IsReady wanted.now }
     ensures { IfOk result
         (λ text. TellsWho (tables_of wanted.now.rows.now) views.now
-        wanted.now.only_users wanted.now.users.now
+        wanted.now.only_users wanted.now.users.now wanted.now.extent
         wanted.now.variable.now text.items) }
 {
     let places = first_places(alloc, wanted.users)?;

@@ -1,5 +1,7 @@
 //! Commands that ask a configuration one question, and the one that reads it.
 
+ghost use Rattle.snmpsec_cli.specs.Words.{AreAccessWords};
+
 use crate::Command;
 use crate::forms::{Form, Kind, Word};
 use crate::given_words::word_of;
@@ -124,7 +126,9 @@ pub struct AccessWords<'a> {
 }
 
 /// The words of a command that asks a configuration.
-pub fn access_words<'a>(words: &ArgMatches<'a>) -> AccessWords<'a> {
+pub fn access_words<'a>(words: &ArgMatches<'a>) -> AccessWords<'a>
+    ensures { AreAccessWords words.now result }
+{
     AccessWords {
         config: word_of(words, "CONFIG"),
         model: word_of(words, "MODEL"),

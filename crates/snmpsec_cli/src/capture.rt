@@ -1,5 +1,7 @@
 //! The command line of `datagrams`, and what is asked of a file of datagrams.
 
+ghost use Rattle.snmpsec_cli.specs.Words.{AreDatagramsWords};
+
 use crate::Command;
 use crate::forms::{Form, Kind, Word};
 use crate::given_words::{word_of, words_of};
@@ -97,7 +99,9 @@ pub struct DatagramsWords<'a> {
 }
 
 /// The words of datagrams, and of show and open over a file of datagrams.
-pub fn datagrams_words<'m>(words: &'m ArgMatches<'_>) -> DatagramsWords<'m> {
+pub fn datagrams_words<'m>(words: &'m ArgMatches<'_>) -> DatagramsWords<'m>
+    ensures { AreDatagramsWords words.now result }
+{
     DatagramsWords {
         form: words.get_str("FORM"),
         ports: words_of(words, "PORT"),

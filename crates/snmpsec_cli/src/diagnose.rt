@@ -1,5 +1,7 @@
 //! The command line of `diagnose`.
 
+ghost use Rattle.snmpsec_cli.specs.Words.{AreDiagnoseWords};
+
 use crate::Command;
 use crate::capture::{DatagramsWords, FORM, IP, MOMENT, PORT, SOURCE, datagrams_words};
 use crate::forms::{Form, Kind};
@@ -12,7 +14,8 @@ pub(crate) static DIAGNOSE: Form = Form {
     name: "diagnose",
     about: "Print what became of each request in a capture: answered, refused and why, or no answer",
     status: "It judges a request as the agent does, and an answer as the manager does. Only what an engine
-sent teaches it the engine's clock.
+sent teaches it the engine's clock. Which side sent a message that can't be opened is a guess by
+the ports, unless one side is named by --agent.
 
 Example: snmpsec diagnose examples/no-answer.toml examples/diagnose.pcap
 
@@ -44,6 +47,12 @@ Exit status:
             "Print and count only exchanges of this engine ID in hex; may be repeated",
         ),
         (
+            Kind::Values,
+            "AGENT",
+            "agent",
+            "Print and count only exchanges with this agent, ADDRESS or ADDRESS:PORT; may be repeated",
+        ),
+        (
             Kind::SourceValue,
             "CLOCKS",
             "clocks",
@@ -72,18 +81,23 @@ pub struct DiagnoseWords<'a> {
     pub users: &'a [&'a str],
     /// The engine IDs that are wanted, in hex.
     pub engines: &'a [&'a str],
+    /// The agents that are wanted, by their addresses, with a port or without one.
+    pub agents: &'a [&'a str],
     /// What is asked of the file of datagrams.
     pub source: DatagramsWords<'a>,
 }
 
 /// The words of diagnose.
-pub fn diagnose_words<'m>(words: &'m ArgMatches<'_>) -> DiagnoseWords<'m> {
+pub fn diagnose_words<'m>(words: &'m ArgMatches<'_>) -> DiagnoseWords<'m>
+    ensures { AreDiagnoseWords words.now result }
+{
     DiagnoseWords {
         config: word_of(words, "CONFIG"),
         clocks: words.get_str("CLOCKS"),
         json: words.get_flag("json"),
         users: words_of(words, "NAME"),
         engines: words_of(words, "ENGINE"),
+        agents: words_of(words, "AGENT"),
         source: datagrams_words(words),
     }
 }

@@ -1,5 +1,8 @@
 //! The parser of the command line, which is made of the tables of the commands.
 
+ghost use Rattle.std.specs.Prelude.{◌≡◌, IfSome};
+ghost use Rattle.snmpsec_cli.specs.Commands.{command_word};
+
 use crate::{
     Command, about, access, capture, diagnose, file_checks, import, messages, questions, replay,
 };
@@ -55,7 +58,9 @@ pub(crate) struct Form {
 const FORMS: usize = 16;
 
 /// The command at this place of the list that help prints, from 0. At each place after the last stands the last.
-fn form_at(at: usize) -> &'static Form {
+fn form_at(at: usize) -> &'static Form
+    ensures { result.now.name.now ≡ command_word result.now.command }
+{
     match at {
         0 => &messages::SHOW,
         1 => &messages::OPEN,
@@ -77,7 +82,9 @@ fn form_at(at: usize) -> &'static Form {
 }
 
 /// The command of this name.
-pub(crate) fn form_named(name: &str) -> Option<&'static Form> {
+pub(crate) fn form_named(name: &str) -> Option<&'static Form>
+    ensures { IfSome result (λ form. command_word form.now.command ≡ name.now) }
+{
     for at in 0..FORMS {
         let form = form_at(at);
         if form.name == name {
@@ -189,6 +196,7 @@ fn bare<'a>(alloc: Global) -> clap::Command<'a> {
     clap::Command::new(alloc, "snmpsec")
         .about("Looks into SNMPv3 messages, view-based access, logs of datagrams and saved clocks")
         .subcommand_required(true)
+        .after_help("A file - is standard input, which can be read once.")
 }
 
 /// The argument of the option that each command has. Help lists it after the first option of a command.

@@ -1,5 +1,7 @@
 //! The command line of `import-snmpd`.
 
+ghost use Rattle.snmpsec_cli.specs.Words.{AreImportWords};
+
 use crate::Command;
 use crate::forms::{Form, Kind, Word};
 use crate::given_words::words_of;
@@ -62,7 +64,9 @@ pub struct ImportWords<'a> {
 }
 
 /// The words of import-snmpd.
-pub fn import_words<'m>(words: &'m ArgMatches<'_>) -> ImportWords<'m> {
+pub fn import_words<'m>(words: &'m ArgMatches<'_>) -> ImportWords<'m>
+    ensures { AreImportWords words.now result }
+{
     ImportWords {
         contexts: words_of(words, "NAME"),
         no_include: words.get_flag("no-include"),

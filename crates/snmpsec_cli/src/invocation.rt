@@ -1,7 +1,10 @@
 //! A command, and how much is printed beside its output.
 
+ghost use Rattle.std.specs.Prelude.{◌≡◌, IfOk};
+ghost use Rattle.snmpsec_cli.specs.Commands.{AsksFor, command_word};
+
 use crate::forms::form_named;
-use crate::given_words::missing;
+use crate::given_words::{missing, reads_input_twice};
 use crate::{Command, refusal};
 use clap::error::ErrorKind;
 use clap::{ArgMatches, Error};
@@ -20,21 +23,30 @@ pub struct Invocation<'m, 'a> {
     pub names: bool,
 }
 
+/// What is wrong where standard input is named more than once, and what to do.
+const INPUT_TWICE: &str =
+    "more than one file is - (standard input), which can be read once; name files for the others";
+
 /// Why no command can be read from what the parser took. It refuses itself what lacks a word or a command.
 #[derive(Clone, Copy)]
 enum Unread {
     /// A word that must be given is missing.
     Missing(&'static str),
+    /// More than one file is standard input.
+    InputTwice,
     NoCommand,
 }
 
 /// The command of this name, whose words are these.
-fn command_named(name: &str, words: &ArgMatches<'_>) -> Result<Command, Unread> {
+fn command_named(name: &str, words: &ArgMatches<'_>) -> Result<Command, Unread>
+    ensures { IfOk result (λ command. command_word command ≡ name.now) }
+{
     let Some(form) = form_named(name) else {
         return Err(Unread::NoCommand);
     };
     match missing(words, form.words) {
         Some(word) => Err(Unread::Missing(word)),
+        None if reads_input_twice(words) => Err(Unread::InputTwice),
         None => Ok(form.command),
     }
 }
@@ -43,6 +55,7 @@ fn command_named(name: &str, words: &ArgMatches<'_>) -> Result<Command, Unread> 
 fn refusal_of(alloc: Global, fault: Unread) -> Result<Error, AllocError> {
     match fault {
         Unread::Missing(name) => refusal(alloc, ErrorKind::MissingRequiredArgument, name),
+        Unread::InputTwice => refusal(alloc, ErrorKind::ArgumentConflict, INPUT_TWICE),
         Unread::NoCommand => refusal(alloc, ErrorKind::MissingSubcommand, "a command is missing"),
     }
 }
@@ -59,7 +72,9 @@ fn refuse(alloc: Global, fault: Unread) -> Error {
 pub fn asked_by<'m, 'a>(
     alloc: Global,
     matches: &'m ArgMatches<'a>,
-) -> Result<Invocation<'m, 'a>, Error> {
+) -> Result<Invocation<'m, 'a>, Error>
+    ensures { IfOk result (λ asked. AsksFor matches.now asked) }
+{
     let Some((name, words)) = matches.subcommand() else {
         return Err(refuse(alloc, Unread::NoCommand));
     };

@@ -34,7 +34,7 @@ pub enum Command {
     CheckAccess,
     /// `explain-access CONFIG MODEL NAME LEVEL VIEW CONTEXT OID`
     ExplainAccess,
-    /// `who-sees [--users] CONFIG OID [VIEW]`
+    /// `who-sees [--users] [--below] CONFIG OID [VIEW]`
     WhoSees,
     /// `sees CONFIG MODEL NAME`
     Sees,
@@ -53,7 +53,7 @@ pub enum Command {
     /// `datagrams [--form FORM] [--port PORT].. [--moment MOMENT] [--ip] FILE`
     Datagrams,
     /// `diagnose [--form FORM] [--port PORT].. [--moment MOMENT] [--ip] [--json] [--user NAME].. [--engine ENGINE]..
-    /// [--clocks CLOCKS] CONFIG FILE`
+    /// [--agent AGENT].. [--clocks CLOCKS] CONFIG FILE`
     Diagnose,
     /// `manual [COMMAND]`
     Manual,

@@ -11,7 +11,8 @@ pub(crate) static WHO_SEES: Form = Form {
     about: "Print who may read, write or be notified of a variable: MODEL NAME LEVEL VIEW CONTEXT",
     status: "It prints a line for each question of OID that check-access answers by accessAllowed. A
 name that no group row has sees nothing, and so does everyone in a context that CONFIG
-doesn't have. A higher level may see less.
+doesn't have. A higher level may see less. With --below it prints a line for each that sees OID
+or some name below it, as 1.3.6.1.2.1.2.2 for a row of ifTable.
 
 Example: snmpsec who-sees examples/access.toml 1.3.6.1.2.1.1.5.0 read
 
@@ -25,6 +26,12 @@ Exit status:
             "users",
             "users",
             "Print the lines alone of names that are users of CONFIG and support the level",
+        ),
+        (
+            Kind::Flag,
+            "below",
+            "below",
+            "Print who sees OID or some name below it, and not only who sees OID itself",
         ),
         CONFIG,
         VARIABLE,

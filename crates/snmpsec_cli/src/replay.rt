@@ -1,5 +1,7 @@
 //! Commands over saved clocks: the replay of a log, and the join.
 
+ghost use Rattle.snmpsec_cli.specs.Words.{AreReplayWords};
+
 use crate::Command;
 use crate::capture::{FORM, FROM, FROM_PORT, PORT};
 use crate::file_checks::SAVED;
@@ -110,7 +112,9 @@ pub struct ReplayWords<'a> {
 }
 
 /// The words of replay.
-pub fn replay_words<'m>(words: &'m ArgMatches<'_>) -> ReplayWords<'m> {
+pub fn replay_words<'m>(words: &'m ArgMatches<'_>) -> ReplayWords<'m>
+    ensures { AreReplayWords words.now result }
+{
     ReplayWords {
         moment: words.get_str("MOMENT"),
         clocks_only: words.get_flag("clocks-only"),

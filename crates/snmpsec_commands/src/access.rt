@@ -3,11 +3,13 @@
 use crate::complaint::Complaint;
 use crate::files::octets_of;
 use clap::ArgMatches;
+use snmpsec_access::Extent;
 use snmpsec_cli::{AccessWords, word_of};
 use snmpsec_output::{
     Output, check_config_hinted, check_config_text, check_text, explain_text, group_why, model_of,
     open_named, sees_text, who_text,
 };
+use std::io::Input;
 use std::rt::Files;
 
 /// The words of a question, in the order in which they are given.
@@ -24,7 +26,7 @@ fn question_of<'a>(words: &AccessWords<'a>) -> [&'a str; 6] {
 
 /// The answer to a question, with what decides if that is wanted, and with the nearest name where the name is in no
 /// group, if what explains an answer is asked for.
-pub(crate) fn answer_on_access<R: Files + AllocGlobal>(
+pub(crate) fn answer_on_access<R: Files + Input + AllocGlobal>(
     rt: &R,
     words: &AccessWords<'_>,
     is_explained: bool,
@@ -44,19 +46,24 @@ pub(crate) fn answer_on_access<R: Files + AllocGlobal>(
     Ok(output)
 }
 
-/// Who sees the variable.
-pub(crate) fn who_sees<R: Files + AllocGlobal>(
+/// Who sees the variable, or some name at or below it.
+pub(crate) fn who_sees<R: Files + Input + AllocGlobal>(
     rt: &R,
     words: &ArgMatches<'_>,
 ) -> Result<Output, Complaint> {
     let variable = word_of(words, "OID");
     let (view, only_users) = (words.get_str("VIEW"), words.get_flag("users"));
+    let extent = if words.get_flag("below") {
+        Extent::Below
+    } else {
+        Extent::Variable
+    };
     let config = octets_of(rt, word_of(words, "CONFIG"))?;
-    Ok(who_text(rt.alloc(), &config, variable, view, only_users)?)
+    Ok(who_text(rt.alloc(), &config, variable, view, only_users, extent)?)
 }
 
 /// What the name sees.
-pub(crate) fn list_seen<R: Files + AllocGlobal>(
+pub(crate) fn list_seen<R: Files + Input + AllocGlobal>(
     rt: &R,
     words: &AccessWords<'_>,
 ) -> Result<Output, Complaint> {
@@ -65,7 +72,7 @@ pub(crate) fn list_seen<R: Files + AllocGlobal>(
 }
 
 /// What a message says, opened by the users of the configuration, with names if they are asked for.
-pub(crate) fn open_message<R: Files + AllocGlobal>(
+pub(crate) fn open_message<R: Files + Input + AllocGlobal>(
     rt: &R,
     names: bool,
     name: &str,
@@ -77,7 +84,7 @@ pub(crate) fn open_message<R: Files + AllocGlobal>(
 
 /// How many rows the configuration has or what is wrong with it, with what is probably a mistake if that is wanted. Of
 /// one that is refused and looks like a file of net-snmp it is said what to do with it.
-pub(crate) fn check_config<R: Files + AllocGlobal>(
+pub(crate) fn check_config<R: Files + Input + AllocGlobal>(
     rt: &R,
     name: &str,
     is_hinted: bool,

@@ -6,9 +6,12 @@ use crate::complaint::Complaint;
 use crate::replay::first_line_of;
 use capture_datagrams::datagrams::{PortsFault, ports_of};
 use capture_datagrams::forms::{Form, form_of, may_be_dumps};
+use capture_files::Address;
+use diagnose_text::NamedAgent;
 use engine_clock::EngineId;
 use snmpsec_output::moment_of;
 use std::alloc::Global;
+use std::net::{IpAddr, SocketAddr};
 use usm_users::UserName;
 
 /// MOMENT, in whole seconds, or 0 if it is left out.
@@ -106,5 +109,34 @@ pub(crate) fn engine_argument(alloc: Global, word: &str) -> Result<EngineId, Com
     match engine {
         Some(engine) => Ok(engine),
         None => Err(Complaint::word(alloc, "ENGINE", word, why, "write it as 80001f8804616263")),
+    }
+}
+
+/// AGENT, an address of IP with or without a port.
+pub(crate) fn agent_argument(alloc: Global, word: &str) -> Result<NamedAgent, Complaint> {
+    if let Ok(socket) = word.parse::<SocketAddr>() {
+        return Ok(NamedAgent {
+            address: address_of(socket.ip()),
+            port: Some(socket.port()),
+        });
+    }
+    match word.parse::<IpAddr>() {
+        Ok(address) => Ok(NamedAgent {
+            address: address_of(address),
+            port: None,
+        }),
+        Err(_) => {
+            let why = "it isn't an address, with or without a port";
+            let wanted = "write it as 10.0.0.5, 10.0.0.5:161, 2001:db8::5 or [2001:db8::5]:161";
+            Err(Complaint::word(alloc, "AGENT", word, why, wanted))
+        }
+    }
+}
+
+/// The address as captures have it.
+fn address_of(address: IpAddr) -> Address {
+    match address {
+        IpAddr::V4(address) => Address::V4(address.octets()),
+        IpAddr::V6(address) => Address::V6(address.octets()),
     }
 }

@@ -7,11 +7,12 @@ use engine_clock::Clocks;
 use snmpsec_output::{Output, refused_clocks};
 use snmpsec_replay::{CheckedLog, LogLineFault, ReplayFault, check_log};
 use std::alloc::{AllocError, Global};
+use std::io::Input;
 use std::rt::Files;
 
 /// A line `clocks FILE engine N` for each file, with the number of its engines. The first that isn't read or
 /// is refused ends it, with no line for those before.
-pub(crate) fn check_clocks_files<R: Files + AllocGlobal>(
+pub(crate) fn check_clocks_files<R: Files + Input + AllocGlobal>(
     rt: &R,
     names: &[&str],
 ) -> Result<Output, Complaint> {
@@ -41,7 +42,7 @@ fn push_count(
 }
 
 /// A line `line N` with the number of the log's lines, or the first that is at fault, and what is wrong with it.
-pub(crate) fn check_log_file<R: Files + AllocGlobal>(
+pub(crate) fn check_log_file<R: Files + Input + AllocGlobal>(
     rt: &R,
     name: &str,
 ) -> Result<Output, Complaint> {

@@ -80,7 +80,7 @@ fn open<R: Files + Input + AllocGlobal, O: Write, E: Write>(
 }
 
 /// What a command prints that reads its files whole, or none.
-fn command_of_texts<R: Files + AllocGlobal>(
+fn command_of_texts<R: Files + Input + AllocGlobal>(
     rt: &R,
     command: Command,
     words: &ArgMatches<'_>,

@@ -1,6 +1,7 @@
 //! Why a command stops, and what explains it.
 
-ghost use Rattle.std.specs.Prelude.{◌≡◌, [], IfOk};
+ghost use Rattle.std.specs.Prelude.{◌≡◌, ◌++◌, None, IfOk, codes};
+ghost use Rattle.snmpsec_commands.specs.Complaints.{IsComplaint, Tells, TellsLine};
 
 use snmpsec_io::ReadFault;
 use snmpsec_output::{Output, argument_words};
@@ -33,7 +34,9 @@ impl<T: Drop> From<AllocFailed<T>> for Complaint {
 
 impl Complaint {
     /// A line that nothing explains.
-    pub fn line(alloc: Global, line: &str) -> Complaint {
+    pub fn line(alloc: Global, line: &str) -> Complaint
+        ensures { Tells line.now None result }
+    {
         match String::from_str(alloc, line) {
             Ok(line) => Complaint::Told { line, why: None },
             Err(_) => Complaint::OutOfMemory,
@@ -41,7 +44,10 @@ impl Complaint {
     }
 
     /// The file of this name can't be read.
-    pub fn unread(alloc: Global, name: &str, fault: ReadFault) -> Complaint {
+    pub fn unread(alloc: Global, name: &str, fault: ReadFault) -> Complaint
+        ensures memory { fault ≡ ReadFault.OutOfMemory → result ≡ Complaint.OutOfMemory }
+        ensures line { TellsLine (codes "cannot read " ++ name.now) result }
+    {
         if fault == ReadFault::OutOfMemory {
             return Complaint::OutOfMemory;
         }
@@ -52,13 +58,9 @@ impl Complaint {
     }
 
     /// The word isn't an argument of this name, for this reason, and this is wanted.
-    pub(crate) fn word(
-        alloc: Global,
-        name: &str,
-        word: &str,
-        why: &str,
-        wanted: &str,
-    ) -> Complaint {
+    pub(crate) fn word(alloc: Global, name: &str, word: &str, why: &str, wanted: &str) -> Complaint
+        ensures { TellsLine (codes "bad word " ++ name.now) result }
+    {
         match word_lines(alloc, name, word, why, wanted) {
             Ok(complaint) => complaint,
             Err(_) => Complaint::OutOfMemory,
@@ -67,8 +69,7 @@ impl Complaint {
 
     /// What is printed: the line on standard error, with status 2.
     pub fn output(self, alloc: Global) -> Result<Output, AllocError>
-        ensures out { IfOk result (λ output. output.out.items ≡ []) }
-        ensures status { IfOk result (λ output. output.status ≡ 2) }
+        ensures { IfOk result (IsComplaint self) }
     {
         match self {
             Complaint::Told { line, why } => Output::complaint(alloc, &line, why),
@@ -78,7 +79,9 @@ impl Complaint {
 }
 
 /// The lines for a file that can't be read.
-fn unread_lines(alloc: Global, name: &str, fault: ReadFault) -> Result<Complaint, AllocError> {
+fn unread_lines(alloc: Global, name: &str, fault: ReadFault) -> Result<Complaint, AllocError>
+    ensures { IfOk result (TellsLine (codes "cannot read " ++ name.now)) }
+{
     let line = format!(in alloc; "cannot read {name}")?;
     let why = format!(in alloc; "{name}: {fault}")?;
     Ok(Complaint::Told {
@@ -94,7 +97,9 @@ fn word_lines(
     word: &str,
     why: &str,
     wanted: &str,
-) -> Result<Complaint, AllocError> {
+) -> Result<Complaint, AllocError>
+    ensures { IfOk result (TellsLine (codes "bad word " ++ name.now)) }
+{
     let line = format!(in alloc; "bad word {name}")?;
     let why = argument_words(alloc, name, word, why, wanted)?;
     Ok(Complaint::Told {

@@ -2,6 +2,8 @@
 
 use crate::arguments::{form_argument, from_port_argument, moment_argument, ports_argument};
 use crate::complaint::Complaint;
+use crate::files::{log_of, octets_of};
+use crate::source_log::{RefusalLine, SourceLog};
 use capture_datagrams::datagrams::Unread;
 use capture_datagrams::forms::{Form, ReadOptions, print_datagrams};
 use capture_datagrams::logs::{FRONT, begins_log, print_log};
@@ -10,7 +12,7 @@ use capture_datagrams::printout::{Opens, Printout, Shows, ShowsAnyVersion, write
 use capture_files::{Lines, Printer};
 use snmpsec_cli::DatagramsWords;
 use snmpsec_config::Config;
-use snmpsec_io::{ReadFault, Watched, load_file, open_log, read_full, write_whole};
+use snmpsec_io::{ReadFault, Watched, read_full, write_whole};
 use snmpsec_output::{Output, refusal_and_why};
 use std::alloc::Global;
 use std::io::{BufReader, BufWriter, Input, Read, Write};
@@ -111,19 +113,15 @@ pub(crate) fn open_file<R: Files + Input + AllocGlobal, O: Write, E: Write>(
     err: &mut E,
 ) -> Result<Output, Complaint> {
     let wanted = wanted_of(rt.alloc(), words)?;
-    match load_file(rt, config) {
-        Ok(octets) => {
-            let opened = Printout::Opened {
-                config: &octets,
-                names,
-            };
-            print_file(rt, opened, &wanted, words.file, out, err)
-        }
-        Err(fault) => Err(Complaint::unread(rt.alloc(), config, fault)),
-    }
+    let octets = octets_of(rt, config)?;
+    let opened = Printout::Opened {
+        config: &octets,
+        names,
+    };
+    print_file(rt, opened, &wanted, words.file, out, err)
 }
 
-/// Opens the file, and writes what is printed of its datagrams.
+/// Opens the file, and writes what is printed of its datagrams, as much at once as a buffer has room for.
 fn print_file<R: Files + Input + AllocGlobal, O: Write, E: Write>(
     rt: &R,
     printout: Printout<'_>,
@@ -133,44 +131,40 @@ fn print_file<R: Files + Input + AllocGlobal, O: Write, E: Write>(
     err: &mut E,
 ) -> Result<Output, Complaint> {
     let alloc = rt.alloc();
-    if name == "-" {
-        let Ok(mut reader) = BufReader::new(alloc, Watched::new(rt.reader())) else {
-            return Err(Complaint::OutOfMemory);
-        };
-        return print_read(alloc, printout, wanted, name, &mut reader, out, err);
-    }
-    match open_log(rt, name) {
-        Ok(mut reader) => print_read(alloc, printout, wanted, name, &mut reader, out, err),
-        Err(fault) => Err(Complaint::unread(alloc, name, fault)),
-    }
-}
-
-/// Writes what is printed of what is read, as much at once as a buffer has room for.
-fn print_read<R: Read + Drop, O: Write, E: Write>(
-    alloc: Global,
-    printout: Printout<'_>,
-    wanted: &Wanted,
-    name: &str,
-    reader: &mut BufReader<Watched<R>>,
-    out: &mut O,
-    err: &mut E,
-) -> Result<Output, Complaint> {
-    let Ok(mut log) = BufWriter::new(alloc, out) else {
+    let mut reader = log_of(rt, name)?;
+    let Ok(mut buffer) = BufWriter::new(alloc, out) else {
         return Err(Complaint::OutOfMemory);
     };
-    let answer = print_printout(alloc, printout, wanted, name, reader, &mut log, err);
-    if log.flush().is_err() {
+    let mut log = SourceLog::new(alloc, name, RefusalLine::Kept, &mut buffer);
+    let answer = print_printout(alloc, printout, wanted, name, &mut reader, &mut log, err);
+    let why = log.why()?;
+    if buffer.flush().is_err() {
         return Err(Complaint::line(alloc, "cannot write"));
     }
     match answer {
-        Ok(status) => Ok(Output::out(alloc, Vec::new(alloc), status)),
-        Err(Unread::CannotRead) => {
+        Ok(status) => Ok(Output {
+            why,
+            ..Output::out(alloc, Vec::new(alloc), status)
+        }),
+        Err(fault) => Err(stop(alloc, name, &reader, fault)),
+    }
+}
+
+/// The complaint where the datagrams of the file of this name aren't printed to its end.
+pub(crate) fn stop<R: Read + Drop>(
+    alloc: Global,
+    name: &str,
+    reader: &BufReader<Watched<R>>,
+    fault: Unread,
+) -> Complaint {
+    match fault {
+        Unread::CannotRead => {
             // (no read failed where the text is over the limit)
             let fault = reader.get_ref().fault().unwrap_or(ReadFault::TooLarge);
-            Err(Complaint::unread(alloc, name, fault))
+            Complaint::unread(alloc, name, fault)
         }
-        Err(Unread::CannotWrite) => Err(Complaint::line(alloc, "cannot write")),
-        Err(Unread::OutOfMemory) => Err(Complaint::OutOfMemory),
+        Unread::CannotWrite => Complaint::line(alloc, "cannot write"),
+        Unread::OutOfMemory => Complaint::OutOfMemory,
     }
 }
 

@@ -1,20 +1,19 @@
 //! `snmpsec diagnose`: what became of each request in a capture.
 
-use crate::arguments::{engine_argument, user_argument};
+use crate::arguments::{agent_argument, engine_argument, user_argument};
 use crate::complaint::Complaint;
-use crate::datagrams::{Wanted, print_source, wanted_of};
-use crate::files::octets_of;
-use crate::json_log::JsonLog;
-use capture_datagrams::datagrams::Unread;
+use crate::datagrams::{Wanted, print_source, stop, wanted_of};
+use crate::files::{log_of, octets_of};
+use crate::source_log::{RefusalLine, SourceLog};
 use diagnose_text::{DiagnoseOptions, Diagnoser, Style};
 use engine_clock::Clocks;
 use snmpsec_access::Explainer;
 use snmpsec_cli::DiagnoseWords;
 use snmpsec_config::{AccessConfig, Config};
-use snmpsec_io::{ReadFault, Watched, open_log, write_whole};
+use snmpsec_io::write_whole;
 use snmpsec_output::{Output, refused_clocks};
 use std::alloc::Global;
-use std::io::{BufReader, BufWriter, Input, Read, Write};
+use std::io::{BufWriter, Input, Write};
 use std::rt::Files;
 
 /// Looks at the words, reads the configuration and the clocks whole and opens the file, before it looks at what they
@@ -42,7 +41,7 @@ pub(crate) fn diagnose_file<R: Files + Input + AllocGlobal, O: Write, E: Write>(
     }
 }
 
-/// What the words ask to be printed. The names are looked at first, and then the engine IDs.
+/// What the words ask to be printed. The names are looked at first, then the engine IDs, and then the agents.
 fn diagnose_options(
     alloc: Global,
     words: &DiagnoseWords<'_>,
@@ -56,6 +55,9 @@ fn diagnose_options(
     }
     for word in words.engines {
         options.engines.push(engine_argument(alloc, word)?)?;
+    }
+    for word in words.agents {
+        options.agents.push(agent_argument(alloc, word)?)?;
     }
     Ok(options)
 }
@@ -94,7 +96,7 @@ fn views_of(alloc: Global, text: &[u8]) -> Result<Option<Explainer>, Complaint> 
     Ok(Some(explainer).filter(|explainer| explainer.has_rows()))
 }
 
-/// Opens the file, `-` for standard input, and writes what is made of its datagrams.
+/// Opens the file, and writes what is made of its datagrams, and how all of it ended.
 fn diagnose_named<R: Files + Input + AllocGlobal, O: Write, E: Write>(
     rt: &R,
     diagnoser: &mut Diagnoser,
@@ -104,52 +106,31 @@ fn diagnose_named<R: Files + Input + AllocGlobal, O: Write, E: Write>(
     err: &mut E,
 ) -> Result<Output, Complaint> {
     let alloc = rt.alloc();
-    if name == "-" {
-        let Ok(mut reader) = BufReader::new(alloc, Watched::new(rt.reader())) else {
-            return Err(Complaint::OutOfMemory);
-        };
-        return diagnose_read(alloc, diagnoser, wanted, name, &mut reader, out, err);
-    }
-    match open_log(rt, name) {
-        Ok(mut reader) => diagnose_read(alloc, diagnoser, wanted, name, &mut reader, out, err),
-        Err(fault) => Err(Complaint::unread(alloc, name, fault)),
-    }
-}
-
-/// Writes what is made of the datagrams that are read, and how all of it ended.
-fn diagnose_read<R: Read + Drop, O: Write, E: Write>(
-    alloc: Global,
-    diagnoser: &mut Diagnoser,
-    wanted: &Wanted,
-    name: &str,
-    reader: &mut BufReader<Watched<R>>,
-    out: &mut O,
-    err: &mut E,
-) -> Result<Output, Complaint> {
-    let Ok(mut log) = BufWriter::new(alloc, out) else {
+    let mut reader = log_of(rt, name)?;
+    let Ok(mut buffer) = BufWriter::new(alloc, out) else {
         return Err(Complaint::OutOfMemory);
     };
-    let answer = if diagnoser.prints_json() {
-        let mut log = JsonLog::new(alloc, name, &mut log);
-        print_source(alloc, wanted, name, diagnoser, reader, &mut log, err)
+    let refusal = if diagnoser.prints_json() {
+        RefusalLine::Json
     } else {
-        print_source(alloc, wanted, name, diagnoser, reader, &mut log, err)
+        RefusalLine::LeftOut
     };
-    let ended = end(alloc, diagnoser, &mut log);
-    if log.flush().is_err() {
+    let mut log = SourceLog::new(alloc, name, refusal, &mut buffer);
+    let answer = print_source(alloc, wanted, name, diagnoser, &mut reader, &mut log, err);
+    let why = log.why()?;
+    let ended = end(alloc, diagnoser, &mut buffer);
+    if buffer.flush().is_err() {
         return Err(Complaint::line(alloc, "cannot write"));
     }
     let failed = ended?;
     match answer {
         Ok(0) => Ok(Output::out(alloc, Vec::new(alloc), u8::from(failed))),
         // (the file is out of its form from some place on)
-        Ok(_) => Ok(Output::out(alloc, Vec::new(alloc), 2)),
-        Err(Unread::CannotRead) => {
-            let fault = reader.get_ref().fault().unwrap_or(ReadFault::TooLarge);
-            Err(Complaint::unread(alloc, name, fault))
-        }
-        Err(Unread::CannotWrite) => Err(Complaint::line(alloc, "cannot write")),
-        Err(Unread::OutOfMemory) => Err(Complaint::OutOfMemory),
+        Ok(_) => Ok(Output {
+            why,
+            ..Output::out(alloc, Vec::new(alloc), 2)
+        }),
+        Err(fault) => Err(stop(alloc, name, &reader, fault)),
     }
 }
 

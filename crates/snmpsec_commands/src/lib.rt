@@ -31,13 +31,14 @@ mod complaint;
 mod datagrams;
 mod diagnose;
 mod files;
-mod json_log;
 mod log;
 mod merge;
 mod piped;
 pub mod replay;
 mod replay_source;
 pub mod run;
+mod source_log;
 
 pub use complaint::Complaint;
+pub use files::octets_of;
 pub use piped::Piped;

@@ -67,7 +67,7 @@ fn replay_datagrams<'a, R: Files + Input + AllocGlobal, O: Write, E: Write>(
 }
 
 /// Reads the configuration and the clocks file whole and opens the log, before it looks at what they say.
-fn replay_files<R: Files + AllocGlobal, O: Write>(
+fn replay_files<R: Files + Input + AllocGlobal, O: Write>(
     rt: &R,
     moment: u64,
     printing: Printing,

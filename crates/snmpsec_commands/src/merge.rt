@@ -6,10 +6,11 @@ use crate::files::octets_of;
 use clap::ArgMatches;
 use snmpsec_cli::words_of;
 use snmpsec_output::{Output, merge_text};
+use std::io::Input;
 use std::rt::Files;
 
 /// Looks at the moment before it opens a file, and then merges the files.
-pub(crate) fn merge_clocks<R: Files + AllocGlobal>(
+pub(crate) fn merge_clocks<R: Files + Input + AllocGlobal>(
     rt: &R,
     words: &ArgMatches<'_>,
 ) -> Result<Output, Complaint> {
@@ -19,7 +20,7 @@ pub(crate) fn merge_clocks<R: Files + AllocGlobal>(
 }
 
 /// The names and the octets of the files, read whole in the order of their names.
-fn files_of<R: Files + AllocGlobal>(
+fn files_of<R: Files + Input + AllocGlobal>(
     rt: &R,
     names: &[&str],
 ) -> Result<Vec<(String, Vec<u8>)>, Complaint> {

@@ -1,5 +1,7 @@
 //! Standard output, which may be a pipe that nobody reads any more.
 
+ghost use Rattle.std.specs.Prelude.{◌≡◌, false};
+
 use std::io;
 use std::io::{ErrorKind, Write};
 
@@ -12,7 +14,10 @@ pub struct Piped<W> {
 
 impl<W> Piped<W> {
     /// The writer, of which no write has failed.
-    pub fn new(writer: W) -> Piped<W> {
+    pub fn new(writer: W) -> Piped<W>
+        ensures writer { result.writer ≡ writer }
+        ensures open { result.is_closed ≡ false }
+    {
         Piped {
             writer,
             is_closed: false,
@@ -20,12 +25,17 @@ impl<W> Piped<W> {
     }
 
     /// The writer is a pipe, and a write failed since its reader has gone.
-    pub fn is_closed(&self) -> bool {
+    pub fn is_closed(&self) -> bool
+        ensures { result ≡ self.now.is_closed }
+    {
         self.is_closed
     }
 }
 
+/// What is written is what the writer was given.
 impl<W: Write> Write for Piped<W> {
+    ghost contents = { λ piped. W.contents piped.writer };
+
     fn write(&mut self, buf: &[u8]) -> io::Result<usize> {
         match self.writer.write(buf) {
             Ok(count) => Ok(count),

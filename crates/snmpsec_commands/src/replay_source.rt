@@ -3,17 +3,18 @@
 ghost use Rattle.std.specs.Prelude.{⊤};
 
 use crate::complaint::Complaint;
-use crate::datagrams::{Wanted, print_source};
+use crate::datagrams::{Wanted, print_source, stop};
+use crate::files::log_of;
 use crate::replay::{Beginning, NoManager, manager_of};
-use capture_datagrams::datagrams::Unread;
+use crate::source_log::{RefusalLine, SourceLog};
 use capture_datagrams::one_way::OneWay;
 use capture_files::{Printed, Printer};
 use snmp_manager::Manager;
-use snmpsec_io::{ReadFault, Watched, open_log, write_whole};
+use snmpsec_io::write_whole;
 use snmpsec_output::Output;
 use snmpsec_replay::{Printing, answer_line};
 use std::alloc::{AllocError, Global};
-use std::io::{BufReader, BufWriter, Input, Read, Write};
+use std::io::{BufWriter, Input, Write};
 use std::rt::Files;
 
 /// A manager that takes each datagram, and the line for it where lines are wanted.
@@ -47,8 +48,8 @@ impl Printer for Taking {
     }
 }
 
-/// Opens the file, `-` for standard input, and replays its datagrams. The configuration is looked at first, then the
-/// clocks file, then the file of datagrams.
+/// Opens the file, and writes the lines of its datagrams, and then the saved clocks, unless the file is out of its
+/// form. The configuration is looked at first, then the clocks file, then the file of datagrams.
 pub(crate) fn replay_file<R: Files + Input + AllocGlobal, O: Write, E: Write>(
     rt: &R,
     beginning: Beginning<'_>,
@@ -64,49 +65,35 @@ pub(crate) fn replay_file<R: Files + Input + AllocGlobal, O: Write, E: Write>(
         Err(NoManager::Refused(output)) => return Ok(output),
         Err(NoManager::OutOfMemory) => return Err(Complaint::OutOfMemory),
     };
-    let taking = Taking { manager, printing };
-    if name == "-" {
-        let Ok(mut reader) = BufReader::new(alloc, Watched::new(rt.reader())) else {
-            return Err(Complaint::OutOfMemory);
-        };
-        return replay_read(alloc, taking, wanted, name, &mut reader, out, err);
-    }
-    match open_log(rt, name) {
-        Ok(mut reader) => replay_read(alloc, taking, wanted, name, &mut reader, out, err),
-        Err(fault) => Err(Complaint::unread(alloc, name, fault)),
-    }
-}
-
-/// Writes the lines of the datagrams that are read, and then the saved clocks, unless the file is out of its form.
-fn replay_read<R: Read + Drop, O: Write, E: Write>(
-    alloc: Global,
-    taking: Taking,
-    wanted: &Wanted,
-    name: &str,
-    reader: &mut BufReader<Watched<R>>,
-    out: &mut O,
-    err: &mut E,
-) -> Result<Output, Complaint> {
-    let Ok(mut log) = BufWriter::new(alloc, out) else {
+    let mut reader = log_of(rt, name)?;
+    let Ok(mut buffer) = BufWriter::new(alloc, out) else {
         return Err(Complaint::OutOfMemory);
     };
-    let mut printer = OneWay::new(taking, wanted.from_port());
-    let answer = print_source(alloc, wanted, name, &mut printer, reader, &mut log, err);
+    let mut log = SourceLog::new(alloc, name, RefusalLine::Kept, &mut buffer);
+    let mut printer = OneWay::new(Taking { manager, printing }, wanted.from_port());
+    let answer = print_source(
+        alloc,
+        wanted,
+        name,
+        &mut printer,
+        &mut reader,
+        &mut log,
+        err,
+    );
+    let why = log.why()?;
     let saved = match answer {
-        Ok(0) => write_saved(&printer.into_printer().manager, &mut log),
+        Ok(0) => write_saved(&printer.into_printer().manager, &mut buffer),
         _ => Ok(()),
     };
-    if log.flush().is_err() {
+    if buffer.flush().is_err() {
         return Err(Complaint::line(alloc, "cannot write"));
     }
     match answer {
-        Ok(status) => saved.map(|()| Output::out(alloc, Vec::new(alloc), status)),
-        Err(Unread::CannotRead) => {
-            let fault = reader.get_ref().fault().unwrap_or(ReadFault::TooLarge);
-            Err(Complaint::unread(alloc, name, fault))
-        }
-        Err(Unread::CannotWrite) => Err(Complaint::line(alloc, "cannot write")),
-        Err(Unread::OutOfMemory) => Err(Complaint::OutOfMemory),
+        Ok(status) => saved.map(|()| Output {
+            why,
+            ..Output::out(alloc, Vec::new(alloc), status)
+        }),
+        Err(fault) => Err(stop(alloc, name, &reader, fault)),
     }
 }
 

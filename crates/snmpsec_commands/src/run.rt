@@ -1,7 +1,8 @@
 //! From the command line to what is written.
 
 ghost use Rattle.std.specs.Prelude.{◌≡◌, ◌++◌, [], Ok, IfErr, IfOk};
-ghost use Rattle.snmpsec_commands.specs.Run.{why_line};
+ghost use Rattle.snmpsec_commands.specs.Complaints.{IsComplaint};
+ghost use Rattle.snmpsec_commands.specs.Run.{Finishes, why_line};
 
 use crate::command::command;
 use crate::complaint::Complaint;
@@ -36,7 +37,11 @@ pub fn finish<O: Write, E: Write>(
     answered: Result<Output, AllocError>,
     out: &mut Piped<O>,
     err: &mut E,
-) -> u8 {
+) -> u8
+    ensures ok { IfOk answered (λ output. Finishes (O.contents out.old.writer) (O.contents out.new.writer)
+        (E.contents err.old) (E.contents err.new) output result) }
+    ensures err { IfErr answered (λ _. result ≡ 2) }
+{
     if out.is_closed() {
         return 2;
     }
@@ -50,7 +55,10 @@ pub fn finish<O: Write, E: Write>(
 }
 
 /// Writes what a command prints. A write that fails gives status 2.
-fn print<O: Write, E: Write>(output: &Output, out: &mut Piped<O>, err: &mut E) -> u8 {
+fn print<O: Write, E: Write>(output: &Output, out: &mut Piped<O>, err: &mut E) -> u8
+    ensures { Finishes (O.contents out.old.writer) (O.contents out.new.writer)
+        (E.contents err.old) (E.contents err.new) output.now result }
+{
     if write_whole(out, &output.out).is_err() {
         if !out.is_closed() {
             let _ = write_whole(err, CANNOT_WRITE);
@@ -131,8 +139,7 @@ fn answer_asked<R: Files + Input + AllocGlobal, O: Write, E: Write>(
 /// What is printed for the answer of a command: its output, or its complaint on standard error with status 2.
 pub fn output_of(alloc: Global, answered: Result<Output, Complaint>) -> Result<Output, AllocError>
     ensures ok { IfOk answered (λ output. result ≡ Ok output) }
-    ensures err { IfErr answered
-        (λ complaint. IfOk result (λ output. (output.out.items ≡ []) × (output.status ≡ 2))) }
+    ensures err { IfErr answered (λ complaint. IfOk result (IsComplaint complaint)) }
 {
     match answered {
         Ok(output) => Ok(output),
@@ -144,9 +151,11 @@ pub fn output_of(alloc: Global, answered: Result<Output, Complaint>) -> Result<O
 fn says_why(asked: &Invocation<'_, '_>) -> bool {
     match asked.command {
         Command::Show | Command::Open => asked.words.get_str("HEX").is_none(),
+        Command::Replay => asked.words.get_str("FILE").is_some(),
         Command::WhoSees
         | Command::Sees
         | Command::Datagrams
+        | Command::Diagnose
         | Command::CheckClocks
         | Command::CheckLog => true,
         _ => false,

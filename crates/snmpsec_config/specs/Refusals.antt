@@ -185,7 +185,7 @@ refusal_line (faults.Row of position wrong) = codes "refused config "
     ++ (table_name of ++ (codes " " ++ (decimal position ++ (codes " " ++ wrong_name wrong))))
 refusal_line faults.OutOfMemory = codes "out of memory"
 
--- This is a refusal of the text, and not want of memory.
+-- This is a refusal of the text, and not OutOfMemory.
 pub record RefusesText (text : List ℕ) (fault : ConfigFault) : Type 0 where
   pub cause : Refuses text fault
   pub no_memory : fault ≢ faults.OutOfMemory

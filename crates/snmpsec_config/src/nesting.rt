@@ -1,6 +1,6 @@
 //! How deep a text is nested, looked at before it is read as TOML. Reading takes stack for each level.
 
-ghost use Rattle.std.specs.Prelude.{◌≡◌, ◌-◌, ◌<◌, ◌≤◌, length, take, drop, IfOk, IfSome, MatchOption, IsUtf8};
+ghost use Rattle.std.specs.Prelude.{◌≡◌, ◌-◌, ◌<◌, ◌≤◌, length, IfOk, IfSome, MatchOption, IsUtf8};
 ghost use Rattle.std.specs.Prelude.{option_map, MatchBool};
 ghost use Rattle.toml_parser.specs.Lexical.{skip_blank};
 ghost use Rattle.snmpsec_config.specs.declared.nesting.Mark.TheVariants.{Opens};

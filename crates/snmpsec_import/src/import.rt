@@ -6,11 +6,11 @@ use snmpd_import::{
 };
 use snmpd_tables::read_items;
 use snmpsec_cli::ImportWords;
-use snmpsec_commands::Complaint;
-use snmpsec_io::load_file;
+use snmpsec_commands::{Complaint, octets_of};
 use snmpsec_output::Output;
 use std::alloc::{AllocError, Global};
 use std::collections::BTreeSet;
+use std::io::Input;
 use std::rt::Files;
 use vacm_core::{ContextRow, Name};
 
@@ -44,15 +44,13 @@ fn put_context<'a>(
 }
 
 /// Puts the lines of a file behind those that are there.
-fn read_source<R: Files + AllocGlobal>(
+fn read_source<R: Files + Input + AllocGlobal>(
     rt: &R,
     sources: &mut Sources,
     name: &str,
 ) -> Result<(), Complaint> {
-    match load_file(rt, name) {
-        Ok(text) => Ok(put_source(rt.alloc(), sources, name, &text)?),
-        Err(fault) => Err(Complaint::unread(rt.alloc(), name, fault)),
-    }
+    let text = octets_of(rt, name)?;
+    Ok(put_source(rt.alloc(), sources, name, &text)?)
 }
 
 /// Puts the lines of a text behind those that are there.
@@ -71,7 +69,7 @@ fn put_source(
 /// Looks at the names of contexts before it opens a file, reads the files in their order and those that they
 /// name, and then prints the configuration. The first file that isn't read ends it. Where no line of them is
 /// known, there is none.
-pub(crate) fn import_snmpd<R: Files + AllocGlobal>(
+pub(crate) fn import_snmpd<R: Files + Input + AllocGlobal>(
     rt: &R,
     words: &ImportWords<'_>,
 ) -> Result<Output, Complaint> {

@@ -7,11 +7,11 @@ use snmpsec_commands::Piped;
 use snmpsec_commands::run::{explain, finish, output_of, usage};
 use snmpsec_output::Output;
 use std::alloc::AllocError;
-use std::io::Write;
+use std::io::{Input, Write};
 use std::rt::{Env, Files};
 
 /// Runs `import-snmpd` over the program's arguments, and returns its status.
-pub(crate) fn run<R: Files + Env + AllocGlobal, O: Write, E: Write>(
+pub(crate) fn run<R: Files + Env + Input + AllocGlobal, O: Write, E: Write>(
     rt: &R,
     out: &mut O,
     err: &mut E,
@@ -20,7 +20,7 @@ pub(crate) fn run<R: Files + Env + AllocGlobal, O: Write, E: Write>(
 }
 
 /// What the program prints.
-fn answer<R: Files + Env + AllocGlobal>(rt: &R) -> Result<Output, AllocError> {
+fn answer<R: Files + Env + Input + AllocGlobal>(rt: &R) -> Result<Output, AllocError> {
     match arguments(rt) {
         Ok(words) => {
             let output = answer_words(rt, words.as_slice());
@@ -32,7 +32,10 @@ fn answer<R: Files + Env + AllocGlobal>(rt: &R) -> Result<Output, AllocError> {
 }
 
 /// The same, of the words of a command line, the program's name first.
-fn answer_words<R: Files + AllocGlobal>(rt: &R, words: &[String]) -> Result<Output, AllocError> {
+fn answer_words<R: Files + Input + AllocGlobal>(
+    rt: &R,
+    words: &[String],
+) -> Result<Output, AllocError> {
     match parse(rt.alloc(), words) {
         Ok(matches) => {
             let output = answer_matches(rt, &matches);
@@ -44,7 +47,7 @@ fn answer_words<R: Files + AllocGlobal>(rt: &R, words: &[String]) -> Result<Outp
 }
 
 /// The same, of what the parser made of them.
-fn answer_matches<R: Files + AllocGlobal>(
+fn answer_matches<R: Files + Input + AllocGlobal>(
     rt: &R,
     matches: &ArgMatches<'_>,
 ) -> Result<Output, AllocError> {
@@ -62,7 +65,10 @@ fn answer_matches<R: Files + AllocGlobal>(
 }
 
 /// What import-snmpd prints, and after a file that can't be read why it can't.
-fn import<R: Files + AllocGlobal>(rt: &R, words: &ArgMatches<'_>) -> Result<Output, AllocError> {
+fn import<R: Files + Input + AllocGlobal>(
+    rt: &R,
+    words: &ArgMatches<'_>,
+) -> Result<Output, AllocError> {
     let answered = import_snmpd(rt, &import_words(words));
     let output = output_of(rt.alloc(), answered)?;
     explain(rt.alloc(), output)

@@ -13,4 +13,3 @@ pub mod Opening
 pub mod Variables
 pub mod Names
 pub mod Community
-pub mod Counters

@@ -1,6 +1,6 @@
 -- What `snmpsec who-sees` prints.
 --
--- `PrintsWho config words only printed`. A word out of its form is reported first (`IsFirstWrong`), then a
+-- `PrintsWho config words only extent printed`. A word out of its form is reported first (`IsFirstWrong`), then a
 -- configuration that is refused with what is wrong with it, and else who sees the variable (`Lists`), for
 -- the view that is asked for or for each (`views_of`).
 use Rattle.std.specs.Prelude.{◌≡◌, ◌⊎◌, ⊤, ℕ, Bool, List, [], ◌∷◌, ◌++◌, codes, Option, Some, None, IsSomeAnd}
@@ -12,6 +12,7 @@ use Rattle.vacm_core.specs.declared.access.ViewType.TheVariants.{Read, Write, No
 use Rattle.snmpsec_config.specs.Refusals.{SaysSound}
 use Rattle.snmpsec_access.specs.Words.{view_word}
 use Rattle.snmpsec_access.specs.WhoSees.{TellsWho}
+use Rattle.snmpsec_access.specs.declared.extent.Extent.{Extent}
 use Rattle.snmpsec_output.specs.declared.arguments.Argument.{Argument}
 use Rattle.snmpsec_output.specs.declared.arguments.Argument.TheVariants.{Model, Level as LevelWord, View, Oid}
 use Rattle.snmpsec_output.specs.CheckConfig.{Explains}
@@ -61,20 +62,20 @@ abbrev pub line_status : List ℕ → ℕ
 line_status [] = 1
 line_status (c ∷ cs) = 0
 
--- Who sees the variable is printed, over the rows that the configuration stands for.
-pub record Lists (config : List ℕ) (only_users : Bool) (variable : List ℕ) (view : Option ViewType)
+-- Who sees what is asked for is printed, over the rows that the configuration stands for.
+pub record Lists (config : List ℕ) (only_users : Bool) (extent : Extent) (variable : List ℕ) (view : Option ViewType)
     (printed : Printed) : Type 0 where
   pub users : List UserRow
   pub rows : Tables
   pub says : SaysSound config users rows
-  pub out : TellsWho rows (views_of view) only_users users variable printed.out
+  pub out : TellsWho rows (views_of view) only_users users extent variable printed.out
   pub err : printed.err ≡ []
   pub status : printed.status ≡ line_status printed.out
 
 -- A word out of its form is reported first, then a configuration that is refused and what is wrong with it, and
--- else who sees the variable.
-abbrev pub PrintsWho : List ℕ → WhoWords → Bool → Printed → Type 0
-PrintsWho config words only_users printed =
+-- else who sees what is asked for.
+abbrev pub PrintsWho : List ℕ → WhoWords → Bool → Extent → Printed → Type 0
+PrintsWho config words only_users extent printed =
     TellsWord words printed
     ⊎ ((variable : List ℕ) × (view : Option ViewType) × AsksWho words variable view
-    × (Explains config printed ⊎ Lists config only_users variable view printed))
+    × (Explains config printed ⊎ Lists config only_users extent variable view printed))

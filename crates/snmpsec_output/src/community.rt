@@ -1,6 +1,6 @@
 //! `snmpsec show --community`: messages of version-1 and SNMPv2c beside those of SNMPv3.
 
-ghost use Rattle.std.specs.Prelude.{◌≡◌, ◌≢◌, ◌⊎◌, IfErr, IfOk, MatchResult, string_bytes};
+ghost use Rattle.std.specs.Prelude.{◌≡◌, ◌⊎◌, IfOk, MatchResult, string_bytes};
 ghost use Rattle.snmp_message.specs.declared.refusal.Refusal.TheVariants as refusals;
 ghost use Rattle.snmp_msg.specs.Pdu.{pdu_of};
 ghost use Rattle.snmp_msg.specs.Refusals.{RefusesPdu};

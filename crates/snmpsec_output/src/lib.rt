@@ -47,11 +47,9 @@ mod who_sees;
 mod words;
 
 pub use arguments::argument_words;
-pub use causes::cause;
 pub use check::check_text;
 pub use check_config::{check_config_hinted, check_config_text, refusal_and_why};
 pub use community::{show_any_version, show_any_version_text};
-pub use counters::counter_named;
 pub use explain::explain_text;
 pub use laws::one_opening;
 pub use lines::{message_lines, octets_line, scoped_lines};

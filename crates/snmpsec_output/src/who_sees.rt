@@ -1,8 +1,8 @@
-//! `snmpsec who-sees`: who may see a variable.
+//! `snmpsec who-sees`: who may see a variable, or some name at or below it.
 
 ghost use Rattle.std.specs.Prelude.{◌≡◌, [], IfOk, IfErr};
 ghost use Rattle.std.specs.Option.{option_map};
-ghost use Rattle.vacm_core.specs.Tables.{tables_of};
+ghost use Rattle.vacm_core.specs.Tables.{tables_of, HaveSameRows};
 ghost use Rattle.snmpsec_access.specs.WhoSees.{AnswerFor, TellsWho};
 ghost use Rattle.snmpsec_output.specs.Questions.{Printed};
 ghost use Rattle.snmpsec_output.specs.WhoSees.{PrintsWho, WhoWords, AsksWho, IsFirstWrong, views_of, line_status};
@@ -12,7 +12,7 @@ use crate::check_config::refusal_and_why;
 use crate::output::Output;
 use crate::words::view_of;
 use snmp_ber::Oid;
-use snmpsec_access::{WhoSeesQuery, who_sees};
+use snmpsec_access::{Extent, WhoSeesQuery, who_sees};
 use snmpsec_config::AccessConfig;
 use std::alloc::{AllocError, Global};
 use vacm_core::ViewType;
@@ -21,16 +21,19 @@ use vacm_core::ViewType;
 /// VIEW CONTEXT` for each question of the variable that `check-access` answers by accessAllowed, with status
 /// 0, or with status 1 where there is none.
 ///
-/// Without VIEW each view is asked for. With `only_users` there are the lines of names alone that are users'
-/// and support the level. The first argument out of its form is reported on standard error, with status 2; then a
-/// configuration that is refused, with what is wrong on standard error, and status 1. No key is made of a
-/// password.
+/// With `Extent::Below` there is a line for each of which some name at or below the variable is answered so: the
+/// variable, or a longer name that begins with its arcs. Without VIEW each view is asked for. With `only_users` there
+/// are the lines of names alone that are users' and support the level.
+///
+/// The first argument out of its form is reported on standard error, with status 2; then a configuration that is
+/// refused, with what is wrong on standard error, and status 1. No key is made of a password.
 pub fn who_text(
     alloc: Global,
     config: &[u8],
     variable: &str,
     view: Option<&str>,
     only_users: bool,
+    extent: Extent,
 ) -> Result<Output, AllocError>
     ensures { IfOk result
         (λ output. let printed : Printed = record {
@@ -42,7 +45,7 @@ pub fn who_text(
           variable = variable.now;
           view = option_map (λ word. word.now) view.entry;
         } in
-        PrintsWho config.now words only_users printed) }
+        PrintsWho config.now words only_users extent printed) }
 {
     let asked = match asked_of(variable, view) {
         Ok(asked) => asked,
@@ -50,7 +53,7 @@ pub fn who_text(
         Err(argument) => return bad_word(alloc, argument, variable),
     };
     match AccessConfig::read(alloc, config) {
-        Ok(config) => list_askers(alloc, &config, &asked, only_users),
+        Ok(config) => list_askers(alloc, &config, &asked, only_users, extent),
         Err(fault) if fault.is_memory() => Err(AllocError),
         Err(fault) => refusal_and_why(alloc, &fault),
     }
@@ -94,17 +97,19 @@ fn asked_of(variable: &str, view: Option<&str>) -> Result<Asked, Argument>
     }
 }
 
-/// The lines of who sees the variable.
+/// The lines of who sees what is asked for.
 fn lines_of(
     alloc: Global,
     config: &AccessConfig,
     asked: &Asked,
     only_users: bool,
+    extent: Extent,
 ) -> Result<Vec<u8>, AllocError>
-    requires { AnswerFor config.now.access (tables_of config.now.rows.access) }
+    requires answers { AnswerFor config.now.access (tables_of config.now.rows.access) }
+    requires same_rows { HaveSameRows (tables_of config.now.rows.access) config.now.access }
     ensures { IfOk result
         (λ text. TellsWho (tables_of config.now.rows.access)
-        (views_of asked.now.view) only_users config.now.rows.users.items
+        (views_of asked.now.view) only_users config.now.rows.users.items extent
         asked.now.variable text.items) }
 {
     let wanted = WhoSeesQuery {
@@ -112,6 +117,7 @@ fn lines_of(
         rows: &config.rows.access,
         users: config.rows.users.as_slice(),
         only_users,
+        extent,
         variable: &asked.variable,
     };
     match asked.view {
@@ -130,16 +136,18 @@ fn list_askers(
     config: &AccessConfig,
     asked: &Asked,
     only_users: bool,
+    extent: Extent,
 ) -> Result<Output, AllocError>
-    requires { AnswerFor config.now.access (tables_of config.now.rows.access) }
+    requires answers { AnswerFor config.now.access (tables_of config.now.rows.access) }
+    requires same_rows { HaveSameRows (tables_of config.now.rows.access) config.now.access }
     ensures out { IfOk result
         (λ output. TellsWho (tables_of config.now.rows.access)
-        (views_of asked.now.view) only_users config.now.rows.users.items
+        (views_of asked.now.view) only_users config.now.rows.users.items extent
         asked.now.variable output.out.items) }
     ensures err { IfOk result (λ output. output.err.items ≡ []) }
     ensures status { IfOk result (λ output. output.status ≡ line_status output.out.items) }
 {
-    let text = lines_of(alloc, config, asked, only_users)?;
+    let text = lines_of(alloc, config, asked, only_users, extent)?;
     let status = if text.is_empty() { 1 } else { 0 };
     Ok(Output::out(alloc, text, status))
 }

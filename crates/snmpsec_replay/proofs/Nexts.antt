@@ -1,5 +1,5 @@
 -- What is next in a log, of a line with its line feed.
-use Rattle.std.proofs.Common.{◌≡◌, ℕ, ◌≤◌, List, [], ◌∷◌, ◌++◌, length, Option, Result, Ok, Err, IfOk, refl, inr}
+use Rattle.std.proofs.Common.{ℕ, ◌≤◌, List, [], ◌∷◌, ◌++◌, length, Option, Result, Ok, Err, IfOk, refl, inr}
 use Rattle.std.specs.Io.KnownBytes.{Consumes}
 use Rattle.snmp_ber.specs.Splits.{Lacks}
 use Rattle.snmpsec_replay.specs.Entries.{TellsLineAs, TellsNext}

@@ -1,10 +1,7 @@
 //! Managers that share saved clocks.
 
-ghost use Rattle.std.specs.Prelude.{◌≡◌, ℕ, List, [], IfSome, Some, map, slice_get};
-ghost use Rattle.engine_clock.specs.Marks.{Marks};
-ghost use Rattle.usm_users.specs.User.{User};
-ghost use Rattle.snmp_manager.specs.Views.{Held, held_by};
-ghost use Rattle.snmp_manager.specs.State.{WorldState};
+ghost use Rattle.std.specs.Prelude.{◌≡◌, ℕ, IfSome, Some, slice_get};
+ghost use Rattle.snmp_manager.specs.Views.{Held};
 ghost use Rattle.snmp_manager.specs.Knowledge.{SameKnowledge};
 ghost use Rattle.tests_callers.specs.Begun.{known_to};
 

@@ -16,6 +16,7 @@ mod of_snmpd_tables;
 mod of_snmpd_tables_choices;
 mod of_snmpsec_access;
 mod of_snmpsec_access_hints;
+mod of_snmpsec_causes;
 mod of_snmpsec_cli;
 mod of_snmpsec_commands;
 mod of_snmpsec_io;

@@ -2,6 +2,7 @@
 
 use super::streams::{Calls, Choppy};
 use capture_files::{CaptureFault, write_datagrams};
+use snmpsec_access::Extent;
 use snmpsec_output::{
     Output, check_config_text, check_text, merge_text, open_text, sees_text, show_text, who_text,
 };
@@ -362,9 +363,9 @@ const LISTED: &str = "2147483647 \"a b\" noAuthNoPriv write \"@\"
 #[test]
 fn a_refused_growth_lists_nothing_else(rt: HostRuntime) -> Result<(), Fail> {
     let (config, view) = (NAMES.as_bytes(), Some("write"));
-    let output = match who_text(rt.alloc(), config, "1.3", view, false) {
+    let output = match who_text(rt.alloc(), config, "1.3", view, false, Extent::Variable) {
         Ok(output) => output,
-        Err(_) => who_text(rt.alloc(), config, "1.3", view, false)?,
+        Err(_) => who_text(rt.alloc(), config, "1.3", view, false, Extent::Variable)?,
     };
     expect(&rt, &output, LISTED, "");
     Ok(())

@@ -41,6 +41,11 @@ impl Views {
         self.tables.take()
     }
 
+    /// The tables of the last row `load`.
+    pub fn tables(&self) -> Option<&Vacm> {
+        self.tables.as_ref()
+    }
+
     /// `load`: makes the tables of the rows, or tells the first row at fault.
     fn load(&mut self, row: &mut Row<'_>) {
         match Vacm::load(row.alloc, &self.rows) {
@@ -224,7 +229,7 @@ fn no_name() -> Name {
 }
 
 /// A name of at most 32 octets, or `-` for the empty one.
-fn name_of(row: &mut Row<'_>) -> Name {
+pub fn name_of(row: &mut Row<'_>) -> Name {
     match Name::of(row.name()) {
         Some(name) => name,
         None => {

@@ -5,6 +5,7 @@
 mod access;
 mod agent;
 mod config;
+mod device;
 mod manager;
 mod outcome;
 mod replay;

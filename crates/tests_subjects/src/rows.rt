@@ -2,6 +2,7 @@
 
 use crate::access::Views;
 use crate::config::Settings;
+use crate::device::Device;
 use crate::outcome::Reading;
 use crate::replay::Logs;
 use crate::stations::Stations;
@@ -165,6 +166,7 @@ fn check_named<R: Files + Print + AllocGlobal>(rt: &R, file: &str) -> Result<Cou
         "keys.rows" => check_file::<R, Keys>(rt, file),
         "clocks.rows" => check_file::<R, Held>(rt, file),
         "access.rows" => check_file::<R, Views>(rt, file),
+        "device.rows" => check_file::<R, Device>(rt, file),
         "usm.rows" => check_file::<R, Sealing>(rt, file),
         "outcome.rows" => check_file::<R, Reading>(rt, file),
         "config.rows" => check_file::<R, Settings>(rt, file),

@@ -154,7 +154,7 @@ impl Users {
             ↔ IsAuthenticatedAs (checked_answer result) engine pair }
         ensures level { IfOk result (λ c. c.level ≡ level_of c.message.header) }
 
-        // Want of memory is never the error.
+        // OutOfMemory is never the error.
         ensures memory { IfErr result (λ e. e.refusal ≢ OutOfMemory) }
 
         // What was read is the datagram's, and its engine, user and digest are as the rows ask.
@@ -260,7 +260,7 @@ impl Users {
         ensures rows { IfSome (seal_answer result)
             (Seals self.old.users (sending header.now engine.now pair user.now salt scoped.now)) }
 
-        // The refusals before the text come before want of memory.
+        // The refusals before the text come before OutOfMemory.
         ensures memory { IsRefused result OutOfMemory
             → IsSealable self.old.users (sending header.now engine.now
             pair user.now salt scoped.now) }

@@ -1,5 +1,5 @@
 //! Rows that stand by name, the rows of a name from the best down.
-ghost use Rattle.std.specs.Prelude.{◌≡◌, ◌<◌, ◌≤◌, length, nat_lt, true, false, get_or, MatchBool, IfOk, OnOk};
+ghost use Rattle.std.specs.Prelude.{◌≡◌, ◌<◌, ◌≤◌, length, nat_lt, true, false, IfOk, OnOk};
 ghost use Rattle.std.specs.List.Sorted.{IsPermutation, IsPartitionedBy, IsPartitionPoint};
 ghost use Rattle.vacm_core.specs.RowOrder.{place_order, side_of, AreInPlace};
 

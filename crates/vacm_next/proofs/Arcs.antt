@@ -1,11 +1,12 @@
 -- Arcs that no row compares are alike, and the least one is found.
-use Rattle.std.proofs.Common.{◌≡◌, ◌≢◌, ℕ, zero, suc, ◌+◌, ◌^◌, ◌<◌, ◌≤◌, Option, Some, None, MatchOption, List, [], ◌∷◌, ◌++◌, length, get_or, Contains, sym, ap, subst, ◌∙◌, refl, inl, inr, arith}
+use Rattle.std.proofs.Common.{◌≡◌, ◌≢◌, ℕ, zero, suc, ◌+◌, ◌-◌, ◌⊎◌, ◌^◌, ◌<◌, ◌≤◌, Option, Some, None, MatchOption, IfSome, List, [], ◌∷◌, ◌++◌, length, get_or, Contains, sym, ap, subst, ◌∙◌, refl, inl, inr, arith}
 use Rattle.std.specs.List.{AllByRecursion}
 use Rattle.std.specs.Option.{SomeIff}
 use Rattle.vacm_core.specs.declared.rows.FamilyRow.{FamilyRow}
 use Rattle.vacm_core.specs.Allowed.{mask_bit}
-use Rattle.vacm_core.specs.View.{HasArcs, NoneUnder}
-use Rattle.vacm_next.specs.Opening.{OpensAt, ComparesNext, IsFree, IsLowerThan}
+use Rattle.std.proofs.lemmas.Bool.{cases_lt}
+use Rattle.vacm_core.specs.View.{HasArcs, IsUnder, NoneUnder}
+use Rattle.vacm_next.specs.Opening.{OpensAt, ComparesNext, IsAtRow, IsFree, IsLeastArc, IsLowerThan}
 use Rattle.vacm_next.proofs.Order.{which}
 
 -- ---- names that differ in one arc
@@ -118,3 +119,82 @@ module _ (rows : List FamilyRow) (w : List ℕ) (arc : ℕ) where
       (λ n. (arc < n) × ((other : ℕ) → arc < other → other < n → OpensAt rows w other → OpensAt rows w arc))
   after None most = λ other greater opens. absurd (most (let b = arc_below rows w other opens in omega (arith, b, greater)))
   after (Some n) is = (let e = is.1 in omega arith, λ other greater less opens. absurd (let e = is.1 in omega (arith, greater, less, e)))
+
+-- ---- all arcs at one look at each row
+
+-- no arc opens that is less than the least so far, and that one of the rows before this place compares, or the one before it
+abbrev pub NoneOpensBefore : List FamilyRow → List ℕ → ℕ → Option ℕ → ℕ → Type 0
+NoneOpensBefore rows w low least place =
+    (k : ℕ) (d : FamilyRow) → k < place → (other : ℕ) → low ≤ other → IsLowerThan other least → IsAtRow w (get_or rows k d) low other → ¬ OpensAt rows w other
+
+lower_still : (least : Option ℕ) (a b : ℕ) → a ≤ b → IsLowerThan b least → IsLowerThan a least
+lower_still None a b upto under = tt
+lower_still (Some n) a b upto under = omega (arith, upto, under)
+
+at_is_under : (w : List ℕ) (row : FamilyRow) (low arc : ℕ) → IsAtRow w row low arc → IsUnder w row
+at_is_under w row low arc at = elim at [
+  | inl h ↦ record { longer = h.longer; agrees = h.agrees }
+  | inr (before, from, is, h) ↦ record { longer = h.longer; agrees = h.agrees }
+]
+
+module _ (rows : List FamilyRow) (w : List ℕ) (low : ℕ) where
+  -- one more row is looked at, and others are passed over that don't agree with the beginning
+  pub one_more_opens : (least more : Option ℕ) (place next : ℕ) (row : FamilyRow) → ((d : FamilyRow) → row ≡ get_or rows place d) → ((other : ℕ) → IsLowerThan other more → IsLowerThan other least)
+      → ((other : ℕ) → low ≤ other → IsLowerThan other more → IsAtRow w row low other → ¬ OpensAt rows w other) → NoneUnder rows w (place + 1) next → NoneOpensBefore rows w low least place
+      → NoneOpensBefore rows w low more next
+  one_more_opens least more place next row at upto not_this skipped none k d before other from under near opens = elim (which k place) [
+    | inl lower ↦ none k d lower other from (upto other under) near opens
+    | inr (inl same) ↦ not_this other from under (subst (λ (r : FamilyRow). IsAtRow w r low other) (ap (λ n. get_or rows n d) same ∙ sym (at d)) near) opens
+    | inr (inr past) ↦ skipped k d (omega (arith, past)) before (at_is_under w (get_or rows k d) low other near)
+  ]
+
+  pub none_opens_first : (least : Option ℕ) (next : ℕ) → NoneUnder rows w 0 next → NoneOpensBefore rows w low least next
+  none_opens_first least next skipped k d before other from under near opens = skipped k d (omega arith) before (at_is_under w (get_or rows k d) low other near)
+
+  -- what was found opens: what there was so far, or what this row gave
+  pub kept_open : (least more : Option ℕ) → IfSome least (λ arc. (low ≤ arc) × OpensAt rows w arc) → IfSome more (λ arc. (least ≡ Some arc) ⊎ ((low ≤ arc) × OpensAt rows w arc))
+      → IfSome more (λ arc. (low ≤ arc) × OpensAt rows w arc)
+  kept_open least None found one = tt
+  kept_open least (Some n) found (inl same) = subst (λ (l : Option ℕ). IfSome l (λ arc. (low ≤ arc) × OpensAt rows w arc)) same found
+  kept_open least (Some n) found (inr opens) = opens
+
+  module _ (least : Option ℕ) (first : IsLowerThan low least → ¬ OpensAt rows w low) (none : NoneOpensBefore rows w low least (length rows)) where
+    -- an arc that opens is at a row, or the arc before it opens too
+    closed : (m : ℕ) → IsLowerThan (low + m) least → ¬ OpensAt rows w (low + m)
+    closed zero under opens =
+        let e : low + zero ≡ low = omega arith in
+        first (subst (λ n. IsLowerThan n least) e under) (subst (OpensAt rows w) e opens)
+    closed (suc m) under opens =
+        let behind : low + suc m ≡ low + m + 1 = omega arith in
+        closed m (lower_still least (low + m) (low + suc m) (omega arith) under)
+        (alike rows w (low + suc m) (low + m)
+        (λ row there next. none there.0 row there.1 (low + suc m) (omega arith) under (inl (subst (λ (r : FamilyRow). ComparesNext w r (low + suc m)) (sym there.2) next)) opens)
+        (λ row there next. none there.0 row there.1 (low + suc m) (omega arith) under (inr (low + m, omega arith, behind, subst (λ (r : FamilyRow). ComparesNext w r (low + m)) (sym there.2) next)) opens)
+        (let b = arc_below rows w (low + suc m) opens in omega (arith, b)) opens)
+
+    none_lower : (other : ℕ) → low ≤ other → IsLowerThan other least → ¬ OpensAt rows w other
+    none_lower other from under opens =
+        let e : low + (other - low) ≡ other = omega (arith, from) in
+        closed (other - low) (subst (λ n. IsLowerThan n least) (sym e) under) (subst (OpensAt rows w) (sym e) opens)
+
+  -- each row was looked at
+  pub least_found : (least : Option ℕ) → (IsLowerThan low least → ¬ OpensAt rows w low) → NoneOpensBefore rows w low least (length rows) → IfSome least (λ arc. (low ≤ arc) × OpensAt rows w arc)
+      → MatchOption least ((arc : ℕ) → low ≤ arc → ¬ OpensAt rows w arc) (λ arc. IsLeastArc rows w low arc)
+  least_found None first none found = λ arc from. none_lower None first none arc from tt
+  least_found (Some n) first none found = record { from_on = found.0; opens = found.1; least = λ other from less. none_lower (Some n) first none other from less }
+
+  -- none opens before an arc, and the least from there on is known
+  pub from_there : (arc : ℕ) → low ≤ arc → ((other : ℕ) → low ≤ other → other < arc → ¬ OpensAt rows w other) → (least : Option ℕ)
+      → MatchOption least ((other : ℕ) → arc ≤ other → ¬ OpensAt rows w other) (λ n. IsLeastArc rows w arc n) → MatchOption least ((other : ℕ) → low ≤ other → ¬ OpensAt rows w other) (λ n. IsLeastArc rows w low n)
+  from_there arc from none None later = λ other upto. elim (cases_lt other arc) [
+    | inl before ↦ none other upto before
+    | inr on ↦ later other on
+  ]
+  from_there arc from none (Some n) later = record {
+    from_on = let l = later.from_on in omega (arith, from, l);
+    opens = later.opens;
+    least = λ other upto less. elim (cases_lt other arc) [
+      | inl before ↦ none other upto before
+      | inr on ↦ later.least other on less
+    ];
+  }

@@ -3,7 +3,7 @@
 -- `Opens rows beginning`: some name of 1 to 128 arcs below 2^32 begins so and is in the view. `Covers`: from some
 -- depth on, the row compares only arcs that the other row compares too, and they are equal. So of names that begin
 -- alike, the row has each that the other row has, if both agree with their beginning.
-use Rattle.std.specs.Prelude.{◌≡◌, ⊤, ℕ, ◌<◌, ◌≤◌, true, List, [], ◌∷◌, ◌++◌, length, slice_index, Contains}
+use Rattle.std.specs.Prelude.{◌≡◌, ◌⊎◌, ⊤, ℕ, ◌+◌, ◌<◌, ◌≤◌, true, List, [], ◌∷◌, ◌++◌, length, slice_index, Contains}
 use Rattle.std.specs.Prelude.{Option, MatchOption}
 use Rattle.std.specs.declared.cmp.Ordering.TheVariants.{Less}
 use Rattle.snmp_ber.specs.Oid.{AreArcs}
@@ -50,6 +50,12 @@ pub record ComparesNext (beginning : List ℕ) (row : FamilyRow) (arc : ℕ) : T
   pub agrees : Agrees beginning row
   pub compares : mask_bit row.mask (length beginning) ≡ 1
   pub arc_is : slice_index row.subtree (length beginning) ≡ arc
+
+-- the row compares this arc after the beginning, or one from `low` on that is just before it
+abbrev pub IsAtRow : List ℕ → FamilyRow → ℕ → ℕ → Type 0
+IsAtRow beginning row low arc =
+    ComparesNext beginning row arc
+    ⊎ ((before : ℕ) × (low ≤ before) × (arc ≡ before + 1) × ComparesNext beginning row before)
 
 -- no row that agrees with the beginning compares its next arc with this one
 abbrev pub IsFree : List FamilyRow → List ℕ → ℕ → Type 0

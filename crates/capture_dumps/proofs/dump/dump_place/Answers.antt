@@ -1,4 +1,4 @@
-use Rattle.std.proofs.Common.{◌≡◌, ◌+◌, true, false, drop, sym, ap, ◌∙◌, arith}
+use Rattle.std.proofs.Common.{◌≡◌, true, drop, sym, ap, ◌∙◌, arith}
 use Rattle.std.proofs.lemmas.Bool.{false≢true}
 use Rattle.capture_dumps.specs.Dump.{IsDumpFrom, begins_dump}
 use Rattle.capture_dumps.proofs.DumpLines.{behind_is_drop, dump_is, dump_again, nothing_begins, one_more}

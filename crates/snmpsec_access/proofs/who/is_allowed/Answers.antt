@@ -9,4 +9,4 @@ returns-in_default c =
     let message = (asker c.args.view c.args.group.now c.args.level c.args.context.now).message in
     let is : Allowed c.args.wanted.now.access.now message c.args.view c.args.wanted.now.variable.now c.is_access_allowed-answer.result =
     rw (← c.as_slice.ensures.octets, ← c.as_slice-2.ensures.octets) c.is_access_allowed-answer.ensures.answer in
-    refused c.args.wanted.now.access.now (tables_of c.args.wanted.now.rows.now) message c.args.view c.args.wanted.now.variable.now c.is_access_allowed-answer.result c.requires is c.in_default.not-AccessAllowed
+    refused c.args.wanted.now.access.now (tables_of c.args.wanted.now.rows.now) message c.args.view c.args.wanted.now.variable.now c.is_access_allowed-answer.result c.requires.answers is c.in_default.not-AccessAllowed

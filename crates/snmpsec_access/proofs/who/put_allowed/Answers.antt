@@ -4,14 +4,14 @@ use Rattle.snmpsec_access.specs.WhoSees.{SeesIt}
 use Rattle.snmpsec_access.proofs.SeenLines.{sees, sees_not}
 use Rattle.snmpsec_access.proofs.who.put_allowed.Goals as goal
 
-pub returns-then-is_allowed : goal.returns-then-is_allowed
-returns-then-is_allowed c =
+pub returns-then-sees_wanted : goal.returns-then-sees_wanted
+returns-then-sees_wanted c =
     on_ok_weaker c.put_line.result
     (sees (SeesIt c.args.wanted.now) (asker c.args.view c.args.group.now c.args.level c.args.context.now) c.args.out.now.items c.put_line.new.out.items
-    (record { wanted = c.requires.wanted; allowed = c.if-is_allowed.ensures }))
+    (record { wanted = c.requires.wanted; seen = c.if-sees_wanted.ensures }))
     c.put_line.ensures
 
 pub returns : goal.returns
 returns c =
     sees_not (SeesIt c.args.wanted.now) (asker c.args.view c.args.group.now c.args.level c.args.context.now) c.args.out.now.items
-    (λ may. c.if-is_allowed.ensures may.allowed)
+    (λ may. c.if-sees_wanted.ensures may.seen)

@@ -1,0 +1,329 @@
+//! Takes the datagrams of a capture one after another, and makes exchanges of them.
+
+ghost use Rattle.std.specs.Prelude.{◌≡◌, [], ◌∷◌, true, false, OnOk};
+ghost use Rattle.diagnose_text.specs.Following.{Follows};
+
+use crate::agents::Agents;
+use crate::facts::{Answer, First, Says, Sent, What};
+use crate::line::Line;
+use crate::reading::{names_of, says_of};
+use crate::report::Report;
+use crate::unread::{Unread, engine_in, unread_in};
+use crate::views::{Viewed, views_of};
+use diagnose_exchanges::{Asked, Copies, Exchanges, digest_of};
+use diagnose_judge::{Judged, Observer, Verdict};
+use engine_clock::{Clocks, EngineId};
+use snmp_incoming::Taken;
+use snmp_msg::{PduType, Refusal, read_message};
+use snmpsec_access::Explainer;
+use std::alloc::{AllocError, Global};
+use usm_core::Users;
+
+/// The ports of SNMP: requests, and notifications (RFC 3417, section 3.1).
+const SNMP: [u16; 2] = [161, 162];
+
+/// Takes the datagrams of a capture one after another, and makes exchanges of them.
+#[derive(Drop)]
+pub(crate) struct Follower {
+    alloc: Global,
+    observer: Observer,
+    views: Option<Explainer>,
+    agents: Agents,
+    pub(crate) exchanges: Exchanges<Asked, First, Answer>,
+    requests: Copies<Sent>,
+}
+
+impl Follower {
+    /// Nothing was captured yet.
+    pub(crate) fn new(
+        alloc: Global,
+        users: Users,
+        clocks: Clocks,
+        views: Option<Explainer>,
+    ) -> Follower
+        ensures none { result.exchanges.list.items ≡ [] }
+        ensures gone { result.exchanges.gone ≡ 0 }
+        ensures users { result.observer.users ≡ users.users }
+        ensures clocks { result.observer.clocks ≡ clocks }
+    {
+        Follower {
+            alloc,
+            observer: Observer::new(users, clocks),
+            views,
+            agents: Agents::new(alloc),
+            exchanges: Exchanges::new(alloc),
+            requests: Copies::new(alloc),
+        }
+    }
+
+    /// The summary of what was printed, and of the engines that are known.
+    pub(crate) fn summary(&self, report: &Report) -> Result<String, AllocError> {
+        report.summary(self.observer.clocks(), &self.agents)
+    }
+
+    /// Takes a datagram, by exactly one step that begins an exchange with it or answers one by it.
+    pub(crate) fn take(&mut self, line: Line, datagram: &[u8]) -> Result<(), AllocError>
+        ensures { OnOk result (Follows (line.number ∷ []) self.old.exchanges.gone self.old.exchanges.list.items
+            self.new.exchanges.gone self.new.exchanges.list.items) }
+    {
+        if let Some(engine) = engine_in(datagram) {
+            if self.agents.leaves_out(&engine) {
+                return self.tell(line.number, line.left_out(engine));
+            }
+        }
+        match self.observer.judge(line.at.seconds, datagram)? {
+            Judged::SentTo { taken, verdict } => self.request(line, &taken, verdict),
+            Judged::SentBy { taken, in_window } => self.sent_by(line, &taken, in_window),
+            Judged::Discovery => self.discovery(line, datagram),
+            Judged::Unread(refused) => self.unread(line, datagram, refused.refusal),
+        }
+    }
+
+    /// The datagram with this number is an exchange of its own.
+    #[tactic(auto, unfolding(crate::specs::Following::Follows))]
+    fn tell(&mut self, number: u64, first: First) -> Result<(), AllocError>
+        ensures { OnOk result (Follows (number ∷ []) self.old.exchanges.gone self.old.exchanges.list.items
+            self.new.exchanges.gone self.new.exchanges.list.items) }
+    {
+        self.exchanges.tell(number, first)
+    }
+
+    /// A request, which waits for its answer from now on, unless it is a copy. What asked the same before gets none,
+    /// unless it is the one that is sent again.
+    fn ask(&mut self, line: Line, id: u32, first: First) -> Result<(), AllocError>
+        ensures { OnOk result (Follows (line.number ∷ []) self.old.exchanges.gone self.old.exchanges.list.items
+            self.new.exchanges.gone self.new.exchanges.list.items) }
+    {
+        if line.copy_of.is_some() {
+            return self.tell(line.number, first);
+        }
+        self.ask_anew(line.number, Asked::by_request(line.route, id), first)
+    }
+
+    /// A request with this number that is no copy.
+    #[tactic(auto, unfolding(crate::specs::Following::Follows))]
+    fn ask_anew(&mut self, number: u64, asked: Asked, first: First) -> Result<(), AllocError>
+        ensures { OnOk result (Follows (number ∷ []) self.old.exchanges.gone self.old.exchanges.list.items
+            self.new.exchanges.gone self.new.exchanges.list.items) }
+    {
+        let again = first.again.map(|again| again.place);
+        let counts = first.again.is_none() && !first.is_discovery();
+        self.exchanges.ask_anew(number, asked, again, counts, first)
+    }
+
+    /// A request that was opened.
+    fn request(&mut self, line: Line, taken: &Taken<'_>, verdict: Verdict) -> Result<(), AllocError>
+        ensures { OnOk result (Follows (line.number ∷ []) self.old.exchanges.gone self.old.exchanges.list.items
+            self.new.exchanges.gone self.new.exchanges.list.items) }
+    {
+        let again = self.note_request(line, taken)?;
+        let what = What::Pdu(names_of(self.alloc, &taken.pdu())?);
+        self.ask(line, taken.id, line.request(taken, what, again, verdict))
+    }
+
+    /// The request with the same user and PDU that was seen before, unless this is a copy.
+    fn note_request(&mut self, line: Line, taken: &Taken<'_>) -> Result<Option<Sent>, AllocError>
+        ensures { self.new.exchanges ≡ self.old.exchanges }
+    {
+        let digest = digest_of(taken.user, taken.scoped().pdu);
+        let sent = Sent {
+            number: line.number,
+            place: self.exchanges.next_place(),
+        };
+        let found = self.requests.note(digest, sent)?;
+        if line.copy_of.is_some() {
+            return Ok(None);
+        }
+        Ok(found)
+    }
+
+    /// What an engine sent.
+    fn sent_by(&mut self, line: Line, taken: &Taken<'_>, in_window: bool) -> Result<(), AllocError>
+        ensures { OnOk result (Follows (line.number ∷ []) self.old.exchanges.gone self.old.exchanges.list.items
+            self.new.exchanges.gone self.new.exchanges.list.items) }
+    {
+        let from = line.route.map(|route| route.from);
+        let notifies = taken.tag == PduType::SNMPv2Trap.tag();
+        self.agents.saw(&taken.engine, from, notifies)?;
+        if notifies {
+            self.tell_alone(line, taken)
+        } else {
+            self.answer(line, taken, in_window)
+        }
+    }
+
+    /// An answer that was opened.
+    fn answer(&mut self, line: Line, taken: &Taken<'_>, in_window: bool) -> Result<(), AllocError>
+        ensures { OnOk result (Follows (line.number ∷ []) self.old.exchanges.gone self.old.exchanges.list.items
+            self.new.exchanges.gone self.new.exchanges.list.items) }
+    {
+        let asked = Asked::by_answer(line.route, taken.id);
+        let Some(answer) = self.answer_of(line, &asked, taken, in_window)? else {
+            return self.tell_alone(line, taken);
+        };
+        if self.answers(&asked, line.number, answer) {
+            return Ok(());
+        }
+        self.tell_alone(line, taken)
+    }
+
+    /// What is known of an answer to what was asked, if something waits for it.
+    fn answer_of(
+        &self,
+        line: Line,
+        asked: &Asked,
+        taken: &Taken<'_>,
+        in_window: bool,
+    ) -> Result<Option<Answer>, AllocError> {
+        let says = match self.asks_engine(asked) {
+            Some(true) => Says::Engine(taken.engine.copy()),
+            Some(false) => says_of(self.alloc, &taken.pdu())?,
+            None => return Ok(None),
+        };
+        let views = self.views_said(asked, &says, taken)?;
+        Ok(Some(Answer {
+            at: line.at,
+            says,
+            views,
+            in_window,
+        }))
+    }
+
+    /// Whether the datagram with this number answers the exchange that waits for an answer with these, if one does.
+    #[tactic(auto, unfolding(crate::specs::Following::Follows))]
+    fn answers(&mut self, asked: &Asked, number: u64, answer: Answer) -> bool
+        ensures answers { result ≡ true → Follows (number ∷ []) self.old.exchanges.gone self.old.exchanges.list.items
+            self.new.exchanges.gone self.new.exchanges.list.items }
+        ensures gone { result ≡ false → self.new.exchanges.gone ≡ self.old.exchanges.gone }
+        ensures stays { result ≡ false
+            → self.new.exchanges.list.items ≡ self.old.exchanges.list.items }
+    {
+        let Ok(place) = self.exchanges.answer(asked, number, answer) else {
+            return false;
+        };
+        self.end_first(place);
+        true
+    }
+
+    /// What the views say of the variables of an answer to what was asked.
+    fn views_said(
+        &self,
+        asked: &Asked,
+        says: &Says,
+        taken: &Taken<'_>,
+    ) -> Result<Vec<Viewed>, AllocError> {
+        let (Some(explainer), Some(first)) = (&self.views, self.asked_first(asked)) else {
+            return Ok(Vec::new(self.alloc));
+        };
+        let context = taken.scoped().name;
+        views_of(self.alloc, explainer, first, says, context, &taken.pdu())
+    }
+
+    /// The first datagram of the exchange that waits for an answer with these.
+    fn asked_first(&self, asked: &Asked) -> Option<&First> {
+        let place = self.exchanges.waits(asked)?;
+        let exchange = self.exchanges.at(place)?;
+        Some(&exchange.first)
+    }
+
+    /// Whether what waits for an answer with these is a discovery, if something waits.
+    fn asks_engine(&self, asked: &Asked) -> Option<bool> {
+        Some(self.asked_first(asked)?.is_discovery())
+    }
+
+    /// The request that was sent again with the one at this place, which has its answer now, is answered too.
+    #[tactic(auto, unfolding(crate::specs::Following::Follows))]
+    fn end_first(&mut self, place: u64)
+        ensures { Follows [] self.old.exchanges.gone self.old.exchanges.list.items
+            self.new.exchanges.gone self.new.exchanges.list.items }
+    {
+        let again = match self.exchanges.at(place) {
+            Some(exchange) => exchange.first.again,
+            None => None,
+        };
+        if let Some(again) = again {
+            self.exchanges.sent_again(again.place, place);
+        }
+    }
+
+    /// A notification, or an answer of which the request isn't known.
+    fn tell_alone(&mut self, line: Line, taken: &Taken<'_>) -> Result<(), AllocError>
+        ensures { OnOk result (Follows (line.number ∷ []) self.old.exchanges.gone self.old.exchanges.list.items
+            self.new.exchanges.gone self.new.exchanges.list.items) }
+    {
+        let what = What::Pdu(names_of(self.alloc, &taken.pdu())?);
+        self.tell(line.number, line.alone(taken, what))
+    }
+
+    /// A datagram that wasn't opened.
+    fn unread(&mut self, line: Line, datagram: &[u8], refusal: Refusal) -> Result<(), AllocError>
+        ensures { OnOk result (Follows (line.number ∷ []) self.old.exchanges.gone self.old.exchanges.list.items
+            self.new.exchanges.gone self.new.exchanges.list.items) }
+    {
+        let Some(unread) = unread_in(self.alloc, datagram, line.told)? else {
+            return self.tell(line.number, line.unreadable(refusal));
+        };
+        if self.is_request(line, &unread) {
+            let id = unread.id;
+            self.ask(line, id, line.unread(unread, refusal))
+        } else {
+            self.unread_answer(line, unread, refusal)
+        }
+    }
+
+    /// Whether a datagram that wasn't opened is a request: by its PDU if it isn't sealed, or else by the agents that
+    /// the user names, or else by what waits for an answer, and by the ports.
+    fn is_request(&self, line: Line, unread: &Unread) -> bool {
+        if let Some(is_request) = unread.is_request {
+            return is_request;
+        }
+        let asked = Asked::by_answer(line.route, unread.id);
+        if self.exchanges.waits(&asked).is_some() {
+            return false;
+        }
+        match line.route {
+            Some(route) => !SNMP.contains(&route.from.port) || SNMP.contains(&route.to.port),
+            None => true,
+        }
+    }
+
+    /// An answer that wasn't opened. A Report that isn't sealed says why the agent refuses the request. It came
+    /// without authentication, or its code is wrong, so it is a hint.
+    fn unread_answer(
+        &mut self,
+        line: Line,
+        mut unread: Unread,
+        refusal: Refusal,
+    ) -> Result<(), AllocError>
+        ensures { OnOk result (Follows (line.number ∷ []) self.old.exchanges.gone self.old.exchanges.list.items
+            self.new.exchanges.gone self.new.exchanges.list.items) }
+    {
+        let asked = Asked::by_answer(line.route, unread.id);
+        let says = match unread.report.take() {
+            Some(report) => report,
+            None => Says::Unread(refusal),
+        };
+        let answer = Answer {
+            at: line.at,
+            says,
+            views: Vec::new(self.alloc),
+            in_window: true,
+        };
+        if self.answers(&asked, line.number, answer) {
+            return Ok(());
+        }
+        self.tell(line.number, line.unread(unread, refusal))
+    }
+
+    /// A discovery.
+    fn discovery(&mut self, line: Line, datagram: &[u8]) -> Result<(), AllocError>
+        ensures { OnOk result (Follows (line.number ∷ []) self.old.exchanges.gone self.old.exchanges.list.items
+            self.new.exchanges.gone self.new.exchanges.list.items) }
+    {
+        let id = match read_message(datagram) {
+            Ok(message) => message.header.id,
+            Err(_) => 0,
+        };
+        self.ask(line, id, line.first(What::Discovery))
+    }
+}

@@ -1,0 +1,116 @@
+//! A datagram of a capture, and what is known of it as the first of an exchange.
+
+use crate::facts::{First, Remark, Sender, Sent, What};
+use crate::heads::Stamp;
+use crate::unread::Unread;
+use capture_files::Route;
+use diagnose_judge::Verdict;
+use engine_clock::EngineId;
+use snmp_incoming::Taken;
+use snmp_msg::{PduType, Refusal};
+use usm_users::UserName;
+
+/// A datagram, and how it was captured.
+#[derive(Clone, Copy)]
+pub(crate) struct Line {
+    pub(crate) number: u64,
+    pub(crate) at: Stamp,
+    pub(crate) route: Option<Route>,
+    /// The number of the first datagram with the same octets.
+    pub(crate) copy_of: Option<u64>,
+    /// Whether it is a request by the agents that the user names, if they tell it.
+    pub(crate) told: Option<bool>,
+}
+
+impl Line {
+    /// What is known of it where nobody is known to have sent it.
+    pub(crate) fn first(self, what: What) -> First {
+        First {
+            at: self.at,
+            route: self.route,
+            sender: None,
+            engine: None,
+            what,
+            copy_of: self.copy_of,
+            again: None,
+            remark: Remark::Nothing,
+            refusal: None,
+        }
+    }
+
+    /// What is known of a message that was opened.
+    fn message_first(self, taken: &Taken<'_>, what: What) -> First {
+        let mut first = self.first(what);
+        first.sender = Some(sender_of(taken));
+        first.engine = Some(taken.engine.copy());
+        first
+    }
+
+    /// What is known of a request that was opened, and that is sent again.
+    pub(crate) fn request(
+        self,
+        taken: &Taken<'_>,
+        what: What,
+        again: Option<Sent>,
+        verdict: Verdict,
+    ) -> First {
+        let mut first = self.message_first(taken, what);
+        first.again = again;
+        match verdict {
+            Verdict::Accepted => {}
+            Verdict::Unweighed => first.remark = Remark::WindowNotJudged,
+            Verdict::Refused(refusal) => first.refusal = Some(refusal),
+        }
+        first
+    }
+
+    /// What is known of a notification, or of an answer of which the request isn't known.
+    pub(crate) fn alone(self, taken: &Taken<'_>, what: What) -> First {
+        let mut first = self.message_first(taken, what);
+        if taken.tag != PduType::SNMPv2Trap.tag() && self.copy_of.is_none() {
+            first.remark = Remark::NoRequest;
+        }
+        first
+    }
+
+    /// What is known of a datagram that is no message.
+    pub(crate) fn unreadable(self, refusal: Refusal) -> First {
+        let mut first = self.first(What::Unreadable);
+        first.refusal = Some(refusal);
+        first
+    }
+
+    /// What is known of a message that wasn't opened.
+    pub(crate) fn unread(self, unread: Unread, refusal: Refusal) -> First {
+        let mut first = self.first(unread.what);
+        first.sender = Some(unread.sender);
+        first.engine = unread.engine;
+        first.refusal = Some(refusal);
+        first
+    }
+
+    /// What is known of a message of an engine beyond the limit.
+    pub(crate) fn left_out(self, engine: EngineId) -> First {
+        let mut first = self.first(What::Sealed { is_guess: true });
+        first.engine = Some(engine);
+        first.remark = Remark::EnginesLimit;
+        first
+    }
+}
+
+/// A user name of a message, cut after 32 octets.
+pub(crate) fn user_of(octets: &[u8]) -> UserName {
+    let most = octets.len().min(32);
+    match UserName::of(&octets[..most]) {
+        Some(user) => user,
+        None => unreachable!(),
+    }
+}
+
+/// Who sends a message that was opened.
+fn sender_of(taken: &Taken<'_>) -> Sender {
+    Sender {
+        user: user_of(taken.user),
+        level: Some(taken.level),
+    }
+}

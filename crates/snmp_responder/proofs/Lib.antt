@@ -1,0 +1,4 @@
+pub mod Mapped
+pub mod Nearest
+pub mod Rows
+pub mod OneAnswer

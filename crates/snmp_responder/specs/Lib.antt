@@ -1,0 +1,5 @@
+pub mod Instrumentation
+pub mod Code
+pub mod Next
+pub mod Bulk
+pub mod Distinct

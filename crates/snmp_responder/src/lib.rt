@@ -1,0 +1,59 @@
+//! What a device answers by RFC 3416, sections 4.2.1 to 4.2.3, of those variables that a message may see.
+//!
+//! This is the plain form: it goes over all variables for each name, and takes the standard's words one by one. It
+//! says what faster agents, gateways and walks have to answer.
+//!
+//!
+//! ```
+//! use snmp_ber::{Level, Oid};
+//! use snmp_msg::Binding;
+//! use snmp_responder::{Instrumentation, Viewer, get_next};
+//! use snmpsec_config::Config;
+//!
+//! const TABLES: &[u8] = b"\
+//! [[context]]\nname = ''\n\
+//! [[group]]\nmodel = 3\nname = 'ann'\ngroup = 'readers'\n\
+//! [[access]]\ngroup = 'readers'\nprefix = ''\nmatch = 'exact'\nmodel = 3\nlevel = 'noAuthNoPriv'\nread = 'all'\n\
+//! [[family]]\nview = 'all'\nsubtree = '1.3'\ninclude = true\n";
+//!
+//! let object = Oid::from_text("1.3.6.1.2.1.1.5").ok_or("arcs")?;
+//! let name = Oid::from_text("1.3.6.1.2.1.1.5.0").ok_or("arcs")?;
+//! let variable = Binding {
+//!     name,
+//!     tag: 0x04,
+//!     content: b"router",
+//! };
+//! let config = Config::read(rt.alloc(), TABLES)?;
+//! let viewer = Viewer {
+//!     vacm: &config.access,
+//!     model: 3,
+//!     name: b"ann",
+//!     level: Level::NoAuthNoPriv,
+//!     context: b"",
+//! };
+//! let (objects, variables) = ([object], [variable]);
+//! let device = Instrumentation {
+//!     objects: &objects,
+//!     variables: &variables,
+//! };
+//! assert_eq!(rt; device.get(&viewer, &objects[0]).tag, 0x81);
+//! assert_eq!(rt;
+//!     get_next(&device, &viewer, &objects[0]).content,
+//!     b"router".as_slice()
+//! );
+//! ```
+#![tactic(auto)]
+
+mod bulk;
+mod exception;
+mod instrumentation;
+mod laws;
+mod next;
+mod viewer;
+
+pub use bulk::get_bulk;
+pub use exception::{end_of_mib_view, no_such_object};
+pub use instrumentation::Instrumentation;
+pub use laws::one_answer;
+pub use next::{get_next, next_answers};
+pub use viewer::Viewer;

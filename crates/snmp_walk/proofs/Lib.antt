@@ -1,0 +1,9 @@
+mod Places
+mod Steps
+mod Changed
+mod Asked
+mod Each
+mod After
+mod Pushed
+mod Open
+mod Runs

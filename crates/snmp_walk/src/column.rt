@@ -1,0 +1,236 @@
+//! One binding of a request.
+
+ghost use Rattle.std.specs.Prelude.{◌≡◌, ◌↔◌, ℕ, List, IsTrue, IfSome, MatchOption, Contains};
+ghost use Rattle.snmp_msg.specs.Variables.{Variable, bound_variable, variable_of};
+ghost use Rattle.snmp_responder.specs.Code.{seen_by};
+ghost use Rattle.snmp_walk.specs.Bindings.{FitsPlace, Misfits, given_says};
+ghost use Rattle.snmp_walk.specs.Column.{Asks, IsAsked, IsOpen, MayAsk, MayShow, Stands};
+ghost use Rattle.snmp_walk.specs.Steps.{Begins, GoesOn, GoesOnFrom, Takes};
+
+use crate::given::{GivenVariable, copy};
+use crate::misfit::{Misfit, is_end, misfit_of};
+use crate::operation::ReadOperation;
+use crate::place::place_after;
+use snmp_ber::Oid;
+use snmp_msg::{Binding, VariableBinding};
+use snmp_responder::{Viewer, end_of_mib_view, no_such_object};
+
+/// What is asked of a device for a binding.
+#[derive(Drop)]
+pub struct Ask {
+    /// The name at which the column stands.
+    pub from: Oid,
+    /// The name that is asked.
+    pub name: Oid,
+}
+
+/// How far a column has come.
+#[derive(Drop)]
+pub enum Progress {
+    /// The device is to be asked: for this name, or in a walk for what comes after it.
+    Wanting(Oid),
+    /// The device was asked, and didn't answer yet.
+    Asked(Ask),
+    /// The device gave this, and the message may see it.
+    Given(GivenVariable),
+    /// The message may not see the name of a GetRequest, and the device isn't asked.
+    Hidden,
+    /// The walk is at its end.
+    Ended,
+}
+
+/// One binding of a request, and what the device told for it so far.
+#[derive(Drop)]
+pub struct Column {
+    operation: ReadOperation,
+    first: Oid,
+    progress: Progress,
+}
+
+/// Returns how a column begins.
+fn first_progress(viewer: &Viewer<'_>, operation: ReadOperation, name: &Oid) -> Progress
+    ensures { Begins (seen_by viewer.now) operation name.now result }
+{
+    match operation {
+        ReadOperation::Get => {
+            if viewer.sees(name) {
+                Progress::Wanting(copy(name))
+            } else {
+                Progress::Hidden
+            }
+        }
+        ReadOperation::GetNext => Progress::Wanting(copy(name)),
+    }
+}
+
+/// Returns how a walk goes on from this name.
+fn walk_on_from(viewer: &Viewer<'_>, from: &Oid) -> Progress
+    ensures { GoesOnFrom (seen_by viewer.now) ReadOperation.GetNext from.now result }
+{
+    match place_after(viewer, from) {
+        Some(name) => Progress::Asked(Ask {
+            from: copy(from),
+            name,
+        }),
+        None => Progress::Ended,
+    }
+}
+
+/// Returns how a column goes on that wants this name, or what comes after it.
+fn asked_from(viewer: &Viewer<'_>, operation: ReadOperation, from: &Oid) -> Progress
+    ensures { GoesOnFrom (seen_by viewer.now) operation from.now result }
+{
+    match operation {
+        ReadOperation::Get => Progress::Asked(Ask {
+            from: copy(from),
+            name: copy(from),
+        }),
+        ReadOperation::GetNext => walk_on_from(viewer, from),
+    }
+}
+
+/// Returns what a walk is after the device gave this.
+fn walk_after(viewer: &Viewer<'_>, given: GivenVariable) -> Progress
+    ensures { Takes (seen_by viewer.now) ReadOperation.GetNext (given_says given) result }
+{
+    if is_end(given.tag) {
+        return Progress::Ended;
+    }
+    if viewer.sees(&given.name) {
+        return Progress::Given(given);
+    }
+    Progress::Wanting(given.name)
+}
+
+/// Returns what a column is after the device gave this.
+fn progress_after(viewer: &Viewer<'_>, operation: ReadOperation, given: GivenVariable) -> Progress
+    ensures { Takes (seen_by viewer.now) operation (given_says given) result }
+{
+    match operation {
+        ReadOperation::Get => Progress::Given(given),
+        ReadOperation::GetNext => walk_after(viewer, given),
+    }
+}
+
+impl Column {
+    /// Returns the column of a binding with this name. The device is to be asked, but not for a GetRequest of a name
+    /// that the message may not see. It takes no memory.
+    pub fn new(viewer: &Viewer<'_>, operation: ReadOperation, name: &Oid) -> Column
+        ensures operation { result.operation ≡ operation }
+        ensures first { result.first ≡ name.now }
+        ensures begins { Begins (seen_by viewer.now) operation name.now result.progress }
+        ensures stands { (told : List Variable) → Stands (seen_by viewer.now) told result }
+    {
+        Column {
+            operation,
+            first: copy(name),
+            progress: first_progress(viewer, operation, name),
+        }
+    }
+
+    /// Returns the operation of the request.
+    pub fn operation(&self) -> ReadOperation
+        ensures { result ≡ self.now.operation }
+    {
+        self.operation
+    }
+
+    /// Returns true if the device is still to be asked, or to answer.
+    pub fn is_open(&self) -> bool
+        ensures { IsTrue result ↔ IsOpen self.now.progress }
+    {
+        matches!(&self.progress, Progress::Wanting(_) | Progress::Asked(_))
+    }
+
+    /// Returns true if the device was asked, and is still to answer.
+    pub fn is_asked(&self) -> bool
+        ensures { IsTrue result ↔ IsAsked self.now.progress }
+    {
+        matches!(&self.progress, Progress::Asked(_))
+    }
+
+    /// Goes on, if the device is to be asked: it is asked for the name of a GetRequest, and in a walk for what comes
+    /// after the place just before the next name that the message may see. The walk is at its end if there is none. A
+    /// column for which the device isn't to be asked stays as it is. It takes no memory.
+    pub fn go_on(&mut self, viewer: &Viewer<'_>)
+        ensures operation { self.new.operation ≡ self.old.operation }
+        ensures first { self.new.first ≡ self.old.first }
+        ensures goes_on { GoesOn (seen_by viewer.now) self.old.operation self.old.progress self.new.progress }
+        ensures stands { (told : List Variable) → Stands (seen_by viewer.now) told self.old
+            → Stands (seen_by viewer.now) told self.new }
+    {
+        let Progress::Wanting(from) = &self.progress else {
+            return;
+        };
+        self.progress = asked_from(viewer, self.operation, from);
+    }
+
+    /// Returns the name that the device is asked for, if it is asked.
+    pub fn asked_name(&self) -> Option<&Oid>
+        ensures asks { MatchOption result ((name : List ℕ) → ¬ Asks self.now.progress name)
+            (λ name. Asks self.now.progress name.now) }
+        ensures inwards { (viewer : Viewer) (told : List Variable) → Stands (seen_by viewer) told self.now
+            → IfSome result (λ name. MayAsk (seen_by viewer) told self.now.operation self.now.first name.now) }
+    {
+        match &self.progress {
+            Progress::Asked(ask) => Some(&ask.name),
+            _ => None,
+        }
+    }
+
+    /// Returns why the binding doesn't answer what was asked, if it doesn't. The device was asked.
+    pub fn misfit(&self, binding: &VariableBinding<'_>) -> Option<Misfit>
+        requires { IsAsked self.now.progress }
+        ensures fits { (asked : List ℕ) → Asks self.now.progress asked
+            → MatchOption result
+            (FitsPlace self.now.operation asked (bound_variable binding.now))
+            (λ misfit. Misfits self.now.operation asked (bound_variable binding.now) misfit) }
+    {
+        let Progress::Asked(ask) = &self.progress else {
+            unreachable!();
+        };
+        misfit_of(self.operation, &ask.name, binding)
+    }
+
+    /// Takes what the device gave, which answers what was asked. A GetRequest has its binding then. A walk has it if
+    /// the message may see it. It is at its end at endOfMibView, and is to go on from any other name. It takes no
+    /// memory.
+    pub fn take(&mut self, viewer: &Viewer<'_>, given: GivenVariable)
+        requires { (asked : List ℕ) × Asks self.old.progress asked
+            × FitsPlace self.old.operation asked (given_says given) }
+        ensures operation { self.new.operation ≡ self.old.operation }
+        ensures first { self.new.first ≡ self.old.first }
+        ensures takes { Takes (seen_by viewer.now) self.old.operation (given_says given) self.new.progress }
+        ensures stands { (told : List Variable) → Contains told (given_says given)
+            → Stands (seen_by viewer.now) told self.old → Stands (seen_by viewer.now) told self.new }
+    {
+        self.progress = progress_after(viewer, self.operation, given);
+    }
+
+    /// Ends a walk for which the device was asked, which said that there is no next variable.
+    pub(crate) fn end(&mut self)
+        ensures operation { self.new.operation ≡ self.old.operation }
+        ensures first { self.new.first ≡ self.old.first }
+        ensures ends { self.new.progress ≡ Progress.Ended }
+    {
+        self.progress = Progress::Ended;
+    }
+
+    /// Returns what the Response holds for the binding, if nothing is left to be asked or answered for it: what the
+    /// device gave, noSuchObject where the message may not see the name of a GetRequest, or the name of the request
+    /// with endOfMibView.
+    pub fn binding(&self) -> Option<Binding<'_>>
+        ensures whole { MatchOption result (IsOpen self.now.progress)
+            (λ _. ¬ IsOpen self.now.progress) }
+        ensures outwards { (viewer : Viewer) (told : List Variable) → Stands (seen_by viewer) told self.now
+            → IfSome result (λ binding. MayShow (seen_by viewer) told self.now.operation self.now.first
+            (variable_of binding)) }
+    {
+        match &self.progress {
+            Progress::Wanting(_) | Progress::Asked(_) => None,
+            Progress::Given(given) => Some(given.binding()),
+            Progress::Hidden => Some(no_such_object(&self.first)),
+            Progress::Ended => Some(end_of_mib_view(&self.first)),
+        }
+    }
+}

@@ -1,0 +1,103 @@
+//! One dialogue with a device: what it is asked for the bindings of a request, which of its answers fit, and what the
+//! Response holds (RFC 3416, sections 4.2.1 and 4.2.2). Nothing is asked that the message may not see, and no value is
+//! shown that the device didn't give.
+//!
+//! ```
+//! use snmp_ber::{Level, Oid};
+//! use snmp_responder::Viewer;
+//! use snmp_walk::{Column, ReadOperation};
+//! use snmpsec_config::Config;
+//!
+//! const TABLES: &[u8] = b"\
+//! [[context]]\nname = ''\n\
+//! [[group]]\nmodel = 3\nname = 'ann'\ngroup = 'readers'\n\
+//! [[access]]\ngroup = 'readers'\nprefix = ''\nmatch = 'exact'\nmodel = 3\nlevel = 'noAuthNoPriv'\nread = 'all'\n\
+//! [[family]]\nview = 'all'\nsubtree = '1.3.6.1.2.1.2'\ninclude = true\n";
+//!
+//! let name = Oid::from_text("1.3.6.1.2.1").ok_or("arcs")?;
+//! let hidden = Oid::from_text("1.3.6.1.2.1.1.5.0").ok_or("arcs")?;
+//! let place = Oid::from_text("1.3.6.1.2.1.1.2147483647").ok_or("arcs")?;
+//! let config = Config::read(rt.alloc(), TABLES)?;
+//! let viewer = Viewer {
+//!     vacm: &config.access,
+//!     model: 3,
+//!     name: b"ann",
+//!     level: Level::NoAuthNoPriv,
+//!     context: b"",
+//! };
+//! let mut walk = Column::new(&viewer, ReadOperation::GetNext, &name);
+//! walk.go_on(&viewer);
+//! assert_eq!(rt; walk.asked_name() == Some(&place), true);
+//! let get = Column::new(&viewer, ReadOperation::Get, &hidden);
+//! assert_eq!(rt; get.is_open(), false);
+//! ```
+//!
+//! ```
+//! use snmp_ber::Level;
+//! use snmp_msg::{Pdu, PduType};
+//! use snmp_responder::Viewer;
+//! use snmp_walk::{Answered, Dialogue, Next, ReadOperation};
+//! use snmpsec_config::Config;
+//!
+//! const TABLES: &[u8] = b"\
+//! [[context]]\nname = ''\n\
+//! [[group]]\nmodel = 3\nname = 'ann'\ngroup = 'readers'\n\
+//! [[access]]\ngroup = 'readers'\nprefix = ''\nmatch = 'exact'\nmodel = 3\nlevel = 'noAuthNoPriv'\nread = 'all'\n\
+//! [[family]]\nview = 'all'\nsubtree = '1.3'\ninclude = true\n";
+//!
+//! /// sysName, and sysName.0 with the value "router".
+//! const ASKED: &[u8] = b"\x30\x0b\x06\x07\x2b\x06\x01\x02\x01\x01\x05\x05\x00";
+//!
+//! const TOLD: &[u8] = b"\x30\x12\x06\x08\x2b\x06\x01\x02\x01\x01\x05\x00\x04\x06router";
+//!
+//! let config = Config::read(rt.alloc(), TABLES)?;
+//! let viewer = Viewer {
+//!     vacm: &config.access,
+//!     model: 3,
+//!     name: b"ann",
+//!     level: Level::NoAuthNoPriv,
+//!     context: b"",
+//! };
+//! let request = Pdu {
+//!     tag: PduType::GetNextRequest.tag(),
+//!     id: 7,
+//!     second: 0,
+//!     third: 0,
+//!     list: ASKED,
+//! };
+//! let answer = Pdu {
+//!     tag: PduType::Response.tag(),
+//!     id: 7,
+//!     second: 0,
+//!     third: 0,
+//!     list: TOLD,
+//! };
+//! let mut dialogue = Dialogue::new(rt.alloc(), &viewer, ReadOperation::GetNext, &request, 2)?;
+//! assert_eq!(rt; dialogue.go_on(&viewer), Next::Asks);
+//! assert_eq!(rt;
+//!     dialogue.take(rt.alloc(), &viewer, &answer)?,
+//!     Answered::Taken
+//! );
+//! assert_eq!(rt; dialogue.go_on(&viewer), Next::Ends);
+//! assert_eq!(rt; dialogue.first_open(), None);
+//! ```
+#![tactic(auto)]
+
+mod answer;
+mod column;
+mod dialogue;
+mod failure;
+mod given;
+mod laws;
+mod misfit;
+mod operation;
+mod place;
+
+pub use answer::AnswerFault;
+pub use column::{Ask, Column, Progress};
+pub use dialogue::{Answered, Dialogue, Next};
+pub use failure::{Failure, FailureStatus};
+pub use given::GivenVariable;
+pub use laws::one_dialogue;
+pub use misfit::Misfit;
+pub use operation::ReadOperation;
