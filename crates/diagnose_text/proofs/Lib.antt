@@ -1,2 +1,4 @@
+mod Printings
 mod Takes
 mod Viewings
+mod Writings

@@ -1,16 +1,20 @@
 -- What is printed of an exchange that is finished, and whether something failed in it.
 --
 -- `IsPrinted`: an exchange that isn't wanted prints nothing. As JSON it is a line, which is read as its document.
--- `fails`: something failed in it.
-use Rattle.std.specs.Prelude.{◌≡◌, ℕ, List, [], Bool, true, false, not, ◌&&◌, ◌||◌, ⊤, Option, Some, None}
+-- `fails`: something failed in it. `Prints`, `Writes`: what is printed as datagrams are taken.
+use Rattle.std.specs.Prelude.{◌≡◌, ℕ, List, [], ◌∷◌, ◌++◌, Bool, true, false, not, ◌&&◌, ◌||◌, ⊤, Option, Some, None}
+use Rattle.std.specs.List.{list_any}
 use Rattle.serde_json.specs.Data.{Data}
 use Rattle.diagnose_exchanges.specs.declared.exchange.Exchange.{Exchange}
 use Rattle.diagnose_exchanges.specs.declared.exchange.Ending.{Ending}
 use Rattle.diagnose_exchanges.specs.declared.exchange.Ending.TheVariants.{Waits, Alone, Answered, SentAgain}
 use Rattle.diagnose_exchanges.specs.declared.exchange.Ending.TheVariants.{NoAnswer, NotFollowed}
+use Rattle.diagnose_exchanges.specs.Exchanges.{HasRun, Step, begins, answers, ends, hands_over, finishes, place_after}
+use Rattle.diagnose_exchanges.specs.Exchanges.{taken_by}
 use Rattle.diagnose_text.specs.Documents.{IsExchange, IsLine}
 use Rattle.diagnose_text.specs.Names.{sender_user}
 use Rattle.diagnose_text.specs.Wanted.{is_wanted}
+use Rattle.diagnose_text.specs.declared.diagnoser.Diagnoser.{Diagnoser}
 use Rattle.diagnose_text.specs.declared.facts.Answer.{Answer}
 use Rattle.diagnose_text.specs.declared.facts.First.{First}
 use Rattle.diagnose_text.specs.declared.facts.Says.{Says}
@@ -88,3 +92,44 @@ module _ {K : Type 0} where
   -- something failed in the exchange, and it is wanted
   abbrev pub counts_as_failed : DiagnoseOptions → Exchange K First Answer → Bool
   counts_as_failed options e = is_wanted_exchange options e && fails e
+
+  -- the texts of these exchanges, one after another
+  abbrev pub ArePrinted : DiagnoseOptions → List (Exchange K First Answer) → List ℕ → Type 0
+  ArePrinted options [] text = text ≡ []
+  ArePrinted options (e ∷ more) text =
+      (block rest : List ℕ) × (text ≡ block ++ rest) × IsPrinted options e block × ArePrinted options more rest
+
+  abbrev pub some_failed : DiagnoseOptions → List (Exchange K First Answer) → Bool
+  some_failed options list = list_any (counts_as_failed options) list
+
+  -- the place of the first exchange, after these steps
+  abbrev pub gone_after : ℕ → List (Step K First Answer) → ℕ
+  gone_after gone [] = gone
+  gone_after gone (begins number first counts ending ∷ steps) = gone_after gone steps
+  gone_after gone (answers place by answer ∷ steps) = gone_after gone steps
+  gone_after gone (ends place ending ∷ steps) = gone_after gone steps
+  gone_after gone (hands_over first place ∷ steps) = gone_after gone steps
+  gone_after gone (finishes ∷ steps) = gone_after (place_after gone 1) steps
+
+module _ {K : Type 0} where
+  -- By some steps exactly these datagrams are taken. Each exchange that is taken out is printed, in order, and nothing
+  -- else is. Something failed if it failed before, or in one of these.
+  pub record Prints (options : DiagnoseOptions) (before : Bool) (gone : ℕ) (old : List (Exchange K First Answer))
+      (numbers text : List ℕ) (failed : Bool) (later : ℕ) (new : List (Exchange K First Answer)) : Type 0 where
+    pub steps : List (Step K First Answer)
+    pub taken : taken_by steps ≡ numbers
+    pub finished : List (Exchange K First Answer)
+    pub run : HasRun gone old steps finished new
+    pub place : later ≡ gone_after gone steps
+    pub texts : ArePrinted options finished text
+    pub failure : failed ≡ (before || some_failed options finished)
+
+-- Between these states of a diagnoser exactly these datagrams are taken, and the text that was written goes on by what
+-- is printed of the exchanges that are taken out.
+pub record Writes (numbers : List ℕ) (old : Diagnoser) (before : List ℕ) (new : Diagnoser) (after : List ℕ)
+    : Type 0 where
+  pub text : List ℕ
+  pub whole : after ≡ before ++ text
+  pub options : new.report.options ≡ old.report.options
+  pub prints : Prints old.report.options old.report.failed old.follower.exchanges.gone old.follower.exchanges.list.items
+      numbers text new.report.failed new.follower.exchanges.gone new.follower.exchanges.list.items

@@ -1,7 +1,8 @@
 //! Takes the datagrams of a capture one after another, and prints a block for each exchange.
 
-ghost use Rattle.std.specs.Prelude.{◌≡◌, [], false, IfOk};
-ghost use Rattle.diagnose_text.specs.Printing.{is_json};
+ghost use Rattle.std.specs.Prelude.{◌≡◌, ◌++◌, ℕ, List, [], ◌∷◌, false, IfOk, OnOk};
+ghost use Rattle.diagnose_exchanges.specs.Exchanges.{IsUnanswered};
+ghost use Rattle.diagnose_text.specs.Printing.{Writes, is_json};
 
 use crate::facts::Answer;
 use crate::follower::Follower;
@@ -64,7 +65,9 @@ impl Diagnoser {
     /// What is printed when the capture ends, and whether something failed in it: the exchanges that still wait for an
     /// answer, and the summary. The error is out of memory.
     pub fn finish(&mut self) -> Result<(Vec<u8>, bool), AllocError>
-        ensures { IfOk result (λ printed. printed.1 ≡ self.new.report.failed) }
+        ensures failed { IfOk result (λ printed. printed.1 ≡ self.new.report.failed) }
+        ensures printed { IfOk result (λ printed. (text summary : List ℕ) × (printed.0.items ≡ text ++ summary)
+            × Writes [] self.old [] self.new text) }
     {
         let mut text = Vec::new(self.alloc);
         self.print_all(&mut text)?;
@@ -74,8 +77,10 @@ impl Diagnoser {
     }
 
     /// Prints all exchanges. Those that still wait get no answer.
-    fn print_all(&mut self, out: &mut Vec<u8>) -> Result<(), AllocError> {
-        for _ in 0..=EXCHANGES_LIMIT {
+    fn print_all(&mut self, out: &mut Vec<u8>) -> Result<(), AllocError>
+        ensures { OnOk result (Writes [] self.old out.old.items self.new out.new.items) }
+    {
+        for _turn in 0..=EXCHANGES_LIMIT {
             self.print_finished(out)?;
             if !self.end_first(Ending::NoAnswer) {
                 break;
@@ -85,15 +90,21 @@ impl Diagnoser {
     }
 
     /// The first exchange, if it waits, ends so, without an answer. Says whether it waited.
-    fn end_first(&mut self, ending: Ending<Asked, Answer>) -> bool {
+    fn end_first(&mut self, ending: Ending<Asked, Answer>) -> bool
+        requires { IsUnanswered ending }
+        ensures { Writes [] self.old [] self.new [] }
+    {
         let place = self.follower.exchanges.first_place();
         self.follower.exchanges.end(place, ending)
     }
 
     /// Prints the exchanges that are finished, up to the first one that isn't.
-    fn print_finished(&mut self, out: &mut Vec<u8>) -> Result<(), AllocError> {
-        for _ in 0..=EXCHANGES_LIMIT {
-            if !self.print_first(out)? {
+    fn print_finished(&mut self, out: &mut Vec<u8>) -> Result<(), AllocError>
+        ensures { OnOk result (Writes [] self.old out.old.items self.new out.new.items) }
+    {
+        for _turn in 0..=EXCHANGES_LIMIT {
+            let is_finished = self.print_first(out)?;
+            if !is_finished {
                 break;
             }
         }
@@ -101,7 +112,9 @@ impl Diagnoser {
     }
 
     /// Prints the first exchange, if it is finished. Says whether it is.
-    fn print_first(&mut self, out: &mut Vec<u8>) -> Result<bool, AllocError> {
+    fn print_first(&mut self, out: &mut Vec<u8>) -> Result<bool, AllocError>
+        ensures { OnOk result (Writes [] self.old out.old.items self.new out.new.items) }
+    {
         let Some(exchange) = self.follower.exchanges.take_finished() else {
             return Ok(false);
         };
@@ -110,12 +123,72 @@ impl Diagnoser {
     }
 
     /// Takes a datagram. If too many exchanges wait then, the first isn't followed further.
-    fn take(&mut self, line: Line, datagram: &[u8]) -> Result<(), AllocError> {
+    fn take(&mut self, line: Line, datagram: &[u8]) -> Result<(), AllocError>
+        ensures { OnOk result (Writes (line.number ∷ []) self.old [] self.new []) }
+    {
         self.follower.take(line, datagram)?;
-        if self.follower.exchanges.is_over() {
-            self.end_first(Ending::NotFollowed);
-        }
+        self.end_over();
         Ok(())
+    }
+
+    /// If too many exchanges wait, the first isn't followed further.
+    fn end_over(&mut self)
+        ensures { Writes [] self.old [] self.new [] }
+    {
+        if !self.follower.exchanges.is_over() {
+            return;
+        }
+        self.end_first(Ending::NotFollowed);
+    }
+
+    /// Says once that no further digest is kept, where that is so.
+    fn print_limit(&mut self, out: &mut Vec<u8>) -> Result<(), AllocError>
+        ensures limit { OnOk result ((limit : List ℕ) × (out.new.items ≡ out.old.items ++ limit)) }
+        ensures writes { Writes [] self.old [] self.new [] }
+    {
+        if !self.copies.is_full() {
+            return Ok(());
+        }
+        self.report.print_full(out)
+    }
+
+    /// How a datagram with this number was captured at this moment, in seconds.
+    fn line_of(&mut self, number: u64, moment: u64, datagram: &[u8]) -> Result<Line, AllocError>
+        ensures number { IfOk result (λ line. line.number ≡ number) }
+        ensures follower { self.new.follower ≡ self.old.follower }
+        ensures report { self.new.report ≡ self.old.report }
+    {
+        Ok(Line {
+            number,
+            at: Stamp {
+                seconds: moment,
+                micros: self.micros,
+            },
+            route: self.route,
+            copy_of: self.copies.note(digest_of(b"", datagram), number)?,
+            told: self.report.told_request(self.route),
+        })
+    }
+
+    /// Takes the datagram with this number, that was captured at this moment, in seconds, and prints the exchanges that
+    /// are finished then, in the order of their first datagrams. Behind them it is said once if the digests of older
+    /// datagrams aren't kept any more. The error is out of memory.
+    pub fn print_datagram(
+        &mut self,
+        alloc: Global,
+        number: u64,
+        moment: u64,
+        datagram: &[u8],
+    ) -> Result<Vec<u8>, AllocError>
+        ensures { IfOk result (λ printed. (text limit : List ℕ) × (printed.items ≡ text ++ limit)
+            × Writes (number ∷ []) self.old [] self.new text) }
+    {
+        let line = self.line_of(number, moment, datagram)?;
+        self.take(line, datagram)?;
+        let mut text = Vec::new(alloc);
+        self.print_finished(&mut text)?;
+        self.print_limit(&mut text)?;
+        Ok(text)
     }
 }
 
@@ -134,22 +207,7 @@ impl Printer for Diagnoser {
         moment: u64,
         datagram: &[u8],
     ) -> Result<Printed, AllocError> {
-        let line = Line {
-            number,
-            at: Stamp {
-                seconds: moment,
-                micros: self.micros,
-            },
-            route: self.route,
-            copy_of: self.copies.note(digest_of(b"", datagram), number)?,
-            told: self.report.told_request(self.route),
-        };
-        self.take(line, datagram)?;
-        let mut text = Vec::new(alloc);
-        self.print_finished(&mut text)?;
-        if self.copies.is_full() {
-            self.report.print_full(&mut text)?;
-        }
+        let text = self.print_datagram(alloc, number, moment, datagram)?;
         Ok(Printed {
             text,
             refused: false,

@@ -131,7 +131,9 @@ impl Report {
 
     /// Says once that the digests are full.
     pub(crate) fn print_full(&mut self, out: &mut Vec<u8>) -> Result<(), AllocError>
-        ensures { self.new.options ≡ self.old.options }
+        ensures printed { OnOk result ((text : List ℕ) × (out.new.items ≡ out.old.items ++ text)) }
+        ensures failed { self.new.failed ≡ self.old.failed }
+        ensures options { self.new.options ≡ self.old.options }
     {
         if self.digests_full {
             return Ok(());
