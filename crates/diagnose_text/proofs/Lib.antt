@@ -1,4 +1,8 @@
+mod Firsts
 mod Printings
+mod Puts
 mod Takes
+mod ViewLines
 mod Viewings
+mod Wides
 mod Writings

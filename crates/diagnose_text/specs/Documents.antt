@@ -21,7 +21,7 @@ use Rattle.diagnose_exchanges.specs.declared.exchange.Exchange.{Exchange}
 use Rattle.diagnose_exchanges.specs.declared.exchange.Ending.{Ending}
 use Rattle.diagnose_exchanges.specs.declared.exchange.Ending.TheVariants.{Waits, Alone, Answered, SentAgain}
 use Rattle.diagnose_exchanges.specs.declared.exchange.Ending.TheVariants.{NoAnswer, NotFollowed}
-use Rattle.diagnose_text.specs.Names.{pdu_word, remark_word, sender_level, sender_user}
+use Rattle.diagnose_text.specs.Names.{pdu_word, remark_word, sender_level, sender_user, syntax_word, type_word}
 use Rattle.diagnose_text.specs.declared.counts.UserCounts.{UserCounts}
 use Rattle.diagnose_text.specs.declared.facts.Answer.{Answer}
 use Rattle.diagnose_text.specs.declared.facts.First.{First}
@@ -32,7 +32,7 @@ use Rattle.diagnose_text.specs.declared.facts.Sent.{Sent}
 use Rattle.diagnose_text.specs.declared.facts.What.{What}
 use Rattle.diagnose_text.specs.declared.facts.What.TheVariants.{Discovery, Pdu, Sealed, Unreadable}
 use Rattle.diagnose_text.specs.declared.heads.Stamp.{Stamp}
-use Rattle.diagnose_text.specs.declared.objects.FirstWords.{FirstWords}
+use Rattle.diagnose_text.specs.declared.words.FirstWords.{FirstWords}
 use Rattle.diagnose_text.specs.declared.summary.EngineFacts.{EngineFacts}
 use Rattle.diagnose_text.specs.declared.values.Value.{Value}
 use Rattle.diagnose_text.specs.declared.values.Value.TheVariants.{Integer, Unsigned, Counter64, Text, Identifier}
@@ -180,13 +180,13 @@ dotted (octet ∷ next ∷ more) = decimal octet ++ (codes "." ++ dotted (next �
 
 abbrev pub value_document : List ℕ → Value → Data
 value_document name (Integer z) = typed name (codes "INTEGER") (number (of_integer z))
-value_document name (Unsigned kind n) = typed name kind.now (natural n)
+value_document name (Unsigned syntax n) = typed name (syntax_word syntax) (natural n)
 value_document name (Counter64 n) = typed name (codes "Counter64") (natural n)
 value_document name (Text text) = typed name (codes "STRING") (text_document text)
 value_document name (Identifier text) = typed name (codes "OID") (text_document text)
 value_document name (Address octets) = typed name (codes "IpAddress") (string (dotted octets))
-value_document name (Octets kind digits) = in_hex name kind.now (string_bytes digits)
-value_document name (Bare kind) = typed name kind.now null
+value_document name (Octets syntax digits) = in_hex name (type_word syntax) (string_bytes digits)
+value_document name (Bare syntax) = typed name (syntax_word syntax) null
 
 -- a variable by its name and its value
 abbrev pub variable_document : String Global × Value → Data

@@ -1,4 +1,6 @@
+pub mod Blocks
 pub mod Documents
+pub mod Facts
 pub mod Following
 pub mod Names
 pub mod Printing

@@ -1,8 +1,8 @@
 -- What is printed of an exchange that is finished, and whether something failed in it.
 --
--- `IsPrinted`: an exchange that isn't wanted prints nothing. As JSON it is a line, which is read as its document.
--- `fails`: something failed in it. `Prints`, `Writes`: what is printed as datagrams are taken.
-use Rattle.std.specs.Prelude.{◌≡◌, ℕ, List, [], ◌∷◌, ◌++◌, Bool, true, false, not, ◌&&◌, ◌||◌, ⊤, Option, Some, None}
+-- `IsPrinted`: an exchange that isn't wanted prints nothing. As JSON it is a line, which is read as its document; else
+-- its text. `fails`: something failed in it. `Prints`, `Writes`: what is printed as datagrams are taken.
+use Rattle.std.specs.Prelude.{◌≡◌, ℕ, List, [], ◌∷◌, ◌++◌, Bool, true, false, not, ◌&&◌, ◌||◌, Option, Some, None}
 use Rattle.std.specs.List.{list_any}
 use Rattle.serde_json.specs.Data.{Data}
 use Rattle.diagnose_exchanges.specs.declared.exchange.Exchange.{Exchange}
@@ -11,6 +11,7 @@ use Rattle.diagnose_exchanges.specs.declared.exchange.Ending.TheVariants.{Waits,
 use Rattle.diagnose_exchanges.specs.declared.exchange.Ending.TheVariants.{NoAnswer, NotFollowed}
 use Rattle.diagnose_exchanges.specs.Exchanges.{HasRun, Step, begins, answers, ends, hands_over, finishes, place_after}
 use Rattle.diagnose_exchanges.specs.Exchanges.{taken_by}
+use Rattle.diagnose_text.specs.Blocks.{IsText}
 use Rattle.diagnose_text.specs.Documents.{IsExchange, IsLine}
 use Rattle.diagnose_text.specs.Names.{sender_user}
 use Rattle.diagnose_text.specs.Wanted.{is_wanted}
@@ -83,7 +84,7 @@ module _ {K : Type 0} where
   -- the text of an exchange that is wanted, or isn't
   abbrev pub IsBlock : Bool → Style → Exchange K First Answer → List ℕ → Type 0
   IsBlock false style e text = text ≡ []
-  IsBlock true Text e text = ⊤
+  IsBlock true Text e text = IsText e text
   IsBlock true Json e text = (document : Data) × IsExchange e document × IsLine document text
 
   abbrev pub IsPrinted : DiagnoseOptions → Exchange K First Answer → List ℕ → Type 0

@@ -1,6 +1,7 @@
 //! What is known of an exchange: that which text and JSON print.
 
 ghost use Rattle.std.specs.Prelude.{◌≡◌};
+ghost use Rattle.diagnose_text.specs.Blocks.{asks_for_one, is_discovery};
 ghost use Rattle.diagnose_text.specs.Names.{sender_user};
 
 use crate::heads::Stamp;
@@ -82,8 +83,20 @@ pub(crate) struct First {
 
 impl First {
     /// It is a discovery.
-    pub(crate) fn is_discovery(&self) -> bool {
-        matches!(self.what, What::Discovery)
+    pub(crate) fn is_discovery(&self) -> bool
+        ensures { result ≡ is_discovery self.now.what }
+    {
+        matches!(&self.what, What::Discovery)
+    }
+
+    /// It is a PDU with one variable.
+    pub(crate) fn asks_for_one(&self) -> bool
+        ensures { result ≡ asks_for_one self.now.what }
+    {
+        match &self.what {
+            What::Pdu(pdu) => pdu.names.len() == 1,
+            What::Discovery | What::Sealed { .. } | What::Unreadable => false,
+        }
     }
 
     /// The octets of the user's name.

@@ -1,14 +1,20 @@
 //! The line of a datagram: when it was captured, from whom to whom it went, and what it is.
 
-ghost use Rattle.std.specs.Prelude.{◌≡◌, IfOk, string_bytes};
+ghost use Rattle.std.specs.Prelude.{◌≡◌, ◌++◌, IfOk, OnOk, string_bytes};
+ghost use Rattle.std.specs.List.{flat_map};
+ghost use Rattle.diagnose_text.specs.Blocks as blocks;
+ghost use Rattle.diagnose_text.specs.Blocks.{head_line, more_text, name_of, pdu_text, sender_text, user_text};
+ghost use Rattle.diagnose_text.specs.Blocks.{way_text, what_text};
 ghost use Rattle.diagnose_text.specs.Documents.{IsNameText, span};
 ghost use Rattle.diagnose_text.specs.Documents as spec;
 
 use crate::facts::{First, PduNames, Sender, What};
 use crate::names::{level_name, pdu_name};
 use crate::values::octets_text;
-use capture_files::Route;
+use crate::words::FirstWords;
+use snmp_ber::Level;
 use std::alloc::{AllocError, Global};
+use usm_users::UserName;
 
 /// When a datagram was captured.
 #[derive(Clone, Copy, Drop)]
@@ -53,51 +59,73 @@ pub(crate) fn clock_text(alloc: Global, at: Stamp) -> Result<String, AllocError>
 }
 
 /// A span in milliseconds with one digit below.
-pub(crate) fn span_text(alloc: Global, micros: u64) -> Result<String, AllocError> {
+#[tactic(auto, unfolding(crate::specs::Blocks::span_text))]
+pub(crate) fn span_text(alloc: Global, micros: u64) -> Result<String, AllocError>
+    ensures { IfOk result (λ text. string_bytes text ≡ blocks.span_text micros) }
+{
     let (whole, tenth) = (micros / 1_000, micros / 100 % 10);
     format!(in alloc; "{whole}.{tenth} ms")
 }
 
-/// Adds the line of the first datagram of an exchange.
+/// Adds the line of the first datagram of an exchange, with these words.
 pub(crate) fn put_head(
-    alloc: Global,
     out: &mut String,
     number: u64,
     first: &First,
-) -> Result<(), AllocError> {
-    let time = time_text(alloc, first.at)?;
+    words: &FirstWords,
+) -> Result<(), AllocError>
+    ensures { OnOk result (string_bytes out.new
+        ≡ string_bytes out.old ++ head_line number first.now words.now) }
+{
+    let time = &words.time;
     write!(out, "{number}  {time}  ")?;
-    put_route(out, first.route)?;
-    if let Some(sender) = &first.sender {
-        put_sender(alloc, out, sender)?;
-    }
+    put_way(out, words)?;
+    put_sender(out, &first.sender, &words.user)?;
     put_what(out, &first.what)?;
     out.push_str("\n")
 }
 
 /// Adds the way of a datagram, with two blanks behind it, or nothing where it isn't known.
-fn put_route(out: &mut String, route: Option<Route>) -> Result<(), AllocError> {
-    match route {
-        Some(route) => {
-            let (from, to) = (route.from, route.to);
-            write!(out, "{from} > {to}  ")
-        }
-        None => Ok(()),
+fn put_way(out: &mut String, words: &FirstWords) -> Result<(), AllocError>
+    ensures { OnOk result (string_bytes out.new
+        ≡ string_bytes out.old ++ way_text words.now.from words.now.to) }
+{
+    match (&words.from, &words.to) {
+        (Some(from), Some(to)) => write!(out, "{from} > {to}  "),
+        _ => Ok(()),
     }
 }
 
-/// Adds a user name and a level, with two blanks behind them.
-fn put_sender(alloc: Global, out: &mut String, sender: &Sender) -> Result<(), AllocError> {
-    let user = sender.user.as_slice();
-    if !user.is_empty() {
-        let name = name_text(alloc, user)?;
-        write!(out, "{name} ")?;
+/// Adds a user name and a level, with two blanks behind them, if it is known who sends.
+fn put_sender(out: &mut String, sender: &Option<Sender>, name: &str) -> Result<(), AllocError>
+    ensures { OnOk result (string_bytes out.new ≡ string_bytes out.old ++ sender_text sender.now name.now) }
+{
+    let Some(sender) = sender else {
+        return Ok(());
+    };
+    put_user(out, &sender.user, name)?;
+    let level = level_text(sender.level);
+    write!(out, "{level}  ")
+}
+
+/// Adds the name of a user and a blank, but not the empty one.
+fn put_user(out: &mut String, user: &UserName, name: &str) -> Result<(), AllocError>
+    ensures { OnOk result (string_bytes out.new ≡ string_bytes out.old ++ user_text user.now name.now) }
+{
+    if user.as_slice().is_empty() {
+        return Ok(());
     }
-    let level = match sender.level {
+    write!(out, "{name} ")
+}
+
+/// A level in words.
+fn level_text(level: Option<Level>) -> &'static str
+    ensures { result.now ≡ blocks.level_text level }
+{
+    match level {
         Some(level) => level_name(level),
         None => "privacy without authentication",
-    };
-    write!(out, "{level}  ")
+    }
 }
 
 /// A user name: as it is if it is letters, digits and marks, or else between quotes or in hex.
@@ -113,7 +141,9 @@ pub(crate) fn name_text(alloc: Global, user: &[u8]) -> Result<String, AllocError
 }
 
 /// Adds what a datagram is.
-fn put_what(out: &mut String, what: &What) -> Result<(), AllocError> {
+fn put_what(out: &mut String, what: &What) -> Result<(), AllocError>
+    ensures { OnOk result (string_bytes out.new ≡ string_bytes out.old ++ what_text what.now) }
+{
     match what {
         What::Discovery => out.push_str("discovery"),
         What::Pdu(pdu) => put_pdu(out, pdu),
@@ -124,14 +154,30 @@ fn put_what(out: &mut String, what: &What) -> Result<(), AllocError> {
 }
 
 /// Adds a PDU: its name and the names of its variables.
-fn put_pdu(out: &mut String, pdu: &PduNames) -> Result<(), AllocError> {
+fn put_pdu(out: &mut String, pdu: &PduNames) -> Result<(), AllocError>
+    ensures { OnOk result (string_bytes out.new ≡ string_bytes out.old ++ pdu_text pdu.now) }
+{
     out.push_str(pdu_name(pdu.kind))?;
-    for name in &pdu.names {
+    put_names(out, &pdu.names)?;
+    put_more(out, pdu.more)
+}
+
+/// Adds names, each behind a blank.
+fn put_names(out: &mut String, names: &[String]) -> Result<(), AllocError>
+    ensures { OnOk result (string_bytes out.new ≡ string_bytes out.old ++ flat_map name_of names.now) }
+{
+    for name in names {
         write!(out, " {name}")?;
     }
-    if pdu.more > 0 {
-        let more = pdu.more;
-        write!(out, " and {more} more")?;
-    }
     Ok(())
+}
+
+/// Adds how many more there are, if there are any.
+pub(crate) fn put_more(out: &mut String, more: usize) -> Result<(), AllocError>
+    ensures { OnOk result (string_bytes out.new ≡ string_bytes out.old ++ more_text more) }
+{
+    if more == 0 {
+        return Ok(());
+    }
+    write!(out, " and {more} more")
 }

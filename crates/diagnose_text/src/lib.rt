@@ -36,6 +36,7 @@ mod values;
 mod view_lines;
 mod view_objects;
 mod views;
+mod words;
 
 pub use diagnoser::Diagnoser;
 pub use options::{DiagnoseOptions, NamedAgent, Style};

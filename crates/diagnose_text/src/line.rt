@@ -1,5 +1,10 @@
 //! A datagram of a capture, and what is known of it as the first of an exchange.
 
+ghost use Rattle.std.specs.Prelude.{◌≡◌, ◌≤◌, ◌↔◌, IsTrue, Some, length, true};
+ghost use Rattle.diagnose_text.specs.Facts.{IsAlone, IsCaptured, IsJudged, IsPlain, IsSender, LacksRequest};
+ghost use Rattle.diagnose_text.specs.declared.facts.Remark.TheVariants.{EnginesLimit};
+ghost use Rattle.diagnose_text.specs.declared.facts.What.TheVariants.{Sealed, Unreadable};
+
 use crate::facts::{First, Remark, Sender, Sent, What};
 use crate::heads::Stamp;
 use crate::unread::Unread;
@@ -24,7 +29,11 @@ pub(crate) struct Line {
 
 impl Line {
     /// What is known of it where nobody is known to have sent it.
-    pub(crate) fn first(self, what: What) -> First {
+    pub(crate) fn first(self, what: What) -> First
+        ensures captured { IsCaptured self result }
+        ensures plain { IsPlain result }
+        ensures what { result.what ≡ what }
+    {
         First {
             at: self.at,
             route: self.route,
@@ -39,7 +48,12 @@ impl Line {
     }
 
     /// What is known of a message that was opened.
-    fn message_first(self, taken: &Taken<'_>, what: What) -> First {
+    fn message_first(self, taken: &Taken<'_>, what: What) -> First
+        ensures captured { IsCaptured self result }
+        ensures plain { IsPlain result }
+        ensures sender { IsSender taken.now result }
+        ensures what { result.what ≡ what }
+    {
         let mut first = self.first(what);
         first.sender = Some(sender_of(taken));
         first.engine = Some(taken.engine.copy());
@@ -53,7 +67,13 @@ impl Line {
         what: What,
         again: Option<Sent>,
         verdict: Verdict,
-    ) -> First {
+    ) -> First
+        ensures captured { IsCaptured self result }
+        ensures sender { IsSender taken.now result }
+        ensures what { result.what ≡ what }
+        ensures again { result.again ≡ again }
+        ensures judged { IsJudged verdict result }
+    {
         let mut first = self.message_first(taken, what);
         first.again = again;
         match verdict {
@@ -65,23 +85,45 @@ impl Line {
     }
 
     /// What is known of a notification, or of an answer of which the request isn't known.
-    pub(crate) fn alone(self, taken: &Taken<'_>, what: What) -> First {
+    pub(crate) fn alone(self, taken: &Taken<'_>, what: What) -> First
+        ensures captured { IsCaptured self result }
+        ensures sender { IsSender taken.now result }
+        ensures what { result.what ≡ what }
+        ensures alone { IsAlone self taken.now.tag result }
+    {
         let mut first = self.message_first(taken, what);
-        if taken.tag != PduType::SNMPv2Trap.tag() && self.copy_of.is_none() {
+        if self.lacks_request(taken.tag) {
             first.remark = Remark::NoRequest;
         }
         first
     }
 
+    /// It is neither a notification nor a copy, so that a request should wait for it.
+    fn lacks_request(self, tag: u8) -> bool
+        ensures { IsTrue result ↔ LacksRequest self tag }
+    {
+        tag != PduType::SNMPv2Trap.tag() && self.copy_of.is_none()
+    }
+
     /// What is known of a datagram that is no message.
-    pub(crate) fn unreadable(self, refusal: Refusal) -> First {
+    pub(crate) fn unreadable(self, refusal: Refusal) -> First
+        ensures captured { IsCaptured self result }
+        ensures what { result.what ≡ Unreadable }
+        ensures refused { result.refusal ≡ Some refusal }
+    {
         let mut first = self.first(What::Unreadable);
         first.refusal = Some(refusal);
         first
     }
 
     /// What is known of a message that wasn't opened.
-    pub(crate) fn unread(self, unread: Unread, refusal: Refusal) -> First {
+    pub(crate) fn unread(self, unread: Unread, refusal: Refusal) -> First
+        ensures captured { IsCaptured self result }
+        ensures sender { result.sender ≡ Some unread.sender }
+        ensures engine { result.engine ≡ unread.engine }
+        ensures what { result.what ≡ unread.what }
+        ensures refused { result.refusal ≡ Some refusal }
+    {
         let mut first = self.first(unread.what);
         first.sender = Some(unread.sender);
         first.engine = unread.engine;
@@ -90,7 +132,12 @@ impl Line {
     }
 
     /// What is known of a message of an engine beyond the limit.
-    pub(crate) fn left_out(self, engine: EngineId) -> First {
+    pub(crate) fn left_out(self, engine: EngineId) -> First
+        ensures captured { IsCaptured self result }
+        ensures engine { result.engine ≡ Some engine }
+        ensures what { result.what ≡ Sealed true }
+        ensures remark { result.remark ≡ EnginesLimit }
+    {
         let mut first = self.first(What::Sealed { is_guess: true });
         first.engine = Some(engine);
         first.remark = Remark::EnginesLimit;
@@ -99,7 +146,17 @@ impl Line {
 }
 
 /// A user name of a message, cut after 32 octets.
-pub(crate) fn user_of(octets: &[u8]) -> UserName {
+pub(crate) fn user_of(octets: &[u8]) -> UserName
+    ensures { length octets.now ≤ 32 → result ≡ octets.now }
+{
+    match UserName::of(octets) {
+        Some(user) => user,
+        None => cut_name(octets),
+    }
+}
+
+/// The first 32 octets as a user name.
+fn cut_name(octets: &[u8]) -> UserName {
     let most = octets.len().min(32);
     match UserName::of(&octets[..most]) {
         Some(user) => user,
@@ -108,7 +165,10 @@ pub(crate) fn user_of(octets: &[u8]) -> UserName {
 }
 
 /// Who sends a message that was opened.
-fn sender_of(taken: &Taken<'_>) -> Sender {
+fn sender_of(taken: &Taken<'_>) -> Sender
+    ensures user { result.user ≡ taken.now.user.now }
+    ensures level { result.level ≡ Some taken.now.level }
+{
     Sender {
         user: user_of(taken.user),
         level: Some(taken.level),

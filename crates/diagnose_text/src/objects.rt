@@ -14,7 +14,7 @@ ghost use Rattle.diagnose_text.specs.Names as names;
 ghost use Rattle.diagnose_text.specs.declared.facts.What.TheVariants.{Pdu, Sealed};
 
 use crate::facts::{Answer, First, PduNames, Remark, Sent, What};
-use crate::heads::{Stamp, name_text, time_text};
+use crate::heads::Stamp;
 use crate::members::{
     Members, array_of, kind_object, no_members, object_of, put_kind, put_number,
     put_number_or_null, put_text, put_text_or_null, text_array,
@@ -22,13 +22,12 @@ use crate::members::{
 use crate::names::{level_name, pdu_name};
 use crate::says::says_object;
 use crate::view_objects::view_list;
-use capture_files::Endpoint;
+use crate::words::{FirstWords, first_words};
 use diagnose_exchanges::{Ending, Exchange};
 use engine_clock::EngineId;
 use serde_json::{Value as Json, put};
 use snmp_ber::Level;
 use snmp_msg::Refusal;
-use snmpsec_causes::cause;
 use std::alloc::{AllocError, Global};
 
 /// The line of an exchange.
@@ -92,45 +91,6 @@ fn put_both(
     put(members, alloc, "request", first)?;
     put(members, alloc, "ending", ending)?;
     put(members, alloc, "counts", Json::from(counts))
-}
-
-/// The words beside the facts of a first datagram.
-#[derive(Drop)]
-struct FirstWords {
-    /// The time of day.
-    time: String,
-    /// From where it came, and to where it went.
-    from: Option<String>,
-    to: Option<String>,
-    /// The user's name.
-    user: String,
-    /// What the refusal by this configuration mostly comes from.
-    cause: &'static str,
-}
-
-/// The words of a first datagram.
-fn first_words(alloc: Global, first: &First) -> Result<FirstWords, AllocError>
-    ensures { IfOk result (λ words. IsNameText (sender_user first.now.sender) (string_bytes words.user)) }
-{
-    let time = time_text(alloc, first.at)?;
-    let from = endpoint_text(alloc, first.route.map(|route| route.from))?;
-    let to = endpoint_text(alloc, first.route.map(|route| route.to))?;
-    let user = name_text(alloc, first.user())?;
-    Ok(FirstWords {
-        time,
-        from,
-        to,
-        user,
-        cause: first.refusal.map_or("", cause),
-    })
-}
-
-/// An address with its port.
-fn endpoint_text(alloc: Global, endpoint: Option<Endpoint>) -> Result<Option<String>, AllocError> {
-    match endpoint {
-        Some(endpoint) => Ok(Some(format!(in alloc; "{endpoint}")?)),
-        None => Ok(None),
-    }
 }
 
 /// The object of a first datagram.

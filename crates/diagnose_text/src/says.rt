@@ -16,7 +16,7 @@ use crate::members::{
 };
 use crate::names::status_name;
 use crate::objects::refusal_object;
-use crate::values::Value;
+use crate::values::{Value, syntax_name, type_name};
 use engine_clock::EngineId;
 use serde_json::{Value as Json, put};
 use snmp_msg::Refusal;
@@ -47,7 +47,7 @@ fn says_kind(says: &Says) -> &'static str
 }
 
 /// The word for people that stands beside a number: the name of an error-status, or what a refusal mostly comes from.
-fn says_word(says: &Says) -> &'static str {
+pub(crate) fn says_word(says: &Says) -> &'static str {
     match says {
         Says::Error(status, _) => status_name(*status),
         Says::Unread(refusal) => cause(*refusal),
@@ -178,13 +178,15 @@ fn value_object(alloc: Global, name: &str, value: &Value) -> Result<Json, AllocE
 {
     match value {
         Value::Integer(number) => typed_object(alloc, name, "INTEGER", Json::from(*number)),
-        Value::Unsigned(kind, number) => typed_object(alloc, name, kind, Json::from(*number)),
+        Value::Unsigned(syntax, number) => {
+            typed_object(alloc, name, syntax_name(*syntax), Json::from(*number))
+        }
         Value::Counter64(number) => typed_object(alloc, name, "Counter64", Json::from(*number)),
         Value::Text(text) => text_object(alloc, name, "STRING", text),
         Value::Identifier(text) => text_object(alloc, name, "OID", text),
         Value::Address(octets) => address_object(alloc, name, *octets),
-        Value::Octets(kind, digits) => hex_object(alloc, name, kind, digits),
-        Value::Bare(kind) => typed_object(alloc, name, kind, Json::Null),
+        Value::Octets(syntax, digits) => hex_object(alloc, name, type_name(*syntax), digits),
+        Value::Bare(syntax) => typed_object(alloc, name, syntax_name(*syntax), Json::Null),
     }
 }
 

@@ -1,27 +1,65 @@
 //! Values of variables, each with its type.
 
-ghost use Rattle.std.specs.Prelude.{IfOk, string_bytes};
+ghost use Rattle.std.specs.Prelude.{◌≡◌, ◌↔◌, ◌≤◌, ◌^◌, ◌++◌, ℕ, Some, IfOk, OnOk, MatchOption, string_bytes};
+ghost use Rattle.snmp_ber.specs.Number.{IsUnsigned, number};
+ghost use Rattle.snmp_msg.specs.Values.{syntax_of};
+ghost use Rattle.diagnose_text.specs.Blocks.{hex_text, unsigned_text, value_text};
+ghost use Rattle.diagnose_text.specs.Facts.{IsCounter64, IsInHex, IsInteger, IsIpAddress, IsNumber32};
+ghost use Rattle.diagnose_text.specs.Facts.{IsObjectIdentifier, IsOctetString, IsValueRead};
+ghost use Rattle.diagnose_text.specs.Names.{syntax_word, type_word};
 ghost use Rattle.diagnose_text.specs.Documents.{IsNameText};
 
-use snmp_ber::{read_int, read_oid, read_unsigned};
-use snmp_msg::{Binding, Syntax};
+use snmp_ber::{is_unsigned64, read_int, read_oid, read_unsigned};
+use snmp_msg::Syntax;
 use std::alloc::{AllocError, Global};
 
 /// The value of a variable (RFC 3416, section 3).
 #[derive(Drop)]
 pub(crate) enum Value {
     Integer(i32),
-    /// The name of its type, and the number.
-    Unsigned(&'static str, u32),
+    /// A number without sign of 32 bits, and which one it is.
+    Unsigned(Syntax, u32),
     Counter64(u64),
     /// Octets that can be read as they are.
     Text(String),
+    /// An object identifier, in decimals with dots between.
     Identifier(String),
     Address([u8; 4]),
-    /// The name of its type, and its octets in hex.
-    Octets(&'static str, String),
+    /// Octets in hex, and what they should be, if a syntax has the tag.
+    Octets(Option<Syntax>, String),
     /// NULL, or an exception.
-    Bare(&'static str),
+    Bare(Syntax),
+}
+
+/// The name of a syntax, as net-snmp prints it.
+pub(crate) fn syntax_name(syntax: Syntax) -> &'static str
+    ensures { result.now ≡ syntax_word syntax }
+{
+    match syntax {
+        Syntax::Integer32 => "INTEGER",
+        Syntax::OctetString => "STRING",
+        Syntax::Null => "NULL",
+        Syntax::ObjectIdentifier => "OID",
+        Syntax::IpAddress => "IpAddress",
+        Syntax::Counter32 => "Counter32",
+        Syntax::Unsigned32 => "Gauge32",
+        Syntax::TimeTicks => "Timeticks",
+        Syntax::Opaque => "Opaque",
+        Syntax::Counter64 => "Counter64",
+        Syntax::NoSuchObject => "noSuchObject",
+        Syntax::NoSuchInstance => "noSuchInstance",
+        Syntax::EndOfMibView => "endOfMibView",
+    }
+}
+
+/// The name of a syntax, or a word for none.
+pub(crate) fn type_name(syntax: Option<Syntax>) -> &'static str
+    ensures { result.now ≡ type_word syntax }
+{
+    match syntax {
+        Some(syntax) => syntax_name(syntax),
+        None => "value",
+    }
 }
 
 /// The octets can be read as they are: all are of printable ASCII, and none is a quote or a backslash.
@@ -42,91 +80,153 @@ pub(crate) fn octets_text(alloc: Global, octets: &[u8]) -> Result<String, AllocE
     }
 }
 
-/// A number that is given in the octets of its two's complement, the first octet first.
-fn read_wide(content: &[u8]) -> u64 {
+/// The number whose digits in base 256 the octets are, if it has at most 64 bits.
+fn wide_of(content: &[u8]) -> Option<u64>
+    ensures { MatchOption result (2 ^ 64 ≤ number content.now) (λ n. number content.now ≡ n) }
+{
     let mut number = 0u64;
     for octet in content {
-        number = number.wrapping_mul(256).wrapping_add(u64::from(*octet));
+        number = number.checked_mul(256)?.checked_add(u64::from(*octet))?;
     }
-    number
+    Some(number)
 }
 
-/// Octets of a type.
-fn octets_of(alloc: Global, name: &'static str, content: &[u8]) -> Result<Value, AllocError> {
-    Ok(Value::Octets(name, hex::encode(alloc, content)?))
+/// The number without sign of 64 bits whose content this is.
+fn read_wide(content: &[u8]) -> Option<u64>
+    ensures { (n : ℕ) → (result ≡ Some n) ↔ IsUnsigned 8 n content.now }
+{
+    if is_unsigned64(content) {
+        wide_of(content)
+    } else {
+        None
+    }
 }
 
-/// A number without sign of a type, or its octets where they are no such number.
-fn unsigned_of(alloc: Global, name: &'static str, content: &[u8]) -> Result<Value, AllocError> {
+/// Octets of a syntax, in hex.
+fn octets_of(alloc: Global, syntax: Option<Syntax>, content: &[u8]) -> Result<Value, AllocError>
+    ensures { IfOk result (IsInHex syntax content.now) }
+{
+    Ok(Value::Octets(syntax, hex::encode(alloc, content)?))
+}
+
+/// A number without sign, or its octets where they are no such number.
+fn unsigned_of(alloc: Global, syntax: Syntax, content: &[u8]) -> Result<Value, AllocError>
+    ensures { IfOk result (IsNumber32 syntax content.now) }
+{
     match read_unsigned(content) {
-        Some(number) => Ok(Value::Unsigned(name, number)),
-        None => octets_of(alloc, name, content),
+        Some(number) => Ok(Value::Unsigned(syntax, number)),
+        None => octets_of(alloc, Some(syntax), content),
     }
 }
 
-/// A number with sign.
-fn integer_of(alloc: Global, content: &[u8]) -> Result<Value, AllocError> {
+/// A number without sign of 64 bits, or its octets where they are no such number.
+fn counter64_of(alloc: Global, content: &[u8]) -> Result<Value, AllocError>
+    ensures { IfOk result (IsCounter64 content.now) }
+{
+    match read_wide(content) {
+        Some(number) => Ok(Value::Counter64(number)),
+        None => octets_of(alloc, Some(Syntax::Counter64), content),
+    }
+}
+
+/// A number with sign, or its octets where they are no such number.
+fn integer_of(alloc: Global, content: &[u8]) -> Result<Value, AllocError>
+    ensures { IfOk result (IsInteger content.now) }
+{
     match read_int(content) {
         Some(number) => Ok(Value::Integer(number)),
-        None => octets_of(alloc, "INTEGER", content),
+        None => octets_of(alloc, Some(Syntax::Integer32), content),
     }
 }
 
-/// An object identifier.
-fn identifier_of(alloc: Global, content: &[u8]) -> Result<Value, AllocError> {
+/// An object identifier, or its octets where they are none.
+fn identifier_of(alloc: Global, content: &[u8]) -> Result<Value, AllocError>
+    ensures { IfOk result (IsObjectIdentifier content.now) }
+{
     match read_oid(content) {
         Some(oid) => Ok(Value::Identifier(format!(in alloc; "{oid}")?)),
-        None => octets_of(alloc, "OID", content),
+        None => octets_of(alloc, Some(Syntax::ObjectIdentifier), content),
     }
 }
 
-/// An address of IPv4.
-fn address_of(alloc: Global, content: &[u8]) -> Result<Value, AllocError> {
+/// An address of IPv4, or octets that are none.
+fn address_of(alloc: Global, content: &[u8]) -> Result<Value, AllocError>
+    ensures { IfOk result (IsIpAddress content.now) }
+{
     match content {
         [a, b, c, d] => Ok(Value::Address([*a, *b, *c, *d])),
-        _ => octets_of(alloc, "IpAddress", content),
+        _ => octets_of(alloc, Some(Syntax::IpAddress), content),
     }
 }
 
 /// Octets, as text if they can be read.
-fn string_of(alloc: Global, content: &[u8]) -> Result<Value, AllocError> {
+fn string_of(alloc: Global, content: &[u8]) -> Result<Value, AllocError>
+    ensures { IfOk result (IsOctetString content.now) }
+{
     match std::str::from_utf8(content) {
         Ok(text) if is_plain(content) => Ok(Value::Text(String::from_str(alloc, text)?)),
-        _ => octets_of(alloc, "STRING", content),
+        _ => octets_of(alloc, Some(Syntax::OctetString), content),
     }
 }
 
-/// The value of a binding.
-pub(crate) fn value_of(alloc: Global, binding: &Binding<'_>) -> Result<Value, AllocError> {
-    let content = binding.content;
-    match Syntax::of(binding.tag) {
-        Some(Syntax::Integer32) => integer_of(alloc, content),
-        Some(Syntax::OctetString) => string_of(alloc, content),
-        Some(Syntax::ObjectIdentifier) => identifier_of(alloc, content),
-        Some(Syntax::IpAddress) => address_of(alloc, content),
-        Some(Syntax::Counter32) => unsigned_of(alloc, "Counter32", content),
-        Some(Syntax::Unsigned32) => unsigned_of(alloc, "Gauge32", content),
-        Some(Syntax::TimeTicks) => unsigned_of(alloc, "Timeticks", content),
-        Some(Syntax::Counter64) => Ok(Value::Counter64(read_wide(content))),
-        Some(Syntax::Opaque) => octets_of(alloc, "Opaque", content),
-        Some(Syntax::Null) => Ok(Value::Bare("NULL")),
-        Some(Syntax::NoSuchObject) => Ok(Value::Bare("noSuchObject")),
-        Some(Syntax::NoSuchInstance) => Ok(Value::Bare("noSuchInstance")),
-        Some(Syntax::EndOfMibView) => Ok(Value::Bare("endOfMibView")),
-        None => octets_of(alloc, "value", content),
+/// The value with this tag and these octets.
+pub(crate) fn value_of(alloc: Global, tag: u8, content: &[u8]) -> Result<Value, AllocError>
+    ensures { IfOk result (IsValueRead (syntax_of tag) content.now) }
+{
+    match Syntax::of(tag) {
+        Some(syntax) => value_as(alloc, syntax, content),
+        None => octets_of(alloc, None, content),
+    }
+}
+
+/// The value of this syntax with these octets.
+fn value_as(alloc: Global, syntax: Syntax, content: &[u8]) -> Result<Value, AllocError>
+    ensures { IfOk result (IsValueRead (Some syntax) content.now) }
+{
+    match syntax {
+        Syntax::Integer32 => integer_of(alloc, content),
+        Syntax::OctetString => string_of(alloc, content),
+        Syntax::ObjectIdentifier => identifier_of(alloc, content),
+        Syntax::IpAddress => address_of(alloc, content),
+        Syntax::Counter32 => unsigned_of(alloc, Syntax::Counter32, content),
+        Syntax::Unsigned32 => unsigned_of(alloc, Syntax::Unsigned32, content),
+        Syntax::TimeTicks => unsigned_of(alloc, Syntax::TimeTicks, content),
+        Syntax::Counter64 => counter64_of(alloc, content),
+        Syntax::Opaque => octets_of(alloc, Some(Syntax::Opaque), content),
+        Syntax::Null | Syntax::NoSuchObject | Syntax::NoSuchInstance | Syntax::EndOfMibView => Ok(
+            Value::Bare(syntax),
+        ),
     }
 }
 
 /// Adds a value after the name of its type.
-pub(crate) fn put_value(out: &mut String, value: &Value) -> Result<(), AllocError> {
+pub(crate) fn put_value(out: &mut String, value: &Value) -> Result<(), AllocError>
+    ensures { OnOk result (string_bytes out.new ≡ string_bytes out.old ++ value_text value.now) }
+{
     match value {
         Value::Integer(number) => write!(out, "INTEGER {number}"),
-        Value::Unsigned(name, number) => write!(out, "{name} {number}"),
+        Value::Unsigned(syntax, number) => put_unsigned(out, *syntax, *number),
         Value::Counter64(number) => write!(out, "Counter64 {number}"),
         Value::Text(text) => write!(out, "STRING \"{text}\""),
         Value::Identifier(text) => write!(out, "OID {text}"),
         Value::Address([a, b, c, d]) => write!(out, "IpAddress {a}.{b}.{c}.{d}"),
-        Value::Octets(name, digits) => write!(out, "{name} 0x{digits}"),
-        Value::Bare(name) => out.push_str(name),
+        Value::Octets(syntax, digits) => put_octets(out, *syntax, digits),
+        Value::Bare(syntax) => out.push_str(syntax_name(*syntax)),
     }
+}
+
+/// Adds a number without sign after the name of its syntax.
+fn put_unsigned(out: &mut String, syntax: Syntax, number: u32) -> Result<(), AllocError>
+    ensures { OnOk result (string_bytes out.new ≡ string_bytes out.old ++ unsigned_text syntax number) }
+{
+    let name = syntax_name(syntax);
+    write!(out, "{name} {number}")
+}
+
+/// Adds octets in hex after the name of what they should be.
+fn put_octets(out: &mut String, syntax: Option<Syntax>, digits: &str) -> Result<(), AllocError>
+    ensures { OnOk result (string_bytes out.new ≡ string_bytes out.old ++ hex_text syntax digits.now) }
+{
+    let name = type_name(syntax);
+    write!(out, "{name} 0x{digits}")
 }

@@ -37,7 +37,7 @@ fn view_object(alloc: Global, viewed: &Viewed) -> Result<Json, AllocError>
 }
 
 /// The name of the group, if there is one.
-fn group_name(viewed: &Viewed) -> Option<&Name>
+pub(crate) fn group_name(viewed: &Viewed) -> Option<&Name>
     ensures { option_map (λ name. name.now) result ≡ spec.group_name viewed.now.group }
 {
     match &viewed.group {
@@ -47,7 +47,7 @@ fn group_name(viewed: &Viewed) -> Option<&Name>
 }
 
 /// The name of the view, if there is one.
-fn view_name(viewed: &Viewed) -> Option<&Name>
+pub(crate) fn view_name(viewed: &Viewed) -> Option<&Name>
     ensures { option_map (λ name. name.now) result ≡ viewed.now.view }
 {
     match &viewed.view {
