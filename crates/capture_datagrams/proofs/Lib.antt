@@ -3,3 +3,4 @@ pub mod Beginnings
 pub mod Dumps
 mod LogLines
 pub mod Refusals
+mod LogEntries

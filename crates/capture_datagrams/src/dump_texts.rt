@@ -22,8 +22,8 @@ fn fault_line(fault: DumpFault) -> u64
     }
 }
 
-/// The line of a file that is no dump on this line.
-fn refused_row(alloc: Global, name: &str, line: u64) -> Result<String, AllocError>
+/// The line of a file that is no dump, or no log, on this line.
+pub(crate) fn refused_row(alloc: Global, name: &str, line: u64) -> Result<String, AllocError>
     ensures { IfOk result (λ text. string_bytes text ≡ refused_row name.now line) }
 {
     format!(in alloc; "refused datagrams {name} line {line}\n")
@@ -67,7 +67,7 @@ fn refused_dump(alloc: Global, name: &str, fault: DumpFault) -> Result<Told, All
 }
 
 /// One of the two, or both.
-fn either(one: bool, other: bool) -> bool
+pub(crate) fn either(one: bool, other: bool) -> bool
     ensures { result ≡ (one || other) }
 {
     one || other

@@ -6,3 +6,4 @@ pub mod LastUsers
 pub mod SecurityNames
 pub mod Printing
 pub mod Sharing
+mod Noted

@@ -6,3 +6,4 @@ pub mod Notes
 pub mod Users
 pub mod Duplicates
 pub mod Included
+pub mod NoteLines

@@ -1,5 +1,9 @@
 //! Rows as tables of TOML. Before each stands a comment with its place.
 
+ghost use Rattle.std.specs.Prelude.{◌≡◌, ◌++◌, OnOk};
+ghost use Rattle.std.specs.List.{slice_get};
+ghost use Rattle.snmpd_import.specs.NoteLines.{name_or_none, place_text};
+
 use crate::rows::KeptRows;
 use crate::texts::put_shown;
 use crate::users::HeldUser;
@@ -11,7 +15,9 @@ use usm_keys::Auth;
 use vacm_core::{ContextRow, Mask, Matching, Name};
 
 /// Appends a text.
-fn put(out: &mut Vec<u8>, text: &str) -> Result<(), AllocError> {
+pub(crate) fn put(out: &mut Vec<u8>, text: &str) -> Result<(), AllocError>
+    ensures { OnOk result (out.new.items ≡ out.old.items ++ text.now) }
+{
     out.extend_from_slice(text.as_bytes())
 }
 
@@ -37,14 +43,25 @@ pub(crate) fn put_place(
     out: &mut Vec<u8>,
     files: &[String],
     place: Place,
-) -> Result<(), AllocError> {
+) -> Result<(), AllocError>
+    ensures { OnOk result (out.new.items ≡ out.old.items
+        ++ place_text files.now place) }
+{
     let Place::Line { file, line } = place else {
         return put(out, "built in");
     };
-    if let Some(name) = files.get(file) {
-        put_shown(out, name.as_bytes())?;
-    }
+    put_shown(out, name_of(files, file).as_bytes())?;
     put(out, format!(in alloc; ":{line}")?.as_str())
+}
+
+/// The name of the file with this number, empty if it has none.
+fn name_of(files: &[String], file: usize) -> &str
+    ensures { result.now ≡ name_or_none (slice_get files.now file) }
+{
+    match files.get(file) {
+        Some(name) => name.as_str(),
+        None => "",
+    }
 }
 
 /// Appends a key with octets.

@@ -1,9 +1,10 @@
 //! The notes on lines that aren't rows.
 
-ghost use Rattle.std.specs.Prelude.{◌≡◌, ◌++◌, map, IfOk, OnOk};
+ghost use Rattle.std.specs.Prelude.{◌≡◌, ◌++◌, map, IfOk, OnOk, Some};
 ghost use Rattle.std.specs.List.{flat_map};
 ghost use Rattle.std.specs.Option.{option_map};
 ghost use Rattle.snmpd_import.specs.Notes as spec;
+ghost use Rattle.snmpd_import.specs.NoteLines.{kind_words};
 ghost use Rattle.snmpd_import.specs.Notes.{told_of, tells};
 
 use crate::users::{is_bad_name, is_defaulted, lacks_auth, lacks_privacy};
@@ -44,6 +45,8 @@ pub enum Kind {
 }
 
 impl fmt::Display for Kind {
+    ghost output = { λ kind. Some (kind_words kind) };
+
     fn fmt<W: fmt::Write>(&self, f: &mut fmt::Formatter<W>) -> fmt::Result {
         match self {
             Kind::Other => write!(f, "other"),

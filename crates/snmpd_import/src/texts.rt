@@ -1,9 +1,13 @@
 //! Notes as lines.
 
-ghost use Rattle.std.specs.Prelude.{◌↔◌, IsTrue};
+ghost use Rattle.std.specs.Prelude.{◌≡◌, ◌↔◌, ◌++◌, IsTrue, IfOk, OnOk, codes, map};
+ghost use Rattle.snmpd_import.specs.NoteLines as spec;
+ghost use Rattle.snmpd_import.specs.NoteLines.{AreNoteLines, AreShown, IsNoteLine, IsShownWord, IsWhyText};
+ghost use Rattle.snmpd_import.specs.NoteLines.{Adds, IsWordText, question_text, shown_octet};
+ghost use Rattle.snmpd_import.specs.NoteLines.{contexts_text, kind_words, other_text, place_text};
 ghost use Rattle.snmpd_import.specs.Notes.{IsSerious};
 
-use crate::blocks::put_place;
+use crate::blocks::{put, put_place};
 use crate::notes::{Kind, Told, Why};
 use snmpd_tables::{Contexts, Difference, Place, Question};
 use snmpsec_access::put_quoted;
@@ -18,34 +22,57 @@ pub fn is_serious(kind: Kind) -> bool
 }
 
 /// Appends octets, a question mark for each control character.
-pub(crate) fn put_shown(out: &mut Vec<u8>, octets: &[u8]) -> Result<(), AllocError> {
+pub(crate) fn put_shown(out: &mut Vec<u8>, octets: &[u8]) -> Result<(), AllocError>
+    ensures { OnOk result (out.new.items ≡ out.old.items ++ map shown_octet octets.now) }
+{
     for octet in octets {
-        let shown = if *octet < 32 || *octet == 127 {
-            b'?'
-        } else {
-            *octet
-        };
-        out.push(shown)?;
+        out.push(shown_octet(*octet))?;
     }
     Ok(())
+}
+
+/// The octet, or a question mark for a control character.
+fn shown_octet(octet: u8) -> u8
+    ensures { result ≡ spec.shown_octet octet }
+{
+    if octet < 32 || octet == 127 {
+        b'?'
+    } else {
+        octet
+    }
 }
 
 /// The most octets of a directive's word that are shown.
 const WORD_SHOWN: usize = 32;
 
 /// The octet can be one of a directive's word, or of a section in brackets.
-fn is_of_word(octet: u8) -> bool {
+fn is_of_word(octet: u8) -> bool
+    ensures { result ≡ spec.is_of_word octet }
+{
     octet.is_ascii_alphanumeric() || matches!(octet, b'-' | b'_' | b'[' | b']')
+}
+
+/// How many octets of a directive's word are shown.
+fn shown_count(word: &[u8]) -> usize
+    ensures { AreShown word.now result }
+{
+    for (count, octet) in word.iter().enumerate() {
+        if count == WORD_SHOWN || !is_of_word(*octet) {
+            return count;
+        }
+    }
+    word.len()
 }
 
 /// Appends a directive's word. What can't be one is cut, since it may be a secret of a file that a line names
 /// by mistake, as the lines of shadow(5) are.
-fn put_word(out: &mut Vec<u8>, word: &[u8]) -> Result<(), AllocError> {
-    for (count, octet) in word.iter().enumerate() {
-        if count == WORD_SHOWN || !is_of_word(*octet) {
-            return out.extend_from_slice(b"...");
-        }
-        out.push(*octet)?;
+fn put_word(out: &mut Vec<u8>, word: &[u8]) -> Result<(), AllocError>
+    ensures { OnOk result (Adds out.old.items out.new.items (IsShownWord word.now)) }
+{
+    let count = shown_count(word);
+    out.extend_from_slice(&word[..count])?;
+    if count < word.len() {
+        put(out, "...")?;
     }
     Ok(())
 }
@@ -56,10 +83,13 @@ fn put_same(
     out: &mut Vec<u8>,
     files: &[String],
     place: Place,
-) -> Result<(), AllocError> {
-    out.extend_from_slice(b": the row of ")?;
+) -> Result<(), AllocError>
+    ensures { OnOk result (out.new.items ≡ out.old.items ++ (codes ": the row of "
+        ++ (place_text files.now place ++ codes " has the same index"))) }
+{
+    put(out, ": the row of ")?;
     put_place(alloc, out, files, place)?;
-    out.extend_from_slice(b" has the same index")
+    put(out, " has the same index")
 }
 
 /// Appends the user from there, who is in the same group.
@@ -68,8 +98,11 @@ fn put_shared(
     out: &mut Vec<u8>,
     files: &[String],
     place: Place,
-) -> Result<(), AllocError> {
-    out.extend_from_slice(b": the user shares the group with another, of ")?;
+) -> Result<(), AllocError>
+    ensures { OnOk result (out.new.items ≡ out.old.items
+        ++ (codes ": the user shares the group with another, of " ++ place_text files.now place)) }
+{
+    put(out, ": the user shares the group with another, of ")?;
     put_place(alloc, out, files, place)
 }
 
@@ -79,29 +112,39 @@ fn put_changed(
     out: &mut Vec<u8>,
     files: &[String],
     place: Place,
-) -> Result<(), AllocError> {
-    out.extend_from_slice(b": changes the row of ")?;
+) -> Result<(), AllocError>
+    ensures { OnOk result (out.new.items ≡ out.old.items ++ (codes ": changes the row of "
+        ++ (place_text files.now place ++ codes ", which has another index"))) }
+{
+    put(out, ": changes the row of ")?;
     put_place(alloc, out, files, place)?;
-    out.extend_from_slice(b", which has another index")
+    put(out, ", which has another index")
 }
 
 /// Appends contexts: the name of one, or a name and a star for those beyond it.
-fn put_contexts(out: &mut Vec<u8>, contexts: &Contexts) -> Result<(), AllocError> {
+fn put_contexts(out: &mut Vec<u8>, contexts: &Contexts) -> Result<(), AllocError>
+    ensures { OnOk result (out.new.items ≡ out.old.items ++ contexts_text contexts.now) }
+{
     match contexts {
         Contexts::Named(name) => put_quoted(out, name.as_slice()),
         Contexts::Beyond(name) => {
             put_quoted(out, name.as_slice())?;
-            out.extend_from_slice(b"*")
+            put(out, "*")
         }
     }
 }
 
 /// Appends messages.
-fn put_question(alloc: Global, out: &mut Vec<u8>, question: &Question) -> Result<(), AllocError> {
-    out.extend_from_slice(b": group ")?;
+fn put_question(alloc: Global, out: &mut Vec<u8>, question: &Question) -> Result<(), AllocError>
+    ensures { OnOk result (out.new.items ≡ out.old.items ++ question_text question.now) }
+{
+    put(out, ": group ")?;
     put_quoted(out, question.group.as_slice())?;
     let (model, level) = (question.model, level_word(question.level));
-    out.extend_from_slice(format!(in alloc; ", model {model}, {level}, context ")?.as_bytes())?;
+    put(
+        out,
+        format!(in alloc; ", model {model}, {level}, context ")?.as_str(),
+    )?;
     put_contexts(out, &question.contexts)
 }
 
@@ -111,38 +154,76 @@ fn put_chosen(
     out: &mut Vec<u8>,
     files: &[String],
     difference: &Difference,
-) -> Result<(), AllocError> {
+) -> Result<(), AllocError>
+    ensures { OnOk result (out.new.items ≡ out.old.items ++ (question_text difference.now.question
+        ++ (codes ": snmpd takes this row, RFC 3415 "
+        ++ other_text files.now difference.now.other))) }
+{
     put_question(alloc, out, &difference.question)?;
-    out.extend_from_slice(b": snmpd takes this row, RFC 3415 ")?;
-    match difference.other {
-        Some(place) => {
-            out.extend_from_slice(b"that of ")?;
-            put_place(alloc, out, files, place)
-        }
-        None => out.extend_from_slice(b"none"),
-    }
+    put(out, ": snmpd takes this row, RFC 3415 ")?;
+    put_other(alloc, out, files, difference.other)
 }
 
-/// Appends the reason of the note.
-fn put_why(
+/// Appends what RFC 3415 chooses.
+fn put_other(
     alloc: Global,
     out: &mut Vec<u8>,
     files: &[String],
-    why: &Why,
-) -> Result<(), AllocError> {
+    other: Option<Place>,
+) -> Result<(), AllocError>
+    ensures { OnOk result (out.new.items ≡ out.old.items
+        ++ other_text files.now other) }
+{
+    match other {
+        Some(place) => {
+            put(out, "that of ")?;
+            put_place(alloc, out, files, place)
+        }
+        None => put(out, "none"),
+    }
+}
+
+/// Appends words.
+fn put_words(out: &mut Vec<u8>, words: &str) -> Result<(), AllocError>
+    ensures { OnOk result (out.new.items ≡ out.old.items ++ (codes ": " ++ words.now)) }
+{
+    put(out, ": ")?;
+    put(out, words)
+}
+
+/// Appends the reason of the note.
+fn put_why(alloc: Global, out: &mut Vec<u8>, files: &[String], why: &Why) -> Result<(), AllocError>
+    ensures { OnOk result (Adds out.old.items out.new.items
+        (IsWhyText files.now why.now)) }
+{
     match why {
         Why::Plain => Ok(()),
-        Why::Words(words) => {
-            out.extend_from_slice(b": ")?;
-            out.extend_from_slice(words.as_bytes())
-        }
-        Why::Fault(fault) => { out.extend_from_slice(format!(in alloc; ": {fault}")?.as_bytes()) }
-        Why::NoUser(fault) => { out.extend_from_slice(format!(in alloc; ": {fault}")?.as_bytes()) }
+        Why::Words(words) => put_words(out, words),
+        Why::Fault(fault) => put_words(out, fault.to_string(alloc)?.as_str()),
+        Why::NoUser(fault) => put_words(out, fault.to_string(alloc)?.as_str()),
         Why::Same(place) => put_same(alloc, out, files, *place),
         Why::Shared(place) => put_shared(alloc, out, files, *place),
         Why::Changed(place) => put_changed(alloc, out, files, *place),
         Why::Chosen(difference) => put_chosen(alloc, out, files, difference),
     }
+}
+
+/// Appends the directive, where the line has one.
+fn put_directive(out: &mut Vec<u8>, word: &[u8]) -> Result<(), AllocError>
+    ensures { OnOk result (Adds out.old.items out.new.items (IsWordText word.now)) }
+{
+    if word.is_empty() {
+        return Ok(());
+    }
+    put(out, ": ")?;
+    put_word(out, word)
+}
+
+/// Appends the kind.
+fn put_kind(alloc: Global, out: &mut Vec<u8>, kind: Kind) -> Result<(), AllocError>
+    ensures { OnOk result (out.new.items ≡ out.old.items ++ (codes ": " ++ kind_words kind)) }
+{
+    put(out, format!(in alloc; ": {kind}")?.as_str())
 }
 
 /// Appends a line `FILE:LINE: KIND: DIRECTIVE: WHY`.
@@ -151,20 +232,21 @@ fn put_told(
     out: &mut Vec<u8>,
     files: &[String],
     told: &Told,
-) -> Result<(), AllocError> {
+) -> Result<(), AllocError>
+    ensures { OnOk result (Adds out.old.items out.new.items
+        (IsNoteLine files.now told.now)) }
+{
     put_place(alloc, out, files, told.place)?;
-    let kind = told.kind;
-    out.extend_from_slice(format!(in alloc; ": {kind}")?.as_bytes())?;
-    if !told.word.is_empty() {
-        out.extend_from_slice(b": ")?;
-        put_word(out, &told.word)?;
-    }
+    put_kind(alloc, out, told.kind)?;
+    put_directive(out, &told.word)?;
     put_why(alloc, out, files, &told.why)?;
-    out.extend_from_slice(b"\n")
+    put(out, "\n")
 }
 
 /// The notes, a line `FILE:LINE: KIND: DIRECTIVE: WHY` each, given the names of the files.
-pub fn notes_text(alloc: Global, files: &[String], notes: &[Told]) -> Result<Vec<u8>, AllocError> {
+pub fn notes_text(alloc: Global, files: &[String], notes: &[Told]) -> Result<Vec<u8>, AllocError>
+    ensures { IfOk result (λ text. AreNoteLines files.now notes.now text.items) }
+{
     let mut out = Vec::new(alloc);
     for told in notes {
         put_told(alloc, &mut out, files, told)?;

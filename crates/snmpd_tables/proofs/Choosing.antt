@@ -1,5 +1,5 @@
 -- The place of the row that snmpd chooses, one row after another.
-use Rattle.std.proofs.Common.{◌≡◌, ℕ, ◌+◌, ◌<◌, List, length, get_or, Option, Some, inl, inr, refl, sym, subst, add-one, arith}
+use Rattle.std.proofs.Common.{◌≡◌, ℕ, ◌+◌, ◌<◌, List, length, get_or, Option, Some, inl, inr, refl, sym, subst, add-one}
 use Rattle.std.proofs.lemmas.List.{get_or_read}
 use Rattle.vacm_core.specs.declared.rows.AccessRow.{AccessRow}
 use Rattle.snmpd_tables.specs.declared.rows.HeldAccess.{HeldAccess}
@@ -22,9 +22,3 @@ best_taken Fits rows n before best next = rw add-one (before, best, inl (next, r
 pub best_left : (Fits : AccessRow → Type 0) (rows : List HeldAccess) (n : ℕ) (before : Option ℕ) → BestOf Fits rows n before → (IsNextAt Fits rows before n → ⊥)
     → BestOf Fits rows (n + 1) before
 best_left Fits rows n before best not = rw add-one (before, best, inr (not, refl))
-
-pub below_taken : (place k : ℕ) → Some place ≡ Some k → k < place + 1
-below_taken place k is = let same : place ≡ k = cc is in omega (arith, same)
-
-pub below_left : (place : ℕ) (before : Option ℕ) (k : ℕ) → ((j : ℕ) → before ≡ Some j → j < place) → before ≡ Some k → k < place + 1
-below_left place before k below is = let within = below k is in omega (arith, within)

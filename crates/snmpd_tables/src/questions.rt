@@ -1,8 +1,8 @@
 //! Which access row snmpd 5.9.3 chooses for messages of a group. It isn't always the one that RFC 3415 says.
 
-ghost use Rattle.std.specs.Prelude.{◌≡◌, ◌<◌, ◌↔◌, ℕ, Some, IsTrue, IfSome, length};
+ghost use Rattle.std.specs.Prelude.{◌≡◌, ◌<◌, ◌↔◌, ℕ, Some, IsTrue, length};
 ghost use Rattle.snmpd_tables.specs.Questions as spec;
-ghost use Rattle.snmpd_tables.specs.Questions.{IsBetterAt, FitsQuestion, ChoosesAt};
+ghost use Rattle.snmpd_tables.specs.Questions.{IsBetterAt, FitsQuestion};
 
 use crate::copies::copy_name;
 use crate::rows::HeldAccess;
@@ -64,18 +64,4 @@ pub(crate) fn is_better(rows: &[HeldAccess], best: Option<usize>, row: &AccessRo
         Some(place) => is_taken(&rows[place].row, row),
         None => true,
     }
-}
-
-/// The place of the row that snmpd chooses for such messages, of rows in the order in which it holds them.
-pub fn choice_at(rows: &[HeldAccess], question: &Question) -> Option<usize>
-    ensures chooses { ChoosesAt (FitsQuestion question.now) rows.now result }
-    ensures within { IfSome result (λ at. at < length rows.now) }
-{
-    let mut best = None;
-    for (place, held) in rows.iter().enumerate() {
-        if fits(&held.row, question) && is_better(rows, best, &held.row) {
-            best = Some(place);
-        }
-    }
-    best
 }

@@ -11,9 +11,10 @@
 //! ```
 #![tactic(auto)]
 
-ghost use Rattle.std.specs.Prelude.{◌≡◌, IfOk};
+ghost use Rattle.std.specs.Prelude.{◌≡◌, ◌⊎◌, IfErr, IfOk};
+ghost use Rattle.std.specs.declared.io.ErrorKind.TheVariants as kinds;
 ghost use Rattle.clap.specs.Values.{kind_of};
-ghost use Rattle.clap.specs.declared.error.kind.ErrorKind.TheVariants.{InvalidValue};
+ghost use Rattle.clap.specs.declared.error.kind.ErrorKind.TheVariants.{InvalidValue, OutOfMemory};
 
 use clap::error::ErrorKind;
 use clap::{ArgMatches, Error};
@@ -63,7 +64,9 @@ pub enum Command {
 
 /// The arguments of the program, its name first. The error is the refusal of arguments that aren't UTF-8, or says that
 /// memory ran out.
-pub fn arguments<R: Env + AllocGlobal>(rt: &R) -> Result<Vec<String>, Error> {
+pub fn arguments<R: Env + AllocGlobal>(rt: &R) -> Result<Vec<String>, Error>
+    ensures err { IfErr result (λ fault. (kind_of fault ≡ InvalidValue) ⊎ (kind_of fault ≡ OutOfMemory)) }
+{
     match env::args(rt) {
         Ok(words) => match words.collect(rt.alloc()) {
             Ok(words) => Ok(words),
@@ -74,7 +77,10 @@ pub fn arguments<R: Env + AllocGlobal>(rt: &R) -> Result<Vec<String>, Error> {
 }
 
 /// Why there are no arguments.
-fn no_arguments(alloc: Global, kind: io::ErrorKind) -> Error {
+fn no_arguments(alloc: Global, kind: io::ErrorKind) -> Error
+    ensures either { (kind_of result ≡ InvalidValue) ⊎ (kind_of result ≡ OutOfMemory) }
+    ensures memory { kind ≡ kinds.OutOfMemory → kind_of result ≡ OutOfMemory }
+{
     if kind == io::ErrorKind::OutOfMemory {
         return Error::from(AllocError);
     }

@@ -1,5 +1,8 @@
 //! Why a file can't be read.
 
+ghost use Rattle.std.specs.IoError.{error_kind};
+ghost use Rattle.snmpsec_io.specs.Causes.{IsCauseOf};
+
 use crate::whole::{FILE_LIMIT, FileFault};
 use std::io;
 use std::io::ErrorKind;
@@ -27,7 +30,9 @@ pub enum ReadFault {
 
 impl ReadFault {
     /// The cause that the system gives.
-    pub fn of(fault: &io::Error) -> ReadFault {
+    pub fn of(fault: &io::Error) -> ReadFault
+        ensures { IsCauseOf (error_kind fault.now) result }
+    {
         match fault.kind() {
             ErrorKind::NotFound => ReadFault::NotFound,
             ErrorKind::PermissionDenied => ReadFault::PermissionDenied,

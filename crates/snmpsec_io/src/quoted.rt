@@ -1,5 +1,8 @@
 //! A value as a message shows it: between quotes, and cut if it is long.
 
+ghost use Rattle.std.specs.Prelude.{◌≡◌, ◌↔◌, ◌<◌, IsTrue, length, take};
+ghost use Rattle.snmpsec_io.specs.declared.quoted.TheConstants.{SHOWN};
+
 use std::fmt;
 
 /// The most characters of a value that are shown.
@@ -31,14 +34,16 @@ pub struct Excerpt {
 
 impl Excerpt {
     /// The beginning of these octets.
-    pub fn of(octets: &[u8]) -> Excerpt {
+    pub fn of(octets: &[u8]) -> Excerpt
+        ensures shown { take result.len result.octets ≡ take SHOWN octets.now }
+        ensures cut { IsTrue result.is_cut ↔ SHOWN < length octets.now }
+    {
         let mut beginning = [0u8; SHOWN];
-        for (place, octet) in beginning.iter_mut().zip(octets) {
-            *place = *octet;
-        }
+        let len = octets.len().min(SHOWN);
+        beginning[..len].copy_from_slice(&octets[..len]);
         Excerpt {
             octets: beginning,
-            len: octets.len(),
+            len,
             is_cut: octets.len() > SHOWN,
         }
     }

@@ -13,3 +13,4 @@ pub mod Opening
 pub mod Variables
 pub mod Names
 pub mod Community
+pub mod Arguments

@@ -1,7 +1,8 @@
 //! Why an argument of the command line is refused, and what is wanted.
 
-ghost use Rattle.std.specs.Prelude.{◌≡◌, ◌++◌, [], IfOk, codes};
+ghost use Rattle.std.specs.Prelude.{◌≡◌, ◌++◌, [], IfOk, codes, string_bytes};
 ghost use Rattle.snmpsec_output.specs.Questions.{argument_name};
+ghost use Rattle.snmpsec_output.specs.Arguments.{IsArgumentText};
 
 use crate::choices::nearest;
 use crate::output::Output;
@@ -59,9 +60,11 @@ pub fn argument_words(
     word: &str,
     why: &str,
     wanted: &str,
-) -> Result<String, AllocError> {
-    let word = Quoted(word);
-    format!(in alloc; "{name} {word}: {why}; {wanted}")
+) -> Result<String, AllocError>
+    ensures { IfOk result (λ text. IsArgumentText name.now why.now wanted.now (string_bytes text)) }
+{
+    let shown = Quoted(word).to_string(alloc)?;
+    format!(in alloc; "{name} {shown}: {why}; {wanted}")
 }
 
 /// The complaint of a word that is out of its form.
