@@ -17,6 +17,8 @@ mod elements;
 #[cfg(test)]
 mod examples;
 #[cfg(test)]
+mod gate;
+#[cfg(test)]
 mod handles;
 #[cfg(test)]
 mod manager;

@@ -1,0 +1,10 @@
+pub mod AskSteps
+pub mod GroupSteps
+pub mod Held
+pub mod Ids
+pub mod Outcomes
+pub mod Pairs
+pub mod Questions
+pub mod SetMemory
+pub mod Tags
+pub mod Timers

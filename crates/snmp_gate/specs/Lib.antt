@@ -1,0 +1,11 @@
+pub mod Access
+pub mod Asks
+pub mod AskRuns
+pub mod DeviceMessages
+pub mod Question
+pub mod Groups
+pub mod GroupRuns
+pub mod Time
+pub mod SetOutcome
+pub mod Sets
+pub mod SetRuns

@@ -1,0 +1,85 @@
+//! Laws of the gateway's pieces, over any run of steps. Each function does nothing: its contract is the law.
+
+ghost use Rattle.std.specs.Prelude.{◌≡◌, ◌⊎◌, ℕ, ◌+◌, ◌*◌, ◌^◌, ◌<◌, ◌≤◌, max, List, [], length, All, Bool, count_by};
+ghost use Rattle.snmp_gate.specs.AskRuns.{AskStep, HaveOwnIds, IsAskRun, times_asked, times_ended, times_waiting};
+ghost use Rattle.snmp_gate.specs.declared.asks.DeviceAsk.{DeviceAsk};
+ghost use Rattle.snmp_gate.specs.Groups.{Group};
+ghost use Rattle.snmp_gate.specs.GroupRuns.{AskOwn, AsksOneThing, GroupStep, HaveOwnNumbers, IsFew, IsGroupRun};
+ghost use Rattle.snmp_gate.specs.GroupRuns.{answered_by, taken_by, times_held};
+ghost use Rattle.snmp_gate.specs.Time.{AreAsks, IsDue, IsTimed, TimerStep};
+ghost use Rattle.snmp_gate.specs.SetRuns.{AreAsTold, ComesWithin, IsSetRun, SetStep, times_new};
+ghost use Rattle.snmp_gate.specs.declared.retries.Retries.{Retries};
+ghost use Rattle.snmp_gate.specs.declared.sets.RememberedSet.{RememberedSet};
+ghost use Rattle.snmp_gate.specs.declared.sets.TheConstants.{SETS_LIMIT};
+ghost use Rattle.snmp_gate.specs.declared.timer.Due.TheVariants.{GiveUp};
+ghost use Rattle.snmp_gate.specs.declared.timer.Timer.{Timer};
+ghost use Rattle.snmp_gate.specs.declared.timer.Turn.TheVariants.{ToAsk};
+
+/// However often its device is asked, and whatever it answers: a request that came at a moment is to be given up at the
+/// latest `last` and once `again` after it (`in_time`), and never earlier than `last` after it, or than `again` for
+/// each of its tries after it (`not_before`). As long as its device doesn't answer, it is asked `tries` times at most,
+/// or once (`tries`): a Set, which has `Retries::for_set`, is asked once.
+pub fn a_request_ends_in_time()
+    ensures in_time { (r : Retries) (steps : List TimerStep) (first last : Timer) (now : ℕ)
+        → first.turn ≡ ToAsk → IsTimed r first steps last
+        → first.began + r.last + r.again ≤ now → IsDue r last now GiveUp }
+    ensures not_before { (r : Retries) (steps : List TimerStep) (first last : Timer) (now : ℕ)
+        → first.turn ≡ ToAsk → IsTimed r first steps last
+        → IsDue r last now GiveUp
+        → (first.began + r.last ≤ now) ⊎ (first.began + r.tries * r.again ≤ now) }
+    ensures tries { (r : Retries) (steps : List TimerStep) (first last : Timer)
+        → r.tries < 2 ^ 32 → first.turn ≡ ToAsk → AreAsks steps → IsTimed r first steps last
+        → length steps ≤ max 1 r.tries }
+{}
+
+/// Whatever Sets come, and whatever their devices answer: the Set of a datagram that comes only within 301 seconds may
+/// be asked of its device once at most (`once`). If it comes again, its outcome is one that was told of it
+/// (`outcomes`). At most 4,096 Sets are remembered (`few`).
+pub fn a_set_goes_out_once()
+    ensures once { (digest : List ℕ) (from : ℕ) (steps : List SetStep) (last : List RememberedSet)
+        → IsSetRun 0 [] steps last → ComesWithin digest from steps → times_new digest steps ≤ 1 }
+    ensures outcomes { (steps : List SetStep) (last : List RememberedSet)
+        → IsSetRun 0 [] steps last → AreAsTold [] steps }
+    ensures few { (steps : List SetStep) (last : List RememberedSet)
+        → IsSetRun 0 [] steps last → length last ≤ SETS_LIMIT }
+{}
+
+/// However often a device is asked, and whatever it answers: no two asks have one request-id at once (`own`), the
+/// device isn't asked more than it may be at once (`few`), and what it is asked with a request-id for a request is
+/// answered or given up once at most each time (`once`).
+pub fn an_answer_is_of_one_ask()
+    ensures own { (at_once : ℕ) (steps : List AskStep) (last : List DeviceAsk)
+        → IsAskRun at_once [] steps last → HaveOwnIds last }
+    ensures few { (at_once : ℕ) (steps : List AskStep) (last : List DeviceAsk)
+        → IsAskRun at_once [] steps last → length last ≤ at_once }
+    ensures once { (at_once id request : ℕ) (steps : List AskStep) (last : List DeviceAsk)
+        → IsAskRun at_once [] steps last
+        → times_ended id request steps + times_waiting id request last ≡ times_asked id request steps }
+{}
+
+/// Whatever messages come, and whatever becomes of the requests that they ask: each message that is taken is answered
+/// once at most, and is held until then (`once`). No two requests have one number (`numbers`). At most as many requests
+/// wait as may, and for each at most as many messages as may, or one (`few_requests`, `few_messages`).
+pub fn each_message_is_answered_once<M: Drop, W: Drop, Q: Drop>()
+    ensures once { (question : M → Q) (most most_messages : ℕ) (test : M → Bool) (steps : List (GroupStep M W))
+        (last : List (Group M W)) → IsGroupRun question most most_messages 0 [] steps last
+        → count_by test (answered_by steps) + times_held test last ≡ count_by test (taken_by steps) }
+    ensures numbers { (question : M → Q) (most most_messages : ℕ) (steps : List (GroupStep M W))
+        (last : List (Group M W)) → IsGroupRun question most most_messages 0 [] steps last → HaveOwnNumbers last }
+    ensures few_requests { (question : M → Q) (most most_messages : ℕ) (steps : List (GroupStep M W))
+        (last : List (Group M W)) → IsGroupRun question most most_messages 0 [] steps last → length last ≤ most }
+    ensures few_messages { (question : M → Q) (most most_messages : ℕ) (steps : List (GroupStep M W))
+        (last : List (Group M W)) → IsGroupRun question most most_messages 0 [] steps last
+        → All (IsFew most_messages) last }
+{}
+
+/// A message joins the request that asks the same, and begins one if none does: then all messages of a request ask the
+/// same (`one`), and no two requests do (`own`).
+pub fn a_request_is_one_question<M: Drop, W: Drop, Q: Drop>()
+    ensures one { (question : M → Q) (most most_messages : ℕ) (steps : List (GroupStep M W))
+        (last : List (Group M W)) → IsGroupRun question most most_messages 0 [] steps last
+        → All (AsksOneThing question) last }
+    ensures own { (question : M → Q) (most most_messages : ℕ) (steps : List (GroupStep M W))
+        (last : List (Group M W)) → IsGroupRun question most most_messages 0 [] steps last
+        → AskOwn question last }
+{}
