@@ -25,4 +25,6 @@ mod replay;
 #[cfg(test)]
 mod users;
 #[cfg(test)]
+mod walk;
+#[cfg(test)]
 mod world;
