@@ -5,5 +5,17 @@ mod Asked
 mod Each
 mod After
 mod Pushed
+mod Bulk
 mod Open
 mod Runs
+mod TurnLists
+mod BulkReads
+mod Zipped
+mod BulkAnswers
+mod Choices
+mod BulkRequests
+mod BulkGoing
+mod BulkShows
+mod BulkAfter
+mod BulkRuns
+mod Fronts

@@ -11,7 +11,7 @@ use Rattle.snmp_responder.specs.Bulk.{IsEnded}
 use Rattle.snmp_walk.specs.declared.operation.ReadOperation.{ReadOperation}
 use Rattle.snmp_walk.specs.declared.operation.ReadOperation.TheVariants.{Get, GetNext}
 use Rattle.snmp_walk.specs.declared.misfit.Misfit.{Misfit}
-use Rattle.snmp_walk.specs.declared.misfit.Misfit.TheVariants.{OtherName, NotAfter, NotValue}
+use Rattle.snmp_walk.specs.declared.misfit.Misfit.TheVariants.{OtherName, NotAfter, NotValue, AfterEnd}
 use Rattle.snmp_walk.specs.declared.given.GivenVariable.{GivenVariable}
 
 -- what a variable says that a device gave
@@ -40,6 +40,8 @@ abbrev pub Misfits : ReadOperation → List ℕ → Variable → Misfit → Type
 Misfits Get asked v OtherName = v.name ≢ asked
 Misfits Get asked v NotAfter = ⊥
 Misfits Get asked v NotValue = (v.name ≡ asked) × ¬ IsReply v
+Misfits Get asked v AfterEnd = ⊥
 Misfits GetNext asked v OtherName = ⊥
 Misfits GetNext asked v NotAfter = (¬ IsEnded v) × ¬ IsBefore asked v.name
 Misfits GetNext asked v NotValue = (¬ IsEnded v) × IsBefore asked v.name × ¬ IsValue v
+Misfits GetNext asked v AfterEnd = ⊥

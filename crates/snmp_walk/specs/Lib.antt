@@ -5,3 +5,12 @@ pub mod Dialogue
 pub mod Failure
 pub mod Answer
 pub mod Run
+pub mod BulkColumn
+pub mod BulkSteps
+pub mod Turns
+pub mod BulkAnswer
+pub mod BulkAsk
+pub mod Front
+pub mod BulkDialogue
+pub mod BulkAnswered
+pub mod BulkRun

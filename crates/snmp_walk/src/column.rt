@@ -64,7 +64,7 @@ fn first_progress(viewer: &Viewer<'_>, operation: ReadOperation, name: &Oid) -> 
 }
 
 /// Returns how a walk goes on from this name.
-fn walk_on_from(viewer: &Viewer<'_>, from: &Oid) -> Progress
+pub(crate) fn walk_on_from(viewer: &Viewer<'_>, from: &Oid) -> Progress
     ensures { GoesOnFrom (seen_by viewer.now) ReadOperation.GetNext from.now result }
 {
     match place_after(viewer, from) {

@@ -60,7 +60,7 @@ fn go_on_each(columns: &mut Vec<Column>, viewer: &Viewer<'_>)
 }
 
 /// Returns true if the answer has no error.
-fn is_no_error(answer: &Pdu<'_>) -> bool
+pub(crate) fn is_no_error(answer: &Pdu<'_>) -> bool
     ensures { IsTrue result ↔ IsNoError answer.now }
 {
     answer.second == 0

@@ -8,10 +8,10 @@ use crate::operation::ReadOperation;
 use snmp_msg::Pdu;
 
 /// The number of tooBig (RFC 3416, section 3).
-const TOO_BIG: i32 = 1;
+pub(crate) const TOO_BIG: i32 = 1;
 
 /// The number of noSuchName (RFC 3416, section 3).
-const NO_SUCH_NAME: i32 = 2;
+pub(crate) const NO_SUCH_NAME: i32 = 2;
 
 /// What an error of the device becomes.
 #[derive(Clone, Copy, Debug, PartialEq, Eq)]

@@ -1,6 +1,6 @@
 //! Variables that a device gave.
 
-ghost use Rattle.std.specs.Prelude.{◌≡◌, IfOk};
+ghost use Rattle.std.specs.Prelude.{◌≡◌, ◌+◌, length, IfOk};
 ghost use Rattle.snmp_msg.specs.Variables.{bound_variable, variable_of};
 ghost use Rattle.snmp_walk.specs.Bindings.{given_says};
 
@@ -29,6 +29,13 @@ impl GivenVariable {
             tag: binding.tag,
             content: Vec::from_slice(alloc, binding.content)?,
         })
+    }
+
+    /// Returns how many arcs the name and how many octets the value has, together.
+    pub(crate) fn octets(&self) -> usize
+        ensures { result ≡ length (given_says self.now).name + length (given_says self.now).content }
+    {
+        self.name.as_slice().len() + self.content.len()
     }
 
     /// Returns the same as a binding that can be written.

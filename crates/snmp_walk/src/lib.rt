@@ -1,5 +1,5 @@
 //! One dialogue with a device: what it is asked for the bindings of a request, which of its answers fit, and what the
-//! Response holds (RFC 3416, sections 4.2.1 and 4.2.2). Nothing is asked that the message may not see, and no value is
+//! Response holds (RFC 3416, sections 4.2.1 to 4.2.3). Nothing is asked that the message may not see, and no value is
 //! shown that the device didn't give.
 //!
 //! ```
@@ -30,6 +30,68 @@
 //! assert_eq!(rt; walk.asked_name() == Some(&place), true);
 //! let get = Column::new(&viewer, ReadOperation::Get, &hidden);
 //! assert_eq!(rt; get.is_open(), false);
+//! ```
+//!
+//! ```
+//! use snmp_ber::Level;
+//! use snmp_msg::{Pdu, PduType};
+//! use snmp_responder::Viewer;
+//! use snmp_walk::{BulkAnswered, BulkAsk, BulkDialogue, BulkLimits, BulkNext};
+//! use snmpsec_config::Config;
+//!
+//! const TABLES: &[u8] = b"\
+//! [[context]]\nname = ''\n\
+//! [[group]]\nmodel = 3\nname = 'ann'\ngroup = 'readers'\n\
+//! [[access]]\ngroup = 'readers'\nprefix = ''\nmatch = 'exact'\nmodel = 3\nlevel = 'noAuthNoPriv'\nread = 'all'\n\
+//! [[family]]\nview = 'all'\nsubtree = '1.3'\ninclude = true\n";
+//!
+//! /// The group system, and its variables sysName.0 and sysLocation.0.
+//! const ASKED: &[u8] = b"\x30\x0a\x06\x06\x2b\x06\x01\x02\x01\x01\x05\x00";
+//!
+//! const TOLD: &[u8] = b"\
+//! \x30\x0d\x06\x08\x2b\x06\x01\x02\x01\x01\x05\x00\x04\x01a\
+//! \x30\x0d\x06\x08\x2b\x06\x01\x02\x01\x01\x06\x00\x04\x01b";
+//!
+//! const LIMITS: BulkLimits = BulkLimits {
+//!     rounds: 64,
+//!     repetitions: 32,
+//!     at_once: 100,
+//!     gathered: 262_028,
+//! };
+//!
+//! let config = Config::read(rt.alloc(), TABLES)?;
+//! let viewer = Viewer {
+//!     vacm: &config.access,
+//!     model: 3,
+//!     name: b"ann",
+//!     level: Level::NoAuthNoPriv,
+//!     context: b"",
+//! };
+//! let request = Pdu {
+//!     tag: PduType::GetBulkRequest.tag(),
+//!     id: 7,
+//!     second: 0,
+//!     third: 2,
+//!     list: ASKED,
+//! };
+//! let answer = Pdu {
+//!     tag: PduType::Response.tag(),
+//!     id: 7,
+//!     second: 0,
+//!     third: 0,
+//!     list: TOLD,
+//! };
+//! let mut dialogue = BulkDialogue::new(rt.alloc(), &request, &LIMITS)?;
+//! assert_eq!(rt;
+//!     dialogue.go_on(&viewer),
+//!     BulkNext::Asks(BulkAsk::GetBulk(0, 2))
+//! );
+//! assert_eq!(rt;
+//!     dialogue.take(rt.alloc(), &viewer, &answer)?,
+//!     BulkAnswered::Taken
+//! );
+//! assert_eq!(rt; dialogue.go_on(&viewer), BulkNext::Ends);
+//! assert_eq!(rt; dialogue.front(rt.alloc())?.len(), 2);
 //! ```
 //!
 //! ```
@@ -84,20 +146,30 @@
 #![tactic(auto)]
 
 mod answer;
+mod bulk_answer;
+mod bulk_ask;
+mod bulk_column;
+mod bulk_dialogue;
 mod column;
 mod dialogue;
 mod failure;
+mod front;
 mod given;
 mod laws;
 mod misfit;
 mod operation;
 mod place;
+mod turns;
 
 pub use answer::AnswerFault;
+pub use bulk_answer::BulkFault;
+pub use bulk_ask::BulkAsk;
+pub use bulk_column::BulkColumn;
+pub use bulk_dialogue::{BulkAnswered, BulkDialogue, BulkLimits, BulkNext};
 pub use column::{Ask, Column, Progress};
 pub use dialogue::{Answered, Dialogue, Next};
 pub use failure::{Failure, FailureStatus};
 pub use given::GivenVariable;
-pub use laws::one_dialogue;
+pub use laws::{one_bulk_dialogue, one_dialogue};
 pub use misfit::Misfit;
 pub use operation::ReadOperation;

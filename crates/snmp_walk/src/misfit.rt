@@ -18,6 +18,8 @@ pub enum Misfit {
     NotAfter,
     /// No value, or one that isn't spelled as its tag has it; to a walk also noSuchObject and noSuchInstance.
     NotValue,
+    /// To a GetBulkRequest: a value behind endOfMibView in its column.
+    AfterEnd,
 }
 
 /// Returns true if the tag is endOfMibView's.

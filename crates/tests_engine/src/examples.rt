@@ -21,6 +21,7 @@ mod of_snmp_msg;
 mod of_snmp_outgoing;
 mod of_snmp_responder;
 mod of_snmp_walk;
+mod of_snmp_walk_bulk;
 mod of_snmp_walk_dialogue;
 mod of_snmpsec_config;
 mod of_snmpsec_output_opened;

@@ -27,4 +27,6 @@ mod replay;
 #[cfg(test)]
 mod users;
 #[cfg(test)]
+mod walk;
+#[cfg(test)]
 mod world;

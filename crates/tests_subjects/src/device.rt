@@ -94,14 +94,14 @@ impl Subject for Device {
 
 /// Who asks.
 #[derive(Drop)]
-struct Asker {
+pub struct Asker {
     name: Name,
     level: Level,
     context: Name,
 }
 
 /// Who asks, by NAME LEVEL CONTEXT.
-fn asker_in(row: &mut Row<'_>) -> Asker {
+pub fn asker_in(row: &mut Row<'_>) -> Asker {
     Asker {
         name: name_of(row),
         level: row.level(),
@@ -111,7 +111,7 @@ fn asker_in(row: &mut Row<'_>) -> Asker {
 
 impl Asker {
     /// What these tables let it see.
-    fn viewer<'a>(&'a self, vacm: &'a Vacm) -> Viewer<'a> {
+    pub fn viewer<'a>(&'a self, vacm: &'a Vacm) -> Viewer<'a> {
         Viewer {
             vacm,
             model: USM,
@@ -148,7 +148,7 @@ fn names_in(row: &mut Row<'_>) -> Vec<Oid> {
 
 /// Bindings, each as its name, the tag of its value and its content: `1.3.6=05:-`.
 #[derive(Clone, Copy)]
-struct Shown<'a>(&'a [Binding<'a>]);
+pub struct Shown<'a>(pub &'a [Binding<'a>]);
 
 impl fmt::Display for Shown<'_> {
     fn fmt<W: fmt::Write>(&self, f: &mut fmt::Formatter<W>) -> fmt::Result {

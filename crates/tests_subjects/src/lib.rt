@@ -11,6 +11,7 @@ mod outcome;
 mod replay;
 mod rows;
 mod stations;
+mod walk;
 mod world;
 
 pub use rows::check_files;

@@ -6,6 +6,7 @@ use crate::device::Device;
 use crate::outcome::Reading;
 use crate::replay::Logs;
 use crate::stations::Stations;
+use crate::walk::Walks;
 use crate::world::Sharing;
 use anyhow::{Context, Error, bail, ensure};
 use std::alloc::Global;
@@ -167,6 +168,7 @@ fn check_named<R: Files + Print + AllocGlobal>(rt: &R, file: &str) -> Result<Cou
         "clocks.rows" => check_file::<R, Held>(rt, file),
         "access.rows" => check_file::<R, Views>(rt, file),
         "device.rows" => check_file::<R, Device>(rt, file),
+        "walk.rows" => check_file::<R, Walks>(rt, file),
         "usm.rows" => check_file::<R, Sealing>(rt, file),
         "outcome.rows" => check_file::<R, Reading>(rt, file),
         "config.rows" => check_file::<R, Settings>(rt, file),

@@ -1,0 +1,15 @@
+use Rattle.snmp_responder.specs.Code.{seen_by}
+use Rattle.snmp_walk.proofs.BulkRuns.{bulk_run_asks_well, bulk_run_requests, bulk_run_rounds, bulk_run_stands}
+use Rattle.snmp_walk.proofs.laws.one_bulk_dialogue.Goals as goal
+
+pub returns-clause-stand : goal.returns-clause-stand
+returns-clause-stand c viewer told steps first last stand run = bulk_run_stands (seen_by viewer) told steps first last stand run
+
+pub returns-clause-inwards : goal.returns-clause-inwards
+returns-clause-inwards c viewer told steps first last stand run = bulk_run_asks_well (seen_by viewer) told steps first last stand run
+
+pub returns-clause-requests : goal.returns-clause-requests
+returns-clause-requests c viewer told steps first last run = bulk_run_requests (seen_by viewer) told steps first last run
+
+pub returns-clause-rounds : goal.returns-clause-rounds
+returns-clause-rounds c viewer told steps first last run = bulk_run_rounds (seen_by viewer) told steps first last run

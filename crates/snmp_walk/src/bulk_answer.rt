@@ -1,0 +1,149 @@
+//! Answers of the device to a GetBulkRequest.
+
+ghost use Rattle.std.specs.Prelude.{◌≡◌, [], ℕ, List, true, false, IfOk, MatchOption, OnErr};
+ghost use Rattle.std.specs.List.{AllZip};
+ghost use Rattle.snmp_msg.specs.Variables.{variables_of};
+ghost use Rattle.snmp_responder.specs.Code.{seen_by};
+ghost use Rattle.snmp_walk.specs.BulkAnswer.{AllSaySame, IsBulkFault, IsRead, IsReadFault, ReadSoFar};
+ghost use Rattle.snmp_walk.specs.BulkSteps.{Grows, IsBegun, IsForgotten, IsSettled};
+ghost use Rattle.snmp_walk.specs.Turns.{AreAsked, AreTurns, turns_left};
+
+use crate::bulk_column::BulkColumn;
+use crate::misfit::Misfit;
+use crate::turns::Turns;
+use snmp_msg::Pdu;
+use snmp_responder::Viewer;
+use std::alloc::{AllocError, Global};
+
+/// Why an answer's bindings don't answer a GetBulkRequest: the first of these from the left.
+#[derive(Clone, Copy, Debug, PartialEq, Eq)]
+pub enum BulkFault {
+    /// It has fewer bindings than were asked, by a GetNextRequest.
+    TooFew,
+    /// It has more bindings than were asked.
+    TooMany,
+    /// A binding of the column of this number, counted from 0, doesn't answer what was asked there.
+    AtColumn(usize, Misfit),
+}
+
+/// Begins to read an answer.
+fn begin_each(columns: &mut Vec<BulkColumn>)
+    ensures { AllZip IsBegun columns.old.items columns.new.items }
+{
+    for column in columns.iter_mut() {
+        column.begin();
+    }
+}
+
+/// Settles what was read of an answer.
+fn settle_each(columns: &mut Vec<BulkColumn>)
+    ensures { AllZip IsSettled columns.old.items columns.new.items }
+{
+    for column in columns.iter_mut() {
+        column.settle();
+    }
+}
+
+/// Forgets what was read of an answer.
+fn forget_each(columns: &mut Vec<BulkColumn>)
+    ensures { AllZip IsForgotten columns.old.items columns.new.items }
+{
+    for column in columns.iter_mut() {
+        column.forget();
+    }
+}
+
+/// Reads each binding of an answer for the column whose turn it is.
+fn read_each(
+    columns: &mut Vec<BulkColumn>,
+    alloc: Global,
+    viewer: &Viewer<'_>,
+    answer: &Pdu<'_>,
+    turns: &mut Turns,
+) -> Result<Option<BulkFault>, AllocError>
+    requires { AreTurns columns.old.items (turns_left turns.old) }
+    ensures grows { AllZip Grows columns.old.items columns.new.items }
+    ensures reads { IfOk result (λ found. MatchOption found
+        (ReadSoFar (seen_by viewer.now) columns.old.items (turns_left turns.old)
+        (variables_of answer.now.list.now) (turns_left turns.new) columns.new.items)
+        (IsReadFault (seen_by viewer.now) false columns.old.items (turns_left turns.old)
+        (variables_of answer.now.list.now))) }
+{
+    for binding in answer.variable_bindings() {
+        let Some(number) = turns.next() else {
+            return Ok(Some(BulkFault::TooMany));
+        };
+        if let Some(misfit) = columns[number].read(alloc, viewer, &binding)? {
+            return Ok(Some(BulkFault::AtColumn(number, misfit)));
+        }
+    }
+    Ok(None)
+}
+
+/// Reads an answer in these turns, and returns why its bindings don't answer what was asked, if they don't.
+fn read_turns(
+    columns: &mut Vec<BulkColumn>,
+    alloc: Global,
+    viewer: &Viewer<'_>,
+    answer: &Pdu<'_>,
+    turns: Turns,
+    is_whole: bool,
+) -> Result<Option<BulkFault>, AllocError>
+    requires { AreTurns columns.old.items (turns_left turns) }
+    ensures grows { AllZip Grows columns.old.items columns.new.items }
+    ensures reads { IfOk result (λ found. MatchOption found
+        ((left : List ℕ) × (is_whole ≡ true → left ≡ [])
+        × ReadSoFar (seen_by viewer.now) columns.old.items (turns_left turns) (variables_of answer.now.list.now)
+        left columns.new.items)
+        (IsReadFault (seen_by viewer.now) is_whole columns.old.items (turns_left turns)
+        (variables_of answer.now.list.now))) }
+{
+    let mut turns = turns;
+    if let Some(fault) = read_each(columns, alloc, viewer, answer, &mut turns)? {
+        return Ok(Some(fault));
+    }
+    if !is_whole {
+        return Ok(None);
+    }
+    match turns.next() {
+        Some(_) => Ok(Some(BulkFault::TooFew)),
+        None => Ok(None),
+    }
+}
+
+/// Reads an answer in these turns. Its bindings answer what was asked, and each column has its own; or it is returned
+/// why they don't, and nothing changes. `is_whole`: none of the bindings may be missing. The error is out of memory,
+/// and nothing changes.
+pub(crate) fn read_answer(
+    columns: &mut Vec<BulkColumn>,
+    alloc: Global,
+    viewer: &Viewer<'_>,
+    answer: &Pdu<'_>,
+    turns: Turns,
+    is_whole: bool,
+) -> Result<Option<BulkFault>, AllocError>
+    requires { AreAsked columns.old.items (turns_left turns) }
+    ensures reads { IfOk result (λ found. MatchOption found
+        (IsRead (seen_by viewer.now) is_whole columns.old.items (turns_left turns)
+        (variables_of answer.now.list.now) columns.new.items)
+        (λ fault. AllSaySame columns.old.items columns.new.items
+        × IsBulkFault (seen_by viewer.now) is_whole columns.old.items (turns_left turns)
+        (variables_of answer.now.list.now) fault)) }
+    ensures err { OnErr result (AllSaySame columns.old.items columns.new.items) }
+{
+    begin_each(columns);
+    match read_turns(columns, alloc, viewer, answer, turns, is_whole) {
+        Ok(None) => {
+            settle_each(columns);
+            Ok(None)
+        }
+        Ok(Some(fault)) => {
+            forget_each(columns);
+            Ok(Some(fault))
+        }
+        Err(refused) => {
+            forget_each(columns);
+            Err(refused)
+        }
+    }
+}
