@@ -9,6 +9,7 @@ use snmp_walk::{
 };
 use snmpsec_config::Config;
 use std::alloc::{AllocError, Global};
+use std::process::Abort;
 use std::test::Fail;
 
 /// One may see the group system, but for sysContact.
@@ -93,30 +94,57 @@ fn is_asked(dialogue: &BulkDialogue, name: &Oid) -> bool {
     }
 }
 
+/// A refused answer leaves no repetition, and the name that is asked.
+fn assert_asked(rt: &impl Abort, alloc: Global, dialogue: &BulkDialogue) -> Result<(), Fail> {
+    let name = Oid::from_text("1.3.6.1.2.1.1.3").ok_or("arcs")?;
+    assert_eq!(rt; front_after_refusal(alloc, dialogue)?, 0);
+    assert!(rt; is_asked(dialogue, &name));
+    Ok(())
+}
+
+fn bulk_answered_after_refusal(
+    rt: &impl Abort,
+    alloc: Global,
+    viewer: &Viewer<'_>,
+    dialogue: &mut BulkDialogue,
+) -> Result<BulkAnswered, Fail> {
+    let answer = pdu(PduType::Response, 0, TOLD);
+    match dialogue.take(alloc, viewer, &answer) {
+        Ok(answered) => Ok(answered),
+        Err(_) => {
+            assert_asked(rt, alloc, dialogue)?;
+            Ok(dialogue.take(alloc, viewer, &answer)?)
+        }
+    }
+}
+
+fn assert_get_bulk(
+    rt: &impl Abort,
+    alloc: Global,
+    viewer: &Viewer<'_>,
+    dialogue: &mut BulkDialogue,
+) -> Result<(), Fail> {
+    assert_eq!(rt;
+        dialogue.go_on(viewer),
+        BulkNext::Asks(BulkAsk::GetBulk(0, 2))
+    );
+    let answered = bulk_answered_after_refusal(rt, alloc, viewer, dialogue)?;
+    assert_eq!(rt; answered, BulkAnswered::Taken);
+    assert_eq!(rt; front_after_refusal(alloc, dialogue)?, 2);
+    assert_eq!(rt; dialogue.go_on(viewer), BulkNext::Asks(BulkAsk::GetNext));
+    Ok(())
+}
+
+fn assert_get_bulk_seen(rt: &impl Abort, alloc: Global, viewer: &Viewer<'_>) -> Result<(), Fail> {
+    let request = pdu(PduType::GetBulkRequest, 2, ASKED);
+    let mut dialogue = begun_after_refusal(alloc, &request)?;
+    assert_get_bulk(rt, alloc, viewer, &mut dialogue)
+}
+
 #[test]
 fn a_refused_growth_leaves_a_get_bulk(rt: HostRuntime) -> Result<(), Fail> {
     let config = config_after_refusal(rt.alloc())?;
-    let viewer = viewer_of(&config);
-    let request = pdu(PduType::GetBulkRequest, 2, ASKED);
-    let answer = pdu(PduType::Response, 0, TOLD);
-    let name = Oid::from_text("1.3.6.1.2.1.1.3").ok_or("arcs")?;
-    let mut dialogue = begun_after_refusal(rt.alloc(), &request)?;
-    assert_eq!(rt;
-        dialogue.go_on(&viewer),
-        BulkNext::Asks(BulkAsk::GetBulk(0, 2))
-    );
-    let answered = match dialogue.take(rt.alloc(), &viewer, &answer) {
-        Ok(answered) => answered,
-        Err(_) => {
-            assert_eq!(rt; dialogue.front(rt.alloc())?.len(), 0);
-            assert!(rt; is_asked(&dialogue, &name));
-            dialogue.take(rt.alloc(), &viewer, &answer)?
-        }
-    };
-    assert_eq!(rt; answered, BulkAnswered::Taken);
-    assert_eq!(rt; front_after_refusal(rt.alloc(), &dialogue)?, 2);
-    assert_eq!(rt; dialogue.go_on(&viewer), BulkNext::Asks(BulkAsk::GetNext));
-    Ok(())
+    assert_get_bulk_seen(&rt, rt.alloc(), &viewer_of(&config))
 }
 
 fn dialogue_after_refusal(
@@ -130,25 +158,44 @@ fn dialogue_after_refusal(
     }
 }
 
-#[test]
-fn a_refused_growth_leaves_a_get_next(rt: HostRuntime) -> Result<(), Fail> {
-    let config = config_after_refusal(rt.alloc())?;
-    let viewer = viewer_of(&config);
-    let request = pdu(PduType::GetNextRequest, 0, ASKED);
-    let Some(list) = TOLD.get(..FIRST_TWO) else {
-        return Err("two bindings".into());
-    };
+fn answered_after_refusal(
+    rt: &impl Abort,
+    alloc: Global,
+    viewer: &Viewer<'_>,
+    dialogue: &mut Dialogue,
+) -> Result<Answered, Fail> {
+    let list = TOLD.get(..FIRST_TWO).ok_or("two bindings")?;
     let answer = pdu(PduType::Response, 0, list);
-    let mut dialogue = dialogue_after_refusal(rt.alloc(), &viewer, &request)?;
-    assert_eq!(rt; dialogue.go_on(&viewer), Next::Asks);
-    let answered = match dialogue.take(rt.alloc(), &viewer, &answer) {
-        Ok(answered) => answered,
+    match dialogue.take(alloc, viewer, &answer) {
+        Ok(answered) => Ok(answered),
         Err(_) => {
             assert_eq!(rt; dialogue.first_open(), Some(0));
-            dialogue.take(rt.alloc(), &viewer, &answer)?
+            Ok(dialogue.take(alloc, viewer, &answer)?)
         }
-    };
+    }
+}
+
+fn assert_get_next(
+    rt: &impl Abort,
+    alloc: Global,
+    viewer: &Viewer<'_>,
+    dialogue: &mut Dialogue,
+) -> Result<(), Fail> {
+    assert_eq!(rt; dialogue.go_on(viewer), Next::Asks);
+    let answered = answered_after_refusal(rt, alloc, viewer, dialogue)?;
     assert_eq!(rt; answered, Answered::Taken);
     assert_eq!(rt; dialogue.first_open(), None);
     Ok(())
+}
+
+fn assert_get_next_seen(rt: &impl Abort, alloc: Global, viewer: &Viewer<'_>) -> Result<(), Fail> {
+    let request = pdu(PduType::GetNextRequest, 0, ASKED);
+    let mut dialogue = dialogue_after_refusal(alloc, viewer, &request)?;
+    assert_get_next(rt, alloc, viewer, &mut dialogue)
+}
+
+#[test]
+fn a_refused_growth_leaves_a_get_next(rt: HostRuntime) -> Result<(), Fail> {
+    let config = config_after_refusal(rt.alloc())?;
+    assert_get_next_seen(&rt, rt.alloc(), &viewer_of(&config))
 }
