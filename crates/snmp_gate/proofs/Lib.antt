@@ -8,3 +8,5 @@ pub mod Questions
 pub mod SetMemory
 pub mod Tags
 pub mod Timers
+pub mod ReadNames
+pub mod Contexts

@@ -1,8 +1,9 @@
 -- Messages between the gateway and its devices (RFC 1901, section 3; RFC 3416, section 3).
 --
 -- `IsCommunityPdu`: a message of SNMPv2c with this community and this PDU. `IsDeviceAnswer`: its PDU is a Response.
--- `IsAsk`: its PDU is a request for these variables. `ask_text`: such a message in its canonical spelling.
-use Rattle.std.specs.Prelude.{◌≡◌, ℕ, pos, List}
+-- `IsRequest`: its PDU is a request for these variables, with these numbers. `IsAsk`: error-status and error-index are
+-- 0. `request_text`, `ask_text`: such a message in its canonical spelling.
+use Rattle.std.specs.Prelude.{◌≡◌, ℕ, ℤ, pos, List}
 use Rattle.snmp_msg.specs.Pdu.{PduParts, PduText, pdu_text, pdu_with}
 use Rattle.snmp_msg.specs.PduTypes.{pdu_tag}
 use Rattle.snmp_msg.specs.Variables.{AreBindings, Variable}
@@ -25,16 +26,24 @@ pub record IsDeviceAnswer (datagram community : List ℕ) (p : PduParts) : Type 
   pub is : IsCommunityPdu datagram community p
   pub response : p.tag ≡ pdu_tag Response
 
--- the PDU is of this type, with this request-id and these variables; error-status and error-index are 0
-pub record IsAsk (datagram community : List ℕ) (type : PduType) (id : ℕ) (vs : List Variable) : Type 0 where
+-- the PDU is of this type, with this request-id, these two further numbers and these variables
+pub record IsRequest (datagram community : List ℕ) (type : PduType) (id : ℕ) (second third : ℤ) (vs : List Variable)
+    : Type 0 where
   pub pdu : PduParts
   pub is : IsCommunityPdu datagram community pdu
   pub type_is : pdu.tag ≡ pdu_tag type
   pub id_is : pdu.id ≡ pos id
-  pub second_is : pdu.second ≡ pos 0
-  pub third_is : pdu.third ≡ pos 0
+  pub second_is : pdu.second ≡ second
+  pub third_is : pdu.third ≡ third
   pub are : AreBindings vs pdu.list
 
+-- the same; error-status and error-index are 0
+abbrev pub IsAsk : List ℕ → List ℕ → PduType → ℕ → List Variable → Type 0
+IsAsk datagram community type id vs = IsRequest datagram community type id (pos 0) (pos 0) vs
+
+abbrev pub request_text : List ℕ → PduType → ℕ → ℤ → ℤ → List Variable → List ℕ
+request_text community type id second third vs =
+    community_text Version2c community (pdu_text (pdu_with (pdu_tag type) (pos id) second third vs))
+
 abbrev pub ask_text : List ℕ → PduType → ℕ → List Variable → List ℕ
-ask_text community type id vs =
-    community_text Version2c community (pdu_text (pdu_with (pdu_tag type) (pos id) (pos 0) (pos 0) vs))
+ask_text community type id vs = request_text community type id (pos 0) (pos 0) vs

@@ -9,3 +9,5 @@ pub mod Time
 pub mod SetOutcome
 pub mod Sets
 pub mod SetRuns
+pub mod ReadAsks
+pub mod Devices

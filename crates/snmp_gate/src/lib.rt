@@ -51,6 +51,57 @@
 //! ```
 //!
 //! ```
+//! use snmp_ber::Level;
+//! use snmp_gate::write_bulk_ask;
+//! use snmp_msg::{Pdu, PduType};
+//! use snmp_responder::Viewer;
+//! use snmp_walk::{BulkAsk, BulkDialogue, BulkLimits, BulkNext};
+//! use snmpsec_config::Config;
+//!
+//! const TABLES: &[u8] = b"\
+//! [[context]]\nname = ''\n\
+//! [[group]]\nmodel = 3\nname = 'ann'\ngroup = 'readers'\n\
+//! [[access]]\ngroup = 'readers'\nprefix = ''\nmatch = 'exact'\nmodel = 3\nlevel = 'noAuthNoPriv'\nread = 'all'\n\
+//! [[family]]\nview = 'all'\nsubtree = '1.3'\ninclude = true\n";
+//!
+//! /// sysName, without a value.
+//! const ASKED: &[u8] = b"\x30\x0b\x06\x07\x2b\x06\x01\x02\x01\x01\x05\x05\x00";
+//!
+//! const LIMITS: BulkLimits = BulkLimits {
+//!     rounds: 64,
+//!     repetitions: 32,
+//!     at_once: 100,
+//!     gathered: 262_028,
+//! };
+//!
+//! /// What the device is asked, with the community "public" and request-id 99, for two repetitions.
+//! const ASK: &[u8] = b"\x30\x25\x02\x01\x01\x04\x06public\
+//! \xa5\x18\x02\x01\x63\x02\x01\x00\x02\x01\x02\x30\x0d\
+//! \x30\x0b\x06\x07\x2b\x06\x01\x02\x01\x01\x05\x05\x00";
+//!
+//! let config = Config::read(rt.alloc(), TABLES)?;
+//! let viewer = Viewer {
+//!     vacm: &config.access,
+//!     model: 3,
+//!     name: b"ann",
+//!     level: Level::NoAuthNoPriv,
+//!     context: b"",
+//! };
+//! let request = Pdu {
+//!     tag: PduType::GetBulkRequest.tag(),
+//!     id: 7,
+//!     second: 0,
+//!     third: 2,
+//!     list: ASKED,
+//! };
+//! let mut dialogue = BulkDialogue::new(rt.alloc(), &request, &LIMITS)?;
+//! let by = BulkAsk::GetBulk(0, 2);
+//! assert_eq!(rt; dialogue.go_on(&viewer), BulkNext::Asks(by));
+//! let ask = write_bulk_ask(rt.alloc(), b"public", 99, by, &dialogue)?;
+//! assert_eq!(rt; ask.as_slice(), ASK);
+//! ```
+//!
+//! ```
 //! use snmp_gate::{read_device_answer, write_set_ask};
 //! use snmp_msg::read_pdu;
 //!
@@ -75,6 +126,79 @@
 //! assert_eq!(rt; answer.community, b"write".as_slice());
 //! assert_eq!(rt; (answer.pdu.id, answer.pdu.second), (99, 0));
 //! assert!(rt; read_device_answer(ASK).is_none());
+//! ```
+//!
+//! ```
+//! use snmp_gate::{Device, DeviceAsks, Devices, RepeatedContext};
+//! use std::alloc::{AllocError, Global};
+//!
+//! fn device(alloc: Global, context: &[u8]) -> Result<Device, AllocError> {
+//!     Ok(Device {
+//!         context: Vec::from_slice(alloc, context)?,
+//!         community: Vec::from_slice(alloc, b"public")?,
+//!         write_community: None,
+//!         max_size: 1472,
+//!         asks: DeviceAsks::new(alloc, 32),
+//!     })
+//! }
+//!
+//! let mut list = Vec::new(rt.alloc());
+//! list.push(device(rt.alloc(), b"rack-1-pdu")?)?;
+//! list.push(device(rt.alloc(), b"rack-2-pdu")?)?;
+//! let devices = Devices::new(list)?;
+//! assert_eq!(rt; devices.find(b"rack-2-pdu"), Some(1));
+//! assert_eq!(rt; devices.find(b"rack-3-pdu"), None);
+//! let mut same = Vec::new(rt.alloc());
+//! same.push(device(rt.alloc(), b"rack-1-pdu")?)?;
+//! same.push(device(rt.alloc(), b"rack-1-pdu")?)?;
+//! assert_eq!(rt;
+//!     Devices::new(same).err(),
+//!     Some(RepeatedContext { number: 1 })
+//! );
+//! ```
+//!
+//! ```
+//! use snmp_ber::Level;
+//! use snmp_gate::write_read_ask;
+//! use snmp_msg::{Pdu, PduType};
+//! use snmp_responder::Viewer;
+//! use snmp_walk::{Dialogue, Next, ReadOperation};
+//! use snmpsec_config::Config;
+//!
+//! const TABLES: &[u8] = b"\
+//! [[context]]\nname = ''\n\
+//! [[group]]\nmodel = 3\nname = 'ann'\ngroup = 'readers'\n\
+//! [[access]]\ngroup = 'readers'\nprefix = ''\nmatch = 'exact'\nmodel = 3\nlevel = 'noAuthNoPriv'\nread = 'all'\n\
+//! [[family]]\nview = 'all'\nsubtree = '1.3'\ninclude = true\n";
+//!
+//! /// sysName, without a value.
+//! const ASKED: &[u8] = b"\x30\x0b\x06\x07\x2b\x06\x01\x02\x01\x01\x05\x05\x00";
+//!
+//! /// What the device is asked, with the community "public" and request-id 99.
+//! const ASK: &[u8] = b"\x30\x25\x02\x01\x01\x04\x06public\
+//! \xa1\x18\x02\x01\x63\x02\x01\x00\x02\x01\x00\x30\x0d\
+//! \x30\x0b\x06\x07\x2b\x06\x01\x02\x01\x01\x05\x05\x00";
+//!
+//! let config = Config::read(rt.alloc(), TABLES)?;
+//! let viewer = Viewer {
+//!     vacm: &config.access,
+//!     model: 3,
+//!     name: b"ann",
+//!     level: Level::NoAuthNoPriv,
+//!     context: b"",
+//! };
+//! let request = Pdu {
+//!     tag: PduType::GetNextRequest.tag(),
+//!     id: 7,
+//!     second: 0,
+//!     third: 0,
+//!     list: ASKED,
+//! };
+//! let operation = ReadOperation::GetNext;
+//! let mut dialogue = Dialogue::new(rt.alloc(), &viewer, operation, &request, 2)?;
+//! assert_eq!(rt; dialogue.go_on(&viewer), Next::Asks);
+//! let ask = write_read_ask(rt.alloc(), b"public", 99, operation, &dialogue)?;
+//! assert_eq!(rt; ask.as_slice(), ASK);
 //! ```
 //!
 //! ```
@@ -130,9 +254,12 @@
 #![tactic(auto)]
 
 mod asks;
+mod bulk_request;
 mod client_message;
 mod device_answer;
+mod devices;
 mod laws;
+mod read_ask;
 mod refused_access;
 mod requests;
 mod retries;
@@ -142,12 +269,15 @@ mod sets;
 mod timer;
 
 pub use asks::{DeviceAsk, DeviceAsks, REQUEST_IDS};
+pub use bulk_request::write_bulk_ask;
 pub use client_message::ClientMessage;
 pub use device_answer::{DeviceAnswer, read_device_answer};
+pub use devices::{Device, Devices, RepeatedContext};
 pub use laws::{
     a_request_ends_in_time, a_request_is_one_question, a_set_goes_out_once,
     an_answer_is_of_one_ask, each_message_is_answered_once,
 };
+pub use read_ask::{UNSPECIFIED, write_read_ask};
 pub use refused_access::{AccessRefusal, access_refusal};
 pub use requests::{Joined, WaitingRequest, WaitingRequests};
 pub use retries::Retries;

@@ -19,3 +19,6 @@ mod BulkShows
 mod BulkAfter
 mod BulkRuns
 mod Fronts
+mod Names
+mod Named
+mod BulkNamed

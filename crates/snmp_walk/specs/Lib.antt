@@ -14,3 +14,4 @@ pub mod Front
 pub mod BulkDialogue
 pub mod BulkAnswered
 pub mod BulkRun
+pub mod ObjectIds

@@ -1,12 +1,14 @@
 //! One binding of a GetBulkRequest.
 
 ghost use Rattle.std.specs.Prelude.{◌≡◌, ◌↔◌, ◌+◌, ◌<◌, ℕ, List, length, IsTrue, IfOk, IfSome, MatchOption, OnOk};
+ghost use Rattle.snmp_ber.specs.Oid.{IsObjectId};
 ghost use Rattle.snmp_msg.specs.Variables.{Variable, bound_variable, variable_of};
 ghost use Rattle.snmp_responder.specs.Code.{seen_by};
 ghost use Rattle.snmp_walk.specs.Column.{Asks, IsAsked, MayAsk, MayShow};
 ghost use Rattle.snmp_walk.specs.BulkColumn.{BulkStands, IsAt, IsUnknownAt, Wants, bulk_request, given_in};
 ghost use Rattle.snmp_walk.specs.BulkColumn.{name_before, octets_in, shown};
 ghost use Rattle.snmp_walk.specs.Front.{IsOverAt};
+ghost use Rattle.snmp_walk.specs.ObjectIds.{IsNamed};
 ghost use Rattle.snmp_walk.specs.BulkSteps.{BulkGoesOn, ColumnReads, ColumnRefuses, ColumnWaits, FitsIn, Grows};
 ghost use Rattle.snmp_walk.specs.BulkSteps.{IsBegun};
 ghost use Rattle.snmp_walk.specs.BulkSteps.{IsForgotten, IsSettled, IsTurn, MisfitsIn, ReadsValue, Waits, asked_after};
@@ -74,6 +76,7 @@ impl BulkColumn {
     pub fn new(alloc: Global, name: &Oid, most: usize) -> BulkColumn
         ensures request { bulk_request result ≡ (name.now, most) }
         ensures stands { (viewer : Viewer) (told : List Variable) → BulkStands (seen_by viewer) told result }
+        ensures named { IsObjectId name.now → IsNamed result.progress }
     {
         BulkColumn {
             first: copy(name),
@@ -158,6 +161,7 @@ impl BulkColumn {
             (λ name. Asks self.now.progress name.now) }
         ensures inwards { (viewer : Viewer) (told : List Variable) → BulkStands (seen_by viewer) told self.now
             → IfSome result (λ name. MayAsk (seen_by viewer) told ReadOperation.GetNext (shown self.now) name.now) }
+        ensures named { IsNamed self.now.progress → IfSome result (λ name. IsObjectId name.now) }
     {
         match &self.progress {
             Progress::Asked(ask) => Some(&ask.name),

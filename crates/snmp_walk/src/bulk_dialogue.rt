@@ -14,6 +14,7 @@ ghost use Rattle.snmp_walk.specs.BulkAnswered.{BulkTells, DialogueSaysSame, HasN
 ghost use Rattle.snmp_walk.specs.BulkAnswered.{IsLessAnswered, is_next, repetitions_of};
 ghost use Rattle.snmp_walk.specs.BulkSteps.{ColumnWaits};
 ghost use Rattle.snmp_walk.specs.Front.{IsFront, IsShownOf};
+ghost use Rattle.snmp_walk.specs.ObjectIds.{BulkAllNamed};
 
 use crate::bulk_answer::{BulkFault, read_answer};
 use crate::bulk_ask::{BulkAsk, ask_of, choose, count_asked, fewest};
@@ -249,6 +250,7 @@ impl BulkDialogue {
             (variables_of request.now.list.now) limits.now d) }
         ensures stand { IfOk result
             (λ d. (viewer : Viewer) (told : List Variable) → BulkAllStand (seen_by viewer) told d) }
+        ensures named { IfOk result BulkAllNamed }
     {
         let non_repeaters = count_of(request.second);
         let max_repetitions = count_of(request.third);
@@ -302,6 +304,7 @@ impl BulkDialogue {
         ensures requests { bulk_requests self.new ≡ bulk_requests self.old }
         ensures stand { (told : List Variable) → BulkAllStand (seen_by viewer.now) told self.old
             → BulkAllStand (seen_by viewer.now) told self.new }
+        ensures named { BulkAllNamed self.old → BulkAllNamed self.new }
     {
         go_on_each(&mut self.columns, viewer);
         let Some(number) = first_wanting(self.columns.as_slice()) else {
@@ -415,6 +418,7 @@ impl BulkDialogue {
         ensures stand { (told : List Variable) → BulkAllStand (seen_by viewer.now) told self.old
             → IfOk result (λ answered. BulkTells self.old answer.now answered told
             → BulkAllStand (seen_by viewer.now) told self.new) }
+        ensures named { BulkAllNamed self.old → BulkAllNamed self.new }
     {
         if is_too_big(answer) {
             return Ok(self.take_too_big());

@@ -1,11 +1,13 @@
 //! One binding of a request.
 
 ghost use Rattle.std.specs.Prelude.{◌≡◌, ◌↔◌, ℕ, List, IsTrue, IfSome, MatchOption, Contains};
+ghost use Rattle.snmp_ber.specs.Oid.{IsObjectId};
 ghost use Rattle.snmp_msg.specs.Variables.{Variable, bound_variable, variable_of};
 ghost use Rattle.snmp_responder.specs.Code.{seen_by};
 ghost use Rattle.snmp_walk.specs.Bindings.{FitsPlace, Misfits, given_says};
 ghost use Rattle.snmp_walk.specs.Column.{Asks, IsAsked, IsOpen, MayAsk, MayShow, Stands};
 ghost use Rattle.snmp_walk.specs.Steps.{Begins, GoesOn, GoesOnFrom, Takes};
+ghost use Rattle.snmp_walk.specs.ObjectIds.{IsNamed};
 
 use crate::given::{GivenVariable, copy};
 use crate::misfit::{Misfit, is_end, misfit_of};
@@ -171,6 +173,7 @@ impl Column {
             (λ name. Asks self.now.progress name.now) }
         ensures inwards { (viewer : Viewer) (told : List Variable) → Stands (seen_by viewer) told self.now
             → IfSome result (λ name. MayAsk (seen_by viewer) told self.now.operation self.now.first name.now) }
+        ensures named { IsNamed self.now.progress → IfSome result (λ name. IsObjectId name.now) }
     {
         match &self.progress {
             Progress::Asked(ask) => Some(&ask.name),

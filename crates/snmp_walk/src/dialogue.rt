@@ -7,6 +7,7 @@ ghost use Rattle.snmp_responder.specs.Code.{seen_by};
 ghost use Rattle.snmp_walk.specs.Dialogue.{AllGoOn, AllStand, IsFirstOpen, IsNext};
 ghost use Rattle.snmp_walk.specs.Dialogue.{IsWhole, Shows, requests, requests_of};
 ghost use Rattle.snmp_walk.specs.Answer.{IsAnswered, IsNoError, Tells};
+ghost use Rattle.snmp_walk.specs.ObjectIds.{AllNamed};
 
 use crate::answer::{AnswerFault, fault_of, given_by, take_each};
 use crate::column::Column;
@@ -80,6 +81,7 @@ impl Dialogue {
             ≡ requests_of operation (variables_of request.now.list.now)) }
         ensures stand { IfOk result (λ d. (told : List Variable) → AllStand (seen_by viewer.now) told d) }
         ensures rounds { IfOk result (λ d. d.rounds ≡ rounds) }
+        ensures named { IfOk result AllNamed }
     {
         let mut columns = Vec::new(alloc);
         for binding in request.variable_bindings() {
@@ -118,6 +120,7 @@ impl Dialogue {
         ensures requests { requests self.new ≡ requests self.old }
         ensures stand { (told : List Variable) → AllStand (seen_by viewer.now) told self.old
             → AllStand (seen_by viewer.now) told self.new }
+        ensures named { AllNamed self.old → AllNamed self.new }
     {
         go_on_each(&mut self.columns, viewer);
         let Some(number) = self.first_open() else {
@@ -160,6 +163,7 @@ impl Dialogue {
         ensures stand { IfOk result (λ answered. (told : List Variable)
             → Tells self.old answer.now answered told
             → AllStand (seen_by viewer.now) told self.old → AllStand (seen_by viewer.now) told self.new) }
+        ensures named { AllNamed self.old → AllNamed self.new }
     {
         if !is_no_error(answer) {
             return Ok(self.take_error(answer));

@@ -2,6 +2,7 @@ use Rattle.std.proofs.Common.{◌∙◌, arith, sym, subst, List, max}
 use Rattle.snmp_responder.specs.Code.{seen_by}
 use Rattle.snmp_walk.specs.BulkDialogue.{HasGathered, IsFirstWanting}
 use Rattle.snmp_walk.specs.declared.bulk_column.BulkColumn.{BulkColumn}
+use Rattle.snmp_walk.proofs.BulkNamed.{all_chosen_named, all_go_named}
 use Rattle.snmp_walk.proofs.BulkGoing.{all_chosen_same, all_chosen_stand, all_go_stand, all_goes_same, some_asked, some_wants}
 use Rattle.snmp_walk.proofs.bulk_dialogue.BulkDialogue.go_on.Goals as goal
 
@@ -59,3 +60,19 @@ returns-clause-stand c told stand =
     let self = c.args.self.now in
     all_chosen_stand (seen_by c.args.viewer.now) told self.non_repeaters chosen.fewest 0 (max self.at_once 1) c.go_on_each.new.columns.items c.choose.new.self.columns.items chosen.chooses
     (all_go_stand (seen_by c.args.viewer.now) told self.columns.items c.go_on_each.new.columns.items c.go_on_each.ensures stand)
+
+pub returns-in_default-clause-named : goal.returns-in_default-clause-named
+returns-in_default-clause-named c = all_go_named (seen_by c.args.viewer.now) c.args.self.now.columns.items c.go_on_each.new.columns.items c.go_on_each.ensures
+
+pub returns-then-has_gathered-clause-named : goal.returns-then-has_gathered-clause-named
+returns-then-has_gathered-clause-named c = all_go_named (seen_by c.args.viewer.now) c.args.self.now.columns.items c.go_on_each.new.columns.items c.go_on_each.ensures
+
+pub returns-in_default-checked_sub-clause-named : goal.returns-in_default-checked_sub-clause-named
+returns-in_default-checked_sub-clause-named c = all_go_named (seen_by c.args.viewer.now) c.args.self.now.columns.items c.go_on_each.new.columns.items c.go_on_each.ensures
+
+pub returns-clause-named : goal.returns-clause-named
+returns-clause-named c named =
+    let chosen = c.choose.ensures.chosen in
+    let self = c.args.self.now in
+    all_chosen_named self.non_repeaters chosen.fewest 0 (max self.at_once 1) c.go_on_each.new.columns.items c.choose.new.self.columns.items chosen.chooses
+    (all_go_named (seen_by c.args.viewer.now) self.columns.items c.go_on_each.new.columns.items c.go_on_each.ensures named)

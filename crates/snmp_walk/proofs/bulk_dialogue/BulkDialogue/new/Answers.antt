@@ -1,10 +1,13 @@
 use Rattle.std.proofs.Common.{sym, ap, subst, ◌∙◌, append_assoc, arith, List, ℕ, [], ◌∷◌, ◌++◌}
 use Rattle.std.proofs.lemmas.List.{length_push}
 use Rattle.std.proofs.lemmas.List.Elements.{All-push}
+use Rattle.snmp_ber.specs.Oid.{IsObjectId}
 use Rattle.snmp_msg.specs.Variables.{Variable, bound_variable, variables_left}
 use Rattle.snmp_responder.specs.Code.{seen_by}
 use Rattle.snmp_walk.specs.BulkColumn.{BulkStands}
 use Rattle.snmp_walk.specs.BulkDialogue.{IsMostOf}
+use Rattle.snmp_walk.proofs.BulkNamed.{IsNamedBulk}
+use Rattle.snmp_walk.proofs.Names.{one_named}
 use Rattle.snmp_walk.proofs.BulkRequests.{bulk_pushed}
 use Rattle.snmp_walk.proofs.bulk_dialogue.BulkDialogue.new.Goals as goal
 
@@ -13,6 +16,8 @@ loop-binding-preserved c =
     let inv = c.loop-binding.invariant in
     let v = bound_variable c.in-Some.binding in
     let columns = c.loop-binding.columns.items in
+    let joined = ap (λ (vs : List Variable). inv.done ++ vs) (sym c.in-Some.ensures.steps) ∙ inv.joined in
+    let id = one_named c.args.request.now.list.now inv.done (variables_left c.next.new.self) v joined in
     let column = c.new.result in
     let wanted = c.most_of-most.result in
     let request = c.new.ensures.request ∙ ap (λ (name : List ℕ). (name, wanted)) c.oid.ensures in
@@ -21,8 +26,9 @@ loop-binding-preserved c =
       ready = tt;
       ends = tt;
       done = inv.done ++ v ∷ [];
-      joined = append_assoc inv.done (v ∷ []) (variables_left c.next.new.self) ∙ ap (λ (vs : List Variable). inv.done ++ vs) (sym c.in-Some.ensures.steps) ∙ inv.joined;
+      joined = append_assoc inv.done (v ∷ []) (variables_left c.next.new.self) ∙ joined;
       long = rw c.in_ok-push.ensures.items (omega (arith, inv.long, length_push columns column, length_push inv.done v));
       requests = rw c.in_ok-push.ensures.items (bulk_pushed c.count_of-non_repeaters.result c.count_of-max_repetitions.result columns column inv.done v wanted inv.long inv.requests request most);
       stand = λ viewer told. rw c.in_ok-push.ensures.items (All-push (BulkStands (seen_by viewer) told) columns column (inv.stand viewer told) (c.new.ensures.stands viewer told));
+      named = rw c.in_ok-push.ensures.items (All-push IsNamedBulk columns column inv.named (c.new.ensures.named (subst IsObjectId (sym c.oid.ensures) id)));
     }

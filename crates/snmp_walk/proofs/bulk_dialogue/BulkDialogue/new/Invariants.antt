@@ -4,6 +4,7 @@ use Rattle.snmp_responder.specs.Code.{seen_by}
 use Rattle.snmp_responder.specs.declared.viewer.Viewer.{Viewer}
 use Rattle.snmp_walk.specs.BulkColumn.{BulkStands, bulk_request}
 use Rattle.snmp_walk.specs.BulkDialogue.{bulk_requests_of}
+use Rattle.snmp_walk.proofs.BulkNamed.{IsNamedBulk}
 use Rattle.snmp_walk.proofs.bulk_dialogue.BulkDialogue.new.Given as goal
 
 abbrev pub invariant-loop-binding : goal.invariant-loop-binding
@@ -15,4 +16,5 @@ invariant-loop-binding l = record {
   long : length l.columns.items ≡ length done;
   requests : map bulk_request l.columns.items ≡ bulk_requests_of l.non_repeaters l.max_repetitions done;
   stand : (viewer : Viewer) (told : List Variable) → All (BulkStands (seen_by viewer) told) l.columns.items;
+  named : All IsNamedBulk l.columns.items;
 }

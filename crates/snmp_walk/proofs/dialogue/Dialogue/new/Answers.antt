@@ -1,8 +1,11 @@
-use Rattle.std.proofs.Common.{sym, ap, ◌∙◌, append_assoc, List, [], ◌∷◌, ◌++◌}
+use Rattle.std.proofs.Common.{sym, ap, subst, ◌∙◌, append_assoc, List, [], ◌∷◌, ◌++◌}
 use Rattle.std.proofs.lemmas.List.Elements.{All-push}
+use Rattle.snmp_ber.specs.Oid.{IsObjectId}
 use Rattle.snmp_msg.specs.Variables.{Variable, bound_variable, variables_left}
 use Rattle.snmp_responder.specs.Code.{seen_by}
 use Rattle.snmp_walk.specs.Column.{Stands}
+use Rattle.snmp_walk.proofs.Named.{IsNamedColumn, begun_named}
+use Rattle.snmp_walk.proofs.Names.{one_named}
 use Rattle.snmp_walk.proofs.Pushed.{pushed}
 use Rattle.snmp_walk.proofs.dialogue.Dialogue.new.Goals as goal
 
@@ -11,11 +14,15 @@ loop-binding-preserved c =
     let inv = c.loop-binding.invariant in
     let v = bound_variable c.in-Some.binding in
     let columns = c.loop-binding.columns.items in
+    let joined = ap (λ (vs : List Variable). inv.done ++ vs) (sym c.in-Some.ensures.steps) ∙ inv.joined in
+    let id = one_named c.args.request.now.list.now inv.done (variables_left c.next.new.self) v joined in
     record {
       ready = tt;
       ends = tt;
       done = inv.done ++ v ∷ [];
-      joined = append_assoc inv.done (v ∷ []) (variables_left c.next.new.self) ∙ ap (λ (vs : List Variable). inv.done ++ vs) (sym c.in-Some.ensures.steps) ∙ inv.joined;
+      joined = append_assoc inv.done (v ∷ []) (variables_left c.next.new.self) ∙ joined;
       requests = rw c.in_ok-push.ensures.items (pushed columns c.new-column.result c.args.operation inv.done v inv.requests c.new-column.ensures.operation (c.new-column.ensures.first ∙ c.oid.ensures));
       stand = λ told. rw c.in_ok-push.ensures.items (All-push (Stands (seen_by c.args.viewer.now) told) columns c.new-column.result (inv.stand told) (c.new-column.ensures.stands told));
+      named = rw c.in_ok-push.ensures.items (All-push IsNamedColumn columns c.new-column.result inv.named
+          (begun_named (seen_by c.args.viewer.now) c.args.operation c.oid.result c.new-column.result.progress c.new-column.ensures.begins (subst IsObjectId (sym c.oid.ensures) id)));
     }
