@@ -10,3 +10,5 @@ pub mod Tags
 pub mod Timers
 pub mod ReadNames
 pub mod Contexts
+pub mod Asked
+pub mod Standing

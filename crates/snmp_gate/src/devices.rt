@@ -16,6 +16,10 @@ pub struct Device {
     pub write_community: Option<Vec<u8>>,
     /// The longest datagram that it takes, in octets.
     pub max_size: usize,
+    /// How many repetitions it is asked for at once at most. 0 is as 1.
+    pub repetitions: usize,
+    /// How many names it is asked for at once at most by a GetBulkRequest. 0 is as 1.
+    pub names: usize,
     /// What it is asked at once.
     pub asks: DeviceAsks,
 }
@@ -30,7 +34,7 @@ pub struct RepeatedContext {
 /// The devices behind a gateway. Each has a contextName of its own.
 #[derive(Drop)]
 pub struct Devices {
-    list: Vec<Device>,
+    pub(crate) list: Vec<Device>,
 }
 
 /// Returns the number of the first device with this contextName, counted from 0.

@@ -32,7 +32,7 @@ pub enum Joined {
 /// The requests that wait, in the order in which they began.
 #[derive(Drop)]
 pub struct WaitingRequests<M: Drop, W: Drop> {
-    list: Vec<WaitingRequest<M, W>>,
+    pub(crate) list: Vec<WaitingRequest<M, W>>,
     next: u64,
     most: usize,
     most_messages: usize,
@@ -113,6 +113,13 @@ impl<M: Drop, W: Drop> WaitingRequests<M, W> {
         }
         request.others.push(message)?;
         Ok(Joined::Joined)
+    }
+
+    /// The message that joined the request at this place last leaves it: nothing is answered.
+    pub(crate) fn leave(&mut self, place: usize)
+        requires { place < length self.old.list.items }
+    {
+        self.list[place].others.pop();
     }
 
     /// Something becomes of the request at this place. What it was before is returned.

@@ -9,6 +9,8 @@ fn device(alloc: Global, context: &[u8]) -> Result<Device, AllocError> {
         community: Vec::from_slice(alloc, b"public")?,
         write_community: None,
         max_size: 1472,
+        repetitions: 32,
+        names: 100,
         asks: DeviceAsks::new(alloc, 32),
     })
 }
