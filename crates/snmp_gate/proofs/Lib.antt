@@ -12,3 +12,5 @@ pub mod ReadNames
 pub mod Contexts
 pub mod Asked
 pub mod Standing
+pub mod Sending
+pub mod Telling

@@ -27,7 +27,6 @@ use Rattle.snmp_gate.specs.ReadAsks.{read_type}
 use Rattle.snmp_gate.specs.declared.reply.Reply.{Reply}
 use Rattle.snmp_gate.specs.declared.reply.Reply.TheVariants as reply
 use Rattle.snmp_gate.specs.declared.reply.Sealing.{Sealing}
-use Rattle.snmp_gate.specs.declared.set_answer.ResponseStatus.{ResponseStatus}
 use Rattle.snmp_gate.specs.declared.set_answer.TheConstants.{NO_ERROR, TOO_BIG}
 
 -- what is told of a request: error-status, error-index and bindings
@@ -46,25 +45,16 @@ pub record Answering : Type 0 where
   pub now : ℕ
   pub salt : List ℕ
 
--- what a message says that is answered
-pub record Read (g : Given) : Type 0 where
-  pub contexts : Contexts
-  pub front : ScopedFront g.text contexts
-  pub pdu : PduParts
-  pub is_pdu : PduText contexts.pdu pdu
-
 -- the datagram is the Response to the message, and tells this
-pub record IsSent (a : Answering) (g : Given) (told : Told) (datagram : List ℕ) : Type 0 where
-  pub read : Read g
-  pub sends : Sends a.agent a.now (λ own. responding a.agent.engine own g read.contexts read.pdu told.status told.index
-      told.variables a.salt) (Ok datagram)
+abbrev pub IsSent : Answering → Given → Told → List ℕ → Type 0
+IsSent a g told datagram = (c : Contexts) (p : PduParts) → ScopedFront g.text c → PduText c.pdu p
+    → Sends a.agent a.now (λ own. responding a.agent.engine own g c p told.status told.index told.variables a.salt)
+    (Ok datagram)
 
 -- the datagram is a report on the message
-pub record IsReported (a : Answering) (g : Given) (datagram : List ℕ) : Type 0 where
-  pub read : Read g
-  pub why : Unhandled
-  pub after : AgentState
-  pub refuses : Refuses a.agent a.now g read.pdu why a.salt (Ok (Some datagram)) after
+abbrev pub IsReported : Answering → Given → List ℕ → Type 0
+IsReported a g datagram = (c : Contexts) (p : PduParts) → ScopedFront g.text c → PduText c.pdu p
+    → (why : Unhandled) × (after : AgentState) × Refuses a.agent a.now g p why a.salt (Ok (Some datagram)) after
 
 -- ---- the law outwards
 
@@ -93,8 +83,8 @@ pub data MayTellValues (tables : Tables) (q : Question) (said : List Variable) (
 abbrev pub MayTell : Tables → Question → List Variable → Told → Type 0
 MayTell tables q said told =
     ((told.status ≡ NO_ERROR) × MayTellValues tables q said told.variables)
-    ⊎ ((told.status ≢ NO_ERROR) × (told.variables ≡ variables_of q.list))
-    ⊎ ((told.status ≡ TOO_BIG) × (told.variables ≡ []))
+    ⊎ (((told.status ≢ NO_ERROR) × (told.variables ≡ variables_of q.list))
+    ⊎ ((told.status ≡ TOO_BIG) × (told.variables ≡ [])))
 
 -- the datagram is a Response that may be sent, or a report
 abbrev pub IsAnswerTo : Answering → Tables → Question → List Variable → Given → List ℕ → Type 0
@@ -107,10 +97,10 @@ abbrev pub IsOwnList : Question → ℤ → List Variable → Type 0
 IsOwnList q status vs = ((status ≡ TOO_BIG) × (vs ≡ [])) ⊎ ((status ≢ TOO_BIG) × (vs ≡ variables_of q.list))
 
 abbrev pub answering : AgentState → Sealing → Answering
-answering agent s = record { agent = agent; now = s.now; salt = s.salt }
+answering agent s = record { agent = agent; now = s.seconds; salt = s.salt }
 
-abbrev pub told_with : ResponseStatus → List Variable → Told
-told_with says vs = record { status = says.status; index = says.index; variables = vs }
+abbrev pub told_with : ℤ → ℤ → List Variable → Told
+told_with status index vs = record { status = status; index = index; variables = vs }
 
 abbrev pub IsTooBigOr : Answering → Given → Reply → Type 0
 IsTooBigOr a g (reply.Sends datagram) = IsSent a g too_big datagram.items

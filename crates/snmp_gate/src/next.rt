@@ -144,7 +144,7 @@ impl Gate {
         let message = &request.first;
         let taken = message.kept.taken();
         let sealing = Sealing {
-            now: now / 1000,
+            seconds: now / 1000,
             salt,
             limit: limit_of(taken.level, taken.max_size, message.size, &self.limits),
         };

@@ -1,7 +1,6 @@
 //! What a message is answered.
 
 ghost use Rattle.std.specs.Prelude.{◌≡◌, ◌↔◌, ℕ, List, Some, All, map, IfOk, IsTrue, OnErr};
-ghost use Rattle.vacm_core.specs.Tables.{Tables};
 ghost use Rattle.snmp_ber.specs.Element.{IsTag};
 ghost use Rattle.snmp_msg.specs.Variables.{CanBeWritten, Variable, bound_variable, variable_of, variables_of};
 ghost use Rattle.snmp_message.specs.declared.refusal.Refusal.TheVariants.{TooLarge};
@@ -30,12 +29,6 @@ use std::alloc::{AllocError, Global};
 /// The longest Response without authentication, in octets, to a request of half of it at most.
 pub const SHORT_ANSWER: usize = 1_472;
 
-/// noError.
-const WITHOUT_ERROR: ResponseStatus = ResponseStatus {
-    status: NO_ERROR,
-    index: 0,
-};
-
 /// genErr, where a binding can't be written.
 const UNWRITTEN: ResponseStatus = ResponseStatus {
     status: GEN_ERR,
@@ -59,7 +52,7 @@ pub enum Reply {
 #[derive(Clone, Copy)]
 pub(crate) struct Sealing {
     /// The moment, in seconds.
-    pub(crate) now: u64,
+    pub(crate) seconds: u64,
     pub(crate) salt: [u8; 8],
     /// The most octets of the datagram.
     pub(crate) limit: usize,
@@ -94,7 +87,7 @@ fn reply_without(
         return Ok(Reply::Refused(refused.refusal));
     }
     let none: [Binding<'_>; 0] = [];
-    let (now, limit) = (sealing.now, sealing.limit);
+    let (now, limit) = (sealing.seconds, sealing.limit);
     match agent.respond_within(now, taken, TOO_BIG, 0, &none, sealing.salt, limit) {
         Ok(datagram) => Ok(Reply::Sends(datagram)),
         Err(refused) if refused.is_memory() => Err(AllocError),
@@ -109,18 +102,19 @@ fn reply_without(
 fn reply_with<B: Spelled>(
     agent: &mut Agent,
     taken: &Taken<'_>,
-    says: ResponseStatus,
+    status: i32,
+    index: i32,
     bindings: &[B],
     sealing: &Sealing,
 ) -> Result<Reply, AllocError>
     requires { All (λ b. B.fits b) bindings.now }
     ensures sent { IfOk result (IsSentOr (answering agent.old sealing.now) (given_of taken.now)
-        (told_with says (map B.says bindings.now))) }
+        (told_with status index (map B.says bindings.now))) }
     ensures same { SameAgent agent.old agent.new }
     ensures err { OnErr result (agent.new ≡ agent.old) }
 {
-    let (now, salt, limit) = (sealing.now, sealing.salt, sealing.limit);
-    match agent.respond_within_of(now, taken, says.status, says.index, bindings, salt, limit) {
+    let (now, salt, limit) = (sealing.seconds, sealing.salt, sealing.limit);
+    match agent.respond_within_of(now, taken, status, index, bindings, salt, limit) {
         Ok(datagram) => Ok(Reply::Sends(datagram)),
         Err(refused) => reply_without(agent, taken, refused, sealing),
     }
@@ -139,7 +133,7 @@ fn reply_front(
     ensures same { SameAgent agent.old agent.new }
     ensures err { OnErr result (agent.new ≡ agent.old) }
 {
-    let (now, salt, limit) = (sealing.now, sealing.salt, sealing.limit);
+    let (now, salt, limit) = (sealing.seconds, sealing.salt, sealing.limit);
     match agent.respond_front(now, taken, NO_ERROR, 0, bindings, salt, limit) {
         Ok(fronted) => Ok(Reply::Sends(fronted.text)),
         Err(refused) => reply_without(agent, taken, refused, sealing),
@@ -160,7 +154,8 @@ fn own_bindings<'a>(
     if status == TOO_BIG {
         return Ok(Vec::new(alloc));
     }
-    bindings_of(alloc, &pdu_of(taken))
+    let bindings = bindings_of(alloc, &pdu_of(taken))?;
+    Ok(bindings)
 }
 
 /// Returns what becomes of a message whose Response has this status and the message's own bindings.
@@ -171,14 +166,14 @@ fn reply_own(
     says: ResponseStatus,
     sealing: &Sealing,
 ) -> Result<Reply, AllocError>
-    ensures sent { IfOk result (λ reply. (tables : Tables) (client : List ℕ) (q : Question) (said : List Variable)
+    ensures sent { IfOk result (λ reply. (client : List ℕ) (q : Question) (said : List Variable)
         → question_given client (given_of taken.now) ≡ Some q → IsOwnStatus q says
-        → IsReplyTo (answering agent.old sealing.now) tables q said (given_of taken.now) reply) }
+        → IsReplyTo (answering agent.old sealing.now) agent.old.tables q said (given_of taken.now) reply) }
     ensures same { SameAgent agent.old agent.new }
     ensures err { OnErr result (agent.new ≡ agent.old) }
 {
     let bindings = own_bindings(alloc, taken, says.status)?;
-    reply_with(agent, taken, says, &bindings, sealing)
+    reply_with(agent, taken, says.status, says.index, &bindings, sealing)
 }
 
 /// Returns what becomes of a message that no application answers.
@@ -192,7 +187,10 @@ fn reply_unhandled(
     ensures same { SameAgent agent.old agent.new }
     ensures err { OnErr result (agent.new ≡ agent.old) }
 {
-    match agent.refuse(sealing.now, taken, why, sealing.salt) {
+    // every accepted message has these, so that what is refused says what it leaves
+    let _scoped = taken.scoped();
+    let _pdu = taken.pdu();
+    match agent.refuse(sealing.seconds, taken, why, sealing.salt) {
         Ok(Some(report)) => Ok(Reply::Sends(report)),
         Ok(None) => Ok(Reply::Nothing),
         Err(refused) if refused.is_memory() => Err(AllocError),
@@ -200,12 +198,19 @@ fn reply_unhandled(
     }
 }
 
+/// Returns true if the binding can be written.
+fn is_writable(binding: &Binding<'_>) -> bool
+    ensures { IsTrue result ↔ CanBeWritten (variable_of binding.now) }
+{
+    binding.name.is_object_id() && binding.tag % 32 != 31
+}
+
 /// Returns true if each of these bindings can be written.
 fn can_be_written(bindings: &[Binding<'_>]) -> bool
     ensures { IsTrue result ↔ All (λ b. CanBeWritten (variable_of b)) bindings.now }
 {
     for binding in bindings {
-        if !binding.name.is_object_id() || binding.tag % 32 == 31 {
+        if !is_writable(binding) {
             return false;
         }
     }
@@ -220,11 +225,11 @@ fn reply_columns(
     whole: &WholeDialogue,
     sealing: &Sealing,
 ) -> Result<Reply, AllocError>
-    ensures sent { IfOk result (λ reply. (tables : Tables) (client : List ℕ) (q : Question) (said : List Variable)
+    ensures sent { IfOk result (λ reply. (client : List ℕ) (q : Question) (said : List Variable)
         (operation : ReadOperation)
         → question_given client (given_of taken.now) ≡ Some q
-        → ReadStands tables q said operation whole.now.dialogue
-        → IsReplyTo (answering agent.old sealing.now) tables q said (given_of taken.now) reply) }
+        → ReadStands agent.old.tables q said operation whole.now.dialogue
+        → IsReplyTo (answering agent.old sealing.now) agent.old.tables q said (given_of taken.now) reply) }
     ensures same { SameAgent agent.old agent.new }
     ensures err { OnErr result (agent.new ≡ agent.old) }
 {
@@ -232,7 +237,7 @@ fn reply_columns(
     if !can_be_written(&bindings) {
         return reply_own(alloc, agent, taken, UNWRITTEN, sealing);
     }
-    reply_with(agent, taken, WITHOUT_ERROR, &bindings, sealing)
+    reply_with(agent, taken, NO_ERROR, 0, &bindings, sealing)
 }
 
 /// Returns what becomes of a message that gets the front of what a GetBulkRequest asks for.
@@ -243,10 +248,10 @@ fn reply_bulk(
     dialogue: &BulkDialogue,
     sealing: &Sealing,
 ) -> Result<Reply, AllocError>
-    ensures sent { IfOk result (λ reply. (tables : Tables) (client : List ℕ) (q : Question) (said : List Variable)
+    ensures sent { IfOk result (λ reply. (client : List ℕ) (q : Question) (said : List Variable)
         → question_given client (given_of taken.now) ≡ Some q
-        → BulkStandsFor tables q said dialogue.now
-        → IsReplyTo (answering agent.old sealing.now) tables q said (given_of taken.now) reply) }
+        → BulkStandsFor agent.old.tables q said dialogue.now
+        → IsReplyTo (answering agent.old sealing.now) agent.old.tables q said (given_of taken.now) reply) }
     ensures same { SameAgent agent.old agent.new }
     ensures err { OnErr result (agent.new ≡ agent.old) }
 {
@@ -265,10 +270,10 @@ pub(crate) fn reply_to(
     ending: &Ending,
     sealing: &Sealing,
 ) -> Result<Reply, AllocError>
-    ensures sent { IfOk result (λ reply. (tables : Tables) (q : Question) (said : List Variable)
+    ensures sent { IfOk result (λ reply. (q : Question) (said : List Variable)
         → question_in message.now ≡ Some q
-        → EndingStands tables q said ending.now
-        → IsReplyTo (answering agent.old sealing.now) tables q said message.now.kept reply) }
+        → EndingStands agent.old.tables q said ending.now
+        → IsReplyTo (answering agent.old sealing.now) agent.old.tables q said message.now.kept reply) }
     ensures same { SameAgent agent.old agent.new }
     ensures err { OnErr result (agent.new ≡ agent.old) }
 {
