@@ -14,3 +14,7 @@ pub mod Asked
 pub mod Standing
 pub mod Sending
 pub mod Telling
+pub mod More
+pub mod Histories
+pub mod Endings
+pub mod AskingWell

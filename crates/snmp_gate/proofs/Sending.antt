@@ -1,5 +1,5 @@
 -- Responses that were written.
-use Rattle.std.specs.Prelude.{◌≡◌, ℕ, List, Option, Some, None, Result, Ok, Err, IfOk}
+use Rattle.std.specs.Prelude.{◌≡◌, ℕ, List, Option, Some, None, Result, Ok, Err, IfOk, IfSome}
 use Rattle.snmp_message.specs.declared.refusal.Refusal.{Refusal}
 use Rattle.snmp_outgoing.specs.UpTo.{UpTo, fits, longer, refuses}
 use Rattle.snmp_agent.specs.Agent.{AgentState}
@@ -49,3 +49,11 @@ sent_with a g status index own_status own_index vs datagram s i sent =
 pub on_ok : {T E : Type 0} (r : Result T E) (P Q : T → Type 0) → ((x : T) → P x → Q x) → IfOk r P → IfOk r Q
 on_ok (Ok x) P Q f p = f x p
 on_ok (Err e) P Q f p = tt
+
+pub on_some : {T : Type 0} (o : Option T) (P Q : T → Type 0) → ((x : T) → P x → Q x) → IfSome o P → IfSome o Q
+on_some (Some x) P Q f p = f x p
+on_some None P Q f p = tt
+
+pub on_both : {T E : Type 0} (r : Result T E) (P Q : T → Type 0) → IfOk r P → IfOk r Q → IfOk r (λ x. P x × Q x)
+on_both (Ok x) P Q p q = (p, q)
+on_both (Err e) P Q p q = tt

@@ -162,3 +162,16 @@ bulk_begins tables q told viewer pdu limits d is of tag for stand = record {
   requests_are = for.requests ∙ ap (λ (list : List ℕ). bulk_requests_of d.non_repeaters d.max_repetitions (variables_of list)) of.list;
   stand = to_seen (λ (Seen : List ℕ → Type 0). BulkAllStand Seen told d) tables q viewer is stand;
 }
+
+-- someone who asks this, with these tables
+abbrev pub viewer_for : Tables → Question → Viewer
+viewer_for tables q = record {
+  vacm = record { ref_ptr = (0, 0); now = tables };
+  model = (requester_in q).model;
+  name = record { ref_ptr = (0, 0); now = q.user };
+  level = q.level;
+  context = record { ref_ptr = (0, 0); now = q.context };
+}
+
+pub is_viewer_for : (tables : Tables) (q : Question) → IsViewerOf tables q (viewer_for tables q)
+is_viewer_for tables q = record { tables_are = refl; model = refl; name = refl; level = refl; context = refl }

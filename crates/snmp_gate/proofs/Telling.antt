@@ -95,14 +95,14 @@ columns_reply a tables q said g o cs bs r tag same zip sent =
 
 -- ---- a front
 
-from_map : {A B : Type 0} (f : A → B) (xs : List A) (y : B) → Contains (map f xs) y → (x : A) × Contains xs x × (f x ≡ y)
+pub from_map : {A B : Type 0} (f : A → B) (xs : List A) (y : B) → Contains (map f xs) y → (x : A) × Contains xs x × (f x ≡ y)
 from_map f [] y (k, within, is) = absurd (omega arith)
 from_map f (x ∷ xs) y (zero, within, is) = (x, (0, omega arith, refl), is)
 from_map f (x ∷ xs) y (suc k, within, is) =
     let rest = from_map f xs y (k, omega arith, is) in
     (rest.0, Contains-append_right (x ∷ []) xs rest.0 rest.1, rest.2)
 
-named_in : (n m : ℕ) (vs : List Variable) (x : List ℕ × ℕ) → Contains (bulk_requests_of n m vs) x → (v : Variable) × Contains vs v × (v.name ≡ x.0)
+pub named_in : (n m : ℕ) (vs : List Variable) (x : List ℕ × ℕ) → Contains (bulk_requests_of n m vs) x → (v : Variable) × Contains vs v × (v.name ≡ x.0)
 named_in n m vs x there = elim (Contains-append_cases (map (λ (v : Variable). (v.name, 1)) (take n vs)) (map (λ (v : Variable). (v.name, m)) (drop n vs)) x there) [
   | inl single ↦
       let of = from_map (λ (v : Variable). (v.name, 1)) (take n vs) x single in
@@ -117,7 +117,7 @@ ascends_take zero first vs is = tt
 ascends_take (suc k) first [] is = tt
 ascends_take (suc k) first (v ∷ vs) is = (is.0, ascends_take k v.name vs is.1)
 
-contains_map : {A B : Type 0} (f : A → B) (xs : List A) (x : A) → Contains xs x → Contains (map f xs) (f x)
+pub contains_map : {A B : Type 0} (f : A → B) (xs : List A) (x : A) → Contains xs x → Contains (map f xs) (f x)
 contains_map f xs x (k, within, is) = (k, omega (arith, length-map xs f), get_or-map f xs k x (f x) within ∙ ap f is)
 
 tells_bulk : (Seen : List ℕ → Type 0) (said : List Variable) (vs : List Variable) (n m : ℕ) (cs : List BulkColumn) (v : Variable) → map bulk_request cs ≡ bulk_requests_of n m vs → All (BulkStands Seen said) cs

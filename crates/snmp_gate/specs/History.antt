@@ -12,6 +12,7 @@ use Rattle.snmp_msg.specs.PduTypes.{pdu_tag}
 use Rattle.snmp_msg.specs.Variables.{AreBindings, Variable, variables_of}
 use Rattle.snmp_msg.specs.declared.pdu_type.PduType.{PduType}
 use Rattle.snmp_msg.specs.declared.pdu_type.PduType.TheVariants.{GetBulkRequest, GetNextRequest, SetRequest}
+use Rattle.vacm_core.specs.Tables.{Tables}
 use Rattle.snmp_incoming.specs.Outcome.{Outcome}
 use Rattle.snmp_agent.specs.Agent.{AgentState, taker_of}
 use Rattle.snmp_walk.specs.Column.{MayAsk}
@@ -86,28 +87,28 @@ pub record AskedBy (before : List Happening) (number : ℕ) (q : Question) : Typ
 
 -- one of the names of a request for values, or of its answers so far, leads to the name that is asked: the message may
 -- see it, or in a walk it passes over nothing that the message may see
-pub record MayAskName (q : Question) (agent : AgentState) (told : List Variable) (operation : ReadOperation)
+pub record MayAskName (q : Question) (tables : Tables) (told : List Variable) (operation : ReadOperation)
     (v : Variable) : Type 0 where
   pub request : Variable
   pub is_request : Contains (variables_of q.list) request
-  pub may : MayAsk (seen_in agent.tables q) told operation request.name v.name
+  pub may : MayAsk (seen_in tables q) told operation request.name v.name
 
 -- the law inwards: for values a device is asked with its community, and for a Set with the community for it
-pub data MayAskFor (agent : AgentState) (d : Device) (q : Question) (told : List Variable) (id : ℕ)
+pub data MayAskFor (tables : Tables) (d : Device) (q : Question) (told : List Variable) (id : ℕ)
     (vs : List Variable) (datagram : List ℕ) : Type 0 where
   reads : (operation : ReadOperation) → q.tag ≡ pdu_tag (read_type operation)
-      → All (MayAskName q agent told operation) vs
+      → All (MayAskName q tables told operation) vs
       → IsAsk datagram d.community.items (read_type operation) id vs
-      → MayAskFor agent d q told id vs datagram
+      → MayAskFor tables d q told id vs datagram
   bulk : (type : PduType) (second third : ℕ) → (type ≡ GetNextRequest) ⊎ (type ≡ GetBulkRequest)
-      → q.tag ≡ pdu_tag GetBulkRequest → All (MayAskName q agent told GetNext) vs
+      → q.tag ≡ pdu_tag GetBulkRequest → All (MayAskName q tables told GetNext) vs
       → IsRequest datagram d.community.items type id (pos second) (pos third) vs
-      → MayAskFor agent d q told id vs datagram
+      → MayAskFor tables d q told id vs datagram
   sets : (community : Vec ℕ) → d.write_community ≡ Some community → q.tag ≡ pdu_tag SetRequest
       → vs ≡ variables_of q.list
-      → All (λ (v : Variable). set_in agent.tables q v.name) vs
+      → All (λ (v : Variable). set_in tables q v.name) vs
       → IsAsk datagram community.items SetRequest id vs
-      → MayAskFor agent d q told id vs datagram
+      → MayAskFor tables d q told id vs datagram
 
 -- the answer is that of this device to what it was asked last for the request of this number, which it didn't answer
 pub record IsAnswerOf (before : List Happening) (number device : ℕ) (answer : PduParts) (datagram : List ℕ)
@@ -125,7 +126,7 @@ IsLawful agent devices before (accepted number now datagram message) =
     Outcome (taker_of agent) agent.users (now / 1000) datagram (Ok message.kept)
 IsLawful agent devices before (asked number device id vs datagram) = (q : Question) × AskedBy before number q
     × IsDeviceOf devices q.context device
-    × HoldsAt (λ (d : Device). MayAskFor agent d q (told_in number before) id vs datagram) devices device
+    × HoldsAt (λ (d : Device). MayAskFor agent.tables d q (told_in number before) id vs datagram) devices device
 IsLawful agent devices before (answered number device answer datagram) =
     IsAnswerOf before number device answer datagram
 IsLawful agent devices before (sent number message by datagram) = IsAccepted before number message

@@ -17,3 +17,6 @@ pub mod Work
 pub mod Ends
 pub mod Replies
 pub mod History
+pub mod Taking
+pub mod Waiting
+pub mod Sending

@@ -3,8 +3,6 @@
 ghost use Rattle.std.specs.Prelude.{◌≡◌, ℕ, IfSome, MatchOption, MatchResult};
 ghost use Rattle.snmp_gate.specs.Devices.{HaveOwnContexts, IsDeviceOf, IsFirstRepeated, IsUnknownContext};
 
-use crate::asks::DeviceAsks;
-
 /// A device behind a gateway. It has no `Debug`, which would print the communities.
 #[derive(Drop)]
 pub struct Device {
@@ -20,8 +18,8 @@ pub struct Device {
     pub repetitions: usize,
     /// How many names it is asked for at once at most by a GetBulkRequest. 0 is as 1.
     pub names: usize,
-    /// What it is asked at once.
-    pub asks: DeviceAsks,
+    /// For how many requests it is asked at once at most.
+    pub at_once: u16,
 }
 
 /// Why devices can't be those of one gateway: a contextName has to name one device.

@@ -1,6 +1,7 @@
 //! The gateway: what comes in, and what goes out.
 
-use crate::devices::Devices;
+use crate::asks::DeviceAsks;
+use crate::devices::{Device, Devices};
 use crate::limits::GateLimits;
 use crate::requests::WaitingRequests;
 use crate::sets::RememberedSets;
@@ -8,7 +9,7 @@ use crate::waiting_message::WaitingMessage;
 use crate::work::Work;
 use snmp_agent::{Agent, Refused};
 use snmp_msg::Refusal;
-use std::alloc::Global;
+use std::alloc::{AllocError, Global};
 
 /// What becomes of a datagram from a client.
 #[derive(Drop)]
@@ -73,12 +74,23 @@ pub enum Sent {
     Nothing,
 }
 
+/// Returns that these devices are asked nothing.
+fn asks_of(alloc: Global, devices: &[Device]) -> Result<Vec<DeviceAsks>, AllocError> {
+    let mut asks = Vec::new(alloc);
+    for device in devices {
+        asks.push(DeviceAsks::new(alloc, device.at_once))?;
+    }
+    Ok(asks)
+}
+
 /// A gateway from clients that speak SNMPv3 to devices that speak SNMPv2c. Moments are milliseconds from one beginning.
 #[derive(Drop)]
 pub struct Gate {
     pub(crate) alloc: Global,
     pub(crate) agent: Agent,
     pub(crate) devices: Devices,
+    /// What each device is asked.
+    pub(crate) asks: Vec<DeviceAsks>,
     pub(crate) limits: GateLimits,
     pub(crate) requests: WaitingRequests<WaitingMessage, Work>,
     pub(crate) sets: RememberedSets,
@@ -86,16 +98,23 @@ pub struct Gate {
 
 impl Gate {
     /// Returns a gateway to these devices, which no datagram has reached. Its users, its tables and its counters are the
-    /// agent's. This takes no memory.
-    pub fn new(alloc: Global, agent: Agent, devices: Devices, limits: GateLimits) -> Gate {
-        Gate {
+    /// agent's. The error is out of memory.
+    pub fn new(
+        alloc: Global,
+        agent: Agent,
+        devices: Devices,
+        limits: GateLimits,
+    ) -> Result<Gate, AllocError> {
+        let asks = asks_of(alloc, devices.list())?;
+        Ok(Gate {
             alloc,
             agent,
             devices,
+            asks,
             limits,
             requests: WaitingRequests::new(alloc, limits.waiting, limits.joined),
             sets: RememberedSets::new(alloc),
-        }
+        })
     }
 
     /// Returns the agent, for its counters.

@@ -256,6 +256,7 @@
 //! ```
 #![tactic(auto)]
 
+mod ask;
 mod asks;
 mod begin;
 mod bulk_request;

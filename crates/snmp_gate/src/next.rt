@@ -1,23 +1,27 @@
 //! What goes out.
 
-use crate::asks::REQUEST_IDS;
-use crate::bulk_request::write_bulk_ask;
-use crate::devices::Device;
+ghost use Rattle.std.specs.Prelude.{◌≡◌, ◌<◌, ℕ, List, Some, length, IfOk, IfSome};
+ghost use Rattle.snmp_msg.specs.Variables.{Variable};
+ghost use Rattle.snmp_gate.specs.Question.{Question};
+ghost use Rattle.snmp_gate.specs.Messages.{question_in};
+ghost use Rattle.snmp_gate.specs.History.{Happening};
+ghost use Rattle.snmp_gate.specs.Replies.{SameAgent};
+ghost use Rattle.snmp_gate.specs.Sending.{IsSentBy, RepliesTo};
+ghost use Rattle.snmp_gate.specs.Waiting.{GateStands, SendHappens};
+
+use crate::ask::ask_of;
+use crate::asks::{DeviceAsks, REQUEST_IDS};
 use crate::gate::{Gate, Sent};
 use crate::limits::GateLimits;
-use crate::read_ask::write_read_ask;
 use crate::reply::{Reply, Sealing, limit_of, reply_to};
 use crate::requests::WaitingRequest;
 use crate::retries::Retries;
 use crate::set_answer::{ResponseStatus, TOO_BIG};
-use crate::set_ask::write_set_ask;
-use crate::take_device::community_of;
+use crate::task::Task;
 use crate::timer::Due;
 use crate::waiting_message::WaitingMessage;
-use crate::task::Task;
 use crate::work::{Ending, OpenRequest, Todo, Work};
-use snmp_agent::Unhandled;
-use snmp_msg::{Refusal, RefusedAt};
+use snmp_agent::{Agent, Unhandled};
 use std::alloc::{AllocError, Global};
 
 /// Returns how long a request waits for its device: a Set is asked once.
@@ -29,56 +33,89 @@ fn retries_of(task: &Task, limits: &GateLimits) -> Retries {
 }
 
 /// Returns what is to be done now for a request whose device is to be asked, or to answer.
-fn todo_open(open: &OpenRequest, device: &Device, limits: &GateLimits, now: u64) -> Todo {
+fn todo_open(open: &OpenRequest, is_full: bool, limits: &GateLimits, now: u64) -> Todo {
     let retries = retries_of(&open.task.task, limits);
-    match (open.timer.due(&retries, now), open.asked) {
-        (Due::GiveUp, _) => Todo::GiveUp,
-        (Due::AskAgain, Some(id)) => Todo::AskAgain(id),
-        (_, None) if !device.asks.is_full() => Todo::Ask,
-        _ => Todo::Nothing,
+    match open.timer.due(&retries, now) {
+        Due::GiveUp => Todo::GiveUp,
+        Due::AskAgain => match open.asked {
+            Some(id) => Todo::AskAgain(id),
+            None => Todo::Nothing,
+        },
+        Due::Nothing => match open.asked {
+            Some(_) => Todo::Nothing,
+            None if is_full => Todo::Nothing,
+            None => Todo::Ask,
+        },
     }
 }
 
-/// Returns the datagram that asks a device for a request, with this request-id.
-fn ask_of(
-    alloc: Global,
-    device: &Device,
-    task: &Task,
-    message: &WaitingMessage,
-    id: u32,
-) -> Result<Vec<u8>, RefusedAt> {
-    let community = community_of(device, task).unwrap_or(b"");
-    match task {
-        Task::Read(operation, dialogue) => {
-            write_read_ask(alloc, community, id, *operation, dialogue)
-        }
-        Task::Bulk(by, dialogue) => write_bulk_ask(alloc, community, id, *by, dialogue),
-        Task::Set => write_set_ask(alloc, community, id, &message.kept.taken().pdu()),
+/// Returns true if nothing more can be asked of this device.
+fn is_full(asks: &[DeviceAsks], device: usize) -> bool {
+    match asks.get(device) {
+        Some(asks) => asks.is_full(),
+        None => true,
     }
 }
 
-/// How a device can be asked.
-#[derive(Drop)]
-enum Asking {
-    /// By this datagram.
-    By(Vec<u8>),
-    /// Not: the datagram would be longer than it takes.
-    TooLong,
+/// Returns the earlier one of two moments, if there is one.
+fn earlier(due: Option<u64>, at: u64) -> u64 {
+    match due {
+        Some(other) => other.min(at),
+        None => at,
+    }
 }
 
-/// Returns how a device can be asked for a request, with this request-id.
-fn written_ask(
+/// Returns what becomes of the first message of a request that ends. None: the request doesn't end.
+fn replied(
     alloc: Global,
-    device: &Device,
-    task: &Task,
-    message: &WaitingMessage,
-    id: u32,
-) -> Result<Asking, AllocError> {
-    match ask_of(alloc, device, task, message, id) {
-        Ok(datagram) if datagram.len() <= device.max_size => Ok(Asking::By(datagram)),
-        Ok(_) => Ok(Asking::TooLong),
-        Err(refused) if refused.is_memory() => Err(AllocError),
-        Err(_) => Ok(Asking::TooLong),
+    agent: &mut Agent,
+    request: &WaitingRequest<WaitingMessage, Work>,
+    limits: &GateLimits,
+    seconds: u64,
+    salt: [u8; 8],
+) -> Result<Option<Reply>, AllocError>
+    ensures sent { IfOk result (λ replied. IfSome replied (λ reply. (q : Question) (said : List Variable)
+        → question_in request.now.first ≡ Some q
+        → RepliesTo agent.old seconds salt q said request.now.first.kept request.now.work reply)) }
+    ensures same { SameAgent agent.old agent.new }
+{
+    let Work::Ends(ending) = &request.work else {
+        return Ok(None);
+    };
+    let message = &request.first;
+    let taken = message.kept.taken();
+    let sealing = Sealing {
+        seconds,
+        salt,
+        limit: limit_of(taken.level, taken.max_size, message.size, limits),
+    };
+    let reply = reply_to(alloc, agent, message, ending, &sealing)?;
+    Ok(Some(reply))
+}
+
+/// Returns what the Response says of a request as a whole, if it has the request's own bindings.
+fn said_of(work: &Work) -> Option<ResponseStatus> {
+    match work {
+        Work::Ends(Ending::Own(says)) => Some(*says),
+        _ => None,
+    }
+}
+
+/// Returns what goes out, of what becomes of a message.
+fn sent_by(number: u64, client: Vec<u8>, reply: Reply) -> Sent
+    ensures { IsSentBy number client reply result }
+{
+    match reply {
+        Reply::Sends(datagram) => Sent::ToClient {
+            number,
+            client,
+            datagram,
+        },
+        Reply::Nothing | Reply::SilentDrop => Sent::Unanswered { number, why: None },
+        Reply::Refused(why) => Sent::Unanswered {
+            number,
+            why: Some(why),
+        },
     }
 }
 
@@ -91,17 +128,20 @@ impl Gate {
     /// asked with this request-id, or with the next one with which it isn't asked.
     ///
     /// The error is out of memory. Then all is as before, and the call may be made again.
-    pub fn next(&mut self, now: u64, salt: [u8; 8], ask_id: u32) -> Result<Sent, AllocError> {
-        for place in 0..self.requests.requests().len() {
-            match self.todo_at(place, now) {
-                Todo::Nothing => {}
-                Todo::Answer => return self.answer_at(place, now, salt),
-                Todo::Ask => return self.ask_at(place, now, ask_id % REQUEST_IDS),
-                Todo::AskAgain(id) => return self.ask_again_at(place, now, id),
-                Todo::GiveUp => return Ok(self.give_up_at(place)),
-            }
+    pub fn next(&mut self, now: u64, salt: [u8; 8], ask_id: u32) -> Result<Sent, AllocError>
+        ensures { IfOk result (λ sent. (before : List Happening) → GateStands before self.old
+            → SendHappens self.old before sent self.new) }
+    {
+        let Some((place, todo)) = self.first_due(now) else {
+            return Ok(Sent::Nothing);
+        };
+        match todo {
+            Todo::Nothing => Ok(Sent::Nothing),
+            Todo::Answer => self.answer_at(place, now, salt),
+            Todo::Ask => self.ask_at(place, now, ask_id % REQUEST_IDS),
+            Todo::AskAgain(id) => self.ask_again_at(place, now, id),
+            Todo::GiveUp => Ok(self.give_up_at(place)),
         }
-        Ok(Sent::Nothing)
     }
 
     /// Returns the moment, in milliseconds, from which on `next` has something to do by time alone, if nothing comes
@@ -116,130 +156,177 @@ impl Gate {
                 }
                 Work::Ends(_) => 0,
             };
-            due = match due {
-                None => Some(at),
-                Some(other) => Some(at.min(other)),
-            };
+            due = Some(earlier(due, at));
         }
         due
     }
 
-    /// Returns what is to be done now for the request at this place.
-    fn todo_at(&self, place: usize, now: u64) -> Todo {
-        match &self.requests.list[place].work {
-            Work::Ends(_) => Todo::Answer,
-            Work::Open(open) => {
-                todo_open(open, &self.devices.list[open.device], &self.limits, now)
+    /// Returns the place of the first request for which something is to be done now, and what.
+    fn first_due(&self, now: u64) -> Option<(usize, Todo)>
+        ensures { IfSome result (λ due. due.0 < length self.now.requests.list.items) }
+    {
+        for (place, request) in self.requests.requests().iter().enumerate() {
+            let todo = match &request.work {
+                Work::Ends(_) => Todo::Answer,
+                Work::Open(open) => {
+                    let is_full = is_full(&self.asks, open.device);
+                    todo_open(open, is_full, &self.limits, now)
+                }
+            };
+            if todo != Todo::Nothing {
+                return Some((place, todo));
             }
         }
+        None
     }
 
     /// Answers the first message of the request at this place.
-    fn answer_at(&mut self, place: usize, now: u64, salt: [u8; 8]) -> Result<Sent, AllocError> {
+    fn answer_at(&mut self, place: usize, now: u64, salt: [u8; 8]) -> Result<Sent, AllocError>
+        requires { place < length self.old.requests.list.items }
+        ensures { IfOk result (λ sent. (before : List Happening) → GateStands before self.old
+            → SendHappens self.old before sent self.new) }
+    {
         let request = &self.requests.list[place];
-        let Work::Ends(ending) = &request.work else {
+        let number = request.number;
+        let said = said_of(&request.work);
+        let seconds = now / 1000;
+        let reply = replied(
+            self.alloc,
+            &mut self.agent,
+            request,
+            &self.limits,
+            seconds,
+            salt,
+        )?;
+        let Some(reply) = reply else {
             return Ok(Sent::Nothing);
         };
-        let number = request.number;
-        let message = &request.first;
-        let taken = message.kept.taken();
-        let sealing = Sealing {
-            seconds: now / 1000,
-            salt,
-            limit: limit_of(taken.level, taken.max_size, message.size, &self.limits),
-        };
-        let said = match ending {
-            Ending::Own(says) => Some(*says),
-            _ => None,
-        };
-        let reply = reply_to(self.alloc, &mut self.agent, message, ending, &sealing)?;
         let message = self.requests.answer(place);
-        if let (Some(digest), Some(says)) = (&message.digest, said) {
-            self.sets.tell(digest, says);
+        self.tell_set(&message, said);
+        Ok(sent_by(number, message.client, reply))
+    }
+
+    /// Remembers what the Response to a Set says.
+    fn tell_set(&mut self, message: &WaitingMessage, said: Option<ResponseStatus>)
+        ensures agent { self.new.agent ≡ self.old.agent }
+        ensures devices { self.new.devices ≡ self.old.devices }
+        ensures requests { self.new.requests ≡ self.old.requests }
+    {
+        if let Some(digest) = &message.digest {
+            if let Some(says) = said {
+                self.sets.tell(digest, says);
+            }
         }
-        Ok(match reply {
-            Reply::Sends(datagram) => Sent::ToClient {
-                number,
-                client: message.client,
-                datagram,
-            },
-            Reply::Nothing | Reply::SilentDrop => Sent::Unanswered { number, why: None },
-            Reply::Refused(why) => Sent::Unanswered {
-                number,
-                why: Some(why),
-            },
-        })
     }
 
     /// Asks the device for the request at this place, with this request-id or the next free one.
-    fn ask_at(&mut self, place: usize, now: u64, ask_id: u32) -> Result<Sent, AllocError> {
+    fn ask_at(&mut self, place: usize, now: u64, ask_id: u32) -> Result<Sent, AllocError>
+        requires place { place < length self.old.requests.list.items }
+        requires id { ask_id < REQUEST_IDS }
+        ensures { IfOk result (λ sent. (before : List Happening) → GateStands before self.old
+            → SendHappens self.old before sent self.new) }
+    {
         let request = &mut self.requests.list[place];
         let number = request.number;
         let Work::Open(open) = &mut request.work else {
             return Ok(Sent::Nothing);
         };
-        let device = &mut self.devices.list[open.device];
-        let id = device.asks.free_id(ask_id);
-        match written_ask(self.alloc, device, &open.task.task, &request.first, id)? {
-            Asking::By(datagram) => {
-                device.asks.ask(id, number)?;
-                open.timer.ask(now);
-                open.asked = Some(id);
-                Ok(Sent::ToDevice {
-                    number,
-                    device: open.device,
-                    datagram,
-                })
-            }
-            Asking::TooLong => {
-                request.work = Work::Ends(Ending::Own(ResponseStatus {
-                    status: TOO_BIG,
-                    index: 0,
-                }));
-                Ok(Sent::Nothing)
-            }
+        let device = open.device;
+        if device >= self.asks.len() || device >= self.devices.list.len() {
+            return Ok(Sent::Nothing);
         }
+        let id = self.asks[device].free_id(ask_id);
+        let datagram = ask_of(
+            self.alloc,
+            &self.devices.list[device],
+            &open.task,
+            &request.first,
+            id,
+        )?;
+        let Some(datagram) = datagram else {
+            request.work = Work::Ends(Ending::Own(ResponseStatus {
+                status: TOO_BIG,
+                index: 0,
+            }));
+            return Ok(Sent::Nothing);
+        };
+        self.asks[device].ask(id, number)?;
+        open.timer.ask(now);
+        open.asked = Some(id);
+        Ok(Sent::ToDevice {
+            number,
+            device,
+            datagram,
+        })
     }
 
     /// Asks the device the same again for the request at this place.
-    fn ask_again_at(&mut self, place: usize, now: u64, id: u32) -> Result<Sent, AllocError> {
+    fn ask_again_at(&mut self, place: usize, now: u64, id: u32) -> Result<Sent, AllocError>
+        requires place { place < length self.old.requests.list.items }
+        requires id { id < REQUEST_IDS }
+        ensures { IfOk result (λ sent. (before : List Happening) → GateStands before self.old
+            → SendHappens self.old before sent self.new) }
+    {
         let request = &mut self.requests.list[place];
         let number = request.number;
         let Work::Open(open) = &mut request.work else {
             return Ok(Sent::Nothing);
         };
-        let device = &self.devices.list[open.device];
-        match written_ask(self.alloc, device, &open.task.task, &request.first, id)? {
-            Asking::By(datagram) => {
-                open.timer.ask(now);
-                Ok(Sent::ToDevice {
-                    number,
-                    device: open.device,
-                    datagram,
-                })
-            }
-            Asking::TooLong => Ok(Sent::Nothing),
+        let device = open.device;
+        if device >= self.devices.list.len() {
+            return Ok(Sent::Nothing);
         }
+        let datagram = ask_of(
+            self.alloc,
+            &self.devices.list[device],
+            &open.task,
+            &request.first,
+            id,
+        )?;
+        let Some(datagram) = datagram else {
+            return Ok(Sent::Nothing);
+        };
+        open.timer.ask(now);
+        Ok(Sent::ToDevice {
+            number,
+            device,
+            datagram,
+        })
     }
 
     /// Gives up the request at this place. A Set that is given up isn't answered, since its device may have done it.
-    fn give_up_at(&mut self, place: usize) -> Sent {
+    fn give_up_at(&mut self, place: usize) -> Sent
+        requires { place < length self.old.requests.list.items }
+        ensures { (before : List Happening) → GateStands before self.old → SendHappens self.old before result self.new }
+    {
         let request = &mut self.requests.list[place];
         let number = request.number;
         let Work::Open(open) = &request.work else {
             return Sent::Nothing;
         };
         let device = open.device;
-        if let Some(id) = open.asked {
-            self.devices.list[device].asks.end(id);
-        }
-        let ending = match open.task.task {
-            Task::Read(_, _) | Task::Bulk(_, _) if self.limits.report_unreachable => {
-                Ending::Unhandled(Unhandled::UnavailableContexts)
-            }
-            _ => Ending::Silent,
+        let asked = open.asked;
+        let reports = self.limits.report_unreachable && !matches!(open.task.task, Task::Set);
+        let ending = if reports {
+            Ending::Unhandled(Unhandled::UnavailableContexts)
+        } else {
+            Ending::Silent
         };
         request.work = Work::Ends(ending);
+        self.end_ask(device, asked);
         Sent::GivenUp { number, device }
+    }
+
+    /// What a device is asked is given up.
+    fn end_ask(&mut self, device: usize, asked: Option<u32>)
+        ensures agent { self.new.agent ≡ self.old.agent }
+        ensures devices { self.new.devices ≡ self.old.devices }
+        ensures requests { self.new.requests ≡ self.old.requests }
+    {
+        if let Some(id) = asked {
+            if device < self.asks.len() {
+                self.asks[device].end(id);
+            }
+        }
     }
 }

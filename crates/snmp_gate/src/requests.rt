@@ -62,6 +62,13 @@ impl<M: Drop, W: Drop> WaitingRequests<M, W> {
         self.list.len() >= self.most
     }
 
+    /// Returns the number of the request that begins next.
+    pub fn next_number(&self) -> u64
+        ensures { result ≡ self.now.next }
+    {
+        self.next
+    }
+
     /// Returns the requests, in the order in which they began.
     pub fn requests(&self) -> &[WaitingRequest<M, W>]
         ensures { result.now ≡ self.now.list.items }
@@ -113,13 +120,6 @@ impl<M: Drop, W: Drop> WaitingRequests<M, W> {
         }
         request.others.push(message)?;
         Ok(Joined::Joined)
-    }
-
-    /// The message that joined the request at this place last leaves it: nothing is answered.
-    pub(crate) fn leave(&mut self, place: usize)
-        requires { place < length self.old.list.items }
-    {
-        self.list[place].others.pop();
     }
 
     /// Something becomes of the request at this place. What it was before is returned.

@@ -122,23 +122,28 @@ impl Gate {
     ) -> Result<ClientTaken, AllocError> {
         let digest = message.digest;
         if let Some(digest) = digest {
-            match self.sets.look(now, &digest) {
+            match self.sets.note(now, &digest)? {
                 SetNote::New => {}
                 SetNote::Repeated(_) => return Ok(ClientTaken::SetOfBefore),
                 SetNote::NoRoom => return Ok(ClientTaken::NoRoom),
             }
         }
         let number = self.requests.list[place].number;
-        if self.requests.join(place, message)? == Joined::NoRoom {
-            return Ok(ClientTaken::NoRoom);
-        }
-        if let Some(digest) = digest {
-            if let Err(none) = self.sets.note(now, &digest) {
-                self.requests.leave(place);
-                return Err(none);
+        match self.requests.join(place, message) {
+            Ok(Joined::Joined) => Ok(ClientTaken::Joins(number)),
+            Ok(Joined::NoRoom) => Ok(ClientTaken::NoRoom),
+            Err(none) => {
+                self.unnote(digest);
+                Err(none)
             }
         }
-        Ok(ClientTaken::Joins(number))
+    }
+
+    /// Forgets a Set that was just noted, and isn't asked.
+    fn unnote(&mut self, digest: Option<[u8; 32]>) {
+        if let Some(_) = digest {
+            self.sets.forget_last();
+        }
     }
 
     /// A message begins a request.
@@ -148,31 +153,41 @@ impl Gate {
         message: WaitingMessage,
         unhandled: Option<Unhandled>,
     ) -> Result<ClientTaken, AllocError> {
-        if self.requests.is_full() {
+        if self.requests.is_full() || self.requests.next_number() == u64::MAX {
             return Ok(ClientTaken::NoRoom);
         }
-        let work = match unhandled {
-            Some(why) => Work::Ends(Ending::Unhandled(why)),
-            None => match self.first_work(now, &message)? {
-                Some(work) => work,
-                None => return Ok(ClientTaken::SetOfBefore),
-            },
+        let Some(work) = self.first_work(now, &message, unhandled)? else {
+            return Ok(ClientTaken::SetOfBefore);
         };
         let noted = if asks_set(&work) { message.digest } else { None };
-        let number = self.requests.begin(self.alloc, message, work)?;
         if let Some(digest) = noted {
-            if let Err(none) = self.sets.note(now, &digest) {
-                let last = self.requests.requests().len() - 1;
-                self.requests.answer(last);
-                return Err(none);
+            self.sets.note(now, &digest)?;
+        }
+        match self.requests.begin(self.alloc, message, work) {
+            Ok(number) => Ok(ClientTaken::Begins(number)),
+            Err(none) => {
+                self.unnote(noted);
+                Err(none)
             }
         }
-        Ok(ClientTaken::Begins(number))
+    }
+
+    /// Returns what becomes of a request at first, which no application answers for this reason.
+    fn first_work(
+        &mut self,
+        now: u64,
+        message: &WaitingMessage,
+        unhandled: Option<Unhandled>,
+    ) -> Result<Option<Work>, AllocError> {
+        match unhandled {
+            Some(why) => Ok(Some(Work::Ends(Ending::Unhandled(why)))),
+            None => self.handled_work(now, message),
+        }
     }
 
     /// Returns what becomes of a request at first. None: it is a Set that came before, and what its device answered
     /// isn't known.
-    fn first_work(
+    fn handled_work(
         &mut self,
         now: u64,
         message: &WaitingMessage,

@@ -3,7 +3,7 @@
 use engine_clock::{Clocks, EngineId};
 use snmp_agent::Agent;
 use snmp_ber::{Level, Oid};
-use snmp_gate::{ClientTaken, Device, DeviceAsks, DeviceTaken, Devices, Gate, GateLimits, Sent};
+use snmp_gate::{ClientTaken, Device, DeviceTaken, Devices, Gate, GateLimits, Sent};
 use snmp_manager::{Manager, Pending};
 use snmp_msg::{Binding, PduType};
 use snmp_outgoing::Body;
@@ -40,7 +40,7 @@ fn gate(alloc: Global) -> Result<Gate, Fail> {
         max_size: 65_507,
         repetitions: 32,
         names: 100,
-        asks: DeviceAsks::new(alloc, 32),
+        at_once: 32,
     })?;
     let devices = Devices::new(list).map_err(|_| "one device")?;
     Ok(Gate::new(alloc, agent, devices, GateLimits::default()))

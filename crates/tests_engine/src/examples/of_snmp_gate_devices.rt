@@ -1,5 +1,5 @@
 //! `snmp_gate`: a contextName names one device.
-use snmp_gate::{Device, DeviceAsks, Devices, RepeatedContext};
+use snmp_gate::{Device, Devices, RepeatedContext};
 use std::alloc::{AllocError, Global};
 use std::test::Fail;
 
@@ -11,7 +11,7 @@ fn device(alloc: Global, context: &[u8]) -> Result<Device, AllocError> {
         max_size: 1472,
         repetitions: 32,
         names: 100,
-        asks: DeviceAsks::new(alloc, 32),
+        at_once: 32,
     })
 }
 
