@@ -6,6 +6,7 @@ use Rattle.vacm_core.specs.Tables.{Tables}
 use Rattle.snmp_gate.specs.Ends.{FailsOrGoesOn, IsEndFor}
 use Rattle.snmp_gate.specs.Taking.{WorkAfter}
 use Rattle.snmp_gate.specs.declared.work.OpenRequest.{OpenRequest}
+use Rattle.snmp_gate.specs.declared.work.Ending.{Ending}
 use Rattle.snmp_gate.specs.declared.work.Work.{Work}
 use Rattle.snmp_gate.specs.declared.work.Work.TheVariants as work
 use Rattle.snmp_gate.specs.declared.work.Work.TheVariants.{Open}
@@ -24,3 +25,6 @@ one_open w a b is also = let same : Open a ≡ Open b = sym is ∙ also in cc
 pub after_same : (tables : Tables) (q : Question) (told : List Variable) (a b : OpenRequest) (w : Work) → a.device ≡ b.device → WorkAfter tables q told a w → WorkAfter tables q told b w
 after_same tables q told a b (Open new) device after = (after.0, after.1 ∙ device, after.2)
 after_same tables q told a b (work.Ends e) device after = after
+
+pub never_open : (w : Work) (e : Ending) (o : OpenRequest) → w ≡ work.Ends e → w ≡ Open o → ⊥
+never_open w e o is also = let same : work.Ends e ≡ Open o = sym is ∙ also in cc

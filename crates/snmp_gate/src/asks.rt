@@ -83,7 +83,8 @@ impl DeviceAsks {
 
     /// Returns true if the device is asked as much as it may be asked at once.
     pub fn is_full(&self) -> bool
-        ensures { IsTrue result ↔ (self.now.at_once ≤ length self.now.asks.items) }
+        ensures full { IsTrue result ↔ (self.now.at_once ≤ length self.now.asks.items) }
+        ensures few { (IsTrue result → ⊥) → length self.now.asks.items < REQUEST_IDS }
     {
         self.asks.len() >= usize::from(self.at_once)
     }

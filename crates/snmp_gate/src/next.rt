@@ -6,7 +6,7 @@ ghost use Rattle.snmp_gate.specs.Question.{Question};
 ghost use Rattle.snmp_gate.specs.Messages.{question_in};
 ghost use Rattle.snmp_gate.specs.History.{Happening};
 ghost use Rattle.snmp_gate.specs.Replies.{SameAgent};
-ghost use Rattle.snmp_gate.specs.Sending.{IsSentBy, RepliesTo};
+ghost use Rattle.snmp_gate.specs.Sending.{IsAskedAt, IsGivenUp, IsOpenAt, IsSentBy, MayAskAt, RepliesTo, SetsAsked};
 ghost use Rattle.snmp_gate.specs.Waiting.{GateStands, SendHappens};
 
 use crate::ask::ask_of;
@@ -14,7 +14,7 @@ use crate::asks::{DeviceAsks, REQUEST_IDS};
 use crate::gate::{Gate, Sent};
 use crate::limits::GateLimits;
 use crate::reply::{Reply, Sealing, limit_of, reply_to};
-use crate::requests::WaitingRequest;
+use crate::requests::{WaitingRequest, WaitingRequests};
 use crate::retries::Retries;
 use crate::set_answer::{ResponseStatus, TOO_BIG};
 use crate::task::Task;
@@ -38,7 +38,7 @@ fn todo_open(open: &OpenRequest, is_full: bool, limits: &GateLimits, now: u64) -
     match open.timer.due(&retries, now) {
         Due::GiveUp => Todo::GiveUp,
         Due::AskAgain => match open.asked {
-            Some(id) => Todo::AskAgain(id),
+            Some(_) => Todo::AskAgain,
             None => Todo::Nothing,
         },
         Due::Nothing => match open.asked {
@@ -101,6 +101,41 @@ fn said_of(work: &Work) -> Option<ResponseStatus> {
     }
 }
 
+/// tooBig: a device can't be asked by a datagram that it takes.
+const TOO_LONG: Ending = Ending::Own(ResponseStatus {
+    status: TOO_BIG,
+    index: 0,
+});
+
+/// Returns true if a Set's device is asked.
+fn is_set_at(work: &Work) -> bool {
+    match work {
+        Work::Open(waiting) => matches!(waiting.task.task, Task::Set),
+        Work::Ends(_) => false,
+    }
+}
+
+/// The device is asked now with this request-id for the request at this place.
+fn set_asked(
+    requests: &mut WaitingRequests<WaitingMessage, Work>,
+    place: usize,
+    now: u64,
+    id: u32,
+)
+    requires { place < length requests.old.list.items }
+    ensures asked { SetsAsked requests.old.list.items place id requests.new.list.items }
+    ensures next { requests.new.next ≡ requests.old.next }
+{
+    let request = &mut requests.list[place];
+    match &mut request.work {
+        Work::Open(waiting) => {
+            waiting.timer.ask(now);
+            waiting.asked = Some(id);
+        }
+        Work::Ends(_) => {}
+    }
+}
+
 /// Returns what goes out, of what becomes of a message.
 fn sent_by(number: u64, client: Vec<u8>, reply: Reply) -> Sent
     ensures { IsSentBy number client reply result }
@@ -139,7 +174,7 @@ impl Gate {
             Todo::Nothing => Ok(Sent::Nothing),
             Todo::Answer => self.answer_at(place, now, salt),
             Todo::Ask => self.ask_at(place, now, ask_id % REQUEST_IDS),
-            Todo::AskAgain(id) => self.ask_again_at(place, now, id),
+            Todo::AskAgain => self.ask_again_at(place, now),
             Todo::GiveUp => Ok(self.give_up_at(place)),
         }
     }
@@ -219,6 +254,63 @@ impl Gate {
         }
     }
 
+    /// Returns the device of the request at this place, and the request's number, if its device is to be asked.
+    fn device_at(&self, place: usize) -> Option<(usize, u64)>
+        requires { place < length self.now.requests.list.items }
+        ensures { IfSome result (λ found. IsOpenAt self.now.requests.list.items place found.0 found.1
+            × (found.0 < length self.now.asks.items) × (found.0 < length self.now.devices.list.items)) }
+    {
+        let request = &self.requests.list[place];
+        let Work::Open(waiting) = &request.work else {
+            return None;
+        };
+        let device = waiting.device;
+        if device >= self.asks.len() || device >= self.devices.list.len() {
+            return None;
+        }
+        Some((device, request.number))
+    }
+
+    /// Returns the request-id with which the device is asked for the request at this place.
+    fn asked_at(&self, place: usize) -> Option<u32>
+        requires { place < length self.now.requests.list.items }
+        ensures { IfSome result (λ id. (id < REQUEST_IDS)
+            × IsAskedAt self.now.requests.list.items place id) }
+    {
+        let Work::Open(waiting) = &self.requests.list[place].work else {
+            return None;
+        };
+        let Some(id) = waiting.asked else {
+            return None;
+        };
+        if id >= REQUEST_IDS {
+            return None;
+        }
+        Some(id)
+    }
+
+    /// Returns the datagram that asks this device for the request at this place, if it can be asked.
+    fn datagram_at(
+        &self,
+        place: usize,
+        device: usize,
+        id: u32,
+    ) -> Result<Option<Vec<u8>>, AllocError>
+        requires place { place < length self.now.requests.list.items }
+        requires device { device < length self.now.devices.list.items }
+        requires id { id < REQUEST_IDS }
+        ensures { IfOk result (λ asked. IfSome asked
+            (MayAskAt self.now.agent.tables self.now.devices.list.items self.now.requests.list.items place device id)) }
+    {
+        let request = &self.requests.list[place];
+        let Work::Open(waiting) = &request.work else {
+            return Ok(None);
+        };
+        let device = &self.devices.list[device];
+        let datagram = ask_of(self.alloc, device, &waiting.task, &request.first, id)?;
+        Ok(datagram)
+    }
+
     /// Asks the device for the request at this place, with this request-id or the next free one.
     fn ask_at(&mut self, place: usize, now: u64, ask_id: u32) -> Result<Sent, AllocError>
         requires place { place < length self.old.requests.list.items }
@@ -226,33 +318,19 @@ impl Gate {
         ensures { IfOk result (λ sent. (before : List Happening) → GateStands before self.old
             → SendHappens self.old before sent self.new) }
     {
-        let request = &mut self.requests.list[place];
-        let number = request.number;
-        let Work::Open(open) = &mut request.work else {
+        let Some((device, number)) = self.device_at(place) else {
             return Ok(Sent::Nothing);
         };
-        let device = open.device;
-        if device >= self.asks.len() || device >= self.devices.list.len() {
+        if self.asks[device].is_full() {
             return Ok(Sent::Nothing);
         }
         let id = self.asks[device].free_id(ask_id);
-        let datagram = ask_of(
-            self.alloc,
-            &self.devices.list[device],
-            &open.task,
-            &request.first,
-            id,
-        )?;
-        let Some(datagram) = datagram else {
-            request.work = Work::Ends(Ending::Own(ResponseStatus {
-                status: TOO_BIG,
-                index: 0,
-            }));
+        let Some(datagram) = self.datagram_at(place, device, id)? else {
+            self.requests.work(place, Work::Ends(TOO_LONG));
             return Ok(Sent::Nothing);
         };
         self.asks[device].ask(id, number)?;
-        open.timer.ask(now);
-        open.asked = Some(id);
+        set_asked(&mut self.requests, place, now, id);
         Ok(Sent::ToDevice {
             number,
             device,
@@ -261,32 +339,21 @@ impl Gate {
     }
 
     /// Asks the device the same again for the request at this place.
-    fn ask_again_at(&mut self, place: usize, now: u64, id: u32) -> Result<Sent, AllocError>
-        requires place { place < length self.old.requests.list.items }
-        requires id { id < REQUEST_IDS }
+    fn ask_again_at(&mut self, place: usize, now: u64) -> Result<Sent, AllocError>
+        requires { place < length self.old.requests.list.items }
         ensures { IfOk result (λ sent. (before : List Happening) → GateStands before self.old
             → SendHappens self.old before sent self.new) }
     {
-        let request = &mut self.requests.list[place];
-        let number = request.number;
-        let Work::Open(open) = &mut request.work else {
+        let Some((device, number)) = self.device_at(place) else {
             return Ok(Sent::Nothing);
         };
-        let device = open.device;
-        if device >= self.devices.list.len() {
-            return Ok(Sent::Nothing);
-        }
-        let datagram = ask_of(
-            self.alloc,
-            &self.devices.list[device],
-            &open.task,
-            &request.first,
-            id,
-        )?;
-        let Some(datagram) = datagram else {
+        let Some(id) = self.asked_at(place) else {
             return Ok(Sent::Nothing);
         };
-        open.timer.ask(now);
+        let Some(datagram) = self.datagram_at(place, device, id)? else {
+            return Ok(Sent::Nothing);
+        };
+        set_asked(&mut self.requests, place, now, id);
         Ok(Sent::ToDevice {
             number,
             device,
@@ -294,25 +361,29 @@ impl Gate {
         })
     }
 
-    /// Gives up the request at this place. A Set that is given up isn't answered, since its device may have done it.
+    /// Returns how the request at this place ends that is given up. A Set isn't answered, since its device may have
+    /// done it.
+    fn given_up_at(&self, place: usize) -> Ending
+        requires { place < length self.now.requests.list.items }
+        ensures { IsGivenUp result }
+    {
+        if !self.limits.report_unreachable || is_set_at(&self.requests.list[place].work) {
+            return Ending::Silent;
+        }
+        Ending::Unhandled(Unhandled::UnavailableContexts)
+    }
+
+    /// Gives up the request at this place.
     fn give_up_at(&mut self, place: usize) -> Sent
         requires { place < length self.old.requests.list.items }
         ensures { (before : List Happening) → GateStands before self.old → SendHappens self.old before result self.new }
     {
-        let request = &mut self.requests.list[place];
-        let number = request.number;
-        let Work::Open(open) = &request.work else {
+        let Some((device, number)) = self.device_at(place) else {
             return Sent::Nothing;
         };
-        let device = open.device;
-        let asked = open.asked;
-        let reports = self.limits.report_unreachable && !matches!(open.task.task, Task::Set);
-        let ending = if reports {
-            Ending::Unhandled(Unhandled::UnavailableContexts)
-        } else {
-            Ending::Silent
-        };
-        request.work = Work::Ends(ending);
+        let asked = self.asked_at(place);
+        let ending = self.given_up_at(place);
+        self.requests.work(place, Work::Ends(ending));
         self.end_ask(device, asked);
         Sent::GivenUp { number, device }
     }

@@ -52,7 +52,7 @@ pub enum Todo {
     /// Its device is to be asked, with a new request-id.
     Ask,
     /// Its device is to be asked the same again, with the request-id that it was asked with.
-    AskAgain(u32),
+    AskAgain,
     /// It is to be given up.
     GiveUp,
 }
