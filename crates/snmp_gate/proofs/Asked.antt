@@ -18,7 +18,7 @@ pub one_question : (client : List ℕ) (g : Given) (c : Contexts) (p : PduParts)
 one_question client g c p q front text asked =
     let same : Some (question_with client g c p) ≡ Some q = sym (reads_question client g c p front text) ∙ asked in cc
 
-none_is_some : {B : Type 0} (b : B) → None ≡ Some b → ⊥
+pub none_is_some : {B : Type 0} (b : B) → None ≡ Some b → ⊥
 none_is_some b is = cc
 
 mapped : {A B : Type 0} (f : A → B) (o : Option A) (b : B) → option_map f o ≡ Some b → (a : A) × (f a ≡ b)

@@ -16,5 +16,7 @@ pub mod Sending
 pub mod Telling
 pub mod More
 pub mod Histories
+pub mod Granted
+pub mod Joining
 pub mod Endings
 pub mod AskingWell

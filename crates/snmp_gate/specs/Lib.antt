@@ -20,3 +20,5 @@ pub mod History
 pub mod Taking
 pub mod Waiting
 pub mod Sending
+pub mod Beginning
+pub mod SetBegins

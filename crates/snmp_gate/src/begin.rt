@@ -2,7 +2,7 @@
 
 ghost use Rattle.std.specs.Prelude.{◌≡◌, ◌≢◌, List, [], IfOk};
 ghost use Rattle.vacm_core.specs.Tables.{Tables};
-ghost use Rattle.snmp_msg.specs.PduTypes.{IsRead, pdu_tag};
+ghost use Rattle.snmp_msg.specs.PduTypes.{pdu_tag};
 ghost use Rattle.snmp_msg.specs.Variables.{Variable};
 ghost use Rattle.snmp_msg.specs.declared.pdu_type.PduType.TheVariants.{GetBulkRequest, GetRequest, GetNextRequest};
 ghost use Rattle.snmp_gate.specs.Question.{Question};
@@ -81,7 +81,7 @@ pub(crate) fn begin(
     bulk: &BulkLimits,
 ) -> Result<Onward, AllocError>
     ensures { IfOk result (λ onward. (tables : Tables) (q : Question) (told : List Variable)
-        → IsViewerOf tables q viewer.now → IsPduOf q pdu.now → IsRead q.tag
+        → IsViewerOf tables q viewer.now → IsPduOf q pdu.now
         → OnwardStands tables q told onward) }
 {
     let answers = answers_of(alloc, viewer, ViewType::Read, pdu)?;
@@ -94,5 +94,10 @@ pub(crate) fn begin(
     if pdu.tag == PduType::GetRequest.tag() {
         return begin_read(alloc, viewer, ReadOperation::Get, pdu, limits);
     }
-    begin_read(alloc, viewer, ReadOperation::GetNext, pdu, limits)
+    if pdu.tag == PduType::GetNextRequest.tag() {
+        return begin_read(alloc, viewer, ReadOperation::GetNext, pdu, limits);
+    }
+    Ok(Onward::Ends(Ending::Unhandled(
+        Unhandled::UnknownPduHandlers,
+    )))
 }

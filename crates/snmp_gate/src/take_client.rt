@@ -1,5 +1,20 @@
 //! What comes from clients.
 
+ghost use Rattle.std.specs.Prelude.{◌≡◌, ◌<◌, ◌⊎◌, ℕ, List, Some, None, length, IfOk, IfSome, MatchOption};
+ghost use Rattle.std.specs.List.{HoldsAt};
+ghost use Rattle.snmp_msg.specs.Variables.{Variable};
+ghost use Rattle.snmp_incoming.specs.Answers.{given_of};
+ghost use Rattle.snmp_gate.specs.Question.{Question};
+ghost use Rattle.snmp_gate.specs.Messages.{question_given, question_in};
+ghost use Rattle.snmp_gate.specs.Beginning.{BeginsWell, IsSet, MaySetAll, TakenIn};
+ghost use Rattle.snmp_gate.specs.Devices.{IsDeviceOf};
+ghost use Rattle.snmp_gate.specs.History.{Happening};
+ghost use Rattle.snmp_gate.specs.SetBegins.{SetStandsSo};
+ghost use Rattle.snmp_gate.specs.Waiting.{ClientHappens, GateStands};
+ghost use Rattle.snmp_gate.specs.Work.{EndingStands, OnwardStands};
+ghost use Rattle.snmp_gate.specs.declared.devices.Device.{Device as DeviceIs};
+ghost use Rattle.vacm_core.specs.Tables.{Tables};
+
 use crate::begin::{begin, ending_of};
 use crate::gate::{ClientTaken, Gate};
 use crate::limits::GateLimits;
@@ -11,7 +26,7 @@ use crate::requests::{Joined, WaitingRequest};
 use crate::set_answer::{NO_ACCESS, NO_ERROR, RESOURCE_UNAVAILABLE, ResponseStatus, TOO_BIG};
 use crate::sets::{SetNote, set_digest};
 use crate::timer::Timer;
-use crate::viewing::{answers_of, viewer_of};
+use crate::viewing::{answers_of, pdu_of, viewer_of};
 use crate::waiting_message::WaitingMessage;
 use crate::task::Task;
 use crate::work::{Ending, OpenRequest, Work};
@@ -20,13 +35,16 @@ use snmp_incoming::{Kept, Taken};
 use snmp_msg::{Pdu, PduType};
 use snmp_walk::BulkLimits;
 use std::alloc::{AllocError, Global};
-use vacm_core::ViewType;
+use vacm_core::{Vacm, ViewType};
 
 /// Returns the place of the request that a message asks again.
 fn place_of(
     requests: &[WaitingRequest<WaitingMessage, Work>],
     message: &WaitingMessage,
-) -> Option<usize> {
+) -> Option<usize>
+    ensures { IfSome result (λ place. (place < length requests.now)
+        × HoldsAt (λ r. question_in r.first ≡ question_in message.now) requests.now place) }
+{
     for (place, request) in requests.iter().enumerate() {
         if request.first.asks_again(message) {
             return Some(place);
@@ -36,12 +54,18 @@ fn place_of(
 }
 
 /// Returns the end of a request by a Response with this status, and the request's own bindings.
-fn own(status: i32, index: i32) -> Ending {
+fn own(status: i32, index: i32) -> Ending
+    ensures { (tables : Tables) (q : Question) (told : List Variable) → IsSet q → EndingStands tables q told result }
+{
     Ending::Own(ResponseStatus { status, index })
 }
 
 /// Returns what becomes of a request that goes on so, and which came now.
-fn work_of(device: usize, now: u64, onward: Onward) -> Work {
+fn work_of(device: usize, now: u64, onward: Onward) -> Work
+    ensures { (tables : Tables) (devices : List DeviceIs) (q : Question)
+        → ((told : List Variable) → OnwardStands tables q told onward) → IsDeviceOf devices q.context device
+        → BeginsWell tables devices q result }
+{
     match onward {
         Onward::Asks(task) => Work::Open(OpenRequest {
             device,
@@ -58,6 +82,43 @@ fn asks_set(work: &Work) -> bool {
     match work {
         Work::Open(open) => matches!(open.task.task, Task::Set),
         Work::Ends(_) => false,
+    }
+}
+
+/// What the tables say of a Set.
+#[derive(Drop)]
+struct SetAccess {
+    /// Its end, if one of its variables may not be set.
+    refused: Option<Ending>,
+    /// How many variables it sets.
+    bindings: usize,
+}
+
+/// Returns what the tables say of a Set by this message. The error is out of memory.
+fn set_access(
+    alloc: Global,
+    tables: &Vacm,
+    message: &WaitingMessage,
+) -> Result<SetAccess, AllocError>
+    ensures ends { IfOk result (λ access. IfSome access.refused (λ ending. (q : Question) (told : List Variable)
+        → EndingStands tables.now q told ending)) }
+    ensures may { IfOk result (λ access. (access.refused ≡ None) → (q : Question)
+        → question_in message.now ≡ Some q → IsSet q → MaySetAll tables.now q) }
+{
+    let taken = message.kept.taken();
+    let viewer = viewer_of(tables, &taken);
+    let pdu = pdu_of(&taken);
+    let answers = answers_of(alloc, &viewer, ViewType::Write, &pdu)?;
+    let bindings = answers.len();
+    match access_refusal(&answers, pdu.tag) {
+        Some(refusal) => Ok(SetAccess {
+            refused: Some(ending_of(refusal)),
+            bindings,
+        }),
+        None => Ok(SetAccess {
+            refused: None,
+            bindings,
+        }),
     }
 }
 
@@ -78,7 +139,10 @@ impl Gate {
         now: u64,
         client: &[u8],
         datagram: &[u8],
-    ) -> Result<ClientTaken, AllocError> {
+    ) -> Result<ClientTaken, AllocError>
+        ensures { IfOk result (λ taken. (before : List Happening) → GateStands before self.old
+            → ClientHappens self.old before now client.now datagram.now taken self.new) }
+    {
         let taken = match self.agent.take(now / 1000, datagram) {
             Ok(taken) => taken,
             Err(refused) if refused.why.is_memory() => return Err(AllocError),
@@ -99,7 +163,9 @@ impl Gate {
         datagram: &[u8],
         taken: Taken<'_>,
         is_handled: bool,
-    ) -> Result<WaitingMessage, AllocError> {
+    ) -> Result<WaitingMessage, AllocError>
+        ensures { IfOk result (λ m. (m.client.items ≡ client.now) × (m.kept ≡ given_of taken.entry)) }
+    {
         let digest = if is_handled && taken.tag == PduType::SetRequest.tag() {
             Some(set_digest(datagram))
         } else {
@@ -119,14 +185,17 @@ impl Gate {
         now: u64,
         place: usize,
         message: WaitingMessage,
-    ) -> Result<ClientTaken, AllocError> {
+    ) -> Result<ClientTaken, AllocError>
+        requires place { place < length self.old.requests.list.items }
+        requires same { HoldsAt (λ r. question_in r.first ≡ question_in message) self.old.requests.list.items place }
+        ensures { IfOk result (λ taken. (before : List Happening) (at : ℕ) (datagram : List ℕ)
+            → GateStands before self.old → TakenIn before at datagram message taken self.new) }
+    {
         let digest = message.digest;
-        if let Some(digest) = digest {
-            match self.sets.note(now, &digest)? {
-                SetNote::New => {}
-                SetNote::Repeated(_) => return Ok(ClientTaken::SetOfBefore),
-                SetNote::NoRoom => return Ok(ClientTaken::NoRoom),
-            }
+        match self.noted_again(now, digest)? {
+            SetNote::New => {}
+            SetNote::Repeated(_) => return Ok(ClientTaken::SetOfBefore),
+            SetNote::NoRoom => return Ok(ClientTaken::NoRoom),
         }
         let number = self.requests.list[place].number;
         match self.requests.join(place, message) {
@@ -139,8 +208,24 @@ impl Gate {
         }
     }
 
+    /// Notes a datagram that asks again what waits, if it is of a Set, and returns what it is then.
+    fn noted_again(&mut self, now: u64, digest: Option<[u8; 32]>) -> Result<SetNote, AllocError>
+        ensures agent { self.new.agent ≡ self.old.agent }
+        ensures devices { self.new.devices ≡ self.old.devices }
+        ensures requests { self.new.requests ≡ self.old.requests }
+    {
+        match digest {
+            Some(digest) => self.sets.note(now, &digest),
+            None => Ok(SetNote::New),
+        }
+    }
+
     /// Forgets a Set that was just noted, and isn't asked.
-    fn unnote(&mut self, digest: Option<[u8; 32]>) {
+    fn unnote(&mut self, digest: Option<[u8; 32]>)
+        ensures agent { self.new.agent ≡ self.old.agent }
+        ensures devices { self.new.devices ≡ self.old.devices }
+        ensures requests { self.new.requests ≡ self.old.requests }
+    {
         if let Some(_) = digest {
             self.sets.forget_last();
         }
@@ -152,7 +237,11 @@ impl Gate {
         now: u64,
         message: WaitingMessage,
         unhandled: Option<Unhandled>,
-    ) -> Result<ClientTaken, AllocError> {
+    ) -> Result<ClientTaken, AllocError>
+        requires { (q : Question) × (question_in message ≡ Some q) }
+        ensures { IfOk result (λ taken. (before : List Happening) (at : ℕ) (datagram : List ℕ)
+            → GateStands before self.old → TakenIn before at datagram message taken self.new) }
+    {
         if self.requests.is_full() || self.requests.next_number() == u64::MAX {
             return Ok(ClientTaken::NoRoom);
         }
@@ -178,7 +267,14 @@ impl Gate {
         now: u64,
         message: &WaitingMessage,
         unhandled: Option<Unhandled>,
-    ) -> Result<Option<Work>, AllocError> {
+    ) -> Result<Option<Work>, AllocError>
+        ensures begins { IfOk result (λ begins. IfSome begins (λ work. (q : Question)
+            → question_in message.now ≡ Some q
+            → BeginsWell self.old.agent.tables self.old.devices.list.items q work)) }
+        ensures agent { self.new.agent ≡ self.old.agent }
+        ensures devices { self.new.devices ≡ self.old.devices }
+        ensures requests { self.new.requests ≡ self.old.requests }
+    {
         match unhandled {
             Some(why) => Ok(Some(Work::Ends(Ending::Unhandled(why)))),
             None => self.handled_work(now, message),
@@ -191,25 +287,38 @@ impl Gate {
         &mut self,
         now: u64,
         message: &WaitingMessage,
-    ) -> Result<Option<Work>, AllocError> {
+    ) -> Result<Option<Work>, AllocError>
+        ensures begins { IfOk result (λ begins. IfSome begins (λ work. (q : Question)
+            → question_in message.now ≡ Some q
+            → BeginsWell self.old.agent.tables self.old.devices.list.items q work)) }
+        ensures agent { self.new.agent ≡ self.old.agent }
+        ensures devices { self.new.devices ≡ self.old.devices }
+        ensures requests { self.new.requests ≡ self.old.requests }
+    {
         let taken = message.kept.taken();
         let Some(device) = self.devices.find(taken.scoped().name) else {
             return Ok(Some(Work::Ends(Ending::Unhandled(
                 Unhandled::UnknownContexts,
             ))));
         };
-        let onward = match message.digest {
-            Some(digest) => match self.begin_set(now, device, &digest, message)? {
-                SetBegins::Onward(onward) => onward,
-                SetBegins::Unknown => return Ok(None),
-            },
-            None => self.begin_read(device, &taken)?,
-        };
-        Ok(Some(work_of(device, now, onward)))
+        if pdu_of(&taken).tag != PduType::SetRequest.tag() {
+            let onward = self.begin_read(device, &taken)?;
+            let work = work_of(device, now, onward);
+            return Ok(Some(work));
+        }
+        match self.begin_set(now, device, message)? {
+            SetBegins::Onward(onward) => Ok(Some(work_of(device, now, onward))),
+            SetBegins::Unknown => Ok(None),
+        }
     }
 
     /// Returns how a request for values begins.
-    fn begin_read(&self, device: usize, taken: &Taken<'_>) -> Result<Onward, AllocError> {
+    fn begin_read(&self, device: usize, taken: &Taken<'_>) -> Result<Onward, AllocError>
+        requires { device < length self.now.devices.list.items }
+        ensures { IfOk result (λ onward. (client : List ℕ) (q : Question) (told : List Variable)
+            → question_given client (given_of taken.now) ≡ Some q
+            → OnwardStands self.now.agent.tables q told onward) }
+    {
         let device = &self.devices.list[device];
         let bulk = BulkLimits {
             rounds: self.limits.rounds,
@@ -218,35 +327,62 @@ impl Gate {
             gathered: self.limits.gathered,
         };
         let viewer = viewer_of(self.agent.tables(), taken);
-        begin(self.alloc, &viewer, &taken.pdu(), &self.limits, &bulk)
+        begin(self.alloc, &viewer, &pdu_of(taken), &self.limits, &bulk)
     }
 
-    /// Returns how a Set begins whose datagram has this digest.
+    /// Returns how a Set begins.
     fn begin_set(
         &mut self,
         now: u64,
         device: usize,
-        digest: &[u8; 32],
         message: &WaitingMessage,
-    ) -> Result<SetBegins, AllocError> {
-        let note = self.sets.look(now, digest);
+    ) -> Result<SetBegins, AllocError>
+        requires { device < length self.old.devices.list.items }
+        ensures begins { IfOk result (λ begins. (q : Question) → question_in message.now ≡ Some q → IsSet q
+            → SetStandsSo self.old.agent.tables q begins) }
+        ensures agent { self.new.agent ≡ self.old.agent }
+        ensures devices { self.new.devices ≡ self.old.devices }
+        ensures requests { self.new.requests ≡ self.old.requests }
+    {
+        let Some(digest) = message.digest else {
+            return Ok(SetBegins::Unknown);
+        };
+        let note = self.sets.look(now, &digest);
         match note {
-            SetNote::Repeated(Some(says)) => {
-                return Ok(SetBegins::Onward(Onward::Ends(Ending::Own(says))));
-            }
-            SetNote::Repeated(None) => return Ok(SetBegins::Unknown),
-            SetNote::New | SetNote::NoRoom => {}
+            SetNote::Repeated(Some(says)) => Ok(SetBegins::Onward(Onward::Ends(Ending::Own(says)))),
+            SetNote::Repeated(None) => Ok(SetBegins::Unknown),
+            SetNote::New => self.begin_new_set(now, device, message, false),
+            SetNote::NoRoom => self.begin_new_set(now, device, message, true),
         }
+    }
+
+    /// Returns how a Set begins that didn't come before.
+    fn begin_new_set(
+        &mut self,
+        now: u64,
+        device: usize,
+        message: &WaitingMessage,
+        is_full: bool,
+    ) -> Result<SetBegins, AllocError>
+        requires { device < length self.old.devices.list.items }
+        ensures begins { IfOk result (λ begins. (q : Question) → question_in message.now ≡ Some q → IsSet q
+            → SetStandsSo self.old.agent.tables q begins) }
+        ensures agent { self.new.agent ≡ self.old.agent }
+        ensures devices { self.new.devices ≡ self.old.devices }
+        ensures requests { self.new.requests ≡ self.old.requests }
+    {
         if let Some(ending) = self.refused_set(now, device, message)? {
             return Ok(SetBegins::Onward(Onward::Ends(ending)));
         }
-        if note == SetNote::NoRoom {
+        if is_full {
             return Ok(SetBegins::Onward(Onward::Ends(own(
                 RESOURCE_UNAVAILABLE,
                 0,
             ))));
         }
-        Ok(SetBegins::Onward(Onward::Asks(NamedTask { task: Task::Set })))
+        Ok(SetBegins::Onward(Onward::Asks(NamedTask {
+            task: Task::Set,
+        })))
     }
 
     /// Returns the end of a Set that isn't asked of its device, whatever is remembered.
@@ -255,13 +391,20 @@ impl Gate {
         now: u64,
         device: usize,
         message: &WaitingMessage,
-    ) -> Result<Option<Ending>, AllocError> {
-        let taken = message.kept.taken();
-        let viewer = viewer_of(self.agent.tables(), &taken);
-        let pdu = taken.pdu();
-        let answers = answers_of(self.alloc, &viewer, ViewType::Write, &pdu)?;
-        if let Some(refusal) = access_refusal(&answers, pdu.tag) {
-            return Ok(Some(ending_of(refusal)));
+    ) -> Result<Option<Ending>, AllocError>
+        requires { device < length self.old.devices.list.items }
+        ensures ends { IfOk result (λ refused. IfSome refused (λ ending. (q : Question) (told : List Variable)
+            → IsSet q → EndingStands self.old.agent.tables q told ending)) }
+        ensures may { IfOk result (λ refused. (refused ≡ None) → (q : Question)
+            → question_in message.now ≡ Some q → IsSet q → MaySetAll self.old.agent.tables q) }
+        ensures agent { self.new.agent ≡ self.old.agent }
+        ensures devices { self.new.devices ≡ self.old.devices }
+        ensures requests { self.new.requests ≡ self.old.requests }
+    {
+        let SetAccess { refused, bindings } =
+            set_access(self.alloc, self.agent.tables(), message)?;
+        if let Some(ending) = refused {
+            return Ok(Some(ending));
         }
         if !fits_client(
             self.alloc,
@@ -272,7 +415,7 @@ impl Gate {
         )? {
             return Ok(Some(own(TOO_BIG, 0)));
         }
-        if answers.is_empty() {
+        if bindings == 0 {
             return Ok(Some(own(NO_ERROR, 0)));
         }
         if self.devices.list[device].write_community.is_none() {

@@ -1,0 +1,13 @@
+use Rattle.std.specs.Prelude.{IfSome, List, Option}
+use Rattle.std.proofs.Common.{subst}
+use Rattle.snmp_msg.specs.Variables.{Variable}
+use Rattle.vacm_core.specs.Tables.{Tables}
+use Rattle.snmp_gate.specs.Question.{Question}
+use Rattle.snmp_gate.specs.Work.{EndingStands}
+use Rattle.snmp_gate.specs.declared.work.Ending.{Ending}
+use Rattle.snmp_gate.proofs.gate.Gate.refused_set.Goals as goal
+
+pub returns-in-Some-clause-ends : goal.returns-in-Some-clause-ends
+returns-in-Some-clause-ends c q told set =
+    subst (λ (tables : Tables). EndingStands tables q told c.in-Some.ending) c.tables.ensures
+    ((rw c.in-Some.is at c.in_ok-refused.ensures.ends) q told)

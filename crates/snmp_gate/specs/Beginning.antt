@@ -1,0 +1,39 @@
+-- How a request begins at a gateway.
+--
+-- `BeginsWell`: what is known of a request at first. `MaySetAll`: each variable of a SetRequest may be set. `TakenIn`:
+-- what a gateway is behind a message.
+use Rattle.std.specs.Prelude.{◌≡◌, ℕ, List, ◌∷◌, All, None}
+use Rattle.snmp_msg.specs.PduTypes.{pdu_tag}
+use Rattle.snmp_msg.specs.Variables.{Variable, variables_of}
+use Rattle.snmp_msg.specs.declared.pdu_type.PduType.TheVariants.{SetRequest}
+use Rattle.vacm_core.specs.Tables.{Tables}
+use Rattle.snmp_gate.specs.Devices.{IsDeviceOf}
+use Rattle.snmp_gate.specs.History.{Happening, accepted}
+use Rattle.snmp_gate.specs.Messages.{set_in}
+use Rattle.snmp_gate.specs.Question.{Question}
+use Rattle.snmp_gate.specs.Waiting.{GateStands}
+use Rattle.snmp_gate.specs.Work.{EndingStands, TaskStands}
+use Rattle.snmp_gate.specs.declared.devices.Device.{Device}
+use Rattle.snmp_gate.specs.declared.gate.ClientTaken.{ClientTaken}
+use Rattle.snmp_gate.specs.declared.gate.ClientTaken.TheVariants as client
+use Rattle.snmp_gate.specs.declared.gate.Gate.{Gate}
+use Rattle.snmp_gate.specs.declared.waiting_message.WaitingMessage.{WaitingMessage}
+use Rattle.snmp_gate.specs.declared.work.Work.{Work}
+use Rattle.snmp_gate.specs.declared.work.Work.TheVariants.{Open, Ends}
+
+-- whatever was told: the device of its context is to be asked, or it ends
+abbrev pub BeginsWell : Tables → List Device → Question → Work → Type 0
+BeginsWell tables devices q (Open o) = ((told : List Variable) → TaskStands tables q told o.task.task)
+    × IsDeviceOf devices q.context o.device × (o.asked ≡ None)
+BeginsWell tables devices q (Ends e) = (told : List Variable) → EndingStands tables q told e
+
+abbrev pub MaySetAll : Tables → Question → Type 0
+MaySetAll tables q = All (λ (v : Variable). set_in tables q v.name) (variables_of q.list)
+
+abbrev pub IsSet : Question → Type 0
+IsSet q = q.tag ≡ pdu_tag SetRequest
+
+abbrev pub TakenIn : List Happening → ℕ → List ℕ → WaitingMessage → ClientTaken → Gate → Type 0
+TakenIn before now datagram m (client.Begins n) new = GateStands (accepted n now datagram m ∷ before) new
+TakenIn before now datagram m (client.Joins n) new = GateStands (accepted n now datagram m ∷ before) new
+TakenIn before now datagram m _ new = GateStands before new
