@@ -18,5 +18,6 @@ pub mod More
 pub mod Histories
 pub mod Granted
 pub mod Joining
+pub mod Coming
 pub mod Endings
 pub mod AskingWell

@@ -30,9 +30,9 @@ use crate::viewing::{answers_of, pdu_of, viewer_of};
 use crate::waiting_message::WaitingMessage;
 use crate::task::Task;
 use crate::work::{Ending, OpenRequest, Work};
-use snmp_agent::{Agent, Unhandled};
+use snmp_agent::Unhandled;
 use snmp_incoming::{Kept, Taken};
-use snmp_msg::{Pdu, PduType};
+use snmp_msg::PduType;
 use snmp_walk::BulkLimits;
 use std::alloc::{AllocError, Global};
 use vacm_core::{Vacm, ViewType};
@@ -164,9 +164,11 @@ impl Gate {
         taken: Taken<'_>,
         is_handled: bool,
     ) -> Result<WaitingMessage, AllocError>
-        ensures { IfOk result (λ m. (m.client.items ≡ client.now) × (m.kept ≡ given_of taken.entry)) }
+        ensures is { IfOk result (λ m. (m.client.items ≡ client.now) × (m.kept ≡ given_of taken.entry)) }
+        ensures asks { IfOk result (λ m. (q : Question) × (question_in m ≡ Some q)) }
     {
-        let digest = if is_handled && taken.tag == PduType::SetRequest.tag() {
+        let pdu = pdu_of(&taken);
+        let digest = if is_handled && pdu.tag == PduType::SetRequest.tag() {
             Some(set_digest(datagram))
         } else {
             None
@@ -248,10 +250,7 @@ impl Gate {
         let Some(work) = self.first_work(now, &message, unhandled)? else {
             return Ok(ClientTaken::SetOfBefore);
         };
-        let noted = if asks_set(&work) { message.digest } else { None };
-        if let Some(digest) = noted {
-            self.sets.note(now, &digest)?;
-        }
+        let noted = self.noted(now, &work, message.digest)?;
         match self.requests.begin(self.alloc, message, work) {
             Ok(number) => Ok(ClientTaken::Begins(number)),
             Err(none) => {
@@ -259,6 +258,26 @@ impl Gate {
                 Err(none)
             }
         }
+    }
+
+    /// Notes a Set whose device is to be asked, and returns its digest if it is one.
+    fn noted(
+        &mut self,
+        now: u64,
+        work: &Work,
+        digest: Option<[u8; 32]>,
+    ) -> Result<Option<[u8; 32]>, AllocError>
+        ensures agent { self.new.agent ≡ self.old.agent }
+        ensures devices { self.new.devices ≡ self.old.devices }
+        ensures requests { self.new.requests ≡ self.old.requests }
+    {
+        if !asks_set(work) {
+            return Ok(None);
+        }
+        if let Some(digest) = digest {
+            self.sets.note(now, &digest)?;
+        }
+        Ok(digest)
     }
 
     /// Returns what becomes of a request at first, which no application answers for this reason.

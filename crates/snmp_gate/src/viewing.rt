@@ -31,6 +31,7 @@ pub(crate) fn viewer_of<'a>(tables: &'a Vacm, taken: &'a Taken<'_>) -> Viewer<'a
 pub(crate) fn pdu_of<'a>(taken: &'a Taken<'_>) -> Pdu<'a>
     ensures asked { (client : List ℕ) (q : Question) → question_given client (given_of taken.now) ≡ Some q
         → IsPduOf q result }
+    ensures asks { (client : List ℕ) → (q : Question) × (question_given client (given_of taken.now) ≡ Some q) }
     ensures bindings { (vs : List Variable) × AreBindings vs result.list.now }
 {
     let _scoped = taken.scoped();
