@@ -2,8 +2,8 @@
 --
 -- `begun`: an exchange as a datagram begins it. `IsWaiting`, `WaitsAt`: at a place an exchange waits. `Ends`: it
 -- ends, by an answer or without one. `HandsOver`: a request that was sent again counts instead of the first.
--- `Step`, `HasRun`: the steps, and runs of them. `Takes`, `TakesBy`: a run that takes exactly these datagrams, or begins
--- with this step. `IsMadeBy`: what an exchange holds is what the steps gave to it.
+-- `Step`, `HasRun`: the steps, and runs of them. `Takes`, `TakesBy`: a run that takes exactly these datagrams, or that
+-- begins with this step. `IsMadeBy`: what an exchange holds is what the steps gave to it.
 use Rattle.std.specs.Prelude.{◌≡◌, ◌≢◌, ◌⊎◌, Option, Some, None, ◌+◌, ◌++◌, ℕ, List, [], ◌∷◌, Bool, true, false, length}
 use Rattle.std.specs.Prelude.{◌^◌, ◌-◌, ◌<◌, slice_index_or, slice_set, cond, min, nat_eq}
 use Rattle.std.specs.List.{Contains, count_by, sum_by}
@@ -158,7 +158,9 @@ module _ {K Q A : Type 0} where
   times_in n list = sum_by (λ e. times n (datagrams_of e)) list
 
 -- What becomes of exchanges. `begins`: a datagram is the first of a new one. `answers`: a datagram answers the one at
--- this place, which waits for an answer to this. `ends`: the one at this place ends without an answer. `finishes`: the first is taken out.
+-- this place, which waits for an answer to this. `ends`: the one at this place ends without an answer.
+-- `hands_over`: the one at `first` was sent again as that at this place, which counts instead. `finishes`: the
+-- first is taken out.
 pub data Step (K Q A : Type 0) : Type 0 where
   begins : (number : ℕ) (first : Q) (counts : Bool) (ending : Ending K A) → Step K Q A
   answers : (place by : ℕ) (asked : K) (answer : A) → Step K Q A
@@ -215,7 +217,8 @@ module _ {K Q A : Type 0} where
 module _ {K Q A : Type 0} where
   -- by this step, and then by some that take no datagram; none of them takes an exchange out
   abbrev pub TakesBy : Step K Q A → ℕ → List (Exchange K Q A) → List (Exchange K Q A) → Type 0
-  TakesBy step gone old new = (steps : List (Step K Q A)) × (taken_by steps ≡ []) × HasRun gone old (step ∷ steps) [] new
+  TakesBy step gone old new =
+      (steps : List (Step K Q A)) × (taken_by steps ≡ []) × HasRun gone old (step ∷ steps) [] new
 
   -- An answer to what was asked: the exchange that waited at this place asked the same.
   abbrev pub AnswersAt : (K → K → Bool) → ℕ → List (Exchange K Q A) → List (Exchange K Q A) → K → ℕ → A → ℕ → Type 0

@@ -51,8 +51,8 @@ impl<K: Drop, Q: Drop, A: Drop> Exchange<K, Q, A> {
     {
         match &self.ending {
             Ending::Waits(held) => held == asked,
-            Ending::Alone | Ending::Answered { .. } | Ending::SentAgain(_) => false,
-            Ending::NoAnswer | Ending::NotFollowed => false,
+            Ending::Answered { .. } | Ending::SentAgain(_) => false,
+            Ending::Alone | Ending::NoAnswer | Ending::NotFollowed => false,
         }
     }
 }

@@ -7,7 +7,8 @@ ghost use Rattle.diagnose_exchanges.specs.declared.exchange.Exchange.{Exchange a
 ghost use Rattle.std.specs.VecDeque.{deque_len};
 ghost use Rattle.std.specs.HashMap.{IsEmpty, IsUnchanged, Updates, get};
 ghost use Rattle.diagnose_exchanges.specs.Exchanges.{Ends, Forgets, HandsOver, IsUncounted, IsWaiting, WaitsAt};
-ghost use Rattle.diagnose_exchanges.specs.Exchanges.{AnswersAt, AsksAt, IsAsking, LeavesEarlier, Takes, TakesBy, begins};
+ghost use Rattle.diagnose_exchanges.specs.Exchanges.{AnswersAt, AsksAt, IsAsking, LeavesEarlier, Takes, TakesBy};
+ghost use Rattle.diagnose_exchanges.specs.Exchanges.{begins};
 ghost use Rattle.diagnose_exchanges.specs.Exchanges.{begun, counting};
 ghost use Rattle.diagnose_exchanges.specs.Exchanges.{exchanges_limit, is_waiting, place_after, resent, waits};
 ghost use Rattle.diagnose_exchanges.specs.declared.exchange.Ending.TheVariants.{Waits, Alone};

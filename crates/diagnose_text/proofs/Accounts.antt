@@ -1,11 +1,11 @@
 -- What is printed from the beginning on.
-use Rattle.std.proofs.Common.{◌≡◌, ◌∙◌, ◌++◌, ◌+◌, ℕ, List, [], ap, map, sym, subst, arith}
+use Rattle.std.proofs.Common.{◌≡◌, ◌++◌, ℕ, List, [], ap, sym, subst, arith}
 use Rattle.std.proofs.lemmas.List.Elements.{All-weaker}
 use Rattle.diagnose_exchanges.proofs.Made.{made_from_none}
 use Rattle.diagnose_exchanges.proofs.Runs.{each_once}
-use Rattle.diagnose_exchanges.specs.Exchanges.{HasRun, IsMadeBy, taken_by, times}
+use Rattle.diagnose_exchanges.specs.Exchanges.{HasRun, IsMadeBy, times}
 use Rattle.diagnose_text.proofs.Owns.{holds}
-use Rattle.diagnose_text.specs.Datagrams.{HoldsItsOwn, Seen, number_seen}
+use Rattle.diagnose_text.specs.Datagrams.{HoldsItsOwn, Seen}
 use Rattle.diagnose_text.specs.Printing.{ArePrinted, IsAccount, Writes}
 use Rattle.diagnose_text.specs.declared.diagnoser.Diagnoser.{Diagnoser}
 

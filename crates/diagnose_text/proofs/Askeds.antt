@@ -1,5 +1,5 @@
 -- What `==` says of what was asked.
-use Rattle.std.proofs.Common.{◌≡◌, ◌&&◌, Bool, true, false, eqb, arith, rules}
+use Rattle.std.proofs.Common.{◌≡◌, ◌&&◌, true, eqb, arith, rules}
 use Rattle.std.proofs.lemmas.Grind.{common_steps}
 use Rattle.std.specs.Option.{option_eq}
 use Rattle.capture_files.specs.contracts.endpoints.RoutePartialEq.TheImpl.{eq-value}

@@ -1,5 +1,5 @@
 -- What a follower does with a datagram, by what the functions that it calls do.
-use Rattle.std.proofs.Common.{◌≡◌, ◌∙◌, ℕ, List, [], Bool, true, false, Option, Some, None, Result, Ok, Err, OnOk, ap, is_some, refl, subst, sym}
+use Rattle.std.proofs.Common.{◌≡◌, ◌∙◌, ℕ, List, Bool, true, false, Option, Some, None, Result, Ok, Err, OnOk, ap, is_some, refl, subst, sym}
 use Rattle.diagnose_exchanges.specs.declared.asked.Asked.{Asked}
 use Rattle.diagnose_exchanges.specs.declared.exchange.Ending.TheVariants.{Alone, Waits}
 use Rattle.diagnose_exchanges.specs.declared.exchange.Ending.{Ending}

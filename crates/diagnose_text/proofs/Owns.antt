@@ -1,6 +1,6 @@
 -- The steps that datagrams make, one after another.
-use Rattle.std.proofs.Common.{◌≡◌, ◌≢◌, ◌⊎◌, ◌∙◌, ◌++◌, ℕ, Bool, List, [], ◌∷◌, Option, Some, None, ap, inl, inr, lit<, refl, sym, subst}
-use Rattle.std.specs.List.{All, Contains}
+use Rattle.std.proofs.Common.{◌≡◌, ◌∙◌, ◌++◌, ℕ, List, [], ◌∷◌, Option, Some, None, ap, inl, inr, lit<, refl}
+use Rattle.std.specs.List.{All}
 use Rattle.std.proofs.lemmas.List.Elements.{All-append, All-cons, All-contains, All-nil, All-weaker, Contains-append_left, Contains-append_right}
 use Rattle.diagnose_exchanges.specs.declared.asked.Asked.{Asked}
 use Rattle.diagnose_exchanges.specs.declared.exchange.Ending.{Ending}

@@ -1,5 +1,5 @@
 -- Lines of the summary.
-use Rattle.std.proofs.Common.{◌≡◌, ◌∙◌, ◌++◌, ℕ, List, [], Result, Ok, Err, OnOk, ap, codes, refl}
+use Rattle.std.proofs.Common.{◌≡◌, ◌∙◌, ◌++◌, ℕ, List, Result, Ok, Err, OnOk, ap, codes, refl}
 use Rattle.std.proofs.lemmas.List.{append_assoc}
 use Rattle.diagnose_text.specs.Summary.{IsAgentText, IsEngineLine, IsUserLine, engine_text, user_line}
 use Rattle.diagnose_text.specs.Words.{IsNameText}

@@ -1,5 +1,5 @@
 -- What can be read of a message that wasn't opened.
-use Rattle.std.proofs.Common.{◌≡◌, ◌≤◌, ℕ, List, length, sym, subst, refl, not, is_some, is_none, Bool, true, false, ◌↔◌, Option, Some, None, Result, Ok, Err, OnErr, IfNone, IfSome, IsSome, MatchOption}
+use Rattle.std.proofs.Common.{◌≡◌, ℕ, List, sym, subst, refl, not, is_some, is_none, Bool, true, false, ◌↔◌, Option, Some, None, Result, Ok, Err, OnErr, IfNone, IfSome, IsSome, MatchOption}
 use Rattle.std.specs.Result.{result_ok}
 use Rattle.snmp_message.specs.Layout.{Outer, Parts}
 use Rattle.snmp_message.specs.Scoped.{Contexts, HasScoped, HasSealed}

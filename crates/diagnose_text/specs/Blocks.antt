@@ -1,8 +1,8 @@
 -- The text of an exchange: a line for its first datagram, and indented lines for what became of it.
 --
 -- `head_line`, `remark_lines`, `IsEndingText`: those lines, with words of `FirstWords`. `IsText`: the text of an
--- exchange, with the words of its first datagram. The name of an error-status, and what a refusal mostly comes from, are
--- taken as they are.
+-- exchange, with the words of its first datagram. The name of an error-status, and what a refusal mostly comes from,
+-- are taken as they are.
 use Rattle.std.specs.Prelude.{◌≡◌, ◌/◌, ◌%◌, ℕ, zero, suc, ℤ, List, [], ◌∷◌, ◌++◌, ⊤, Bool, true, false, ◌||◌, ◌==◌}
 use Rattle.std.specs.Prelude.{Option, Some, None, String, codes, decimal, is_some, string_bytes}
 use Rattle.std.specs.declared.alloc.Global.{Global}

@@ -5,7 +5,7 @@
 -- whose first datagram and whose answer are two of these, and hold what was read of them.
 use Rattle.std.specs.Prelude.{◌≡◌, ◌≢◌, ◌⊎◌, ◌&&◌, ℕ, List, [], Bool, true, false, not, MatchOption, Option, Some, None}
 use Rattle.std.specs.Prelude.{is_none, is_some}
-use Rattle.std.specs.List.{All, Contains}
+use Rattle.std.specs.List.{Contains}
 use Rattle.snmp_message.specs.Layout.{Parts, Outer}
 use Rattle.snmp_message.specs.Level.{level_of}
 use Rattle.snmp_message.specs.Scoped.{Contexts, HasScoped, ScopedFront}
@@ -35,7 +35,6 @@ use Rattle.diagnose_text.specs.declared.facts.PduNames.{PduNames}
 use Rattle.diagnose_text.specs.declared.facts.Remark.TheVariants.{EnginesLimit}
 use Rattle.diagnose_text.specs.declared.facts.Says.{Says}
 use Rattle.diagnose_text.specs.declared.facts.Says.TheVariants as says
-use Rattle.diagnose_text.specs.declared.facts.Sender.{Sender}
 use Rattle.diagnose_text.specs.declared.facts.What.{What}
 use Rattle.diagnose_text.specs.declared.facts.What.TheVariants.{Discovery, Pdu, Sealed, Unreadable}
 use Rattle.diagnose_text.specs.declared.line.Line.{Line}

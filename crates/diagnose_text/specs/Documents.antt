@@ -2,10 +2,10 @@
 --
 -- `with_these`: members, with further ones by their names. The documents of an exchange are `first_document` (its first
 -- datagram), `answer_document`, and `exchange_document` of both. What isn't known is null. Words for people beside a
--- first datagram are those of `AreWordsOf`; the name of an error-status, and what a refusal mostly comes from, are taken
--- as they are.
-use Rattle.std.specs.Prelude.{◌≡◌, ◌⊎◌, ◌+◌, ◌-◌, ◌*◌, ◌^◌, ◌≤◌, ℕ, ℤ, List, [], ◌∷◌, ◌++◌, ⊤, map, min, Bool}
-use Rattle.std.specs.Prelude.{Option, Some, None, String, codes, decimal, string_bytes}
+-- first datagram are those of `AreWordsOf`. The name of an error-status, and what a refusal mostly comes from, are
+-- taken as they are.
+use Rattle.std.specs.Prelude.{◌≡◌, ◌+◌, ◌-◌, ◌*◌, ◌^◌, ◌≤◌, ℕ, ℤ, List, [], ◌∷◌, ◌++◌, map, min, Bool}
+use Rattle.std.specs.Prelude.{Option, Some, None, String, codes, string_bytes}
 use Rattle.std.specs.List.{AllZip}
 use Rattle.std.specs.declared.alloc.Global.{Global}
 use Rattle.hex.specs.Hex.{encode_lower}

@@ -132,12 +132,12 @@ impl UserCounts {
         ensures { OnOk result (string_bytes out.new ≡ string_bytes out.old ++ user_line self.now name.now) }
     {
         out.push_str("  ")?;
-        out.push_str(self.named(name))?;
+        out.push_str(self.name_or_none(name))?;
         self.put_counts(out)
     }
 
     /// The name, or that there is none.
-    fn named<'a>(&self, name: &'a str) -> &'a str
+    fn name_or_none<'a>(&self, name: &'a str) -> &'a str
         ensures { result.now ≡ named self.now.user name.now }
     {
         if self.user.as_slice().is_empty() {

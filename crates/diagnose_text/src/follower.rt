@@ -132,7 +132,7 @@ impl Follower {
         ensures observer { self.new.observer ≡ self.old.observer }
     {
         let again = self.note_request(line, taken)?;
-        let what = named(self.alloc, taken)?;
+        let what = what_of(self.alloc, taken)?;
         self.ask(line, taken.id, line.request(taken, what, again, verdict))
     }
 
@@ -274,7 +274,7 @@ impl Follower {
             (Follows (StandsAlone line (IsUnasked line (given_of taken.now))) self.old self.new) }
         ensures observer { self.new.observer ≡ self.old.observer }
     {
-        let what = named(self.alloc, taken)?;
+        let what = what_of(self.alloc, taken)?;
         self.tell(line, line.alone(taken, what))
     }
 
@@ -300,8 +300,8 @@ impl Follower {
         if let Some(is_request) = unread.contents.is_request {
             return is_request;
         }
-        let asked = Asked::by_answer(line.route, unread.id);
-        if self.exchanges.waits(&asked).is_some() {
+        let request = Asked::by_answer(line.route, unread.id);
+        if self.exchanges.waits(&request).is_some() {
             return false;
         }
         match line.route {
@@ -349,7 +349,7 @@ impl Follower {
 }
 
 /// An accepted PDU by its type and its first names.
-fn named(alloc: Global, taken: &Taken<'_>) -> Result<What, AllocError>
+fn what_of(alloc: Global, taken: &Taken<'_>) -> Result<What, AllocError>
     ensures { IfOk result (IsNamed (IsPduIn (given_of taken.now).text)) }
 {
     Ok(What::Pdu(names_of(alloc, &taken.pdu())?))

@@ -1,6 +1,7 @@
 //! What is printed of a capture: exchanges one after another, and the summary.
 
-ghost use Rattle.std.specs.Prelude.{◌≡◌, ◌++◌, ◌||◌, List, ℕ, IfOk, OnOk, option_and_then, option_map, string_bytes, true};
+ghost use Rattle.std.specs.Prelude.{◌≡◌, ◌++◌, ◌||◌, List, ℕ, IfOk, OnOk, option_and_then, option_map, string_bytes};
+ghost use Rattle.std.specs.Prelude.{true};
 ghost use Rattle.diagnose_text.specs.Printing as spec;
 ghost use Rattle.diagnose_text.specs.Summary.{IsInStyle, IsSummed};
 ghost use Rattle.diagnose_text.specs.Wanted.{direction};

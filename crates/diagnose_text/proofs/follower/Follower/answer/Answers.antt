@@ -1,4 +1,4 @@
-use Rattle.std.proofs.Common.{◌≡◌, inr, refl}
+use Rattle.std.proofs.Common.{inr, refl}
 use Rattle.snmp_incoming.specs.Answers.{given_of}
 use Rattle.diagnose_text.specs.Datagrams.{IsAnswerRead}
 use Rattle.diagnose_text.proofs.Follows.{answers_as, asked_is, follows_as}

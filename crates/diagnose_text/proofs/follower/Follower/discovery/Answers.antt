@@ -1,6 +1,6 @@
 use Rattle.std.proofs.Common.{◌≡◌, refl}
 use Rattle.snmp_message.specs.Message.{parts}
-use Rattle.diagnose_text.specs.Datagrams.{Asks, IsDiscovery, IsMessageId}
+use Rattle.diagnose_text.specs.Datagrams.{IsDiscovery, IsMessageId}
 use Rattle.diagnose_text.proofs.Follows.{asks_as, followed_as, of_one}
 use Rattle.diagnose_text.proofs.follower.Follower.discovery.Goals as goal
 

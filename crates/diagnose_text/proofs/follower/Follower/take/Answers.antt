@@ -1,8 +1,7 @@
-use Rattle.std.proofs.Common.{◌≡◌, Some, None, refl}
+use Rattle.std.proofs.Common.{Some, refl}
 use Rattle.snmp_incoming.specs.Answers.{given_of}
 use Rattle.diagnose_judge.specs.Judging.{IsJudged, Judgement, sent_by, sent_to, unread, discovery}
-use Rattle.diagnose_text.specs.Datagrams.{IsLeftOut, IsStepOf, JudgesAs}
-use Rattle.diagnose_text.proofs.Follows.{alone_as, followed_as, of_one, seen_as_judged}
+use Rattle.diagnose_text.proofs.Follows.{seen_as_judged}
 use Rattle.diagnose_text.proofs.Refusals.{judged_unread}
 use Rattle.diagnose_text.proofs.follower.Follower.take.Goals as goal
 
