@@ -281,9 +281,9 @@ fn asks_at<K: Eq + Drop, Q: Drop, A: Drop>(
     if place < gone {
         return None;
     }
-    let index = (place - gone) as usize;
-    if list.get(index)?.asks(asked) {
-        Some(index)
+    let at = (place - gone) as usize;
+    if list.get(at)?.asks(asked) {
+        Some(at)
     } else {
         None
     }
