@@ -75,6 +75,30 @@ The answer to 17 comes from another address. The last record is a fragment.
   $ tail -n 1 told
   summary
 
+An engine ID of 4 octets. It isn't empty, so that this is no discovery (RFC 3414, section 4).
+
+  $ printf '5 303c020103300e020101020300ffe304010402010304143012040401020304020100020100040004000400301104000400a00b0201010201000201003000\n' > short
+  $ snmpsec diagnose "$TOP/examples/no-answer.toml" short
+  1  00:00:05.000000  noAuthNoPriv  Get
+      no answer in the capture
+      UnknownEngine: the engine ID hasn't 5 to 32 octets: the sender doesn't know the agent's engine yet
+  summary
+    (no user)  answered 0, errors 0, refused 0, no answer 1
+  [1]
+
+Reports of 65,538 engines. Those of the last two aren't opened.
+
+  $ awk 'BEGIN { for (i = 0; i < 65538; i++) { e = sprintf("040980001f8804%08x", i); printf "5 304a020103300e020101020300ffe304010002010304193017%s020100020100040004000400301a%s0400a80b0201010201000201003000\n", e, e } }' > many
+  $ snmpsec diagnose "$TOP/examples/no-answer.toml" many > told
+  $ grep -c "its request isn't in the capture" told
+  65536
+  $ tail -n 5 told
+  65537  00:00:05.000000  sealed (its direction is a guess)
+      not opened: over 65536 engines
+  65538  00:00:05.000000  sealed (its direction is a guess)
+      not opened: over 65536 engines
+  summary
+
 A user of the configuration without a password: the agent accepts what can't be opened here.
 
   $ printf '[[user]]\nname = "bob"\n' > bob.toml

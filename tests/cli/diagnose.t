@@ -58,6 +58,14 @@ A refused configuration is one line.
   ! snmpsec: TOML parse error at line 1, column 1: invalid UTF-8
   [1]
 
+So are refused clocks, with `--json` too.
+
+  $ printf 'snmp-clocks 3\n' > clocks
+  $ snmpsec diagnose --json --clocks clocks "$TOP/examples/no-answer.toml" "$TOP/examples/diagnose.pcap"
+  refused clocks clocks line 1
+  ! snmpsec: line 1: snmp-clocks 2 is wanted
+  [1]
+
 A file that isn't there.
 
   $ snmpsec diagnose "$TOP/examples/no-answer.toml" missing

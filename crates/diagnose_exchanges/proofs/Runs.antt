@@ -100,8 +100,8 @@ module _ {K Q A : Type 0} where
       let one = sum_by-cons (λ m. cond (nat_eq n m) 1 0) number [] in
       let more = sum_by-cons (λ m. cond (nat_eq n m) 1 0) number (taken_by steps) in
       omega (arith, rest, push, none, one, more)
-  each_once n gone old (answers place by answer ∷ steps) finished new h =
-      let rest = each_once n gone h.0 steps finished new h.2 in
+  each_once n gone old (answers place by asked answer ∷ steps) finished new h =
+      let rest = each_once n gone h.0 steps finished new h.3 in
       let step = times_ended n gone old h.0 place (Answered by answer) h.1 in
       let one = sum_by-cons (λ m. cond (nat_eq n m) 1 0) by [] in
       let more = sum_by-cons (λ m. cond (nat_eq n m) 1 0) by (taken_by steps) in
@@ -109,7 +109,7 @@ module _ {K Q A : Type 0} where
   each_once n gone old (ends place ending ∷ steps) finished new h =
       let rest = each_once n gone h.0 steps finished new h.3 in
       let step = times_ended n gone old h.0 place ending h.2 in
-      let none = ap (times n) h.1 in
+      let none = ap (times n) h.1.0 in
       omega (arith, rest, step, none)
   each_once n gone old (hands_over first place ∷ steps) finished new h =
       let rest = each_once n gone h.0 steps finished new h.2 in
@@ -131,8 +131,8 @@ module _ {K Q A : Type 0} where
       in_order gone (old ++ begun number first counts ending ∷ []) steps finished new h.1
       ∙ ap (λ ns. ns ++ begun_by steps) (map-append (λ (e : Exchange K Q A). e.number) old (begun number first counts ending ∷ []))
       ∙ append_assoc (map (λ e. e.number) old) (number ∷ []) (begun_by steps)
-  in_order gone old (answers place by answer ∷ steps) finished new h =
-      in_order gone h.0 steps finished new h.2 ∙ ap (λ ns. ns ++ begun_by steps) (numbers_ended gone old h.0 place (Answered by answer) h.1)
+  in_order gone old (answers place by asked answer ∷ steps) finished new h =
+      in_order gone h.0 steps finished new h.3 ∙ ap (λ ns. ns ++ begun_by steps) (numbers_ended gone old h.0 place (Answered by answer) h.1)
   in_order gone old (ends place ending ∷ steps) finished new h =
       in_order gone h.0 steps finished new h.3 ∙ ap (λ ns. ns ++ begun_by steps) (numbers_ended gone old h.0 place ending h.2)
   in_order gone old (hands_over first place ∷ steps) finished new h =
@@ -151,8 +151,8 @@ module _ {K Q A : Type 0} where
       let rest = counted_once gone (old ++ begun number first counts ending ∷ []) steps finished new h.1 in
       let push = sum_by_push (λ (y : Exchange K Q A). cond y.counts 1 0) old (begun number first counts ending) in
       omega (arith, rest, push)
-  counted_once gone old (answers place by answer ∷ steps) finished new h =
-      let rest = counted_once gone h.0 steps finished new h.2 in
+  counted_once gone old (answers place by asked answer ∷ steps) finished new h =
+      let rest = counted_once gone h.0 steps finished new h.3 in
       let step = counted_ended gone old h.0 place (Answered by answer) h.1 in
       omega (arith, rest, step)
   counted_once gone old (ends place ending ∷ steps) finished new h =

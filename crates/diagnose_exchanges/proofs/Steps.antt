@@ -1,10 +1,21 @@
 -- What a step leaves, by the exchange that was read at its index.
-use Rattle.std.proofs.Common.{◌≡◌, ◌≢◌, ◌<◌, ◌∙◌, ℕ, List, length, ap, sym, slice_index_or, slice_set}
+use Rattle.std.proofs.Common.{◌≡◌, ◌≢◌, ◌<◌, ◌∙◌, ℕ, Bool, true, List, [], length, ap, refl, sym, slice_index_or, slice_set}
 use Rattle.std.proofs.lemmas.List.{get_or_default, get_or-set_other}
 use Rattle.std.proofs.lemmas.Bool.{false≢true}
 use Rattle.diagnose_exchanges.specs.declared.exchange.Ending.{Ending}
+use Rattle.diagnose_exchanges.specs.declared.exchange.Ending.TheVariants.{Waits, Alone, Answered, SentAgain, NoAnswer, NotFollowed}
 use Rattle.diagnose_exchanges.specs.declared.exchange.Exchange.{Exchange}
-use Rattle.diagnose_exchanges.specs.Exchanges.{Ends, IsUncounted, IsWaiting, counting, ended, resent, waits}
+use Rattle.diagnose_exchanges.specs.Exchanges.{AnswersAt, Ends, IsAsking, IsUncounted, IsWaiting, asks, counting, ended, is_waiting, resent, waits}
+
+module _ {K A : Type 0} where
+  -- what it waits for
+  held_by : (eq : K → K → Bool) (asked : K) (ending : Ending K A) → asks eq asked ending ≡ true → (held : K) × (ending ≡ Waits held) × (eq held asked ≡ true)
+  held_by eq asked (Waits held) h = (held, refl, h)
+  held_by eq asked Alone h = cc h
+  held_by eq asked (Answered by answer) h = cc h
+  held_by eq asked (SentAgain number) h = cc h
+  held_by eq asked NoAnswer h = cc h
+  held_by eq asked NotFollowed h = cc h
 
 module _ {K Q A : Type 0} where
   pub ends_read : (gone : ℕ) (old : List (Exchange K Q A)) (place index : ℕ) (read : Exchange K Q A) (ending : Ending K A) → IsWaiting gone old place index → read ≡ slice_index_or old index read → Ends gone old (slice_set old index (ended ending read)) place ending
@@ -32,3 +43,33 @@ module _ {K Q A : Type 0} where
       ap (λ f. slice_set (slice_set old index (resent again.number f)) other (counting f.counts written)) first_x
       ∙ ap (λ r. slice_set (slice_set old index (resent r.number x)) other (counting x.counts written)) again_y
       ∙ ap (λ v. slice_set (slice_set old index (resent y.number x)) other (counting x.counts v)) written_y
+
+  -- the exchange that asked what is answered was read, and ended
+  pub answered_at : (eq : K → K → Bool) (gone : ℕ) (old new : List (Exchange K Q A)) (place by index : ℕ) (asked : K) (answer : A) (read : Exchange K Q A)
+      → IsAsking eq gone old place asked index → read ≡ slice_index_or old index read → new ≡ slice_set old index (ended (Answered by answer) read) → AnswersAt eq gone old new asked by answer place
+  answered_at eq gone old new place by index asked answer read a read_is new_is =
+      let held = held_by eq asked a.exchange.ending a.asking in
+      let same = read_is ∙ get_or_default old index read a.exchange a.within ∙ sym a.exchange_is in (
+        held.0,
+        held.2,
+        (
+          [],
+          refl,
+          (
+            new,
+            record {
+              index = index;
+              waited = record {
+                place_is = a.place_is;
+                within = a.within;
+                exchange = a.exchange;
+                exchange_is = a.exchange_is;
+                waiting = ap is_waiting held.1;
+              };
+              new_is = new_is ∙ ap (λ e. slice_set old index (ended (Answered by answer) e)) same;
+            },
+            held.1,
+            (refl, refl),
+          ),
+        ),
+      )

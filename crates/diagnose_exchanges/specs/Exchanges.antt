@@ -2,10 +2,11 @@
 --
 -- `begun`: an exchange as a datagram begins it. `IsWaiting`, `WaitsAt`: at a place an exchange waits. `Ends`: it
 -- ends, by an answer or without one. `HandsOver`: a request that was sent again counts instead of the first.
--- `Step`, `HasRun`: the steps, and runs of them. `Takes`: a run that takes exactly these datagrams.
+-- `Step`, `HasRun`: the steps, and runs of them. `Takes`, `TakesBy`: a run that takes exactly these datagrams, or that
+-- begins with this step. `IsMadeBy`: what an exchange holds is what the steps gave to it.
 use Rattle.std.specs.Prelude.{◌≡◌, ◌≢◌, ◌⊎◌, Option, Some, None, ◌+◌, ◌++◌, ℕ, List, [], ◌∷◌, Bool, true, false, length}
 use Rattle.std.specs.Prelude.{◌^◌, ◌-◌, ◌<◌, slice_index_or, slice_set, cond, min, nat_eq}
-use Rattle.std.specs.List.{count_by, sum_by}
+use Rattle.std.specs.List.{Contains, count_by, sum_by}
 use Rattle.std.specs.HashMap.{HashMap, IsUnchanged, Updates, get}
 use Rattle.diagnose_exchanges.specs.declared.exchange.Ending.{Ending}
 use Rattle.diagnose_exchanges.specs.declared.exchange.Ending.TheVariants.{Waits, Alone, Answered, SentAgain}
@@ -25,6 +26,16 @@ module _ {K A : Type 0} where
   is_waiting (SentAgain number) = false
   is_waiting NoAnswer = false
   is_waiting NotFollowed = false
+
+module _ {K A : Type 0} where
+  -- an ending that is none yet, and for which an answer to this is wanted
+  abbrev pub asks : (K → K → Bool) → K → Ending K A → Bool
+  asks eq asked (Waits held) = eq held asked
+  asks eq asked Alone = false
+  asks eq asked (Answered by answer) = false
+  asks eq asked (SentAgain number) = false
+  asks eq asked NoAnswer = false
+  asks eq asked NotFollowed = false
 
 module _ {K Q A : Type 0} where
   -- its answer isn't there yet
@@ -58,6 +69,19 @@ module _ {K Q A : Type 0} where
   -- the exchange at this place waits
   abbrev pub WaitsAt : ℕ → List (Exchange K Q A) → ℕ → Type 0
   WaitsAt gone list place = (index : ℕ) × IsWaiting gone list place index
+
+  -- at this index of the list, and at this place, an exchange waits for an answer to this
+  pub record IsAsking (eq : K → K → Bool) (gone : ℕ) (list : List (Exchange K Q A)) (place : ℕ) (asked : K) (index : ℕ)
+      : Type 0 where
+    pub place_is : place ≡ gone + index
+    pub within : index < length list
+    pub exchange : Exchange K Q A
+    pub exchange_is : exchange ≡ slice_index_or list index exchange
+    pub asking : asks eq asked exchange.ending ≡ true
+
+  -- the exchange at this place waits for an answer to this
+  abbrev pub AsksAt : (K → K → Bool) → ℕ → List (Exchange K Q A) → ℕ → K → Type 0
+  AsksAt eq gone list place asked = (index : ℕ) × IsAsking eq gone list place asked index
 
   -- The exchange at this place waited, and has this ending now. All others are as before.
   pub record Ends (gone : ℕ) (old new : List (Exchange K Q A)) (place : ℕ) (ending : Ending K A) : Type 0 where
@@ -116,6 +140,10 @@ module _ {K A : Type 0} where
   abbrev pub IsUnanswered : Ending K A → Type 0
   IsUnanswered ending = answers_in ending ≡ []
 
+  -- an ending that no datagram makes, after which nothing waits
+  abbrev pub IsGivenUp : Ending K A → Type 0
+  IsGivenUp ending = IsUnanswered ending × (is_waiting ending ≡ false)
+
 module _ {K Q A : Type 0} where
   -- the numbers of the datagrams of an exchange
   abbrev pub datagrams_of : Exchange K Q A → List ℕ
@@ -130,10 +158,12 @@ module _ {K Q A : Type 0} where
   times_in n list = sum_by (λ e. times n (datagrams_of e)) list
 
 -- What becomes of exchanges. `begins`: a datagram is the first of a new one. `answers`: a datagram answers the one at
--- this place. `ends`: the one at this place ends without an answer. `finishes`: the first is taken out.
+-- this place, which waits for an answer to this. `ends`: the one at this place ends without an answer.
+-- `hands_over`: the one at `first` was sent again as that at this place, which counts instead. `finishes`: the
+-- first is taken out.
 pub data Step (K Q A : Type 0) : Type 0 where
   begins : (number : ℕ) (first : Q) (counts : Bool) (ending : Ending K A) → Step K Q A
-  answers : (place by : ℕ) (answer : A) → Step K Q A
+  answers : (place by : ℕ) (asked : K) (answer : A) → Step K Q A
   ends : (place : ℕ) (ending : Ending K A) → Step K Q A
   hands_over : (first place : ℕ) → Step K Q A
   finishes : Step K Q A
@@ -143,7 +173,7 @@ module _ {K Q A : Type 0} where
   abbrev pub taken_by : List (Step K Q A) → List ℕ
   taken_by [] = []
   taken_by (begins number first counts ending ∷ steps) = number ∷ taken_by steps
-  taken_by (answers place by answer ∷ steps) = by ∷ taken_by steps
+  taken_by (answers place by asked answer ∷ steps) = by ∷ taken_by steps
   taken_by (ends place ending ∷ steps) = taken_by steps
   taken_by (hands_over first place ∷ steps) = taken_by steps
   taken_by (finishes ∷ steps) = taken_by steps
@@ -152,7 +182,7 @@ module _ {K Q A : Type 0} where
   abbrev pub begun_by : List (Step K Q A) → List ℕ
   begun_by [] = []
   begun_by (begins number first counts ending ∷ steps) = number ∷ begun_by steps
-  begun_by (answers place by answer ∷ steps) = begun_by steps
+  begun_by (answers place by asked answer ∷ steps) = begun_by steps
   begun_by (ends place ending ∷ steps) = begun_by steps
   begun_by (hands_over first place ∷ steps) = begun_by steps
   begun_by (finishes ∷ steps) = begun_by steps
@@ -161,7 +191,7 @@ module _ {K Q A : Type 0} where
   abbrev pub counted_by : List (Step K Q A) → ℕ
   counted_by [] = 0
   counted_by (begins number first counts ending ∷ steps) = cond counts 1 0 + counted_by steps
-  counted_by (answers place by answer ∷ steps) = counted_by steps
+  counted_by (answers place by asked answer ∷ steps) = counted_by steps
   counted_by (ends place ending ∷ steps) = counted_by steps
   counted_by (hands_over first place ∷ steps) = counted_by steps
   counted_by (finishes ∷ steps) = counted_by steps
@@ -172,16 +202,28 @@ module _ {K Q A : Type 0} where
   HasRun gone old [] finished new = (finished ≡ []) × (new ≡ old)
   HasRun gone old (begins number first counts ending ∷ steps) finished new =
       IsUnanswered ending × HasRun gone (old ++ begun number first counts ending ∷ []) steps finished new
-  HasRun gone old (answers place by answer ∷ steps) finished new =
-      (mid : List (Exchange K Q A)) × Ends gone old mid place (Answered by answer) × HasRun gone mid steps finished new
+  HasRun gone old (answers place by asked answer ∷ steps) finished new =
+      (mid : List (Exchange K Q A)) × (ends : Ends gone old mid place (Answered by answer))
+      × (ends.waited.exchange.ending ≡ Waits asked) × HasRun gone mid steps finished new
   HasRun gone old (ends place ending ∷ steps) finished new =
-      (mid : List (Exchange K Q A)) × IsUnanswered ending × Ends gone old mid place ending
+      (mid : List (Exchange K Q A)) × IsGivenUp ending × Ends gone old mid place ending
       × HasRun gone mid steps finished new
   HasRun gone old (hands_over first place ∷ steps) finished new =
       (mid : List (Exchange K Q A)) × HandsOver gone old mid first place × HasRun gone mid steps finished new
   HasRun gone old (finishes ∷ steps) finished new =
       (e : Exchange K Q A) × (mid rest : List (Exchange K Q A)) × (old ≡ e ∷ mid) × (finished ≡ e ∷ rest)
       × (waits e ≡ false) × HasRun (place_after gone 1) mid steps rest new
+
+module _ {K Q A : Type 0} where
+  -- by this step, and then by some that take no datagram; none of them takes an exchange out
+  abbrev pub TakesBy : Step K Q A → ℕ → List (Exchange K Q A) → List (Exchange K Q A) → Type 0
+  TakesBy step gone old new =
+      (steps : List (Step K Q A)) × (taken_by steps ≡ []) × HasRun gone old (step ∷ steps) [] new
+
+  -- An answer to what was asked: the exchange that waited at this place asked the same.
+  abbrev pub AnswersAt : (K → K → Bool) → ℕ → List (Exchange K Q A) → List (Exchange K Q A) → K → ℕ → A → ℕ → Type 0
+  AnswersAt eq gone old new asked by answer place =
+      (held : K) × (eq held asked ≡ true) × TakesBy (answers place by held answer) gone old new
 
 module _ {K Q A : Type 0} where
   -- by some steps, of which none takes an exchange out, exactly these datagrams are taken
@@ -197,3 +239,24 @@ module _ {K Q A : Type 0} where
       ((kept ≡ Some place) × (new ≡ old))
       ⊎ ((kept ≢ Some place) × (Ends gone old new place NoAnswer
       ⊎ ((new ≡ old) × (WaitsAt gone old place → ⊥))))
+
+-- ---- what exchanges are made of
+
+module _ {K Q A : Type 0} where
+  -- What became of an exchange that began with this ending. One that waits has waited since. One that is answered
+  -- waited for an answer to this, and one of the steps answered it.
+  abbrev pub Became : List (Step K Q A) → Ending K A → Ending K A → Type 0
+  Became steps ending (Waits asked) = ending ≡ Waits asked
+  Became steps ending (Answered by answer) =
+      (place : ℕ) × (asked : K) × (ending ≡ Waits asked) × Contains steps (answers place by asked answer)
+  Became steps ending Alone = Unit {0}
+  Became steps ending (SentAgain number) = Unit {0}
+  Became steps ending NoAnswer = Unit {0}
+  Became steps ending NotFollowed = Unit {0}
+
+  -- One of these steps began the exchange, by its number and with what it holds of its first datagram.
+  pub record IsMadeBy (steps : List (Step K Q A)) (e : Exchange K Q A) : Type 0 where
+    pub counts : Bool
+    pub ending : Ending K A
+    pub began : Contains steps (begins e.number e.first counts ending)
+    pub became : Became steps ending e.ending

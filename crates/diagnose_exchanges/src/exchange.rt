@@ -1,7 +1,7 @@
 //! Exchanges: a request and what became of it, or a datagram that stands alone.
 
 ghost use Rattle.std.specs.Prelude.{◌≡◌};
-ghost use Rattle.diagnose_exchanges.specs.Exchanges.{waits};
+ghost use Rattle.diagnose_exchanges.specs.Exchanges.{asks, waits};
 
 /// How an exchange ended, if it has.
 #[derive(Drop)]
@@ -41,6 +41,18 @@ impl<K: Drop, Q: Drop, A: Drop> Exchange<K, Q, A> {
             Ending::Waits(_) => true,
             Ending::Alone | Ending::Answered { .. } | Ending::SentAgain(_) => false,
             Ending::NoAnswer | Ending::NotFollowed => false,
+        }
+    }
+    /// It waits for an answer with these.
+    pub fn asks(&self, asked: &K) -> bool
+    where
+        K: PartialEq,
+        ensures { result ≡ asks K.eq asked.now self.now.ending }
+    {
+        match &self.ending {
+            Ending::Waits(held) => held == asked,
+            Ending::Answered { .. } | Ending::SentAgain(_) => false,
+            Ending::Alone | Ending::NoAnswer | Ending::NotFollowed => false,
         }
     }
 }

@@ -7,10 +7,11 @@ ghost use Rattle.diagnose_exchanges.specs.declared.exchange.Exchange.{Exchange a
 ghost use Rattle.std.specs.VecDeque.{deque_len};
 ghost use Rattle.std.specs.HashMap.{IsEmpty, IsUnchanged, Updates, get};
 ghost use Rattle.diagnose_exchanges.specs.Exchanges.{Ends, Forgets, HandsOver, IsUncounted, IsWaiting, WaitsAt};
-ghost use Rattle.diagnose_exchanges.specs.Exchanges.{LeavesEarlier, Takes};
+ghost use Rattle.diagnose_exchanges.specs.Exchanges.{AnswersAt, AsksAt, IsAsking, LeavesEarlier, Takes, TakesBy};
+ghost use Rattle.diagnose_exchanges.specs.Exchanges.{begins};
 ghost use Rattle.diagnose_exchanges.specs.Exchanges.{begun, counting};
 ghost use Rattle.diagnose_exchanges.specs.Exchanges.{exchanges_limit, is_waiting, place_after, resent, waits};
-ghost use Rattle.diagnose_exchanges.specs.declared.exchange.Ending.TheVariants.{Waits, Alone, Answered};
+ghost use Rattle.diagnose_exchanges.specs.declared.exchange.Ending.TheVariants.{Waits, Alone};
 
 use crate::exchange::{Ending, Exchange};
 use crate::waiting::Waiting;
@@ -81,7 +82,8 @@ impl<K: Eq + Hash + Copy + Drop, Q: Drop, A: Drop> Exchanges<K, Q, A> {
         ensures err { OnErr result (self.new.list.items ≡ self.old.list.items) }
         ensures gone { self.new.gone ≡ self.old.gone }
         ensures waiting { IsUnchanged self.old.waiting.numbers self.new.waiting.numbers }
-        ensures takes { OnOk result (Takes (number ∷ []) self.old.gone self.old.list.items self.new.list.items) }
+        ensures takes { OnOk result
+            (TakesBy (begins number first false Alone) self.old.gone self.old.list.items self.new.list.items) }
     {
         self.list.push_back(Exchange {
             number,
@@ -130,8 +132,8 @@ impl<K: Eq + Hash + Copy + Drop, Q: Drop, A: Drop> Exchanges<K, Q, A> {
         ensures asks { OnOk result (LeavesEarlier self.old.gone
             (self.old.list.items ++ begun number first counts (Waits asked) ∷ [])
             self.new.list.items (get K.eq self.old.waiting.numbers asked) kept) }
-        ensures takes { OnOk result
-            (Takes (number ∷ []) self.old.gone self.old.list.items self.new.list.items) }
+        ensures takes { OnOk result (TakesBy (begins number first counts (Waits asked)) self.old.gone
+            self.old.list.items self.new.list.items) }
         ensures err { OnErr result ((self.new.list.items ≡ self.old.list.items)
             × IsUnchanged self.old.waiting.numbers self.new.waiting.numbers) }
         ensures gone { self.new.gone ≡ self.old.gone }
@@ -169,14 +171,11 @@ impl<K: Eq + Hash + Copy + Drop, Q: Drop, A: Drop> Exchanges<K, Q, A> {
     pub fn answer(&mut self, asked: &K, by: u64, answer: A) -> Result<u64, A>
         ensures answered { IfOk result
             (λ place. (get K.eq self.old.waiting.numbers asked.now ≡ Some place)
-            × Ends self.old.gone self.old.list.items self.new.list.items place
-            (Answered by answer)) }
-        ensures takes { OnOk result
-            (Takes (by ∷ []) self.old.gone self.old.list.items self.new.list.items) }
+            × AnswersAt K.eq self.old.gone self.old.list.items self.new.list.items asked.now by answer place) }
         ensures alone { IfErr result (λ back. (back ≡ answer)
             × (self.new.list.items ≡ self.old.list.items)
             × ((place : ℕ) → get K.eq self.old.waiting.numbers asked.now ≡ Some place
-            → WaitsAt self.old.gone self.old.list.items place → ⊥)) }
+            → AsksAt K.eq self.old.gone self.old.list.items place asked.now → ⊥)) }
         ensures waiting { Updates K.eq self.old.waiting.numbers
             self.new.waiting.numbers asked.now None }
         ensures gone { self.new.gone ≡ self.old.gone }
@@ -184,7 +183,7 @@ impl<K: Eq + Hash + Copy + Drop, Q: Drop, A: Drop> Exchanges<K, Q, A> {
         let Some(place) = self.waiting.answer(asked) else {
             return Err(answer);
         };
-        let Some(index) = waits_at(&self.list, self.gone, place) else {
+        let Some(index) = asks_at(&self.list, self.gone, place, asked) else {
             return Err(answer);
         };
         self.list[index].ending = Ending::Answered { by, answer };
@@ -264,6 +263,27 @@ fn waits_at<K: Drop, Q: Drop, A: Drop>(
     let index = (place - gone) as usize;
     if list.get(index)?.waits() {
         Some(index)
+    } else {
+        None
+    }
+}
+
+/// The index of the exchange at this place, behind so many that are gone, if it waits for an answer with these.
+fn asks_at<K: Eq + Drop, Q: Drop, A: Drop>(
+    list: &VecDeque<Exchange<K, Q, A>>,
+    gone: u64,
+    place: u64,
+    asked: &K,
+) -> Option<usize>
+    ensures found { IfSome result (IsAsking K.eq gone list.now.items place asked.now) }
+    ensures none { IfNone result (AsksAt K.eq gone list.now.items place asked.now → ⊥) }
+{
+    if place < gone {
+        return None;
+    }
+    let at = (place - gone) as usize;
+    if list.get(at)?.asks(asked) {
+        Some(at)
     } else {
         None
     }

@@ -1,7 +1,7 @@
 //! Laws of exchanges. Each function does nothing: its contract is the law.
 
-ghost use Rattle.std.specs.Prelude.{◌≡◌, ◌+◌, ◌++◌, ℕ, List, [], map};
-ghost use Rattle.diagnose_exchanges.specs.Exchanges.{HasRun, Step, begun_by, counted, counted_by, taken_by};
+ghost use Rattle.std.specs.Prelude.{◌≡◌, ◌+◌, ◌++◌, ℕ, All, List, [], map};
+ghost use Rattle.diagnose_exchanges.specs.Exchanges.{HasRun, IsMadeBy, Step, begun_by, counted, counted_by, taken_by};
 ghost use Rattle.diagnose_exchanges.specs.Exchanges.{times, times_in};
 ghost use Rattle.diagnose_exchanges.specs.declared.exchange.Exchange.{Exchange};
 
@@ -20,4 +20,12 @@ pub fn each_datagram_is_in_one_exchange<K: Drop, Q: Drop, A: Drop>()
 pub fn each_request_is_counted_once<K: Drop, Q: Drop, A: Drop>()
     ensures { (gone : ℕ) (steps : List (Step K Q A)) (finished held : List (Exchange K Q A))
         → HasRun gone [] steps finished held → counted finished + counted held ≡ counted_by steps }
+{}
+
+/// What an exchange holds of its datagrams is what was given with them. Whatever steps there were, each exchange, taken
+/// out or held, began by one of them, with its number and with what it holds of its first datagram. If it is answered,
+/// one of them answered what it asked, by the number and with the answer that it holds.
+pub fn each_exchange_holds_what_its_datagrams_gave<K: Drop, Q: Drop, A: Drop>()
+    ensures { (gone : ℕ) (steps : List (Step K Q A)) (finished held : List (Exchange K Q A))
+        → HasRun gone [] steps finished held → All (IsMadeBy steps) (finished ++ held) }
 {}

@@ -1,8 +1,13 @@
+mod Accounts
+mod Askeds
 mod Firsts
+mod Follows
+mod Owns
 mod Printings
 mod Puts
-mod Takes
-mod ViewLines
-mod Viewings
+mod Refusals
+mod Unreads
+mod Summaries
+mod Texts
 mod Wides
 mod Writings

@@ -1,9 +1,8 @@
 -- The text of an exchange: a line for its first datagram, and indented lines for what became of it.
 --
 -- `head_line`, `remark_lines`, `IsEndingText`: those lines, with words of `FirstWords`. `IsText`: the text of an
--- exchange, with some words of this kind. Words that stand beside what was read for people (the time of day, the text
--- of addresses, the name of an error-status, what a refusal mostly comes from) are taken as they are; names are in a
--- form that `IsNameText` allows.
+-- exchange, with the words of its first datagram. The name of an error-status, and what a refusal mostly comes from,
+-- are taken as they are.
 use Rattle.std.specs.Prelude.{◌≡◌, ◌/◌, ◌%◌, ℕ, zero, suc, ℤ, List, [], ◌∷◌, ◌++◌, ⊤, Bool, true, false, ◌||◌, ◌==◌}
 use Rattle.std.specs.Prelude.{Option, Some, None, String, codes, decimal, is_some, string_bytes}
 use Rattle.std.specs.declared.alloc.Global.{Global}
@@ -21,8 +20,9 @@ use Rattle.diagnose_exchanges.specs.declared.exchange.Exchange.{Exchange}
 use Rattle.diagnose_exchanges.specs.declared.exchange.Ending.{Ending}
 use Rattle.diagnose_exchanges.specs.declared.exchange.Ending.TheVariants.{Waits, Alone, Answered, SentAgain}
 use Rattle.diagnose_exchanges.specs.declared.exchange.Ending.TheVariants.{NoAnswer, NotFollowed}
-use Rattle.diagnose_text.specs.Documents.{IsNameText, dotted, group_name, span}
-use Rattle.diagnose_text.specs.Names.{pdu_word, sender_user, syntax_word, type_word}
+use Rattle.diagnose_text.specs.Documents.{group_name, span}
+use Rattle.diagnose_text.specs.Names.{pdu_word, syntax_word, type_word}
+use Rattle.diagnose_text.specs.Words.{AreTexts, AreWordsOf, IsNameText, dotted}
 use Rattle.diagnose_text.specs.declared.facts.Answer.{Answer}
 use Rattle.diagnose_text.specs.declared.facts.First.{First}
 use Rattle.diagnose_text.specs.declared.facts.PduNames.{PduNames}
@@ -284,9 +284,7 @@ pub record IsViewLine (is_alone : Bool) (viewed : Viewed) (line : List ℕ) : Ty
 
 -- the lines of these variables, one after another
 abbrev pub AreViewLines : Bool → List Viewed → List ℕ → Type 0
-AreViewLines is_alone [] text = text ≡ []
-AreViewLines is_alone (viewed ∷ more) text =
-    (line rest : List ℕ) × (text ≡ line ++ rest) × IsViewLine is_alone viewed line × AreViewLines is_alone more rest
+AreViewLines is_alone views text = AreTexts (IsViewLine is_alone) views text
 
 -- the request has one variable
 abbrev pub is_one : List (String Global) → Bool
@@ -348,7 +346,7 @@ module _ {K : Type 0} where
   -- the text of an exchange
   pub record IsText (e : Exchange K First Answer) (text : List ℕ) : Type 0 where
     pub words : FirstWords
-    pub name : IsNameText (sender_user e.first.sender) (string_bytes words.user)
+    pub are : AreWordsOf e.first words
     pub ending : List ℕ
     pub ending_is : IsEndingText e.first words e.ending ending
     pub whole : text ≡ head_line e.number e.first words ++ (remark_lines e.first ++ ending)

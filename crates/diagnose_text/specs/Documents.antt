@@ -1,14 +1,14 @@
 -- The JSON documents of what was read: each fact is the value of a member with a fixed name.
 --
 -- `with_these`: members, with further ones by their names. The documents of an exchange are `first_document` (its first
--- datagram), `answer_document`, and `exchange_document` of both. What isn't known is null. Words that stand beside
--- numbers for people, the time of day and the text of addresses are taken as they are; a user's name is in a form that
--- `IsNameText` allows.
-use Rattle.std.specs.Prelude.{◌≡◌, ◌⊎◌, ◌+◌, ◌-◌, ◌*◌, ◌^◌, ◌≤◌, ℕ, ℤ, List, [], ◌∷◌, ◌++◌, ⊤, map, min, Bool}
-use Rattle.std.specs.Prelude.{Option, Some, None, String, codes, decimal, string_bytes}
+-- datagram), `answer_document`, and `exchange_document` of both. What isn't known is null. Words for people beside a
+-- first datagram are those of `AreWordsOf`. The name of an error-status, and what a refusal mostly comes from, are
+-- taken as they are.
+use Rattle.std.specs.Prelude.{◌≡◌, ◌+◌, ◌-◌, ◌*◌, ◌^◌, ◌≤◌, ℕ, ℤ, List, [], ◌∷◌, ◌++◌, map, min, Bool}
+use Rattle.std.specs.Prelude.{Option, Some, None, String, codes, string_bytes}
+use Rattle.std.specs.List.{AllZip}
 use Rattle.std.specs.declared.alloc.Global.{Global}
 use Rattle.hex.specs.Hex.{encode_lower}
-use Rattle.engine_clock.specs.Marks.{Marks, SeenPair, mark_at}
 use Rattle.serde_json.specs.Data.{Data, Members, null, boolean, number, unsigned, string, array, object, no_members}
 use Rattle.serde_json.specs.Data.{put, depth}
 use Rattle.serde_json.specs.Find.{of_integer}
@@ -21,8 +21,8 @@ use Rattle.diagnose_exchanges.specs.declared.exchange.Exchange.{Exchange}
 use Rattle.diagnose_exchanges.specs.declared.exchange.Ending.{Ending}
 use Rattle.diagnose_exchanges.specs.declared.exchange.Ending.TheVariants.{Waits, Alone, Answered, SentAgain}
 use Rattle.diagnose_exchanges.specs.declared.exchange.Ending.TheVariants.{NoAnswer, NotFollowed}
-use Rattle.diagnose_text.specs.Names.{pdu_word, remark_word, sender_level, sender_user, syntax_word, type_word}
-use Rattle.diagnose_text.specs.declared.counts.UserCounts.{UserCounts}
+use Rattle.diagnose_text.specs.Names.{pdu_word, remark_word, sender_level, syntax_word, type_word}
+use Rattle.diagnose_text.specs.Words.{AreWordsOf, IsNameText, dotted}
 use Rattle.diagnose_text.specs.declared.facts.Answer.{Answer}
 use Rattle.diagnose_text.specs.declared.facts.First.{First}
 use Rattle.diagnose_text.specs.declared.facts.PduNames.{PduNames}
@@ -33,7 +33,6 @@ use Rattle.diagnose_text.specs.declared.facts.What.{What}
 use Rattle.diagnose_text.specs.declared.facts.What.TheVariants.{Discovery, Pdu, Sealed, Unreadable}
 use Rattle.diagnose_text.specs.declared.heads.Stamp.{Stamp}
 use Rattle.diagnose_text.specs.declared.words.FirstWords.{FirstWords}
-use Rattle.diagnose_text.specs.declared.summary.EngineFacts.{EngineFacts}
 use Rattle.diagnose_text.specs.declared.values.Value.{Value}
 use Rattle.diagnose_text.specs.declared.values.Value.TheVariants.{Integer, Unsigned, Counter64, Text, Identifier}
 use Rattle.diagnose_text.specs.declared.values.Value.TheVariants.{Address, Octets, Bare}
@@ -75,11 +74,6 @@ kind_members kind members = put (codes "kind") (string kind) members
 
 abbrev pub kind_document : List ℕ → Data
 kind_document kind = object (kind_members kind no_members)
-
--- octets as a text: as they are, or between quotes, or in hex
-abbrev pub IsNameText : List ℕ → List ℕ → Type 0
-IsNameText octets text =
-    (text ≡ octets) ⊎ ((text ≡ codes "\"" ++ (octets ++ codes "\"")) ⊎ (text ≡ codes "0x" ++ encode_lower octets))
 
 -- ---- the first datagram of an exchange
 
@@ -147,7 +141,7 @@ first_document n first words =
 -- the document of this first datagram, with some words of this kind
 pub record IsFirst (n : ℕ) (first : First) (document : Data) : Type 0 where
   pub words : FirstWords
-  pub user : IsNameText (sender_user first.sender) (string_bytes words.user)
+  pub are : AreWordsOf first words
   pub members : document ≡ first_document n first words
 
 -- ---- what answers it
@@ -171,12 +165,6 @@ typed name kind value = object (value_members value (variable_members name kind 
 -- a variable with octets in hex
 abbrev pub in_hex : List ℕ → List ℕ → List ℕ → Data
 in_hex name kind digits = object (hex_members digits (variable_members name kind no_members))
-
--- an address of IPv4 as people write it
-abbrev pub dotted : List ℕ → List ℕ
-dotted [] = []
-dotted (octet ∷ []) = decimal octet
-dotted (octet ∷ next ∷ more) = decimal octet ++ (codes "." ++ dotted (next ∷ more))
 
 abbrev pub value_document : List ℕ → Value → Data
 value_document name (Integer z) = typed name (codes "INTEGER") (number (of_integer z))
@@ -324,18 +312,11 @@ pub record IsViewed (viewed : Viewed) (document : Data) : Type 0 where
   pub view_is : IsNameValue viewed.view view
   pub members : document ≡ viewed_document viewed group view
 
--- these are the documents of the variables, one after another
-abbrev pub AreViewed : List Viewed → List Data → Type 0
-AreViewed [] [] = ⊤
-AreViewed (viewed ∷ more) (one ∷ others) = IsViewed viewed one × AreViewed more others
-AreViewed [] (one ∷ others) = ⊥
-AreViewed (viewed ∷ more) [] = ⊥
-
 pub record IsAnswer (first : First) (by : ℕ) (answer : Answer) (document : Data) : Type 0 where
   pub says : Data
   pub views : List Data
   pub says_is : IsSays answer.says says
-  pub views_are : AreViewed answer.views.items views
+  pub views_are : AllZip IsViewed answer.views.items views
   pub members : document ≡ answer_document first by answer says (array (items_of views))
 
 -- ---- an exchange
@@ -379,46 +360,3 @@ pub record IsLine (document : Data) (line : List ℕ) : Type 0 where
   pub text : List ℕ
   pub whole : line ≡ text ++ codes "\n"
   pub same : depth document ≤ max_depth → read text ≡ Some document
-
--- ---- the summary
-
-unfoldable pub count_members : UserCounts → List ℕ → Members → Members
-count_members counts user members = with_these (
-    (codes "user", string user) ∷
-    (codes "answered", natural counts.answered) ∷
-    (codes "errors", natural counts.errors) ∷
-    (codes "refused", natural counts.refused) ∷
-    (codes "no_answer", natural counts.no_answer) ∷ []) members
-
-abbrev pub user_document : UserCounts → List ℕ → Data
-user_document counts user = object (count_members counts user no_members)
-
--- the document of a user's counts, with the name in a form that is allowed
-pub record IsUser (counts : UserCounts) (document : Data) : Type 0 where
-  pub text : List ℕ
-  pub name : IsNameText counts.user text
-  pub members : document ≡ user_document counts text
-
-unfoldable pub clock_members : EngineFacts → Data → Members → Members
-clock_members facts agent members = with_these (
-    (codes "engine", string (encode_lower facts.engine)) ∷
-    (codes "boots", natural facts.boots) ∷
-    (codes "time", natural facts.time) ∷
-    (codes "seen", natural facts.seen) ∷
-    (codes "agent", agent) ∷ []) members
-
--- the document of an engine, and of where it answered last
-abbrev pub engine_document : EngineFacts → Data → Data
-engine_document facts agent = object (clock_members facts agent no_members)
-
-abbrev pub IsEngine : EngineFacts → Data → Type 0
-IsEngine facts document = (agent : Data) × (document ≡ engine_document facts agent)
-
--- what is said of the engine with these octets is what the clocks hold of it
-pub record AreFactsOf (clocks : Marks) (octets : List ℕ) (facts : EngineFacts) : Type 0 where
-  pub engine : facts.engine ≡ octets
-  pub mark : SeenPair
-  pub held : mark_at clocks octets ≡ Some mark
-  pub boots : facts.boots ≡ mark.pair.boots
-  pub time : facts.time ≡ mark.pair.time
-  pub seen : facts.seen ≡ mark.seen

@@ -13,14 +13,14 @@ use Rattle.snmp_ber.specs.Oid.{IsIdentifier, dotted}
 use Rattle.snmp_msg.specs.PduTypes.{IsPduTag, pdu_tag}
 use Rattle.snmp_msg.specs.Values.{syntax_of}
 use Rattle.snmp_msg.specs.Variables.{Variable, variables_of}
-use Rattle.snmp_msg.specs.declared.pdu.Pdu.{Pdu}
+use Rattle.snmp_msg.specs.Pdu.{PduParts}
 use Rattle.snmp_msg.specs.declared.pdu_type.PduType.TheVariants as kinds
 use Rattle.snmp_msg.specs.declared.value.Syntax.{Syntax}
 use Rattle.snmp_msg.specs.declared.value.Syntax.TheVariants.{Integer32, OctetString, Null, ObjectIdentifier}
 use Rattle.snmp_msg.specs.declared.value.Syntax.TheVariants.{IpAddress, Counter32, Unsigned32, TimeTicks, Opaque}
 use Rattle.snmp_msg.specs.declared.value.Syntax.TheVariants.{Counter64, NoSuchObject, NoSuchInstance, EndOfMibView}
 use Rattle.snmpsec_causes.specs.Counters.{IsCounter}
-use Rattle.snmp_incoming.specs.declared.taken.Taken.{Taken}
+use Rattle.snmp_incoming.specs.Outcome.{Given}
 use Rattle.snmpsec_config.specs.Words.{level_word}
 use Rattle.diagnose_judge.specs.declared.judged.Verdict.{Verdict}
 use Rattle.diagnose_judge.specs.declared.judged.Verdict.TheVariants.{Accepted, Unweighed, Refused}
@@ -115,9 +115,9 @@ pub record AreFirst {X : Type 0} (IsTold : Variable → X → Type 0) (vs : List
   pub left : more ≡ min (length vs - variables_told) greatest_count
 
 -- the type of a PDU, and its first names
-pub record ArePduNames (pdu : Pdu) (names : PduNames) : Type 0 where
+pub record ArePduNames (pdu : PduParts) (names : PduNames) : Type 0 where
   pub kind : MatchOption names.kind (¬ IsPduTag pdu.tag) (λ kind. pdu.tag ≡ pdu_tag kind)
-  pub told : AreFirst IsNameRead (variables_of pdu.list.now) names.names.items names.more
+  pub told : AreFirst IsNameRead (variables_of pdu.list) names.names.items names.more
 
 -- the name of a counter, or its identifier if it has none
 abbrev pub IsCounterText : List ℕ → List ℕ → Type 0
@@ -131,16 +131,16 @@ IsReport (v ∷ more) said = (text : String Global) × (value : Option ℕ) × (
     × IsCounterText (dotted v.name) (string_bytes text) × ((n : ℕ) → (value ≡ Some n) ↔ IsUnsigned 4 n v.content)
 
 -- a Response whose error-status isn't noError
-abbrev pub HasError : Pdu → Type 0
+abbrev pub HasError : PduParts → Type 0
 HasError pdu = (pdu.tag ≡ pdu_tag kinds.Response) × (pdu.second ≢ pos 0)
 
 -- what an answer with this PDU says: the counter of a Report, the error of a Response that has one, or values
-pub record IsSaid (pdu : Pdu) (said : Says) : Type 0 where
-  pub report : pdu.tag ≡ pdu_tag kinds.Report → IsReport (variables_of pdu.list.now) said
+pub record IsSaid (pdu : PduParts) (said : Says) : Type 0 where
+  pub report : pdu.tag ≡ pdu_tag kinds.Report → IsReport (variables_of pdu.list) said
   pub error : HasError pdu → said ≡ says.Error pdu.second pdu.third
   pub values : pdu.tag ≢ pdu_tag kinds.Report → ¬ HasError pdu
       → (values : Vec (String Global × Value) Global) × (more : ℕ) × (said ≡ says.Values values more)
-      × AreFirst IsVariableRead (variables_of pdu.list.now) values.items more
+      × AreFirst IsVariableRead (variables_of pdu.list) values.items more
 
 -- ---- the first datagram of an exchange
 
@@ -156,10 +156,10 @@ pub record IsPlain (first : First) : Type 0 where
   pub plain : first.remark ≡ Nothing
 
 -- who sent the message that was opened, and the engine with whose keys
-pub record IsSender (taken : Taken) (first : First) : Type 0 where
-  pub user : sender_user first.sender ≡ taken.user.now
-  pub level : sender_level first.sender ≡ level_word taken.level
-  pub engine : first.engine ≡ Some taken.engine
+pub record IsSender (given : Given) (first : First) : Type 0 where
+  pub user : sender_user first.sender ≡ given.user
+  pub level : sender_level first.sender ≡ level_word given.level
+  pub engine : first.engine ≡ Some given.engine
 
 -- what this configuration says of a request (RFC 3414, section 3.2)
 abbrev pub IsJudged : Verdict → First → Type 0

@@ -1,7 +1,10 @@
 pub mod Blocks
+pub mod Datagrams
 pub mod Documents
 pub mod Facts
 pub mod Following
 pub mod Names
 pub mod Printing
+pub mod Summary
 pub mod Wanted
+pub mod Words

@@ -1,25 +1,34 @@
 -- What is printed of an exchange that is finished, and whether something failed in it.
 --
 -- `IsPrinted`: an exchange that isn't wanted prints nothing. As JSON it is a line, which is read as its document; else
--- its text. `fails`: something failed in it. `Prints`, `Writes`: what is printed as datagrams are taken.
-use Rattle.std.specs.Prelude.{◌≡◌, ℕ, List, [], ◌∷◌, ◌++◌, Bool, true, false, not, ◌&&◌, ◌||◌, Option, Some, None}
-use Rattle.std.specs.List.{list_any}
+-- its text. `fails`: something failed in it. `Prints`, `Writes`: what is printed as datagrams are taken. `IsAccount`:
+-- what is printed of a whole capture.
+use Rattle.std.specs.Prelude.{◌≡◌, ◌+◌, ℕ, List, [], ◌∷◌, ◌++◌, Bool, true, false, not, ◌&&◌, ◌||◌, Option, Some, None}
+use Rattle.std.specs.Prelude.{map, nat_eq, option_and_then}
+use Rattle.std.specs.Cmp.Lexicographic.{pointwise}
+use Rattle.std.specs.HashMap.{get}
+use Rattle.std.specs.List.{All, list_any}
+use Rattle.md5.specs.Md5.{md5}
 use Rattle.serde_json.specs.Data.{Data}
 use Rattle.diagnose_exchanges.specs.declared.exchange.Exchange.{Exchange}
 use Rattle.diagnose_exchanges.specs.declared.exchange.Ending.{Ending}
 use Rattle.diagnose_exchanges.specs.declared.exchange.Ending.TheVariants.{Waits, Alone, Answered, SentAgain}
 use Rattle.diagnose_exchanges.specs.declared.exchange.Ending.TheVariants.{NoAnswer, NotFollowed}
 use Rattle.diagnose_exchanges.specs.Exchanges.{HasRun, Step, begins, answers, ends, hands_over, finishes, place_after}
-use Rattle.diagnose_exchanges.specs.Exchanges.{taken_by}
+use Rattle.diagnose_exchanges.specs.Exchanges.{taken_by, times, times_in}
+use Rattle.diagnose_exchanges.specs.declared.asked.Asked.{Asked}
+use Rattle.snmp_manager.specs.Views.{Held}
 use Rattle.diagnose_text.specs.Blocks.{IsText}
+use Rattle.diagnose_text.specs.Datagrams.{HoldsItsOwn, IsOwn, JudgesAs, Seen, number_seen}
 use Rattle.diagnose_text.specs.Documents.{IsExchange, IsLine}
 use Rattle.diagnose_text.specs.Names.{sender_user}
-use Rattle.diagnose_text.specs.Wanted.{is_wanted}
+use Rattle.diagnose_text.specs.Wanted.{direction, is_wanted}
 use Rattle.diagnose_text.specs.declared.diagnoser.Diagnoser.{Diagnoser}
 use Rattle.diagnose_text.specs.declared.facts.Answer.{Answer}
 use Rattle.diagnose_text.specs.declared.facts.First.{First}
 use Rattle.diagnose_text.specs.declared.facts.Says.{Says}
 use Rattle.diagnose_text.specs.declared.facts.Says.TheVariants.{Engine, Values, Error, Report, Unread}
+use Rattle.diagnose_text.specs.declared.line.Line.{Line}
 use Rattle.diagnose_text.specs.declared.options.DiagnoseOptions.{DiagnoseOptions}
 use Rattle.diagnose_text.specs.declared.options.Style.{Style}
 use Rattle.diagnose_text.specs.declared.options.Style.TheVariants.{Text, Json}
@@ -107,30 +116,58 @@ module _ {K : Type 0} where
   abbrev pub gone_after : ℕ → List (Step K First Answer) → ℕ
   gone_after gone [] = gone
   gone_after gone (begins number first counts ending ∷ steps) = gone_after gone steps
-  gone_after gone (answers place by answer ∷ steps) = gone_after gone steps
+  gone_after gone (answers place by asked answer ∷ steps) = gone_after gone steps
   gone_after gone (ends place ending ∷ steps) = gone_after gone steps
   gone_after gone (hands_over first place ∷ steps) = gone_after gone steps
   gone_after gone (finishes ∷ steps) = gone_after (place_after gone 1) steps
 
-module _ {K : Type 0} where
-  -- By some steps exactly these datagrams are taken. Each exchange that is taken out is printed, in order, and nothing
-  -- else is. Something failed if it failed before, or in one of these.
-  pub record Prints (options : DiagnoseOptions) (before : Bool) (gone : ℕ) (old : List (Exchange K First Answer))
-      (numbers text : List ℕ) (failed : Bool) (later : ℕ) (new : List (Exchange K First Answer)) : Type 0 where
-    pub steps : List (Step K First Answer)
-    pub taken : taken_by steps ≡ numbers
-    pub finished : List (Exchange K First Answer)
-    pub run : HasRun gone old steps finished new
-    pub place : later ≡ gone_after gone steps
-    pub texts : ArePrinted options finished text
-    pub failure : failed ≡ (before || some_failed options finished)
+-- By some steps exactly these datagrams are taken, and each gives what was read of it. Each exchange that is taken out
+-- is printed, in order, and nothing else is. Something failed if it failed before, or in one of these.
+pub record Prints (options : DiagnoseOptions) (before : Bool) (gone : ℕ) (old : List (Exchange Asked First Answer))
+    (seen : List Seen) (text : List ℕ) (failed : Bool) (later : ℕ) (new : List (Exchange Asked First Answer))
+    : Type 0 where
+  pub steps : List (Step Asked First Answer)
+  pub taken : taken_by steps ≡ map number_seen seen
+  pub own : All (IsOwn seen) steps
+  pub finished : List (Exchange Asked First Answer)
+  pub run : HasRun gone old steps finished new
+  pub place : later ≡ gone_after gone steps
+  pub texts : ArePrinted options finished text
+  pub failure : failed ≡ (before || some_failed options finished)
 
--- Between these states of a diagnoser exactly these datagrams are taken, and the text that was written goes on by what
--- is printed of the exchanges that are taken out.
-pub record Writes (numbers : List ℕ) (old : Diagnoser) (before : List ℕ) (new : Diagnoser) (after : List ℕ)
+-- these datagrams are judged, one after another
+abbrev pub AreJudged : Held → List Seen → Held → Type 0
+AreJudged old [] new = new ≡ old
+AreJudged old (one ∷ seen) new = (mid : Held)
+    × JudgesAs old one.line.at.seconds one.octets one.judgement mid × AreJudged mid seen new
+
+-- Between these states of a diagnoser exactly these datagrams are judged and taken, and the text that was written goes
+-- on by what is printed of the exchanges that are taken out.
+pub record Writes (seen : List Seen) (old : Diagnoser) (before : List ℕ) (new : Diagnoser) (after : List ℕ)
     : Type 0 where
   pub text : List ℕ
   pub whole : after ≡ before ++ text
   pub options : new.report.options ≡ old.report.options
+  pub judged : AreJudged old.follower.observer seen new.follower.observer
   pub prints : Prints old.report.options old.report.failed old.follower.exchanges.gone old.follower.exchanges.list.items
-      numbers text new.report.failed new.follower.exchanges.gone new.follower.exchanges.list.items
+      seen text new.report.failed new.follower.exchanges.gone new.follower.exchanges.list.items
+
+-- How a datagram with this number was captured, at this moment, by a diagnoser: its way and its part of a second are
+-- those of the packet that was seen before it, and it is a copy of the first one with its octets of which the digest is
+-- kept.
+pub record IsLineOf (old : Diagnoser) (number moment : ℕ) (w : List ℕ) (line : Line) : Type 0 where
+  pub number_is : line.number ≡ number
+  pub seconds : line.at.seconds ≡ moment
+  pub micros : line.at.micros ≡ old.micros
+  pub way : line.route ≡ old.route
+  pub copy : line.copy_of ≡ get (pointwise nat_eq) old.copies.kept (md5 w)
+  pub told : line.told ≡ option_and_then (direction old.report.options.agents.items) old.route
+
+-- What is printed of a capture with these datagrams, and what is held at its end: the texts of exchanges one after
+-- another, of which each holds what was read of its own datagrams. Each datagram is in exactly one of them.
+pub record IsAccount (options : DiagnoseOptions) (seen : List Seen) (held : List (Exchange Asked First Answer))
+    (text : List ℕ) : Type 0 where
+  pub finished : List (Exchange Asked First Answer)
+  pub texts : ArePrinted options finished text
+  pub own : All (HoldsItsOwn seen) (finished ++ held)
+  pub once : (n : ℕ) → times_in n finished + times_in n held ≡ times n (map number_seen seen)

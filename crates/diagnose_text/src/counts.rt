@@ -1,12 +1,15 @@
 //! How the exchanges of each user ended.
 
-ghost use Rattle.std.specs.Prelude.{◌≡◌, IfOk, OnOk};
+ghost use Rattle.std.specs.Prelude.{◌≡◌, ◌++◌, ℕ, List, IfOk, OnOk, map, string_bytes};
+ghost use Rattle.std.specs.List.{AllZip};
 ghost use Rattle.serde_json.specs.View.{members_view, view};
-ghost use Rattle.diagnose_text.specs.Documents.{IsUser, count_members, user_document};
+ghost use Rattle.diagnose_text.specs.Summary as spec;
+ghost use Rattle.diagnose_text.specs.Summary.{IsUser, IsUserLine, count_members, named, user_document, user_line};
+ghost use Rattle.diagnose_text.specs.Words.{AreTexts};
 
 use crate::facts::{Answer, Says};
 use crate::heads::name_text;
-use crate::members::{Members, array_of, no_members, object_of, put_number, put_text};
+use crate::members::{Members, no_members, object_of, put_number, put_text};
 use diagnose_exchanges::Ending;
 use serde_json::Value as Json;
 use std::alloc::{AllocError, Global};
@@ -63,7 +66,10 @@ impl Counts {
     }
 
     /// Adds a line for each user.
-    pub(crate) fn put_lines(&self, alloc: Global, out: &mut String) -> Result<(), AllocError> {
+    pub(crate) fn put_lines(&self, alloc: Global, out: &mut String) -> Result<(), AllocError>
+        ensures { OnOk result ((text : List ℕ) × (string_bytes out.new ≡ string_bytes out.old ++ text)
+            × AreTexts IsUserLine self.now.users.items text) }
+    {
         for counts in &self.users {
             counts.put_line(alloc, out)?;
         }
@@ -71,13 +77,15 @@ impl Counts {
     }
 
     /// An object for each user.
-    pub(crate) fn objects(&self, alloc: Global) -> Result<Json, AllocError> {
+    pub(crate) fn objects(&self, alloc: Global) -> Result<Vec<Json>, AllocError>
+        ensures { IfOk result (λ list. AllZip IsUser self.now.users.items (map view list.items)) }
+    {
         let mut list = Vec::new(alloc);
         for counts in &self.users {
             let object = counts.object(alloc)?;
             list.push(object)?;
         }
-        Ok(array_of(list))
+        Ok(list)
     }
 }
 
@@ -110,14 +118,39 @@ impl UserCounts {
         }
     }
 
-    fn put_line(&self, alloc: Global, out: &mut String) -> Result<(), AllocError> {
-        let octets = self.user.as_slice();
-        if octets.is_empty() {
-            out.push_str("  (no user)")?;
+    /// Adds the line of the user.
+    fn put_line(&self, alloc: Global, out: &mut String) -> Result<(), AllocError>
+        ensures { OnOk result ((line : List ℕ) × (string_bytes out.new ≡ string_bytes out.old ++ line)
+            × IsUserLine self.now line) }
+    {
+        let name = name_text(alloc, self.user.as_slice())?;
+        self.put_named(out, &name)
+    }
+
+    /// Adds the line with the name as this text.
+    fn put_named(&self, out: &mut String, name: &str) -> Result<(), AllocError>
+        ensures { OnOk result (string_bytes out.new ≡ string_bytes out.old ++ user_line self.now name.now) }
+    {
+        out.push_str("  ")?;
+        out.push_str(self.name_or_none(name))?;
+        self.put_counts(out)
+    }
+
+    /// The name, or that there is none.
+    fn name_or_none<'a>(&self, name: &'a str) -> &'a str
+        ensures { result.now ≡ named self.now.user name.now }
+    {
+        if self.user.as_slice().is_empty() {
+            "(no user)"
         } else {
-            let name = name_text(alloc, octets)?;
-            write!(out, "  {name}")?;
+            name
         }
+    }
+
+    /// Adds how many exchanges ended each way.
+    fn put_counts(&self, out: &mut String) -> Result<(), AllocError>
+        ensures { OnOk result (string_bytes out.new ≡ string_bytes out.old ++ spec.counts_text self.now) }
+    {
         let (answered, errors) = (self.answered, self.errors);
         let (refused, no_answer) = (self.refused, self.no_answer);
         write!(
@@ -126,6 +159,7 @@ impl UserCounts {
         )
     }
 
+    /// The object of the user.
     fn object(&self, alloc: Global) -> Result<Json, AllocError>
         ensures { IfOk result (λ json. IsUser self.now (view json)) }
     {
@@ -143,7 +177,7 @@ impl UserCounts {
     }
 
     /// Adds the name as this text, and the counts.
-    #[tactic(auto, unfolding(crate::specs::Documents::count_members))]
+    #[tactic(auto, unfolding(crate::specs::Summary::count_members))]
     fn put(&self, alloc: Global, members: &mut Members, user: &str) -> Result<(), AllocError>
         ensures { OnOk result (members_view members.new.entries
             ≡ count_members self.now user.now (members_view members.old.entries)) }

@@ -1,8 +1,12 @@
 //! Takes the datagrams of a capture one after another, and prints a block for each exchange.
 
-ghost use Rattle.std.specs.Prelude.{◌≡◌, ◌++◌, ℕ, List, [], ◌∷◌, false, IfOk, OnOk};
-ghost use Rattle.diagnose_exchanges.specs.Exchanges.{IsUnanswered};
-ghost use Rattle.diagnose_text.specs.Printing.{Writes, is_json};
+ghost use Rattle.std.specs.Prelude.{◌≡◌, ◌++◌, ℕ, List, [], ◌∷◌, Option, false, IfOk, OnOk};
+ghost use Rattle.diagnose_judge.specs.Judging.{Judgement};
+ghost use Rattle.diagnose_exchanges.specs.Exchanges.{IsGivenUp};
+ghost use Rattle.diagnose_text.specs.Datagrams.{seen_as};
+ghost use Rattle.diagnose_text.specs.Printing.{IsLineOf, Writes, is_json};
+ghost use Rattle.diagnose_text.specs.Summary.{IsSummed};
+ghost use Rattle.diagnose_text.specs.declared.line.Line.{Line as LineIs};
 
 use crate::facts::Answer;
 use crate::follower::Follower;
@@ -67,7 +71,9 @@ impl Diagnoser {
     pub fn finish(&mut self) -> Result<(Vec<u8>, bool), AllocError>
         ensures failed { IfOk result (λ printed. printed.1 ≡ self.new.report.failed) }
         ensures printed { IfOk result (λ printed. (text summary : List ℕ) × (printed.0.items ≡ text ++ summary)
-            × Writes [] self.old [] self.new text) }
+            × Writes [] self.old [] self.new text
+            × IsSummed self.new.report.options.style self.new.report.counts.users.items
+            self.new.follower.observer.clocks summary) }
     {
         let mut text = Vec::new(self.alloc);
         self.print_all(&mut text)?;
@@ -91,7 +97,7 @@ impl Diagnoser {
 
     /// The first exchange, if it waits, ends so, without an answer. Says whether it waited.
     fn end_first(&mut self, ending: Ending<Asked, Answer>) -> bool
-        requires { IsUnanswered ending }
+        requires { IsGivenUp ending }
         ensures { Writes [] self.old [] self.new [] }
     {
         let place = self.follower.exchanges.first_place();
@@ -124,7 +130,8 @@ impl Diagnoser {
 
     /// Takes a datagram. If too many exchanges wait then, the first isn't followed further.
     fn take(&mut self, line: Line, datagram: &[u8]) -> Result<(), AllocError>
-        ensures { OnOk result (Writes (line.number ∷ []) self.old [] self.new []) }
+        ensures { OnOk result ((judgement : Option Judgement)
+            × Writes (seen_as line datagram.now judgement ∷ []) self.old [] self.new []) }
     {
         self.follower.take(line, datagram)?;
         self.end_over();
@@ -154,7 +161,7 @@ impl Diagnoser {
 
     /// How a datagram with this number was captured at this moment, in seconds.
     fn line_of(&mut self, number: u64, moment: u64, datagram: &[u8]) -> Result<Line, AllocError>
-        ensures number { IfOk result (λ line. line.number ≡ number) }
+        ensures line { IfOk result (IsLineOf self.old number moment datagram.now) }
         ensures follower { self.new.follower ≡ self.old.follower }
         ensures report { self.new.report ≡ self.old.report }
     {
@@ -181,7 +188,8 @@ impl Diagnoser {
         datagram: &[u8],
     ) -> Result<Vec<u8>, AllocError>
         ensures { IfOk result (λ printed. (text limit : List ℕ) × (printed.items ≡ text ++ limit)
-            × Writes (number ∷ []) self.old [] self.new text) }
+            × ((line : LineIs) × (judgement : Option Judgement) × IsLineOf self.old number moment datagram.now line
+            × Writes (seen_as line datagram.now judgement ∷ []) self.old [] self.new text)) }
     {
         let line = self.line_of(number, moment, datagram)?;
         self.take(line, datagram)?;
@@ -195,7 +203,9 @@ impl Diagnoser {
 impl Printer for Diagnoser {
     ghost prints = { λ diagnoser number moment datagram text refused. refused ≡ false };
 
-    fn see(&mut self, link: u16, micros: u32, packet: &[u8]) {
+    fn see(&mut self, link: u16, micros: u32, packet: &[u8])
+        ensures seen { Writes [] self.old [] self.new [] }
+    {
         self.route = route_of(link, packet);
         self.micros = micros;
     }

@@ -1,7 +1,18 @@
 //! Takes the datagrams of a capture one after another, and makes exchanges of them.
 
-ghost use Rattle.std.specs.Prelude.{◌≡◌, [], ◌∷◌, true, false, OnOk};
-ghost use Rattle.diagnose_text.specs.Following.{Follows};
+ghost use Rattle.std.specs.Prelude.{◌≡◌, ◌≢◌, ℕ, List, [], Option, Some, true, false, IfOk, IfSome, OnOk};
+ghost use Rattle.std.specs.Prelude.{string_bytes};
+ghost use Rattle.snmp_msg.specs.PduTypes.{pdu_tag};
+ghost use Rattle.snmp_msg.specs.declared.pdu_type.PduType.TheVariants.{SNMPv2Trap};
+ghost use Rattle.snmp_incoming.specs.Answers.{given_of};
+ghost use Rattle.diagnose_judge.specs.Judging.{Judgement, discovery, IsDiscovery as IsDiscoveryMessage};
+ghost use Rattle.diagnose_exchanges.specs.Exchanges.{Takes, answers, begins};
+ghost use Rattle.diagnose_exchanges.specs.declared.exchange.Ending.TheVariants.{Waits};
+ghost use Rattle.diagnose_text.specs.Datagrams.{Asks, IsAnswerRead, IsNamed, IsPduIn, IsRequest, IsSentStep, IsStepOf};
+ghost use Rattle.diagnose_text.specs.Datagrams.{IsUnasked, IsUnopenedStep, IsUnread, IsUnreadSaid, IsUnreadStep};
+ghost use Rattle.diagnose_text.specs.Datagrams.{StandsAlone, is_counted};
+ghost use Rattle.diagnose_text.specs.Following.{Follows, Sees};
+ghost use Rattle.diagnose_text.specs.Summary.{IsSummed};
 
 use crate::agents::Agents;
 use crate::facts::{Answer, First, Says, Sent, What};
@@ -57,18 +68,21 @@ impl Follower {
     }
 
     /// The summary of what was printed, and of the engines that are known.
-    pub(crate) fn summary(&self, report: &Report) -> Result<String, AllocError> {
+    pub(crate) fn summary(&self, report: &Report) -> Result<String, AllocError>
+        ensures { IfOk result (λ text. IsSummed report.now.options.style report.now.counts.users.items
+            self.now.observer.clocks (string_bytes text)) }
+    {
         report.summary(self.observer.clocks(), &self.agents)
     }
 
     /// Takes a datagram, by exactly one step that begins an exchange with it or answers one by it.
     pub(crate) fn take(&mut self, line: Line, datagram: &[u8]) -> Result<(), AllocError>
-        ensures { OnOk result (Follows (line.number ∷ []) self.old.exchanges.gone self.old.exchanges.list.items
-            self.new.exchanges.gone self.new.exchanges.list.items) }
+        ensures { OnOk result ((judgement : Option Judgement)
+            × Sees line datagram.now judgement self.old self.new) }
     {
         if let Some(engine) = engine_in(datagram) {
             if self.agents.leaves_out(&engine) {
-                return self.tell(line.number, line.left_out(engine));
+                return self.tell(line, line.left_out(engine));
             }
         }
         match self.observer.judge(line.at.seconds, datagram)? {
@@ -79,32 +93,32 @@ impl Follower {
         }
     }
 
-    /// The datagram with this number is an exchange of its own.
-    #[tactic(auto, unfolding(crate::specs::Following::Follows))]
-    fn tell(&mut self, number: u64, first: First) -> Result<(), AllocError>
-        ensures { OnOk result (Follows (number ∷ []) self.old.exchanges.gone self.old.exchanges.list.items
-            self.new.exchanges.gone self.new.exchanges.list.items) }
+    /// The datagram is an exchange of its own.
+    fn tell(&mut self, line: Line, first: First) -> Result<(), AllocError>
+        ensures follows { OnOk result
+            (Follows (StandsAlone line (λ held. held ≡ first)) self.old self.new) }
+        ensures observer { self.new.observer ≡ self.old.observer }
     {
-        self.exchanges.tell(number, first)
+        self.exchanges.tell(line.number, first)
     }
 
     /// A request, which waits for its answer from now on, unless it is a copy. What asked the same before gets none,
     /// unless it is the one that is sent again.
     fn ask(&mut self, line: Line, id: u32, first: First) -> Result<(), AllocError>
-        ensures { OnOk result (Follows (line.number ∷ []) self.old.exchanges.gone self.old.exchanges.list.items
-            self.new.exchanges.gone self.new.exchanges.list.items) }
+        ensures follows { OnOk result (Follows (Asks line id (λ held. held ≡ first)) self.old self.new) }
+        ensures observer { self.new.observer ≡ self.old.observer }
     {
         if line.copy_of.is_some() {
-            return self.tell(line.number, first);
+            return self.tell(line, first);
         }
         self.ask_anew(line.number, Asked::by_request(line.route, id), first)
     }
 
     /// A request with this number that is no copy.
-    #[tactic(auto, unfolding(crate::specs::Following::Follows))]
     fn ask_anew(&mut self, number: u64, asked: Asked, first: First) -> Result<(), AllocError>
-        ensures { OnOk result (Follows (number ∷ []) self.old.exchanges.gone self.old.exchanges.list.items
-            self.new.exchanges.gone self.new.exchanges.list.items) }
+        ensures follows { OnOk result
+            (Follows (λ step. step ≡ begins number first (is_counted first) (Waits asked)) self.old self.new) }
+        ensures observer { self.new.observer ≡ self.old.observer }
     {
         let again = first.again.map(|again| again.place);
         let counts = first.again.is_none() && !first.is_discovery();
@@ -113,17 +127,19 @@ impl Follower {
 
     /// A request that was opened.
     fn request(&mut self, line: Line, taken: &Taken<'_>, verdict: Verdict) -> Result<(), AllocError>
-        ensures { OnOk result (Follows (line.number ∷ []) self.old.exchanges.gone self.old.exchanges.list.items
-            self.new.exchanges.gone self.new.exchanges.list.items) }
+        ensures follows { OnOk result
+            (Follows (Asks line taken.now.id (IsRequest line (given_of taken.now) verdict)) self.old self.new) }
+        ensures observer { self.new.observer ≡ self.old.observer }
     {
         let again = self.note_request(line, taken)?;
-        let what = What::Pdu(names_of(self.alloc, &taken.pdu())?);
+        let what = what_of(self.alloc, taken)?;
         self.ask(line, taken.id, line.request(taken, what, again, verdict))
     }
 
     /// The request with the same user and PDU that was seen before, unless this is a copy.
     fn note_request(&mut self, line: Line, taken: &Taken<'_>) -> Result<Option<Sent>, AllocError>
-        ensures { self.new.exchanges ≡ self.old.exchanges }
+        ensures exchanges { self.new.exchanges ≡ self.old.exchanges }
+        ensures observer { self.new.observer ≡ self.old.observer }
     {
         let digest = digest_of(taken.user, taken.scoped().pdu);
         let sent = Sent {
@@ -139,8 +155,9 @@ impl Follower {
 
     /// What an engine sent.
     fn sent_by(&mut self, line: Line, taken: &Taken<'_>, in_window: bool) -> Result<(), AllocError>
-        ensures { OnOk result (Follows (line.number ∷ []) self.old.exchanges.gone self.old.exchanges.list.items
-            self.new.exchanges.gone self.new.exchanges.list.items) }
+        ensures follows { OnOk result
+            (Follows (IsSentStep line (given_of taken.now) in_window) self.old self.new) }
+        ensures observer { self.new.observer ≡ self.old.observer }
     {
         let from = line.route.map(|route| route.from);
         let notifies = taken.tag == PduType::SNMPv2Trap.tag();
@@ -154,8 +171,10 @@ impl Follower {
 
     /// An answer that was opened.
     fn answer(&mut self, line: Line, taken: &Taken<'_>, in_window: bool) -> Result<(), AllocError>
-        ensures { OnOk result (Follows (line.number ∷ []) self.old.exchanges.gone self.old.exchanges.list.items
-            self.new.exchanges.gone self.new.exchanges.list.items) }
+        requires { taken.now.tag ≢ pdu_tag SNMPv2Trap }
+        ensures follows { OnOk result
+            (Follows (IsSentStep line (given_of taken.now) in_window) self.old self.new) }
+        ensures observer { self.new.observer ≡ self.old.observer }
     {
         let asked = Asked::by_answer(line.route, taken.id);
         let Some(answer) = self.answer_of(line, &asked, taken, in_window)? else {
@@ -174,7 +193,10 @@ impl Follower {
         asked: &Asked,
         taken: &Taken<'_>,
         in_window: bool,
-    ) -> Result<Option<Answer>, AllocError> {
+    ) -> Result<Option<Answer>, AllocError>
+        ensures { IfOk result
+            (λ found. IfSome found (IsAnswerRead line (given_of taken.now) in_window)) }
+    {
         let says = match self.asks_engine(asked) {
             Some(true) => Says::Engine(taken.engine.copy()),
             Some(false) => says_of(self.alloc, &taken.pdu())?,
@@ -190,13 +212,12 @@ impl Follower {
     }
 
     /// Whether the datagram with this number answers the exchange that waits for an answer with these, if one does.
-    #[tactic(auto, unfolding(crate::specs::Following::Follows))]
     fn answers(&mut self, asked: &Asked, number: u64, answer: Answer) -> bool
-        ensures answers { result ≡ true → Follows (number ∷ []) self.old.exchanges.gone self.old.exchanges.list.items
-            self.new.exchanges.gone self.new.exchanges.list.items }
-        ensures gone { result ≡ false → self.new.exchanges.gone ≡ self.old.exchanges.gone }
-        ensures stays { result ≡ false
-            → self.new.exchanges.list.items ≡ self.old.exchanges.list.items }
+        ensures follows { result ≡ true → Follows
+            (λ step. (place : ℕ) × (step ≡ answers place number asked.now answer)) self.old self.new }
+        ensures exchanges { result ≡ false → (self.new.exchanges.gone ≡ self.old.exchanges.gone)
+            × (self.new.exchanges.list.items ≡ self.old.exchanges.list.items) }
+        ensures observer { self.new.observer ≡ self.old.observer }
     {
         let Ok(place) = self.exchanges.answer(asked, number, answer) else {
             return false;
@@ -232,10 +253,11 @@ impl Follower {
     }
 
     /// The request that was sent again with the one at this place, which has its answer now, is answered too.
-    #[tactic(auto, unfolding(crate::specs::Following::Follows))]
     fn end_first(&mut self, place: u64)
-        ensures { Follows [] self.old.exchanges.gone self.old.exchanges.list.items
-            self.new.exchanges.gone self.new.exchanges.list.items }
+        ensures gone { self.new.exchanges.gone ≡ self.old.exchanges.gone }
+        ensures takes { Takes [] self.old.exchanges.gone self.old.exchanges.list.items
+            self.new.exchanges.list.items }
+        ensures observer { self.new.observer ≡ self.old.observer }
     {
         let again = match self.exchanges.at(place) {
             Some(exchange) => exchange.first.again,
@@ -248,20 +270,21 @@ impl Follower {
 
     /// A notification, or an answer of which the request isn't known.
     fn tell_alone(&mut self, line: Line, taken: &Taken<'_>) -> Result<(), AllocError>
-        ensures { OnOk result (Follows (line.number ∷ []) self.old.exchanges.gone self.old.exchanges.list.items
-            self.new.exchanges.gone self.new.exchanges.list.items) }
+        ensures follows { OnOk result
+            (Follows (StandsAlone line (IsUnasked line (given_of taken.now))) self.old self.new) }
+        ensures observer { self.new.observer ≡ self.old.observer }
     {
-        let what = What::Pdu(names_of(self.alloc, &taken.pdu())?);
-        self.tell(line.number, line.alone(taken, what))
+        let what = what_of(self.alloc, taken)?;
+        self.tell(line, line.alone(taken, what))
     }
 
     /// A datagram that wasn't opened.
     fn unread(&mut self, line: Line, datagram: &[u8], refusal: Refusal) -> Result<(), AllocError>
-        ensures { OnOk result (Follows (line.number ∷ []) self.old.exchanges.gone self.old.exchanges.list.items
-            self.new.exchanges.gone self.new.exchanges.list.items) }
+        ensures follows { OnOk result (Follows (IsUnreadStep line datagram.now refusal) self.old self.new) }
+        ensures observer { self.new.observer ≡ self.old.observer }
     {
         let Some(unread) = unread_in(self.alloc, datagram, line.told)? else {
-            return self.tell(line.number, line.unreadable(refusal));
+            return self.tell(line, line.unreadable(refusal));
         };
         if self.is_request(line, &unread) {
             let id = unread.id;
@@ -274,11 +297,11 @@ impl Follower {
     /// Whether a datagram that wasn't opened is a request: by its PDU if it isn't sealed, or else by the agents that
     /// the user names, or else by what waits for an answer, and by the ports.
     fn is_request(&self, line: Line, unread: &Unread) -> bool {
-        if let Some(is_request) = unread.is_request {
+        if let Some(is_request) = unread.contents.is_request {
             return is_request;
         }
-        let asked = Asked::by_answer(line.route, unread.id);
-        if self.exchanges.waits(&asked).is_some() {
+        let request = Asked::by_answer(line.route, unread.id);
+        if self.exchanges.waits(&request).is_some() {
             return false;
         }
         match line.route {
@@ -287,43 +310,58 @@ impl Follower {
         }
     }
 
-    /// An answer that wasn't opened. A Report that isn't sealed says why the agent refuses the request. It came
-    /// without authentication, or its code is wrong, so it is a hint.
+    /// An answer that wasn't opened, unless no request waits for it.
     fn unread_answer(
         &mut self,
         line: Line,
         mut unread: Unread,
         refusal: Refusal,
     ) -> Result<(), AllocError>
-        ensures { OnOk result (Follows (line.number ∷ []) self.old.exchanges.gone self.old.exchanges.list.items
-            self.new.exchanges.gone self.new.exchanges.list.items) }
+        ensures follows { (w : List ℕ) → IsUnread w line.told unread
+            → OnOk result (Follows (IsUnopenedStep line w unread.id refusal) self.old self.new) }
+        ensures observer { self.new.observer ≡ self.old.observer }
     {
         let asked = Asked::by_answer(line.route, unread.id);
-        let says = match unread.report.take() {
-            Some(report) => report,
-            None => Says::Unread(refusal),
-        };
         let answer = Answer {
             at: line.at,
-            says,
+            says: said_unread(unread.contents.report.take(), refusal),
             views: Vec::new(self.alloc),
             in_window: true,
         };
         if self.answers(&asked, line.number, answer) {
             return Ok(());
         }
-        self.tell(line.number, line.unread(unread, refusal))
+        self.tell(line, line.unread(unread, refusal))
     }
 
     /// A discovery.
     fn discovery(&mut self, line: Line, datagram: &[u8]) -> Result<(), AllocError>
-        ensures { OnOk result (Follows (line.number ∷ []) self.old.exchanges.gone self.old.exchanges.list.items
-            self.new.exchanges.gone self.new.exchanges.list.items) }
+        requires { IsDiscoveryMessage datagram.now }
+        ensures follows { OnOk result
+            (Follows (IsStepOf line datagram.now (Some discovery)) self.old self.new) }
+        ensures observer { self.new.observer ≡ self.old.observer }
     {
-        let id = match read_message(datagram) {
-            Ok(message) => message.header.id,
-            Err(_) => 0,
+        let Ok(message) = read_message(datagram) else {
+            unreachable!();
         };
-        self.ask(line, id, line.first(What::Discovery))
+        self.ask(line, message.header.id, line.first(What::Discovery))
+    }
+}
+
+/// An accepted PDU by its type and its first names.
+fn what_of(alloc: Global, taken: &Taken<'_>) -> Result<What, AllocError>
+    ensures { IfOk result (IsNamed (IsPduIn (given_of taken.now).text)) }
+{
+    Ok(What::Pdu(names_of(alloc, &taken.pdu())?))
+}
+
+/// What an answer that wasn't opened says. A Report that isn't sealed says why the agent refuses the request. It came
+/// without authentication, or its code is wrong, so it is a hint.
+fn said_unread(report: Option<Says>, refusal: Refusal) -> Says
+    ensures { IsUnreadSaid refusal report result }
+{
+    match report {
+        Some(report) => report,
+        None => Says::Unread(refusal),
     }
 }

@@ -5,7 +5,9 @@ ghost use Rattle.std.specs.List.{flat_map};
 ghost use Rattle.diagnose_text.specs.Blocks as blocks;
 ghost use Rattle.diagnose_text.specs.Blocks.{head_line, more_text, name_of, pdu_text, sender_text, user_text};
 ghost use Rattle.diagnose_text.specs.Blocks.{way_text, what_text};
-ghost use Rattle.diagnose_text.specs.Documents.{IsNameText, span};
+ghost use Rattle.diagnose_text.specs.Documents.{span};
+ghost use Rattle.diagnose_text.specs.Words as words;
+ghost use Rattle.diagnose_text.specs.Words.{IsNameText, of_day, two_digits};
 ghost use Rattle.diagnose_text.specs.Documents as spec;
 
 use crate::facts::{First, PduNames, Sender, What};
@@ -45,17 +47,46 @@ impl Stamp {
 }
 
 /// The time of day of a stamp, in UTC, with its microseconds.
-pub(crate) fn time_text(alloc: Global, at: Stamp) -> Result<String, AllocError> {
-    let clock = clock_text(alloc, at)?;
-    let micros = at.micros;
-    format!(in alloc; "{clock}.{micros:06}")
+#[tactic(auto, unfolding(crate::specs::Words::micros_text))]
+pub(crate) fn time_text(alloc: Global, at: Stamp) -> Result<String, AllocError>
+    ensures { IfOk result (λ text. string_bytes text ≡ words.time_text at) }
+{
+    let mut text = clock_text(alloc, at.seconds)?;
+    let micros = u64::from(at.micros);
+    text.push_str(".")?;
+    put_two(&mut text, micros / 10_000)?;
+    put_two(&mut text, micros / 100 % 100)?;
+    put_two(&mut text, micros % 100)?;
+    Ok(text)
 }
 
-/// The time of day of a stamp, in UTC, in whole seconds.
-pub(crate) fn clock_text(alloc: Global, at: Stamp) -> Result<String, AllocError> {
-    let day = at.seconds % 86_400;
-    let (hours, minutes, seconds) = (day / 3_600, day / 60 % 60, day % 60);
-    format!(in alloc; "{hours:02}:{minutes:02}:{seconds:02}")
+/// The time of day, in UTC, at this second since 1970.
+pub(crate) fn clock_text(alloc: Global, seconds: u64) -> Result<String, AllocError>
+    ensures { IfOk result (λ text. string_bytes text ≡ words.clock_text seconds) }
+{
+    of_day(alloc, seconds % 86_400)
+}
+
+/// Hours, minutes and seconds of this second of a day.
+#[tactic(auto, unfolding(crate::specs::Words::of_day))]
+fn of_day(alloc: Global, second: u64) -> Result<String, AllocError>
+    ensures { IfOk result (λ text. string_bytes text ≡ of_day second) }
+{
+    let mut text = String::new(alloc);
+    put_two(&mut text, second / 3_600)?;
+    text.push_str(":")?;
+    put_two(&mut text, second / 60 % 60)?;
+    text.push_str(":")?;
+    put_two(&mut text, second % 60)?;
+    Ok(text)
+}
+
+/// Adds a number below 100 with two digits.
+fn put_two(out: &mut String, n: u64) -> Result<(), AllocError>
+    ensures { OnOk result (string_bytes out.new ≡ string_bytes out.old ++ two_digits n) }
+{
+    let (tens, ones) = (n / 10, n % 10);
+    write!(out, "{tens}{ones}")
 }
 
 /// A span in milliseconds with one digit below.

@@ -22,6 +22,7 @@ mod diagnoser;
 mod facts;
 mod follower;
 mod heads;
+mod laws;
 mod line;
 mod members;
 mod names;
@@ -39,4 +40,5 @@ mod views;
 mod words;
 
 pub use diagnoser::Diagnoser;
+pub use laws::{calls_print_as_one, each_exchange_is_of_its_own_datagrams};
 pub use options::{DiagnoseOptions, NamedAgent, Style};

@@ -1,6 +1,7 @@
 //! A datagram of a capture, and what is known of it as the first of an exchange.
 
 ghost use Rattle.std.specs.Prelude.{◌≡◌, ◌≤◌, ◌↔◌, IsTrue, Some, length, true};
+ghost use Rattle.snmp_incoming.specs.Answers.{given_of};
 ghost use Rattle.diagnose_text.specs.Facts.{IsAlone, IsCaptured, IsJudged, IsPlain, IsSender, LacksRequest};
 ghost use Rattle.diagnose_text.specs.declared.facts.Remark.TheVariants.{EnginesLimit};
 ghost use Rattle.diagnose_text.specs.declared.facts.What.TheVariants.{Sealed, Unreadable};
@@ -51,7 +52,7 @@ impl Line {
     fn message_first(self, taken: &Taken<'_>, what: What) -> First
         ensures captured { IsCaptured self result }
         ensures plain { IsPlain result }
-        ensures sender { IsSender taken.now result }
+        ensures sender { IsSender (given_of taken.now) result }
         ensures what { result.what ≡ what }
     {
         let mut first = self.first(what);
@@ -69,7 +70,7 @@ impl Line {
         verdict: Verdict,
     ) -> First
         ensures captured { IsCaptured self result }
-        ensures sender { IsSender taken.now result }
+        ensures sender { IsSender (given_of taken.now) result }
         ensures what { result.what ≡ what }
         ensures again { result.again ≡ again }
         ensures judged { IsJudged verdict result }
@@ -87,7 +88,7 @@ impl Line {
     /// What is known of a notification, or of an answer of which the request isn't known.
     pub(crate) fn alone(self, taken: &Taken<'_>, what: What) -> First
         ensures captured { IsCaptured self result }
-        ensures sender { IsSender taken.now result }
+        ensures sender { IsSender (given_of taken.now) result }
         ensures what { result.what ≡ what }
         ensures alone { IsAlone self taken.now.tag result }
     {
@@ -121,10 +122,11 @@ impl Line {
         ensures captured { IsCaptured self result }
         ensures sender { result.sender ≡ Some unread.sender }
         ensures engine { result.engine ≡ unread.engine }
-        ensures what { result.what ≡ unread.what }
+        ensures what { result.what ≡ unread.contents.what }
         ensures refused { result.refusal ≡ Some refusal }
     {
-        let mut first = self.first(unread.what);
+        let contents = unread.contents;
+        let mut first = self.first(contents.what);
         first.sender = Some(unread.sender);
         first.engine = unread.engine;
         first.refusal = Some(refusal);

@@ -1,6 +1,7 @@
 //! Reads of a PDU what is printed of it.
 
 ghost use Rattle.std.specs.Prelude.{◌↔◌, [], ◌∷◌, IfOk, IsTrue, string_bytes};
+ghost use Rattle.snmp_msg.specs.Pdu.{pdu_of};
 ghost use Rattle.snmp_msg.specs.Variables.{variable_of, variables_of};
 ghost use Rattle.diagnose_text.specs.Facts.{AreFirst, ArePduNames, HasError, IsCounterText, IsNameRead, IsReport};
 ghost use Rattle.diagnose_text.specs.Facts.{IsSaid, IsVariableRead};
@@ -17,7 +18,7 @@ const VARIABLES: usize = 8;
 
 /// The type and the names of a PDU.
 pub(crate) fn names_of(alloc: Global, pdu: &Pdu<'_>) -> Result<PduNames, AllocError>
-    ensures { IfOk result (ArePduNames pdu.now) }
+    ensures { IfOk result (ArePduNames (pdu_of pdu.now)) }
 {
     let (names, more) = first_names(alloc, pdu)?;
     Ok(PduNames {
@@ -54,7 +55,7 @@ fn name_of(alloc: Global, binding: &Binding<'_>) -> Result<String, AllocError>
 
 /// What the answer with this PDU says.
 pub(crate) fn says_of(alloc: Global, pdu: &Pdu<'_>) -> Result<Says, AllocError>
-    ensures { IfOk result (IsSaid pdu.now) }
+    ensures { IfOk result (IsSaid (pdu_of pdu.now)) }
 {
     if pdu.tag == PduType::Report.tag() {
         return report_of(alloc, pdu);
@@ -68,7 +69,7 @@ pub(crate) fn says_of(alloc: Global, pdu: &Pdu<'_>) -> Result<Says, AllocError>
 
 /// It is a Response whose error-status isn't noError.
 fn has_error(pdu: &Pdu<'_>) -> bool
-    ensures { IsTrue result ↔ HasError pdu.now }
+    ensures { IsTrue result ↔ HasError (pdu_of pdu.now) }
 {
     pdu.tag == PduType::Response.tag() && pdu.second != 0
 }

@@ -1,7 +1,10 @@
 //! What is printed of a capture: exchanges one after another, and the summary.
 
-ghost use Rattle.std.specs.Prelude.{◌≡◌, ◌++◌, ◌||◌, List, ℕ, IfOk, OnOk, option_map, string_bytes, true};
+ghost use Rattle.std.specs.Prelude.{◌≡◌, ◌++◌, ◌||◌, List, ℕ, IfOk, OnOk, option_and_then, option_map, string_bytes};
+ghost use Rattle.std.specs.Prelude.{true};
 ghost use Rattle.diagnose_text.specs.Printing as spec;
+ghost use Rattle.diagnose_text.specs.Summary.{IsInStyle, IsSummed};
+ghost use Rattle.diagnose_text.specs.Wanted.{direction};
 ghost use Rattle.diagnose_text.specs.Printing.{IsBlock, IsPrinted, counts_as_failed, is_json, is_wanted_exchange};
 
 use crate::agents::{Agents, ENGINES_LIMIT};
@@ -10,7 +13,7 @@ use crate::counts::Counts;
 use crate::facts::{Answer, First, Says};
 use crate::objects::object_line;
 use crate::options::{DiagnoseOptions, Style};
-use crate::summary::{Summary, summary_line, summary_text};
+use crate::summary::{EngineFacts, engines_of, summary_line, summary_text};
 use capture_files::Route;
 use diagnose_exchanges::{COPIES_LIMIT, Ending, Exchange};
 use engine_clock::{Clocks, EngineId};
@@ -51,7 +54,9 @@ impl Report {
     }
 
     /// Whether a datagram on this way is a request by the agents that the user names, if they tell it.
-    pub(crate) fn told_request(&self, route: Option<Route>) -> Option<bool> {
+    pub(crate) fn told_request(&self, route: Option<Route>) -> Option<bool>
+        ensures { result ≡ option_and_then (direction self.now.options.agents.items) route }
+    {
         self.options.told_request(route?)
     }
 
@@ -152,21 +157,27 @@ impl Report {
 
     /// The summary. It has all engines of which the clock is known, or those of the exchanges that were printed, where
     /// not all are wanted.
-    pub(crate) fn summary(&self, clocks: &Clocks, agents: &Agents) -> Result<String, AllocError> {
+    pub(crate) fn summary(&self, clocks: &Clocks, agents: &Agents) -> Result<String, AllocError>
+        ensures { IfOk result (λ text. IsSummed self.now.options.style self.now.counts.users.items clocks.now
+            (string_bytes text)) }
+    {
         let wanted = if self.options.wants_all() {
             None
         } else {
             Some(&self.engines)
         };
-        let summary = Summary {
-            counts: &self.counts,
-            clocks,
-            agents,
-            wanted,
-        };
+        let engines = engines_of(self.alloc, clocks, agents, wanted)?;
+        self.summary_of(&engines)
+    }
+
+    /// The summary with these engines.
+    fn summary_of(&self, engines: &[EngineFacts]) -> Result<String, AllocError>
+        ensures { IfOk result (λ text. IsInStyle self.now.options.style self.now.counts.users.items engines.now
+            (string_bytes text)) }
+    {
         match self.options.style {
-            Style::Text => summary_text(self.alloc, &summary),
-            Style::Json => summary_line(self.alloc, &summary),
+            Style::Text => summary_text(self.alloc, &self.counts, engines),
+            Style::Json => summary_line(self.alloc, &self.counts, engines),
         }
     }
 }

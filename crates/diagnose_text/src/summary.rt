@@ -1,43 +1,30 @@
 //! What stands at the end: how the exchanges of each user ended, and what is known of each engine.
 
-ghost use Rattle.std.specs.Prelude.{◌≡◌, IfOk, IfSome, OnOk};
+ghost use Rattle.std.specs.Prelude.{◌≡◌, ◌++◌, ℕ, List, IfOk, IfSome, OnOk, map, string_bytes};
+ghost use Rattle.std.specs.List.{All, AllZip};
+ghost use Rattle.serde_json.specs.Data.{Data, no_members, object};
 ghost use Rattle.serde_json.specs.View.{members_view, view};
-ghost use Rattle.diagnose_text.specs.Documents.{AreFactsOf, IsEngine, clock_members, engine_document};
+ghost use Rattle.diagnose_text.specs.Documents.{IsLine};
+ghost use Rattle.diagnose_text.specs.Summary.{AreFactsOf, IsAgentText, IsAgentValue, IsEngine, IsEngineLine, IsKnown};
+ghost use Rattle.diagnose_text.specs.Summary.{IsSummary, IsSummaryText, clock_members, engine_document, engine_text};
+ghost use Rattle.diagnose_text.specs.Summary.{list_members, summary_document, summary_members};
+ghost use Rattle.diagnose_text.specs.Words.{AreTexts};
 
 use crate::agents::Agents;
 use crate::counts::Counts;
-use crate::heads::{Stamp, clock_text};
+use crate::heads::clock_text;
 use crate::members::{Members, array_of, no_members, object_of, put_number, put_text};
 use crate::objects::line_of;
+use crate::words::endpoint_text;
 use capture_files::Endpoint;
 use engine_clock::{Clocks, EngineId};
 use serde_json::{Value as Json, put};
 use std::alloc::{AllocError, Global};
 use std::collections::BTreeSet;
 
-/// What the summary is made of.
-#[derive(Clone, Copy)]
-pub(crate) struct Summary<'a> {
-    pub(crate) counts: &'a Counts,
-    pub(crate) clocks: &'a Clocks,
-    pub(crate) agents: &'a Agents,
-    /// The engines that are printed, where not all are.
-    pub(crate) wanted: Option<&'a BTreeSet<EngineId>>,
-}
-
-impl Summary<'_> {
-    /// This engine is printed.
-    fn wants(&self, engine: &EngineId) -> bool {
-        match self.wanted {
-            Some(wanted) => wanted.contains(engine),
-            None => true,
-        }
-    }
-}
-
 /// What is known of an engine.
 #[derive(Drop)]
-struct EngineFacts {
+pub(crate) struct EngineFacts {
     engine: EngineId,
     boots: u32,
     time: u32,
@@ -46,57 +33,109 @@ struct EngineFacts {
 }
 
 /// The summary as lines.
-pub(crate) fn summary_text(alloc: Global, summary: &Summary<'_>) -> Result<String, AllocError> {
-    let engines = engines_of(alloc, summary)?;
+pub(crate) fn summary_text(
+    alloc: Global,
+    counts: &Counts,
+    engines: &[EngineFacts],
+) -> Result<String, AllocError>
+    ensures { IfOk result
+        (λ text. IsSummaryText counts.now.users.items engines.now (string_bytes text)) }
+{
     let mut text = String::from_str(alloc, "summary\n")?;
-    summary.counts.put_lines(alloc, &mut text)?;
-    for facts in &engines {
-        put_engine(alloc, &mut text, facts)?;
-    }
+    counts.put_lines(alloc, &mut text)?;
+    put_engines(alloc, &mut text, engines)?;
     Ok(text)
 }
 
 /// The summary as a JSON object.
-pub(crate) fn summary_line(alloc: Global, summary: &Summary<'_>) -> Result<String, AllocError> {
-    let users = summary.counts.objects(alloc)?;
-    let mut engines = Vec::new(alloc);
-    for facts in &engines_of(alloc, summary)? {
-        let object = engine_object(alloc, facts)?;
-        engines.push(object)?;
-    }
-    let object = summary_object(alloc, users, array_of(engines))?;
+pub(crate) fn summary_line(
+    alloc: Global,
+    counts: &Counts,
+    engines: &[EngineFacts],
+) -> Result<String, AllocError>
+    ensures { IfOk result (λ line. (document : Data) × IsSummary counts.now.users.items engines.now document
+        × IsLine document (string_bytes line)) }
+{
+    let object = summary_of(alloc, counts, engines)?;
     line_of(alloc, &object)
 }
 
 /// The object of the summary.
-fn summary_object(alloc: Global, users: Json, engines: Json) -> Result<Json, AllocError> {
-    let mut summary = no_members(alloc);
-    put(&mut summary, alloc, "users", users)?;
-    put(&mut summary, alloc, "engines", engines)?;
+fn summary_of(alloc: Global, counts: &Counts, engines: &[EngineFacts]) -> Result<Json, AllocError>
+    ensures { IfOk result (λ json. IsSummary counts.now.users.items engines.now (view json)) }
+{
+    let users = counts.objects(alloc)?;
+    let engines = engine_objects(alloc, engines)?;
+    summary_object(alloc, array_of(users), array_of(engines))
+}
+
+/// The object of the summary with these users and engines.
+fn summary_object(alloc: Global, users: Json, engines: Json) -> Result<Json, AllocError>
+    ensures { IfOk result (λ json. view json ≡ summary_document (view users) (view engines)) }
+{
+    let mut lists = no_members(alloc);
+    put_lists(alloc, &mut lists, users, engines)?;
     let mut members = no_members(alloc);
-    put(&mut members, alloc, "summary", object_of(summary))?;
+    put_summary(alloc, &mut members, object_of(lists))?;
     Ok(object_of(members))
 }
 
-/// What is known of the engines that are printed, in the order of their octets.
-fn engines_of(alloc: Global, summary: &Summary<'_>) -> Result<Vec<EngineFacts>, AllocError> {
+/// Adds the users and the engines.
+#[tactic(auto, unfolding(crate::specs::Summary::list_members))]
+fn put_lists(
+    alloc: Global,
+    members: &mut Members,
+    users: Json,
+    engines: Json,
+) -> Result<(), AllocError>
+    ensures { OnOk result (members_view members.new.entries
+        ≡ list_members (view users) (view engines) (members_view members.old.entries)) }
+{
+    put(members, alloc, "users", users)?;
+    put(members, alloc, "engines", engines)
+}
+
+/// Adds the summary.
+#[tactic(auto, unfolding(crate::specs::Summary::summary_members))]
+fn put_summary(alloc: Global, members: &mut Members, summary: Json) -> Result<(), AllocError>
+    ensures { OnOk result (members_view members.new.entries
+        ≡ summary_members (view summary) (members_view members.old.entries)) }
+{
+    put(members, alloc, "summary", summary)
+}
+
+/// What is known of the engines of these clocks, in the order of their octets; of those that are wanted, where not all
+/// are.
+pub(crate) fn engines_of(
+    alloc: Global,
+    clocks: &Clocks,
+    agents: &Agents,
+    wanted: Option<&BTreeSet<EngineId>>,
+) -> Result<Vec<EngineFacts>, AllocError>
+    ensures { IfOk result (λ engines. All (IsKnown clocks.now) engines.items) }
+{
     let mut engines = Vec::new(alloc);
-    let saved = summary.clocks.save()?;
+    let saved = clocks.save()?;
     let Ok(saved) = std::str::from_utf8(&saved) else {
         return Ok(engines);
     };
     for line in saved.lines().skip(1) {
-        let digits = line.split_once(' ').map_or(line, |parts| parts.0);
-        let Ok(octets) = hex::decode(alloc, digits) else {
-            continue;
-        };
-        if let Some(facts) = engine_of(&octets, summary.clocks, summary.agents) {
-            if summary.wants(&facts.engine) {
+        if let Some(facts) = engine_in(alloc, line, clocks, agents) {
+            if wanted.is_none_or(|wanted| wanted.contains(&facts.engine)) {
                 engines.push(facts)?;
             }
         }
     }
     Ok(engines)
+}
+
+/// What is known of the engine that this line of saved clocks names.
+fn engine_in(alloc: Global, line: &str, clocks: &Clocks, agents: &Agents) -> Option<EngineFacts>
+    ensures { IfSome result (IsKnown clocks.now) }
+{
+    let digits = line.split_once(' ').map_or(line, |parts| parts.0);
+    let octets = hex::decode(alloc, digits).ok()?;
+    engine_of(&octets, clocks, agents)
 }
 
 /// What is known of the engine with this identifier.
@@ -115,33 +154,79 @@ fn engine_of(octets: &[u8], clocks: &Clocks, agents: &Agents) -> Option<EngineFa
     })
 }
 
+/// Adds the lines of engines.
+fn put_engines(alloc: Global, out: &mut String, engines: &[EngineFacts]) -> Result<(), AllocError>
+    ensures { OnOk result ((text : List ℕ) × (string_bytes out.new ≡ string_bytes out.old ++ text)
+        × AreTexts IsEngineLine engines.now text) }
+{
+    for facts in engines {
+        put_engine(alloc, out, facts)?;
+    }
+    Ok(())
+}
+
 /// Adds the line of an engine.
-fn put_engine(alloc: Global, out: &mut String, facts: &EngineFacts) -> Result<(), AllocError> {
+fn put_engine(alloc: Global, out: &mut String, facts: &EngineFacts) -> Result<(), AllocError>
+    ensures { OnOk result ((line : List ℕ) × (string_bytes out.new ≡ string_bytes out.old ++ line)
+        × IsEngineLine facts.now line) }
+{
+    put_facts(alloc, out, facts)?;
+    let agent = agent_text(alloc, facts.agent)?;
+    write!(out, "{agent}\n")
+}
+
+/// Adds what is known of the clock of an engine.
+fn put_facts(alloc: Global, out: &mut String, facts: &EngineFacts) -> Result<(), AllocError>
+    ensures { OnOk result (string_bytes out.new ≡ string_bytes out.old ++ engine_text facts.now) }
+{
     let (engine, boots, time) = (&facts.engine, facts.boots, facts.time);
-    let at = Stamp {
-        seconds: facts.seen,
-        micros: 0,
-    };
-    let seen = clock_text(alloc, at)?;
+    let seen = clock_text(alloc, facts.seen)?;
     write!(
         out,
         "  engine {engine}  boots {boots}, time {time} at {seen}"
-    )?;
-    if let Some(agent) = facts.agent {
-        write!(out, "; agent {agent}")?;
+    )
+}
+
+/// From where the engine answered last.
+fn agent_text(alloc: Global, agent: Option<Endpoint>) -> Result<String, AllocError>
+    ensures { IfOk result (λ text. IsAgentText agent (string_bytes text)) }
+{
+    let Some(endpoint) = agent else {
+        return Ok(String::new(alloc));
+    };
+    let shown = endpoint_text(alloc, endpoint)?;
+    format!(in alloc; "; agent {shown}")
+}
+
+/// The objects of engines.
+fn engine_objects(alloc: Global, engines: &[EngineFacts]) -> Result<Vec<Json>, AllocError>
+    ensures { IfOk result (λ list. AllZip IsEngine engines.now (map view list.items)) }
+{
+    let mut list = Vec::new(alloc);
+    for facts in engines {
+        let object = engine_object(alloc, facts)?;
+        list.push(object)?;
     }
-    out.push_str("\n")
+    Ok(list)
 }
 
 /// The object of an engine.
 fn engine_object(alloc: Global, facts: &EngineFacts) -> Result<Json, AllocError>
     ensures { IfOk result (λ json. IsEngine facts.now (view json)) }
 {
-    let agent = match facts.agent {
-        Some(agent) => Json::from(format!(in alloc; "{agent}")?),
-        None => Json::Null,
-    };
+    let agent = agent_value(alloc, facts.agent)?;
     clock_object(alloc, facts, agent)
+}
+
+/// From where the engine answered last, or null.
+fn agent_value(alloc: Global, agent: Option<Endpoint>) -> Result<Json, AllocError>
+    ensures { IfOk result (λ json. IsAgentValue agent (view json)) }
+{
+    let Some(endpoint) = agent else {
+        return Ok(Json::Null);
+    };
+    let shown = endpoint_text(alloc, endpoint)?;
+    Json::try_from_str(alloc, &shown)
 }
 
 /// The object of an engine that answered from there last.
@@ -154,7 +239,7 @@ fn clock_object(alloc: Global, facts: &EngineFacts, agent: Json) -> Result<Json,
 }
 
 /// Adds what is known of an engine, and from where it answered last.
-#[tactic(auto, unfolding(crate::specs::Documents::clock_members))]
+#[tactic(auto, unfolding(crate::specs::Summary::clock_members))]
 fn put_clock(
     alloc: Global,
     members: &mut Members,

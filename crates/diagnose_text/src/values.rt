@@ -7,7 +7,7 @@ ghost use Rattle.diagnose_text.specs.Blocks.{hex_text, unsigned_text, value_text
 ghost use Rattle.diagnose_text.specs.Facts.{IsCounter64, IsInHex, IsInteger, IsIpAddress, IsNumber32};
 ghost use Rattle.diagnose_text.specs.Facts.{IsObjectIdentifier, IsOctetString, IsValueRead};
 ghost use Rattle.diagnose_text.specs.Names.{syntax_word, type_word};
-ghost use Rattle.diagnose_text.specs.Documents.{IsNameText};
+ghost use Rattle.diagnose_text.specs.Words.{IsNameText};
 
 use snmp_ber::{is_unsigned64, read_int, read_oid, read_unsigned};
 use snmp_msg::Syntax;

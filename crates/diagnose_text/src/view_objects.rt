@@ -1,10 +1,11 @@
 //! The JSON objects of what the views say.
 
 ghost use Rattle.std.specs.Prelude.{◌≡◌, IfOk, OnOk, map, option_map};
+ghost use Rattle.std.specs.List.{AllZip};
 ghost use Rattle.serde_json.specs.Data.{put as with_member};
 ghost use Rattle.serde_json.specs.View.{members_view, view};
 ghost use Rattle.diagnose_text.specs.Documents as spec;
-ghost use Rattle.diagnose_text.specs.Documents.{AreViewed, IsNameValue, IsViewed, decision_members, name_members};
+ghost use Rattle.diagnose_text.specs.Documents.{IsNameValue, IsViewed, decision_members, name_members};
 ghost use Rattle.diagnose_text.specs.Documents.{place_members, row_document, row_value, viewed_document};
 
 use crate::heads::name_text;
@@ -17,7 +18,7 @@ use vacm_core::Name;
 
 /// An object for each variable.
 pub(crate) fn view_list(alloc: Global, views: &[Viewed]) -> Result<Vec<Json>, AllocError>
-    ensures { IfOk result (λ list. AreViewed views.now (map view list.items)) }
+    ensures { IfOk result (λ list. AllZip IsViewed views.now (map view list.items)) }
 {
     let mut list = Vec::new(alloc);
     for viewed in views {

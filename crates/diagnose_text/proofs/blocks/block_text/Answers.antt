@@ -11,7 +11,7 @@ returns g c =
     let first = c.in_ok-put_first.ensures ∙ ap (λ t. t ++ (head_line e.number e.first words ++ remark_lines e.first)) c.new-text.ensures.bytes in
     record {
       words = words;
-      name = c.in_ok-words.ensures;
+      are = c.in_ok-words.ensures;
       ending = put.0;
       ending_is = put.2;
       whole = put.1 ∙ ap (λ t. t ++ put.0) first ∙ append_assoc (head_line e.number e.first words) (remark_lines e.first) put.0;

@@ -1,4 +1,4 @@
-use Rattle.std.proofs.Common.{◌<◌, arith}
+use Rattle.std.proofs.Common.{arith}
 use Rattle.snmp_ber.specs.Octets.{AreOctets}
 use Rattle.diagnose_text.proofs.Wides.{wide_reads}
 use Rattle.diagnose_text.proofs.values.read_wide.Goals as goal

@@ -1,6 +1,6 @@
 use Rattle.std.proofs.Common.{string_bytes, subst}
 use Rattle.std.proofs.lemmas.Result.{IfOk-weaker}
-use Rattle.diagnose_text.specs.Documents.{IsNameText}
+use Rattle.diagnose_text.specs.Words.{IsNameText}
 use Rattle.diagnose_text.proofs.counts.UserCounts.object.Goals as goal
 
 pub returns : goal.returns

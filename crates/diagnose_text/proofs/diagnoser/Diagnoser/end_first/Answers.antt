@@ -13,6 +13,7 @@ returns c =
       text = [];
       whole = refl;
       options = refl;
-      prints = taking_prints old.report.options old.report.failed gone before [] c.end.new.self.gone later c.end.ensures.gone
+      judged = refl;
+      prints = taking_prints old.report.options old.report.failed gone before c.end.new.self.gone later c.end.ensures.gone
           (ended_or_same gone gone before later c.first_place-place.result c.args.ending c.end.result refl c.requires c.end.ensures.ended (λ is. (c.end.ensures.stays is).0));
     }
