@@ -5,8 +5,8 @@ ghost use Rattle.snmpsec_config.specs.Keys.{listed};
 
 use crate::table::{ConfigKey, ConfigTable};
 
-/// How many octets two names have in common at the front and at the back, none counted twice.
-fn likeness(first: &[u8], second: &[u8]) -> usize {
+/// Returns how many octets two names have in common at the front and at the back, none counted twice.
+pub fn likeness(first: &[u8], second: &[u8]) -> usize {
     let front = first
         .iter()
         .zip(second.iter())

@@ -1,0 +1,102 @@
+//! Reading a device, and the keys that a table doesn't list.
+
+ghost use Rattle.std.specs.Prelude.{◌≡◌, ◌∷◌, [], Option, IfOk, IfErr, OnOk, MatchOption};
+ghost use Rattle.std.specs.Prelude.{option_map};
+ghost use Rattle.toml.specs.View.{table_view};
+ghost use Rattle.snmpsec_gate_config.specs.Keys.{HasOnlyListed, IsFirstUnlisted};
+ghost use Rattle.snmpsec_gate_config.specs.Rows.{IsDevice, AreDeviceLimits};
+ghost use Rattle.snmpsec_gate_config.specs.Refusals.{TellsNoTable, TellsUnlisted};
+ghost use Rattle.snmpsec_gate_config.specs.Values.{IsFirstFault};
+ghost use Rattle.snmpsec_gate_config.specs.declared.table.GateTable.TheVariants as tables;
+ghost use Rattle.snmpsec_gate_config.specs.declared.table.GateKey.TheVariants as keys;
+ghost use Rattle.snmpsec_gate_config.specs.declared.table.LimitKey.TheVariants as limits;
+
+use crate::fault::{GateKeyFault, GateTableFault};
+use crate::settings::{DeviceLimits, DeviceSettings};
+use crate::table::{GateKey, GateTable, LimitKey};
+use crate::values::{GateValueFault, address, community, community_if_any, limit, name};
+use std::alloc::{AllocError, Global};
+use toml::Table;
+
+/// The first key that the table doesn't list.
+fn first_unlisted<'a>(row: &'a Table, table: GateTable) -> Option<&'a str>
+    ensures { MatchOption result (HasOnlyListed table (table_view row.now))
+        (λ key. IsFirstUnlisted table (table_view row.now) key.now) }
+{
+    for (key, _) in row.iter() {
+        if !table.lists(key.as_str()) {
+            return Some(key.as_str());
+        }
+    }
+    None
+}
+
+/// Refuses a row with a key that the table doesn't list.
+pub(crate) fn only_listed(
+    alloc: Global,
+    row: &Table,
+    table: GateTable,
+) -> Result<(), GateTableFault>
+    ensures ok { OnOk result (HasOnlyListed table (table_view row.now)) }
+    ensures fault { IfErr result (TellsUnlisted table (table_view row.now)) }
+{
+    match first_unlisted(row, table) {
+        None => Ok(()),
+        Some(key) => Err(GateTableFault::Key(GateKeyFault::Unlisted {
+            key: String::from_str(alloc, key)?,
+        })),
+    }
+}
+
+/// The octets of a text.
+fn octets(alloc: Global, text: &str) -> Result<Vec<u8>, AllocError>
+    ensures { IfOk result (λ made. made.items ≡ text.now) }
+{
+    Vec::from_slice(alloc, text.as_bytes())
+}
+
+/// The octets of a text, if there is one.
+fn octets_if_any(alloc: Global, text: Option<&str>) -> Result<Option<Vec<u8>>, AllocError>
+    ensures { IfOk result
+        (λ made. option_map (λ m. m.items) made ≡ option_map (λ t. t.now) text) }
+{
+    match text {
+        Some(text) => Ok(Some(octets(alloc, text)?)),
+        None => Ok(None),
+    }
+}
+
+/// The limits of a device.
+fn device_limits(row: &Table) -> Result<DeviceLimits, GateValueFault>
+    ensures ok { IfOk result (AreDeviceLimits (table_view row.now)) }
+    ensures fault { IfErr result (IsFirstFault (table_view row.now)
+        (keys.Limit limits.Repetitions ∷ keys.Limit limits.MaxSize ∷ keys.Limit limits.AtOnce ∷ [])) }
+{
+    Ok(DeviceLimits {
+        repetitions: limit(row, LimitKey::Repetitions)? as usize,
+        max_size: limit(row, LimitKey::MaxSize)? as usize,
+        at_once: limit(row, LimitKey::AtOnce)? as u16,
+    })
+}
+
+/// Reads a device.
+pub(crate) fn read_device(alloc: Global, row: &Table) -> Result<DeviceSettings, GateTableFault>
+    ensures device { IfOk result (IsDevice (table_view row.now)) }
+    ensures fault { IfErr result (TellsNoTable tables.Device IsDevice (table_view row.now)) }
+{
+    only_listed(alloc, row, GateTable::Device)?;
+    let context = name(row, GateKey::Context)?;
+    let address = address(row, GateKey::Address)?;
+    let community = community(row, GateKey::Community)?;
+    let write_community = community_if_any(row, GateKey::WriteCommunity)?;
+    let limits = device_limits(row)?;
+    let community = octets(alloc, community)?;
+    let write_community = octets_if_any(alloc, write_community)?;
+    Ok(DeviceSettings {
+        context,
+        address,
+        community,
+        write_community,
+        limits,
+    })
+}
