@@ -1,3 +1,4 @@
 pub mod Told
+pub mod Addresses
 pub mod Tops
 pub mod Refused

@@ -65,10 +65,10 @@ abbrev pub devices_of : Members → Items
 devices_of document = values_in (get_member (table_name tables.Device) document)
 
 -- The document has these rows of users and access, beside these contexts.
-pub record AreConfigRows (document : Members) (contexts : List ContextRow) (users : List UserRow) (rows : Tables)
+pub record AreConfigRows (document : Members) (own : List ContextRow) (users : List UserRow) (rows : Tables)
     : Type 0 where
   pub user_rows : AreRows IsUserRow (values_of document User) users
-  pub contexts : rows.contexts ≡ contexts
+  pub contexts : rows.contexts ≡ own
   pub groups : AreRows IsGroupRow (values_of document Group) rows.groups
   pub access : AreRows IsAccessRow (values_of document Access) rows.access
   pub families : AreRows IsFamilyRow (values_of document Family) rows.families

@@ -16,7 +16,7 @@ use crate::fault::GateTableFault;
 use crate::rows::only_listed;
 use crate::settings::{GateLimits, GateSettings};
 use crate::table::{GateKey, GateTable, LimitKey};
-use crate::values::{GateValueFault, address_in, engine, fault, flag, limit, path, value};
+use crate::values::{GateValueFault, address_in, engine, fault, flag, limit, path, values};
 use std::alloc::{AllocError, Global};
 use std::net::SocketAddr;
 use toml::{Table, Value};
@@ -28,13 +28,19 @@ fn gate_limits(row: &Table) -> Result<GateLimits, GateValueFault>
         (keys.Limit limits.Waiting ∷ keys.Limit limits.Rounds ∷ keys.Limit limits.Again
         ∷ keys.Limit limits.Tries ∷ keys.Limit limits.Last ∷ keys.Limit limits.Gather ∷ [])) }
 {
+    let waiting = limit(row, LimitKey::Waiting)?;
+    let rounds = limit(row, LimitKey::Rounds)?;
+    let again = limit(row, LimitKey::Again)?;
+    let tries = limit(row, LimitKey::Tries)?;
+    let last = limit(row, LimitKey::Last)?;
+    let gather = limit(row, LimitKey::Gather)?;
     Ok(GateLimits {
-        waiting: limit(row, LimitKey::Waiting)? as usize,
-        rounds: limit(row, LimitKey::Rounds)?,
-        again: u64::from(limit(row, LimitKey::Again)?),
-        tries: limit(row, LimitKey::Tries)?,
-        last: u64::from(limit(row, LimitKey::Last)?),
-        gather: u64::from(limit(row, LimitKey::Gather)?),
+        waiting: waiting as usize,
+        rounds,
+        again: u64::from(again),
+        tries,
+        last: u64::from(last),
+        gather: u64::from(gather),
     })
 }
 
@@ -55,16 +61,16 @@ fn addresses_in(alloc: Global, values: &[Value]) -> Result<Option<Vec<SocketAddr
 }
 
 /// The addresses at a key, at least one.
-fn addresses(row: &Table, key: GateKey, alloc: Global) -> Result<Vec<SocketAddr>, GateTableFault>
+fn addresses(alloc: Global, row: &Table, key: GateKey) -> Result<Vec<SocketAddr>, GateTableFault>
     ensures ok { IfOk result (λ addresses. AreAddresses (at (table_view row.now) key) addresses.items) }
     ensures fault { IfErr result (TellsNoAddresses (table_view row.now) key) }
 {
-    let Some(values) = value(row, key).and_then(Value::as_array) else {
-        return Err(fault(row, key).into());
+    let Some(values) = values(row, key) else {
+        return Err(GateTableFault::from(fault(row, key)));
     };
     match addresses_in(alloc, values)? {
         Some(addresses) if !addresses.is_empty() => Ok(addresses),
-        _ => Err(fault(row, key).into()),
+        _ => Err(GateTableFault::from(fault(row, key))),
     }
 }
 
@@ -76,7 +82,7 @@ pub(crate) fn read_gate(alloc: Global, row: &Table) -> Result<GateSettings, Gate
     only_listed(alloc, row, GateTable::Gate)?;
     let engine = engine(row, GateKey::Engine)?;
     let path = path(row, GateKey::Boots)?;
-    let listen = addresses(row, GateKey::Listen, alloc)?;
+    let listen = addresses(alloc, row, GateKey::Listen)?;
     let limits = gate_limits(row)?;
     let long_answers = flag(row, GateKey::LongAnswers)?;
     let report_unreachable = flag(row, GateKey::ReportUnreachable)?;

@@ -14,7 +14,7 @@ pub struct Limit {
 }
 
 /// Returns a limit of these numbers.
-const fn limit(least: u32, most: u32, default: u32) -> Limit
+const fn bounds(least: u32, most: u32, default: u32) -> Limit
     ensures least { result.least ≡ least }
     ensures most { result.most ≡ most }
     ensures default { result.default ≡ default }
@@ -32,15 +32,15 @@ impl LimitKey {
         ensures { result ≡ limit_of self }
     {
         match self {
-            LimitKey::Waiting => limit(1, 65_535, 1024),
-            LimitKey::Rounds => limit(1, 65_535, 64),
-            LimitKey::Again => limit(1, 60_000, 1000),
-            LimitKey::Tries => limit(1, 100, 3),
-            LimitKey::Last => limit(1, 60_000, 5000),
-            LimitKey::Gather => limit(0, 60_000, 500),
-            LimitKey::Repetitions => limit(1, 65_535, 32),
-            LimitKey::MaxSize => limit(484, 65_507, 65_507),
-            LimitKey::AtOnce => limit(1, 1024, 32),
+            LimitKey::Waiting => bounds(1, 65_535, 1024),
+            LimitKey::Rounds => bounds(1, 65_535, 64),
+            LimitKey::Again => bounds(1, 60_000, 1000),
+            LimitKey::Tries => bounds(1, 100, 3),
+            LimitKey::Last => bounds(1, 60_000, 5000),
+            LimitKey::Gather => bounds(0, 60_000, 500),
+            LimitKey::Repetitions => bounds(1, 65_535, 32),
+            LimitKey::MaxSize => bounds(484, 65_507, 65_507),
+            LimitKey::AtOnce => bounds(1, 1024, 32),
         }
     }
 }

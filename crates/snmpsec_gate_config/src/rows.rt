@@ -58,7 +58,7 @@ fn octets(alloc: Global, text: &str) -> Result<Vec<u8>, AllocError>
 /// The octets of a text, if there is one.
 fn octets_if_any(alloc: Global, text: Option<&str>) -> Result<Option<Vec<u8>>, AllocError>
     ensures { IfOk result
-        (λ made. option_map (λ m. m.items) made ≡ option_map (λ t. t.now) text) }
+        (λ made. option_map (λ m. m.items) made ≡ option_map (λ t. t.now) text.entry) }
 {
     match text {
         Some(text) => Ok(Some(octets(alloc, text)?)),
@@ -72,10 +72,13 @@ fn device_limits(row: &Table) -> Result<DeviceLimits, GateValueFault>
     ensures fault { IfErr result (IsFirstFault (table_view row.now)
         (keys.Limit limits.Repetitions ∷ keys.Limit limits.MaxSize ∷ keys.Limit limits.AtOnce ∷ [])) }
 {
+    let repetitions = limit(row, LimitKey::Repetitions)?;
+    let max_size = limit(row, LimitKey::MaxSize)?;
+    let at_once = limit(row, LimitKey::AtOnce)?;
     Ok(DeviceLimits {
-        repetitions: limit(row, LimitKey::Repetitions)? as usize,
-        max_size: limit(row, LimitKey::MaxSize)? as usize,
-        at_once: limit(row, LimitKey::AtOnce)? as u16,
+        repetitions: repetitions as usize,
+        max_size: max_size as usize,
+        at_once: at_once as u16,
     })
 }
 

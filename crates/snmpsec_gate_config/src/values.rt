@@ -1,14 +1,14 @@
 //! The values at the keys of [gate] and of a device.
 
 ghost use Rattle.std.specs.Prelude.{◌≡◌, ◌≢◌, ◌<◌, ℕ, List, length, slice_index, EachIndex, Ok, Bool, IfOk, IfErr};
-ghost use Rattle.std.specs.Prelude.{Option, MatchOption, MatchBool, option_map};
+ghost use Rattle.std.specs.Prelude.{Option, Some, MatchOption, MatchBool, option_map};
 ghost use Rattle.std.specs.Net.Grammar.{IsSocketText};
 ghost use Rattle.std.specs.Net.Socket.{socket_port};
 ghost use Rattle.std.specs.declared.net.socket_addr.SocketAddr.{SocketAddr as Address};
 ghost use Rattle.hex.specs.Hex.{decode_of};
 ghost use Rattle.engine_clock.specs.Engines.{IsEngine};
-ghost use Rattle.toml.specs.Data.{string};
-ghost use Rattle.toml.specs.View.{view, table_view};
+ghost use Rattle.toml.specs.Data.{array, Items};
+ghost use Rattle.toml.specs.View.{view, table_view, items_view};
 ghost use Rattle.snmpsec_config.specs.Values.{IsText, IsName};
 ghost use Rattle.snmpsec_gate_config.specs.Keys.{at};
 ghost use Rattle.snmpsec_gate_config.specs.Values.{IsEngineId, IsPath, IsAddress, IsCommunity, IsCommunityIfAny};
@@ -55,6 +55,17 @@ fn text<'a>(row: &'a Table, key: GateKey) -> Option<&'a str>
         (λ text. IsText (at (table_view row.now) key) text.now) }
 {
     value(row, key)?.as_str()
+}
+
+/// The values of the array at a key.
+pub(crate) fn values<'a>(row: &'a Table, key: GateKey) -> Option<&'a [Value]>
+    ensures { MatchOption result ((values : Items) → at (table_view row.now) key ≢ Some (array values))
+        (λ values. at (table_view row.now) key ≡ Some (array (items_view values.now))) }
+{
+    match value(row, key)?.as_array() {
+        Some(values) => Some(values.as_slice()),
+        None => None,
+    }
 }
 
 /// The engine ID that these digits spell, in hex of either case.
