@@ -1,5 +1,5 @@
 -- What is told of a document that says nothing, and of rows that don't load.
-use Rattle.std.proofs.Common.{◌≡◌, ◌≢◌, ℕ, ◌<◌, Bool, true, false, List, [], ◌∷◌, map, take, Option, Some, None, slice_get, refl, sym, ap, ◌∙◌, arith}
+use Rattle.std.proofs.Common.{◌≡◌, ◌≢◌, ℕ, ◌<◌, Bool, true, false, List, [], ◌∷◌, map, take, Option, Some, None, option_map, slice_get, refl, sym, ap, ◌∙◌, arith}
 use Rattle.std.specs.Prelude.{if◌then◌else◌}
 use Rattle.std.specs.List.{list_any}
 use Rattle.std.specs.Option.{option_and_then}
@@ -12,7 +12,6 @@ use Rattle.vacm_core.specs.Tables.{Tables}
 use Rattle.vacm_core.specs.Faults as access_rows
 use Rattle.vacm_core.specs.declared.rows.ContextRow.{ContextRow}
 use Rattle.vacm_core.specs.declared.fault.Table.TheVariants as vacm_tables
-use Rattle.vacm_core.specs.declared.fault.Defect.TheVariants.{Bad, Twice}
 use Rattle.vacm_core.specs.declared.fault.VacmFault.{VacmFault}
 use Rattle.vacm_core.specs.declared.fault.VacmFault.TheVariants as vacm_faults
 use Rattle.snmpsec_config.specs.Keys.{table_number}
@@ -121,17 +120,20 @@ before_family d u g a Family w lt = absurd (omega (arith, lt))
 
 -- ---- rows that don't load
 
-twice_or_fine : (b : Bool) → (if b then Some Twice else None) ≡ Some Bad → ⊥
-twice_or_fine true e = let never : Some Twice ≡ Some Bad = e in cc
-twice_or_fine false e = let never : None ≡ Some Bad = e in cc
+-- a context is told as a duplicate or not at all
+never_bad : (position : ℕ) (earlier : List ContextRow) (row : ContextRow) (b : Bool) → list_any (access_rows.is_same_context row) earlier ≡ b
+    → option_map (access_rows.told vacm_tables.Contexts position) (access_rows.row_fault access_rows.is_bad_context access_rows.is_same_context earlier row) ≡ Some (vacm_faults.BadRow vacm_tables.Contexts position) → ⊥
+never_bad position earlier row true e h = let never : Some (vacm_faults.Duplicate vacm_tables.Contexts position) ≡ Some (vacm_faults.BadRow vacm_tables.Contexts position) = rw e at h in cc
+never_bad position earlier row false e h = let never : None ≡ Some (vacm_faults.BadRow vacm_tables.Contexts position) = rw e at h in cc
 
-never_bad : (earlier : List ContextRow) (o : Option ContextRow) → option_and_then (access_rows.row_fault access_rows.is_bad_context access_rows.is_same_context earlier) o ≡ Some Bad → ⊥
-never_bad earlier None e = let never : None ≡ Some Bad = e in cc
-never_bad earlier (Some row) e = twice_or_fine (list_any (access_rows.is_same_context row) earlier) e
+never_bad_at : (position : ℕ) (earlier : List ContextRow) (o : Option ContextRow)
+    → option_map (access_rows.told vacm_tables.Contexts position) (option_and_then (access_rows.row_fault access_rows.is_bad_context access_rows.is_same_context earlier) o) ≡ Some (vacm_faults.BadRow vacm_tables.Contexts position) → ⊥
+never_bad_at position earlier None h = let never : None ≡ Some (vacm_faults.BadRow vacm_tables.Contexts position) = h in cc
+never_bad_at position earlier (Some row) h = never_bad position earlier row (list_any (access_rows.is_same_context row) earlier) refl h
 
 -- no context is a bad row
 pub no_bad_context : (rows : Tables) (position : ℕ) → access_rows.IsTold rows (vacm_faults.BadRow vacm_tables.Contexts position) → ⊥
-no_bad_context rows position h = never_bad (take position rows.contexts) (slice_get rows.contexts position) h.there
+no_bad_context rows position h = never_bad_at position (take position rows.contexts) (slice_get rows.contexts position) (ap (option_map (access_rows.told vacm_tables.Contexts position)) h.there)
 
 module _ (text : List ℕ) (gate : GateSettings) (devices : List DeviceSettings) (users : List UserRow) (rows : Tables) (s : Says text gate devices users rows) where
   pub user_told : (f : UserFault) → user_rows.IsTold users f → Refuses text (user_fault f)

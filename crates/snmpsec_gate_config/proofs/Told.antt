@@ -10,6 +10,7 @@ use Rattle.snmpsec_gate_config.specs.Rows.{IsGate, IsDevice, AreGateLimits, AreD
 use Rattle.snmpsec_gate_config.specs.Values.{Allows, IsRightAt, IsFirstWrong, IsFirstFault, IsLimit, IsFlagOrFalse, IsCommunityIfAny, AreAddresses, value_fault}
 use Rattle.snmpsec_gate_config.specs.Refusals.{TellsKey, TellsNoTable, TellsUnlisted, TellsNoAddresses, key_fault}
 use Rattle.snmpsec_gate_config.specs.declared.values.GateValueFault.{GateValueFault}
+use Rattle.snmpsec_gate_config.specs.declared.settings.GateSettings.{GateSettings}
 use Rattle.snmpsec_gate_config.specs.declared.table.GateTable.{GateTable}
 use Rattle.snmpsec_gate_config.specs.declared.table.GateTable.TheVariants as tables
 use Rattle.snmpsec_gate_config.specs.declared.table.GateKey.{GateKey}
@@ -118,3 +119,9 @@ pub tells_addresses : (row : Members) (f : GateTableFault) → HasOnlyListed tab
 tells_addresses row (table_faults.Key fault) only engine boots h =
     rw h.0 (tells tables.Gate IsGate row _ keys.Listen refl only (inr (engine, inr (boots, inl (refl, λ right. elim right [ | inl a ↦ h.1 a.0 a.1 | inr b ↦ b.1 ])))) (λ made stands. gate_right row stands))
 tells_addresses row table_faults.OutOfMemory only engine boots h = tt
+
+-- without [gate] the engine ID is missing
+pub no_gate_table : (t : Members) → t ≡ no_members → TellsKey tables.Gate t (Missing keys.Engine) × ((gate : GateSettings) → IsGate t gate → ⊥)
+no_gate_table t none =
+    let no_engine : IsRightAt no_members keys.Engine → ⊥ = λ right. elim right [ | inl a ↦ let never = a.1.1 in cc | inr b ↦ b.1 ] in
+    rw none ((tt, inl (refl, no_engine), refl), λ gate h. no_engine (inl (_, h.engine)))

@@ -1,7 +1,7 @@
 //! Reading a gateway's configuration.
 
 ghost use Rattle.std.specs.Prelude.{◌≡◌, ◌<◌, List, IfErr, IfOk, MatchBool, MatchOption, map};
-ghost use Rattle.toml.specs.Data.{Data, get_member};
+ghost use Rattle.toml.specs.Data.{no_members};
 ghost use Rattle.toml.specs.View.{view, table_view, items_view};
 ghost use Rattle.vacm_core.specs.Tables.{tables_of};
 ghost use Rattle.snmpsec_config.specs.Rows.{AreRows};
@@ -136,12 +136,23 @@ fn bad_top(document: &Table) -> Option<&str>
     None
 }
 
+/// The table [gate], if it is there.
+fn gate_table(document: &Table) -> Option<&Table>
+    ensures { MatchOption result (gate_of (table_view document.now) ≡ no_members)
+        (λ row. table_view row.now ≡ gate_of (table_view document.now)) }
+{
+    match document.get("gate") {
+        Some(value) => value.as_table(),
+        None => None,
+    }
+}
+
 /// What is said of the gateway.
 fn gate_of(alloc: Global, document: &Table) -> Result<GateSettings, GateFault>
     ensures gate { IfOk result (IsGate (gate_of (table_view document.now))) }
     ensures fault { IfErr result (TellsNoGate (table_view document.now)) }
 {
-    let Some(row) = document.get("gate").and_then(Value::as_table) else {
+    let Some(row) = gate_table(document) else {
         return Err(GateFault::Gate {
             fault: GateKeyFault::Missing {
                 key: GateKey::Engine,
