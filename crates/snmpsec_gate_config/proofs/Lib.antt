@@ -2,3 +2,5 @@ pub mod Told
 pub mod Addresses
 pub mod Tops
 pub mod Refused
+pub mod Unique
+pub mod Unrefused

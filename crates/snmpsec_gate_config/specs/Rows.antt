@@ -1,7 +1,9 @@
 -- What the tables [gate] and [[device]] say.
 --
--- `IsGate`, `IsDevice`: a table of TOML and what it says, key by key, with no key that isn't listed.
-use Rattle.std.specs.Prelude.{ℕ, List, option_map, string_bytes}
+-- `IsGate`, `IsDevice`: a table of TOML and what it says, key by key, with no key that isn't listed. `context_row`: the
+-- context that a device is. `gate_values`, `device_values`: what is said, whatever memory it is in.
+use Rattle.std.specs.Prelude.{ℕ, Bool, List, Option, option_map, string_bytes}
+use Rattle.std.specs.declared.net.socket_addr.SocketAddr.{SocketAddr}
 use Rattle.toml.specs.Data.{Members}
 use Rattle.vacm_core.specs.declared.rows.ContextRow.{ContextRow}
 use Rattle.snmpsec_config.specs.Values.{IsName}
@@ -54,3 +56,53 @@ pub record IsDevice (t : Members) (device : DeviceSettings) : Type 0 where
 -- the row of vacmContextTable that a device is (RFC 3415, section 4)
 abbrev pub context_row : DeviceSettings → ContextRow
 context_row device = record { name = device.context }
+
+-- ---- what is said, whatever memory it is in
+
+pub record GateValues : Type 0 where
+  pub engine : List ℕ
+  pub boots : List ℕ
+  pub listen : List SocketAddr
+  pub waiting : ℕ
+  pub rounds : ℕ
+  pub again : ℕ
+  pub tries : ℕ
+  pub last : ℕ
+  pub gather : ℕ
+  pub long_answers : Bool
+  pub report_unreachable : Bool
+
+abbrev pub gate_values : GateSettings → GateValues
+gate_values gate = record {
+  engine = gate.engine;
+  boots = string_bytes gate.boots;
+  listen = gate.listen.items;
+  waiting = gate.limits.waiting;
+  rounds = gate.limits.rounds;
+  again = gate.limits.again;
+  tries = gate.limits.tries;
+  last = gate.limits.last;
+  gather = gate.limits.gather;
+  long_answers = gate.long_answers;
+  report_unreachable = gate.report_unreachable;
+}
+
+pub record DeviceValues : Type 0 where
+  pub context : List ℕ
+  pub address : SocketAddr
+  pub community : List ℕ
+  pub write_community : Option (List ℕ)
+  pub repetitions : ℕ
+  pub max_size : ℕ
+  pub at_once : ℕ
+
+abbrev pub device_values : DeviceSettings → DeviceValues
+device_values device = record {
+  context = device.context;
+  address = device.address;
+  community = device.community.items;
+  write_community = option_map (λ community. community.items) device.write_community;
+  repetitions = device.limits.repetitions;
+  max_size = device.limits.max_size;
+  at_once = device.limits.at_once;
+}

@@ -4,6 +4,7 @@
 mod config;
 mod fault;
 mod gate;
+mod laws;
 mod limit;
 mod near;
 mod rows;
@@ -13,6 +14,7 @@ mod values;
 
 pub use config::{GateConfig, GateRows};
 pub use fault::{GateFault, GateKeyFault};
+pub use laws::one_gateway;
 pub use limit::Limit;
 pub use settings::{DeviceLimits, DeviceSettings, GateLimits, GateSettings};
 pub use table::{GateKey, GateTable, LimitKey};
