@@ -73,6 +73,20 @@ impl GateConfig {
     }
 }
 
+impl GateRows {
+    /// Reads a gateway's configuration. It refuses what `GateConfig::read` refuses, and makes no key of a password.
+    pub fn read(alloc: Global, text: &[u8]) -> Result<GateRows, GateFault>
+        ensures says { IfOk result (λ said. SaysSound text.now said.gate said.devices.items
+            said.rows.users.items (tables_of said.rows.access)) }
+        ensures refuses { IfErr result (Refuses text.now) }
+    {
+        let said = rows_of_text(alloc, text)?;
+        Users::check(alloc, &said.rows.users)?;
+        Vacm::load(alloc, &said.rows.access)?;
+        Ok(said)
+    }
+}
+
 /// What a text says.
 fn rows_of_text(alloc: Global, text: &[u8]) -> Result<GateRows, GateFault>
     ensures says { IfOk result (λ said. Says text.now said.gate said.devices.items
