@@ -1,6 +1,5 @@
 -- What is told of a document that says nothing, and of rows that don't load.
-use Rattle.std.proofs.Common.{◌≡◌, ◌≢◌, ℕ, ◌<◌, Bool, true, false, List, [], ◌∷◌, map, take, Option, Some, None, option_map, slice_get, refl, sym, ap, ◌∙◌, arith}
-use Rattle.std.specs.Prelude.{if◌then◌else◌}
+use Rattle.std.proofs.Common.{◌≡◌, ℕ, ◌<◌, Bool, true, false, List, take, Option, Some, None, option_map, slice_get, refl, ap, arith}
 use Rattle.std.specs.List.{list_any}
 use Rattle.std.specs.Option.{option_and_then}
 use Rattle.toml.specs.Data.{Members, table, get_item}
@@ -20,7 +19,7 @@ use Rattle.snmpsec_config.specs.declared.table.ConfigTable.TheVariants.{User, Co
 use Rattle.snmpsec_config.specs.declared.fault.ConfigFault.{ConfigFault}
 use Rattle.snmpsec_config.specs.declared.fault.ConfigFault.TheVariants as config_faults
 use Rattle.snmpsec_config.specs.Documents.{HasRows, IsFirstBad, IsFirstBadOf, values_of}
-use Rattle.snmpsec_config.specs.Refusals.{TellsBadRow, TellsNoDocument, TellsUser, TellsAccess, TellsRow, user_refusal, vacm_refusal}
+use Rattle.snmpsec_config.specs.Refusals.{TellsBadRow, TellsNoDocument}
 use Rattle.snmpsec_gate_config.specs.declared.settings.GateSettings.{GateSettings}
 use Rattle.snmpsec_gate_config.specs.declared.settings.DeviceSettings.{DeviceSettings}
 use Rattle.snmpsec_gate_config.specs.declared.fault.GateFault.{GateFault}
@@ -30,7 +29,7 @@ use Rattle.snmpsec_gate_config.specs.declared.fault.GateTableFault.TheVariants a
 use Rattle.snmpsec_gate_config.specs.declared.table.GateTable.TheVariants as tables
 use Rattle.snmpsec_gate_config.specs.Rows.{IsDevice}
 use Rattle.snmpsec_gate_config.specs.Documents.{IsTop, IsWritten, HasGate, HasDevices, devices_of}
-use Rattle.snmpsec_gate_config.specs.Refusals.{Says, Refuses, RefusesDocument, RefusesRows, TellsNoGate, TellsNoDevices, TellsNoRows, TellsNoTable, TellsDeviceAt, device_refusal, user_fault, access_fault}
+use Rattle.snmpsec_gate_config.specs.Refusals.{Says, Refuses, RefusesDocument, TellsNoGate, TellsNoDevices, TellsNoRows, TellsNoTable, device_refusal, user_fault, access_fault}
 
 -- ---- documents
 

@@ -1,13 +1,12 @@
 -- What is told of the keys of [gate] and of a device.
-use Rattle.std.proofs.Common.{◌≡◌, ◌<◌, ℕ, true, false, Bool, List, [], ◌∷◌, ◌++◌, Option, Some, None, is_some, ◌⊎◌, refl, sym, ap, ◌∙◌, inl, inr, arith, string_bytes, option_map}
+use Rattle.std.proofs.Common.{◌≡◌, ℕ, false, Bool, List, [], ◌∷◌, ◌++◌, Option, Some, None, ◌⊎◌, refl, inl, inr}
 use Rattle.std.specs.Prelude.{⊤}
-use Rattle.std.specs.declared.net.socket_addr.SocketAddr.{SocketAddr}
 use Rattle.toml.specs.Data.{Data, Members, no_members, member}
 use Rattle.snmpsec_config.specs.Keys.{EachKey, FirstKey}
 use Rattle.snmpsec_config.proofs.Told.{wrong_if_any, none_wrong}
 use Rattle.snmpsec_gate_config.specs.Keys.{at, listed, HasOnlyListed, IsFirstUnlisted}
 use Rattle.snmpsec_gate_config.specs.Rows.{IsGate, IsDevice, AreGateLimits, AreDeviceLimits}
-use Rattle.snmpsec_gate_config.specs.Values.{Allows, IsRightAt, IsFirstWrong, IsFirstFault, IsLimit, IsFlagOrFalse, IsCommunityIfAny, AreAddresses, value_fault}
+use Rattle.snmpsec_gate_config.specs.Values.{Allows, IsRightAt, IsFirstWrong, IsFirstFault, IsLimit, IsFlagOrFalse, IsCommunityIfAny, value_fault}
 use Rattle.snmpsec_gate_config.specs.Refusals.{TellsKey, TellsNoTable, TellsUnlisted, TellsNoAddresses, key_fault}
 use Rattle.snmpsec_gate_config.specs.declared.values.GateValueFault.{GateValueFault}
 use Rattle.snmpsec_gate_config.specs.declared.settings.GateSettings.{GateSettings}
@@ -117,11 +116,11 @@ tells_unlisted of Stands row table_faults.OutOfMemory h only = tt
 -- addresses that aren't right, after an engine ID and a path that are
 pub tells_addresses : (row : Members) (f : GateTableFault) → HasOnlyListed tables.Gate row → IsRightAt row keys.Engine → IsRightAt row keys.Boots → TellsNoAddresses row keys.Listen f → TellsNoTable tables.Gate IsGate row f
 tells_addresses row (table_faults.Key fault) only engine boots h =
-    rw h.0 (tells tables.Gate IsGate row _ keys.Listen refl only (inr (engine, inr (boots, inl (refl, λ right. elim right [ | inl a ↦ h.1 a.0 a.1 | inr b ↦ b.1 ])))) (λ made stands. gate_right row stands))
+    rw h.0 (tells tables.Gate IsGate row _ keys.Listen refl only (inr (engine, inr (boots, inl (refl, λ right. elim right [ inl a ↦ h.1 a.0 a.1 | inr b ↦ b.1 ])))) (λ made stands. gate_right row stands))
 tells_addresses row table_faults.OutOfMemory only engine boots h = tt
 
 -- without [gate] the engine ID is missing
 pub no_gate_table : (t : Members) → t ≡ no_members → TellsKey tables.Gate t (Missing keys.Engine) × ((gate : GateSettings) → IsGate t gate → ⊥)
 no_gate_table t none =
-    let no_engine : IsRightAt no_members keys.Engine → ⊥ = λ right. elim right [ | inl a ↦ let never = a.1.1 in cc | inr b ↦ b.1 ] in
+    let no_engine : IsRightAt no_members keys.Engine → ⊥ = λ right. elim right [ inl a ↦ let never = a.1.1 in cc | inr b ↦ b.1 ] in
     rw none ((tt, inl (refl, no_engine), refl), λ gate h. no_engine (inl (_, h.engine)))

@@ -3,7 +3,7 @@ use Rattle.std.proofs.Common.{◌≡◌, ℕ, Bool, List, [], ◌∷◌, map, Op
 use Rattle.std.specs.declared.net.socket_addr.SocketAddr.{SocketAddr}
 use Rattle.std.specs.Net.Grammar.{IsSocketText}
 use Rattle.std.proofs.NetLemmas.Theorems.{IsSocketText_unique}
-use Rattle.toml.specs.Data.{Data, boolean, string, integer, Items, no_items, item, Members}
+use Rattle.toml.specs.Data.{Data, boolean, string, Items, no_items, item, Members}
 use Rattle.usm_users.specs.declared.load.UserRow.{UserRow}
 use Rattle.vacm_core.specs.Tables.{Tables}
 use Rattle.vacm_core.specs.declared.rows.ContextRow.{ContextRow}

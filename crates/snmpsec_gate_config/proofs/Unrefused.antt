@@ -2,9 +2,7 @@
 use Rattle.std.proofs.Common.{◌≡◌, ℕ, List, map, Some, None, refl, sym, ap, ◌∙◌}
 use Rattle.toml.specs.Data.{Members}
 use Rattle.usm_users.specs.declared.load.UserRow.{UserRow}
-use Rattle.usm_users.specs.Rows as user_rows
 use Rattle.vacm_core.specs.Tables.{Tables}
-use Rattle.vacm_core.specs.Faults as access_rows
 use Rattle.vacm_core.specs.declared.fault.Table.TheVariants as vacm_tables
 use Rattle.snmpsec_config.specs.Rows.{IsUserRow, IsGroupRow, IsAccessRow, IsFamilyRow, user_values}
 use Rattle.snmpsec_config.specs.Documents.{IsFirstBadOf}
@@ -18,7 +16,7 @@ use Rattle.snmpsec_config.specs.declared.fault.ConfigFault.TheVariants as config
 use Rattle.snmpsec_config.proofs.Unique.{one_document}
 use Rattle.snmpsec_config.proofs.Unrefused.{no_first, no_bad, no_user_told, no_access_fault}
 use Rattle.snmpsec_gate_config.specs.Rows.{IsDevice}
-use Rattle.snmpsec_gate_config.specs.Documents.{StandsFor, IsTopMember, IsWritten, IsBadTop, IsBadGate, IsBadDeviceAt, IsBadRowAt}
+use Rattle.snmpsec_gate_config.specs.Documents.{StandsFor, IsTopMember, IsWritten}
 use Rattle.snmpsec_gate_config.specs.Refusals.{Says, SaysSound, RefusesText, RefusesDocument, RefusesRows, IsDuplicateAt}
 use Rattle.snmpsec_gate_config.specs.declared.settings.GateSettings.{GateSettings}
 use Rattle.snmpsec_gate_config.specs.declared.settings.DeviceSettings.{DeviceSettings}

@@ -5,3 +5,4 @@ pub mod Rows
 pub mod Documents
 pub mod Refusals
 pub mod Told
+pub mod Oddities

@@ -2,7 +2,6 @@
 --
 -- A device takes messages of at least 484 octets (RFC 3417, section 3.2), and no UDP datagram over IPv4 holds more than
 -- 65507.
-use Rattle.std.specs.Prelude.{ℕ}
 use Rattle.snmpsec_gate_config.specs.declared.table.LimitKey.{LimitKey}
 use Rattle.snmpsec_gate_config.specs.declared.table.LimitKey.TheVariants as limits
 use Rattle.snmpsec_gate_config.specs.declared.limit.Limit.{Limit}

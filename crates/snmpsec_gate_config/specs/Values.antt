@@ -11,7 +11,7 @@ use Rattle.std.specs.declared.net.socket_addr.SocketAddr.{SocketAddr}
 use Rattle.hex.specs.Hex.{decode_of}
 use Rattle.toml.specs.Data.{Data, Members, integer, array, Items, no_items, item}
 use Rattle.engine_clock.specs.Engines.{IsEngine}
-use Rattle.snmpsec_config.specs.Keys.{EachKey, FirstKey}
+use Rattle.snmpsec_config.specs.Keys.{FirstKey}
 use Rattle.snmpsec_config.specs.Values.{IsText, IsName, IsFlag}
 use Rattle.snmpsec_gate_config.specs.Keys.{at, listed}
 use Rattle.snmpsec_gate_config.specs.Limits.{limit_of}

@@ -18,7 +18,9 @@ use crate::gate::read_gate;
 use crate::rows::read_device;
 use crate::settings::{DeviceSettings, GateSettings};
 use crate::table::GateKey;
-use snmpsec_config::{ConfigFault, ConfigRows, document_of, is_array_of_tables, read_rows, values_at};
+use snmpsec_config::{
+    ConfigFault, ConfigRows, document_of, is_array_of_tables, read_rows, values_at,
+};
 use std::alloc::{AllocError, Global};
 use toml::{Table, Value};
 use usm_core::{UserRow, Users};

@@ -213,7 +213,10 @@ impl fmt::Display for GateFault {
         match self {
             GateFault::Top { .. } => f.write_str("refused config top"),
             GateFault::Gate { .. } => f.write_str("refused config gate BadKey"),
-            GateFault::Device { position, .. } => write!(f, "refused config device {position} BadKey"),
+            GateFault::Device { position, .. } => write!(
+                f,
+                "refused config device {position} BadKey"
+            ),
             GateFault::Duplicate { position } => {
                 write!(f, "refused config device {position} Duplicate")
             }

@@ -1,7 +1,7 @@
 use Rattle.std.proofs.Common.{◌≡◌, ◌<◌, length, Some, is_some, sym, ap, ◌∙◌, arith}
 use Rattle.std.proofs.lemmas.Bool.{false≢true}
 use Rattle.toml.specs.Data.{as_table}
-use Rattle.toml.specs.View.{view, table_view, items_view}
+use Rattle.toml.specs.View.{view, table_view}
 use Rattle.snmpsec_config.proofs.Arrays.{is_table_at, rows_more, first_bad, table_there}
 use Rattle.snmpsec_gate_config.specs.Rows.{IsDevice}
 use Rattle.snmpsec_gate_config.proofs.Refused.{tells_device}

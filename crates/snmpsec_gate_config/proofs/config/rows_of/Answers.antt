@@ -1,7 +1,6 @@
 use Rattle.std.proofs.lemmas.Result.{err_from_is_err_and}
 use Rattle.toml.specs.View.{table_view}
 use Rattle.snmpsec_gate_config.specs.Keys.{table_name}
-use Rattle.snmpsec_gate_config.specs.Documents.{IsTop}
 use Rattle.snmpsec_gate_config.specs.declared.table.GateTable.TheVariants.{Device}
 use Rattle.snmpsec_gate_config.proofs.Tops.{top_tables}
 use Rattle.snmpsec_gate_config.proofs.Refused.{no_devices, no_rows}

@@ -1,9 +1,8 @@
-use Rattle.std.proofs.Common.{◌≡◌, ◌∙◌, ◌<◌, ap, sym, arith, length, List}
+use Rattle.std.proofs.Common.{◌≡◌, ◌<◌, ap, arith, length, List}
 use Rattle.std.specs.declared.net.socket_addr.SocketAddr.{SocketAddr}
-use Rattle.toml.specs.View.{table_view, items_view}
-use Rattle.snmpsec_gate_config.specs.Keys.{at}
-use Rattle.snmpsec_gate_config.specs.Values.{AreAddresses, AreAddressesIn}
-use Rattle.snmpsec_gate_config.specs.Refusals.{TellsNoAddresses, key_fault}
+use Rattle.toml.specs.View.{items_view}
+use Rattle.snmpsec_gate_config.specs.Values.{AreAddressesIn}
+use Rattle.snmpsec_gate_config.specs.Refusals.{key_fault}
 use Rattle.snmpsec_gate_config.proofs.Addresses.{none_empty, no_array}
 use Rattle.snmpsec_gate_config.proofs.gate.addresses.Goals as goal
 use Rattle.snmpsec_gate_config.proofs.gate.addresses.Goals.{in_default-2-via-in-Some-2+else-not-is_empty, in_default-2-via-in_default-2}

@@ -2,7 +2,6 @@ use Rattle.std.proofs.Common.{inl, inr, refl}
 use Rattle.std.proofs.lemmas.Result.{err_from_is_err_and}
 use Rattle.toml.specs.View.{table_view}
 use Rattle.snmpsec_config.proofs.Told.{wrong}
-use Rattle.snmpsec_gate_config.specs.Keys.{listed}
 use Rattle.snmpsec_gate_config.specs.Values.{IsRightAt}
 use Rattle.snmpsec_gate_config.specs.Rows.{IsGate}
 use Rattle.snmpsec_gate_config.specs.declared.table.GateTable.TheVariants as tables
