@@ -1,8 +1,8 @@
 -- What a document says as a gateway's configuration, and which of its tables says nothing.
 --
--- `StandsFor`. The top has [gate], the arrays of [[device]], [[user]], [[group]], [[access]] and [[family]], and nothing
--- else; each table says what its row is; the contexts are those of the devices. `IsBadTop`: the first key that has no
--- place there. `IsBadDeviceAt`, `IsBadRowAt`: the first table that says nothing.
+-- `StandsFor`. The top has [gate], the arrays of [[device]], [[user]], [[group]], [[access]] and [[family]], and
+-- nothing else; each table says what its row is; the contexts are those of the devices. `IsBadTop`: the first key that
+-- has no place there. `IsBadDeviceAt`, `IsBadRowAt`: the first table that says nothing.
 use Rattle.std.specs.Prelude.{◌≡◌, ⊤, ◌⊎◌, ℕ, ◌<◌, List, map, Option, Some}
 use Rattle.toml.specs.Data.{Data, table, Items, Members, no_members, get_member}
 use Rattle.usm_users.specs.declared.load.UserRow.{UserRow}

@@ -48,7 +48,7 @@ IsKeyWords of (Value key) text = text ≡ key_name key ++ (codes ": " ++ wanted_
 -- what is told of a key that has no place at the top
 abbrev pub top_words : List ℕ → List ℕ
 top_words key = shown_key key ++ codes
-    ": at the top are the table gate and the arrays of tables device, user, group, access and family, and nothing else"
+    ": at the top are the table gate and the arrays of tables device, user, group, access and family"
 
 -- what is told of the device at this position
 abbrev pub device_words : ℕ → List ℕ → List ℕ
@@ -57,7 +57,8 @@ device_words position words = codes "device " ++ (decimal position ++ (codes ": 
 -- What is wrong and what is expected.
 abbrev pub IsWhy : GateFault → List ℕ → Type 0
 IsWhy (faults.Top key) text = text ≡ top_words (string_bytes key)
-IsWhy (faults.Gate fault) text = (words : List ℕ) × IsKeyWords tables.Gate fault words × (text ≡ codes "gate: " ++ words)
+IsWhy (faults.Gate fault) text = (words : List ℕ) × IsKeyWords tables.Gate fault words
+    × (text ≡ codes "gate: " ++ words)
 IsWhy (faults.Device position fault) text = (words : List ℕ) × IsKeyWords tables.Device fault words
     × (text ≡ device_words position words)
 IsWhy (faults.Duplicate position) text = text ≡ device_words position (codes "an earlier device has this context")

@@ -167,7 +167,7 @@ fn top_words(alloc: Global, key: &str) -> Result<String, AllocError>
 {
     let shown = shown_key(alloc, key)?;
     format!(in alloc;
-        "{shown}: at the top are the table gate and the arrays of tables device, user, group, access and family, and nothing else"
+        "{shown}: at the top are the table gate and the arrays of tables device, user, group, access and family"
     )
 }
 

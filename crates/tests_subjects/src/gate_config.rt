@@ -1,7 +1,9 @@
 //! The configuration of a gateway: what is read of a text, and what is reported of one that isn't read.
 
 use crate::access::question;
-use snmpsec_gate_config::{DeviceSettings, GateConfig, GateFault, GateSettings};
+use snmpsec_gate_config::{
+    DeviceOddity, DeviceSettings, GateConfig, GateFault, GateRows, GateSettings,
+};
 use std::alloc::{AllocError, Global};
 use tests_messages::row::{Fault, Row, keep};
 use tests_messages::subjects::Subject;
@@ -20,6 +22,7 @@ impl Subject for Gateway {
     fn answer(&mut self, row: &mut Row<'_>) {
         match row.kind {
             "read" => self.read(row),
+            "odd" => odd(row),
             _ => self.of_config(row),
         }
     }
@@ -52,6 +55,28 @@ impl Gateway {
     }
 }
 
+/// `odd TEXT N`: what about the device is probably a mistake, counted from 0.
+fn odd(row: &mut Row<'_>) {
+    match GateRows::read(row.alloc, row.octets()) {
+        Ok(said) => odd_device(&said, row),
+        Err(fault) if fault.is_memory() => row.lack(),
+        Err(_) => row.fail("a configuration that is read"),
+    }
+}
+
+/// What about the device is probably a mistake.
+fn odd_device(said: &GateRows, row: &mut Row<'_>) {
+    let place = row.place();
+    let odd = match said.devices.get(place) {
+        Some(device) => DeviceOddity::of(device, &said.rows.access.access),
+        None => None,
+    };
+    match odd {
+        Some(odd) => row.say(format!(in row.alloc; "{odd}")),
+        None => row.none(),
+    }
+}
+
 /// The line that is printed of a configuration that isn't read, and why.
 fn fault_text(alloc: Global, fault: &GateFault) -> Result<String, AllocError> {
     let why = fault.why(alloc)?;
@@ -72,7 +97,8 @@ fn of_config(config: &GateConfig, row: &mut Row<'_>) {
 /// What is said of the gateway but for its limits.
 fn gate_text(alloc: Global, gate: &GateSettings) -> Result<String, AllocError> {
     let mut text = format!(in alloc;
-        "{} {} {} {}", gate.engine, gate.boots, gate.long_answers, gate.report_unreachable
+        "{} {} {} {}",
+        gate.engine, gate.boots, gate.long_answers, gate.report_unreachable
     )?;
     for address in &gate.listen {
         text.push_str(" ")?;
@@ -86,7 +112,8 @@ fn gate_text(alloc: Global, gate: &GateSettings) -> Result<String, AllocError> {
 fn limits_text(alloc: Global, gate: &GateSettings) -> Result<String, AllocError> {
     let it = gate.limits;
     format!(in alloc;
-        "{} {} {} {} {} {}", it.waiting, it.rounds, it.again, it.tries, it.last, it.gather
+        "{} {} {} {} {} {}",
+        it.waiting, it.rounds, it.again, it.tries, it.last, it.gather
     )
 }
 

@@ -13,7 +13,12 @@ fn a_gateways_configuration_is_read_or_refused(rt: HostRuntime) -> Result<(), Fa
     let device = config.devices.first().ok_or("a device")?;
     assert_eq!(rt; device.address.port(), 161);
     assert!(rt; device.write_community.is_none());
-    let fault = GateConfig::read(rt.alloc(), b"[gate]\n").err().ok_or("a fault")?;
-    assert_eq!(rt; fault.why(rt.alloc())?.as_str(), "gate: engine: missing, an engine ID of 5 to 32 octets in hex");
+    let fault = GateConfig::read(rt.alloc(), b"[gate]\n")
+        .err()
+        .ok_or("a fault")?;
+    assert_eq!(rt;
+        fault.why(rt.alloc())?.as_str(),
+        "gate: engine: missing, an engine ID of 5 to 32 octets in hex"
+    );
     Ok(())
 }
