@@ -1,21 +1,20 @@
 //! Reading a gateway's configuration.
 
-ghost use Rattle.std.specs.Prelude.{◌≡◌, ◌<◌, List, IfErr, IfOk, MatchBool, MatchOption, map};
+ghost use Rattle.std.specs.Prelude.{◌≡◌, IfErr, IfOk, MatchBool, MatchOption, map};
 ghost use Rattle.toml.specs.Data.{no_members};
-ghost use Rattle.toml.specs.View.{view, table_view, items_view};
+ghost use Rattle.toml.specs.View.{view, table_view};
 ghost use Rattle.vacm_core.specs.Tables.{tables_of};
 ghost use Rattle.snmpsec_config.specs.Rows.{AreRows};
-ghost use Rattle.snmpsec_config.specs.Documents.{AreTables, values_of, IsArrayOfTables};
-ghost use Rattle.snmpsec_config.specs.declared.table.ConfigTable.TheVariants as config_tables;
-ghost use Rattle.snmpsec_gate_config.specs.Documents.{IsTop, IsBadTop, IsTopMember, IsTable, IsArrayName, StandsFor};
+ghost use Rattle.snmpsec_config.specs.Documents.{AreTables};
+ghost use Rattle.snmpsec_gate_config.specs.Documents.{IsTop, IsBadTop, IsTopMember, IsArrayName, StandsFor};
 ghost use Rattle.snmpsec_gate_config.specs.Documents.{gate_of, devices_of, AreConfigRows};
 ghost use Rattle.snmpsec_gate_config.specs.Refusals.{Says, SaysSound, Loads, Refuses, RefusesDocument, TellsNoGate};
 ghost use Rattle.snmpsec_gate_config.specs.Refusals.{TellsNoDevices, TellsNoRows, device_refusal};
 ghost use Rattle.snmpsec_gate_config.specs.Rows.{IsGate, IsDevice, context_row};
 
+use crate::device::read_device;
 use crate::fault::{GateFault, GateKeyFault, GateTableFault};
 use crate::gate::read_gate;
-use crate::rows::read_device;
 use crate::settings::{DeviceSettings, GateSettings};
 use crate::table::GateKey;
 use snmpsec_config::{

@@ -1,6 +1,6 @@
 //! Reading [gate].
 
-ghost use Rattle.std.specs.Prelude.{◌≡◌, ◌∷◌, [], ◌<◌, IfOk, IfErr, length, MatchBool, MatchOption, Option, OnOk};
+ghost use Rattle.std.specs.Prelude.{◌∷◌, [], IfOk, IfErr, MatchOption, Option};
 ghost use Rattle.std.specs.Prelude.{List};
 ghost use Rattle.std.specs.declared.net.socket_addr.SocketAddr.{SocketAddr as Address};
 ghost use Rattle.toml.specs.View.{table_view, items_view};
@@ -13,7 +13,7 @@ ghost use Rattle.snmpsec_gate_config.specs.declared.table.GateKey.TheVariants as
 ghost use Rattle.snmpsec_gate_config.specs.declared.table.LimitKey.TheVariants as limits;
 
 use crate::fault::GateTableFault;
-use crate::rows::only_listed;
+use crate::listed::only_listed;
 use crate::settings::{GateLimits, GateSettings};
 use crate::table::{GateKey, GateTable, LimitKey};
 use crate::values::{GateValueFault, address_in, engine, fault, flag, limit, path, values};

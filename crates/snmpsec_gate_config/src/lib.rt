@@ -23,13 +23,14 @@
 #![tactic(auto)]
 
 mod config;
+mod device;
 mod fault;
 mod gate;
 mod laws;
 mod limit;
+mod listed;
 mod near;
 mod oddity;
-mod rows;
 mod settings;
 mod table;
 mod values;

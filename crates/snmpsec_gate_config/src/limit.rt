@@ -1,6 +1,6 @@
 //! The least, the greatest and the default of each limit.
 
-ghost use Rattle.std.specs.Prelude.{◌≡◌, ◌≤◌};
+ghost use Rattle.std.specs.Prelude.{◌≡◌};
 ghost use Rattle.snmpsec_gate_config.specs.Limits.{limit_of};
 
 use crate::table::LimitKey;

@@ -1,6 +1,6 @@
 //! What about a device is probably a mistake.
 
-ghost use Rattle.std.specs.Prelude.{◌≡◌, ◌≢◌, [], All, Some, MatchBool, MatchOption};
+ghost use Rattle.std.specs.Prelude.{All, Some, MatchBool, MatchOption};
 ghost use Rattle.snmpsec_gate_config.specs.Oddities.{Fits, FitsWrites, IsFirstOf, TellsOddity, oddity_words};
 
 use crate::settings::DeviceSettings;

@@ -1,6 +1,6 @@
 //! The values at the keys of [gate] and of a device.
 
-ghost use Rattle.std.specs.Prelude.{◌≡◌, ◌≢◌, ◌<◌, ℕ, List, length, slice_index, EachIndex, Ok, Bool, IfOk, IfErr};
+ghost use Rattle.std.specs.Prelude.{◌≡◌, ◌≢◌, ◌<◌, ℕ, List, slice_index, EachIndex, Ok, Bool, IfOk, IfErr};
 ghost use Rattle.std.specs.Prelude.{Option, Some, MatchOption, MatchBool, option_map};
 ghost use Rattle.std.specs.Net.Grammar.{IsSocketText};
 ghost use Rattle.std.specs.Net.Socket.{socket_port};

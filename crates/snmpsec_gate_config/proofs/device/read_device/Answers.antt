@@ -6,7 +6,7 @@ use Rattle.snmpsec_gate_config.specs.Rows.{IsDevice}
 use Rattle.snmpsec_gate_config.specs.declared.table.GateTable.TheVariants as tables
 use Rattle.snmpsec_gate_config.specs.declared.table.GateKey.TheVariants as keys
 use Rattle.snmpsec_gate_config.proofs.Told.{tells, tells_unlisted, device_right, right_if_any, wrong_community_if_any}
-use Rattle.snmpsec_gate_config.proofs.rows.read_device.Goals as goal
+use Rattle.snmpsec_gate_config.proofs.device.read_device.Goals as goal
 
 pub returns-in_err-only_listed-clause-fault : goal.returns-in_err-only_listed-clause-fault
 returns-in_err-only_listed-clause-fault c =

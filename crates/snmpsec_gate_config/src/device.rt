@@ -1,52 +1,21 @@
-//! Reading a device, and the keys that a table doesn't list.
+//! Reading a device.
 
-ghost use Rattle.std.specs.Prelude.{◌≡◌, ◌∷◌, [], Option, IfOk, IfErr, OnOk, MatchOption};
-ghost use Rattle.std.specs.Prelude.{option_map};
+ghost use Rattle.std.specs.Prelude.{◌≡◌, ◌∷◌, [], IfOk, IfErr, option_map};
 ghost use Rattle.toml.specs.View.{table_view};
-ghost use Rattle.snmpsec_gate_config.specs.Keys.{HasOnlyListed, IsFirstUnlisted};
 ghost use Rattle.snmpsec_gate_config.specs.Rows.{IsDevice, AreDeviceLimits};
-ghost use Rattle.snmpsec_gate_config.specs.Refusals.{TellsNoTable, TellsUnlisted};
+ghost use Rattle.snmpsec_gate_config.specs.Refusals.{TellsNoTable};
 ghost use Rattle.snmpsec_gate_config.specs.Values.{IsFirstFault};
 ghost use Rattle.snmpsec_gate_config.specs.declared.table.GateTable.TheVariants as tables;
 ghost use Rattle.snmpsec_gate_config.specs.declared.table.GateKey.TheVariants as keys;
 ghost use Rattle.snmpsec_gate_config.specs.declared.table.LimitKey.TheVariants as limits;
 
-use crate::fault::{GateKeyFault, GateTableFault};
+use crate::fault::GateTableFault;
+use crate::listed::only_listed;
 use crate::settings::{DeviceLimits, DeviceSettings};
 use crate::table::{GateKey, GateTable, LimitKey};
 use crate::values::{GateValueFault, address, community, community_if_any, limit, name};
 use std::alloc::{AllocError, Global};
 use toml::Table;
-
-/// The first key that the table doesn't list.
-fn first_unlisted<'a>(row: &'a Table, table: GateTable) -> Option<&'a str>
-    ensures { MatchOption result (HasOnlyListed table (table_view row.now))
-        (λ key. IsFirstUnlisted table (table_view row.now) key.now) }
-{
-    for (key, _) in row.iter() {
-        if !table.lists(key.as_str()) {
-            return Some(key.as_str());
-        }
-    }
-    None
-}
-
-/// Refuses a row with a key that the table doesn't list.
-pub(crate) fn only_listed(
-    alloc: Global,
-    row: &Table,
-    table: GateTable,
-) -> Result<(), GateTableFault>
-    ensures ok { OnOk result (HasOnlyListed table (table_view row.now)) }
-    ensures fault { IfErr result (TellsUnlisted table (table_view row.now)) }
-{
-    match first_unlisted(row, table) {
-        None => Ok(()),
-        Some(key) => Err(GateTableFault::Key(GateKeyFault::Unlisted {
-            key: String::from_str(alloc, key)?,
-        })),
-    }
-}
 
 /// The octets of a text.
 fn octets(alloc: Global, text: &str) -> Result<Vec<u8>, AllocError>

@@ -2,7 +2,7 @@ use Rattle.std.proofs.Common.{◌≡◌, List, ◌++◌}
 use Rattle.toml.specs.View.{members_view}
 use Rattle.toml.proofs.Views.{Entry}
 use Rattle.snmpsec_gate_config.specs.Keys.{HasOnlyListed}
-use Rattle.snmpsec_gate_config.proofs.rows.first_unlisted.Given as goal
+use Rattle.snmpsec_gate_config.proofs.listed.first_unlisted.Given as goal
 
 abbrev pub invariant-loop-key : goal.invariant-loop-key
 invariant-loop-key l =

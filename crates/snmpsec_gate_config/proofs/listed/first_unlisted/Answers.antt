@@ -2,7 +2,7 @@ use Rattle.std.proofs.Common.{◌≡◌, ◌∷◌, ◌++◌, [], sym, ap, ◌�
 use Rattle.toml.proofs.Views.{Entry}
 use Rattle.snmpsec_gate_config.specs.Keys.{IsListed}
 use Rattle.snmpsec_config.proofs.Members.{each_more, first_here}
-use Rattle.snmpsec_gate_config.proofs.rows.first_unlisted.Goals as goal
+use Rattle.snmpsec_gate_config.proofs.listed.first_unlisted.Goals as goal
 
 pub loop-key-preserved : goal.loop-key-preserved
 loop-key-preserved c =

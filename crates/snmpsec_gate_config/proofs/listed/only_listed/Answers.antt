@@ -1,7 +1,7 @@
 use Rattle.std.proofs.Common.{ℕ, List, sym, subst}
 use Rattle.toml.specs.View.{table_view}
 use Rattle.snmpsec_gate_config.specs.Keys.{IsFirstUnlisted}
-use Rattle.snmpsec_gate_config.proofs.rows.only_listed.Goals as goal
+use Rattle.snmpsec_gate_config.proofs.listed.only_listed.Goals as goal
 
 pub returns-in_ok-from_str-in-Some-clause-fault : goal.returns-in_ok-from_str-in-Some-clause-fault
 returns-in_ok-from_str-in-Some-clause-fault c =

@@ -4,7 +4,7 @@ use Rattle.toml.specs.View.{table_view}
 use Rattle.snmpsec_gate_config.specs.declared.table.GateKey.TheVariants as keys
 use Rattle.snmpsec_gate_config.specs.declared.table.LimitKey.TheVariants as limits
 use Rattle.snmpsec_gate_config.proofs.Told.{device_limit_keys, right_limit, wrong_limit, first_fault}
-use Rattle.snmpsec_gate_config.proofs.rows.device_limits.Goals as goal
+use Rattle.snmpsec_gate_config.proofs.device.device_limits.Goals as goal
 
 pub returns-in_err-repetitions-clause-fault : goal.returns-in_err-repetitions-clause-fault
 returns-in_err-repetitions-clause-fault c =
