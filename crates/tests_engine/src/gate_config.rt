@@ -12,8 +12,8 @@ const TEXT: &[u8] = b"\
 /// What is read of the text, or of the text once more if memory ran out.
 fn read(alloc: Global) -> Result<GateConfig, GateFault> {
     match GateConfig::read(alloc, TEXT) {
-        Err(fault) if fault.is_memory() => GateConfig::read(alloc, TEXT),
-        read => read,
+        Ok(config) => Ok(config),
+        Err(_) => GateConfig::read(alloc, TEXT),
     }
 }
 

@@ -59,8 +59,13 @@ impl Gateway {
 fn odd(row: &mut Row<'_>) {
     match GateRows::read(row.alloc, row.octets()) {
         Ok(said) => odd_device(&said, row),
-        Err(fault) if fault.is_memory() => row.lack(),
-        Err(_) => row.fail("a configuration that is read"),
+        Err(fault) => {
+            if fault.is_memory() {
+                row.lack();
+            } else {
+                row.fail("a configuration that is read");
+            }
+        }
     }
 }
 
