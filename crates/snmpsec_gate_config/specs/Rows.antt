@@ -1,8 +1,8 @@
 -- What the tables [gate] and [[device]] say.
 --
 -- `IsGate`, `IsDevice`: a table of TOML and what it says, key by key, with no key that isn't listed. `context_row`: the
--- context that a device is. `gate_values`, `device_values`: what is said, whatever memory it is in.
-use Rattle.std.specs.Prelude.{ℕ, Bool, List, Option, option_map, string_bytes}
+-- context that a device is. `HaveOwnContexts`: no two devices have one. `gate_values`, `device_values`: what is said, whatever memory it is in.
+use Rattle.std.specs.Prelude.{◌≢◌, ℕ, Bool, List, AllPairs, Option, option_map, string_bytes}
 use Rattle.std.specs.declared.net.socket_addr.SocketAddr.{SocketAddr}
 use Rattle.toml.specs.Data.{Members}
 use Rattle.vacm_core.specs.declared.rows.ContextRow.{ContextRow}
@@ -56,6 +56,10 @@ pub record IsDevice (t : Members) (device : DeviceSettings) : Type 0 where
 -- the row of vacmContextTable that a device is (RFC 3415, section 4)
 abbrev pub context_row : DeviceSettings → ContextRow
 context_row device = record { name = device.context }
+
+-- No two devices have one context: a contextName names one device.
+abbrev pub HaveOwnContexts : List DeviceSettings → Type 0
+HaveOwnContexts devices = AllPairs (λ (a b : DeviceSettings). a.context ≢ b.context) devices
 
 -- ---- what is said, whatever memory it is in
 

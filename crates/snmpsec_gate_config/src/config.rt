@@ -10,7 +10,7 @@ ghost use Rattle.snmpsec_gate_config.specs.Documents.{IsTop, IsBadTop, IsTopMemb
 ghost use Rattle.snmpsec_gate_config.specs.Documents.{gate_of, devices_of, AreConfigRows};
 ghost use Rattle.snmpsec_gate_config.specs.Refusals.{Says, SaysSound, Loads, Refuses, RefusesDocument, TellsNoGate};
 ghost use Rattle.snmpsec_gate_config.specs.Refusals.{TellsNoDevices, TellsNoRows, device_refusal};
-ghost use Rattle.snmpsec_gate_config.specs.Rows.{IsGate, IsDevice, context_row};
+ghost use Rattle.snmpsec_gate_config.specs.Rows.{IsGate, IsDevice, HaveOwnContexts, context_row};
 
 use crate::device::read_device;
 use crate::fault::{GateFault, GateKeyFault, GateTableFault};
@@ -56,6 +56,9 @@ impl GateConfig {
     pub fn read(alloc: Global, text: &[u8]) -> Result<GateConfig, GateFault>
         ensures loads { IfOk result (λ config. Loads text.now config.gate config.devices.items
             config.users.users config.access) }
+
+        // So a contextName names one device.
+        ensures own_contexts { IfOk result (λ config. HaveOwnContexts config.devices.items) }
         ensures refuses { IfErr result (Refuses text.now) }
     {
         let GateRows {

@@ -1,5 +1,6 @@
 use Rattle.std.proofs.lemmas.Result.{err_from_is_err_and}
 use Rattle.vacm_core.specs.Tables.{tables_of}
+use Rattle.snmpsec_gate_config.proofs.Contexts.{own_contexts}
 use Rattle.snmpsec_gate_config.proofs.Refused.{user_told, access_told}
 use Rattle.snmpsec_gate_config.proofs.config.GateConfig.read.Goals as goal
 
@@ -26,3 +27,6 @@ returns-clause-loads c =
       same_users = same;
       same_rows = c.in_ok-access.ensures.same_rows;
     }
+
+pub returns-clause-own_contexts : goal.returns-clause-own_contexts
+returns-clause-own_contexts c = own_contexts _ _ c.in_ok-gate.ensures.says.stands.config_rows.contexts c.in_ok-access.ensures.sound
