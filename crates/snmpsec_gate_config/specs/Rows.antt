@@ -1,7 +1,8 @@
 -- What the tables [gate] and [[device]] say.
 --
 -- `IsGate`, `IsDevice`: a table of TOML and what it says, key by key, with no key that isn't listed. `context_row`: the
--- context that a device is. `HaveOwnContexts`: no two devices have one. `gate_values`, `device_values`: what is said, whatever memory it is in.
+-- context that a device is. `HaveOwnContexts`: no two devices have one. `gate_values`, `device_values`: what is said,
+-- whatever memory it is in.
 use Rattle.std.specs.Prelude.{◌≢◌, ℕ, Bool, List, AllPairs, Option, option_map, string_bytes}
 use Rattle.std.specs.declared.net.socket_addr.SocketAddr.{SocketAddr}
 use Rattle.toml.specs.Data.{Members}
