@@ -14,13 +14,13 @@ use Rattle.snmpsec_gate_config.specs.Values.{IsCommunityIfAny, IsLimit, IsFlagOr
 use Rattle.snmpsec_gate_config.specs.declared.table.GateTable.TheVariants as tables
 use Rattle.snmpsec_gate_config.specs.declared.table.GateKey.TheVariants as keys
 use Rattle.snmpsec_gate_config.specs.declared.table.LimitKey.TheVariants as limits
-use Rattle.snmpsec_gate_config.specs.declared.settings.GateLimits.{GateLimits}
+use Rattle.snmpsec_gate_config.specs.declared.settings.GatewayLimits.{GatewayLimits}
 use Rattle.snmpsec_gate_config.specs.declared.settings.GateSettings.{GateSettings}
 use Rattle.snmpsec_gate_config.specs.declared.settings.DeviceLimits.{DeviceLimits}
 use Rattle.snmpsec_gate_config.specs.declared.settings.DeviceSettings.{DeviceSettings}
 
 -- the limits of a gateway
-pub record AreGateLimits (t : Members) (own : GateLimits) : Type 0 where
+pub record AreGateLimits (t : Members) (own : GatewayLimits) : Type 0 where
   pub waiting : IsLimit limits.Waiting (at t (keys.Limit limits.Waiting)) own.waiting
   pub rounds : IsLimit limits.Rounds (at t (keys.Limit limits.Rounds)) own.rounds
   pub again : IsLimit limits.Again (at t (keys.Limit limits.Again)) own.again

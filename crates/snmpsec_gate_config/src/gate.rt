@@ -14,7 +14,7 @@ ghost use Rattle.snmpsec_gate_config.specs.declared.table.LimitKey.TheVariants a
 
 use crate::fault::GateTableFault;
 use crate::listed::only_listed;
-use crate::settings::{GateLimits, GateSettings};
+use crate::settings::{GateSettings, GatewayLimits};
 use crate::table::{GateKey, GateTable, LimitKey};
 use crate::values::{GateValueFault, address_in, engine, fault, flag, limit, path, values};
 use std::alloc::{AllocError, Global};
@@ -22,7 +22,7 @@ use std::net::SocketAddr;
 use toml::{Table, Value};
 
 /// The limits of a gateway.
-fn gate_limits(row: &Table) -> Result<GateLimits, GateValueFault>
+fn gate_limits(row: &Table) -> Result<GatewayLimits, GateValueFault>
     ensures ok { IfOk result (AreGateLimits (table_view row.now)) }
     ensures fault { IfErr result (IsFirstFault (table_view row.now)
         (keys.Limit limits.Waiting ∷ keys.Limit limits.Rounds ∷ keys.Limit limits.Again
@@ -34,7 +34,7 @@ fn gate_limits(row: &Table) -> Result<GateLimits, GateValueFault>
     let tries = limit(row, LimitKey::Tries)?;
     let last = limit(row, LimitKey::Last)?;
     let gather = limit(row, LimitKey::Gather)?;
-    Ok(GateLimits {
+    Ok(GatewayLimits {
         waiting: waiting as usize,
         rounds,
         again: u64::from(again),

@@ -40,5 +40,5 @@ pub use fault::{GateFault, GateKeyFault};
 pub use laws::one_gateway;
 pub use limit::Limit;
 pub use oddity::DeviceOddity;
-pub use settings::{DeviceLimits, DeviceSettings, GateLimits, GateSettings};
+pub use settings::{DeviceLimits, DeviceSettings, GateSettings, GatewayLimits};
 pub use table::{GateKey, GateTable, LimitKey};

@@ -6,7 +6,7 @@ use vacm_core::Name;
 
 /// The limits of a gateway. Times are in milliseconds.
 #[derive(Clone, Copy, Debug, PartialEq, Eq)]
-pub struct GateLimits {
+pub struct GatewayLimits {
     /// How many requests may wait, from 1 to 65535.
     pub waiting: usize,
     /// How often a device is asked for one request, from 1 to 65535.
@@ -30,7 +30,7 @@ pub struct GateSettings {
     pub boots: String,
     /// The addresses at which it takes requests, at least one.
     pub listen: Vec<SocketAddr>,
-    pub limits: GateLimits,
+    pub limits: GatewayLimits,
     /// Whether a Response without authentication may be as long as the manager allows.
     pub long_answers: bool,
     /// Whether a request whose device doesn't answer is reported as one of an unavailable context.
