@@ -197,6 +197,13 @@ impl Agent {
         )
     }
 
+    /// Returns the tables by which access is decided (RFC 3415, section 4).
+    pub fn tables(&self) -> &Vacm
+        ensures { result.now ≡ self.now.tables }
+    {
+        &self.vacm
+    }
+
     /// The least name, at or after this one, that the sender of an accepted message may see in the message's
     /// context: the one for which `allows` answers `AccessAllowed`. None if there is no such name. It takes no memory.
     pub fn next_in_view(&self, taken: &Taken<'_>, view: ViewType, from: &Oid) -> Option<Oid>

@@ -10,3 +10,11 @@ pub mod Tags
 pub mod Timers
 pub mod ReadNames
 pub mod Contexts
+pub mod Asked
+pub mod Standing
+pub mod Sending
+pub mod Telling
+pub mod More
+pub mod Histories
+pub mod Endings
+pub mod AskingWell

@@ -4,13 +4,13 @@ use Rattle.std.proofs.Common.{sym, ap, subst, ◌∙◌, inl, inr}
 use Rattle.std.proofs.lemmas.List.Elements.{All-contains, All-filter, All-nil, All-push, All-set, All-weaker, Contains-append_left, Contains-append_right, Contains-push}
 use Rattle.snmp_gate.specs.Sets.{HasDigest, IsNoted, IsTold, lasting, lasts, new_set, with_outcome}
 use Rattle.snmp_gate.specs.SetRuns.{AreAsTold, IsAsTold, IsSetRun, SetStep, forgets, notes, tells}
-use Rattle.snmp_gate.specs.declared.set_answer.SetOutcome.{SetOutcome}
+use Rattle.snmp_gate.specs.declared.set_answer.ResponseStatus.{ResponseStatus}
 use Rattle.snmp_gate.specs.declared.sets.RememberedSet.{RememberedSet}
 use Rattle.snmp_gate.specs.declared.sets.SetNote.{SetNote}
 use Rattle.snmp_gate.specs.declared.sets.SetNote.TheVariants.{New, NoRoom, Repeated}
 
 -- if the outcome is known, it was told of the digest
-abbrev pub WasTold : List SetStep → List ℕ → Option SetOutcome → Type 0
+abbrev pub WasTold : List SetStep → List ℕ → Option ResponseStatus → Type 0
 WasTold before digest None = Unit {0}
 WasTold before digest (Some outcome) = Contains before (tells digest outcome)
 
@@ -18,7 +18,7 @@ abbrev pub IsToldSet : List SetStep → RememberedSet → Type 0
 IsToldSet before set = WasTold before set.digest set.outcome
 
 -- one step later
-told_on : (before : List SetStep) (step : SetStep) (digest : List ℕ) (outcome : Option SetOutcome) → WasTold before digest outcome → WasTold (step ∷ before) digest outcome
+told_on : (before : List SetStep) (step : SetStep) (digest : List ℕ) (outcome : Option ResponseStatus) → WasTold before digest outcome → WasTold (step ∷ before) digest outcome
 told_on before step digest None told = tt
 told_on before step digest (Some outcome) told = Contains-append_right (step ∷ []) before (tells digest outcome) told
 
@@ -35,12 +35,12 @@ all_noted before now digest old new (Repeated outcome) noted all = subst (All (I
 all_noted before now digest old new NoRoom noted all = subst (All (IsToldSet before)) (sym noted.2) (all_last before now old all)
 
 -- what was told just now was told
-just_told : (before : List SetStep) (digest other : List ℕ) (outcome : SetOutcome) → other ≡ digest → WasTold (tells digest outcome ∷ before) other (Some outcome)
+just_told : (before : List SetStep) (digest other : List ℕ) (outcome : ResponseStatus) → other ≡ digest → WasTold (tells digest outcome ∷ before) other (Some outcome)
 just_told before digest other outcome is =
     subst (λ (d : List ℕ). Contains (tells digest outcome ∷ before) (tells d outcome)) (sym is)
     (Contains-append_left (tells digest outcome ∷ []) before (tells digest outcome) (Contains-push [] (tells digest outcome)))
 
-all_told : (before : List SetStep) (digest : List ℕ) (outcome : SetOutcome) (old new : List RememberedSet) → IsTold digest outcome old new → All (IsToldSet before) old → All (IsToldSet (tells digest outcome ∷ before)) new
+all_told : (before : List SetStep) (digest : List ℕ) (outcome : ResponseStatus) (old new : List RememberedSet) → IsTold digest outcome old new → All (IsToldSet before) old → All (IsToldSet (tells digest outcome ∷ before)) new
 all_told before digest outcome old new told all = elim told [
   | inl same ↦ subst (All (IsToldSet (tells digest outcome ∷ before))) (sym same.1) (all_on before (tells digest outcome) old all)
   | inr at ↦
@@ -51,11 +51,11 @@ all_told before digest outcome old new told all = elim told [
 ]
 
 -- a Set that came before has an outcome that was told
-found_told : (before : List SetStep) (sets : List RememberedSet) (set : RememberedSet) (digest : List ℕ) (outcome : SetOutcome) → HasDigest digest sets set → set.outcome ≡ Some outcome → All (IsToldSet before) sets
+found_told : (before : List SetStep) (sets : List RememberedSet) (set : RememberedSet) (digest : List ℕ) (outcome : ResponseStatus) → HasDigest digest sets set → set.outcome ≡ Some outcome → All (IsToldSet before) sets
     → Contains before (tells digest outcome)
 found_told before sets set digest outcome has is all =
     subst (λ (d : List ℕ). Contains before (tells d outcome)) has.digest_is
-    (subst (λ (o : Option SetOutcome). WasTold before set.digest o) is (All-contains (IsToldSet before) sets set all has.there))
+    (subst (λ (o : Option ResponseStatus). WasTold before set.digest o) is (All-contains (IsToldSet before) sets set all has.there))
 
 noted_as_told : (before : List SetStep) (now : ℕ) (digest : List ℕ) (old new : List RememberedSet) (note : SetNote) → IsNoted now digest old new note → All (IsToldSet before) old → IsAsTold before (notes now digest note)
 noted_as_told before now digest old new New noted all = tt

@@ -17,13 +17,13 @@ module _ {M W : Type 0} where
   at_place P old place g at all = subst P (sym at.group_is) (All-get_or P old place g at.within all)
 
   -- and of all groups after a step, if it holds of the one that changed
-  all_joined : (P : Group M W → Type 0) (most : ℕ) (old new : List (Group M W)) (place : ℕ) (message : M) (becomes : Joined) → IsJoined most old place message new becomes
+  pub all_joined : (P : Group M W → Type 0) (most : ℕ) (old new : List (Group M W)) (place : ℕ) (message : M) (becomes : Joined) → IsJoined most old place message new becomes
       → ((g : Group M W) → IsAt old place g → length g.messages < most → P g → P (with_messages g (g.messages ++ message ∷ []))) → All P old → All P new
   all_joined P most old new place message joined.Joined j keeps all =
       subst (All P) (sym j.3) (All-set P old place (with_messages j.0 (j.0.messages ++ message ∷ [])) (keeps j.0 j.1 j.2 (at_place P old place j.0 j.1 all)) all)
   all_joined P most old new place message joined.NoRoom j keeps all = subst (All P) (sym j.3) all
 
-  all_worked : (P : Group M W → Type 0) (old new : List (Group M W)) (place : ℕ) (before after : W) → IsWorked old place before after new
+  pub all_worked : (P : Group M W → Type 0) (old new : List (Group M W)) (place : ℕ) (before after : W) → IsWorked old place before after new
       → ((g : Group M W) → P g → P (with_work g after)) → All P old → All P new
   all_worked P old new place before after w keeps all =
       subst (All P) (sym w.new_is) (All-set P old place (with_work w.group after) (keeps w.group (at_place P old place w.group w.at all)) all)
@@ -33,7 +33,7 @@ module _ {M W : Type 0} where
   all_left P old new place g message [] were left keeps all = subst (All P) (sym left) (all_removed P old place all)
   all_left P old new place g message (next ∷ rest) were left keeps all = subst (All P) (sym left) (All-set P old place (with_messages g (next ∷ rest)) (keeps next rest were) all)
 
-  all_answered : (P : Group M W → Type 0) (old new : List (Group M W)) (place : ℕ) (message : M) → IsAnswered old place message new
+  pub all_answered : (P : Group M W → Type 0) (old new : List (Group M W)) (place : ℕ) (message : M) → IsAnswered old place message new
       → ((g : Group M W) (next : M) (rest : List M) → g.messages ≡ message ∷ next ∷ rest → P g → P (with_messages g (next ∷ rest))) → All P old → All P new
   all_answered P old new place message a keeps all =
       all_left P old new place a.group message a.others a.messages_are a.left (λ next rest were. keeps a.group next rest were (at_place P old place a.group a.at all)) all
@@ -91,29 +91,29 @@ module _ {M W Q : Type 0} (question : M → Q) (most most_messages : ℕ) where
       run_few_messages next run.0 steps last (all_answered (IsFew most_messages) first run.0 place message run.1 (few_less message) few) run.2
 
   -- the numbers of the requests rise, and are all below the next one
-  record IsNumbered (next : ℕ) (gs : List (Group M W)) : Type 0 where
-    below : All (λ (g : Group M W). g.number < next) gs
-    rise : HaveOwnNumbers gs
+  pub record IsNumbered (next : ℕ) (gs : List (Group M W)) : Type 0 where
+    pub below : All (λ (g : Group M W). g.number < next) gs
+    pub rise : HaveOwnNumbers gs
 
-  numbered_set : (next place : ℕ) (old new : List (Group M W)) (g h : Group M W) → IsAt old place g → new ≡ slice_set old place h → h.number ≡ g.number → IsNumbered next old → IsNumbered next new
+  pub numbered_set : (next place : ℕ) (old new : List (Group M W)) (g h : Group M W) → IsAt old place g → new ≡ slice_set old place h → h.number ≡ g.number → IsNumbered next old → IsNumbered next new
   numbered_set next place old new g h at is same numbered = subst (IsNumbered next) (sym is) (record {
     below = All-set (λ (x : Group M W). x.number < next) old place h (omega (arith, same, at_place (λ (x : Group M W). x.number < next) old place g at numbered.below)) numbered.below;
     rise = pairs_set (λ (a b : Group M W). a.number < b.number) old place g h at.within at.group_is
         (λ x before. omega (arith, before, same)) (λ x after. omega (arith, after, same)) numbered.rise;
   })
 
-  numbered_left : (next place : ℕ) (old new : List (Group M W)) (g : Group M W) (others : List M) → IsAt old place g → IsLeft old place g others new → IsNumbered next old → IsNumbered next new
+  pub numbered_left : (next place : ℕ) (old new : List (Group M W)) (g : Group M W) (others : List M) → IsAt old place g → IsLeft old place g others new → IsNumbered next old → IsNumbered next new
   numbered_left next place old new g [] at left numbered = subst (IsNumbered next) (sym left) (record {
     below = all_removed (λ (x : Group M W). x.number < next) old place numbered.below;
     rise = all_pairs_remove (λ (a b : Group M W). a.number < b.number) old place at.within numbered.rise;
   })
   numbered_left next place old new g (m ∷ ms) at left numbered = numbered_set next place old new g (with_messages g (m ∷ ms)) at left refl numbered
 
-  numbered_joined : (next most : ℕ) (old new : List (Group M W)) (place : ℕ) (message : M) (becomes : Joined) → IsJoined most old place message new becomes → IsNumbered next old → IsNumbered next new
+  pub numbered_joined : (next most : ℕ) (old new : List (Group M W)) (place : ℕ) (message : M) (becomes : Joined) → IsJoined most old place message new becomes → IsNumbered next old → IsNumbered next new
   numbered_joined next most old new place message joined.Joined j numbered = numbered_set next place old new j.0 (with_messages j.0 (j.0.messages ++ message ∷ [])) j.1 j.3 refl numbered
   numbered_joined next most old new place message joined.NoRoom j numbered = subst (IsNumbered next) (sym j.3) numbered
 
-  numbered_begun : (next : ℕ) (old : List (Group M W)) (message : M) (work : W) → IsNumbered next old → IsNumbered (suc next) (old ++ begun next message work ∷ [])
+  pub numbered_begun : (next : ℕ) (old : List (Group M W)) (message : M) (work : W) → IsNumbered next old → IsNumbered (suc next) (old ++ begun next message work ∷ [])
   numbered_begun next old message work numbered = record {
     below = All-push (λ (g : Group M W). g.number < suc next) old (begun next message work)
         (All-weaker (λ (g : Group M W). g.number < next) (λ (g : Group M W). g.number < suc next) (λ g less. omega (arith, less)) old numbered.below)

@@ -9,7 +9,7 @@ use Rattle.std.proofs.lemmas.Bool.Decides.{eqb_tells, leb_tells}
 use Rattle.std.proofs.lemmas.Slice.Eq.{bytes_eq-Decides}
 use Rattle.snmp_gate.specs.Sets.{IsNoted, IsTold, lasting, lasts, new_set, with_outcome}
 use Rattle.snmp_gate.specs.SetRuns.{ComesWithin, IsSetRun, IsWithin, SetStep, forgets, notes, tells, times_new}
-use Rattle.snmp_gate.specs.declared.set_answer.SetOutcome.{SetOutcome}
+use Rattle.snmp_gate.specs.declared.set_answer.ResponseStatus.{ResponseStatus}
 use Rattle.snmp_gate.specs.declared.sets.RememberedSet.{RememberedSet}
 use Rattle.snmp_gate.specs.declared.sets.SetNote.{SetNote}
 use Rattle.snmp_gate.specs.declared.sets.SetNote.TheVariants.{New, NoRoom, Repeated}
@@ -46,7 +46,7 @@ kept_lasts digest from now sets soon kept = record {
   came = kept.came;
 }
 
-kept_told : (digest other : List ℕ) (from : ℕ) (outcome : SetOutcome) (old new : List RememberedSet) → IsTold other outcome old new → IsKept digest from old → IsKept digest from new
+kept_told : (digest other : List ℕ) (from : ℕ) (outcome : ResponseStatus) (old new : List RememberedSet) → IsTold other outcome old new → IsKept digest from old → IsKept digest from new
 kept_told digest other from outcome old new told kept = elim told [
   | inl same ↦ subst (IsKept digest from) (sym same.1) kept
   | inr at_place ↦
@@ -171,7 +171,7 @@ few_noted now other old new New noted few = omega (arith, ap (λ (s : List Remem
 few_noted now other old new (Repeated outcome) noted few = omega (arith, ap (λ (s : List RememberedSet). length s) noted.1, few_last now old few)
 few_noted now other old new NoRoom noted few = omega (arith, ap (λ (s : List RememberedSet). length s) noted.2, few_last now old few)
 
-few_told : (other : List ℕ) (outcome : SetOutcome) (old new : List RememberedSet) → IsTold other outcome old new → length old ≤ SETS_LIMIT → length new ≤ SETS_LIMIT
+few_told : (other : List ℕ) (outcome : ResponseStatus) (old new : List RememberedSet) → IsTold other outcome old new → length old ≤ SETS_LIMIT → length new ≤ SETS_LIMIT
 few_told other outcome old new told few = elim told [
   | inl same ↦ omega (arith, ap (λ (s : List RememberedSet). length s) same.1)
   | inr at_place ↦ omega (arith, ap (λ (s : List RememberedSet). length s) at_place.2.new_is, length-set old at_place.0 (with_outcome outcome at_place.2.set))

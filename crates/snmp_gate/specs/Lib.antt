@@ -11,3 +11,12 @@ pub mod Sets
 pub mod SetRuns
 pub mod ReadAsks
 pub mod Devices
+pub mod Messages
+pub mod Named
+pub mod Work
+pub mod Ends
+pub mod Replies
+pub mod History
+pub mod Taking
+pub mod Waiting
+pub mod Sending

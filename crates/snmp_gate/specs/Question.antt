@@ -1,7 +1,6 @@
 -- What a message asks, but for its ids (RFC 3411, section 3.3.1; RFC 3416, section 3).
 --
--- `Question`: who asks, at which level, in which context, and the PDU but for its request-id. contextEngineID is always
--- the gateway's own.
+-- `Question`: who asks, at which level, in which context of which engine, and the PDU but for its request-id.
 use Rattle.std.specs.Prelude.{ℕ, ℤ, List}
 use Rattle.snmp_ber.specs.declared.level.Level.{Level}
 use Rattle.snmp_gate.specs.declared.client_message.ClientMessage.{ClientMessage}
@@ -11,6 +10,9 @@ pub record Question : Type 0 where
   pub client : List ℕ
   pub user : List ℕ
   pub level : Level
+  -- contextEngineID
+  pub engine : List ℕ
+  -- contextName
   pub context : List ℕ
   -- the PDU's type
   pub tag : ℕ
@@ -25,6 +27,7 @@ question_of m = record {
   client = m.client.now;
   user = m.user.now;
   level = m.level;
+  engine = m.engine.now;
   context = m.context.now;
   tag = m.pdu.tag;
   second = m.pdu.second;

@@ -6,7 +6,7 @@
 use Rattle.std.specs.Prelude.{◌≡◌, ℕ, ◌+◌, ◌≤◌, cond, List, [], ◌∷◌, Contains, Some, None}
 use Rattle.std.specs.Str.{bytes_eq}
 use Rattle.snmp_gate.specs.Sets.{IsNoted, IsTold, lasting}
-use Rattle.snmp_gate.specs.declared.set_answer.SetOutcome.{SetOutcome}
+use Rattle.snmp_gate.specs.declared.set_answer.ResponseStatus.{ResponseStatus}
 use Rattle.snmp_gate.specs.declared.sets.RememberedSet.{RememberedSet}
 use Rattle.snmp_gate.specs.declared.sets.SetNote.{SetNote}
 use Rattle.snmp_gate.specs.declared.sets.SetNote.TheVariants.{New, Repeated, NoRoom}
@@ -15,7 +15,7 @@ use Rattle.snmp_gate.specs.declared.sets.TheConstants.{REMEMBERED}
 -- what happens: a Set comes, its outcome is told, or those that came too long ago are forgotten
 pub data SetStep : Type 0 where
   notes : (now : ℕ) (digest : List ℕ) (note : SetNote) → SetStep
-  tells : (digest : List ℕ) (outcome : SetOutcome) → SetStep
+  tells : (digest : List ℕ) (outcome : ResponseStatus) → SetStep
   forgets : (now : ℕ) → SetStep
 
 -- the steps lead from one memory to the other; the first of their moments isn't before `since`

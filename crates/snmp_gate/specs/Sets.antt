@@ -6,7 +6,7 @@
 use Rattle.std.specs.Prelude.{◌≡◌, ◌≢◌, ◌⊎◌, ℕ, ◌+◌, ◌<◌, ◌≤◌, nat_le, Bool, List, [], ◌∷◌, ◌++◌, length, Contains}
 use Rattle.std.specs.Prelude.{Some, None, filter, slice_index_or, slice_set}
 use Rattle.std.specs.List.{HoldsAt}
-use Rattle.snmp_gate.specs.declared.set_answer.SetOutcome.{SetOutcome}
+use Rattle.snmp_gate.specs.declared.set_answer.ResponseStatus.{ResponseStatus}
 use Rattle.snmp_gate.specs.declared.sets.RememberedSet.{RememberedSet}
 use Rattle.snmp_gate.specs.declared.sets.SetNote.{SetNote}
 use Rattle.snmp_gate.specs.declared.sets.SetNote.TheVariants.{New, Repeated, NoRoom}
@@ -51,16 +51,16 @@ IsNoted now digest old new NoRoom = IsUnknown digest (lasting now old)
     × (new ≡ lasting now old)
 
 -- the Set with what its Response says
-abbrev pub with_outcome : SetOutcome → RememberedSet → RememberedSet
+abbrev pub with_outcome : ResponseStatus → RememberedSet → RememberedSet
 with_outcome outcome set = record set { outcome = Some outcome }
 
 -- the Set at a place has what its Response says now
-pub record TellsAt (outcome : SetOutcome) (old new : List RememberedSet) (place : ℕ) : Type 0 where
+pub record TellsAt (outcome : ResponseStatus) (old new : List RememberedSet) (place : ℕ) : Type 0 where
   pub set : RememberedSet
   pub set_is : set ≡ slice_index_or old place set
   pub new_is : new ≡ slice_set old place (with_outcome outcome set)
 
 -- what the Response to the Set says is remembered, if the Set is
-abbrev pub IsTold : List ℕ → SetOutcome → List RememberedSet → List RememberedSet → Type 0
+abbrev pub IsTold : List ℕ → ResponseStatus → List RememberedSet → List RememberedSet → Type 0
 IsTold digest outcome old new = (IsUnknown digest old × (new ≡ old))
     ⊎ ((place : ℕ) × IsPlace digest old place × TellsAt outcome old new place)

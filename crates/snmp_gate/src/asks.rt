@@ -83,9 +83,20 @@ impl DeviceAsks {
 
     /// Returns true if the device is asked as much as it may be asked at once.
     pub fn is_full(&self) -> bool
-        ensures { IsTrue result ↔ (self.now.at_once ≤ length self.now.asks.items) }
+        ensures full { IsTrue result ↔ (self.now.at_once ≤ length self.now.asks.items) }
+        ensures few { (IsTrue result → ⊥) → length self.now.asks.items < REQUEST_IDS }
     {
         self.asks.len() >= usize::from(self.at_once)
+    }
+
+    /// Returns the first request-id with which the device isn't asked: this one, or one after it.
+    pub(crate) fn free_id(&self, id: u32) -> u32
+        requires id { id < REQUEST_IDS }
+        requires few { length self.now.asks.items < REQUEST_IDS }
+        ensures free { IsNextFree self.now.asks.items id result }
+        ensures small { result < REQUEST_IDS }
+    {
+        free_id(&self.asks, id)
     }
 
     /// The device is asked for the request with this number. The ask has the request-id `id`, or the next one after it

@@ -14,6 +14,8 @@ pub struct ClientMessage<'a> {
     /// msgUserName.
     pub user: &'a [u8],
     pub level: Level,
+    /// contextEngineID.
+    pub engine: &'a [u8],
     /// contextName.
     pub context: &'a [u8],
     pub pdu: Pdu<'a>,
@@ -29,6 +31,7 @@ impl ClientMessage<'_> {
         self.client == other.client
             && self.user == other.user
             && self.level == other.level
+            && self.engine == other.engine
             && self.context == other.context
             && self.pdu.tag == other.pdu.tag
             && self.pdu.second == other.pdu.second

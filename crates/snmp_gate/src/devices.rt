@@ -3,8 +3,6 @@
 ghost use Rattle.std.specs.Prelude.{◌≡◌, ℕ, IfSome, MatchOption, MatchResult};
 ghost use Rattle.snmp_gate.specs.Devices.{HaveOwnContexts, IsDeviceOf, IsFirstRepeated, IsUnknownContext};
 
-use crate::asks::DeviceAsks;
-
 /// A device behind a gateway. It has no `Debug`, which would print the communities.
 #[derive(Drop)]
 pub struct Device {
@@ -16,8 +14,12 @@ pub struct Device {
     pub write_community: Option<Vec<u8>>,
     /// The longest datagram that it takes, in octets.
     pub max_size: usize,
-    /// What it is asked at once.
-    pub asks: DeviceAsks,
+    /// How many repetitions it is asked for at once at most. 0 is as 1.
+    pub repetitions: usize,
+    /// How many names it is asked for at once at most by a GetBulkRequest. 0 is as 1.
+    pub names: usize,
+    /// For how many requests it is asked at once at most.
+    pub at_once: u16,
 }
 
 /// Why devices can't be those of one gateway: a contextName has to name one device.
@@ -30,7 +32,7 @@ pub struct RepeatedContext {
 /// The devices behind a gateway. Each has a contextName of its own.
 #[derive(Drop)]
 pub struct Devices {
-    list: Vec<Device>,
+    pub(crate) list: Vec<Device>,
 }
 
 /// Returns the number of the first device with this contextName, counted from 0.

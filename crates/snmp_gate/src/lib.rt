@@ -2,7 +2,7 @@
 //! whose instrumentation is asked over SNMPv2c (RFC 3413, section 3.2; RFC 1901).
 //!
 //! ```
-//! use snmp_gate::{RememberedSets, SetNote, SetOutcome, set_digest, set_outcome};
+//! use snmp_gate::{RememberedSets, SetNote, ResponseStatus, set_digest, set_outcome};
 //!
 //! let digest = set_digest(b"0\x03\x02\x01\x03");
 //! let mut sets = RememberedSets::new(rt.alloc());
@@ -11,7 +11,7 @@
 //! let outcome = set_outcome(17, 1, 1);
 //! assert_eq!(rt;
 //!     outcome,
-//!     SetOutcome {
+//!     ResponseStatus {
 //!         status: 17,
 //!         index: 1
 //!     }
@@ -138,6 +138,8 @@
 //!         community: Vec::from_slice(alloc, b"public")?,
 //!         write_community: None,
 //!         max_size: 1472,
+//!         repetitions: 32,
+//!         names: 100,
 //!         asks: DeviceAsks::new(alloc, 32),
 //!     })
 //! }
@@ -217,6 +219,7 @@
 //!     client: b"192.0.2.9:50112",
 //!     user: b"ann",
 //!     level: Level::AuthPriv,
+//!     engine: b"\x80\x00\x1f\x88\x04gate",
 //!     context: b"rack-1-pdu",
 //!     pdu,
 //! };
@@ -253,35 +256,53 @@
 //! ```
 #![tactic(auto)]
 
+mod ask;
 mod asks;
+mod begin;
 mod bulk_request;
 mod client_message;
 mod device_answer;
 mod devices;
+mod gate;
 mod laws;
+mod limits;
+mod named_task;
+mod next;
+mod onward;
 mod read_ask;
 mod refused_access;
+mod reply;
 mod requests;
 mod retries;
 mod set_answer;
 mod set_ask;
 mod sets;
+mod take_client;
+mod take_device;
+mod task;
 mod timer;
+mod viewing;
+mod waiting_message;
+mod whole_dialogue;
+mod work;
 
 pub use asks::{DeviceAsk, DeviceAsks, REQUEST_IDS};
 pub use bulk_request::write_bulk_ask;
 pub use client_message::ClientMessage;
 pub use device_answer::{DeviceAnswer, read_device_answer};
 pub use devices::{Device, Devices, RepeatedContext};
+pub use gate::{ClientTaken, DeviceTaken, Gate, Sent};
 pub use laws::{
     a_request_ends_in_time, a_request_is_one_question, a_set_goes_out_once,
     an_answer_is_of_one_ask, each_message_is_answered_once,
 };
+pub use limits::GateLimits;
 pub use read_ask::{UNSPECIFIED, write_read_ask};
 pub use refused_access::{AccessRefusal, access_refusal};
+pub use reply::SHORT_ANSWER;
 pub use requests::{Joined, WaitingRequest, WaitingRequests};
 pub use retries::Retries;
-pub use set_answer::{SetOutcome, set_outcome};
+pub use set_answer::{ResponseStatus, set_outcome};
 pub use set_ask::write_set_ask;
 pub use sets::{REMEMBERED, RememberedSet, RememberedSets, SETS_LIMIT, SetNote, set_digest};
 pub use timer::{Due, Timer, Turn};

@@ -32,7 +32,7 @@ pub enum Joined {
 /// The requests that wait, in the order in which they began.
 #[derive(Drop)]
 pub struct WaitingRequests<M: Drop, W: Drop> {
-    list: Vec<WaitingRequest<M, W>>,
+    pub(crate) list: Vec<WaitingRequest<M, W>>,
     next: u64,
     most: usize,
     most_messages: usize,
@@ -60,6 +60,13 @@ impl<M: Drop, W: Drop> WaitingRequests<M, W> {
         ensures { IsTrue result ↔ (self.now.most ≤ length self.now.list.items) }
     {
         self.list.len() >= self.most
+    }
+
+    /// Returns the number of the request that begins next.
+    pub fn next_number(&self) -> u64
+        ensures { result ≡ self.now.next }
+    {
+        self.next
     }
 
     /// Returns the requests, in the order in which they began.

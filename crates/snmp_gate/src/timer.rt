@@ -100,6 +100,17 @@ impl Timer {
         };
     }
 
+    /// Returns the timer after the device answered: it is to be asked for what is left.
+    pub fn answered(self) -> Timer
+        ensures began { result.began ≡ self.began }
+        ensures turn { result.turn ≡ Turn.ToAsk }
+    {
+        Timer {
+            began: self.began,
+            turn: Turn::ToAsk,
+        }
+    }
+
     /// The device answered, and is to be asked for what is left.
     pub fn answer(&mut self)
         ensures began { self.new.began ≡ self.old.began }

@@ -278,6 +278,13 @@ impl BulkDialogue {
         self.columns.as_slice()
     }
 
+    /// Returns true if the Response can hold the non-repeaters and one whole repetition.
+    pub fn has_repetition(&self) -> bool
+        ensures { IsTrue result ↔ HasRepetition self.now.columns.items }
+    {
+        has_repetition(self.columns.as_slice())
+    }
+
     /// Chooses which columns the device is asked for, and how.
     fn choose(&mut self) -> BulkAsk
         ensures limits { SameLimits self.old self.new }

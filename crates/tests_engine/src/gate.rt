@@ -1,7 +1,7 @@
 //! The pieces of the gateway at the ends of their ranges.
 use snmp_gate::{
     AccessRefusal, DeviceAsks, Due, Joined, REQUEST_IDS, RememberedSets, Retries, SETS_LIMIT,
-    SetNote, SetOutcome, Timer, WaitingRequests, access_refusal, set_digest, set_outcome,
+    SetNote, ResponseStatus, Timer, WaitingRequests, access_refusal, set_digest, set_outcome,
 };
 use snmp_msg::PduType;
 use std::test::Fail;
@@ -20,14 +20,14 @@ fn no_set_goes_out_if_too_many_are_remembered(rt: HostRuntime) -> Result<(), Fai
     assert_eq!(rt; sets.note(301_006, &digest)?, SetNote::New);
     sets.tell(
         &digest,
-        SetOutcome {
+        ResponseStatus {
             status: 0,
             index: 0,
         },
     );
     assert_eq!(rt;
         sets.note(301_006, &digest)?,
-        SetNote::Repeated(Some(SetOutcome {
+        SetNote::Repeated(Some(ResponseStatus {
             status: 0,
             index: 0
         }))

@@ -21,6 +21,8 @@ mod gate;
 #[cfg(test)]
 mod gate_config;
 #[cfg(test)]
+mod gateway;
+#[cfg(test)]
 mod handles;
 #[cfg(test)]
 mod manager;

@@ -1,5 +1,5 @@
 //! `snmp_gate`: a Set goes out once, and a copy of it has the outcome of the first.
-use snmp_gate::{RememberedSets, SetNote, SetOutcome, set_digest, set_outcome};
+use snmp_gate::{RememberedSets, SetNote, ResponseStatus, set_digest, set_outcome};
 use std::test::Fail;
 
 #[test]
@@ -11,7 +11,7 @@ fn a_set_goes_out_once(rt: HostRuntime) -> Result<(), Fail> {
     let outcome = set_outcome(17, 1, 1);
     assert_eq!(rt;
         outcome,
-        SetOutcome {
+        ResponseStatus {
             status: 17,
             index: 1
         }

@@ -1,5 +1,5 @@
 //! `snmp_gate`: a contextName names one device.
-use snmp_gate::{Device, DeviceAsks, Devices, RepeatedContext};
+use snmp_gate::{Device, Devices, RepeatedContext};
 use std::alloc::{AllocError, Global};
 use std::test::Fail;
 
@@ -9,7 +9,9 @@ fn device(alloc: Global, context: &[u8]) -> Result<Device, AllocError> {
         community: Vec::from_slice(alloc, b"public")?,
         write_community: None,
         max_size: 1472,
-        asks: DeviceAsks::new(alloc, 32),
+        repetitions: 32,
+        names: 100,
+        at_once: 32,
     })
 }
 

@@ -17,6 +17,7 @@ fn each_message_has_its_answer(rt: HostRuntime) -> Result<(), Fail> {
         client: b"192.0.2.9:50112",
         user: b"ann",
         level: Level::AuthPriv,
+        engine: b"\x80\x00\x1f\x88\x04gate",
         context: b"rack-1-pdu",
         pdu,
     };

@@ -1,0 +1,166 @@
+-- What may be told of a request.
+use Rattle.std.specs.Prelude.{◌≡◌, ◌≢◌, ◌⊎◌, Bool, true, false, ◌∷◌, ◌++◌, ◌<◌, ⊤, ℕ, ℤ, zero, suc, pos, List, [], All, Contains, map, take, drop, length, Some}
+use Rattle.std.specs.List.{AllZip}
+use Rattle.std.proofs.Common.{refl, inl, inr, sym, ap, subst, ◌∙◌, arith}
+use Rattle.std.proofs.lemmas.Bool.{false≢true}
+use Rattle.std.proofs.lemmas.Bool.Decides.{Decides-int_eq}
+use Rattle.std.proofs.lemmas.List.{get_or-map, length-map, take-append-drop}
+use Rattle.std.proofs.lemmas.List.Elements.{All-cons, All-contains, All-head, All-nil, All-tail, All-take, All-weaker, Contains-append_cases, Contains-append_left, Contains-append_right}
+use Rattle.std.specs.Ordering.{int_eq}
+use Rattle.snmp_msg.specs.PduTypes.{pdu_tag}
+use Rattle.snmp_msg.specs.Variables.{Variable, variable_of, variables_of}
+use Rattle.snmp_msg.specs.declared.binding.Binding.{Binding}
+use Rattle.snmp_msg.specs.declared.pdu_type.PduType.TheVariants.{GetBulkRequest, SetRequest}
+use Rattle.vacm_core.specs.Tables.{Tables}
+use Rattle.snmp_incoming.specs.Outcome.{Given}
+use Rattle.snmp_walk.specs.BulkColumn.{Ascends, BulkStands, IsGiven, bulk_request, given_in, last_name}
+use Rattle.snmp_walk.specs.BulkDialogue.{BulkAllStand, bulk_requests, bulk_requests_of}
+use Rattle.snmp_walk.specs.Column.{MayShow}
+use Rattle.snmp_walk.specs.Dialogue.{Shows, request, requests, requests_of}
+use Rattle.snmp_walk.specs.Front.{IsShownOf}
+use Rattle.snmp_walk.specs.declared.bulk_column.BulkColumn.{BulkColumn}
+use Rattle.snmp_walk.specs.declared.bulk_dialogue.BulkDialogue.{BulkDialogue}
+use Rattle.snmp_walk.specs.declared.column.Column.{Column}
+use Rattle.snmp_walk.specs.declared.operation.ReadOperation.{ReadOperation}
+use Rattle.snmp_walk.specs.declared.operation.ReadOperation.TheVariants.{GetNext}
+use Rattle.snmp_gate.specs.Messages.{question_given, seen_in}
+use Rattle.snmp_gate.specs.Question.{Question}
+use Rattle.snmp_gate.specs.ReadAsks.{read_type}
+use Rattle.snmp_gate.specs.Replies.{Answering, IsAnswerTo, IsFrontSentOr, IsOwnList, IsReportedOr, IsReplyTo, IsSentOr, MayTell, MayTellBulk, MayTellValues, columns, front, set, told_with, too_big}
+use Rattle.snmp_gate.specs.Work.{BulkStandsFor, IsOwnStatus, ReadStands}
+use Rattle.snmp_gate.specs.declared.reply.Reply.{Reply}
+use Rattle.snmp_gate.specs.declared.reply.Reply.TheVariants as reply
+use Rattle.snmp_gate.specs.declared.set_answer.ResponseStatus.{ResponseStatus}
+use Rattle.snmp_gate.specs.declared.set_answer.TheConstants.{NO_ERROR, TOO_BIG}
+
+true_or_false : (b : Bool) → (b ≡ true) ⊎ (b ≡ false)
+true_or_false true = inl refl
+true_or_false false = inr refl
+
+signed_tells : (a b : ℤ) → (a ≡ b) ⊎ (a ≢ b)
+signed_tells a b = elim (true_or_false (int_eq a b)) [
+  | inl so ↦ inl ((Decides-int_eq a b).0 so)
+  | inr not ↦ inr (λ same. false≢true (sym not ∙ (Decides-int_eq a b).1 same))
+]
+
+-- ---- the request's own bindings
+
+may_tell_too_big : (tables : Tables) (q : Question) (said : List Variable) → MayTell tables q said too_big
+may_tell_too_big tables q said = inr (inr (refl, refl))
+
+may_tell_own : (tables : Tables) (q : Question) (said : List Variable) (status index : ℤ) (vs : List Variable) → (status ≡ NO_ERROR → q.tag ≡ pdu_tag SetRequest) → IsOwnList q status vs → MayTell tables q said (told_with status index vs)
+may_tell_own tables q said status index vs own (inl (is, none)) = inr (inr (is, none))
+may_tell_own tables q said status index vs own (inr (is, all)) =
+    elim (signed_tells status NO_ERROR) [
+      | inl same ↦ inl (same, set (own same) all)
+      | inr other ↦ inr (inl (other, all))
+    ]
+
+-- what is sent is what may be told, or tooBig
+pub sent_reply : (a : Answering) (tables : Tables) (q : Question) (said : List Variable) (g : Given) (status index : ℤ) (vs : List Variable) (r : Reply) → MayTell tables q said (told_with status index vs)
+    → IsSentOr a g (told_with status index vs) r → IsReplyTo a tables q said g r
+sent_reply a tables q said g status index vs (reply.Sends datagram) may (inl sent) = inl (told_with status index vs, sent, may)
+sent_reply a tables q said g status index vs (reply.Sends datagram) may (inr sent) = inl (too_big, sent, may_tell_too_big tables q said)
+sent_reply a tables q said g status index vs reply.Nothing may sent = tt
+sent_reply a tables q said g status index vs reply.SilentDrop may sent = tt
+sent_reply a tables q said g status index vs (reply.Refused why) may sent = tt
+
+pub own_reply : (a : Answering) (tables : Tables) (q : Question) (said : List Variable) (g : Given) (says : ResponseStatus) (vs : List Variable) (r : Reply) → IsOwnStatus q says → IsOwnList q says.status vs
+    → IsSentOr a g (told_with says.status says.index vs) r → IsReplyTo a tables q said g r
+own_reply a tables q said g says vs r own list sent = sent_reply a tables q said g says.status says.index vs r (may_tell_own tables q said says.status says.index vs own list) sent
+
+-- ---- a binding of each column
+
+zip_shows : (Seen : List ℕ → Type 0) (said : List Variable) (o : ReadOperation) (cs : List Column) (vs : List Variable) (bs : List Binding) → map request cs ≡ requests_of o vs → AllZip (Shows Seen said) cs bs
+    → AllZip (λ (asked v : Variable). MayShow Seen said o asked.name v) vs (map variable_of bs)
+zip_shows Seen said o [] [] [] same zip = tt
+zip_shows Seen said o [] [] (b ∷ bs) same zip = absurd zip
+zip_shows Seen said o [] (v ∷ vs) bs same zip = absurd (let none : [] ≡ (o, v.name) ∷ requests_of o vs = same in cc)
+zip_shows Seen said o (c ∷ cs) [] bs same zip = absurd (let none : request c ∷ map request cs ≡ [] = same in cc)
+zip_shows Seen said o (c ∷ cs) (v ∷ vs) [] same zip = absurd zip
+zip_shows Seen said o (c ∷ cs) (v ∷ vs) (b ∷ bs) same zip =
+    let both : request c ∷ map request cs ≡ (o, v.name) ∷ requests_of o vs = same in
+    let head : request c ≡ (o, v.name) = cc in
+    let tail : map request cs ≡ requests_of o vs = cc in (
+      subst (λ (r : ReadOperation × List ℕ). MayShow Seen said r.0 r.1 (variable_of b)) head zip.0,
+      zip_shows Seen said o cs vs bs tail zip.1,
+    )
+
+pub columns_reply : (a : Answering) (tables : Tables) (q : Question) (said : List Variable) (g : Given) (o : ReadOperation) (cs : List Column) (bs : List Binding) (r : Reply) → q.tag ≡ pdu_tag (read_type o)
+    → map request cs ≡ requests_of o (variables_of q.list) → AllZip (Shows (seen_in tables q) said) cs bs
+    → IsSentOr a g (told_with NO_ERROR (pos 0) (map variable_of bs)) r → IsReplyTo a tables q said g r
+columns_reply a tables q said g o cs bs r tag same zip sent =
+    sent_reply a tables q said g NO_ERROR (pos 0) (map variable_of bs) r
+    (inl (refl, columns o tag (zip_shows (seen_in tables q) said o cs (variables_of q.list) bs same zip))) sent
+
+-- ---- a front
+
+pub from_map : {A B : Type 0} (f : A → B) (xs : List A) (y : B) → Contains (map f xs) y → (x : A) × Contains xs x × (f x ≡ y)
+from_map f [] y (k, within, is) = absurd (omega arith)
+from_map f (x ∷ xs) y (zero, within, is) = (x, (0, omega arith, refl), is)
+from_map f (x ∷ xs) y (suc k, within, is) =
+    let rest = from_map f xs y (k, omega arith, is) in
+    (rest.0, Contains-append_right (x ∷ []) xs rest.0 rest.1, rest.2)
+
+pub named_in : (n m : ℕ) (vs : List Variable) (x : List ℕ × ℕ) → Contains (bulk_requests_of n m vs) x → (v : Variable) × Contains vs v × (v.name ≡ x.0)
+named_in n m vs x there = elim (Contains-append_cases (map (λ (v : Variable). (v.name, 1)) (take n vs)) (map (λ (v : Variable). (v.name, m)) (drop n vs)) x there) [
+  | inl single ↦
+      let of = from_map (λ (v : Variable). (v.name, 1)) (take n vs) x single in
+      (of.0, subst (λ (ws : List Variable). Contains ws of.0) (take-append-drop n vs) (Contains-append_left (take n vs) (drop n vs) of.0 of.1), ap (λ (y : List ℕ × ℕ). y.0) of.2)
+  | inr repeated ↦
+      let of = from_map (λ (v : Variable). (v.name, m)) (drop n vs) x repeated in
+      (of.0, subst (λ (ws : List Variable). Contains ws of.0) (take-append-drop n vs) (Contains-append_right (take n vs) (drop n vs) of.0 of.1), ap (λ (y : List ℕ × ℕ). y.0) of.2)
+]
+
+ascends_take : (k : ℕ) (first : List ℕ) (vs : List Variable) → Ascends first vs → Ascends first (take k vs)
+ascends_take zero first vs is = tt
+ascends_take (suc k) first [] is = tt
+ascends_take (suc k) first (v ∷ vs) is = (is.0, ascends_take k v.name vs is.1)
+
+pub contains_map : {A B : Type 0} (f : A → B) (xs : List A) (x : A) → Contains xs x → Contains (map f xs) (f x)
+contains_map f xs x (k, within, is) = (k, omega (arith, length-map xs f), get_or-map f xs k x (f x) within ∙ ap f is)
+
+tells_bulk : (Seen : List ℕ → Type 0) (said : List Variable) (vs : List Variable) (n m : ℕ) (cs : List BulkColumn) (v : Variable) → map bulk_request cs ≡ bulk_requests_of n m vs → All (BulkStands Seen said) cs
+    → IsShownOf Seen said cs v → MayTellBulk Seen said vs v
+tells_bulk Seen said vs n m cs v same stand shown =
+    let c = shown.column in
+    let named = named_in n m vs (bulk_request c) (subst (λ (xs : List (List ℕ × ℕ)). Contains xs (bulk_request c)) same (contains_map bulk_request cs c shown.there)) in
+    let stands = All-contains (BulkStands Seen said) cs c stand shown.there in
+    let k = shown.repetition in
+    record {
+      request = named.0;
+      is_request = named.1;
+      shown = take k (given_in c);
+      ascends = subst (λ (name : List ℕ). Ascends name (take k (given_in c))) (sym named.2) (ascends_take k c.first (given_in c) stands.ascends);
+      given = All-take (IsGiven Seen said) k (given_in c) stands.are_given;
+      shows = subst (λ (name : List ℕ). MayShow Seen said GetNext (last_name name (take k (given_in c))) v) (sym named.2) shown.shows;
+    }
+
+pub front_reply : (a : Answering) (tables : Tables) (q : Question) (said : List Variable) (g : Given) (d : BulkDialogue) (bs : List Binding) (r : Reply) → BulkStandsFor tables q said d
+    → All (IsShownOf (seen_in tables q) said d.columns.items) (map variable_of bs) → IsFrontSentOr a g (map variable_of bs) r → IsReplyTo a tables q said g r
+front_reply a tables q said g d bs (reply.Sends datagram) stands all (inl (n, sent)) =
+    let may = λ (v : Variable) (is : IsShownOf (seen_in tables q) said d.columns.items v). tells_bulk (seen_in tables q) said (variables_of q.list) stands.non_repeaters stands.max_repetitions d.columns.items v stands.requests_are stands.stand is in
+    inl (
+      told_with NO_ERROR (pos 0) (take n (map variable_of bs)),
+      sent,
+      inl (refl, front stands.tag (All-take (MayTellBulk (seen_in tables q) said (variables_of q.list)) n (map variable_of bs) (All-weaker (IsShownOf (seen_in tables q) said d.columns.items) (MayTellBulk (seen_in tables q) said (variables_of q.list)) may (map variable_of bs) all))),
+    )
+front_reply a tables q said g d bs (reply.Sends datagram) stands all (inr sent) = inl (too_big, sent, may_tell_too_big tables q said)
+front_reply a tables q said g d bs reply.Nothing stands all sent = tt
+front_reply a tables q said g d bs reply.SilentDrop stands all sent = tt
+front_reply a tables q said g d bs (reply.Refused why) stands all sent = tt
+
+pub report_reply : (a : Answering) (tables : Tables) (q : Question) (said : List Variable) (g : Given) (r : Reply) → IsReportedOr a g r → IsReplyTo a tables q said g r
+report_reply a tables q said g (reply.Sends datagram) is = inr is
+report_reply a tables q said g reply.Nothing is = tt
+report_reply a tables q said g reply.SilentDrop is = tt
+report_reply a tables q said g (reply.Refused why) is = tt
+
+-- genErr may be told of any request
+pub unwritten : (q : Question) → IsOwnStatus q (record { status = pos 5; index = pos 0 })
+unwritten q is = absurd (false≢true ((Decides-int_eq (pos 5) (pos 0)).1 is))
+
+pub of_message : (a : Answering) (tables : Tables) (q : Question) (said : List Variable) (g kept : Given) (client : List ℕ) (r : Reply) → g ≡ kept → (question_given client g ≡ Some q → IsReplyTo a tables q said g r)
+    → question_given client kept ≡ Some q → IsReplyTo a tables q said kept r
+of_message a tables q said g kept client r same replies asked =
+    subst (λ (x : Given). IsReplyTo a tables q said x r) same (replies (ap (question_given client) same ∙ asked))

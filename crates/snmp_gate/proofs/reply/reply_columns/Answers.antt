@@ -1,0 +1,46 @@
+use Rattle.std.proofs.Common.{ℕ, List, All, map, pos, refl, subst, sym}
+use Rattle.std.specs.List.{AllZip}
+use Rattle.snmp_msg.specs.Variables.{variable_of}
+use Rattle.snmp_msg.specs.declared.binding.Binding.{Binding}
+use Rattle.snmp_incoming.specs.Answers.{given_of}
+use Rattle.snmp_responder.specs.Code.{seen_by}
+use Rattle.snmp_responder.specs.declared.viewer.Viewer.{Viewer}
+use Rattle.snmp_walk.specs.BulkDialogue.{BulkAllStand}
+use Rattle.snmp_walk.specs.Dialogue.{AllStand, Shows}
+use Rattle.snmp_walk.specs.Front.{IsShownOf}
+use Rattle.snmp_gate.specs.Messages.{IsViewerOf, seen_in}
+use Rattle.snmp_gate.specs.Replies.{IsFrontSentOr, IsSentOr, answering, told_with}
+use Rattle.snmp_gate.specs.Work.{IsOwnStatus}
+use Rattle.snmp_gate.specs.declared.set_answer.TheConstants.{NO_ERROR}
+use Rattle.snmp_gate.proofs.Sending.{on_ok}
+use Rattle.snmp_gate.proofs.Standing.{from_seen, to_seen}
+use Rattle.snmp_gate.proofs.Telling.{columns_reply, unwritten}
+use Rattle.snmp_gate.proofs.reply.reply_columns.Goals as goal
+
+pub returns-then-not-can_be_written-clause-sent : goal.returns-then-not-can_be_written-clause-sent
+returns-then-not-can_be_written-clause-sent c =
+    on_ok c.reply_own.result _ _ (λ r sent client q said operation asked stands. sent client q said asked (unwritten q)) c.reply_own.ensures.sent
+
+pub returns-clause-sent : goal.returns-clause-sent
+returns-clause-sent c =
+    let a = answering c.args.agent.now c.args.sealing.now in
+    let g = given_of c.args.taken.now in
+    let tables = c.args.agent.now.tables in
+    let d = c.args.whole.now.dialogue in
+    let bs = c.deref-2.result.now in
+    on_ok c.reply_with.result (IsSentOr a g (told_with (pos 0) (pos 0) (map variable_of bs))) _
+    (λ r sent client q said operation asked stands.
+      let viewer : Viewer = record {
+        vacm = record { ref_ptr = c.args.agent.ref_ptr; now = tables };
+        model = 3;
+        name = record { ref_ptr = c.args.taken.now.user.ref_ptr; now = q.user };
+        level = q.level;
+        context = record { ref_ptr = c.args.taken.now.user.ref_ptr; now = q.context };
+      } in
+      let is : IsViewerOf tables q viewer = record { tables_are = refl; model = refl; name = refl; level = refl; context = refl } in
+      let zip = c.in_ok-bindings.ensures.outwards viewer said (from_seen (λ (Seen : List ℕ → Type 0). AllStand Seen said d) tables q viewer is stands.stand) in
+      columns_reply a tables q said g operation d.columns.items bs r stands.tag stands.requests_are
+      (subst (λ (ws : List Binding). AllZip (Shows (seen_in tables q) said) d.columns.items ws) (sym c.deref-2.ensures.value)
+        (to_seen (λ (Seen : List ℕ → Type 0). AllZip (Shows Seen said) d.columns.items c.in_ok-bindings.bindings.items) tables q viewer is zip))
+      sent)
+    c.reply_with.ensures.sent

@@ -1,0 +1,18 @@
+use Rattle.snmp_message.specs.Scoped.{contexts_of}
+use Rattle.snmp_incoming.specs.Answers.{given_of}
+use Rattle.snmp_msg.specs.Pdu.{pdu_of}
+use Rattle.snmp_gate.proofs.Sending.{refused_same}
+use Rattle.snmp_gate.proofs.reply.reply_unhandled.Goals as goal
+
+pub returns-in-Ok-Some-clause-sent : goal.returns-in-Ok-Some-clause-sent
+returns-in-Ok-Some-clause-sent c contexts pdu front text = (c.args.why, c.refuse.new.self, rw c.in-Ok-Some.field-0-is at (c.in-Ok-Some.ensures.answer contexts pdu front text))
+
+pub returns-in-Ok-Some-clause-same : goal.returns-in-Ok-Some-clause-same
+returns-in-Ok-Some-clause-same c =
+    let contexts = contexts_of c.scoped-scoped.result in
+    refused_same _ _ _ (given_of c.args.taken.now) _ _ _ _ (c.in-Ok-Some.ensures.answer contexts (pdu_of c.pdu-pdu.result) c.scoped-scoped.ensures (c.pdu-pdu.ensures.is_pdu contexts c.scoped-scoped.ensures))
+
+pub returns-in-Ok-None-clause-same : goal.returns-in-Ok-None-clause-same
+returns-in-Ok-None-clause-same c =
+    let contexts = contexts_of c.scoped-scoped.result in
+    refused_same _ _ _ (given_of c.args.taken.now) _ _ _ _ (c.in-Ok-None.ensures.answer contexts (pdu_of c.pdu-pdu.result) c.scoped-scoped.ensures (c.pdu-pdu.ensures.is_pdu contexts c.scoped-scoped.ensures))

@@ -1,0 +1,139 @@
+-- What happened at a gateway, and what the laws of complete mediation say of it.
+--
+-- A history is a list of what happened, the latest first. `told_in`: what devices told for a request. `open_ask`: what
+-- a device was asked for it, and didn't answer. `IsLawful`: the laws, of what happens after a history. `IsAccepted`: a
+-- message was accepted. `MayAskFor`: the law inwards, what a device may be asked. `IsAnswerOf`: whose answer it is.
+-- `IsAnswerTo` has the law outwards. `Mediated`: each part of a history is lawful after the parts before it.
+use Rattle.std.specs.Prelude.{◌≡◌, ◌≢◌, ◌⊎◌, ◌/◌, ⊤, ℕ, pos, cond, nat_eq, List, [], ◌∷◌, ◌++◌, All, Contains, Option, Some, None, map, Ok}
+use Rattle.std.specs.Global.{Vec}
+use Rattle.std.specs.List.{HoldsAt}
+use Rattle.snmp_msg.specs.Pdu.{PduParts}
+use Rattle.snmp_msg.specs.PduTypes.{pdu_tag}
+use Rattle.snmp_msg.specs.Variables.{AreBindings, Variable, variables_of}
+use Rattle.snmp_msg.specs.declared.pdu_type.PduType.{PduType}
+use Rattle.snmp_msg.specs.declared.pdu_type.PduType.TheVariants.{GetBulkRequest, GetNextRequest, SetRequest}
+use Rattle.vacm_core.specs.Tables.{Tables}
+use Rattle.snmp_incoming.specs.Outcome.{Outcome}
+use Rattle.snmp_agent.specs.Agent.{AgentState, taker_of}
+use Rattle.snmp_walk.specs.Column.{MayAsk}
+use Rattle.snmp_walk.specs.declared.operation.ReadOperation.{ReadOperation}
+use Rattle.snmp_walk.specs.declared.operation.ReadOperation.TheVariants.{GetNext}
+use Rattle.snmp_gate.specs.DeviceMessages.{IsAsk, IsDeviceAnswer, IsRequest}
+use Rattle.snmp_gate.specs.Devices.{IsDeviceOf}
+use Rattle.snmp_gate.specs.Messages.{question_in, seen_in, set_in}
+use Rattle.snmp_gate.specs.Question.{Question}
+use Rattle.snmp_gate.specs.ReadAsks.{read_type}
+use Rattle.snmp_gate.specs.Replies.{Answering, IsAnswerTo}
+use Rattle.snmp_gate.specs.Work.{end_of, says_no_such_name}
+use Rattle.snmp_gate.specs.declared.devices.Device.{Device}
+use Rattle.snmp_gate.specs.declared.waiting_message.WaitingMessage.{WaitingMessage}
+
+pub data Happening : Type 0 where
+  -- a message that asks the request of this number is accepted at this moment, in milliseconds
+  accepted : (number now : ℕ) (datagram : List ℕ) (message : WaitingMessage) → Happening
+  -- a device is asked for these variables, for the request of this number
+  asked : (number device id : ℕ) (vs : List Variable) (datagram : List ℕ) → Happening
+  -- the answer of a device is taken, for the request of this number
+  answered : (number device : ℕ) (answer : PduParts) (datagram : List ℕ) → Happening
+  -- a client is sent the answer to a message that asks the request of this number
+  sent : (number : ℕ) (message : WaitingMessage) (by : Answering) (datagram : List ℕ) → Happening
+
+-- what a device is asked
+pub record OpenAsk : Type 0 where
+  pub device : ℕ
+  pub id : ℕ
+  pub variables : List Variable
+
+-- what it is asked last for the request of this number, unless it answered
+abbrev pub open_ask : ℕ → List Happening → Option OpenAsk
+open_ask n [] = None
+open_ask n (accepted number now datagram message ∷ before) = open_ask n before
+open_ask n (asked number device id vs datagram ∷ before) =
+    cond (nat_eq n number) (Some (record { device = device; id = id; variables = vs })) (open_ask n before)
+open_ask n (answered number device answer datagram ∷ before) = cond (nat_eq n number) None (open_ask n before)
+open_ask n (sent number message by datagram ∷ before) = open_ask n before
+
+-- what an answer says of each name that was asked, if it says noSuchName: that there is none after it
+abbrev pub ends_in : Option OpenAsk → PduParts → List Variable
+ends_in None p = []
+ends_in (Some ask) p = cond (says_no_such_name p.second) (map end_of ask.variables) []
+
+-- what an answer to this says: its bindings, and those ends
+abbrev pub said_by : Option OpenAsk → PduParts → List Variable
+said_by ask p = variables_of p.list ++ ends_in ask p
+
+-- what devices told for the request of this number
+abbrev pub told_in : ℕ → List Happening → List Variable
+told_in n [] = []
+told_in n (accepted number now datagram message ∷ before) = told_in n before
+told_in n (asked number device id vs datagram ∷ before) = told_in n before
+told_in n (answered number device answer datagram ∷ before) =
+    cond (nat_eq n number) (said_by (open_ask n before) answer ++ told_in n before) (told_in n before)
+told_in n (sent number message by datagram ∷ before) = told_in n before
+
+-- ---- the laws
+
+-- the message was accepted, and asks the request of this number
+pub record IsAccepted (before : List Happening) (number : ℕ) (message : WaitingMessage) : Type 0 where
+  pub now : ℕ
+  pub datagram : List ℕ
+  pub there : Contains before (accepted number now datagram message)
+
+-- an accepted message asks this for the request of this number
+pub record AskedBy (before : List Happening) (number : ℕ) (q : Question) : Type 0 where
+  pub message : WaitingMessage
+  pub is_accepted : IsAccepted before number message
+  pub asks : question_in message ≡ Some q
+
+-- one of the names of a request for values, or of its answers so far, leads to the name that is asked: the message may
+-- see it, or in a walk it passes over nothing that the message may see
+pub record MayAskName (q : Question) (tables : Tables) (told : List Variable) (operation : ReadOperation)
+    (v : Variable) : Type 0 where
+  pub request : Variable
+  pub is_request : Contains (variables_of q.list) request
+  pub may : MayAsk (seen_in tables q) told operation request.name v.name
+
+-- the law inwards: for values a device is asked with its community, and for a Set with the community for it
+pub data MayAskFor (tables : Tables) (d : Device) (q : Question) (told : List Variable) (id : ℕ)
+    (vs : List Variable) (datagram : List ℕ) : Type 0 where
+  reads : (operation : ReadOperation) → q.tag ≡ pdu_tag (read_type operation)
+      → All (MayAskName q tables told operation) vs
+      → IsAsk datagram d.community.items (read_type operation) id vs
+      → MayAskFor tables d q told id vs datagram
+  bulk : (type : PduType) (second third : ℕ) → (type ≡ GetNextRequest) ⊎ (type ≡ GetBulkRequest)
+      → q.tag ≡ pdu_tag GetBulkRequest → All (MayAskName q tables told GetNext) vs
+      → IsRequest datagram d.community.items type id (pos second) (pos third) vs
+      → MayAskFor tables d q told id vs datagram
+  sets : (community : Vec ℕ) → d.write_community ≡ Some community → q.tag ≡ pdu_tag SetRequest
+      → vs ≡ variables_of q.list
+      → All (λ (v : Variable). set_in tables q v.name) vs
+      → IsAsk datagram community.items SetRequest id vs
+      → MayAskFor tables d q told id vs datagram
+
+-- the answer is that of this device to what it was asked last for the request of this number, which it didn't answer
+pub record IsAnswerOf (before : List Happening) (number device : ℕ) (answer : PduParts) (datagram : List ℕ)
+    : Type 0 where
+  pub ask : OpenAsk
+  pub is_open : open_ask number before ≡ Some ask
+  pub device_is : ask.device ≡ device
+  pub id_is : answer.id ≡ pos ask.id
+  pub community : List ℕ
+  pub is_answer : IsDeviceAnswer datagram community answer
+
+-- the agent, the devices, what happened before, and what happens
+abbrev pub IsLawful : AgentState → List Device → List Happening → Happening → Type 0
+IsLawful agent devices before (accepted number now datagram message) =
+    Outcome (taker_of agent) agent.users (now / 1000) datagram (Ok message.kept)
+IsLawful agent devices before (asked number device id vs datagram) = (q : Question) × AskedBy before number q
+    × IsDeviceOf devices q.context device
+    × HoldsAt (λ (d : Device). MayAskFor agent.tables d q (told_in number before) id vs datagram) devices device
+IsLawful agent devices before (answered number device answer datagram) =
+    IsAnswerOf before number device answer datagram
+IsLawful agent devices before (sent number message by datagram) = IsAccepted before number message
+    × ((q : Question) → question_in message ≡ Some q
+    → IsAnswerTo by agent.tables q (told_in number before) message.kept datagram)
+
+-- complete mediation
+abbrev pub Mediated : AgentState → List Device → List Happening → Type 0
+Mediated agent devices [] = ⊤
+Mediated agent devices (now ∷ before) = IsLawful agent devices before now × Mediated agent devices before

@@ -1,0 +1,136 @@
+-- What a client is sent (RFC 3413, section 3.2; RFC 3416, section 4.2).
+--
+-- `IsSent`: the Response to an accepted message with an error-status, an error-index and bindings. `IsSentOr`: that, or
+-- tooBig without bindings. `MayTell`: the law outwards, which Response a message may be sent. `IsReplyTo`: what becomes
+-- of a message.
+use Rattle.std.specs.Prelude.{◌≡◌, ◌≢◌, ◌⊎◌, ⊤, ℕ, ℤ, pos, List, [], All, Contains, Some, Ok, length, take}
+use Rattle.std.specs.List.{AllZip}
+use Rattle.snmp_message.specs.Scoped.{Contexts, ScopedFront}
+use Rattle.snmp_msg.specs.Pdu.{PduParts, PduText}
+use Rattle.snmp_msg.specs.PduTypes.{pdu_tag}
+use Rattle.snmp_msg.specs.Variables.{Variable, variables_of}
+use Rattle.snmp_msg.specs.declared.pdu_type.PduType.TheVariants.{GetBulkRequest, SetRequest}
+use Rattle.vacm_core.specs.Tables.{Tables}
+use Rattle.snmp_incoming.specs.Outcome.{Given}
+use Rattle.snmp_agent.specs.Agent.{AgentState}
+use Rattle.snmp_agent.specs.Dispatch.{Refuses}
+use Rattle.snmp_agent.specs.Responses.{responding}
+use Rattle.snmp_agent.specs.Sent.{Sends}
+use Rattle.snmp_agent.specs.declared.unhandled.Unhandled.{Unhandled}
+use Rattle.snmp_walk.specs.BulkColumn.{Ascends, IsGiven, last_name}
+use Rattle.snmp_walk.specs.Column.{MayShow}
+use Rattle.snmp_walk.specs.declared.operation.ReadOperation.{ReadOperation}
+use Rattle.snmp_walk.specs.declared.operation.ReadOperation.TheVariants.{GetNext}
+use Rattle.snmp_gate.specs.Messages.{question_given, seen_in}
+use Rattle.snmp_gate.specs.Question.{Question}
+use Rattle.snmp_gate.specs.ReadAsks.{read_type}
+use Rattle.snmp_gate.specs.declared.reply.Reply.{Reply}
+use Rattle.snmp_gate.specs.declared.reply.Reply.TheVariants as reply
+use Rattle.snmp_gate.specs.declared.reply.Sealing.{Sealing}
+use Rattle.snmp_gate.specs.declared.set_answer.TheConstants.{NO_ERROR, TOO_BIG}
+
+-- what is told of a request: error-status, error-index and bindings
+pub record Told : Type 0 where
+  pub status : ℤ
+  pub index : ℤ
+  pub variables : List Variable
+
+-- tooBig, without bindings
+abbrev pub too_big : Told
+too_big = record { status = TOO_BIG; index = pos 0; variables = [] }
+
+-- who answers, and when: the agent, the moment in seconds, and the salt
+pub record Answering : Type 0 where
+  pub agent : AgentState
+  pub now : ℕ
+  pub salt : List ℕ
+
+-- the datagram is the Response to the message, and tells this
+abbrev pub IsSent : Answering → Given → Told → List ℕ → Type 0
+IsSent a g told datagram = (c : Contexts) (p : PduParts) → ScopedFront g.text c → PduText c.pdu p
+    → Sends a.agent a.now (λ own. responding a.agent.engine own g c p told.status told.index told.variables a.salt)
+    (Ok datagram)
+
+-- the datagram is a report on the message
+abbrev pub IsReported : Answering → Given → List ℕ → Type 0
+IsReported a g datagram = (c : Contexts) (p : PduParts) → ScopedFront g.text c → PduText c.pdu p
+    → (why : Unhandled) × (after : AgentState) × Refuses a.agent a.now g p why a.salt (Ok (Some datagram)) after
+
+-- ---- the law outwards
+
+-- a binding of the Response to a GetBulkRequest: for one of the request's names, behind variables that were shown
+-- before it, each of which is seen and was told, it is what a GetNextRequest for the last of them may show
+pub record MayTellBulk (Seen : List ℕ → Type 0) (said vs : List Variable) (v : Variable) : Type 0 where
+  pub request : Variable
+  pub is_request : Contains vs request
+  pub shown : List Variable
+  pub ascends : Ascends request.name shown
+  pub given : All (IsGiven Seen said) shown
+  pub shows : MayShow Seen said GetNext (last_name request.name shown) v
+
+-- without an error
+pub data MayTellValues (tables : Tables) (q : Question) (said : List Variable) (vs : List Variable) : Type 0 where
+  -- to a GetRequest or a GetNextRequest: for each of its names what it may show
+  columns : (operation : ReadOperation) → q.tag ≡ pdu_tag (read_type operation)
+      → AllZip (λ (asked v : Variable). MayShow (seen_in tables q) said operation asked.name v) (variables_of q.list) vs
+      → MayTellValues tables q said vs
+  front : q.tag ≡ pdu_tag GetBulkRequest → All (MayTellBulk (seen_in tables q) said (variables_of q.list)) vs
+      → MayTellValues tables q said vs
+  -- to a SetRequest: its own
+  set : q.tag ≡ pdu_tag SetRequest → vs ≡ variables_of q.list → MayTellValues tables q said vs
+
+-- with an error: the request's own bindings, or none with tooBig
+abbrev pub MayTell : Tables → Question → List Variable → Told → Type 0
+MayTell tables q said told =
+    ((told.status ≡ NO_ERROR) × MayTellValues tables q said told.variables)
+    ⊎ (((told.status ≢ NO_ERROR) × (told.variables ≡ variables_of q.list))
+    ⊎ ((told.status ≡ TOO_BIG) × (told.variables ≡ [])))
+
+-- the datagram is a Response that may be sent, or a report
+abbrev pub IsAnswerTo : Answering → Tables → Question → List Variable → Given → List ℕ → Type 0
+IsAnswerTo a tables q said g datagram =
+    ((told : Told) × IsSent a g told datagram × MayTell tables q said told)
+    ⊎ IsReported a g datagram
+
+-- of a request's own bindings: none with tooBig
+abbrev pub IsOwnList : Question → ℤ → List Variable → Type 0
+IsOwnList q status vs = ((status ≡ TOO_BIG) × (vs ≡ [])) ⊎ ((status ≢ TOO_BIG) × (vs ≡ variables_of q.list))
+
+abbrev pub answering : AgentState → Sealing → Answering
+answering agent s = record { agent = agent; now = s.seconds; salt = s.salt }
+
+abbrev pub told_with : ℤ → ℤ → List Variable → Told
+told_with status index vs = record { status = status; index = index; variables = vs }
+
+abbrev pub IsTooBigOr : Answering → Given → Reply → Type 0
+IsTooBigOr a g (reply.Sends datagram) = IsSent a g too_big datagram.items
+IsTooBigOr a g _ = ⊤
+
+-- what is sent is this, or tooBig
+abbrev pub IsSentOr : Answering → Given → Told → Reply → Type 0
+IsSentOr a g told (reply.Sends datagram) = IsSent a g told datagram.items ⊎ IsSent a g too_big datagram.items
+IsSentOr a g told _ = ⊤
+
+-- the same of the longest front that has room
+abbrev pub IsFrontSentOr : Answering → Given → List Variable → Reply → Type 0
+IsFrontSentOr a g vs (reply.Sends datagram) =
+    ((n : ℕ) × IsSent a g (record { status = NO_ERROR; index = pos 0; variables = take n vs }) datagram.items)
+    ⊎ IsSent a g too_big datagram.items
+IsFrontSentOr a g vs _ = ⊤
+
+abbrev pub IsReportedOr : Answering → Given → Reply → Type 0
+IsReportedOr a g (reply.Sends datagram) = IsReported a g datagram.items
+IsReportedOr a g _ = ⊤
+
+-- what becomes of the message
+abbrev pub IsReplyTo : Answering → Tables → Question → List Variable → Given → Reply → Type 0
+IsReplyTo a tables q said g (reply.Sends datagram) = IsAnswerTo a tables q said g datagram.items
+IsReplyTo a tables q said g _ = ⊤
+
+-- the agent has the same engine, users and tables
+pub record SameAgent (old new : AgentState) : Type 0 where
+  pub engine : new.engine ≡ old.engine
+  pub boots : new.boots ≡ old.boots
+  pub started : new.started ≡ old.started
+  pub users : new.users ≡ old.users
+  pub tables : new.tables ≡ old.tables

@@ -1,0 +1,81 @@
+-- What goes out of what becomes of a message.
+--
+-- `RepliesTo`: what becomes of a message of a request that ends. `IsSentBy`: what is sent of it. `IsOpenAt`, `IsAskedAt`:
+-- the request at a place. `MayAskAt`: a datagram that may be sent for it. `SetsAsked`: its device is asked.
+use Rattle.std.specs.Prelude.{◌≡◌, ⊤, ℕ, List, Some, None, slice_index_or, slice_set}
+use Rattle.std.specs.Global.{Vec}
+use Rattle.snmp_msg.specs.Variables.{Variable}
+use Rattle.snmp_agent.specs.Agent.{AgentState}
+use Rattle.snmp_incoming.specs.Outcome.{Given}
+use Rattle.std.specs.List.{HoldsAt}
+use Rattle.vacm_core.specs.Tables.{Tables}
+use Rattle.snmp_gate.specs.History.{MayAskFor}
+use Rattle.snmp_gate.specs.Messages.{question_in}
+use Rattle.snmp_gate.specs.Question.{Question}
+use Rattle.snmp_gate.specs.Replies.{IsReplyTo}
+use Rattle.snmp_gate.specs.Work.{EndingStands, TaskStands, variables_of_task}
+use Rattle.snmp_gate.specs.declared.gate.Sent.{Sent}
+use Rattle.snmp_gate.specs.declared.gate.Sent.TheVariants.{ToClient, Unanswered}
+use Rattle.snmp_gate.specs.declared.reply.Reply.{Reply}
+use Rattle.snmp_gate.specs.declared.reply.Reply.TheVariants as reply
+use Rattle.snmp_gate.specs.declared.devices.Device.{Device}
+use Rattle.snmp_gate.specs.declared.requests.WaitingRequest.{WaitingRequest}
+use Rattle.snmp_gate.specs.declared.waiting_message.WaitingMessage.{WaitingMessage}
+use Rattle.snmp_gate.specs.declared.work.Ending.{Ending}
+use Rattle.snmp_gate.specs.declared.work.Ending.TheVariants as ending
+use Rattle.snmp_gate.specs.declared.work.OpenRequest.{OpenRequest}
+use Rattle.snmp_gate.specs.declared.work.Work.{Work}
+use Rattle.snmp_gate.specs.declared.work.Work.TheVariants.{Open, Ends}
+
+abbrev pub RepliesTo : AgentState → ℕ → List ℕ → Question → List Variable → Given → Work → Reply → Type 0
+RepliesTo agent seconds salt q said g (Ends e) r = EndingStands agent.tables q said e
+    → IsReplyTo (record { agent = agent; now = seconds; salt = salt }) agent.tables q said g r
+RepliesTo agent seconds salt q said g (Open o) r = ⊥
+
+abbrev pub IsSentBy : ℕ → Vec ℕ → Reply → Sent → Type 0
+IsSentBy number client (reply.Sends datagram) sent = sent ≡ ToClient number client datagram
+IsSentBy number client reply.Nothing sent = sent ≡ Unanswered number None
+IsSentBy number client reply.SilentDrop sent = sent ≡ Unanswered number None
+IsSentBy number client (reply.Refused why) sent = sent ≡ Unanswered number (Some why)
+
+abbrev pub Requests : Type 0
+Requests = List (WaitingRequest WaitingMessage Work)
+
+-- the request at the place has this number, and its device is to be asked, or asked
+abbrev pub IsOpenAt : Requests → ℕ → ℕ → ℕ → Type 0
+IsOpenAt rs place device number = HoldsAt (λ (r : WaitingRequest WaitingMessage Work). (r.number ≡ number)
+    × ((o : OpenRequest) × (r.work ≡ Open o) × (o.device ≡ device))) rs place
+
+-- it is asked with this request-id
+abbrev pub IsAskedAt : Requests → ℕ → ℕ → Type 0
+IsAskedAt rs place id = HoldsAt (λ (r : WaitingRequest WaitingMessage Work).
+    (o : OpenRequest) × (r.work ≡ Open o) × (o.asked ≡ Some id)) rs place
+
+-- by the datagram it may be asked with this request-id
+abbrev pub MayAskOf : Tables → List Device → ℕ → ℕ → Vec ℕ → WaitingRequest WaitingMessage Work → Type 0
+MayAskOf tables devices device id datagram r = (o : OpenRequest) (q : Question) (told : List Variable)
+    → r.work ≡ Open o → question_in r.first ≡ Some q → TaskStands tables q told o.task.task
+    → HoldsAt (λ (d : Device). MayAskFor tables d q told id (variables_of_task q o.task.task) datagram.items) devices
+    device
+
+abbrev pub MayAskAt : Tables → List Device → Requests → ℕ → ℕ → ℕ → Vec ℕ → Type 0
+MayAskAt tables devices rs place device id datagram = HoldsAt (MayAskOf tables devices device id datagram) rs place
+
+-- the request at the place is asked with this request-id now, and nothing else changes
+pub record SetsAsked (old : Requests) (place id : ℕ) (new : Requests) : Type 0 where
+  pub request : WaitingRequest WaitingMessage Work
+  pub is : request ≡ slice_index_or old place request
+  pub work : Work
+  pub asked : (o : OpenRequest) → request.work ≡ Open o
+      → (a : OpenRequest) × (work ≡ Open a) × (a.task ≡ o.task) × (a.device ≡ o.device) × (a.asked ≡ Some id)
+  pub new_is : new ≡ slice_set old place (record {
+    number = request.number;
+    first = request.first;
+    others = request.others;
+    work = work;
+  })
+
+abbrev pub IsGivenUp : Ending → Type 0
+IsGivenUp ending.Silent = ⊤
+IsGivenUp (ending.Unhandled why) = ⊤
+IsGivenUp _ = ⊥

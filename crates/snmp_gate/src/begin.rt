@@ -1,0 +1,98 @@
+//! How a request begins.
+
+ghost use Rattle.std.specs.Prelude.{◌≡◌, ◌≢◌, List, [], IfOk};
+ghost use Rattle.vacm_core.specs.Tables.{Tables};
+ghost use Rattle.snmp_msg.specs.PduTypes.{IsRead, pdu_tag};
+ghost use Rattle.snmp_msg.specs.Variables.{Variable};
+ghost use Rattle.snmp_msg.specs.declared.pdu_type.PduType.TheVariants.{GetBulkRequest, GetRequest, GetNextRequest};
+ghost use Rattle.snmp_gate.specs.Question.{Question};
+ghost use Rattle.snmp_gate.specs.Messages.{IsPduOf, IsViewerOf};
+ghost use Rattle.snmp_gate.specs.ReadAsks.{read_type};
+ghost use Rattle.snmp_gate.specs.Work.{EndingStands, OnwardStands};
+
+use crate::limits::GateLimits;
+use crate::onward::{Onward, bulk_on, read_on};
+use crate::refused_access::{AccessRefusal, access_refusal};
+use crate::set_answer::{AUTHORIZATION_ERROR, NO_ACCESS, ResponseStatus};
+use crate::viewing::answers_of;
+use crate::work::Ending;
+use snmp_agent::Unhandled;
+use snmp_msg::{Pdu, PduType};
+use snmp_responder::Viewer;
+use snmp_walk::{BulkDialogue, BulkLimits, Dialogue, ReadOperation};
+use std::alloc::{AllocError, Global};
+use vacm_core::ViewType;
+
+/// Returns how a request ends that isn't asked of its device.
+pub(crate) fn ending_of(refusal: AccessRefusal) -> Ending
+    ensures { (tables : Tables) (q : Question) (told : List Variable) → EndingStands tables q told result }
+{
+    match refusal {
+        AccessRefusal::AuthorizationError => Ending::Own(ResponseStatus {
+            status: AUTHORIZATION_ERROR,
+            index: 0,
+        }),
+        AccessRefusal::NoAccess(number) => Ending::Own(ResponseStatus {
+            status: NO_ACCESS,
+            index: i32::try_from(number).unwrap_or(0),
+        }),
+        AccessRefusal::UnknownContext => Ending::Unhandled(Unhandled::UnknownContexts),
+    }
+}
+
+/// Returns how a GetRequest or a GetNextRequest begins.
+fn begin_read(
+    alloc: Global,
+    viewer: &Viewer<'_>,
+    operation: ReadOperation,
+    pdu: &Pdu<'_>,
+    limits: &GateLimits,
+) -> Result<Onward, AllocError>
+    ensures { IfOk result (λ onward. (tables : Tables) (q : Question) (told : List Variable)
+        → IsViewerOf tables q viewer.now → IsPduOf q pdu.now → q.tag ≡ pdu_tag (read_type operation)
+        → OnwardStands tables q told onward) }
+{
+    let dialogue = Dialogue::new(alloc, viewer, operation, pdu, limits.rounds)?;
+    Ok(read_on(operation, dialogue, viewer))
+}
+
+/// Returns how a GetBulkRequest begins.
+fn begin_bulk(
+    alloc: Global,
+    viewer: &Viewer<'_>,
+    pdu: &Pdu<'_>,
+    limits: &BulkLimits,
+) -> Result<Onward, AllocError>
+    ensures { IfOk result (λ onward. (tables : Tables) (q : Question) (told : List Variable)
+        → IsViewerOf tables q viewer.now → IsPduOf q pdu.now → q.tag ≡ pdu_tag GetBulkRequest
+        → OnwardStands tables q told onward) }
+{
+    let dialogue = BulkDialogue::new(alloc, pdu, limits)?;
+    Ok(bulk_on(dialogue, viewer))
+}
+
+/// Returns how a request begins that asks for values: by the answers on access for its bindings in the read view. The
+/// error is out of memory.
+pub(crate) fn begin(
+    alloc: Global,
+    viewer: &Viewer<'_>,
+    pdu: &Pdu<'_>,
+    limits: &GateLimits,
+    bulk: &BulkLimits,
+) -> Result<Onward, AllocError>
+    ensures { IfOk result (λ onward. (tables : Tables) (q : Question) (told : List Variable)
+        → IsViewerOf tables q viewer.now → IsPduOf q pdu.now → IsRead q.tag
+        → OnwardStands tables q told onward) }
+{
+    let answers = answers_of(alloc, viewer, ViewType::Read, pdu)?;
+    if let Some(refusal) = access_refusal(&answers, pdu.tag) {
+        return Ok(Onward::Ends(ending_of(refusal)));
+    }
+    if pdu.tag == PduType::GetBulkRequest.tag() {
+        return begin_bulk(alloc, viewer, pdu, bulk);
+    }
+    if pdu.tag == PduType::GetRequest.tag() {
+        return begin_read(alloc, viewer, ReadOperation::Get, pdu, limits);
+    }
+    begin_read(alloc, viewer, ReadOperation::GetNext, pdu, limits)
+}

@@ -1,0 +1,130 @@
+//! The gateway: what comes in, and what goes out.
+
+use crate::asks::DeviceAsks;
+use crate::devices::{Device, Devices};
+use crate::limits::GateLimits;
+use crate::requests::WaitingRequests;
+use crate::sets::RememberedSets;
+use crate::waiting_message::WaitingMessage;
+use crate::work::Work;
+use snmp_agent::{Agent, Refused};
+use snmp_msg::Refusal;
+use std::alloc::{AllocError, Global};
+
+/// What becomes of a datagram from a client.
+#[derive(Drop)]
+pub enum ClientTaken {
+    /// It is refused, and a report may tell why.
+    Refused(Refused),
+    /// It begins a request, which has this number.
+    Begins(u64),
+    /// It asks again what waits, and is answered with the request that has this number.
+    Joins(u64),
+    /// It isn't answered: as many wait as may.
+    NoRoom,
+    /// It is a Set that came before, and what its device answered isn't known: it isn't answered.
+    SetOfBefore,
+}
+
+/// What becomes of a datagram from a device.
+#[derive(Clone, Copy, Debug, PartialEq, Eq)]
+pub enum DeviceTaken {
+    /// It isn't a Response in a message of SNMPv2c.
+    Unreadable,
+    /// The device wasn't asked with this request-id and this community, or was answered.
+    NotWaitedFor,
+    /// It is the answer to what was asked for the request with this number.
+    Answers(u64),
+}
+
+/// What goes out.
+#[derive(Drop)]
+pub enum Sent {
+    /// A datagram to a client: the Response to a message of the request with this number, or the report on it.
+    ToClient {
+        /// The number of the request.
+        number: u64,
+        /// The address of the client.
+        client: Vec<u8>,
+        datagram: Vec<u8>,
+    },
+    /// A datagram to a device, for the request with this number.
+    ToDevice {
+        /// The number of the request.
+        number: u64,
+        /// The number of the device, counted from 0.
+        device: usize,
+        datagram: Vec<u8>,
+    },
+    /// A message of the request with this number isn't answered. The reason is one of the user's or of the clock, if
+    /// there is one.
+    Unanswered {
+        /// The number of the request.
+        number: u64,
+        why: Option<Refusal>,
+    },
+    /// The device didn't answer in time. The request with this number is given up.
+    GivenUp {
+        /// The number of the request.
+        number: u64,
+        /// The number of the device, counted from 0.
+        device: usize,
+    },
+    /// There is nothing to do now.
+    Nothing,
+}
+
+/// Returns that these devices are asked nothing.
+fn asks_of(alloc: Global, devices: &[Device]) -> Result<Vec<DeviceAsks>, AllocError> {
+    let mut asks = Vec::new(alloc);
+    for device in devices {
+        asks.push(DeviceAsks::new(alloc, device.at_once))?;
+    }
+    Ok(asks)
+}
+
+/// A gateway from clients that speak SNMPv3 to devices that speak SNMPv2c. Moments are milliseconds from one beginning.
+#[derive(Drop)]
+pub struct Gate {
+    pub(crate) alloc: Global,
+    pub(crate) agent: Agent,
+    pub(crate) devices: Devices,
+    /// What each device is asked.
+    pub(crate) asks: Vec<DeviceAsks>,
+    pub(crate) limits: GateLimits,
+    pub(crate) requests: WaitingRequests<WaitingMessage, Work>,
+    pub(crate) sets: RememberedSets,
+}
+
+impl Gate {
+    /// Returns a gateway to these devices, which no datagram has reached. Its users, its tables and its counters are the
+    /// agent's. The error is out of memory.
+    pub fn new(
+        alloc: Global,
+        agent: Agent,
+        devices: Devices,
+        limits: GateLimits,
+    ) -> Result<Gate, AllocError> {
+        let asks = asks_of(alloc, devices.list())?;
+        Ok(Gate {
+            alloc,
+            agent,
+            devices,
+            asks,
+            limits,
+            requests: WaitingRequests::new(alloc, limits.waiting, limits.joined),
+            sets: RememberedSets::new(alloc),
+        })
+    }
+
+    /// Returns the agent, for its counters.
+    pub fn agent(&self) -> &Agent {
+        &self.agent
+    }
+
+    /// Returns how many requests wait.
+    pub fn waiting(&self) -> usize {
+        self.requests.requests().len()
+    }
+}
+

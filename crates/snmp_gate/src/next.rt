@@ -1,0 +1,403 @@
+//! What goes out.
+
+ghost use Rattle.std.specs.Prelude.{◌≡◌, ◌<◌, ℕ, List, Some, length, IfOk, IfSome};
+ghost use Rattle.snmp_msg.specs.Variables.{Variable};
+ghost use Rattle.snmp_gate.specs.Question.{Question};
+ghost use Rattle.snmp_gate.specs.Messages.{question_in};
+ghost use Rattle.snmp_gate.specs.History.{Happening};
+ghost use Rattle.snmp_gate.specs.Replies.{SameAgent};
+ghost use Rattle.snmp_gate.specs.Sending.{IsAskedAt, IsGivenUp, IsOpenAt, IsSentBy, MayAskAt, RepliesTo, SetsAsked};
+ghost use Rattle.snmp_gate.specs.Waiting.{GateStands, SendHappens};
+
+use crate::ask::ask_of;
+use crate::asks::{DeviceAsks, REQUEST_IDS};
+use crate::gate::{Gate, Sent};
+use crate::limits::GateLimits;
+use crate::reply::{Reply, Sealing, limit_of, reply_to};
+use crate::requests::{WaitingRequest, WaitingRequests};
+use crate::retries::Retries;
+use crate::set_answer::{ResponseStatus, TOO_BIG};
+use crate::task::Task;
+use crate::timer::Due;
+use crate::waiting_message::WaitingMessage;
+use crate::work::{Ending, OpenRequest, Todo, Work};
+use snmp_agent::{Agent, Unhandled};
+use std::alloc::{AllocError, Global};
+
+/// Returns how long a request waits for its device: a Set is asked once.
+fn retries_of(task: &Task, limits: &GateLimits) -> Retries {
+    match task {
+        Task::Set => limits.retries.for_set(),
+        Task::Read(_, _) | Task::Bulk(_, _) => limits.retries,
+    }
+}
+
+/// Returns what is to be done now for a request whose device is to be asked, or to answer.
+fn todo_open(open: &OpenRequest, is_full: bool, limits: &GateLimits, now: u64) -> Todo {
+    let retries = retries_of(&open.task.task, limits);
+    match open.timer.due(&retries, now) {
+        Due::GiveUp => Todo::GiveUp,
+        Due::AskAgain => match open.asked {
+            Some(_) => Todo::AskAgain,
+            None => Todo::Nothing,
+        },
+        Due::Nothing => match open.asked {
+            Some(_) => Todo::Nothing,
+            None if is_full => Todo::Nothing,
+            None => Todo::Ask,
+        },
+    }
+}
+
+/// Returns true if nothing more can be asked of this device.
+fn is_full(asks: &[DeviceAsks], device: usize) -> bool {
+    match asks.get(device) {
+        Some(asks) => asks.is_full(),
+        None => true,
+    }
+}
+
+/// Returns the earlier one of two moments, if there is one.
+fn earlier(due: Option<u64>, at: u64) -> u64 {
+    match due {
+        Some(other) => other.min(at),
+        None => at,
+    }
+}
+
+/// Returns what becomes of the first message of a request that ends. None: the request doesn't end.
+fn replied(
+    alloc: Global,
+    agent: &mut Agent,
+    request: &WaitingRequest<WaitingMessage, Work>,
+    limits: &GateLimits,
+    seconds: u64,
+    salt: [u8; 8],
+) -> Result<Option<Reply>, AllocError>
+    ensures sent { IfOk result (λ replied. IfSome replied (λ reply. (q : Question) (said : List Variable)
+        → question_in request.now.first ≡ Some q
+        → RepliesTo agent.old seconds salt q said request.now.first.kept request.now.work reply)) }
+    ensures same { SameAgent agent.old agent.new }
+{
+    let Work::Ends(ending) = &request.work else {
+        return Ok(None);
+    };
+    let message = &request.first;
+    let taken = message.kept.taken();
+    let sealing = Sealing {
+        seconds,
+        salt,
+        limit: limit_of(taken.level, taken.max_size, message.size, limits),
+    };
+    let reply = reply_to(alloc, agent, message, ending, &sealing)?;
+    Ok(Some(reply))
+}
+
+/// Returns what the Response says of a request as a whole, if it has the request's own bindings.
+fn said_of(work: &Work) -> Option<ResponseStatus> {
+    match work {
+        Work::Ends(Ending::Own(says)) => Some(*says),
+        _ => None,
+    }
+}
+
+/// tooBig: a device can't be asked by a datagram that it takes.
+const TOO_LONG: Ending = Ending::Own(ResponseStatus {
+    status: TOO_BIG,
+    index: 0,
+});
+
+/// Returns true if a Set's device is asked.
+fn is_set_at(work: &Work) -> bool {
+    match work {
+        Work::Open(waiting) => matches!(waiting.task.task, Task::Set),
+        Work::Ends(_) => false,
+    }
+}
+
+/// The device is asked now with this request-id for the request at this place.
+fn set_asked(
+    requests: &mut WaitingRequests<WaitingMessage, Work>,
+    place: usize,
+    now: u64,
+    id: u32,
+)
+    requires { place < length requests.old.list.items }
+    ensures asked { SetsAsked requests.old.list.items place id requests.new.list.items }
+    ensures next { requests.new.next ≡ requests.old.next }
+{
+    let request = &mut requests.list[place];
+    match &mut request.work {
+        Work::Open(waiting) => {
+            waiting.timer.ask(now);
+            waiting.asked = Some(id);
+        }
+        Work::Ends(_) => {}
+    }
+}
+
+/// Returns what goes out, of what becomes of a message.
+fn sent_by(number: u64, client: Vec<u8>, reply: Reply) -> Sent
+    ensures { IsSentBy number client reply result }
+{
+    match reply {
+        Reply::Sends(datagram) => Sent::ToClient {
+            number,
+            client,
+            datagram,
+        },
+        Reply::Nothing | Reply::SilentDrop => Sent::Unanswered { number, why: None },
+        Reply::Refused(why) => Sent::Unanswered {
+            number,
+            why: Some(why),
+        },
+    }
+}
+
+impl Gate {
+    /// Does the first thing that is due at this moment, in milliseconds, and returns what goes out. It is called until
+    /// it returns `Nothing`. What has come is taken before: first what came from devices, and then what came from
+    /// clients.
+    ///
+    /// No salt may come twice (RFC 3826, section 3.1.2.1). `ask_id` is a number that didn't come before: the device is
+    /// asked with this request-id, or with the next one with which it isn't asked.
+    ///
+    /// The error is out of memory. Then all is as before, and the call may be made again.
+    pub fn next(&mut self, now: u64, salt: [u8; 8], ask_id: u32) -> Result<Sent, AllocError>
+        ensures { IfOk result (λ sent. (before : List Happening) → GateStands before self.old
+            → SendHappens self.old before sent self.new) }
+    {
+        let Some((place, todo)) = self.first_due(now) else {
+            return Ok(Sent::Nothing);
+        };
+        match todo {
+            Todo::Nothing => Ok(Sent::Nothing),
+            Todo::Answer => self.answer_at(place, now, salt),
+            Todo::Ask => self.ask_at(place, now, ask_id % REQUEST_IDS),
+            Todo::AskAgain => self.ask_again_at(place, now),
+            Todo::GiveUp => Ok(self.give_up_at(place)),
+        }
+    }
+
+    /// Returns the moment, in milliseconds, from which on `next` has something to do by time alone, if nothing comes
+    /// before.
+    pub fn due(&self) -> Option<u64> {
+        let mut due = None;
+        for request in self.requests.requests() {
+            let at = match &request.work {
+                Work::Open(open) => {
+                    let retries = retries_of(&open.task.task, &self.limits);
+                    open.timer.due_at(&retries)
+                }
+                Work::Ends(_) => 0,
+            };
+            due = Some(earlier(due, at));
+        }
+        due
+    }
+
+    /// Returns the place of the first request for which something is to be done now, and what.
+    fn first_due(&self, now: u64) -> Option<(usize, Todo)>
+        ensures { IfSome result (λ due. due.0 < length self.now.requests.list.items) }
+    {
+        for (place, request) in self.requests.requests().iter().enumerate() {
+            let todo = match &request.work {
+                Work::Ends(_) => Todo::Answer,
+                Work::Open(open) => {
+                    let is_full = is_full(&self.asks, open.device);
+                    todo_open(open, is_full, &self.limits, now)
+                }
+            };
+            if todo != Todo::Nothing {
+                return Some((place, todo));
+            }
+        }
+        None
+    }
+
+    /// Answers the first message of the request at this place.
+    fn answer_at(&mut self, place: usize, now: u64, salt: [u8; 8]) -> Result<Sent, AllocError>
+        requires { place < length self.old.requests.list.items }
+        ensures { IfOk result (λ sent. (before : List Happening) → GateStands before self.old
+            → SendHappens self.old before sent self.new) }
+    {
+        let request = &self.requests.list[place];
+        let number = request.number;
+        let said = said_of(&request.work);
+        let seconds = now / 1000;
+        let reply = replied(
+            self.alloc,
+            &mut self.agent,
+            request,
+            &self.limits,
+            seconds,
+            salt,
+        )?;
+        let Some(reply) = reply else {
+            return Ok(Sent::Nothing);
+        };
+        let message = self.requests.answer(place);
+        self.tell_set(&message, said);
+        Ok(sent_by(number, message.client, reply))
+    }
+
+    /// Remembers what the Response to a Set says.
+    fn tell_set(&mut self, message: &WaitingMessage, said: Option<ResponseStatus>)
+        ensures agent { self.new.agent ≡ self.old.agent }
+        ensures devices { self.new.devices ≡ self.old.devices }
+        ensures requests { self.new.requests ≡ self.old.requests }
+    {
+        if let Some(digest) = &message.digest {
+            if let Some(says) = said {
+                self.sets.tell(digest, says);
+            }
+        }
+    }
+
+    /// Returns the device of the request at this place, and the request's number, if its device is to be asked.
+    fn device_at(&self, place: usize) -> Option<(usize, u64)>
+        requires { place < length self.now.requests.list.items }
+        ensures { IfSome result (λ found. IsOpenAt self.now.requests.list.items place found.0 found.1
+            × (found.0 < length self.now.asks.items) × (found.0 < length self.now.devices.list.items)) }
+    {
+        let request = &self.requests.list[place];
+        let Work::Open(waiting) = &request.work else {
+            return None;
+        };
+        let device = waiting.device;
+        if device >= self.asks.len() || device >= self.devices.list.len() {
+            return None;
+        }
+        Some((device, request.number))
+    }
+
+    /// Returns the request-id with which the device is asked for the request at this place.
+    fn asked_at(&self, place: usize) -> Option<u32>
+        requires { place < length self.now.requests.list.items }
+        ensures { IfSome result (λ id. (id < REQUEST_IDS)
+            × IsAskedAt self.now.requests.list.items place id) }
+    {
+        let Work::Open(waiting) = &self.requests.list[place].work else {
+            return None;
+        };
+        let Some(id) = waiting.asked else {
+            return None;
+        };
+        if id >= REQUEST_IDS {
+            return None;
+        }
+        Some(id)
+    }
+
+    /// Returns the datagram that asks this device for the request at this place, if it can be asked.
+    fn datagram_at(
+        &self,
+        place: usize,
+        device: usize,
+        id: u32,
+    ) -> Result<Option<Vec<u8>>, AllocError>
+        requires place { place < length self.now.requests.list.items }
+        requires device { device < length self.now.devices.list.items }
+        requires id { id < REQUEST_IDS }
+        ensures { IfOk result (λ asked. IfSome asked
+            (MayAskAt self.now.agent.tables self.now.devices.list.items self.now.requests.list.items place device id)) }
+    {
+        let request = &self.requests.list[place];
+        let Work::Open(waiting) = &request.work else {
+            return Ok(None);
+        };
+        let device = &self.devices.list[device];
+        let datagram = ask_of(self.alloc, device, &waiting.task, &request.first, id)?;
+        Ok(datagram)
+    }
+
+    /// Asks the device for the request at this place, with this request-id or the next free one.
+    fn ask_at(&mut self, place: usize, now: u64, ask_id: u32) -> Result<Sent, AllocError>
+        requires place { place < length self.old.requests.list.items }
+        requires id { ask_id < REQUEST_IDS }
+        ensures { IfOk result (λ sent. (before : List Happening) → GateStands before self.old
+            → SendHappens self.old before sent self.new) }
+    {
+        let Some((device, number)) = self.device_at(place) else {
+            return Ok(Sent::Nothing);
+        };
+        if self.asks[device].is_full() {
+            return Ok(Sent::Nothing);
+        }
+        let id = self.asks[device].free_id(ask_id);
+        let Some(datagram) = self.datagram_at(place, device, id)? else {
+            self.requests.work(place, Work::Ends(TOO_LONG));
+            return Ok(Sent::Nothing);
+        };
+        self.asks[device].ask(id, number)?;
+        set_asked(&mut self.requests, place, now, id);
+        Ok(Sent::ToDevice {
+            number,
+            device,
+            datagram,
+        })
+    }
+
+    /// Asks the device the same again for the request at this place.
+    fn ask_again_at(&mut self, place: usize, now: u64) -> Result<Sent, AllocError>
+        requires { place < length self.old.requests.list.items }
+        ensures { IfOk result (λ sent. (before : List Happening) → GateStands before self.old
+            → SendHappens self.old before sent self.new) }
+    {
+        let Some((device, number)) = self.device_at(place) else {
+            return Ok(Sent::Nothing);
+        };
+        let Some(id) = self.asked_at(place) else {
+            return Ok(Sent::Nothing);
+        };
+        let Some(datagram) = self.datagram_at(place, device, id)? else {
+            return Ok(Sent::Nothing);
+        };
+        set_asked(&mut self.requests, place, now, id);
+        Ok(Sent::ToDevice {
+            number,
+            device,
+            datagram,
+        })
+    }
+
+    /// Returns how the request at this place ends that is given up. A Set isn't answered, since its device may have
+    /// done it.
+    fn given_up_at(&self, place: usize) -> Ending
+        requires { place < length self.now.requests.list.items }
+        ensures { IsGivenUp result }
+    {
+        if !self.limits.report_unreachable || is_set_at(&self.requests.list[place].work) {
+            return Ending::Silent;
+        }
+        Ending::Unhandled(Unhandled::UnavailableContexts)
+    }
+
+    /// Gives up the request at this place.
+    fn give_up_at(&mut self, place: usize) -> Sent
+        requires { place < length self.old.requests.list.items }
+        ensures { (before : List Happening) → GateStands before self.old → SendHappens self.old before result self.new }
+    {
+        let Some((device, number)) = self.device_at(place) else {
+            return Sent::Nothing;
+        };
+        let asked = self.asked_at(place);
+        let ending = self.given_up_at(place);
+        self.requests.work(place, Work::Ends(ending));
+        self.end_ask(device, asked);
+        Sent::GivenUp { number, device }
+    }
+
+    /// What a device is asked is given up.
+    fn end_ask(&mut self, device: usize, asked: Option<u32>)
+        ensures agent { self.new.agent ≡ self.old.agent }
+        ensures devices { self.new.devices ≡ self.old.devices }
+        ensures requests { self.new.requests ≡ self.old.requests }
+    {
+        if let Some(id) = asked {
+            if device < self.asks.len() {
+                self.asks[device].end(id);
+            }
+        }
+    }
+}

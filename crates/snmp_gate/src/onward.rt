@@ -1,0 +1,206 @@
+//! How a request goes on, after it came and after each answer of its device.
+
+ghost use Rattle.std.specs.Prelude.{◌≡◌, ◌≢◌, List, IfOk, OnErr};
+ghost use Rattle.vacm_core.specs.Tables.{Tables};
+ghost use Rattle.snmp_msg.specs.Variables.{Variable};
+ghost use Rattle.snmp_walk.specs.ObjectIds.{AllNamed, BulkAllNamed};
+ghost use Rattle.snmp_gate.specs.Question.{Question};
+ghost use Rattle.snmp_gate.specs.Messages.{IsViewerOf};
+ghost use Rattle.snmp_gate.specs.ReadAsks.{asked_variables, bulk_asked_variables};
+ghost use Rattle.snmp_gate.specs.Work.{BulkStandsFor, OnwardStands, ReadStands, SaysAll, TaskStands};
+ghost use Rattle.snmp_gate.specs.Ends.{IsEndFor, IsFailing, FailsOrGoesOn};
+
+use crate::named_task::NamedTask;
+use crate::set_answer::{GEN_ERR, NO_SUCH_NAME, ResponseStatus, TOO_BIG};
+use crate::task::Task;
+use crate::whole_dialogue::WholeDialogue;
+use crate::work::Ending;
+use snmp_msg::Pdu;
+use snmp_responder::Viewer;
+use snmp_walk::{
+    Answered, BulkAnswered, BulkDialogue, BulkNext, Dialogue, Failure, FailureStatus, Next,
+    ReadOperation,
+};
+use std::alloc::{AllocError, Global};
+
+/// The tag of endOfMibView (RFC 3416, section 3).
+pub const END_OF_MIB_VIEW: u8 = 0x82;
+
+/// How a request goes on.
+#[derive(Drop)]
+pub enum Onward {
+    /// Its device is to be asked this.
+    Asks(NamedTask),
+    /// It ends so.
+    Ends(Ending),
+}
+
+/// What a device's answer is to a request.
+#[derive(Clone, Copy, Debug, PartialEq, Eq)]
+pub enum AnswerTaken {
+    /// The request goes on.
+    GoesOn,
+    /// The Response holds the front of what a GetBulkRequest asks for.
+    Front,
+    /// The Response has this status.
+    Ends(ResponseStatus),
+}
+
+/// Returns the error-index of a column, which counts from 1, or 0 for none.
+fn index_of(column: Option<usize>) -> i32 {
+    let Some(number) = column else {
+        return 0;
+    };
+    let Ok(index) = i32::try_from(number) else {
+        return 0;
+    };
+    index.saturating_add(1)
+}
+
+/// Returns genErr, with the index of this column.
+pub(crate) fn gen_err(column: Option<usize>) -> ResponseStatus
+    ensures { result.status ≡ GEN_ERR }
+{
+    ResponseStatus {
+        status: GEN_ERR,
+        index: index_of(column),
+    }
+}
+
+/// Returns what a Response says of an error of the device.
+fn status_of(failure: Failure) -> ResponseStatus
+    ensures { IsFailing result }
+{
+    match failure.status {
+        FailureStatus::TooBig => ResponseStatus {
+            status: TOO_BIG,
+            index: 0,
+        },
+        FailureStatus::NoSuchName => ResponseStatus {
+            status: NO_SUCH_NAME,
+            index: index_of(failure.column),
+        },
+        FailureStatus::GenErr => gen_err(failure.column),
+    }
+}
+
+/// Returns how a GetRequest or a GetNextRequest goes on.
+pub(crate) fn read_on(
+    operation: ReadOperation,
+    mut dialogue: Dialogue,
+    viewer: &Viewer<'_>,
+) -> Onward
+    requires { AllNamed dialogue }
+    ensures { (tables : Tables) (q : Question) (told : List Variable) → IsViewerOf tables q viewer.now
+        → ReadStands tables q told operation dialogue → OnwardStands tables q told result }
+{
+    match dialogue.go_on(viewer) {
+        Next::Asks => Onward::Asks(NamedTask {
+            task: Task::Read(operation, dialogue),
+        }),
+        Next::Ends => Onward::Ends(Ending::Columns(WholeDialogue { dialogue })),
+        Next::RoundsUsedUp(number) => Onward::Ends(Ending::Own(gen_err(Some(number)))),
+    }
+}
+
+/// Returns how a GetBulkRequest goes on.
+pub(crate) fn bulk_on(mut dialogue: BulkDialogue, viewer: &Viewer<'_>) -> Onward
+    requires { BulkAllNamed dialogue }
+    ensures { (tables : Tables) (q : Question) (told : List Variable) → IsViewerOf tables q viewer.now
+        → BulkStandsFor tables q told dialogue → OnwardStands tables q told result }
+{
+    match dialogue.go_on(viewer) {
+        BulkNext::Asks(by) => Onward::Asks(NamedTask {
+            task: Task::Bulk(by, dialogue),
+        }),
+        BulkNext::Ends => Onward::Ends(Ending::Front(dialogue)),
+        BulkNext::RoundsUsedUp(number) => Onward::Ends(Ending::Own(gen_err(Some(number)))),
+    }
+}
+
+/// Takes the answer to a GetRequest or a GetNextRequest. The error is out of memory, and nothing changes.
+pub(crate) fn take_read(
+    alloc: Global,
+    dialogue: &mut Dialogue,
+    viewer: &Viewer<'_>,
+    answer: &Pdu<'_>,
+) -> Result<AnswerTaken, AllocError>
+    ensures named { AllNamed dialogue.old → AllNamed dialogue.new }
+    ensures stands { IfOk result (λ _. (tables : Tables) (q : Question) (told : List Variable)
+        → (operation : ReadOperation) → IsViewerOf tables q viewer.now
+        → SaysAll (asked_variables dialogue.old) answer.now told
+        → ReadStands tables q told operation dialogue.old → ReadStands tables q told operation dialogue.new) }
+    ensures fails { IfOk result FailsOrGoesOn }
+    ensures err { OnErr result (dialogue.new ≡ dialogue.old) }
+{
+    match dialogue.take(alloc, viewer, answer)? {
+        Answered::Taken | Answered::Ended(_) => Ok(AnswerTaken::GoesOn),
+        Answered::Unfit(_) => Ok(AnswerTaken::Ends(gen_err(None))),
+        Answered::Failed(failure) => Ok(AnswerTaken::Ends(status_of(failure))),
+    }
+}
+
+/// Takes the answer to a request for a GetBulkRequest. The error is out of memory, and nothing changes.
+pub(crate) fn take_bulk(
+    alloc: Global,
+    dialogue: &mut BulkDialogue,
+    viewer: &Viewer<'_>,
+    answer: &Pdu<'_>,
+) -> Result<AnswerTaken, AllocError>
+    ensures named { BulkAllNamed dialogue.old → BulkAllNamed dialogue.new }
+    ensures stands { IfOk result (λ _. (tables : Tables) (q : Question) (told : List Variable)
+        → IsViewerOf tables q viewer.now
+        → SaysAll (bulk_asked_variables dialogue.old) answer.now told
+        → BulkStandsFor tables q told dialogue.old → BulkStandsFor tables q told dialogue.new) }
+    ensures fails { IfOk result FailsOrGoesOn }
+{
+    match dialogue.take(alloc, viewer, answer)? {
+        BulkAnswered::Taken | BulkAnswered::Less | BulkAnswered::Ended(_) => {
+            Ok(AnswerTaken::GoesOn)
+        }
+        BulkAnswered::Front => Ok(AnswerTaken::Front),
+        BulkAnswered::Unfit(_) => Ok(AnswerTaken::Ends(gen_err(None))),
+        BulkAnswered::TooBig => Ok(AnswerTaken::Ends(ResponseStatus {
+            status: TOO_BIG,
+            index: 0,
+        })),
+        BulkAnswered::Failed(column) => Ok(AnswerTaken::Ends(gen_err(column))),
+    }
+}
+
+/// Returns how a request goes on after its device's answer, which isn't the end of it. A GetBulkRequest that is `late`
+/// ends with its front if that has a whole repetition.
+fn after_task(named: NamedTask, is_front: bool, viewer: &Viewer<'_>, late: bool) -> Onward
+    ensures { (tables : Tables) (q : Question) (told : List Variable) → IsViewerOf tables q viewer.now
+        → TaskStands tables q told named.task → OnwardStands tables q told result }
+{
+    let NamedTask { task } = named;
+    match task {
+        Task::Read(operation, dialogue) => read_on(operation, dialogue, viewer),
+        Task::Bulk(_, dialogue) => {
+            if is_front || (late && dialogue.has_repetition()) {
+                return Onward::Ends(Ending::Front(dialogue));
+            }
+            bulk_on(dialogue, viewer)
+        }
+        Task::Set => Onward::Ends(Ending::Silent),
+    }
+}
+
+/// Returns how a request goes on after its device's answer.
+pub(crate) fn after(
+    named: NamedTask,
+    taken: AnswerTaken,
+    viewer: &Viewer<'_>,
+    late: bool,
+) -> Onward
+    ensures { (tables : Tables) (q : Question) (told : List Variable) → IsViewerOf tables q viewer.now
+        → IsEndFor q taken
+        → TaskStands tables q told named.task → OnwardStands tables q told result }
+{
+    match taken {
+        AnswerTaken::Ends(status) => Onward::Ends(Ending::Own(status)),
+        AnswerTaken::Front => after_task(named, true, viewer, late),
+        AnswerTaken::GoesOn => after_task(named, false, viewer, late),
+    }
+}

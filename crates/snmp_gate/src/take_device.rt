@@ -1,0 +1,263 @@
+//! What comes from devices.
+
+ghost use Rattle.std.specs.Prelude.{◌≡◌, ◌↔◌, ◌<◌, List, Some, length, IfOk, IfSome, IsTrue};
+ghost use Rattle.std.specs.List.{HoldsAt};
+ghost use Rattle.vacm_core.specs.Tables.{Tables};
+ghost use Rattle.snmp_msg.specs.Variables.{Variable};
+ghost use Rattle.snmp_gate.specs.Question.{Question};
+ghost use Rattle.snmp_gate.specs.Messages.{IsViewerOf, question_in};
+ghost use Rattle.snmp_gate.specs.Ends.{IsEndFor};
+ghost use Rattle.snmp_gate.specs.History.{Happening};
+ghost use Rattle.snmp_gate.specs.Taking.{AnswerPlace, WaitsFor, WorkAfter};
+ghost use Rattle.snmp_gate.specs.Waiting.{DeviceHappens, GateStands};
+ghost use Rattle.snmp_gate.specs.Work.{SaysAll, TaskStands, variables_of_task};
+ghost use Rattle.snmp_gate.specs.declared.work.OpenRequest.{OpenRequest as OpenIs};
+ghost use Rattle.snmp_gate.specs.declared.work.Work.TheVariants.{Open};
+
+use crate::device_answer::{DeviceAnswer, read_device_answer};
+use crate::devices::Device;
+use crate::gate::{DeviceTaken, Gate};
+use crate::named_task::NamedTask;
+use crate::onward::{AnswerTaken, Onward, after, take_bulk, take_read};
+use crate::requests::WaitingRequest;
+use crate::set_answer::set_outcome;
+use crate::task::Task;
+use crate::viewing::{pdu_of, viewer_of};
+use crate::waiting_message::WaitingMessage;
+use crate::work::{Ending, OpenRequest, Work};
+use snmp_msg::Pdu;
+use snmp_responder::Viewer;
+use std::alloc::{AllocError, Global};
+use std::mem;
+use vacm_core::Vacm;
+
+/// Takes the device's answer to what it was asked. The error is out of memory, and nothing changes.
+fn take_task(
+    alloc: Global,
+    named: &mut NamedTask,
+    viewer: &Viewer<'_>,
+    bindings: usize,
+    answer: &Pdu<'_>,
+) -> Result<AnswerTaken, AllocError>
+    ensures stands { IfOk result (λ taken. (tables : Tables) (q : Question) (told : List Variable)
+        → IsViewerOf tables q viewer.now
+        → SaysAll (variables_of_task q named.old.task) answer.now told
+        → TaskStands tables q told named.old.task
+        → TaskStands tables q told named.new.task × IsEndFor q taken) }
+{
+    match &mut named.task {
+        Task::Read(_, dialogue) => take_read(alloc, dialogue, viewer, answer),
+        Task::Bulk(_, dialogue) => take_bulk(alloc, dialogue, viewer, answer),
+        Task::Set => Ok(AnswerTaken::Ends(set_outcome(
+            answer.second,
+            answer.third,
+            bindings,
+        ))),
+    }
+}
+
+/// Returns what becomes of a request whose device answered so.
+fn work_after(asked: OpenRequest, taken: AnswerTaken, viewer: &Viewer<'_>, late: bool) -> Work
+    ensures { (tables : Tables) (q : Question) (told : List Variable) → IsViewerOf tables q viewer.now
+        → IsEndFor q taken → TaskStands tables q told asked.task.task → WorkAfter tables q told asked result }
+{
+    let OpenRequest {
+        device,
+        timer,
+        asked: _,
+        task,
+    } = asked;
+    match after(task, taken, viewer, late) {
+        Onward::Asks(task) => Work::Open(OpenRequest {
+            device,
+            timer: timer.answered(),
+            asked: None,
+            task,
+        }),
+        Onward::Ends(ending) => Work::Ends(ending),
+    }
+}
+
+/// Returns true if the request's device is asked with this request-id, and with this community.
+fn waits_for(work: &Work, device: usize, id: u32) -> bool
+    ensures { IsTrue result ↔ WaitsFor device id work.now }
+{
+    match work {
+        Work::Open(open) => open.device == device && open.asked == Some(id),
+        Work::Ends(_) => false,
+    }
+}
+
+/// Returns how many bindings a message has.
+fn count_of(pdu: &Pdu<'_>) -> usize {
+    let mut count = 0;
+    for _binding in pdu.variable_bindings() {
+        count = usize::saturating_add(count, 1);
+    }
+    count
+}
+
+/// When a request is late, in milliseconds.
+#[derive(Clone, Copy)]
+struct Lateness {
+    now: u64,
+    /// How long after it came a GetBulkRequest is late.
+    gather: u64,
+}
+
+/// Takes the device's answer to what it is asked for a message. The error is out of memory, and nothing changes.
+fn take_open(
+    alloc: Global,
+    waiting: &mut OpenRequest,
+    message: &WaitingMessage,
+    tables: &Vacm,
+    answer: &Pdu<'_>,
+) -> Result<AnswerTaken, AllocError>
+    ensures stands { IfOk result (λ taken. (q : Question) (told : List Variable)
+        → question_in message.now ≡ Some q
+        → SaysAll (variables_of_task q waiting.old.task.task) answer.now told
+        → TaskStands tables.now q told waiting.old.task.task
+        → TaskStands tables.now q told waiting.new.task.task × IsEndFor q taken) }
+    ensures device { waiting.new.device ≡ waiting.old.device }
+{
+    let taken = message.kept.taken();
+    let viewer = viewer_of(tables, &taken);
+    let bindings = count_of(&pdu_of(&taken));
+    let became = take_task(alloc, &mut waiting.task, &viewer, bindings, answer)?;
+    Ok(became)
+}
+
+/// Returns what becomes of a request that was open, for a message, and whose device answered so.
+fn after_answer(
+    old: Work,
+    became: AnswerTaken,
+    message: &WaitingMessage,
+    tables: &Vacm,
+    lateness: Lateness,
+) -> Work
+    ensures { (o : OpenIs) (q : Question) (told : List Variable)
+        → question_in message.now ≡ Some q → old ≡ Open o → IsEndFor q became
+        → TaskStands tables.now q told o.task.task → WorkAfter tables.now q told o result }
+{
+    let taken = message.kept.taken();
+    let viewer = viewer_of(tables, &taken);
+    match old {
+        Work::Open(waiting) => {
+            let late = lateness.now.saturating_sub(waiting.timer.began) >= lateness.gather;
+            work_after(waiting, became, &viewer, late)
+        }
+        Work::Ends(ending) => Work::Ends(ending),
+    }
+}
+
+/// Takes the device's answer for a request of this message. The error is out of memory, and nothing changes.
+fn take_answer(
+    alloc: Global,
+    work: &mut Work,
+    message: &WaitingMessage,
+    tables: &Vacm,
+    answer: &Pdu<'_>,
+    lateness: Lateness,
+) -> Result<(), AllocError>
+    ensures { IfOk result (λ _. (o : OpenIs) (q : Question) (told : List Variable)
+        → question_in message.now ≡ Some q → work.old ≡ Open o
+        → SaysAll (variables_of_task q o.task.task) answer.now told
+        → TaskStands tables.now q told o.task.task → WorkAfter tables.now q told o work.new) }
+{
+    let Work::Open(waiting) = work else {
+        return Ok(());
+    };
+    let became = take_open(alloc, waiting, message, tables, answer)?;
+    let old = mem::replace(work, Work::Ends(Ending::Silent));
+    *work = after_answer(old, became, message, tables, lateness);
+    Ok(())
+}
+
+/// Returns the place of the request for which this device is asked with this request-id.
+fn place_for(
+    requests: &[WaitingRequest<WaitingMessage, Work>],
+    device: usize,
+    id: u32,
+) -> Option<usize>
+    ensures { IfSome result (λ place. (place < length requests.now)
+        × HoldsAt (λ r. WaitsFor device id r.work) requests.now place) }
+{
+    for (place, request) in requests.iter().enumerate() {
+        if waits_for(&request.work, device, id) {
+            return Some(place);
+        }
+    }
+    None
+}
+
+/// Returns true if the device is asked for this request with this community.
+fn is_of(work: &Work, device: &Device, community: &[u8]) -> bool {
+    let Work::Open(open) = work else {
+        return false;
+    };
+    match &open.task.task {
+        Task::Read(_, _) | Task::Bulk(_, _) => device.community.as_slice() == community,
+        Task::Set => match &device.write_community {
+            Some(own) => own.as_slice() == community,
+            None => false,
+        },
+    }
+}
+
+impl Gate {
+    /// Takes a datagram from the device of this number, counted from 0, at this moment, in milliseconds. Nothing is
+    /// sent.
+    ///
+    /// The error is out of memory. Then the datagram isn't taken, and may be taken again.
+    pub fn take_device(
+        &mut self,
+        now: u64,
+        device: usize,
+        datagram: &[u8],
+    ) -> Result<DeviceTaken, AllocError>
+        ensures { IfOk result (λ taken. (before : List Happening) → GateStands before self.old
+            → DeviceHappens self.old before device datagram.now taken self.new) }
+    {
+        let Some(answer) = read_device_answer(datagram) else {
+            return Ok(DeviceTaken::Unreadable);
+        };
+        let Some((id, place)) = self.place_of(device, &answer) else {
+            return Ok(DeviceTaken::NotWaitedFor);
+        };
+        let lateness = Lateness {
+            now,
+            gather: self.limits.gather,
+        };
+        let request = &mut self.requests.list[place];
+        let number = request.number;
+        take_answer(
+            self.alloc,
+            &mut request.work,
+            &request.first,
+            self.agent.tables(),
+            &answer.pdu,
+            lateness,
+        )?;
+        self.asks[device].end(id);
+        Ok(DeviceTaken::Answers(number))
+    }
+
+    /// Returns the request-id of an answer, and the place of the request for which the device was asked with it.
+    fn place_of(&self, device: usize, answer: &DeviceAnswer<'_>) -> Option<(u32, usize)>
+        ensures place { IfSome result (λ p. AnswerPlace self.now.requests.list.items device answer.now.pdu p.0 p.1) }
+        ensures asks { IfSome result (λ _. device < length self.now.asks.items) }
+    {
+        if device >= self.asks.len() || device >= self.devices.list.len() {
+            return None;
+        }
+        let Ok(id) = u32::try_from(answer.pdu.id) else {
+            return None;
+        };
+        let place = place_for(self.requests.requests(), device, id)?;
+        let work = &self.requests.list[place].work;
+        if !is_of(work, &self.devices.list[device], answer.community) {
+            return None;
+        }
+        Some((id, place))
+    }
+}

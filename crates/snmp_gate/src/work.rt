@@ -1,0 +1,58 @@
+//! What becomes of a request.
+
+use crate::named_task::NamedTask;
+use crate::set_answer::ResponseStatus;
+use crate::timer::Timer;
+use crate::whole_dialogue::WholeDialogue;
+use snmp_agent::Unhandled;
+use snmp_walk::BulkDialogue;
+
+/// How a request ends.
+#[derive(Drop)]
+pub enum Ending {
+    /// A Response without an error, with a binding of each column.
+    Columns(WholeDialogue),
+    /// A Response without an error, with the front of what a GetBulkRequest asks for.
+    Front(BulkDialogue),
+    /// A Response with this status, and the request's own bindings; with tooBig it has none.
+    Own(ResponseStatus),
+    /// The request isn't answered, and a report may tell why.
+    Unhandled(Unhandled),
+    /// Nothing is sent.
+    Silent,
+}
+
+/// A request whose device is to be asked, or to answer.
+#[derive(Drop)]
+pub struct OpenRequest {
+    /// The number of the device, counted from 0.
+    pub device: usize,
+    pub timer: Timer,
+    /// The request-id with which the device is asked now.
+    pub asked: Option<u32>,
+    pub task: NamedTask,
+}
+
+/// What becomes of a request.
+#[derive(Drop)]
+pub enum Work {
+    /// Its device is to be asked, or to answer.
+    Open(OpenRequest),
+    /// Its messages can be answered.
+    Ends(Ending),
+}
+
+/// What is to be done for a request now.
+#[derive(Clone, Copy, Debug, PartialEq, Eq)]
+pub enum Todo {
+    /// Nothing.
+    Nothing,
+    /// Its first message is to be answered.
+    Answer,
+    /// Its device is to be asked, with a new request-id.
+    Ask,
+    /// Its device is to be asked the same again, with the request-id that it was asked with.
+    AskAgain,
+    /// It is to be given up.
+    GiveUp,
+}
