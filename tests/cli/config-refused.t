@@ -105,6 +105,24 @@ The top has five arrays of tables.
   ! snmpsec: other: at the top stand the arrays of tables user, context, group, access and family, and nothing else
   [1]
 
+The tables of a gateway have no place there.
+
+  $ check <<'END'
+  > [gate]
+  > END
+  refused config top
+  refused config top
+  ! snmpsec: gate: at the top stand the arrays of tables user, context, group, access and family, and nothing else
+  [1]
+  $ check <<'END'
+  > [[device]]
+  > context = 'rack-1-pdu'
+  > END
+  refused config top
+  refused config top
+  ! snmpsec: device: at the top stand the arrays of tables user, context, group, access and family, and nothing else
+  [1]
+
 A key is shown as TOML has it, so that no control character is on standard error.
 
   $ check <<'END'

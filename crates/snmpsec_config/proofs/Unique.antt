@@ -23,7 +23,7 @@ use Rattle.snmpsec_config.specs.Refusals.{IsDocument, Says}
 
 -- ---- a value stands for one thing
 
-same_text : (v : Option Data) (a b : List ℕ) → IsText v a → IsText v b → a ≡ b
+pub same_text : (v : Option Data) (a b : List ℕ) → IsText v a → IsText v b → a ≡ b
 same_text v a b h k = let e : Some (string a) ≡ Some (string b) = sym h ∙ k in cc
 
 same_text_or_empty : (v : Option Data) (a b : List ℕ) → IsTextOrEmpty v a → IsTextOrEmpty v b → a ≡ b
@@ -41,7 +41,7 @@ same_text_if_any v (Some a) (Some b) h k = ap Some (same_text v a b h k)
 same_model : (v : Option Data) (a b : ℕ) → IsModel v a → IsModel v b → a ≡ b
 same_model v a b h k = let e = sym h.0 ∙ k.0 in cc
 
-same_flag : (v : Option Data) (a b : Bool) → IsFlag v a → IsFlag v b → a ≡ b
+pub same_flag : (v : Option Data) (a b : Bool) → IsFlag v a → IsFlag v b → a ≡ b
 same_flag v a b h k = let e : Some (boolean a) ≡ Some (boolean b) = sym h ∙ k in cc
 
 level_of_word : (l m : Level) → level_word l ≡ level_word m → l ≡ m
@@ -101,7 +101,7 @@ same_auth p w (Some a) (Some b) h k =
 
 -- ---- a table stands for one row
 
-one_user : (t : Members) (a b : UserRow) → IsUserRow t a → IsUserRow t b → user_values a ≡ user_values b
+pub one_user : (t : Members) (a b : UserRow) → IsUserRow t a → IsUserRow t b → user_values a ≡ user_values b
 one_user t a b h k =
     let name = same_text _ _ _ h.name k.name in
     let auth = same_auth _ _ _ _ h.auth k.auth in
@@ -117,7 +117,7 @@ one_context t a b h k = let name = same_text _ _ _ h.name.0 k.name.0 in ap (λ x
 abbrev group_row : ℕ → List ℕ → List ℕ → GroupRow
 group_row model' name' group' = record { model = model'; name = name'; group = group' }
 
-one_group : (t : Members) (a b : GroupRow) → IsGroupRow t a → IsGroupRow t b → a ≡ b
+pub one_group : (t : Members) (a b : GroupRow) → IsGroupRow t a → IsGroupRow t b → a ≡ b
 one_group t a b h k =
     let model = same_model _ _ _ h.model k.model in
     let name = same_text _ _ _ h.name.0 k.name.0 in
@@ -127,7 +127,7 @@ one_group t a b h k =
 abbrev access_row : List ℕ → List ℕ → ℕ → Level → Matching → List ℕ → List ℕ → List ℕ → AccessRow
 access_row group' prefix' model' level' matching' read' write' notify' = record { group = group'; prefix = prefix'; model = model'; level = level'; matching = matching'; read = read'; write = write'; notify = notify' }
 
-one_access : (t : Members) (a b : AccessRow) → IsAccessRow t a → IsAccessRow t b → a ≡ b
+pub one_access : (t : Members) (a b : AccessRow) → IsAccessRow t a → IsAccessRow t b → a ≡ b
 one_access t a b h k =
     let group = same_text _ _ _ h.group.0 k.group.0 in
     let prefix = same_text _ _ _ h.prefix.0 k.prefix.0 in
@@ -142,7 +142,7 @@ one_access t a b h k =
 abbrev family_row : List ℕ → List ℕ → List ℕ → Bool → FamilyRow
 family_row view' subtree' mask' include' = record { view = view'; subtree = subtree'; mask = mask'; include = include' }
 
-one_family : (t : Members) (a b : FamilyRow) → IsFamilyRow t a → IsFamilyRow t b → a ≡ b
+pub one_family : (t : Members) (a b : FamilyRow) → IsFamilyRow t a → IsFamilyRow t b → a ≡ b
 one_family t a b h k =
     let view = same_text _ _ _ h.view.0 k.view.0 in
     let subtree = same_oid _ _ _ h.subtree k.subtree in
@@ -177,13 +177,13 @@ map_same : {R : Type 0} (xs : List R) → map (λ x. x) xs ≡ xs
 map_same [] = refl
 map_same (x ∷ xs) = ap (λ ys. x ∷ ys) (map_same xs)
 
-same_list : {R : Type 0} (Stands : Members → R → Type 0) → ((t : Members) (a b : R) → Stands t a → Stands t b → a ≡ b) → (values : Items) (xs ys : List R) → AreRows Stands values xs → AreRows Stands values ys → xs ≡ ys
+pub same_list : {R : Type 0} (Stands : Members → R → Type 0) → ((t : Members) (a b : R) → Stands t a → Stands t b → a ≡ b) → (values : Items) (xs ys : List R) → AreRows Stands values xs → AreRows Stands values ys → xs ≡ ys
 same_list Stands one values xs ys h k = sym (map_same xs) ∙ one_list Stands (λ x. x) one values xs ys h k ∙ map_same ys
 
 abbrev tables_with : List ContextRow → List GroupRow → List AccessRow → List FamilyRow → Tables
 tables_with contexts' groups' access' families' = record { contexts = contexts'; groups = groups'; access = access'; families = families' }
 
-same_tables : (d : Members) (users others : List UserRow) (rows more : Tables) → StandsFor d users rows → StandsFor d others more → rows ≡ more
+pub same_tables : (d : Members) (users others : List UserRow) (rows more : Tables) → StandsFor d users rows → StandsFor d others more → rows ≡ more
 same_tables d users others rows more s o =
     let contexts = same_list IsContextRow one_context _ _ _ s.contexts o.contexts in
     let groups = same_list IsGroupRow one_group _ _ _ s.groups o.groups in

@@ -101,7 +101,7 @@ no_user_fault : (users others : List UserRow) (f : UserFault) → map user_value
 no_user_fault users others f e sound first =
     let never : None ≡ Some f = sym (sound first.position) ∙ (same_fault users others first.position e ∙ first.there) in cc
 
-no_access_fault : (rows : Tables) (of : Table) (position : ℕ) (wrong : LoadFault) → access_rows.AreSound rows → TellsAccess rows of position wrong → ⊥
+pub no_access_fault : (rows : Tables) (of : Table) (position : ℕ) (wrong : LoadFault) → access_rows.AreSound rows → TellsAccess rows of position wrong → ⊥
 no_access_fault rows of position BadRow sound told = let never = sym (sound of position) ∙ told.there in cc
 no_access_fault rows of position Duplicate sound told = let never = sym (sound of position) ∙ told.there in cc
 no_access_fault rows of position BadUser sound told = told
@@ -110,7 +110,7 @@ no_access_fault rows of position DuplicateUser sound told = told
 
 -- ---- a document that stands for rows has no table that stands for none
 
-no_first : (P : List ℕ → Data → Type 0) (m : Members) (key : List ℕ) → FirstMember P m key → EachMember P m → ⊥
+pub no_first : (P : List ℕ → Data → Type 0) (m : Members) (key : List ℕ) → FirstMember P m key → EachMember P m → ⊥
 no_first P no_members key f h = f
 no_first P (member name value others) key (inl here) h = here.1 h.0
 no_first P (member name value others) key (inr later) h = no_first P others key later.1 h.1
@@ -124,7 +124,7 @@ row_at {R} Stands (item value values) (row ∷ rows) zero d h at =
     rw (← is) (row, h.0)
 row_at Stands (item value values) (row ∷ rows) (suc i) d h at = row_at Stands values rows i d h.1 at
 
-no_bad : {R : Type 0} (Stands : Members → R → Type 0) (values : Items) (rows : List R) (position : ℕ) → AreRows Stands values rows → IsFirstBad Stands values position → ⊥
+pub no_bad : {R : Type 0} (Stands : Members → R → Type 0) (values : Items) (rows : List R) (position : ℕ) → AreRows Stands values rows → IsFirstBad Stands values position → ⊥
 no_bad Stands values rows position h bad = let r = row_at Stands values rows position bad.value h bad.there in bad.no_row r.0 r.1
 
 no_bad_of : (d : Members) (users : List UserRow) (rows : Tables) (of : ConfigTable) (position : ℕ) → StandsFor d users rows → IsFirstBadOf d of position → ⊥
@@ -136,7 +136,7 @@ no_bad_of d users rows tables.Family position s bad = no_bad IsFamilyRow _ _ pos
 
 -- ---- no cause
 
-no_user_told : (users others : List UserRow) (position : ℕ) (wrong : LoadFault) → map user_values users ≡ map user_values others → user_rows.AreSound users → TellsUser others position wrong → ⊥
+pub no_user_told : (users others : List UserRow) (position : ℕ) (wrong : LoadFault) → map user_values users ≡ map user_values others → user_rows.AreSound users → TellsUser others position wrong → ⊥
 no_user_told users others position BadUser e sound told = no_user_fault users others (user_faults.BadUser position) e sound told
 no_user_told users others position ShortPassword e sound told = no_user_fault users others (user_faults.ShortPassword position) e sound told
 no_user_told users others position DuplicateUser e sound told = no_user_fault users others (user_faults.DuplicateUser position) e sound told

@@ -113,6 +113,13 @@ RefusesDocument document (faults.Row of position wrong) = (users : List UserRow)
     × StandsFor document users rows × TellsRow users rows of position wrong
 RefusesDocument document faults.OutOfMemory = ⊤
 
+-- What a refusal says of a text that is no document: a bracket too many, or no TOML; or that memory ran out.
+abbrev pub TellsNoDocument : List ℕ → ConfigFault → Type 0
+TellsNoDocument text (faults.Nested line column) = IsUtf8 text × IsTooDeepAt text line column
+TellsNoDocument text (faults.Toml fault) = IsUtf8 text → IsShallow text × (parse_document text ≡ None)
+TellsNoDocument text faults.OutOfMemory = ⊤
+TellsNoDocument text _ = ⊥
+
 -- What a refusal says of the text: the first cause, or that memory ran out.
 abbrev pub Refuses : List ℕ → ConfigFault → Type 0
 Refuses text (faults.Nested line column) = IsUtf8 text × IsTooDeepAt text line column

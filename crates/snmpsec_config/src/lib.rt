@@ -25,9 +25,14 @@ mod table;
 mod wanted;
 mod words;
 
-pub use config::{AccessConfig, Config, ConfigRows};
+pub use config::{
+    AccessConfig, Config, ConfigRows, document_of, is_array_of_tables, read_rows, values_at,
+};
 pub use fault::{ConfigFault, KeyFault, LoadFault};
 pub use laws::one_configuration;
+pub use near::likeness;
+pub use rows::{Row, RowFault};
+pub use shown::shown_key;
 pub use table::{ConfigKey, ConfigTable};
 pub use wanted::Wanted;
 pub use words::{level_of, level_word};

@@ -1,12 +1,14 @@
 //! Which listed key is meant by one that isn't listed.
 
-ghost use Rattle.std.specs.Prelude.{Contains, IfSome};
+ghost use Rattle.std.specs.Prelude.{◌≤◌, length, Contains, IfSome};
 ghost use Rattle.snmpsec_config.specs.Keys.{listed};
 
 use crate::table::{ConfigKey, ConfigTable};
 
-/// How many octets two names have in common at the front and at the back, none counted twice.
-fn likeness(first: &[u8], second: &[u8]) -> usize {
+/// Returns how many octets two names have in common at the front and at the back, none counted twice.
+pub fn likeness(first: &[u8], second: &[u8]) -> usize
+    ensures { (result ≤ length first.now) × (result ≤ length second.now) }
+{
     let front = first
         .iter()
         .zip(second.iter())

@@ -64,8 +64,8 @@ fn quoted_key(alloc: Global, key: &str) -> Result<String, AllocError>
     Ok(text)
 }
 
-/// The key as TOML has it: as it is if it is bare, else as a basic string.
-pub(crate) fn shown_key(alloc: Global, key: &str) -> Result<String, AllocError>
+/// Returns the key as TOML has it: as it is if it is bare, else as a basic string.
+pub fn shown_key(alloc: Global, key: &str) -> Result<String, AllocError>
     ensures { IfOk result (λ text. string_bytes text ≡ spec.shown_key key.now) }
 {
     if is_bare_key(key) {

@@ -27,6 +27,7 @@ mod of_snmp_walk;
 mod of_snmp_walk_bulk;
 mod of_snmp_walk_dialogue;
 mod of_snmpsec_config;
+mod of_snmpsec_gate_config;
 mod of_snmpsec_output_opened;
 mod of_snmpsec_replay;
 mod of_usm_aes;

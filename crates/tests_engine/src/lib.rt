@@ -19,6 +19,8 @@ mod examples;
 #[cfg(test)]
 mod gate;
 #[cfg(test)]
+mod gate_config;
+#[cfg(test)]
 mod gateway;
 #[cfg(test)]
 mod handles;

@@ -6,6 +6,7 @@ mod access;
 mod agent;
 mod config;
 mod device;
+mod gate_config;
 mod manager;
 mod outcome;
 mod replay;

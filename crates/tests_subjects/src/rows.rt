@@ -3,6 +3,7 @@
 use crate::access::Views;
 use crate::config::Settings;
 use crate::device::Device;
+use crate::gate_config::Gateway;
 use crate::outcome::Reading;
 use crate::replay::Logs;
 use crate::stations::Stations;
@@ -172,6 +173,7 @@ fn check_named<R: Files + Print + AllocGlobal>(rt: &R, file: &str) -> Result<Cou
         "usm.rows" => check_file::<R, Sealing>(rt, file),
         "outcome.rows" => check_file::<R, Reading>(rt, file),
         "config.rows" => check_file::<R, Settings>(rt, file),
+        "gate_config.rows" => check_file::<R, Gateway>(rt, file),
         "manager.rows" | "agent.rows" | "net_snmp.rows" | "exchange.rows" => {
             check_file::<R, Stations>(rt, file)
         }

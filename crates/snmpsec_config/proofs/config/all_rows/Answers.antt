@@ -2,6 +2,7 @@ use Rattle.std.proofs.lemmas.Result.{err_from_is_err_and}
 use Rattle.toml.specs.View.{table_view}
 use Rattle.snmpsec_config.specs.Rows.{IsUserRow, IsContextRow, IsGroupRow, IsAccessRow, IsFamilyRow}
 use Rattle.snmpsec_config.specs.declared.table.ConfigTable.TheVariants.{User, Context, Group, Access, Family}
+use Rattle.snmpsec_config.proofs.Arrays.{top_tables}
 use Rattle.snmpsec_config.proofs.Loading.{before_user, before_context, before_group, before_access, before_family, refuses}
 use Rattle.snmpsec_config.proofs.config.all_rows.Goals as goal
 
@@ -29,3 +30,18 @@ pub returns-in_err-families-clause-refuses : goal.returns-in_err-families-clause
 returns-in_err-families-clause-refuses c =
     let p = err_from_is_err_and c.from_residual-in_err-families.result c.from_residual-in_err-families.ensures.1 in
     rw (p.1, p.2) (refuses Family IsFamilyRow (table_view c.args.document.now) _ c.requires.top c.in_err-families.ensures.fault (λ position h. h) (before_family (table_view c.args.document.now) (_, c.in_ok-users.ensures.rows) (_, c.in_ok-contexts.ensures.rows) (_, c.in_ok-groups.ensures.rows) (_, c.in_ok-access.ensures.rows)))
+
+pub read_rows-requires : goal.read_rows-requires
+read_rows-requires c = record { tables = top_tables (table_view c.args.document.now) User c.requires.top }
+
+pub read_rows-requires-2 : goal.read_rows-requires-2
+read_rows-requires-2 c = record { tables = top_tables (table_view c.args.document.now) Context c.requires.top }
+
+pub read_rows-requires-3 : goal.read_rows-requires-3
+read_rows-requires-3 c = record { tables = top_tables (table_view c.args.document.now) Group c.requires.top }
+
+pub read_rows-requires-4 : goal.read_rows-requires-4
+read_rows-requires-4 c = record { tables = top_tables (table_view c.args.document.now) Access c.requires.top }
+
+pub read_rows-requires-5 : goal.read_rows-requires-5
+read_rows-requires-5 c = record { tables = top_tables (table_view c.args.document.now) Family c.requires.top }

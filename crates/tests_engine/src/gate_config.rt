@@ -1,0 +1,27 @@
+//! The configuration of a gateway where a growth of memory was refused, and the call is made again.
+use snmpsec_gate_config::{GateConfig, GateFault};
+use std::alloc::Global;
+use std::test::Fail;
+
+const TEXT: &[u8] = b"\
+[gate]\nengine = '8000000001'\nboots = 'b'\nlisten = ['127.0.0.1:161', '[::1]:161']\n\
+[[device]]\ncontext = 'a'\naddress = '10.1.0.7:161'\ncommunity = 'c'\n\
+[[device]]\ncontext = 'b'\naddress = '10.1.0.8:161'\ncommunity = 'c'\nwrite-community = 'w'\n\
+[[user]]\nname = 'ann'\n";
+
+/// What is read of the text, or of the text once more if memory ran out.
+fn read(alloc: Global) -> Result<GateConfig, GateFault> {
+    match GateConfig::read(alloc, TEXT) {
+        Ok(config) => Ok(config),
+        Err(_) => GateConfig::read(alloc, TEXT),
+    }
+}
+
+#[test]
+fn a_refused_growth_reads_the_same_gateway(rt: HostRuntime) -> Result<(), Fail> {
+    let config = read(rt.alloc())?;
+    assert_eq!(rt; (config.gate.listen.len(), config.devices.len()), (2, 2));
+    let second = config.devices.get(1).ok_or("a device")?;
+    assert!(rt; second.write_community.is_some());
+    Ok(())
+}
