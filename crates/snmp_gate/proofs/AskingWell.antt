@@ -43,26 +43,26 @@ pub columns_ask : (tables : Tables) (q : Question) (told : List Variable) (o : R
 columns_ask tables q told o cs same all =
     all_flat (λ (c : Column). variables_in c.progress) (MayAskName q tables told o) cs
     (λ k d within.
-      let c = slice_index_or cs k d in
-      let named = from_map (λ (v : Variable). (o, v.name)) (variables_of q.list) (request c) (subst (λ (rs : List (ReadOperation × List ℕ)). Contains rs (request c)) same (contains_map request cs c (Contains-get_or cs k d within))) in
-      one_asked (MayAskName q tables told o) c.progress (λ name asks. record {
-        request = named.0;
-        is_request = named.1;
-        may = subst (λ (r : ReadOperation × List ℕ). MayAsk (seen_in tables q) told r.0 r.1 name) (sym named.2) (all k d within name asks);
-      }))
+    let c = slice_index_or cs k d in
+    let named = from_map (λ (v : Variable). (o, v.name)) (variables_of q.list) (request c) (subst (λ (rs : List (ReadOperation × List ℕ)). Contains rs (request c)) same (contains_map request cs c (Contains-get_or cs k d within))) in
+    one_asked (MayAskName q tables told o) c.progress (λ name asks. record {
+      request = named.0;
+      is_request = named.1;
+      may = subst (λ (r : ReadOperation × List ℕ). MayAsk (seen_in tables q) told r.0 r.1 name) (sym named.2) (all k d within name asks);
+    }))
 
 pub bulk_columns_ask : (tables : Tables) (q : Question) (told : List Variable) (n m : ℕ) (cs : List BulkColumn) → map bulk_request cs ≡ bulk_requests_of n m (variables_of q.list) → All (BulkAsksWell (seen_in tables q) told) cs
     → All (MayAskName q tables told GetNext) (bulk_variables_asked cs)
 bulk_columns_ask tables q told n m cs same all =
     all_flat (λ (c : BulkColumn). variables_in c.progress) (MayAskName q tables told GetNext) cs
     (λ k d within.
-      let c = slice_index_or cs k d in
-      let named = named_in n m (variables_of q.list) (bulk_request c) (subst (λ (rs : List (List ℕ × ℕ)). Contains rs (bulk_request c)) same (contains_map bulk_request cs c (Contains-get_or cs k d within))) in
-      one_asked (MayAskName q tables told GetNext) c.progress (λ name asks. record {
-        request = named.0;
-        is_request = named.1;
-        may = subst (λ (first : List ℕ). MayAsk (seen_in tables q) told GetNext first name) (sym named.2) (all k d within name asks);
-      }))
+    let c = slice_index_or cs k d in
+    let named = named_in n m (variables_of q.list) (bulk_request c) (subst (λ (rs : List (List ℕ × ℕ)). Contains rs (bulk_request c)) same (contains_map bulk_request cs c (Contains-get_or cs k d within))) in
+    one_asked (MayAskName q tables told GetNext) c.progress (λ name asks. record {
+      request = named.0;
+      is_request = named.1;
+      may = subst (λ (first : List ℕ). MayAsk (seen_in tables q) told GetNext first name) (sym named.2) (all k d within name asks);
+    }))
 
 pub type_asked : (by : BulkAsk) → (bulk_type by ≡ GetNextRequest) ⊎ (bulk_type by ≡ GetBulkRequest)
 type_asked by.GetNext = inl refl

@@ -6,7 +6,7 @@ use Rattle.vacm_core.specs.Tables.{Tables}
 use Rattle.snmp_gate.specs.Ends.{FailsOrGoesOn, IsEndFor}
 use Rattle.snmp_gate.specs.Taking.{WorkAfter}
 use Rattle.snmp_gate.specs.declared.work.OpenRequest.{OpenRequest}
-use Rattle.snmp_gate.specs.declared.work.Ending.{Ending}
+use Rattle.snmp_gate.specs.declared.work.RequestEnd.{RequestEnd}
 use Rattle.snmp_gate.specs.declared.work.Work.{Work}
 use Rattle.snmp_gate.specs.declared.work.Work.TheVariants as work
 use Rattle.snmp_gate.specs.declared.work.Work.TheVariants.{Open}
@@ -26,5 +26,5 @@ pub after_same : (tables : Tables) (q : Question) (told : List Variable) (a b : 
 after_same tables q told a b (Open new) device after = (after.0, after.1 ∙ device, after.2)
 after_same tables q told a b (work.Ends e) device after = after
 
-pub never_open : (w : Work) (e : Ending) (o : OpenRequest) → w ≡ work.Ends e → w ≡ Open o → ⊥
+pub never_open : (w : Work) (e : RequestEnd) (o : OpenRequest) → w ≡ work.Ends e → w ≡ Open o → ⊥
 never_open w e o is also = let same : work.Ends e ≡ Open o = sym is ∙ also in cc

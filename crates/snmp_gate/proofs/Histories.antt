@@ -27,8 +27,8 @@ use Rattle.snmp_gate.specs.declared.reply.Reply.TheVariants as reply
 use Rattle.snmp_gate.specs.Taking.{WaitsFor, WorkAfter}
 use Rattle.snmp_gate.specs.declared.named_task.NamedTask.{NamedTask}
 use Rattle.snmp_gate.specs.declared.set_answer.TheConstants.{NO_ERROR, TOO_BIG}
-use Rattle.snmp_gate.specs.declared.work.Ending.{Ending}
-use Rattle.snmp_gate.specs.declared.work.Ending.TheVariants as ending
+use Rattle.snmp_gate.specs.declared.work.RequestEnd.{RequestEnd}
+use Rattle.snmp_gate.specs.declared.work.RequestEnd.TheVariants as ending
 use Rattle.std.proofs.lemmas.Bool.{false≢true}
 use Rattle.snmp_gate.specs.declared.requests.WaitingRequest.{WaitingRequest}
 use Rattle.snmp_gate.proofs.GroupSteps.{group_at, groups_set}
@@ -75,10 +75,10 @@ group_later tables devices e before g told ask stands = record {
 }
 
 other_number : (a b : ℕ) → a ≢ b → nat_eq a b ≡ false
-other_number a b other = elim (eqb_tells a b) [ | inl (test, same) ↦ absurd (other same) | inr (test, not_same) ↦ test ]
+other_number a b other = elim (eqb_tells a b) [ inl (test, same) ↦ absurd (other same) | inr (test, not_same) ↦ test ]
 
 pub same_number : (a : ℕ) → nat_eq a a ≡ true
-same_number a = elim (eqb_tells a a) [ | inl (test, same) ↦ test | inr (test, not_same) ↦ absurd (not_same refl) ]
+same_number a = elim (eqb_tells a a) [ inl (test, same) ↦ test | inr (test, not_same) ↦ absurd (not_same refl) ]
 
 pub others_answered : (tables : Tables) (devices : List Device) (n device : ℕ) (p : PduParts) (datagram : List ℕ) (before : List Happening) (g : Waiting) → g.number ≢ n
     → GroupStands tables devices before g → GroupStands tables devices (answered n device p datagram ∷ before) g
@@ -100,7 +100,7 @@ others_asked tables devices n device id vs datagram before g other stands =
 -- ---- the requests, one of which changes
 
 below_or_above : (a b : ℕ) → a ≢ b → (a < b) ⊎ (b < a)
-below_or_above a b other = elim (leb_tells b a) [ | inl (test, above) ↦ inr (omega (arith, above, other)) | inr (test, below) ↦ inl below ]
+below_or_above a b other = elim (leb_tells b a) [ inl (test, above) ↦ inr (omega (arith, above, other)) | inr (test, below) ↦ inl below ]
 
 numbers_differ : (gs : List Waiting) (place : ℕ) (g : Waiting) → AllPairs (λ (a b : Waiting). a.number < b.number) gs → IsAt gs place g → (k : ℕ) (d : Waiting) → k < length gs → k ≢ place → (slice_index_or gs k d).number ≢ g.number
 numbers_differ gs place g rise at k d within other same =
@@ -122,10 +122,10 @@ all_set P Q gs place g h rise at all holds others k d within =
 pub numbered_set : (next : ℕ) (gs : List Waiting) (place : ℕ) (g h : Waiting) → IsAt gs place g → h.number ≡ g.number → AreNumbered next gs → AreNumbered next (slice_set gs place h)
 numbered_set next gs place g h at same numbered = record {
   rise = pairs_set (λ (a b : Waiting). a.number < b.number) gs place g h at.within at.group_is
-    (λ x lt. omega (arith, lt, same)) (λ x lt. omega (arith, lt, same)) numbered.rise;
+      (λ x lt. omega (arith, lt, same)) (λ x lt. omega (arith, lt, same)) numbered.rise;
   less = all_set (λ (x : Waiting). x.number < next) (λ (x : Waiting). x.number < next) gs place g h numbered.rise at numbered.less
-    (let lt = subst (λ (x : Waiting). x.number < next) (sym at.group_is) (numbered.less place g at.within) in omega (arith, lt, same))
-    (λ x other lt. lt);
+      (let lt = subst (λ (x : Waiting). x.number < next) (sym at.group_is) (numbered.less place g at.within) in omega (arith, lt, same))
+      (λ x other lt. lt);
 }
 
 -- ---- an answer
@@ -142,16 +142,16 @@ says_all n device id vs answer datagram before is =
     let ask : OpenAsk = record { device = device; id = id; variables = vs } in
     let told = told_in n before in
     let full : said_by (Some ask) (pdu_of answer) ++ told ≡ told_in n (answered n device (pdu_of answer) datagram ∷ before) =
-        ap (λ (a : Option OpenAsk). said_by a (pdu_of answer) ++ told) (sym is)
-        ∙ sym (ap (λ (b : Bool). cond b (said_by (open_ask n before) (pdu_of answer) ++ told) told) (same_number n)) in
+    ap (λ (a : Option OpenAsk). said_by a (pdu_of answer) ++ told) (sym is)
+    ∙ sym (ap (λ (b : Bool). cond b (said_by (open_ask n before) (pdu_of answer) ++ told) told) (same_number n)) in
     record {
       bindings = subst (λ (all : List Variable). All (Contains all) own) full
-        (All-weaker (Contains own) (Contains (said_by (Some ask) (pdu_of answer) ++ told))
+          (All-weaker (Contains own) (Contains (said_by (Some ask) (pdu_of answer) ++ told))
           (λ v there. Contains-append_left (said_by (Some ask) (pdu_of answer)) told v (Contains-append_left own (ends_in (Some ask) (pdu_of answer)) v there)) own (All-contains_itself own));
       ends = λ no_such_name. subst (λ (all : List Variable). All (λ (v : Variable). Contains all (end_of v)) vs) full
-        (All-weaker (Contains vs) (λ (v : Variable). Contains (said_by (Some ask) (pdu_of answer) ++ told) (end_of v))
+          (All-weaker (Contains vs) (λ (v : Variable). Contains (said_by (Some ask) (pdu_of answer) ++ told) (end_of v))
           (λ v there. Contains-append_left (said_by (Some ask) (pdu_of answer)) told (end_of v) (Contains-append_right own (ends_in (Some ask) (pdu_of answer)) (end_of v)
-            (subst (λ (b : Bool). Contains (cond b (map end_of vs) []) (end_of v)) (sym no_such_name) (contains_map end_of vs v there)))) vs (All-contains_itself vs));
+          (subst (λ (b : Bool). Contains (cond b (map end_of vs) []) (end_of v)) (sym no_such_name) (contains_map end_of vs v there)))) vs (All-contains_itself vs));
     }
 
 -- as much is told as before
@@ -190,7 +190,7 @@ answered_all tables devices before next rs place r w device id answer datagram c
     let first = All-head (λ (m : WaitingMessage). question_in m ≡ Some q) r.first r.others.items group.asks in
     let told = told_in n (now ∷ before) in
     let after_now = after o q told first open_is.1 (says_all n o.device id (variables_of_task q o.task.task) answer datagram before asks)
-        (task_more tables q (told_in n before) told o.task.task (told_more n device (pdu_of answer) datagram before) open_stands.task) in
+    (task_more tables q (told_in n before) told o.task.task (told_more n device (pdu_of answer) datagram before) open_stands.task) in
     let new : WaitingRequest WaitingMessage Work = record { number = n; first = r.first; others = r.others; work = w } in
     let new_stands : GroupStands tables devices (now ∷ before) (group_of new) = record {
       question = q;
@@ -201,7 +201,7 @@ answered_all tables devices before next rs place r w device id answer datagram c
       record { ask = record { device = o.device; id = id; variables = variables_of_task q o.task.task }; is_open = asks; device_is = open_is.2; id_is = id_is; community = community; is_answer = response },
       record {
         all = subst (λ (gs : List Waiting). All (GroupStands tables devices (now ∷ before)) gs) (sym (groups_set rs place new))
-          (all_set (GroupStands tables devices before) (GroupStands tables devices (now ∷ before)) (groups_of rs) place (group_of r) (group_of new) stands.numbered.rise at stands.all new_stands
+            (all_set (GroupStands tables devices before) (GroupStands tables devices (now ∷ before)) (groups_of rs) place (group_of r) (group_of new) stands.numbered.rise at stands.all new_stands
             (λ x other known. others_answered tables devices n device (pdu_of answer) datagram before x other known));
         numbered = subst (λ (gs : List Waiting). AreNumbered next gs) (sym (groups_set rs place new)) (numbered_set next (groups_of rs) place (group_of r) (group_of new) at refl stands.numbered);
       },
@@ -245,7 +245,7 @@ asked_all agent devices before next rs new place device number id datagram withi
     let by = asked_by tables devices before r group in
     let vs = variables_of_task q o.task.task in
     let may_ask = subst (λ (x : WaitingRequest WaitingMessage Work). (p : OpenRequest) (c : Question) (told : List Variable) → x.work ≡ Open p → question_in x.first ≡ Some c → TaskStands tables c told p.task.task
-        → HoldsAt (λ (d : Device). MayAskFor tables d c told id (variables_of_task c p.task.task) datagram.items) devices device) (sym sets.is) (may r) in
+    → HoldsAt (λ (d : Device). MayAskFor tables d c told id (variables_of_task c p.task.task) datagram.items) devices device) (sym sets.is) (may r) in
     let now = asked r.number device id vs datagram.items in
     let a = sets.asked o work_is in
     let task : variables_of_task q a.0.task.task ≡ vs = ap (λ (t : NamedTask). variables_of_task q t.task) a.2 in
@@ -253,10 +253,10 @@ asked_all agent devices before next rs new place device number id datagram withi
       task = subst (λ (t : NamedTask). TaskStands tables q (told_in r.number before) t.task) (sym a.2) open_stands.task;
       device = subst (IsDeviceOf devices q.context) (sym a.3) open_stands.device;
       asked = λ other is.
-        let one = same_some id other (sym a.4 ∙ is) in
-        let first : open_ask r.number (now ∷ before) ≡ Some (record { device = device; id = id; variables = vs }) =
+          let one = same_some id other (sym a.4 ∙ is) in
+          let first : open_ask r.number (now ∷ before) ≡ Some (record { device = device; id = id; variables = vs }) =
           ap (λ (b : Bool). cond b (Some (record { device = device; id = id; variables = vs })) (open_ask r.number before)) (same_number r.number) in
-        first ∙ (λ i. Some (record { device = sym (a.3 ∙ on) i; id = one i; variables = sym task i }));
+          first ∙ (λ i. Some (record { device = sym (a.3 ∙ on) i; id = one i; variables = sym task i }));
     } in
     let h : WaitingRequest WaitingMessage Work = record { number = r.number; first = r.first; others = r.others; work = sets.work } in
     let h_stands : GroupStands tables devices (now ∷ before) (group_of h) = record {
@@ -271,7 +271,7 @@ asked_all agent devices before next rs new place device number id datagram withi
       lawful = (q, by, subst (IsDeviceOf devices q.context) on open_stands.device, may_ask o q (told_in r.number before) work_is by.asks open_stands.task);
       stands = record {
         all = subst (λ (gs : List Waiting). All (GroupStands tables devices (now ∷ before)) gs) (sym groups_are)
-          (all_set (GroupStands tables devices before) (GroupStands tables devices (now ∷ before)) (groups_of rs) place (group_of r) (group_of h) stands.numbered.rise at stands.all h_stands
+            (all_set (GroupStands tables devices before) (GroupStands tables devices (now ∷ before)) (groups_of rs) place (group_of r) (group_of h) stands.numbered.rise at stands.all h_stands
             (λ x other known. others_asked tables devices r.number device id vs datagram.items before x other known));
         numbered = subst (λ (gs : List Waiting). AreNumbered next gs) (sym groups_are) (numbered_set next (groups_of rs) place (group_of r) (group_of h) at refl stands.numbered);
       };
@@ -279,7 +279,7 @@ asked_all agent devices before next rs new place device number id datagram withi
 
 -- ---- an end, and a message that is answered
 
-pub ended_all : (tables : Tables) (devices : List Device) (before : List Happening) (next : ℕ) (gs new : List Waiting) (place : ℕ) (was : Work) (e : Ending) → ((q : Question) (told : List Variable) → EndingStands tables q told e)
+pub ended_all : (tables : Tables) (devices : List Device) (before : List Happening) (next : ℕ) (gs new : List Waiting) (place : ℕ) (was : Work) (e : RequestEnd) → ((q : Question) (told : List Variable) → EndingStands tables q told e)
     → IsWorked gs place was (Ends e) new → GroupsStand tables devices before next gs → GroupsStand tables devices before next new
 ended_all tables devices before next gs new place was e ends worked stands = record {
   all = all_worked (GroupStands tables devices before) gs new place was (Ends e) worked (λ g known. record {
@@ -310,7 +310,7 @@ pub message_gone : (tables : Tables) (devices : List Device) (before after : Lis
     → ((g : Waiting) → GroupStands tables devices before g → GroupStands tables devices after g) → IsAnswered gs place m new → GroupsStand tables devices before next gs → GroupsStand tables devices after next new
 message_gone tables devices before after next gs new place m keeps answer stands = record {
   all = all_answered (GroupStands tables devices after) gs new place m answer (fewer tables devices after m)
-    (All-weaker (GroupStands tables devices before) (GroupStands tables devices after) keeps gs stands.all);
+      (All-weaker (GroupStands tables devices before) (GroupStands tables devices after) keeps gs stands.all);
   numbered = numbered_answered next gs new place m answer stands.numbered;
 }
 
@@ -365,14 +365,19 @@ sent_all old new before place seconds salt r m client (reply.Sends datagram) out
     let lawful : IsLawful old.agent old.devices.list.items before (sent r.number m by datagram.items) = (
       subst (λ (x : WaitingMessage). IsAccepted before r.number x) first accepted_first,
       (λ q asked.
-        let one = same_some group.question q (sym asks ∙ ap question_in first ∙ asked) in
-        subst (λ (x : WaitingMessage). IsAnswerTo by old.agent.tables q (told_in r.number before) x.kept datagram.items) first
-        (subst (λ (x : Question). IsAnswerTo by old.agent.tables x (told_in r.number before) r.first.kept datagram.items) one law)),
+          let one = same_some group.question q (sym asks ∙ ap question_in first ∙ asked) in
+          subst (λ (x : WaitingMessage). IsAnswerTo by old.agent.tables q (told_in r.number before) x.kept datagram.items) first
+          (subst (λ (x : Question). IsAnswerTo by old.agent.tables x (told_in r.number before) r.first.kept datagram.items) one law)),
     ) in
-    let happens : SendHappens old before (out.ToClient r.number client datagram) new = (m, by, from, record {
-      lawful = lawful;
-      stands = left_stands old new before (sent r.number m by datagram.items ∷ before) place m (sent_keeps old.agent.tables old.devices.list.items before r.number m by datagram.items) left stands;
-    }) in
+    let happens : SendHappens old before (out.ToClient r.number client datagram) new = (
+      m,
+      by,
+      from,
+      record {
+        lawful = lawful;
+        stands = left_stands old new before (sent r.number m by datagram.items ∷ before) place m (sent_keeps old.agent.tables old.devices.list.items before r.number m by datagram.items) left stands;
+      },
+    ) in
     subst (λ (o : Sent). SendHappens old before o new) (sym sends) happens
 sent_all old new before place seconds salt r m client reply.Nothing output within is left from replies sends stands =
     subst (λ (o : Sent). SendHappens old before o new) (sym sends) (left_stands old new before before place m (λ g known. known) left stands)
@@ -381,7 +386,7 @@ sent_all old new before place seconds salt r m client reply.SilentDrop output wi
 sent_all old new before place seconds salt r m client (reply.Refused why) output within is left from replies sends stands =
     subst (λ (o : Sent). SendHappens old before o new) (sym sends) (left_stands old new before before place m (λ g known. known) left stands)
 
-pub given_up : (tables : Tables) (e : Ending) → IsGivenUp e → (q : Question) (told : List Variable) → EndingStands tables q told e
+pub given_up : (tables : Tables) (e : RequestEnd) → IsGivenUp e → (q : Question) (told : List Variable) → EndingStands tables q told e
 given_up tables ending.Silent is q told = tt
 given_up tables (ending.Unhandled why) is q told = tt
 given_up tables _ is q told = absurd is

@@ -113,11 +113,11 @@ ends_at : {X : Type 0} (progress : X → Progress) (xs : List X) (number : ℕ) 
     → (name : List ℕ) → Asks (progress (slice_index_or xs number d)) name
     → (v : Variable) × Contains told v × HoldsAt (λ (x : X). (n : List ℕ) → Asks (progress x) n → IsException EndOfMibView n v) xs number
 ends_at {X} progress xs number d told within all name asks = (
-    end_of (unspecified name),
-    All-contains (λ (v : Variable). Contains told (end_of v)) (flat_map (λ (x : X). variables_in (progress x)) xs) (unspecified name) all
+  end_of (unspecified name),
+  All-contains (λ (v : Variable). Contains told (end_of v)) (flat_map (λ (x : X). variables_in (progress x)) xs) (unspecified name) all
       (in_flat (λ (x : X). variables_in (progress x)) xs number d (unspecified name) within (variable_asked (progress (slice_index_or xs number d)) name asks)),
-    (λ e n also. is_end name n (asks_one_name (progress (slice_index_or xs number d)) name n asks (subst (λ (x : X). Asks (progress x) n) (get_or_default xs number e d within) also))),
-  )
+  (λ e n also. is_end name n (asks_one_name (progress (slice_index_or xs number d)) name n asks (subst (λ (x : X). Asks (progress x) n) (get_or_default xs number e d within) also))),
+)
 
 pub tells : (Seen : List ℕ → Type 0) (told : List Variable) (answer : Pdu) (old new : Dialogue) (becomes : Answered) → SaysAll (asked_variables old) answer told → IsAnswered Seen answer old new becomes → Tells old answer becomes told
 tells Seen told answer old new answered.Taken says is = says.bindings

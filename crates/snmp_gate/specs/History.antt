@@ -4,7 +4,8 @@
 -- a device was asked for it, and didn't answer. `IsLawful`: the laws, of what happens after a history. `IsAccepted`: a
 -- message was accepted. `MayAskFor`: the law inwards, what a device may be asked. `IsAnswerOf`: whose answer it is.
 -- `IsAnswerTo` has the law outwards. `Mediated`: each part of a history is lawful after the parts before it.
-use Rattle.std.specs.Prelude.{◌≡◌, ◌≢◌, ◌⊎◌, ◌/◌, ⊤, ℕ, pos, cond, nat_eq, List, [], ◌∷◌, ◌++◌, All, Contains, Option, Some, None, map, Ok}
+use Rattle.std.specs.Prelude.{◌≡◌, ◌≢◌, ◌⊎◌, ◌/◌, ⊤, ℕ, pos, cond, nat_eq, All, Contains, Option, Some, None, map, Ok}
+use Rattle.std.specs.Prelude.{List, [], ◌∷◌, ◌++◌}
 use Rattle.std.specs.Global.{Vec}
 use Rattle.std.specs.List.{HoldsAt}
 use Rattle.snmp_msg.specs.Pdu.{PduParts}

@@ -1,7 +1,7 @@
 -- What goes out of what becomes of a message.
 --
--- `RepliesTo`: what becomes of a message of a request that ends. `IsSentBy`: what is sent of it. `IsOpenAt`, `IsAskedAt`:
--- the request at a place. `MayAskAt`: a datagram that may be sent for it. `SetsAsked`: its device is asked.
+-- `RepliesTo`: what becomes of a message of a request that ends. `IsSentBy`: what is sent of it. `IsOpenAt` and
+-- `IsAskedAt`: the request at a place. `MayAskAt`: a datagram that may be sent for it. `SetsAsked`: its device is asked.
 use Rattle.std.specs.Prelude.{◌≡◌, ⊤, ℕ, List, Some, None, slice_index_or, slice_set}
 use Rattle.std.specs.Global.{Vec}
 use Rattle.snmp_msg.specs.Variables.{Variable}
@@ -21,8 +21,8 @@ use Rattle.snmp_gate.specs.declared.reply.Reply.TheVariants as reply
 use Rattle.snmp_gate.specs.declared.devices.Device.{Device}
 use Rattle.snmp_gate.specs.declared.requests.WaitingRequest.{WaitingRequest}
 use Rattle.snmp_gate.specs.declared.waiting_message.WaitingMessage.{WaitingMessage}
-use Rattle.snmp_gate.specs.declared.work.Ending.{Ending}
-use Rattle.snmp_gate.specs.declared.work.Ending.TheVariants as ending
+use Rattle.snmp_gate.specs.declared.work.RequestEnd.{RequestEnd}
+use Rattle.snmp_gate.specs.declared.work.RequestEnd.TheVariants as ending
 use Rattle.snmp_gate.specs.declared.work.OpenRequest.{OpenRequest}
 use Rattle.snmp_gate.specs.declared.work.Work.{Work}
 use Rattle.snmp_gate.specs.declared.work.Work.TheVariants.{Open, Ends}
@@ -75,7 +75,7 @@ pub record SetsAsked (old : Requests) (place id : ℕ) (new : Requests) : Type 0
     work = work;
   })
 
-abbrev pub IsGivenUp : Ending → Type 0
+abbrev pub IsGivenUp : RequestEnd → Type 0
 IsGivenUp ending.Silent = ⊤
 IsGivenUp (ending.Unhandled why) = ⊤
 IsGivenUp _ = ⊥

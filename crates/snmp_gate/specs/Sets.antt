@@ -38,6 +38,12 @@ pub record IsPlace (digest : List ℕ) (sets : List RememberedSet) (place : ℕ)
 abbrev pub new_set : ℕ → List ℕ → RememberedSet
 new_set now digest = record { digest = digest; came = now; outcome = None }
 
+-- what a Set is that comes, by what is remembered
+abbrev pub IsNote : List ℕ → List RememberedSet → SetNote → Type 0
+IsNote digest sets New = IsUnknown digest sets × (length sets < SETS_LIMIT)
+IsNote digest sets (Repeated outcome) = (set : RememberedSet) × HasDigest digest sets set × (set.outcome ≡ outcome)
+IsNote digest sets NoRoom = IsUnknown digest sets × (SETS_LIMIT ≤ length sets)
+
 -- what a Set is that comes now, by what was remembered, and what is remembered then
 abbrev pub IsNoted : ℕ → List ℕ → List RememberedSet → List RememberedSet → SetNote → Type 0
 IsNoted now digest old new New = IsUnknown digest (lasting now old)

@@ -1,8 +1,8 @@
 -- What is known of the requests that wait at a gateway, by what happened before.
 --
 -- `OpenStands`: a request whose device is asked, or is to be asked. `GroupStands`: a request with its messages.
--- `GateStands`: all of a gateway. `ClientHappens`, `DeviceHappens`, `SendHappens`: what happens by a call, and that it is
--- lawful after what happened before. `SameWaiting`: the same requests wait.
+-- `GateStands`: all of a gateway. `ClientHappens`, `DeviceHappens`, `SendHappens`: what happens by a call, and that it
+-- is lawful after what happened before. `SameWaiting`: the same requests wait.
 use Rattle.std.specs.Prelude.{◌≡◌, ◌<◌, ⊤, ℕ, List, ◌∷◌, All, AllPairs, Some}
 use Rattle.std.specs.List.{HoldsAt}
 use Rattle.snmp_msg.specs.Pdu.{PduParts}

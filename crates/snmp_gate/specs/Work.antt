@@ -23,8 +23,8 @@ use Rattle.snmp_gate.specs.declared.onward.Onward.TheVariants.{Asks, Ends}
 use Rattle.snmp_gate.specs.declared.set_answer.ResponseStatus.{ResponseStatus}
 use Rattle.snmp_gate.specs.declared.set_answer.TheConstants.{NO_ERROR, NO_SUCH_NAME}
 use Rattle.snmp_gate.specs.declared.onward.TheConstants.{END_OF_MIB_VIEW}
-use Rattle.snmp_gate.specs.declared.work.Ending.{Ending}
-use Rattle.snmp_gate.specs.declared.work.Ending.TheVariants as ending
+use Rattle.snmp_gate.specs.declared.work.RequestEnd.{RequestEnd}
+use Rattle.snmp_gate.specs.declared.work.RequestEnd.TheVariants as ending
 use Rattle.snmp_gate.specs.declared.task.Task.{Task}
 use Rattle.snmp_gate.specs.declared.task.Task.TheVariants as task
 
@@ -81,7 +81,7 @@ abbrev pub IsOwnStatus : Question → ResponseStatus → Type 0
 IsOwnStatus q says = says.status ≡ NO_ERROR → q.tag ≡ pdu_tag SetRequest
 
 -- how a request ends
-abbrev pub EndingStands : Tables → Question → List Variable → Ending → Type 0
+abbrev pub EndingStands : Tables → Question → List Variable → RequestEnd → Type 0
 EndingStands tables q told (ending.Columns whole) =
     (operation : ReadOperation) × ReadStands tables q told operation whole.dialogue
 EndingStands tables q told (ending.Front d) = BulkStandsFor tables q told d

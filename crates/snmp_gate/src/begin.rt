@@ -15,7 +15,7 @@ use crate::onward::{Onward, bulk_on, read_on};
 use crate::refused_access::{AccessRefusal, access_refusal};
 use crate::set_answer::{AUTHORIZATION_ERROR, NO_ACCESS, ResponseStatus};
 use crate::viewing::answers_of;
-use crate::work::Ending;
+use crate::work::RequestEnd;
 use snmp_agent::Unhandled;
 use snmp_msg::{Pdu, PduType};
 use snmp_responder::Viewer;
@@ -24,19 +24,19 @@ use std::alloc::{AllocError, Global};
 use vacm_core::ViewType;
 
 /// Returns how a request ends that isn't asked of its device.
-pub(crate) fn ending_of(refusal: AccessRefusal) -> Ending
+pub(crate) fn ending_of(refusal: AccessRefusal) -> RequestEnd
     ensures { (tables : Tables) (q : Question) (told : List Variable) → EndingStands tables q told result }
 {
     match refusal {
-        AccessRefusal::AuthorizationError => Ending::Own(ResponseStatus {
+        AccessRefusal::AuthorizationError => RequestEnd::Own(ResponseStatus {
             status: AUTHORIZATION_ERROR,
             index: 0,
         }),
-        AccessRefusal::NoAccess(number) => Ending::Own(ResponseStatus {
+        AccessRefusal::NoAccess(number) => RequestEnd::Own(ResponseStatus {
             status: NO_ACCESS,
             index: i32::try_from(number).unwrap_or(0),
         }),
-        AccessRefusal::UnknownContext => Ending::Unhandled(Unhandled::UnknownContexts),
+        AccessRefusal::UnknownContext => RequestEnd::Unhandled(Unhandled::UnknownContexts),
     }
 }
 
@@ -97,7 +97,5 @@ pub(crate) fn begin(
     if pdu.tag == PduType::GetNextRequest.tag() {
         return begin_read(alloc, viewer, ReadOperation::GetNext, pdu, limits);
     }
-    Ok(Onward::Ends(Ending::Unhandled(
-        Unhandled::UnknownPduHandlers,
-    )))
+    Ok(Onward::Ends(RequestEnd::Unhandled(Unhandled::UnknownPduHandlers)))
 }

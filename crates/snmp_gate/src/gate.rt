@@ -1,5 +1,8 @@
 //! The gateway: what comes in, and what goes out.
 
+ghost use Rattle.std.specs.Prelude.{◌≡◌, [], length, IfOk};
+ghost use Rattle.snmp_gate.specs.Waiting.{GateStands};
+
 use crate::asks::DeviceAsks;
 use crate::devices::{Device, Devices};
 use crate::limits::GateLimits;
@@ -97,14 +100,19 @@ pub struct Gate {
 }
 
 impl Gate {
-    /// Returns a gateway to these devices, which no datagram has reached. Its users, its tables and its counters are the
-    /// agent's. The error is out of memory.
+    /// Returns a gateway to these devices, which no datagram has reached. Its users, its tables and its counters are
+    /// the agent's. The error is out of memory.
     pub fn new(
         alloc: Global,
         agent: Agent,
         devices: Devices,
         limits: GateLimits,
-    ) -> Result<Gate, AllocError> {
+    ) -> Result<Gate, AllocError>
+        ensures stands { IfOk result (GateStands []) }
+        ensures agent { IfOk result (λ gate. gate.agent ≡ agent) }
+        ensures devices { IfOk result (λ gate. gate.devices ≡ devices) }
+        ensures none { IfOk result (λ gate. gate.requests.list.items ≡ []) }
+    {
         let asks = asks_of(alloc, devices.list())?;
         Ok(Gate {
             alloc,
@@ -118,13 +126,16 @@ impl Gate {
     }
 
     /// Returns the agent, for its counters.
-    pub fn agent(&self) -> &Agent {
+    pub fn agent(&self) -> &Agent
+        ensures { result.now ≡ self.now.agent }
+    {
         &self.agent
     }
 
     /// Returns how many requests wait.
-    pub fn waiting(&self) -> usize {
+    pub fn waiting(&self) -> usize
+        ensures { result ≡ length self.now.requests.list.items }
+    {
         self.requests.requests().len()
     }
 }
-

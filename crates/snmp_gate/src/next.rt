@@ -20,7 +20,7 @@ use crate::set_answer::{ResponseStatus, TOO_BIG};
 use crate::task::Task;
 use crate::timer::Due;
 use crate::waiting_message::WaitingMessage;
-use crate::work::{Ending, OpenRequest, Todo, Work};
+use crate::work::{RequestEnd, OpenRequest, Todo, Work};
 use snmp_agent::{Agent, Unhandled};
 use std::alloc::{AllocError, Global};
 
@@ -66,7 +66,7 @@ fn earlier(due: Option<u64>, at: u64) -> u64 {
 }
 
 /// Returns what becomes of the first message of a request that ends. None: the request doesn't end.
-fn replied(
+fn reply_now(
     alloc: Global,
     agent: &mut Agent,
     request: &WaitingRequest<WaitingMessage, Work>,
@@ -96,13 +96,13 @@ fn replied(
 /// Returns what the Response says of a request as a whole, if it has the request's own bindings.
 fn said_of(work: &Work) -> Option<ResponseStatus> {
     match work {
-        Work::Ends(Ending::Own(says)) => Some(*says),
+        Work::Ends(RequestEnd::Own(says)) => Some(*says),
         _ => None,
     }
 }
 
 /// tooBig: a device can't be asked by a datagram that it takes.
-const TOO_LONG: Ending = Ending::Own(ResponseStatus {
+const TOO_LONG: RequestEnd = RequestEnd::Own(ResponseStatus {
     status: TOO_BIG,
     index: 0,
 });
@@ -116,12 +116,7 @@ fn is_set_at(work: &Work) -> bool {
 }
 
 /// The device is asked now with this request-id for the request at this place.
-fn set_asked(
-    requests: &mut WaitingRequests<WaitingMessage, Work>,
-    place: usize,
-    now: u64,
-    id: u32,
-)
+fn set_asked(requests: &mut WaitingRequests<WaitingMessage, Work>, place: usize, now: u64, id: u32)
     requires { place < length requests.old.list.items }
     ensures asked { SetsAsked requests.old.list.items place id requests.new.list.items }
     ensures next { requests.new.next ≡ requests.old.next }
@@ -225,7 +220,7 @@ impl Gate {
         let number = request.number;
         let said = said_of(&request.work);
         let seconds = now / 1000;
-        let reply = replied(
+        let reply = reply_now(
             self.alloc,
             &mut self.agent,
             request,
@@ -363,14 +358,14 @@ impl Gate {
 
     /// Returns how the request at this place ends that is given up. A Set isn't answered, since its device may have
     /// done it.
-    fn given_up_at(&self, place: usize) -> Ending
+    fn given_up_at(&self, place: usize) -> RequestEnd
         requires { place < length self.now.requests.list.items }
         ensures { IsGivenUp result }
     {
         if !self.limits.report_unreachable || is_set_at(&self.requests.list[place].work) {
-            return Ending::Silent;
+            return RequestEnd::Silent;
         }
-        Ending::Unhandled(Unhandled::UnavailableContexts)
+        RequestEnd::Unhandled(Unhandled::UnavailableContexts)
     }
 
     /// Gives up the request at this place.

@@ -14,7 +14,7 @@ use crate::named_task::NamedTask;
 use crate::set_answer::{GEN_ERR, NO_SUCH_NAME, ResponseStatus, TOO_BIG};
 use crate::task::Task;
 use crate::whole_dialogue::WholeDialogue;
-use crate::work::Ending;
+use crate::work::RequestEnd;
 use snmp_msg::Pdu;
 use snmp_responder::Viewer;
 use snmp_walk::{
@@ -32,7 +32,7 @@ pub enum Onward {
     /// Its device is to be asked this.
     Asks(NamedTask),
     /// It ends so.
-    Ends(Ending),
+    Ends(RequestEnd),
 }
 
 /// What a device's answer is to a request.
@@ -98,8 +98,8 @@ pub(crate) fn read_on(
         Next::Asks => Onward::Asks(NamedTask {
             task: Task::Read(operation, dialogue),
         }),
-        Next::Ends => Onward::Ends(Ending::Columns(WholeDialogue { dialogue })),
-        Next::RoundsUsedUp(number) => Onward::Ends(Ending::Own(gen_err(Some(number)))),
+        Next::Ends => Onward::Ends(RequestEnd::Columns(WholeDialogue { dialogue })),
+        Next::RoundsUsedUp(number) => Onward::Ends(RequestEnd::Own(gen_err(Some(number)))),
     }
 }
 
@@ -113,8 +113,8 @@ pub(crate) fn bulk_on(mut dialogue: BulkDialogue, viewer: &Viewer<'_>) -> Onward
         BulkNext::Asks(by) => Onward::Asks(NamedTask {
             task: Task::Bulk(by, dialogue),
         }),
-        BulkNext::Ends => Onward::Ends(Ending::Front(dialogue)),
-        BulkNext::RoundsUsedUp(number) => Onward::Ends(Ending::Own(gen_err(Some(number)))),
+        BulkNext::Ends => Onward::Ends(RequestEnd::Front(dialogue)),
+        BulkNext::RoundsUsedUp(number) => Onward::Ends(RequestEnd::Own(gen_err(Some(number)))),
     }
 }
 
@@ -179,27 +179,22 @@ fn after_task(named: NamedTask, is_front: bool, viewer: &Viewer<'_>, late: bool)
         Task::Read(operation, dialogue) => read_on(operation, dialogue, viewer),
         Task::Bulk(_, dialogue) => {
             if is_front || (late && dialogue.has_repetition()) {
-                return Onward::Ends(Ending::Front(dialogue));
+                return Onward::Ends(RequestEnd::Front(dialogue));
             }
             bulk_on(dialogue, viewer)
         }
-        Task::Set => Onward::Ends(Ending::Silent),
+        Task::Set => Onward::Ends(RequestEnd::Silent),
     }
 }
 
 /// Returns how a request goes on after its device's answer.
-pub(crate) fn after(
-    named: NamedTask,
-    taken: AnswerTaken,
-    viewer: &Viewer<'_>,
-    late: bool,
-) -> Onward
+pub(crate) fn after(named: NamedTask, taken: AnswerTaken, viewer: &Viewer<'_>, late: bool) -> Onward
     ensures { (tables : Tables) (q : Question) (told : List Variable) → IsViewerOf tables q viewer.now
         → IsEndFor q taken
         → TaskStands tables q told named.task → OnwardStands tables q told result }
 {
     match taken {
-        AnswerTaken::Ends(status) => Onward::Ends(Ending::Own(status)),
+        AnswerTaken::Ends(status) => Onward::Ends(RequestEnd::Own(status)),
         AnswerTaken::Front => after_task(named, true, viewer, late),
         AnswerTaken::GoesOn => after_task(named, false, viewer, late),
     }

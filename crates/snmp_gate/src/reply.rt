@@ -7,7 +7,8 @@ ghost use Rattle.snmp_message.specs.declared.refusal.Refusal.TheVariants.{TooLar
 ghost use Rattle.snmp_incoming.specs.Answers.{given_of};
 ghost use Rattle.snmp_gate.specs.Question.{Question};
 ghost use Rattle.snmp_gate.specs.Messages.{question_given, question_in};
-ghost use Rattle.snmp_gate.specs.Replies.{IsFrontSentOr, IsOwnList, IsReplyTo, IsReportedOr, IsSentOr, IsTooBigOr, SameAgent};
+ghost use Rattle.snmp_gate.specs.Replies.{IsFrontSentOr, IsOwnList, IsReplyTo, IsReportedOr, IsSentOr};
+ghost use Rattle.snmp_gate.specs.Replies.{IsTooBigOr, SameAgent};
 ghost use Rattle.snmp_gate.specs.Replies.{answering, told_with};
 ghost use Rattle.snmp_gate.specs.Work.{BulkStandsFor, EndingStands, IsOwnStatus, ReadStands};
 ghost use Rattle.snmp_walk.specs.declared.operation.ReadOperation.{ReadOperation};
@@ -18,7 +19,7 @@ use crate::set_ask::bindings_of;
 use crate::viewing::pdu_of;
 use crate::waiting_message::WaitingMessage;
 use crate::whole_dialogue::WholeDialogue;
-use crate::work::Ending;
+use crate::work::RequestEnd;
 use snmp_agent::{Agent, Unhandled};
 use snmp_ber::Level;
 use snmp_incoming::Taken;
@@ -267,7 +268,7 @@ pub(crate) fn reply_to(
     alloc: Global,
     agent: &mut Agent,
     message: &WaitingMessage,
-    ending: &Ending,
+    ending: &RequestEnd,
     sealing: &Sealing,
 ) -> Result<Reply, AllocError>
     ensures sent { IfOk result (λ reply. (q : Question) (said : List Variable)
@@ -279,11 +280,11 @@ pub(crate) fn reply_to(
 {
     let taken = message.kept.taken();
     match ending {
-        Ending::Columns(whole) => reply_columns(alloc, agent, &taken, whole, sealing),
-        Ending::Front(dialogue) => reply_bulk(alloc, agent, &taken, dialogue, sealing),
-        Ending::Own(says) => reply_own(alloc, agent, &taken, *says, sealing),
-        Ending::Unhandled(why) => reply_unhandled(agent, &taken, *why, sealing),
-        Ending::Silent => Ok(Reply::Nothing),
+        RequestEnd::Columns(whole) => reply_columns(alloc, agent, &taken, whole, sealing),
+        RequestEnd::Front(dialogue) => reply_bulk(alloc, agent, &taken, dialogue, sealing),
+        RequestEnd::Own(says) => reply_own(alloc, agent, &taken, *says, sealing),
+        RequestEnd::Unhandled(why) => reply_unhandled(agent, &taken, *why, sealing),
+        RequestEnd::Silent => Ok(Reply::Nothing),
     }
 }
 
@@ -303,7 +304,15 @@ pub(crate) fn fits_client(
     let index = i32::try_from(bindings.len()).unwrap_or(i32::MAX);
     let limit = limit_of(taken.level, taken.max_size, message.size, limits);
     let salt = [0; 8];
-    match agent.respond_within_of(now, &taken, INCONSISTENT_NAME, index, &bindings, salt, limit) {
+    match agent.respond_within_of(
+        now,
+        &taken,
+        INCONSISTENT_NAME,
+        index,
+        &bindings,
+        salt,
+        limit,
+    ) {
         Ok(_) => Ok(true),
         Err(refused) if refused.is_memory() => Err(AllocError),
         Err(refused) => Ok(refused.refusal != Refusal::TooLarge),

@@ -15,7 +15,10 @@ use snmp_msg::{Pdu, PduType, VariableBinding, one_pdu};
 use std::alloc::{AllocError, Global};
 
 /// Returns the bindings of a PDU that was read.
-pub(crate) fn bindings_of<'a>(alloc: Global, request: &Pdu<'a>) -> Result<Vec<VariableBinding<'a>>, AllocError>
+pub(crate) fn bindings_of<'a>(
+    alloc: Global,
+    request: &Pdu<'a>,
+) -> Result<Vec<VariableBinding<'a>>, AllocError>
     requires { (vs : List Variable) × AreBindings vs request.now.list.now }
     ensures says { IfOk result (λ v. AreBindings (map bound_variable v.items) request.now.list.now) }
     ensures tags { IfOk result (λ v. All (λ b. IsTag b.tag) v.items) }

@@ -25,11 +25,11 @@ use crate::reply::{Sealing, fits_client};
 use crate::requests::{Joined, WaitingRequest};
 use crate::set_answer::{NO_ACCESS, NO_ERROR, RESOURCE_UNAVAILABLE, ResponseStatus, TOO_BIG};
 use crate::sets::{SetNote, set_digest};
+use crate::task::Task;
 use crate::timer::Timer;
 use crate::viewing::{answers_of, pdu_of, viewer_of};
 use crate::waiting_message::WaitingMessage;
-use crate::task::Task;
-use crate::work::{Ending, OpenRequest, Work};
+use crate::work::{RequestEnd, OpenRequest, Work};
 use snmp_agent::Unhandled;
 use snmp_incoming::{Kept, Taken};
 use snmp_msg::PduType;
@@ -54,10 +54,10 @@ fn place_of(
 }
 
 /// Returns the end of a request by a Response with this status, and the request's own bindings.
-fn own(status: i32, index: i32) -> Ending
+fn own(status: i32, index: i32) -> RequestEnd
     ensures { (tables : Tables) (q : Question) (told : List Variable) → IsSet q → EndingStands tables q told result }
 {
-    Ending::Own(ResponseStatus { status, index })
+    RequestEnd::Own(ResponseStatus { status, index })
 }
 
 /// Returns what becomes of a request that goes on so, and which came now.
@@ -89,7 +89,7 @@ fn asks_set(work: &Work) -> bool {
 #[derive(Drop)]
 struct SetAccess {
     /// Its end, if one of its variables may not be set.
-    refused: Option<Ending>,
+    refused: Option<RequestEnd>,
     /// How many variables it sets.
     bindings: usize,
 }
@@ -194,7 +194,7 @@ impl Gate {
             → GateStands before self.old → TakenIn before at datagram message taken self.new) }
     {
         let digest = message.digest;
-        match self.noted_again(now, digest)? {
+        match self.note_again(now, digest)? {
             SetNote::New => {}
             SetNote::Repeated(_) => return Ok(ClientTaken::SetOfBefore),
             SetNote::NoRoom => return Ok(ClientTaken::NoRoom),
@@ -211,7 +211,7 @@ impl Gate {
     }
 
     /// Notes a datagram that asks again what waits, if it is of a Set, and returns what it is then.
-    fn noted_again(&mut self, now: u64, digest: Option<[u8; 32]>) -> Result<SetNote, AllocError>
+    fn note_again(&mut self, now: u64, digest: Option<[u8; 32]>) -> Result<SetNote, AllocError>
         ensures agent { self.new.agent ≡ self.old.agent }
         ensures devices { self.new.devices ≡ self.old.devices }
         ensures requests { self.new.requests ≡ self.old.requests }
@@ -250,7 +250,7 @@ impl Gate {
         let Some(work) = self.first_work(now, &message, unhandled)? else {
             return Ok(ClientTaken::SetOfBefore);
         };
-        let noted = self.noted(now, &work, message.digest)?;
+        let noted = self.note_asked(now, &work, message.digest)?;
         match self.requests.begin(self.alloc, message, work) {
             Ok(number) => Ok(ClientTaken::Begins(number)),
             Err(none) => {
@@ -261,7 +261,7 @@ impl Gate {
     }
 
     /// Notes a Set whose device is to be asked, and returns its digest if it is one.
-    fn noted(
+    fn note_asked(
         &mut self,
         now: u64,
         work: &Work,
@@ -295,7 +295,7 @@ impl Gate {
         ensures requests { self.new.requests ≡ self.old.requests }
     {
         match unhandled {
-            Some(why) => Ok(Some(Work::Ends(Ending::Unhandled(why)))),
+            Some(why) => Ok(Some(Work::Ends(RequestEnd::Unhandled(why)))),
             None => self.handled_work(now, message),
         }
     }
@@ -316,9 +316,7 @@ impl Gate {
     {
         let taken = message.kept.taken();
         let Some(device) = self.devices.find(taken.scoped().name) else {
-            return Ok(Some(Work::Ends(Ending::Unhandled(
-                Unhandled::UnknownContexts,
-            ))));
+            return Ok(Some(Work::Ends(RequestEnd::Unhandled(Unhandled::UnknownContexts))));
         };
         if pdu_of(&taken).tag != PduType::SetRequest.tag() {
             let onward = self.begin_read(device, &taken)?;
@@ -368,7 +366,7 @@ impl Gate {
         };
         let note = self.sets.look(now, &digest);
         match note {
-            SetNote::Repeated(Some(says)) => Ok(SetBegins::Onward(Onward::Ends(Ending::Own(says)))),
+            SetNote::Repeated(Some(says)) => Ok(SetBegins::Onward(Onward::Ends(RequestEnd::Own(says)))),
             SetNote::Repeated(None) => Ok(SetBegins::Unknown),
             SetNote::New => self.begin_new_set(now, device, message, false),
             SetNote::NoRoom => self.begin_new_set(now, device, message, true),
@@ -394,14 +392,9 @@ impl Gate {
             return Ok(SetBegins::Onward(Onward::Ends(ending)));
         }
         if is_full {
-            return Ok(SetBegins::Onward(Onward::Ends(own(
-                RESOURCE_UNAVAILABLE,
-                0,
-            ))));
+            return Ok(SetBegins::Onward(Onward::Ends(own(RESOURCE_UNAVAILABLE, 0))));
         }
-        Ok(SetBegins::Onward(Onward::Asks(NamedTask {
-            task: Task::Set,
-        })))
+        Ok(SetBegins::Onward(Onward::Asks(NamedTask { task: Task::Set })))
     }
 
     /// Returns the end of a Set that isn't asked of its device, whatever is remembered.
@@ -410,7 +403,7 @@ impl Gate {
         now: u64,
         device: usize,
         message: &WaitingMessage,
-    ) -> Result<Option<Ending>, AllocError>
+    ) -> Result<Option<RequestEnd>, AllocError>
         requires { device < length self.old.devices.list.items }
         ensures ends { IfOk result (λ refused. IfSome refused (λ ending. (q : Question) (told : List Variable)
             → IsSet q → EndingStands self.old.agent.tables q told ending)) }
@@ -420,8 +413,7 @@ impl Gate {
         ensures devices { self.new.devices ≡ self.old.devices }
         ensures requests { self.new.requests ≡ self.old.requests }
     {
-        let SetAccess { refused, bindings } =
-            set_access(self.alloc, self.agent.tables(), message)?;
+        let SetAccess { refused, bindings } = set_access(self.alloc, self.agent.tables(), message)?;
         if let Some(ending) = refused {
             return Ok(Some(ending));
         }

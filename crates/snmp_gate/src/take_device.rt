@@ -24,7 +24,7 @@ use crate::set_answer::set_outcome;
 use crate::task::Task;
 use crate::viewing::{pdu_of, viewer_of};
 use crate::waiting_message::WaitingMessage;
-use crate::work::{Ending, OpenRequest, Work};
+use crate::work::{RequestEnd, OpenRequest, Work};
 use snmp_msg::Pdu;
 use snmp_responder::Viewer;
 use std::alloc::{AllocError, Global};
@@ -48,11 +48,7 @@ fn take_task(
     match &mut named.task {
         Task::Read(_, dialogue) => take_read(alloc, dialogue, viewer, answer),
         Task::Bulk(_, dialogue) => take_bulk(alloc, dialogue, viewer, answer),
-        Task::Set => Ok(AnswerTaken::Ends(set_outcome(
-            answer.second,
-            answer.third,
-            bindings,
-        ))),
+        Task::Set => Ok(AnswerTaken::Ends(set_outcome(answer.second, answer.third, bindings))),
     }
 }
 
@@ -70,7 +66,7 @@ fn work_after(asked: OpenRequest, taken: AnswerTaken, viewer: &Viewer<'_>, late:
     match after(task, taken, viewer, late) {
         Onward::Asks(task) => Work::Open(OpenRequest {
             device,
-            timer: timer.answered(),
+            timer: timer.with_answer(),
             asked: None,
             task,
         }),
@@ -168,7 +164,7 @@ fn take_answer(
         return Ok(());
     };
     let became = take_open(alloc, waiting, message, tables, answer)?;
-    let old = mem::replace(work, Work::Ends(Ending::Silent));
+    let old = mem::replace(work, Work::Ends(RequestEnd::Silent));
     *work = after_answer(old, became, message, tables, lateness);
     Ok(())
 }

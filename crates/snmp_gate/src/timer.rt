@@ -101,7 +101,7 @@ impl Timer {
     }
 
     /// Returns the timer after the device answered: it is to be asked for what is left.
-    pub fn answered(self) -> Timer
+    pub fn with_answer(self) -> Timer
         ensures began { result.began ≡ self.began }
         ensures turn { result.turn ≡ Turn.ToAsk }
     {
@@ -109,13 +109,5 @@ impl Timer {
             began: self.began,
             turn: Turn::ToAsk,
         }
-    }
-
-    /// The device answered, and is to be asked for what is left.
-    pub fn answer(&mut self)
-        ensures began { self.new.began ≡ self.old.began }
-        ensures turn { self.new.turn ≡ Turn.ToAsk }
-    {
-        self.turn = Turn::ToAsk;
     }
 }

@@ -52,14 +52,16 @@ pub(crate) fn answers_of(
     let mut answers = Vec::new(alloc);
     for binding in pdu.variable_bindings() {
         let name = binding.name.oid();
-        answers.push(viewer.vacm.is_access_allowed(
-            viewer.model,
-            viewer.name,
-            viewer.level,
-            view,
-            viewer.context,
-            &name,
-        ))?;
+        answers.push(
+            viewer.vacm.is_access_allowed(
+                viewer.model,
+                viewer.name,
+                viewer.level,
+                view,
+                viewer.context,
+                &name,
+            ),
+        )?;
     }
     Ok(answers)
 }

@@ -9,7 +9,7 @@ use snmp_walk::BulkDialogue;
 
 /// How a request ends.
 #[derive(Drop)]
-pub enum Ending {
+pub enum RequestEnd {
     /// A Response without an error, with a binding of each column.
     Columns(WholeDialogue),
     /// A Response without an error, with the front of what a GetBulkRequest asks for.
@@ -39,7 +39,7 @@ pub enum Work {
     /// Its device is to be asked, or to answer.
     Open(OpenRequest),
     /// Its messages can be answered.
-    Ends(Ending),
+    Ends(RequestEnd),
 }
 
 /// What is to be done for a request now.

@@ -84,7 +84,7 @@ fn a_request_that_is_not_asked_is_given_up(rt: HostRuntime) -> Result<(), Fail> 
         (timer.due(&retries, u64::MAX), timer.due_at(&retries)),
         (Due::Nothing, u64::MAX)
     );
-    timer.answer();
+    let timer = timer.with_answer();
     assert_eq!(rt; timer.due(&retries, u64::MAX - 11), Due::Nothing);
     Ok(())
 }

@@ -18,6 +18,6 @@ returns-in_ok-datagram-in-Bulk c tables q told asked stands =
 pub returns-in-Set : goal.returns-in-Set
 returns-in-Set c =
     on_ok c.set_ask.result _ _ (λ asked some. on_some asked _ _ (λ v may tables q told is stands.
-      subst (λ (t : Task). MayAskFor tables c.args.device.now q told c.args.id (variables_of_task q t) v.items) (sym c.in-Set.is)
-      (may tables q told is (subst (TaskStands tables q told) c.in-Set.is stands))) some)
+    subst (λ (t : Task). MayAskFor tables c.args.device.now q told c.args.id (variables_of_task q t) v.items) (sym c.in-Set.is)
+    (may tables q told is (subst (TaskStands tables q told) c.in-Set.is stands))) some)
     c.set_ask.ensures

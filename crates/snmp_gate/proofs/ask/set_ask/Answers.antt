@@ -17,4 +17,4 @@ returns c tables q told asked stands =
     let ask = c.in_ok-datagram.ensures.ask bs.0 bs.1 in
     sets c.in-Some.community c.in-Some.is stands.tag refl stands.may
     (subst (λ (community : List ℕ). IsAsk datagram community SetRequest c.args.id (variables_of q.list)) c.deref.ensures.value
-      (subst (λ (vs : List Variable). IsAsk datagram c.deref.result.now SetRequest c.args.id vs) (sym same) ask))
+    (subst (λ (vs : List Variable). IsAsk datagram c.deref.result.now SetRequest c.args.id vs) (sym same) ask))

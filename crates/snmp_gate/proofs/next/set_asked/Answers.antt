@@ -10,8 +10,8 @@ returns-in-Open-clause-asked c = record {
   is = c.index_mut-request.ensures.value;
   work = _;
   asked = λ o is.
-    let same = one_open c.index_mut-request.result.now.work c.in-Open.waiting o c.in-Open.is is in
-    (_, refl, ap (λ (x : OpenRequest). x.task) same, ap (λ (x : OpenRequest). x.device) same, refl);
+      let same = one_open c.index_mut-request.result.now.work c.in-Open.waiting o c.in-Open.is is in
+      (_, refl, ap (λ (x : OpenRequest). x.task) same, ap (λ (x : OpenRequest). x.device) same, refl);
   new_is = refl;
 }
 

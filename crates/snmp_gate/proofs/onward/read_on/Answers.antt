@@ -7,6 +7,6 @@ returns-in-Asks c tables q told viewer stands =
 
 pub returns-in-Ends : goal.returns-in-Ends
 returns-in-Ends c tables q told viewer stands = (
-    c.args.operation,
-    read_stands tables q told c.args.viewer.now c.args.operation c.args.dialogue c.go_on.new.self viewer (c.go_on.ensures.stand told) c.go_on.ensures.requests stands,
-  )
+  c.args.operation,
+  read_stands tables q told c.args.viewer.now c.args.operation c.args.dialogue c.go_on.new.self viewer (c.go_on.ensures.stand told) c.go_on.ensures.requests stands,
+)

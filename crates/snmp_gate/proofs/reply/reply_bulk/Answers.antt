@@ -30,17 +30,17 @@ returns-clause-sent c =
     let bs = c.deref-2.result.now in
     on_ok c.reply_front.result (IsFrontSentOr a g (map variable_of bs)) _
     (λ r sent client q said asked stands.
-      let viewer : Viewer = record {
-        vacm = record { ref_ptr = c.args.agent.ref_ptr; now = tables };
-        model = 3;
-        name = record { ref_ptr = c.args.taken.now.user.ref_ptr; now = q.user };
-        level = q.level;
-        context = record { ref_ptr = c.args.taken.now.user.ref_ptr; now = q.context };
-      } in
-      let is : IsViewerOf tables q viewer = record { tables_are = refl; model = refl; name = refl; level = refl; context = refl } in
-      let all = c.in_ok-bindings.ensures.outwards viewer said (from_seen (λ (Seen : List ℕ → Type 0). BulkAllStand Seen said d) tables q viewer is stands.stand) in
-      front_reply a tables q said g d bs r stands
-      (subst (λ (ws : List Binding). All (IsShownOf (seen_in tables q) said d.columns.items) (map variable_of ws)) (sym c.deref-2.ensures.value)
-        (to_seen (λ (Seen : List ℕ → Type 0). All (IsShownOf Seen said d.columns.items) (map variable_of c.in_ok-bindings.bindings.items)) tables q viewer is all))
-      sent)
+    let viewer : Viewer = record {
+      vacm = record { ref_ptr = c.args.agent.ref_ptr; now = tables };
+      model = 3;
+      name = record { ref_ptr = c.args.taken.now.user.ref_ptr; now = q.user };
+      level = q.level;
+      context = record { ref_ptr = c.args.taken.now.user.ref_ptr; now = q.context };
+    } in
+    let is : IsViewerOf tables q viewer = record { tables_are = refl; model = refl; name = refl; level = refl; context = refl } in
+    let all = c.in_ok-bindings.ensures.outwards viewer said (from_seen (λ (Seen : List ℕ → Type 0). BulkAllStand Seen said d) tables q viewer is stands.stand) in
+    front_reply a tables q said g d bs r stands
+    (subst (λ (ws : List Binding). All (IsShownOf (seen_in tables q) said d.columns.items) (map variable_of ws)) (sym c.deref-2.ensures.value)
+    (to_seen (λ (Seen : List ℕ → Type 0). All (IsShownOf Seen said d.columns.items) (map variable_of c.in_ok-bindings.bindings.items)) tables q viewer is all))
+    sent)
     c.reply_front.ensures.sent

@@ -30,17 +30,17 @@ returns-clause-sent c =
     let bs = c.deref-2.result.now in
     on_ok c.reply_with.result (IsSentOr a g (told_with (pos 0) (pos 0) (map variable_of bs))) _
     (λ r sent client q said operation asked stands.
-      let viewer : Viewer = record {
-        vacm = record { ref_ptr = c.args.agent.ref_ptr; now = tables };
-        model = 3;
-        name = record { ref_ptr = c.args.taken.now.user.ref_ptr; now = q.user };
-        level = q.level;
-        context = record { ref_ptr = c.args.taken.now.user.ref_ptr; now = q.context };
-      } in
-      let is : IsViewerOf tables q viewer = record { tables_are = refl; model = refl; name = refl; level = refl; context = refl } in
-      let zip = c.in_ok-bindings.ensures.outwards viewer said (from_seen (λ (Seen : List ℕ → Type 0). AllStand Seen said d) tables q viewer is stands.stand) in
-      columns_reply a tables q said g operation d.columns.items bs r stands.tag stands.requests_are
-      (subst (λ (ws : List Binding). AllZip (Shows (seen_in tables q) said) d.columns.items ws) (sym c.deref-2.ensures.value)
-        (to_seen (λ (Seen : List ℕ → Type 0). AllZip (Shows Seen said) d.columns.items c.in_ok-bindings.bindings.items) tables q viewer is zip))
-      sent)
+    let viewer : Viewer = record {
+      vacm = record { ref_ptr = c.args.agent.ref_ptr; now = tables };
+      model = 3;
+      name = record { ref_ptr = c.args.taken.now.user.ref_ptr; now = q.user };
+      level = q.level;
+      context = record { ref_ptr = c.args.taken.now.user.ref_ptr; now = q.context };
+    } in
+    let is : IsViewerOf tables q viewer = record { tables_are = refl; model = refl; name = refl; level = refl; context = refl } in
+    let zip = c.in_ok-bindings.ensures.outwards viewer said (from_seen (λ (Seen : List ℕ → Type 0). AllStand Seen said d) tables q viewer is stands.stand) in
+    columns_reply a tables q said g operation d.columns.items bs r stands.tag stands.requests_are
+    (subst (λ (ws : List Binding). AllZip (Shows (seen_in tables q) said) d.columns.items ws) (sym c.deref-2.ensures.value)
+    (to_seen (λ (Seen : List ℕ → Type 0). AllZip (Shows Seen said) d.columns.items c.in_ok-bindings.bindings.items) tables q viewer is zip))
+    sent)
     c.reply_with.ensures.sent

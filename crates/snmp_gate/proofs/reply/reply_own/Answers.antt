@@ -21,7 +21,7 @@ returns-clause-sent c =
     let index = to_z-of_z w32 c.args.says.index index_fits in
     on_ok c.reply_with.result (IsSentOr a g (told_with (to_z w32 (of_z w32 says.status)) (to_z w32 (of_z w32 says.index)) vs)) _
     (λ r sent client q said asked own. own_reply a c.args.agent.now.tables q said g says vs r own
-      (subst (λ (bs : List VariableBinding). IsOwnList q says.status (map bound_variable bs)) (sym c.deref.ensures.value)
-        (subst (λ (n : ℤ). IsOwnList q n (map bound_variable c.in_ok-bindings.bindings.items)) status (c.in_ok-bindings.ensures.says client q asked)))
-      (subst (λ (n : ℤ). IsSentOr a g (told_with n says.index vs) r) status (subst (λ (n : ℤ). IsSentOr a g (told_with (to_z w32 (of_z w32 says.status)) n vs) r) index sent)))
+    (subst (λ (bs : List VariableBinding). IsOwnList q says.status (map bound_variable bs)) (sym c.deref.ensures.value)
+    (subst (λ (n : ℤ). IsOwnList q n (map bound_variable c.in_ok-bindings.bindings.items)) status (c.in_ok-bindings.ensures.says client q asked)))
+    (subst (λ (n : ℤ). IsSentOr a g (told_with n says.index vs) r) status (subst (λ (n : ℤ). IsSentOr a g (told_with (to_z w32 (of_z w32 says.status)) n vs) r) index sent)))
     c.reply_with.ensures.sent

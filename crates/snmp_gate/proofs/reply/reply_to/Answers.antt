@@ -12,8 +12,8 @@ returns-in-Own-clause-sent c =
     let tables = c.args.agent.now.tables in
     let client = c.args.message.now.client.items in
     on_ok c.reply_own.result _ _ (λ r sent q said asked stands.
-      of_message a tables q said (given_of c.taken-taken.result) c.args.message.now.kept client r c.taken-taken.ensures
-      (λ given. sent client q said given (subst (EndingStands tables q said) c.in-Own.is stands)) asked)
+    of_message a tables q said (given_of c.taken-taken.result) c.args.message.now.kept client r c.taken-taken.ensures
+    (λ given. sent client q said given (subst (EndingStands tables q said) c.in-Own.is stands)) asked)
     c.reply_own.ensures.sent
 
 pub returns-in-Unhandled-clause-sent : goal.returns-in-Unhandled-clause-sent
@@ -22,6 +22,6 @@ returns-in-Unhandled-clause-sent c =
     let tables = c.args.agent.now.tables in
     let client = c.args.message.now.client.items in
     on_ok c.reply_unhandled.result _ _ (λ r sent q said asked stands.
-      of_message a tables q said (given_of c.taken-taken.result) c.args.message.now.kept client r c.taken-taken.ensures
-      (λ given. report_reply a tables q said (given_of c.taken-taken.result) r sent) asked)
+    of_message a tables q said (given_of c.taken-taken.result) c.args.message.now.kept client r c.taken-taken.ensures
+    (λ given. report_reply a tables q said (given_of c.taken-taken.result) r sent) asked)
     c.reply_unhandled.ensures.sent

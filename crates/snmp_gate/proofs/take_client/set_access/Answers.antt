@@ -20,5 +20,5 @@ returns-clause-may c none q asked set =
     let viewer = c.viewer_of-viewer.ensures client q given in
     subst (λ (octets : List ℕ). All (λ (v : Variable). set_in tables q v.name) (variables_of octets)) pdu.list
     (may_all tables q c.viewer_of-viewer.result c.pdu_of-pdu.result.tag (variables_of c.pdu_of-pdu.result.list.now) c.deref.result.now viewer (pdu.tag ∙ set)
-      (subst (λ (answers : List Access). AllZip (IsAnswerFor c.viewer_of-viewer.result Write) (variables_of c.pdu_of-pdu.result.list.now) answers) (sym c.deref.ensures.value) c.in_ok-answers.ensures)
-      c.in-None.ensures)
+    (subst (λ (answers : List Access). AllZip (IsAnswerFor c.viewer_of-viewer.result Write) (variables_of c.pdu_of-pdu.result.list.now) answers) (sym c.deref.ensures.value) c.in_ok-answers.ensures)
+    c.in-None.ensures)

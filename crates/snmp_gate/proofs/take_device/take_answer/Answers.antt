@@ -9,8 +9,8 @@ returns c o q told asked is says stands =
     let tables = c.args.tables.now in
     let same = one_open c.args.work.now c.in-Open.waiting o c.in-Open.is is in
     let took = c.in_ok-became.ensures.stands q told asked
-        (subst (λ (x : OpenRequest). SaysAll (variables_of_task q x.task.task) c.args.answer.now told) (sym same) says)
-        (subst (λ (x : OpenRequest). TaskStands tables q told x.task.task) (sym same) stands) in
+    (subst (λ (x : OpenRequest). SaysAll (variables_of_task q x.task.task) c.args.answer.now told) (sym same) says)
+    (subst (λ (x : OpenRequest). TaskStands tables q told x.task.task) (sym same) stands) in
     let new : OpenRequest = c.take_open.new.waiting in
     after_same tables q told new o c.after_answer.result (c.in_ok-became.ensures.device ∙ ap (λ (x : OpenRequest). x.device) same)
     (c.after_answer.ensures new q told asked c.replace-old.ensures.value took.1 took.0)

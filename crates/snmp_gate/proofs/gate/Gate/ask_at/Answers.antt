@@ -16,19 +16,22 @@ returns c before stands =
     let id = c.free_id-id.result in
     let datagram = c.in-Some-2.datagram in
     let may = rw c.in-Some-2.is at c.in_ok-datagram.ensures in
-    let all = asked_all g.agent g.devices.list.items before g.requests.next rs c.set_asked.new.requests.list.items c.args.place c.in-Some.device c.in-Some.number id datagram c.requires.place c.in-Some.ensures.0 may c.set_asked.ensures.asked stands in
-    (id, all.variables, record {
-      lawful = all.lawful;
-      stands = moved g.agent.tables g.agent.tables g.devices.list.items g.devices.list.items (asked c.in-Some.number c.in-Some.device id all.variables datagram.items ∷ before) g.requests.next c.set_asked.new.requests.next (groups_of c.set_asked.new.requests.list.items) (groups_of c.set_asked.new.requests.list.items)
-        refl refl c.set_asked.ensures.next refl all.stands;
-    })
+    let all = asked_all g.agent g.devices.list.items before g.requests.next rs c.set_asked.new.requests.list.items c.args.place c.in-Some.device c.in-Some.number id datagram c.requires.place c.in-Some.ensures.0 may c.set_asked.ensures.asked stands in (
+      id,
+      all.variables,
+      record {
+        lawful = all.lawful;
+        stands = moved g.agent.tables g.agent.tables g.devices.list.items g.devices.list.items (asked c.in-Some.number c.in-Some.device id all.variables datagram.items ∷ before) g.requests.next c.set_asked.new.requests.next (groups_of c.set_asked.new.requests.list.items) (groups_of c.set_asked.new.requests.list.items)
+            refl refl c.set_asked.ensures.next refl all.stands;
+      },
+    )
 
 -- what is read twice is the same
 read_same : {A : Type 0} (xs : List A) (i : ℕ) (a b : A) → i < length xs → a ≡ slice_index_or xs i a → b ≡ slice_index_or xs i b → a ≡ b
 read_same xs i a b within is also = is ∙ get_or_default xs i a b within ∙ sym also
 
 below : (n m : ℕ) → (m ≤ n → ⊥) → n < m
-below n m not = elim (leb_tells m n) [ | inl (test, le) ↦ absurd (not le) | inr (test, lt) ↦ lt ]
+below n m not = elim (leb_tells m n) [ inl (test, le) ↦ absurd (not le) | inr (test, lt) ↦ lt ]
 
 pub free_id-id-requires-clause-few : goal.free_id-id-requires-clause-few
 free_id-id-requires-clause-few c =
@@ -47,4 +50,4 @@ returns-in_default-2 c before stands =
     let g = c.args.self.now in
     moved g.agent.tables g.agent.tables g.devices.list.items g.devices.list.items before g.requests.next c.work.new.self.next (groups_of c.work.new.self.list.items) (groups_of c.work.new.self.list.items) refl refl c.work.ensures.next refl
     (ended_all g.agent.tables g.devices.list.items before g.requests.next (groups_of g.requests.list.items) (groups_of c.work.new.self.list.items) c.args.place c.work.result _
-      (too_long g.agent.tables) c.work.ensures.worked stands)
+    (too_long g.agent.tables) c.work.ensures.worked stands)

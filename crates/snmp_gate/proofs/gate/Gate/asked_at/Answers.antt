@@ -9,7 +9,7 @@ use Rattle.snmp_gate.proofs.gate.Gate.asked_at.Goals as goal
 
 pub returns : goal.returns
 returns c = (
-    omega (arith, c.if-id-ge-REQUEST_IDS.false),
-    at_read c.args.self.now.requests.list.items (λ (x : WaitingRequest WaitingMessage Work). (o : OpenRequest) × (x.work ≡ Open o) × (o.asked ≡ Some c.in-Some.id)) c.args.place c.index.result.now c.requires c.index.ensures
+  omega (arith, c.if-id-ge-REQUEST_IDS.false),
+  at_read c.args.self.now.requests.list.items (λ (x : WaitingRequest WaitingMessage Work). (o : OpenRequest) × (x.work ≡ Open o) × (o.asked ≡ Some c.in-Some.id)) c.args.place c.index.result.now c.requires c.index.ensures
       (c.in-Open.waiting, c.in-Open.is, c.in-Some.is),
-  )
+)

@@ -22,25 +22,25 @@ next_is n fits isnt = omega (arith, fits, isnt)
 pub returns-in-Ok : goal.returns-in-Ok
 returns-in-Ok c before at datagram stands =
     let g = c.args.self.now in
-    let n = c.noted.new.self in
+    let n = c.note_asked.new.self in
     let w = c.in-Some.work in
     let q = c.requires.0 in
     let fits : c.next_number.result ≤ 2 ^ 64 - 1 = omega (arith, c.next_number.type_inv) in
-    let rs = c.noted.ensures.requests ∙ c.first_work.ensures.requests in
-    let agent = c.noted.ensures.agent ∙ c.first_work.ensures.agent in
-    let devices = c.noted.ensures.devices ∙ c.first_work.ensures.devices in
+    let rs = c.note_asked.ensures.requests ∙ c.first_work.ensures.requests in
+    let agent = c.note_asked.ensures.agent ∙ c.first_work.ensures.agent in
+    let devices = c.note_asked.ensures.devices ∙ c.first_work.ensures.devices in
     let same_next = ap (λ (x : WaitingRequests WaitingMessage Work). x.next) rs in
     let before_it = moved g.agent.tables n.agent.tables g.devices.list.items n.devices.list.items before g.requests.next n.requests.next (groups_of g.requests.list.items) (groups_of n.requests.list.items)
-        (ap (λ (x : AgentState). x.tables) agent)
-        (ap (λ (x : Devices). x.list.items) devices)
-        same_next
-        (ap (λ (x : WaitingRequests WaitingMessage Work). groups_of x.list.items) rs)
-        stands in
+    (ap (λ (x : AgentState). x.tables) agent)
+    (ap (λ (x : Devices). x.list.items) devices)
+    same_next
+    (ap (λ (x : WaitingRequests WaitingMessage Work). groups_of x.list.items) rs)
+    stands in
     let well = (rw c.in-Some.is at c.in_ok-work.ensures.begins) q c.requires.1 in
     let well_now = subst (λ (x : AgentState). BeginsWell x.tables n.devices.list.items q w) (sym agent)
-        (subst (λ (x : Devices). BeginsWell g.agent.tables x.list.items q w) (sym devices) well) in
+    (subst (λ (x : Devices). BeginsWell g.agent.tables x.list.items q w) (sym devices) well) in
     let all = begun_all n.agent.tables n.devices.list.items before n.requests.next c.begin.new.self.next (groups_of n.requests.list.items) (groups_of c.begin.new.self.list.items) c.args.message q w at datagram
-        c.requires.1 well_now c.in-Ok.ensures.ok
-        (c.in-Ok.ensures.next ∙ next_is n.requests.next (subst (λ (x : ℕ). x ≤ 2 ^ 64 - 1) (c.next_number.ensures ∙ sym same_next) fits) (λ is. c.if-next_number.false (c.next_number.ensures ∙ sym same_next ∙ is)))
-        before_it in
+    c.requires.1 well_now c.in-Ok.ensures.ok
+    (c.in-Ok.ensures.next ∙ next_is n.requests.next (subst (λ (x : ℕ). x ≤ 2 ^ 64 - 1) (c.next_number.ensures ∙ sym same_next) fits) (λ is. c.if-next_number.false (c.next_number.ensures ∙ sym same_next ∙ is)))
+    before_it in
     subst (λ (k : ℕ). GroupsStand n.agent.tables n.devices.list.items (accepted k at datagram c.args.message ∷ before) c.begin.new.self.next (groups_of c.begin.new.self.list.items)) (sym c.in-Ok.ensures.number) all

@@ -12,7 +12,7 @@ returns c =
     let r = c.index-request.result.now in
     let device = c.in-Open.waiting.device in (
       at_read c.args.self.now.requests.list.items (λ (x : WaitingRequest WaitingMessage Work). (x.number ≡ r.number) × ((o : OpenRequest) × (x.work ≡ Open o) × (o.device ≡ device))) c.args.place r c.requires c.index-request.ensures
-        (refl, (c.in-Open.waiting, c.in-Open.is, refl)),
+          (refl, (c.in-Open.waiting, c.in-Open.is, refl)),
       omega (arith, c.if-device-len.false, c.len.ensures),
       omega (arith, c.if-device-len-2.false, c.len-else-device-len.ensures),
     )

@@ -18,4 +18,4 @@ returns c before stands =
     (ap (λ (rs : WaitingRequests WaitingMessage Work). rs.next) c.end_ask.ensures.requests ∙ c.work.ensures.next)
     (ap (λ (rs : WaitingRequests WaitingMessage Work). groups_of rs.list.items) c.end_ask.ensures.requests)
     (ended_all g.agent.tables g.devices.list.items before g.requests.next (groups_of g.requests.list.items) (groups_of c.work.new.self.list.items) c.args.place c.work.result c.given_up_at-ending.result
-      (given_up g.agent.tables c.given_up_at-ending.result c.given_up_at-ending.ensures) c.work.ensures.worked stands)
+    (given_up g.agent.tables c.given_up_at-ending.result c.given_up_at-ending.ensures) c.work.ensures.worked stands)

@@ -19,10 +19,10 @@ returns c before stands =
     let r = c.index_mut-request.result.now in
     let w = c.take_answer.new.work in
     let both = answered_all g.agent.tables g.devices.list.items before g.requests.next rs place r w c.args.device id c.in-Some.answer.pdu c.args.datagram.now c.in-Some.answer.community.now
-        at.within c.index_mut-request.ensures.value
-        (subst (λ (x : WaitingRequest WaitingMessage Work). WaitsFor c.args.device id x.work) (sym c.index_mut-request.ensures.value) (at.waits r))
-        at.id_is c.in-Some.ensures
-        (λ o q told asked is says known. subst (λ (t : Tables). WorkAfter t q told o w) c.tables.ensures
-          (c.in_ok-take_answer.ensures o q told asked is says (subst (λ (t : Tables). TaskStands t q told o.task.task) (sym c.tables.ensures) known)))
-        stands in
+    at.within c.index_mut-request.ensures.value
+    (subst (λ (x : WaitingRequest WaitingMessage Work). WaitsFor c.args.device id x.work) (sym c.index_mut-request.ensures.value) (at.waits r))
+    at.id_is c.in-Some.ensures
+    (λ o q told asked is says known. subst (λ (t : Tables). WorkAfter t q told o w) c.tables.ensures
+    (c.in_ok-take_answer.ensures o q told asked is says (subst (λ (t : Tables). TaskStands t q told o.task.task) (sym c.tables.ensures) known)))
+    stands in
     (pdu_of c.in-Some.answer.pdu, record { lawful = both.0; stands = both.1 })
