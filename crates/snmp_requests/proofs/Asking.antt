@@ -94,8 +94,8 @@ heard_counts token other Response old new waits new_is = ended_counts token othe
 heard_counts token other (Report counter authentic) old new waits new_is = omega (arith, ap (times_waiting token) new_is)
 
 step_counts : (token : ℕ) (step : RequestStep) (old new : Outstanding) → Steps old step new → times_waiting token new + ended_by token step ≡ times_waiting token old + asked_by token step
-step_counts token (asks other pending) old new h =
-    omega (arith, added_counts token other old new h.2.request h.1.free h.2.request_is.token_is (ap (λ (all : Outstanding). all.requests) h.2.new_is))
+step_counts token (asks first other pending) old new h =
+    omega (arith, added_counts token other old new h.2.request h.1.is_free.free h.2.request_is.token_is (ap (λ (all : Outstanding). all.requests) h.2.new_is))
 step_counts token (accepts g c p None) old new h = omega (arith, ap (times_waiting token) h.1)
 step_counts token (accepts g c p (Some told)) old new h =
     let waits : Waits old told.token = record { request = h.0.request; there = h.0.there; token_is = h.0.token_is } in
@@ -107,7 +107,7 @@ heard_are other Response old new are new_is = subst AreOutstanding (sym new_is) 
 heard_are other (Report counter authentic) old new are new_is = subst AreOutstanding (sym new_is) are
 
 pub step_are : (step : RequestStep) (old new : Outstanding) → AreOutstanding old → Steps old step new → AreOutstanding new
-step_are (asks token pending) old new are h = are_added old new token pending are h.1 h.0 h.2
+step_are (asks first token pending) old new are h = are_added old new token pending are h.1.is_free h.0 h.2
 step_are (accepts g c p None) old new are h = subst AreOutstanding (sym h.1) are
 step_are (accepts g c p (Some told)) old new are h = heard_are told.token told.heard old new are h.1
 step_are (gives_up token) old new are h = are_ended old new token are h
@@ -117,20 +117,20 @@ heard_next other Response old new new_is = ap (λ (all : Outstanding). all.next)
 heard_next other (Report counter authentic) old new new_is = ap (λ (all : Outstanding). all.next) new_is
 
 next_rises : (step : RequestStep) (old new : Outstanding) → Steps old step new → old.next ≤ new.next
-next_rises (asks token pending) old new h = omega (arith, h.1.new, ap (λ (all : Outstanding). all.next) h.2.new_is)
+next_rises (asks first token pending) old new h = omega (arith, h.1.is_free.new, ap (λ (all : Outstanding). all.next) h.2.new_is)
 next_rises (accepts g c p None) old new h = omega (arith, ap (λ (all : Outstanding). all.next) h.1)
 next_rises (accepts g c p (Some told)) old new h = omega (arith, heard_next told.token told.heard old new h.1)
 next_rises (gives_up token) old new h = omega (arith, ap (λ (all : Outstanding). all.next) h.new_is)
 
 -- a token that was given isn't given again
 asked_later : (token : ℕ) (step : RequestStep) (old new : Outstanding) → token < old.next → Steps old step new → asked_by token step ≡ 0
-asked_later token (asks other pending) old new below h = is_token-other token other (λ same. omega (arith, below, h.1.new, same))
+asked_later token (asks first other pending) old new below h = is_token-other token other (λ same. omega (arith, below, h.1.is_free.new, same))
 asked_later token (accepts g c p told) old new below h = refl
 asked_later token (gives_up other) old new below h = refl
 
 -- the token that is given is below the next one
 asked_given : (token : ℕ) (step : RequestStep) (old new : Outstanding) → Steps old step new → (asked_by token step ≡ 0) ⊎ ((asked_by token step ≡ 1) × (token < new.next))
-asked_given token (asks other pending) old new h = elim (eqb_tells other token) [
+asked_given token (asks first other pending) old new h = elim (eqb_tells other token) [
   | inl (test, same) ↦ inr (ap (λ b. cond b 1 0) test, omega (arith, same, ap (λ (all : Outstanding). all.next) h.2.new_is))
   | inr (test, apart) ↦ inl (is_token-other token other apart)
 ]
@@ -163,7 +163,7 @@ asked_once token (step ∷ steps) first last run = elim (asked_given token step 
 -- ---- once a request has ended
 
 not_told : (token : ℕ) (step : RequestStep) (old new : Outstanding) → times_waiting token old ≡ 0 → Steps old step new → told_by token step ≡ 0
-not_told token (asks other pending) old new none h = refl
+not_told token (asks first other pending) old new none h = refl
 not_told token (accepts g c p None) old new none h = refl
 not_told token (accepts g c p (Some told)) old new none h = is_token-other token told.token (λ same.
     let waits : Waits old token = record {
@@ -182,7 +182,7 @@ silent token (step ∷ steps) first last none below run =
 
 -- a step that ends a request asks none
 ends_alone : (token : ℕ) (step : RequestStep) → ended_by token step ≡ 1 → asked_by token step ≡ 0
-ends_alone token (asks other pending) one = absurd (omega (arith, one))
+ends_alone token (asks first other pending) one = absurd (omega (arith, one))
 ends_alone token (accepts g c p told) one = refl
 ends_alone token (gives_up other) one = refl
 

@@ -7,11 +7,11 @@ use Rattle.std.specs.FinMap.{len-empty, get-empty}
 use Rattle.snmp_requests.specs.declared.outstanding.OutstandingRequest.{OutstandingRequest}
 use Rattle.snmp_requests.specs.declared.outstanding.TheConstants.{REQUESTS_LIMIT}
 use Rattle.snmp_manager.specs.declared.pending.Pending.{Pending}
-use Rattle.snmp_requests.specs.Outstanding.{AreOutstanding, IsAdded, IsEnded, IsNextToken, IsRequestAt, IsRequestOf, Outstanding, message_id_of, none_outstanding, without}
+use Rattle.snmp_requests.specs.Outstanding.{AreOutstanding, IsAdded, IsEnded, IsFreeToken, IsRequestAt, IsRequestOf, Outstanding, message_id_of, none_outstanding, without}
 use Rattle.snmp_requests.proofs.Maps.{at_insert, at_remove, found_in, one_set, len_insert_new, len_remove_there}
 
-pub are_none : (first : ℕ) → AreOutstanding (none_outstanding first)
-are_none first = record {
+pub are_none : AreOutstanding none_outstanding
+are_none = record {
   by_id = λ id r is. let none : None ≡ Some r = sym (get-empty nat_cmp id) ∙ is in cc none;
   few = omega (arith, len-empty nat_cmp OutstandingRequest);
 }
@@ -26,7 +26,7 @@ later_at next more id r least at = record {
   user_is = at.user_is;
 }
 
-pub are_added : (old new : Outstanding) (token : ℕ) (pending : Pending) → AreOutstanding old → IsNextToken old token → map.len old.requests < REQUESTS_LIMIT
+pub are_added : (old new : Outstanding) (token : ℕ) (pending : Pending) → AreOutstanding old → IsFreeToken old token → map.len old.requests < REQUESTS_LIMIT
     → IsAdded old token pending new → AreOutstanding new
 are_added old new token pending are next room added = subst AreOutstanding (sym added.new_is) (record {
   by_id = λ id r is. elim (at_insert old.requests (message_id_of token) added.request id r is) [

@@ -7,7 +7,7 @@ use Rattle.std.specs.Cmp.{nat_cmp_total, eq_by_cmp_equiv}
 use Rattle.std.proofs.lemmas.Map.Steps.{length-le_from_keys}
 use Rattle.std.specs.FinMap.{entries, get-entries, len-entries}
 use Rattle.snmp_requests.specs.declared.outstanding.TheConstants.{MESSAGE_IDS, REQUESTS_LIMIT}
-use Rattle.snmp_requests.specs.Outstanding.{AreOutstanding, HasNoToken, IsTaken, Outstanding, message_id_of}
+use Rattle.snmp_requests.specs.Outstanding.{AreOutstanding, HasNoToken, IsTaken, Outstanding, from_token, message_id_of}
 use Rattle.snmp_requests.proofs.Maps.{apart_of, find_id, same_of}
 
 -- the msgIDs of so many tokens
@@ -46,11 +46,12 @@ among P next (suc n) q each is =
       | false ↦ λ e h. among P next n q (λ k below. each k (omega arith)) h
     ] refl is
 
-pub some_left : (all : Outstanding) → AreOutstanding all → all.next + REQUESTS_LIMIT < 2 ^ 64 - 1 → HasNoToken all → ⊥
-some_left all are low none =
+pub some_left : (all : Outstanding) (first : ℕ) → AreOutstanding all → from_token all.next first + REQUESTS_LIMIT < 2 ^ 64 - 1 → HasNoToken all first → ⊥
+some_left all first are low none =
     let es = entries all.requests in
+    let from = from_token all.next first in
     let n = REQUESTS_LIMIT + 1 in
-    let taken : (k : ℕ) → k < n → IsTaken all (message_id_of (all.next + k)) = λ k below. none (all.next + k) (omega arith) (omega (arith, low, below)) in
-    let most = length-le_from_keys (eq_by_cmp_equiv nat_cmp_total) (ids all.next n) es (distinct all.next n (omega arith))
-    (λ q is. subst (λ o. IsSome o) (get-entries all.requests q ∙ find_id es q) (among (IsTaken all) all.next n q taken is)) in
-    omega (arith, most, length-ids all.next n, len-entries all.requests, are.few)
+    let taken : (k : ℕ) → k < n → IsTaken all (message_id_of (from + k)) = λ k below. none (from + k) (omega arith) (omega (arith, low, below)) in
+    let most = length-le_from_keys (eq_by_cmp_equiv nat_cmp_total) (ids from n) es (distinct from n (omega arith))
+    (λ q is. subst (λ o. IsSome o) (get-entries all.requests q ∙ find_id es q) (among (IsTaken all) from n q taken is)) in
+    omega (arith, most, length-ids from n, len-entries all.requests, are.few)

@@ -1,9 +1,9 @@
 -- The requests of a manager that wait for their answers (RFC 3412, section 6.2 and section 7.2).
 --
 -- `Outstanding`: the requests that wait, by msgID, and the tokens that none was given. `message_id_of`: the msgID of a
--- token. `IsNextToken`: the first token that none was given, and whose msgID none has that waits. `IsAdded`: one more
+-- token. `IsNextToken`: the token of the request that is asked next. `IsAdded`: one more
 -- waits. `IsEnded`: one waits no more. `Waits`: the request with a token waits.
-use Rattle.std.specs.Prelude.{◌≡◌, ℕ, ◌+◌, ◌%◌, ◌-◌, ◌^◌, ◌<◌, ◌≤◌, List, Some, None, IsSome}
+use Rattle.std.specs.Prelude.{◌≡◌, ℕ, nat_eq, cond, ◌+◌, ◌%◌, ◌-◌, ◌^◌, ◌<◌, ◌≤◌, List, Some, None, IsSome}
 use Rattle.std.specs.Ordering.{nat_cmp}
 use Rattle.std.specs.FinMap as map
 use Rattle.std.specs.List.Sorted.{IsStrictlySortedBy}
@@ -18,8 +18,9 @@ pub record Outstanding : Type 0 where
   -- no request was given this token, or a greater one
   pub next : ℕ
 
-abbrev pub none_outstanding : ℕ → Outstanding
-none_outstanding first = record { requests = map.empty; next = first }
+-- nothing was asked yet
+abbrev pub none_outstanding : Outstanding
+none_outstanding = record { requests = map.empty; next = 0 }
 
 -- the msgID of the request with this token
 abbrev pub message_id_of : ℕ → ℕ
@@ -35,16 +36,25 @@ pub record Waits (all : Outstanding) (token : ℕ) : Type 0 where
   pub there : map.get all.requests (message_id_of token) ≡ Some request
   pub token_is : request.token ≡ token
 
--- the first token that none was given, and whose msgID none has that waits
-pub record IsNextToken (all : Outstanding) (token : ℕ) : Type 0 where
+-- from where on tokens are given: the first request of all is given this one, if it may have it
+abbrev pub from_token : ℕ → ℕ → ℕ
+from_token next first = cond (nat_eq next 0) first next
+
+-- a token that none was given, and whose msgID none has that waits
+pub record IsFreeToken (all : Outstanding) (token : ℕ) : Type 0 where
   pub new : all.next ≤ token
   pub small : token < 2 ^ 64 - 1
   pub free : map.get all.requests (message_id_of token) ≡ None
-  pub first : (t : ℕ) → all.next ≤ t → t < token → IsTaken all (message_id_of t)
 
--- each token that none was given is of a msgID with which a request waits
-abbrev pub HasNoToken : Outstanding → Type 0
-HasNoToken all = (t : ℕ) → all.next ≤ t → t < 2 ^ 64 - 1 → IsTaken all (message_id_of t)
+-- the first of them from there on
+pub record IsNextToken (all : Outstanding) (first token : ℕ) : Type 0 where
+  pub is_free : IsFreeToken all token
+  pub from : from_token all.next first ≤ token
+  pub taken : (t : ℕ) → from_token all.next first ≤ t → t < token → IsTaken all (message_id_of t)
+
+-- each token from there on is of a msgID with which a request waits
+abbrev pub HasNoToken : Outstanding → ℕ → Type 0
+HasNoToken all first = (t : ℕ) → from_token all.next first ≤ t → t < 2 ^ 64 - 1 → IsTaken all (message_id_of t)
 
 -- it is the request with this msgID, and was given a token below `next`
 pub record IsRequestAt (next id : ℕ) (r : OutstandingRequest) : Type 0 where

@@ -19,12 +19,12 @@ use Rattle.snmp_requests.specs.Outstanding.{IsAdded, IsEnded, IsNextToken, Outst
 
 -- a request is asked; a message is accepted, and is an answer to a request or to none; a request is given up
 pub data RequestStep : Type 0 where
-  asks : (token : ℕ) (pending : Pending) → RequestStep
+  asks : (first token : ℕ) (pending : Pending) → RequestStep
   accepts : (g : Given) (c : Contexts) (p : PduParts) (told : Option AnsweredRequest) → RequestStep
   gives_up : (token : ℕ) → RequestStep
 
 abbrev pub Steps : Outstanding → RequestStep → Outstanding → Type 0
-Steps old (asks token pending) new = (map.len old.requests < REQUESTS_LIMIT) × IsNextToken old token
+Steps old (asks first token pending) new = (map.len old.requests < REQUESTS_LIMIT) × IsNextToken old first token
     × IsAdded old token pending new
 Steps old (accepts g c p told) new = TellsAnswered old g c p told new
 Steps old (gives_up token) new = IsEnded old token new
@@ -47,7 +47,7 @@ abbrev pub times_waiting : ℕ → Outstanding → ℕ
 times_waiting token all = is_request token (map.get all.requests (message_id_of token))
 
 abbrev pub asked_by : ℕ → RequestStep → ℕ
-asked_by token (asks other pending) = is_token token other
+asked_by token (asks first other pending) = is_token token other
 asked_by token (accepts g c p told) = 0
 asked_by token (gives_up other) = 0
 
@@ -65,7 +65,7 @@ response_told token None = 0
 response_told token (Some told) = is_response_told token told.token told.heard
 
 abbrev pub ended_by : ℕ → RequestStep → ℕ
-ended_by token (asks other pending) = 0
+ended_by token (asks first other pending) = 0
 ended_by token (accepts g c p told) = response_told token told
 ended_by token (gives_up other) = is_token token other
 
@@ -79,7 +79,7 @@ is_told token None = 0
 is_told token (Some told) = is_token token told.token
 
 abbrev pub told_by : ℕ → RequestStep → ℕ
-told_by token (asks other pending) = 0
+told_by token (asks first other pending) = 0
 told_by token (accepts g c p told) = is_told token told
 told_by token (gives_up other) = 0
 

@@ -33,7 +33,8 @@ pub enum Known {
 pub enum Heard {
     /// The Response to it.
     Response,
-    /// A Report on it, of the counter with this number, 1 to 9, or 0 where its bindings aren't one that names a counter.
+    /// A Report on it, of the counter with this number, 1 to 9, or 0 where its bindings aren't one that names a
+    /// counter.
     Report {
         counter: u8,
         /// It came with authentication, from the engine that was asked and for the user that asks. Any other can be
@@ -115,12 +116,12 @@ impl DeviceRequest {
         }
     }
 
-    /// An answer came to the message that was sent last. `holds_clock` tells whether the manager holds boots and time of
-    /// the engine from which it came. Returns what is to be done.
+    /// An answer came to the message that was sent last. `holds_clock` says if the manager holds boots and time of the
+    /// engine from which it came. Returns what is to be done.
     ///
-    /// A Report without authentication is remembered, and ends nothing, but for the Report to a discovery. A request that
-    /// came outside of the time window is sent again once, since the manager has learned the time then. The second such
-    /// Report, and any other Report with authentication, refuses the request.
+    /// A Report without authentication is remembered, and ends nothing, but for the Report to a discovery. A request
+    /// that came outside of the time window is sent again once, since the manager has learned the time then. The second
+    /// such Report, and any other Report with authentication, refuses the request.
     pub fn hear(&mut self, heard: Heard, holds_clock: bool) -> NextStep
         ensures { Hears self.old heard holds_clock result self.new }
     {

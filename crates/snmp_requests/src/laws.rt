@@ -18,24 +18,24 @@ ghost use Rattle.snmp_requests.specs.declared.device_request.SentMessage.TheVari
 ghost use Rattle.snmp_requests.specs.declared.device_request.NextStep.TheVariants.{Send};
 
 /// Whatever a manager asks, whatever is accepted and whatever it gives up: a token is given to one request (`asked`),
-/// and each request ends once at most, by its Response or given up, and waits until then (`once`). No message is an answer
-/// to a request that has ended (`gone`). Each request waits under a msgID of its own, which is its token's
+/// and each request ends once at most, by its Response or given up, and waits until then (`once`). No message is an
+/// answer to a request that has ended (`gone`). Each request waits under a msgID of its own, which is its token's
 /// (`own`), and at most 65,536 wait (`few`).
 pub fn an_answer_is_of_one_request()
-    ensures asked { (n token : ℕ) (steps : List RequestStep) (last : Outstanding)
-        → IsRequestRun (none_outstanding n) steps last → times_asked token steps ≤ 1 }
-    ensures once { (n token : ℕ) (steps : List RequestStep) (last : Outstanding)
-        → IsRequestRun (none_outstanding n) steps last
+    ensures asked { (token : ℕ) (steps : List RequestStep) (last : Outstanding)
+        → IsRequestRun none_outstanding steps last → times_asked token steps ≤ 1 }
+    ensures once { (token : ℕ) (steps : List RequestStep) (last : Outstanding)
+        → IsRequestRun none_outstanding steps last
         → times_ended token steps + times_waiting token last ≡ times_asked token steps }
-    ensures gone { (n token : ℕ) (before after : List RequestStep) (step : RequestStep)
-        (old new last : Outstanding) → IsRequestRun (none_outstanding n) before old
+    ensures gone { (token : ℕ) (before after : List RequestStep) (step : RequestStep)
+        (old new last : Outstanding) → IsRequestRun none_outstanding before old
         → Steps old step new → ended_by token step ≡ 1
         → IsRequestRun new after last → times_told token after ≡ 0 }
-    ensures own { (n id : ℕ) (steps : List RequestStep) (last : Outstanding) (r : OutstandingRequest)
-        → IsRequestRun (none_outstanding n) steps last → map.get last.requests id ≡ Some r
+    ensures own { (id : ℕ) (steps : List RequestStep) (last : Outstanding) (r : OutstandingRequest)
+        → IsRequestRun none_outstanding steps last → map.get last.requests id ≡ Some r
         → (r.pending.id ≡ id) × (message_id_of r.token ≡ id) }
-    ensures few { (n : ℕ) (steps : List RequestStep) (last : Outstanding)
-        → IsRequestRun (none_outstanding n) steps last
+    ensures few { (steps : List RequestStep) (last : Outstanding)
+        → IsRequestRun none_outstanding steps last
         → map.len last.requests ≤ REQUESTS_LIMIT }
 {}
 

@@ -9,12 +9,12 @@
 //!
 //! let users = Users::load(rt.alloc(), &[])?;
 //! let manager = Manager::new(rt.alloc(), users, Clocks::new(rt.alloc()));
-//! let mut requests = OutstandingRequests::new(rt.alloc(), 7);
+//! let mut requests = OutstandingRequests::new(rt.alloc());
 //! assert!(rt; !requests.is_full());
-//! let token = requests.next_token().ok_or("a token")?;
+//! let token = requests.next_token(7).ok_or("a token")?;
 //! let (_datagram, pending) = manager.discover(message_id(token))?;
 //! requests.add(token, pending, &[], &[])?;
-//! assert_eq!(rt; (token, requests.next_token()), (7, Some(8)));
+//! assert_eq!(rt; (token, requests.next_token(7)), (7, Some(8)));
 //! assert!(rt; requests.give_up(token));
 //! assert!(rt; !requests.give_up(token));
 //! ```

@@ -10,9 +10,9 @@ ghost use Rattle.snmp_msg.specs.Pdu.{PduParts, PduText};
 ghost use Rattle.snmp_incoming.specs.Answers.{given_of};
 ghost use Rattle.snmp_incoming.specs.Texts.{text_of};
 ghost use Rattle.snmp_requests.specs.Answering.{TellsAnswered};
-ghost use Rattle.snmp_requests.specs.Outstanding.{AreOutstanding, HasNoToken, IsAdded, IsEnded, IsNextToken};
-ghost use Rattle.snmp_requests.specs.Outstanding.{IsRequestAt, IsRequestOf, Waits};
-ghost use Rattle.snmp_requests.specs.Outstanding.{message_id_of, none_outstanding, without};
+ghost use Rattle.snmp_requests.specs.Outstanding.{AreOutstanding, HasNoToken, IsAdded, IsEnded, IsFreeToken};
+ghost use Rattle.snmp_requests.specs.Outstanding.{IsNextToken, IsRequestAt, IsRequestOf, Waits};
+ghost use Rattle.snmp_requests.specs.Outstanding.{from_token, message_id_of, none_outstanding, without};
 
 use crate::answered::{AnsweredRequest, heard_of};
 use crate::device_request::Heard;
@@ -99,15 +99,14 @@ impl Model for OutstandingRequests {
 }
 
 impl OutstandingRequests {
-    /// Returns the requests of a manager that asked nothing yet. The first request has this msgID, at most 2147483647,
-    /// for its token. This takes no memory.
-    pub fn new(alloc: Global, first: u32) -> OutstandingRequests
-        ensures { result ≡ none_outstanding first }
+    /// Returns the requests of a manager that asked nothing yet. This takes no memory.
+    pub fn new(alloc: Global) -> OutstandingRequests
+        ensures { result ≡ none_outstanding }
     {
         OutstandingRequests {
             alloc,
             requests: BTreeMap::new(alloc),
-            next: u64::from(first),
+            next: 0,
         }
     }
 
@@ -127,17 +126,31 @@ impl OutstandingRequests {
     }
 
     /// Returns the token of the request that is asked next: the first that was given to none, and whose msgID none has
-    /// that waits. None: there is no such token below 18446744073709551615, so nearly as many requests were asked.
-    pub fn next_token(&self) -> Option<u64>
-        ensures token { MatchOption result (HasNoToken self.now) (IsNextToken self.now) }
-        ensures left { self.now.next + REQUESTS_LIMIT < 2 ^ 64 - 1 → IsSome result }
+    /// that waits. The very first request is given `first`, at most 2147483647, which is to be random: then a program
+    /// that begins again doesn't repeat its msgIDs. None: there is no such token below 18446744073709551615, so nearly
+    /// as many requests were asked.
+    pub fn next_token(&self, first: u32) -> Option<u64>
+        ensures token { MatchOption result (HasNoToken self.now first) (IsNextToken self.now first) }
+        ensures left { from_token self.now.next first + REQUESTS_LIMIT < 2 ^ 64 - 1 → IsSome result }
     {
-        for token in self.next..u64::MAX {
+        let from = self.first_from(first);
+        for token in from..u64::MAX {
             if self.at(message_id(token)).is_none() {
                 return Some(token);
             }
         }
         None
+    }
+
+    /// Returns from where on tokens are given.
+    fn first_from(&self, first: u32) -> u64
+        ensures from { result ≡ from_token self.now.next first }
+        ensures are { AreOutstanding self.now }
+    {
+        if self.next == 0 {
+            return u64::from(first);
+        }
+        self.next
     }
 
     /// The request with this token, which `next_token` returned, waits for its answer. It was written with the token's
@@ -152,7 +165,7 @@ impl OutstandingRequests {
         user: &[u8],
     ) -> Result<(), AllocError>
         requires room { map.len self.old.requests < REQUESTS_LIMIT }
-        requires token { IsNextToken self.old token }
+        requires token { IsFreeToken self.old token }
         requires id { pending.id ≡ message_id_of token }
         requires engine { pending.engine.items ≡ engine.now }
         requires user { pending.user.items ≡ user.now }

@@ -8,19 +8,19 @@ use Rattle.snmp_requests.proofs.Outstandings.{are_none}
 use Rattle.snmp_requests.proofs.laws.an_answer_is_of_one_request.Goals as goal
 
 pub returns-clause-asked : goal.returns-clause-asked
-returns-clause-asked c n token steps last run = asked_once token steps (none_outstanding n) last run
+returns-clause-asked c token steps last run = asked_once token steps none_outstanding last run
 
 pub returns-clause-once : goal.returns-clause-once
-returns-clause-once c n token steps last run =
-    omega (arith, run_counts token steps (none_outstanding n) last run, ap (is_request token) (get-empty nat_cmp (message_id_of token)))
+returns-clause-once c token steps last run =
+    omega (arith, run_counts token steps none_outstanding last run, ap (is_request token) (get-empty nat_cmp (message_id_of token)))
 
 pub returns-clause-gone : goal.returns-clause-gone
-returns-clause-gone c n token before after step old new last begun stepped one run =
-    gone token step after old new last (run_are before (none_outstanding n) old (are_none n) begun) stepped one run
+returns-clause-gone c token before after step old new last begun stepped one run =
+    gone token step after old new last (run_are before none_outstanding old are_none begun) stepped one run
 
 pub returns-clause-own : goal.returns-clause-own
-returns-clause-own c n id steps last r run there =
-    let at = (run_are steps (none_outstanding n) last (are_none n) run).by_id id r there in (at.id_is, at.token_is)
+returns-clause-own c id steps last r run there =
+    let at = (run_are steps none_outstanding last are_none run).by_id id r there in (at.id_is, at.token_is)
 
 pub returns-clause-few : goal.returns-clause-few
-returns-clause-few c n steps last run = (run_are steps (none_outstanding n) last (are_none n) run).few
+returns-clause-few c steps last run = (run_are steps none_outstanding last are_none run).few

@@ -7,5 +7,5 @@ use Rattle.snmp_requests.proofs.outstanding.OutstandingRequests.new.Goals as goa
 pub invariant_of-result : goal.invariant_of-result
 invariant_of-result c = record {
   rising = c.new.ensures.ordered;
-  are = subst (λ es. AreOutstanding (record { requests = map.from_entries es; next = c.from.result })) (sym c.new.ensures.empty) (are_none c.from.result);
+  are = subst (λ es. AreOutstanding (record { requests = map.from_entries es; next = 0 })) (sym c.new.ensures.empty) are_none;
 }

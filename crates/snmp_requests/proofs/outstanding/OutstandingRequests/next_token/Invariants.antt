@@ -3,4 +3,4 @@ use Rattle.snmp_requests.specs.Outstanding.{IsTaken, message_id_of}
 use Rattle.snmp_requests.proofs.outstanding.OutstandingRequests.next_token.Given as goal
 
 abbrev pub invariant-loop-token : goal.invariant-loop-token
-invariant-loop-token l = (t : ℕ) → l.self.next ≤ t → t < l.token → IsTaken l.self (message_id_of t)
+invariant-loop-token l = (t : ℕ) → l.from ≤ t → t < l.token → IsTaken l.self (message_id_of t)
