@@ -19,3 +19,5 @@ mod manager_calls;
 pub mod privacy;
 pub mod reports;
 mod reports_calls;
+pub mod requests;
+mod requests_calls;
