@@ -83,6 +83,15 @@ pub struct Reply {
 
 #[repr(C)]
 #[derive(Default)]
+pub struct Answered {
+    pub kind: u32,
+    pub counter: i32,
+    pub is_authentic: bool,
+    pub token: u64,
+}
+
+#[repr(C)]
+#[derive(Default)]
 pub struct Clock {
     pub boots: u32,
     pub time: u32,
@@ -274,6 +283,19 @@ extern "C" {
         now: u64,
         request: *const Request<'_>,
     ) -> i32;
+    pub fn snmpsec_manager_ask(
+        manager: *mut Opaque,
+        now: u64,
+        request: *const Request<'_>,
+        token: *mut u64,
+    ) -> i32;
+    pub fn snmpsec_manager_ask_discovery(
+        manager: *mut Opaque,
+        message_id: u32,
+        token: *mut u64,
+    ) -> i32;
+    pub fn snmpsec_manager_answered(manager: *mut Opaque, out: *mut Answered) -> i32;
+    pub fn snmpsec_manager_give_up(manager: *mut Opaque, token: u64) -> i32;
     pub fn snmpsec_manager_absorb(
         manager: *mut Opaque,
         text: *const u8,

@@ -83,7 +83,7 @@ pub use bindings::{binding, bindings, value_is, Binding};
 pub use config::{config_fault, ConfigFault, ConfigReason, ConfigTable};
 pub use fault::{Error, Refusal};
 pub use keys::{localise, mac, open, password_key, seal, wipe, Protocol};
-pub use manager::{Clock, Manager, Reply, Report, Request};
+pub use manager::{Answer, Clock, Manager, Reply, Report, Request};
 pub use words::{Access, Info, Level, Part, Pdu, Status, Unhandled, View};
 
 /// The version of the library that is loaded.
