@@ -311,7 +311,8 @@ typedef struct snmpsec_request {
 } snmpsec_request;
 
 /* Writes a request: SNMPSEC_BAD_ARGUMENT: a number or a length is out of its range; SNMPSEC_BAD_BINDINGS; or a refusal:
- * SNMPSEC_UNKNOWN_USER, SNMPSEC_UNSUPPORTED_LEVEL, SNMPSEC_TOO_LARGE, SNMPSEC_OUT_OF_MEMORY. One request is waited for at a time. */
+ * SNMPSEC_UNKNOWN_USER, SNMPSEC_UNSUPPORTED_LEVEL, SNMPSEC_TOO_LARGE, SNMPSEC_OUT_OF_MEMORY. One such request is waited for at a
+ * time, the last; snmpsec_manager_ask has many. */
 SNMPSEC_CHECK int snmpsec_manager_request(snmpsec_manager *manager, uint64_t now, const snmpsec_request *request);
 
 /* Many requests at once. Each that is asked waits for its answer, beside all others and beside the one that was written last, until its Response
