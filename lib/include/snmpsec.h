@@ -336,6 +336,26 @@ SNMPSEC_CHECK int snmpsec_manager_answered(snmpsec_manager *manager, snmpsec_ans
 /* The request isn't waited for any more, and no message answers it. SNMPSEC_NOTHING_TAKEN: no request with this token waits. */
 SNMPSEC_CHECK int snmpsec_manager_give_up(snmpsec_manager *manager, uint64_t token);
 
+/* What is sent to a device whose engine ID, or whose boots and time, may be unknown (RFC 3414, section 4): a discovery; a request without bindings
+ * at SNMPSEC_AUTH_NO_PRIV, by whose Report the manager learns boots and time, so that nothing is sealed with a time that may be wrong; and the
+ * request, at its own level and no other. Or what is to be done: wait for an answer to what was sent last; the request is answered; or the engine
+ * refused it. */
+typedef enum snmpsec_step {
+    SNMPSEC_SEND_DISCOVERY = 0, SNMPSEC_SEND_TIME_REQUEST = 1, SNMPSEC_SEND_REQUEST = 2, SNMPSEC_WAIT = 3, SNMPSEC_ANSWERED = 4, SNMPSEC_DENIED = 5
+} snmpsec_step;
+/* What is known of a device: nothing; its engine ID; or the manager holds boots and time of its engine too (snmpsec_manager_clock). */
+typedef enum snmpsec_known { SNMPSEC_KNOWN_NOTHING = 0, SNMPSEC_KNOWN_ENGINE = 1, SNMPSEC_KNOWN_CLOCK = 2 } snmpsec_known;
+/* A request of a device: its level, what was sent last (SNMPSEC_WAIT: nothing is sent any more), and whether the request was sent again. `counter`
+ * is that of the last Report that says why the request is refused or, where it isn't authentic, is likely to have no answer; -1 of none. */
+typedef struct snmpsec_device { snmpsec_level level; uint32_t sent, again; int counter; bool is_authentic; } snmpsec_device;
+
+/* Begins a request of a device, and says what is sent first. SNMPSEC_BAD_ARGUMENT: no such level, or no such knowledge. */
+SNMPSEC_CHECK int snmpsec_device_begin(snmpsec_device *device, snmpsec_level level, snmpsec_known known, snmpsec_step *step);
+/* Says what is to be done once a message answered what was sent last. holds_clock: the manager holds boots and time of the engine that answered. A
+ * Report that isn't authentic ends nothing. The request is sent again once, after an authentic Report of SNMPSEC_NOT_IN_WINDOWS; any other authentic
+ * Report, and a second one, is SNMPSEC_DENIED. SNMPSEC_BAD_ARGUMENT: a number is out of its range; then nothing changes. */
+SNMPSEC_CHECK int snmpsec_device_hear(snmpsec_device *device, const snmpsec_answered *answered, bool holds_clock, snmpsec_step *step);
+
 /* Joins in the clocks of a saved text: SNMPSEC_BAD_CLOCKS, SNMPSEC_OUT_OF_MEMORY. */
 SNMPSEC_CHECK int snmpsec_manager_absorb(snmpsec_manager *manager, const uint8_t *text, size_t text_len, uint64_t now);
 /* The saved text of the clocks, in the same way as the message, which stays: SNMPSEC_SHORT_BUFFER, and *written says how much is wanted;

@@ -333,6 +333,33 @@ int snmpsec_manager_give_up(snmpsec_manager *manager, uint64_t token) {
     return manager ? proved_manager_give_up(manager->held, token) : SNMPSEC_BAD_ARGUMENT;
 }
 
+int snmpsec_device_begin(snmpsec_device *device, snmpsec_level level, snmpsec_known known, snmpsec_step *step) {
+    if (!device || !step) return SNMPSEC_BAD_ARGUMENT;
+    int32_t first = proved_device_begin(level, known);
+    if (first < 0) return first;
+    *device = (snmpsec_device){.level = level, .sent = (uint32_t)first, .counter = -1};
+    *step = (snmpsec_step)first;
+    return SNMPSEC_OK;
+}
+
+int snmpsec_device_hear(snmpsec_device *device, const snmpsec_answered *answered, bool holds_clock, snmpsec_step *step) {
+    enum { REFUSED = 10 };
+    if (!device || !answered || !step) return SNMPSEC_BAD_ARGUMENT;
+    if (answered->kind == SNMPSEC_REPLY_OTHER) {
+        *step = SNMPSEC_WAIT;
+        return SNMPSEC_OK;
+    }
+    int32_t next = proved_device_hear(device->level, answered->kind, (uint32_t)answered->counter, answered->is_authentic, holds_clock,
+                                      &device->sent, &device->again);
+    if (next < 0) return next;
+    if (answered->kind == SNMPSEC_REPLY_REPORT && (next == SNMPSEC_WAIT || next >= REFUSED)) {
+        device->counter = answered->counter;
+        device->is_authentic = next >= REFUSED;
+    }
+    *step = next >= REFUSED ? SNMPSEC_DENIED : (snmpsec_step)next;
+    return SNMPSEC_OK;
+}
+
 int snmpsec_manager_absorb(snmpsec_manager *manager, const uint8_t *text, size_t text_len, uint64_t now) {
     return manager ? proved_manager_absorb(manager->held, in(text, text_len), text_len, now) : SNMPSEC_BAD_ARGUMENT;
 }

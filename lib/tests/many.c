@@ -95,6 +95,44 @@ static void unknown_device(void) {
     end();
 }
 
+static snmpsec_step heard(snmpsec_device *device, snmpsec_reply_kind kind, int counter, bool is_authentic) {
+    snmpsec_answered answered = {.kind = kind, .counter = counter, .is_authentic = is_authentic};
+    snmpsec_step step = SNMPSEC_DENIED;
+    check("hear", 0, snmpsec_device_hear(device, &answered, true, &step));
+    return step;
+}
+
+/* What is to be sent to a device that is unknown. */
+static void steps(void) {
+    snmpsec_device device;
+    snmpsec_step step = SNMPSEC_DENIED;
+    snmpsec_answered found = {.kind = SNMPSEC_REPLY_REPORT, .counter = SNMPSEC_UNKNOWN_ENGINES};
+    check("begin", 0, snmpsec_device_begin(&device, SNMPSEC_AUTH_PRIV, SNMPSEC_KNOWN_NOTHING, &step));
+    check("discover", SNMPSEC_SEND_DISCOVERY, step);
+    check("a Report of another counter", SNMPSEC_WAIT, heard(&device, SNMPSEC_REPLY_REPORT, SNMPSEC_UNKNOWN_USERS, false));
+    check("is the hint", SNMPSEC_UNKNOWN_USERS, device.counter);
+    check("the engine", 0, snmpsec_device_hear(&device, &found, false, &step));
+    check("its time", SNMPSEC_SEND_TIME_REQUEST, step);
+    check("anybody's time", SNMPSEC_WAIT, heard(&device, SNMPSEC_REPLY_REPORT, SNMPSEC_NOT_IN_WINDOWS, false));
+    check("the time", SNMPSEC_SEND_REQUEST, heard(&device, SNMPSEC_REPLY_REPORT, SNMPSEC_NOT_IN_WINDOWS, true));
+    check("none", SNMPSEC_WAIT, heard(&device, SNMPSEC_REPLY_OTHER, 0, false));
+    for (int counter = 0; counter < 10; counter++)
+        check("anybody's Report ends nothing", SNMPSEC_WAIT, heard(&device, SNMPSEC_REPLY_REPORT, counter, false));
+    check("again", SNMPSEC_SEND_REQUEST, heard(&device, SNMPSEC_REPLY_REPORT, SNMPSEC_NOT_IN_WINDOWS, true));
+    check("at its level", SNMPSEC_AUTH_PRIV, device.level);
+    check("once", SNMPSEC_DENIED, heard(&device, SNMPSEC_REPLY_REPORT, SNMPSEC_NOT_IN_WINDOWS, true));
+    check("for that", SNMPSEC_NOT_IN_WINDOWS, device.counter);
+    check("with authentication", 1, device.is_authentic);
+    check("it is over", SNMPSEC_WAIT, heard(&device, SNMPSEC_REPLY_RESPONSE, 0, false));
+    check("begin", 0, snmpsec_device_begin(&device, SNMPSEC_NO_AUTH_NO_PRIV, SNMPSEC_KNOWN_ENGINE, &step));
+    check("the request", SNMPSEC_SEND_REQUEST, step);
+    check("answered", SNMPSEC_ANSWERED, heard(&device, SNMPSEC_REPLY_RESPONSE, 0, false));
+    check("no such level", SNMPSEC_BAD_ARGUMENT, snmpsec_device_begin(&device, (snmpsec_level)4, SNMPSEC_KNOWN_ENGINE, &step));
+    check("no such knowledge", SNMPSEC_BAD_ARGUMENT, snmpsec_device_begin(&device, SNMPSEC_AUTH_PRIV, (snmpsec_known)3, &step));
+    check("no device", SNMPSEC_BAD_ARGUMENT, snmpsec_device_begin(NULL, SNMPSEC_AUTH_PRIV, SNMPSEC_KNOWN_CLOCK, &step));
+    check("no answer", SNMPSEC_BAD_ARGUMENT, snmpsec_device_hear(&device, NULL, true, &step));
+}
+
 /* Responses in reverse order, each twice. The msgIDs begin again at 0. */
 static void several(void) {
     static struct text responses[SEVERAL];
@@ -195,6 +233,7 @@ static void as_many_as_may(void) {
 int main(int argc, char **argv) {
     read_capture(argc, argv);
     check("a binding", 0, snmpsec_binding_write(name, sizeof name / sizeof *name, 0x05, (const uint8_t *)"", 0, list, sizeof list, &list_len));
+    steps();
     unknown_device();
     several();
     another_request();

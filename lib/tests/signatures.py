@@ -23,9 +23,9 @@ DECLARED = set(re.findall(r"\bsnmpsec_(\w+)\(", HEADER))
 NOT_IN_PYTHON = {"agent_allows", "agent_user_allows", "wipe"}
 NOT_IN_RUST = {"agent_allows", "agent_user_allows", "error_name"}
 
-STRUCTS = {"Octets": "octets", "Info": "info", "Counters": "counters", "Counts": "counts", "Report": "report", "Reply": "reply", "Answered": "answered", "Clock": "clock", "ConfigPlace": "config_place", "Notice": "notice", "Request": "request",
+STRUCTS = {"Octets": "octets", "Info": "info", "Counters": "counters", "Counts": "counts", "Report": "report", "Reply": "reply", "Answered": "answered", "Heard": "answered", "Device": "device", "Clock": "clock", "ConfigPlace": "config_place", "Notice": "notice", "Request": "request",
            "BindingRead": "binding"}
-READ = {"Octets", "Notice", "Request"}  # structs that a call only reads
+READ = {"Octets", "Notice", "Request", "Heard"}  # structs that a call only reads
 
 
 def snake(name):
@@ -71,7 +71,8 @@ def python_numbers():
     for kind in vars(snmpsec).values():
         if isinstance(kind, type) and issubclass(kind, enum.IntEnum) and kind is not enum.IntEnum:
             for one in kind:
-                yield f"SNMPSEC_{PYTHON_NAMES.get(one.name, one.name)} == {int(one)}"
+                name = f"KNOWN_{one.name}" if kind is snmpsec.Known else PYTHON_NAMES.get(one.name, one.name)
+                yield f"SNMPSEC_{name} == {int(one)}"
     for number, fault in snmpsec._FAULTS.items():
         yield f"SNMPSEC_{snake(fault.__name__)} == {number}"
     yield f"SNMPSEC_SHORT_BUFFER == {snmpsec._SHORT_BUFFER} && SNMPSEC_OUT_OF_MEMORY == {snmpsec._OUT_OF_MEMORY}"

@@ -11,6 +11,7 @@ pub mod agent;
 mod agent_calls;
 pub mod bindings;
 pub mod configuration;
+pub mod devices;
 pub mod dispatch;
 mod dispatch_calls;
 pub mod keys;

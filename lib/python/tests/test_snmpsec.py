@@ -98,6 +98,32 @@ class Many(unittest.TestCase):
         self.assertTrue(self.manager.give_up(discovery) and self.manager.give_up(token))
         self.assertIsNone(self.manager.answered())
 
+    def test_what_an_unknown_device_is_sent(self):
+        device, sent = snmpsec.Device(Level.AUTH_PRIV), []
+        while device.step not in (snmpsec.Step.ANSWERED, snmpsec.Step.DENIED):
+            sent.append(device.step)
+            if device.step == snmpsec.Step.SEND_DISCOVERY:
+                self.manager.ask_discovery(7)
+            else:
+                self.ask(len(sent), Level.AUTH_NO_PRIV if device.step == snmpsec.Step.SEND_TIME_REQUEST else Level.AUTH_PRIV)
+            refused = self.agent.take(NOW, self.manager.message())
+            if refused is None:
+                self.agent.respond(NOW, HELLO, 1)
+            self.assertIsNone(self.manager.take(NOW, self.agent.message()))
+            device.hear(self.manager.answered(), self.manager.clock(ENGINE) is not None)
+        self.assertEqual(sent, [snmpsec.Step.SEND_DISCOVERY, snmpsec.Step.SEND_TIME_REQUEST, snmpsec.Step.SEND_REQUEST])
+        self.assertEqual((device.step, device.counter), (snmpsec.Step.ANSWERED, None))
+
+    def test_anybodys_report_ends_no_request(self):
+        device = snmpsec.Device(Level.AUTH_PRIV, snmpsec.Known.CLOCK)
+        for counter in range(10):
+            self.assertEqual(device.hear(snmpsec.Answered(1, False, counter, False), True), snmpsec.Step.WAIT)
+            self.assertEqual((device.counter, device.is_authentic), (counter, False))
+        not_in_window = snmpsec.Answered(1, False, 2, True)
+        self.assertEqual(device.hear(not_in_window, True), snmpsec.Step.SEND_REQUEST)
+        self.assertEqual(device.hear(not_in_window, True), snmpsec.Step.DENIED)
+        self.assertEqual((device.counter, device.is_authentic), (2, True))
+
     def test_as_many_wait_as_may(self):
         for _ in range(65536):
             self.manager.ask_discovery(7)

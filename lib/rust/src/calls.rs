@@ -82,6 +82,16 @@ pub struct Reply {
 }
 
 #[repr(C)]
+#[derive(Clone, Copy, Debug, Default)]
+pub struct Device {
+    pub level: u32,
+    pub sent: u32,
+    pub again: u32,
+    pub counter: i32,
+    pub is_authentic: bool,
+}
+
+#[repr(C)]
 #[derive(Default)]
 pub struct Answered {
     pub kind: u32,
@@ -296,6 +306,14 @@ extern "C" {
     ) -> i32;
     pub fn snmpsec_manager_answered(manager: *mut Opaque, out: *mut Answered) -> i32;
     pub fn snmpsec_manager_give_up(manager: *mut Opaque, token: u64) -> i32;
+    pub fn snmpsec_device_begin(device: *mut Device, level: u32, known: u32, step: *mut u32)
+        -> i32;
+    pub fn snmpsec_device_hear(
+        device: *mut Device,
+        answered: *const Answered,
+        holds_clock: bool,
+        step: *mut u32,
+    ) -> i32;
     pub fn snmpsec_manager_absorb(
         manager: *mut Opaque,
         text: *const u8,

@@ -3,7 +3,9 @@
 mod common;
 
 use common::{file, ENGINE};
-use snmpsec::{binding, Agent, Answer, Error, Level, Manager, Pdu, Request, NO_CLOCKS};
+use snmpsec::{
+    binding, Agent, Answer, Device, Error, Known, Level, Manager, Pdu, Request, Step, NO_CLOCKS,
+};
 
 const NOW: u64 = 1000;
 const SYS_DESCR: [u32; 9] = [1, 3, 6, 1, 2, 1, 1, 1, 0];
@@ -74,4 +76,19 @@ fn a_report_ends_no_request() {
         is_authentic: true,
     };
     assert_eq!(manager.answered(), Ok(Some((token, not_in_window))));
+}
+
+#[test]
+fn anybodys_report_ends_no_request() {
+    let mut device = Device::new(Level::AuthPriv, Known::Clock).unwrap();
+    assert_eq!((device.step(), device.report()), (Step::SendRequest, None));
+    let report = |is_authentic| Answer::Report {
+        counter: Some(2),
+        is_authentic,
+    };
+    assert_eq!(device.hear(report(false), true), Ok(Step::Wait));
+    assert_eq!(device.report(), Some((2, false)));
+    assert_eq!(device.hear(report(true), true), Ok(Step::SendRequest));
+    assert_eq!(device.hear(report(true), true), Ok(Step::Denied));
+    assert_eq!(device.report(), Some((2, true)));
 }

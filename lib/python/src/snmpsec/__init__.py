@@ -42,8 +42,8 @@ from ._library import CALLS, Octets as _Slice
 
 __version__ = "0.1.0"
 __all__ = ["Access", "Agent", "Answered", "AuthProtocol", "BadArgument", "BadBindings", "BadClocks", "BadConfiguration", "Binding", "Clock", "ConfigFault",
-           "ConfigKey", "ConfigReason", "ConfigTable", "Counters", "Counts", "Error", "Info", "LARGEST", "Level", "Manager", "NO_CLOCKS",
-           "NotAsked", "NothingTaken", "Part", "Pdu", "Refusal", "Refused", "Reply", "Report", "Status", "TooManyRequests", "Unhandled", "View", "binding",
+           "ConfigKey", "ConfigReason", "ConfigTable", "Counters", "Counts", "Device", "Error", "Info", "Known", "LARGEST", "Level", "Manager", "NO_CLOCKS",
+           "NotAsked", "NothingTaken", "Part", "Pdu", "Refusal", "Refused", "Reply", "Report", "Status", "Step", "TooManyRequests", "Unhandled", "View", "binding",
            "bindings", "config_fault", "localise", "mac", "open_text", "password_key", "seal_text", "status_of", "value_is", "version"]
 
 Buffer = Union[bytes, bytearray, memoryview]
@@ -312,6 +312,25 @@ class Answered(NamedTuple):
     is_response: bool
     report_of: Optional[int]
     is_authentic: bool
+
+
+class Step(IntEnum):
+    """What is to be done for a request of a device."""
+
+    SEND_DISCOVERY = 0
+    SEND_TIME_REQUEST = 1
+    SEND_REQUEST = 2
+    WAIT = 3
+    ANSWERED = 4
+    DENIED = 5
+
+
+class Known(IntEnum):
+    """What is known of a device: nothing, its engine ID, or boots and time of its engine too."""
+
+    NOTHING = 0
+    ENGINE = 1
+    CLOCK = 2
 
 
 class Clock(NamedTuple):
@@ -649,6 +668,34 @@ class Agent(_Held):
         out = _library.Counters()
         _done(self._call("counters", ctypes.byref(out)))
         return Counters(*(getattr(out, name) for name, _ in out._fields_))
+
+
+class Device:
+    """One request of a device whose engine ID, or whose boots and time, may be unknown (RFC 3414, section 4): `step` is what is to be done, and
+    `counter` the counter of the last Report that says why the request is refused or, where it isn't authentic, is likely to have no answer."""
+
+    def __init__(self, level: Level, known: Known = Known.NOTHING):
+        self._device, step = _library.Device(), _library.Enumeration()
+        _done(CALLS["device_begin"](ctypes.byref(self._device), level, known, ctypes.byref(step)))
+        self.step = Step(step.value)
+
+    def hear(self, answered: Answered, holds_clock: bool) -> Step:
+        """What is to be done once a message answered what was sent last. The request is sent again once, after an authentic Report that it was
+        outside of the time window, and never at another level. A Report that isn't authentic ends nothing."""
+        heard = _library.Heard(0 if answered.is_response else 2, answered.report_of or 0, answered.is_authentic, answered.token)
+        step = _library.Enumeration()
+        _done(CALLS["device_hear"](ctypes.byref(self._device), ctypes.byref(heard), holds_clock, ctypes.byref(step)))
+        self.step = Step(step.value)
+        return self.step
+
+    @property
+    def counter(self) -> Optional[int]:
+        return None if self._device.counter < 0 else self._device.counter
+
+    @property
+    def is_authentic(self) -> bool:
+        """Whether the Report of `counter` came with authentication; without, it can be anybody's."""
+        return bool(self._device.is_authentic)
 
 
 class Manager(_Held):
