@@ -119,9 +119,9 @@ pub extern "C" fn proved_device_begin(level: u32, known: u32) -> i32
 }
 
 /// What is to be done once an answer came to the message that was sent last: 0 to 2 this is to be sent, 3 wait on, 4
-/// the request is answered, 10 and more the engine refused it and reported the counter of the rest. The answer is of the
-/// kind 0, a Response, or 2, a Report of this counter, which is authentic or not. Whether the manager holds boots and
-/// time of the engine is `holds`. What was sent last, and whether the request was sent again, is kept in `sent` and
+/// the request is answered, 10 and more the engine refused it and reported the counter of the rest. The answer is of
+/// the kind 0, a Response, or 2, a Report of this counter, which is authentic or not. Whether the manager holds boots
+/// and time of the engine is `holds`. What was sent last, and whether the request was sent again, is kept in `sent` and
 /// `again` between the calls; `again` is 0 at first. It answers -1, and writes nothing, where a number is out of its
 /// range.
 #[unsafe(no_mangle)]
