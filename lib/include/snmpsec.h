@@ -69,7 +69,8 @@ typedef enum snmpsec_answer {
     SNMPSEC_INVALID_FLAGS = 18,
     /* faults of a call */
     SNMPSEC_BAD_ARGUMENT = -1, SNMPSEC_NOTHING_TAKEN = -2, SNMPSEC_NOT_ASKED = -3, SNMPSEC_BAD_BINDINGS = -4,
-    SNMPSEC_SHORT_BUFFER = -5, SNMPSEC_BAD_CONFIGURATION = -6, SNMPSEC_BAD_CLOCKS = -7
+    SNMPSEC_SHORT_BUFFER = -5, SNMPSEC_BAD_CONFIGURATION = -6, SNMPSEC_BAD_CLOCKS = -7,
+    SNMPSEC_TOO_MANY_REQUESTS = -8
 } snmpsec_answer;
 
 /* The version of the library that runs, as SNMPSEC_VERSION is that of this header. */
@@ -310,8 +311,50 @@ typedef struct snmpsec_request {
 } snmpsec_request;
 
 /* Writes a request: SNMPSEC_BAD_ARGUMENT: a number or a length is out of its range; SNMPSEC_BAD_BINDINGS; or a refusal:
- * SNMPSEC_UNKNOWN_USER, SNMPSEC_UNSUPPORTED_LEVEL, SNMPSEC_TOO_LARGE, SNMPSEC_OUT_OF_MEMORY. One request is waited for at a time. */
+ * SNMPSEC_UNKNOWN_USER, SNMPSEC_UNSUPPORTED_LEVEL, SNMPSEC_TOO_LARGE, SNMPSEC_OUT_OF_MEMORY. One such request is waited for at a
+ * time, the last; snmpsec_manager_ask has many. */
 SNMPSEC_CHECK int snmpsec_manager_request(snmpsec_manager *manager, uint64_t now, const snmpsec_request *request);
+
+/* Many requests at once. Each that is asked waits for its answer, beside all others and beside the one that was written last, until its Response
+ * comes or it is given up. It has a token, which no other is ever given, and a msgID, which no other has that waits (RFC 3412, section 6.2).
+ * At most 65,536 wait. */
+
+/* Writes a request as snmpsec_manager_request does, and waits for its answer too: its token goes to *token. The first of all has the message_id
+ * of the struct, which is to be random; later ones have the next that is free, and their message_id only has to be in its range.
+ * SNMPSEC_TOO_MANY_REQUESTS: 65,536 wait; or an answer of snmpsec_manager_request. On an error nothing changes. */
+SNMPSEC_CHECK int snmpsec_manager_ask(snmpsec_manager *manager, uint64_t now, const snmpsec_request *request, uint64_t *token);
+/* The same for the request by which an engine is discovered; its answer is a Report of SNMPSEC_UNKNOWN_ENGINES that has the engine's ID. It waits
+ * until it is given up. SNMPSEC_BAD_ARGUMENT, SNMPSEC_TOO_MANY_REQUESTS, SNMPSEC_OUT_OF_MEMORY. */
+SNMPSEC_CHECK int snmpsec_manager_ask_discovery(snmpsec_manager *manager, uint32_t message_id, uint64_t *token);
+
+/* Which request that waits is answered by the message that is kept, and how: `kind` is SNMPSEC_REPLY_RESPONSE, which ends the request,
+ * SNMPSEC_REPLY_REPORT, or SNMPSEC_REPLY_OTHER where none is answered; then token is 0. A Report has its counter, as snmpsec_report has it, and
+ * is_authentic says if it came with authentication, from the engine that was asked and for the user that asks; any other can be anybody's. */
+typedef struct snmpsec_answered { snmpsec_reply_kind kind; int counter; bool is_authentic; uint64_t token; } snmpsec_answered;
+/* A message answers one request alone, and the Response of a request is reported once. SNMPSEC_NOTHING_TAKEN: no message is kept. */
+SNMPSEC_CHECK int snmpsec_manager_answered(snmpsec_manager *manager, snmpsec_answered *out);
+/* The request isn't waited for any more, and no message answers it. SNMPSEC_NOTHING_TAKEN: no request with this token waits. */
+SNMPSEC_CHECK int snmpsec_manager_give_up(snmpsec_manager *manager, uint64_t token);
+
+/* What is sent to a device whose engine ID, or whose boots and time, may be unknown (RFC 3414, section 4): a discovery; a request without bindings
+ * at SNMPSEC_AUTH_NO_PRIV, by whose Report the manager learns boots and time, so that nothing is sealed with a time that may be wrong; and the
+ * request, at its own level and no other. Or what is to be done: wait for an answer to what was sent last; the request is answered; or the engine
+ * refused it. */
+typedef enum snmpsec_step {
+    SNMPSEC_SEND_DISCOVERY = 0, SNMPSEC_SEND_TIME_REQUEST = 1, SNMPSEC_SEND_REQUEST = 2, SNMPSEC_WAIT = 3, SNMPSEC_ANSWERED = 4, SNMPSEC_DENIED = 5
+} snmpsec_step;
+/* What is known of a device: nothing; its engine ID; or the manager holds boots and time of its engine too (snmpsec_manager_clock). */
+typedef enum snmpsec_known { SNMPSEC_KNOWN_NOTHING = 0, SNMPSEC_KNOWN_ENGINE = 1, SNMPSEC_KNOWN_CLOCK = 2 } snmpsec_known;
+/* A request of a device: its level, what was sent last (SNMPSEC_WAIT: nothing is sent any more), and whether the request was sent again. `counter`
+ * is that of the last Report that says why the request is refused or, where it isn't authentic, is likely to have no answer; -1 of none. */
+typedef struct snmpsec_device { snmpsec_level level; uint32_t sent, again; int counter; bool is_authentic; } snmpsec_device;
+
+/* Begins a request of a device, and says what is sent first. SNMPSEC_BAD_ARGUMENT: no such level, or no such knowledge. */
+SNMPSEC_CHECK int snmpsec_device_begin(snmpsec_device *device, snmpsec_level level, snmpsec_known known, snmpsec_step *step);
+/* Says what is to be done once a message answered what was sent last. holds_clock: the manager holds boots and time of the engine that answered. A
+ * Report that isn't authentic ends nothing. The request is sent again once, after an authentic Report of SNMPSEC_NOT_IN_WINDOWS; any other authentic
+ * Report, and a second one, is SNMPSEC_DENIED. SNMPSEC_BAD_ARGUMENT: a number is out of its range; then nothing changes. */
+SNMPSEC_CHECK int snmpsec_device_hear(snmpsec_device *device, const snmpsec_answered *answered, bool holds_clock, snmpsec_step *step);
 
 /* Joins in the clocks of a saved text: SNMPSEC_BAD_CLOCKS, SNMPSEC_OUT_OF_MEMORY. */
 SNMPSEC_CHECK int snmpsec_manager_absorb(snmpsec_manager *manager, const uint8_t *text, size_t text_len, uint64_t now);

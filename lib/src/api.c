@@ -302,6 +302,64 @@ int snmpsec_manager_request(snmpsec_manager *manager, uint64_t now, const snmpse
                                         r->request_id, r->error_status, r->error_index, in(r->list.at, r->list.len), r->list.len, r->salt));
 }
 
+int snmpsec_manager_ask(snmpsec_manager *manager, uint64_t now, const snmpsec_request *r, uint64_t *token) {
+    if (!manager || !r || !token) return SNMPSEC_BAD_ARGUMENT;
+    return written_request(
+        manager, proved_manager_ask(manager->held, now, r->message_id, in(r->engine.at, r->engine.len), r->engine.len, in(r->user.at, r->user.len),
+                                    r->user.len, r->level, in(r->context_engine.at, r->context_engine.len), r->context_engine.len,
+                                    in(r->context_name.at, r->context_name.len), r->context_name.len, r->pdu, r->request_id, r->error_status,
+                                    r->error_index, in(r->list.at, r->list.len), r->list.len, r->salt, token));
+}
+
+int snmpsec_manager_ask_discovery(snmpsec_manager *manager, uint32_t message_id, uint64_t *token) {
+    if (!manager || !token) return SNMPSEC_BAD_ARGUMENT;
+    return written_request(manager, proved_manager_ask_discovery(manager->held, message_id, token));
+}
+
+int snmpsec_manager_answered(snmpsec_manager *manager, snmpsec_answered *out) {
+    enum { REPORT = 10, AUTHENTIC_REPORT = 20 };
+    uint64_t token = 0;
+    if (!manager || !out) return SNMPSEC_BAD_ARGUMENT;
+    int32_t answer = proved_manager_find_answer(manager->held, &token);
+    if (answer < 0) return answer;
+    bool is_authentic = answer >= AUTHENTIC_REPORT, is_report = answer >= REPORT;
+    *out = (snmpsec_answered){.kind = is_report ? SNMPSEC_REPLY_REPORT : (snmpsec_reply_kind)answer,
+                              .counter = is_report ? answer - (is_authentic ? AUTHENTIC_REPORT : REPORT) : 0,
+                              .is_authentic = is_authentic, .token = token};
+    return SNMPSEC_OK;
+}
+
+int snmpsec_manager_give_up(snmpsec_manager *manager, uint64_t token) {
+    return manager ? proved_manager_give_up(manager->held, token) : SNMPSEC_BAD_ARGUMENT;
+}
+
+int snmpsec_device_begin(snmpsec_device *device, snmpsec_level level, snmpsec_known known, snmpsec_step *step) {
+    if (!device || !step) return SNMPSEC_BAD_ARGUMENT;
+    int32_t first = proved_device_begin(level, known);
+    if (first < 0) return first;
+    *device = (snmpsec_device){.level = level, .sent = (uint32_t)first, .counter = -1};
+    *step = (snmpsec_step)first;
+    return SNMPSEC_OK;
+}
+
+int snmpsec_device_hear(snmpsec_device *device, const snmpsec_answered *answered, bool holds_clock, snmpsec_step *step) {
+    enum { REFUSED = 10 };
+    if (!device || !answered || !step) return SNMPSEC_BAD_ARGUMENT;
+    if (answered->kind == SNMPSEC_REPLY_OTHER) {
+        *step = SNMPSEC_WAIT;
+        return SNMPSEC_OK;
+    }
+    int32_t next = proved_device_hear(device->level, answered->kind, (uint32_t)answered->counter, answered->is_authentic, holds_clock,
+                                      &device->sent, &device->again);
+    if (next < 0) return next;
+    if (answered->kind == SNMPSEC_REPLY_REPORT && (next == SNMPSEC_WAIT || next >= REFUSED)) {
+        device->counter = answered->counter;
+        device->is_authentic = next >= REFUSED;
+    }
+    *step = next >= REFUSED ? SNMPSEC_DENIED : (snmpsec_step)next;
+    return SNMPSEC_OK;
+}
+
 int snmpsec_manager_absorb(snmpsec_manager *manager, const uint8_t *text, size_t text_len, uint64_t now) {
     return manager ? proved_manager_absorb(manager->held, in(text, text_len), text_len, now) : SNMPSEC_BAD_ARGUMENT;
 }

@@ -160,7 +160,7 @@ static void words(void) {
         if (name) named++;
         check("words where there is a name", name != NULL, strcmp(snmpsec_strerror(answer), "unknown answer") != 0);
     }
-    check("names", 25, named);
+    check("names", 26, named);
     check("the name of 9", 0, strcmp(snmpsec_error_name(SNMPSEC_WRONG_DIGEST), "WRONG_DIGEST"));
     check("the version", 0, strcmp(snmpsec_version(), SNMPSEC_VERSION));
     uint8_t secret[4] = {1, 2, 3, 4};

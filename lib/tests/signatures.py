@@ -23,9 +23,9 @@ DECLARED = set(re.findall(r"\bsnmpsec_(\w+)\(", HEADER))
 NOT_IN_PYTHON = {"agent_allows", "agent_user_allows", "wipe"}
 NOT_IN_RUST = {"agent_allows", "agent_user_allows", "error_name"}
 
-STRUCTS = {"Octets": "octets", "Info": "info", "Counters": "counters", "Counts": "counts", "Report": "report", "Reply": "reply", "Clock": "clock", "ConfigPlace": "config_place", "Notice": "notice", "Request": "request",
+STRUCTS = {"Octets": "octets", "Info": "info", "Counters": "counters", "Counts": "counts", "Report": "report", "Reply": "reply", "Answered": "answered", "Heard": "answered", "Device": "device", "Clock": "clock", "ConfigPlace": "config_place", "Notice": "notice", "Request": "request",
            "BindingRead": "binding"}
-READ = {"Octets", "Notice", "Request"}  # structs that a call only reads
+READ = {"Octets", "Notice", "Request", "Heard"}  # structs that a call only reads
 
 
 def snake(name):
@@ -44,7 +44,7 @@ def handle_of(name):
 
 PYTHON_TYPES = {None: "void", ctypes.c_bool: "bool", ctypes.c_int: "int", ctypes.c_uint: "uint32_t", ctypes.c_uint8: "uint8_t", ctypes.c_uint64: "uint64_t",
                 ctypes.c_size_t: "size_t", ctypes.c_char_p: "const uint8_t *", ctypes.POINTER(ctypes.c_char): "uint8_t *",
-                ctypes.POINTER(ctypes.c_size_t): "size_t *", ctypes.POINTER(ctypes.c_uint32): "const uint32_t *",
+                ctypes.POINTER(ctypes.c_size_t): "size_t *", ctypes.POINTER(ctypes.c_uint64): "uint64_t *", ctypes.POINTER(ctypes.c_uint32): "const uint32_t *",
                 ctypes.POINTER(_library.Enumeration): "uint32_t *", ctypes.POINTER(_library.Written): "uint32_t *", _library.Octets: "snmpsec_octets"}
 for _name, _c in STRUCTS.items():
     PYTHON_TYPES[ctypes.POINTER(getattr(_library, _name))] = f"{'const ' * (_name in READ)}snmpsec_{_c} *"
@@ -71,7 +71,8 @@ def python_numbers():
     for kind in vars(snmpsec).values():
         if isinstance(kind, type) and issubclass(kind, enum.IntEnum) and kind is not enum.IntEnum:
             for one in kind:
-                yield f"SNMPSEC_{PYTHON_NAMES.get(one.name, one.name)} == {int(one)}"
+                name = f"KNOWN_{one.name}" if kind is snmpsec.Known else PYTHON_NAMES.get(one.name, one.name)
+                yield f"SNMPSEC_{name} == {int(one)}"
     for number, fault in snmpsec._FAULTS.items():
         yield f"SNMPSEC_{snake(fault.__name__)} == {number}"
     yield f"SNMPSEC_SHORT_BUFFER == {snmpsec._SHORT_BUFFER} && SNMPSEC_OUT_OF_MEMORY == {snmpsec._OUT_OF_MEMORY}"
@@ -134,7 +135,7 @@ def rust_numbers():
 
 EXPORT_TYPES = {"*mut u8": ["void *"], "&mut *mut u8": ["void **"], "&[u8]": ["const uint8_t *", "size_t"], "&mut [u8]": ["uint8_t *", "size_t"],
                 "&[u32]": ["const uint32_t *", "size_t"], "&mut [u32]": ["uint32_t *", "size_t"], "&mut [i32]": ["int32_t *", "size_t"], "&mut [i64]": ["int64_t *", "size_t"],
-                "&mut [usize]": ["size_t *", "size_t"], "&mut usize": ["size_t *"], "&mut u32": ["uint32_t *"], "u32": ["uint32_t"], "u64": ["uint64_t"],
+                "&mut [usize]": ["size_t *", "size_t"], "&mut usize": ["size_t *"], "&mut u32": ["uint32_t *"], "&mut u64": ["uint64_t *"], "u32": ["uint32_t"], "u64": ["uint64_t"],
                 "usize": ["size_t"], "Global": []}
 
 

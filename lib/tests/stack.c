@@ -76,12 +76,26 @@ static snmpsec_level level = SNMPSEC_AUTH_PRIV;
 static const char *user = "bob";
 static void agent_new(void) { answer = snmpsec_agent_new(config, config_len, engine, sizeof engine, 5, NOW - 100, &agent); }
 static void manager_new(void) { answer = snmpsec_manager_new(config, config_len, (const uint8_t *)SNMPSEC_NO_CLOCKS, strlen(SNMPSEC_NO_CLOCKS), NOW, &manager); }
-static void request(void) {
+static uint64_t token;
+static snmpsec_request asked(void) {
     id++;
-    snmpsec_request r = {.pdu = SNMPSEC_GET_REQUEST, .message_id = id, .request_id = id, .level = level, .engine = {engine, sizeof engine},
-                         .user = {(const uint8_t *)user, 3}, .context_engine = {engine, sizeof engine}, .list = {list, list_len}, .salt = id};
+    return (snmpsec_request){.pdu = SNMPSEC_GET_REQUEST, .message_id = id, .request_id = id, .level = level, .engine = {engine, sizeof engine},
+                             .user = {(const uint8_t *)user, 3}, .context_engine = {engine, sizeof engine}, .list = {list, list_len}, .salt = id};
+}
+static void request(void) {
+    snmpsec_request r = asked();
     answer = snmpsec_manager_request(manager, NOW, &r);
 }
+static void ask(void) {
+    snmpsec_request r = asked();
+    answer = snmpsec_manager_ask(manager, NOW, &r, &token);
+}
+static void ask_discovery(void) { answer = snmpsec_manager_ask_discovery(manager, id, &token); }
+static void answered(void) {
+    snmpsec_answered found;
+    answer = snmpsec_manager_answered(manager, &found);
+}
+static void give_up(void) { answer = snmpsec_manager_give_up(manager, token); }
 static void agent_take(void) { answer = snmpsec_agent_take(agent, NOW, message, len); }
 static void respond(void) { answer = snmpsec_agent_respond(agent, NOW, 0, 0, list, list_len, id); }
 static void manager_take(void) { answer = snmpsec_manager_take(manager, NOW, message, len); }
@@ -112,11 +126,15 @@ int main(int argc, char **argv) {
     for (int round = 0; round < 3; round++) {
         if (round == 2) list_len = 0;
         measure("request", request, SNMPSEC_STACK);
+        measure("ask_discovery", ask_discovery, SNMPSEC_STACK);
+        measure("give_up", give_up, SNMPSEC_STACK);
+        measure("ask", ask, SNMPSEC_STACK);
         if (snmpsec_manager_message(manager, message, sizeof message, &len)) return 1;
         measure("agent_take", agent_take, SNMPSEC_STACK);
         if (!answer) measure("respond", respond, SNMPSEC_STACK);
         if (snmpsec_agent_message(agent, message, sizeof message, &len)) return 1;
         measure("manager_take", manager_take, SNMPSEC_STACK);
+        measure("answered", answered, SNMPSEC_STACK);
     }
     measure("password_key", password_key, SNMPSEC_STACK);
     measure("localise", localised, SNMPSEC_STACK);

@@ -29,6 +29,19 @@ test_window() {
     end_snmpd
 }
 
+test_many() {
+    local level
+    for level in 1 2 3; do
+        begin_agent
+        check "many requests at once at level $level" "200 answered, 0 wait" "$(over_udp many $port sha $level)"
+        end_agent
+        if ! command -v snmpd > /dev/null; then continue; fi
+        begin_snmpd
+        check "many requests at once of snmpd at level $level" "200 answered, 0 wait" "$(over_udp many $snmpd_port sha $level)"
+        end_snmpd
+    done
+}
+
 test_notifications() {
     if ! command -v snmptrapd > /dev/null; then return; fi
     local user hash password level
@@ -63,6 +76,7 @@ test_python() {
         echo "skipped: the types in Python: there is no mypy (apt-get install mypy)"
     fi
     test_window
+    test_many
     test_notifications
 }
 

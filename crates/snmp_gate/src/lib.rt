@@ -2,7 +2,7 @@
 //! whose instrumentation is asked over SNMPv2c (RFC 3413, section 3.2; RFC 1901).
 //!
 //! ```
-//! use snmp_gate::{RememberedSets, SetNote, ResponseStatus, set_digest, set_outcome};
+//! use snmp_gate::{RememberedSets, ResponseStatus, SetNote, set_digest, set_outcome};
 //!
 //! let digest = set_digest(b"0\x03\x02\x01\x03");
 //! let mut sets = RememberedSets::new(rt.alloc());
@@ -129,7 +129,7 @@
 //! ```
 //!
 //! ```
-//! use snmp_gate::{Device, DeviceAsks, Devices, RepeatedContext};
+//! use snmp_gate::{Device, Devices, RepeatedContext};
 //! use std::alloc::{AllocError, Global};
 //!
 //! fn device(alloc: Global, context: &[u8]) -> Result<Device, AllocError> {
@@ -140,7 +140,7 @@
 //!         max_size: 1472,
 //!         repetitions: 32,
 //!         names: 100,
-//!         asks: DeviceAsks::new(alloc, 32),
+//!         at_once: 32,
 //!     })
 //! }
 //!

@@ -20,7 +20,7 @@ use crate::set_answer::{ResponseStatus, TOO_BIG};
 use crate::task::Task;
 use crate::timer::Due;
 use crate::waiting_message::WaitingMessage;
-use crate::work::{RequestEnd, OpenRequest, Todo, Work};
+use crate::work::{OpenRequest, RequestEnd, Todo, Work};
 use snmp_agent::{Agent, Unhandled};
 use std::alloc::{AllocError, Global};
 

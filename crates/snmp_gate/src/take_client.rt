@@ -29,7 +29,7 @@ use crate::task::Task;
 use crate::timer::Timer;
 use crate::viewing::{answers_of, pdu_of, viewer_of};
 use crate::waiting_message::WaitingMessage;
-use crate::work::{RequestEnd, OpenRequest, Work};
+use crate::work::{OpenRequest, RequestEnd, Work};
 use snmp_agent::Unhandled;
 use snmp_incoming::{Kept, Taken};
 use snmp_msg::PduType;
@@ -366,7 +366,9 @@ impl Gate {
         };
         let note = self.sets.look(now, &digest);
         match note {
-            SetNote::Repeated(Some(says)) => Ok(SetBegins::Onward(Onward::Ends(RequestEnd::Own(says)))),
+            SetNote::Repeated(Some(says)) => Ok(SetBegins::Onward(Onward::Ends(RequestEnd::Own(
+                says,
+            )))),
             SetNote::Repeated(None) => Ok(SetBegins::Unknown),
             SetNote::New => self.begin_new_set(now, device, message, false),
             SetNote::NoRoom => self.begin_new_set(now, device, message, true),

@@ -24,7 +24,7 @@ use crate::set_answer::set_outcome;
 use crate::task::Task;
 use crate::viewing::{pdu_of, viewer_of};
 use crate::waiting_message::WaitingMessage;
-use crate::work::{RequestEnd, OpenRequest, Work};
+use crate::work::{OpenRequest, RequestEnd, Work};
 use snmp_msg::Pdu;
 use snmp_responder::Viewer;
 use std::alloc::{AllocError, Global};

@@ -1,3 +1,4 @@
 pub mod Told
 pub mod Helds
 pub mod NextNames
+pub mod ManyAsks

@@ -2,7 +2,7 @@
 use Rattle.std.specs.Prelude.{⊤}
 use Rattle.std.proofs.Common.{ℕ, List, Option, Some, None, Result, Ok, Err}
 use Rattle.snmp_handles.specs.declared.fault.CallFault.{CallFault}
-use Rattle.snmp_handles.specs.declared.fault.CallFault.TheVariants.{BadArgument, NothingTaken, NotAsked, BadBindings, ShortBuffer, BadConfiguration, BadClocks, Refused}
+use Rattle.snmp_handles.specs.declared.fault.CallFault.TheVariants.{BadArgument, NothingTaken, NotAsked, BadBindings, ShortBuffer, BadConfiguration, BadClocks, Refused, TooManyRequests}
 use Rattle.snmp_handles.specs.Agents.{AgentHeld}
 use Rattle.snmp_handles.specs.Walks.{CopiesName, WritesHeld, WritesNext}
 
@@ -19,6 +19,7 @@ is_short old new written (Some name) NotAsked copies = absurd copies
 is_short old new written (Some name) BadBindings copies = absurd copies
 is_short old new written (Some name) BadConfiguration copies = absurd copies
 is_short old new written (Some name) BadClocks copies = absurd copies
+is_short old new written (Some name) TooManyRequests copies = absurd copies
 is_short old new written (Some name) (Refused refusal) copies = absurd copies
 
 pub written_next : (held : AgentHeld) (view : ℕ) (from old new : List ℕ) (written written_new : ℕ) (told : Result ⊤ CallFault)
@@ -31,4 +32,5 @@ written_next held view from old new written written_new (Err NotAsked) h = absur
 written_next held view from old new written written_new (Err BadBindings) h = absurd (is_short old new written_new h.2 BadBindings h.7)
 written_next held view from old new written written_new (Err BadConfiguration) h = absurd (is_short old new written_new h.2 BadConfiguration h.7)
 written_next held view from old new written written_new (Err BadClocks) h = absurd (is_short old new written_new h.2 BadClocks h.7)
+written_next held view from old new written written_new (Err TooManyRequests) h = absurd (is_short old new written_new h.2 TooManyRequests h.7)
 written_next held view from old new written written_new (Err (Refused refusal)) h = absurd (is_short old new written_new h.2 (Refused refusal) h.7)

@@ -14,7 +14,7 @@ use Rattle.snmp_handles.specs.Numbers.{access_of, unhandled_number}
 use Rattle.snmp_handles.specs.declared.fault.CallFault.{CallFault}
 use Rattle.snmp_handles.specs.declared.fault.CallFault.TheVariants.{Refused, BadArgument, NothingTaken, NotAsked}
 use Rattle.snmp_handles.specs.declared.fault.CallFault.TheVariants.{BadBindings, ShortBuffer, BadConfiguration}
-use Rattle.snmp_handles.specs.declared.fault.CallFault.TheVariants.{BadClocks}
+use Rattle.snmp_handles.specs.declared.fault.CallFault.TheVariants.{BadClocks, TooManyRequests}
 
 -- a refusal has its own number, and a fault of the call a negative one
 abbrev pub fault_code : CallFault → ℤ
@@ -26,6 +26,7 @@ fault_code BadBindings = negsuc 3
 fault_code ShortBuffer = negsuc 4
 fault_code BadConfiguration = negsuc 5
 fault_code BadClocks = negsuc 6
+fault_code TooManyRequests = negsuc 7
 
 -- 0 where the call was done
 abbrev pub code : {V : Type 0} → Result V CallFault → ℤ

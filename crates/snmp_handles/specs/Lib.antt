@@ -2,6 +2,7 @@ pub mod Agents
 pub mod Dispatch
 pub mod Between
 pub mod Managers
+pub mod ManyRequests
 pub mod Reports
 pub mod Asked
 pub mod Faults

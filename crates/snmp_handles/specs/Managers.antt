@@ -32,6 +32,7 @@ use Rattle.snmp_manager.specs.Pendings.{Remembers}
 use Rattle.snmp_manager.specs.Replies.{IsAnswer}
 use Rattle.snmp_manager.specs.declared.pending.Pending.{Pending}
 use Rattle.snmp_manager.specs.declared.pending.Answer.{Answer}
+use Rattle.snmp_requests.specs.Outstanding.{Outstanding, none_outstanding}
 use Rattle.snmpsec_config.specs.Refusals.{Loads, RefusesText}
 use Rattle.snmpsec_config.specs.declared.fault.ConfigFault.{ConfigFault}
 use Rattle.vacm_core.specs.Tables.{Tables}
@@ -48,6 +49,8 @@ pub record ManagerHeld : Type 0 where
   pub message : Option (List ℕ)
   -- what is remembered of the request that was written last
   pub pending : Option Pending
+  -- the requests that were asked, many at once, and wait for their answers
+  pub requests : Outstanding
 
 -- ---- making one
 
@@ -68,13 +71,20 @@ MakesManager config text now (Ok made) =
       last = None;
       message = None;
       pending = None;
+      requests = none_outstanding;
     })
 MakesManager config text now (Err fault) = RefusesManager config text now fault
 
 -- Nothing is held any more. A refusal changes nothing.
 abbrev pub ClearsManager : {V : Type 0} → ManagerHeld → Result V CallFault → ManagerHeld → Type 0
 ClearsManager old (Ok done) new = new
-    ≡ record { manager = held_by [] map.empty; last = None; message = None; pending = None }
+    ≡ record {
+      manager = held_by [] map.empty;
+      last = None;
+      message = None;
+      pending = None;
+      requests = none_outstanding;
+    }
 ClearsManager old (Err fault) new = (fault ≡ Refused OutOfMemory) × (new ≡ old)
 
 -- ---- taking
@@ -83,9 +93,9 @@ ClearsManager old (Err fault) new = (fault ≡ Refused OutOfMemory) × (new ≡ 
 abbrev pub ManagerTakes : {V : Type 0} → ManagerHeld → ℕ → List ℕ → Result V CallFault → ManagerHeld → Type 0
 ManagerTakes old now w (Ok done) new =
     (g : Given) × (new.last ≡ Some g) × (new.message ≡ None) × (new.pending ≡ old.pending)
-    × manager.Takes old.manager now w (Some (Ok g)) new.manager
+    × (new.requests ≡ old.requests) × manager.Takes old.manager now w (Some (Ok g)) new.manager
 ManagerTakes old now w (Err (Refused fault)) new =
-    (new.last ≡ None) × (new.message ≡ None) × (new.pending ≡ old.pending)
+    (new.last ≡ None) × (new.message ≡ None) × (new.pending ≡ old.pending) × (new.requests ≡ old.requests)
     × manager.Takes old.manager now w (refusal_answer fault) new.manager
 ManagerTakes old now w (Err _) new = ⊥
 

@@ -29,11 +29,14 @@ pub enum CallFault {
     BadConfiguration,
     /// The text saves no clocks.
     BadClocks,
+    /// As many requests wait as may.
+    TooManyRequests,
 }
 
 impl CallFault {
     /// The fault's number: that of the refusal, 1 to 18, or for a fault of the call -1 BadArgument, -2 NothingTaken, -3
-    /// NotAsked, -4 BadBindings, -5 ShortBuffer, -6 BadConfiguration, -7 BadClocks.
+    /// NotAsked, -4 BadBindings, -5 ShortBuffer, -6 BadConfiguration, -7 BadClocks, -8
+    /// TooManyRequests.
     pub fn code(self) -> i32
         ensures { result ≡ fault_code self }
     {
@@ -46,6 +49,7 @@ impl CallFault {
             CallFault::ShortBuffer => -5,
             CallFault::BadConfiguration => -6,
             CallFault::BadClocks => -7,
+            CallFault::TooManyRequests => -8,
         }
     }
 }

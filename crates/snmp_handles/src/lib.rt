@@ -31,6 +31,7 @@ mod dispatch;
 mod fault;
 mod in_range;
 mod manager;
+mod many_requests;
 mod numbers;
 mod parts;
 mod reports;

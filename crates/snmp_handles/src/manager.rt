@@ -1,4 +1,4 @@
-//! A manager with what it accepted last, what it wrote last and the request that it waits for.
+//! A manager with what it accepted last, what it wrote last, and the requests that it waits for.
 
 ghost use Rattle.std.specs.Prelude.{◌≡◌, ◌≢◌, MatchOption, None, Some, Err};
 ghost use Rattle.std.specs.Int.{to_be_bytes, w64};
@@ -22,12 +22,14 @@ use snmp_incoming::Kept;
 use snmp_manager::{Answer, Manager, Pending, Target, answer_of};
 use snmp_msg::Refusal;
 use snmp_outgoing::Front;
+use snmp_requests::OutstandingRequests;
 use snmpsec_config::{Config, ConfigFault};
 use std::alloc::Global;
 use std::marker::Model;
 use usm_core::{UserRow, Users};
 
-/// A manager, the message that it accepted last, the message that it wrote last, and the request that it waits for.
+/// A manager, the message that it accepted last, the message that it wrote last, the request that it waits for, and the
+/// requests that were asked, many at once.
 #[derive(Drop)]
 pub struct ManagerHandle {
     pub(crate) alloc: Global,
@@ -35,23 +37,26 @@ pub struct ManagerHandle {
     pub(crate) last: Option<Kept>,
     pub(crate) message: Option<Vec<u8>>,
     pub(crate) pending: Option<Pending>,
+    pub(crate) requests: OutstandingRequests,
 }
 
 impl Model for ManagerHandle {
     ghost use Rattle.std.specs.Prelude.{option_map};
     ghost use Rattle.std.specs.Coded.{codes};
+    ghost use Rattle.std.specs.FinMap as map;
     ghost use Rattle.engine_clock.specs.Marks.{marks_code};
     ghost use Rattle.snmp_handles.specs.Managers.{ManagerHeld};
 
     ghost Value = { ManagerHeld };
 
-    ghost coded = { Prim.hlevel (codes, marks_code) };
+    ghost coded = { Prim.hlevel (codes, marks_code, map.code) };
 
     ghost view = { λ h. record {
       manager = h.manager;
       last = h.last;
       message = option_map (λ v. v.items) h.message;
       pending = h.pending;
+      requests = h.requests;
     } };
 }
 
@@ -88,7 +93,7 @@ fn answer(kept: &Kept, pending: &Pending) -> Answer
 }
 
 /// The request that asks this, with the bindings that these octets are.
-fn request(
+pub(crate) fn request(
     alloc: Global,
     manager: &mut Manager,
     now: u64,
@@ -152,6 +157,7 @@ impl ManagerHandle {
                 last: None,
                 message: None,
                 pending: None,
+                requests: OutstandingRequests::new(alloc),
             }),
             Err(ConfigFault::OutOfMemory) => Err(CallFault::Refused(Refusal::OutOfMemory)),
             Err(_) => Err(CallFault::BadConfiguration),
@@ -170,6 +176,7 @@ impl ManagerHandle {
         self.last = None;
         self.message = None;
         self.pending = None;
+        self.requests = OutstandingRequests::new(self.alloc);
         Ok(())
     }
 

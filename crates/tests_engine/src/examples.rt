@@ -22,6 +22,8 @@ mod of_snmp_manager_world;
 mod of_snmp_message;
 mod of_snmp_msg;
 mod of_snmp_outgoing;
+mod of_snmp_requests;
+mod of_snmp_requests_device;
 mod of_snmp_responder;
 mod of_snmp_walk;
 mod of_snmp_walk_bulk;

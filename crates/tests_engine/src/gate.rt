@@ -1,7 +1,7 @@
 //! The pieces of the gateway at the ends of their ranges.
 use snmp_gate::{
-    AccessRefusal, DeviceAsks, Due, Joined, REQUEST_IDS, RememberedSets, Retries, SETS_LIMIT,
-    SetNote, ResponseStatus, Timer, WaitingRequests, access_refusal, set_digest, set_outcome,
+    AccessRefusal, DeviceAsks, Due, Joined, REQUEST_IDS, RememberedSets, ResponseStatus, Retries,
+    SETS_LIMIT, SetNote, Timer, WaitingRequests, access_refusal, set_digest, set_outcome,
 };
 use snmp_msg::PduType;
 use std::test::Fail;

@@ -43,7 +43,7 @@ fn gate(alloc: Global) -> Result<Gate, Fail> {
         at_once: 32,
     })?;
     let devices = Devices::new(list).map_err(|_| "one device")?;
-    Ok(Gate::new(alloc, agent, devices, GateLimits::default()))
+    Ok(Gate::new(alloc, agent, devices, GateLimits::default())?)
 }
 
 fn request(alloc: Global, pdu_type: PduType, id: i32) -> Result<Vec<u8>, Fail> {
@@ -78,9 +78,19 @@ const ANSWER: &[u8] = b"\x30\x2c\x02\x01\x01\x04\x06public\
 fn a_get_goes_through(rt: HostRuntime) -> Result<(), Fail> {
     let mut gate = gate(rt.alloc())?;
     let datagram = request(rt.alloc(), PduType::GetRequest, 1)?;
-    assert!(rt; matches!(gate.take_client(1000, CLIENT, &datagram)?, ClientTaken::Begins(0)));
+    assert!(rt;
+        matches!(
+            gate.take_client(1000, CLIENT, &datagram)?,
+            ClientTaken::Begins(0)
+        )
+    );
     let again = request(rt.alloc(), PduType::GetRequest, 2)?;
-    assert!(rt; matches!(gate.take_client(1001, CLIENT, &again)?, ClientTaken::Joins(0)));
+    assert!(rt;
+        matches!(
+            gate.take_client(1001, CLIENT, &again)?,
+            ClientTaken::Joins(0)
+        )
+    );
     let Sent::ToDevice { datagram, .. } = gate.next(1001, [0; 8], 5)? else {
         return Err("the device is asked".into());
     };
@@ -89,7 +99,12 @@ fn a_get_goes_through(rt: HostRuntime) -> Result<(), Fail> {
     assert!(rt; gate.take_device(1100, 0, ANSWER)? == DeviceTaken::Answers(0));
     assert!(rt; gate.take_device(1100, 0, ANSWER)? == DeviceTaken::NotWaitedFor);
     for _ in 0..2 {
-        let Sent::ToClient { client, datagram, .. } = gate.next(1100, [2; 8], 7)? else {
+        let Sent::ToClient {
+            client,
+            datagram,
+            ..
+        } = gate.next(1100, [2; 8], 7)?
+        else {
             return Err("the client is answered".into());
         };
         assert!(rt; client.as_slice() == CLIENT);
@@ -104,13 +119,28 @@ fn a_get_goes_through(rt: HostRuntime) -> Result<(), Fail> {
 fn a_set_goes_through_once(rt: HostRuntime) -> Result<(), Fail> {
     let mut gate = gate(rt.alloc())?;
     let datagram = request(rt.alloc(), PduType::SetRequest, 1)?;
-    assert!(rt; matches!(gate.take_client(1000, CLIENT, &datagram)?, ClientTaken::Begins(0)));
-    assert!(rt; matches!(gate.take_client(1000, CLIENT, &datagram)?, ClientTaken::SetOfBefore));
+    assert!(rt;
+        matches!(
+            gate.take_client(1000, CLIENT, &datagram)?,
+            ClientTaken::Begins(0)
+        )
+    );
+    assert!(rt;
+        matches!(
+            gate.take_client(1000, CLIENT, &datagram)?,
+            ClientTaken::SetOfBefore
+        )
+    );
     assert!(rt; matches!(gate.next(1001, [0; 8], 5)?, Sent::ToDevice { .. }));
     assert!(rt; gate.take_device(1100, 0, ANSWER)? == DeviceTaken::NotWaitedFor);
     assert!(rt; gate.due() == Some(4001));
     assert!(rt; matches!(gate.next(4001, [1; 8], 6)?, Sent::GivenUp { .. }));
     assert!(rt; matches!(gate.next(4001, [1; 8], 6)?, Sent::Unanswered { .. }));
-    assert!(rt; matches!(gate.take_client(4001, CLIENT, &datagram)?, ClientTaken::SetOfBefore));
+    assert!(rt;
+        matches!(
+            gate.take_client(4001, CLIENT, &datagram)?,
+            ClientTaken::SetOfBefore
+        )
+    );
     Ok(())
 }

@@ -1,7 +1,8 @@
-"""A manager and an agent over UDP, on 127.0.0.1: over_udp.py window|inform|trap CONFIG PORT USER LEVEL [ENGINE-ID-HEX]
+"""A manager and an agent over UDP, on 127.0.0.1: over_udp.py window|many|inform|trap CONFIG PORT USER LEVEL [ENGINE-ID-HEX]
 
 window asks an agent with boots and times that are off by so much from the agent's, prints what comes back, and at the end how many
-reports of usmStatsNotInTimeWindows came in all. inform sends an InformRequest (RFC 3416, section 4.2.7) and prints what comes back.
+reports of usmStatsNotInTimeWindows came in all. many discovers an agent, learns its time and asks 200 requests before it takes an answer, all of them
+by the calls for many requests at once, and prints how many Responses were told to the request with their own request-id. inform sends an InformRequest (RFC 3416, section 4.2.7) and prints what comes back.
 trap sends an SNMPv2-Trap of the engine. Not proved.
 """
 import os
@@ -94,6 +95,42 @@ def window(asker):
     print(f"reports of counter 2: {asker.reports}")
 
 
+def answered(manager, channel):
+    """What answers come to the manager's message, until a second passes without any."""
+    while True:
+        try:
+            datagram = channel.recv(65536)
+        except TimeoutError:
+            return
+        if manager.take(int(time.time()), datagram) is None:
+            found = manager.answered()
+            if found:
+                yield found, manager.info().request_id
+
+
+def many(asker):
+    asker.socket.settimeout(1)
+    with snmpsec.Manager(asker.config) as manager:
+        def ask(level, octets, request_id):
+            token = manager.ask(int(time.time()), Pdu.GET, engine=engine, user=asker.user, level=level, octets=octets, salt=salt(),
+                                message_id=asker.id, request_id=request_id)
+            asker.socket.send(manager.message())
+            return token
+
+        discovery = manager.ask_discovery(asker.id)
+        asker.socket.send(manager.message())
+        found, _ = next(answered(manager, asker.socket))
+        assert found == snmpsec.Answered(discovery, False, 4, False) and manager.give_up(discovery)
+        engine = manager.part(Part.ENGINE)
+        if asker.level > Level.NO_AUTH_NO_PRIV:
+            unsealed = ask(Level.AUTH_NO_PRIV, b"", 1)
+            found, _ = next(answered(manager, asker.socket))
+            assert found == snmpsec.Answered(unsealed, False, 2, True) and manager.give_up(unsealed)
+        waits = {ask(asker.level, QUESTION, request_id): request_id for request_id in range(1000, 1200)}
+        right = sum(found.is_response and waits.pop(found.token) == request_id for found, request_id in answered(manager, asker.socket))
+        print(f"{right} answered, {len(waits)} wait")
+
+
 def inform(asker):
     asker.learned()
     print(asker.asked(asker.reader, 0, Pdu.INFORM, RESTARTED))
@@ -111,7 +148,7 @@ def main():
     if what == "trap":
         trap(*words, bytes.fromhex(sys.argv[6]))
     else:
-        {"window": window, "inform": inform}[what](Asker(*words))
+        {"window": window, "many": many, "inform": inform}[what](Asker(*words))
 
 
 main()

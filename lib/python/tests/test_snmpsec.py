@@ -52,6 +52,87 @@ def ask(manager, message_id, user, level, **more):
     return manager.message()
 
 
+class Many(unittest.TestCase):
+    """Many requests at once, which an agent answers in any order."""
+
+    def setUp(self):
+        self.agent, self.manager = Agent(CONFIG, ENGINE, BOOTS, NOW - TIME), Manager(CONFIG)
+        self.addCleanup(self.agent.close)
+        self.addCleanup(self.manager.close)
+
+    def ask(self, request_id, level=Level.NO_AUTH_NO_PRIV):
+        return self.manager.ask(NOW, Pdu.GET, engine=ENGINE, user=b"ann", level=level, octets=ASKED, salt=request_id, message_id=7,
+                                request_id=request_id)
+
+    def response(self):
+        self.assertIsNone(self.agent.take(NOW, self.manager.message()))
+        self.agent.respond(NOW, HELLO, 1)
+        return self.agent.message()
+
+    def report(self):
+        self.assertIsNotNone(self.agent.take(NOW, self.manager.message()))
+        self.assertIsNone(self.manager.take(NOW, self.agent.message()))
+        return self.manager.answered()
+
+    def test_each_response_is_of_its_request(self):
+        responses = {}
+        for request_id in range(1, 101):
+            token = self.ask(request_id)
+            responses[token] = self.response()
+        self.assertEqual(list(responses), list(range(7, 107)))
+        self.assertTrue(self.manager.give_up(50))
+        self.assertFalse(self.manager.give_up(50))
+        for token, response in reversed(responses.items()):
+            self.assertIsNone(self.manager.take(NOW, response))
+            found = None if token == 50 else snmpsec.Answered(token, True, None, False)
+            self.assertEqual(self.manager.answered(), found)
+            self.assertIsNone(self.manager.answered())
+
+    def test_a_report_ends_no_request(self):
+        self.assertIsNone(self.manager.answered())
+        discovery = self.manager.ask_discovery(7)
+        self.assertEqual(self.report(), snmpsec.Answered(discovery, False, 4, False))
+        self.assertEqual(self.manager.answered(), snmpsec.Answered(discovery, False, 4, False))
+        token = self.ask(1, Level.AUTH_PRIV)
+        self.assertEqual(self.report(), snmpsec.Answered(token, False, 2, True))
+        self.assertTrue(self.manager.give_up(discovery) and self.manager.give_up(token))
+        self.assertIsNone(self.manager.answered())
+
+    def test_what_an_unknown_device_is_sent(self):
+        device, sent = snmpsec.Device(Level.AUTH_PRIV), []
+        while device.step not in (snmpsec.Step.ANSWERED, snmpsec.Step.DENIED):
+            sent.append(device.step)
+            if device.step == snmpsec.Step.SEND_DISCOVERY:
+                self.manager.ask_discovery(7)
+            else:
+                self.ask(len(sent), Level.AUTH_NO_PRIV if device.step == snmpsec.Step.SEND_TIME_REQUEST else Level.AUTH_PRIV)
+            refused = self.agent.take(NOW, self.manager.message())
+            if refused is None:
+                self.agent.respond(NOW, HELLO, 1)
+            self.assertIsNone(self.manager.take(NOW, self.agent.message()))
+            device.hear(self.manager.answered(), self.manager.clock(ENGINE) is not None)
+        self.assertEqual(sent, [snmpsec.Step.SEND_DISCOVERY, snmpsec.Step.SEND_TIME_REQUEST, snmpsec.Step.SEND_REQUEST])
+        self.assertEqual((device.step, device.counter), (snmpsec.Step.ANSWERED, None))
+
+    def test_anybodys_report_ends_no_request(self):
+        device = snmpsec.Device(Level.AUTH_PRIV, snmpsec.Known.CLOCK)
+        for counter in range(10):
+            self.assertEqual(device.hear(snmpsec.Answered(1, False, counter, False), True), snmpsec.Step.WAIT)
+            self.assertEqual((device.counter, device.is_authentic), (counter, False))
+        not_in_window = snmpsec.Answered(1, False, 2, True)
+        self.assertEqual(device.hear(not_in_window, True), snmpsec.Step.SEND_REQUEST)
+        self.assertEqual(device.hear(not_in_window, True), snmpsec.Step.DENIED)
+        self.assertEqual((device.counter, device.is_authentic), (2, True))
+
+    def test_as_many_wait_as_may(self):
+        for _ in range(65536):
+            self.manager.ask_discovery(7)
+        with self.assertRaisesRegex(snmpsec.TooManyRequests, "65,536"):
+            self.manager.ask_discovery(7)
+        self.assertTrue(self.manager.give_up(8))
+        self.assertEqual(self.manager.ask_discovery(7), 65543)
+
+
 class Captured(unittest.TestCase):
     def test_an_agent_answers_the_requests(self):
         accepted = 0

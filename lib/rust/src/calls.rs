@@ -82,6 +82,25 @@ pub struct Reply {
 }
 
 #[repr(C)]
+#[derive(Clone, Copy, Debug, Default)]
+pub struct Device {
+    pub level: u32,
+    pub sent: u32,
+    pub again: u32,
+    pub counter: i32,
+    pub is_authentic: bool,
+}
+
+#[repr(C)]
+#[derive(Default)]
+pub struct Answered {
+    pub kind: u32,
+    pub counter: i32,
+    pub is_authentic: bool,
+    pub token: u64,
+}
+
+#[repr(C)]
 #[derive(Default)]
 pub struct Clock {
     pub boots: u32,
@@ -273,6 +292,27 @@ extern "C" {
         manager: *mut Opaque,
         now: u64,
         request: *const Request<'_>,
+    ) -> i32;
+    pub fn snmpsec_manager_ask(
+        manager: *mut Opaque,
+        now: u64,
+        request: *const Request<'_>,
+        token: *mut u64,
+    ) -> i32;
+    pub fn snmpsec_manager_ask_discovery(
+        manager: *mut Opaque,
+        message_id: u32,
+        token: *mut u64,
+    ) -> i32;
+    pub fn snmpsec_manager_answered(manager: *mut Opaque, out: *mut Answered) -> i32;
+    pub fn snmpsec_manager_give_up(manager: *mut Opaque, token: u64) -> i32;
+    pub fn snmpsec_device_begin(device: *mut Device, level: u32, known: u32, step: *mut u32)
+        -> i32;
+    pub fn snmpsec_device_hear(
+        device: *mut Device,
+        answered: *const Answered,
+        holds_clock: bool,
+        step: *mut u32,
     ) -> i32;
     pub fn snmpsec_manager_absorb(
         manager: *mut Opaque,

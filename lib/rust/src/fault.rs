@@ -84,6 +84,8 @@ pub enum Error {
     BadConfiguration,
     /// The text saves no clocks.
     BadClocks,
+    /// 65,536 requests wait for their answers.
+    TooManyRequests,
     /// A number that the header doesn't have.
     Other(i32),
 }
@@ -99,6 +101,7 @@ impl Error {
             Error::ShortBuffer => -5,
             Error::BadConfiguration => -6,
             Error::BadClocks => -7,
+            Error::TooManyRequests => -8,
             Error::Other(answer) => *answer,
         }
     }
@@ -129,6 +132,7 @@ pub(crate) fn done(answer: i32) -> Result<(), Error> {
         -5 => Error::ShortBuffer,
         -6 => Error::BadConfiguration,
         -7 => Error::BadClocks,
+        -8 => Error::TooManyRequests,
         _ => Refusal::of(answer).map_or(Error::Other(answer), Error::Refused),
     })
 }

@@ -72,6 +72,7 @@ mod agent;
 mod bindings;
 mod calls;
 mod config;
+mod device;
 mod fault;
 mod held;
 mod keys;
@@ -81,9 +82,10 @@ mod words;
 pub use agent::{status_of, Agent, Counters, Counts, Notification};
 pub use bindings::{binding, bindings, value_is, Binding};
 pub use config::{config_fault, ConfigFault, ConfigReason, ConfigTable};
+pub use device::{Device, Known, Step};
 pub use fault::{Error, Refusal};
 pub use keys::{localise, mac, open, password_key, seal, wipe, Protocol};
-pub use manager::{Clock, Manager, Reply, Report, Request};
+pub use manager::{Answer, Clock, Manager, Reply, Report, Request};
 pub use words::{Access, Info, Level, Part, Pdu, Status, Unhandled, View};
 
 /// The version of the library that is loaded.

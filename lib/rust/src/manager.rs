@@ -1,10 +1,11 @@
 //! A manager.
 
 use crate::calls::{
-    self, snmpsec_manager_absorb, snmpsec_manager_clock, snmpsec_manager_discover,
-    snmpsec_manager_free, snmpsec_manager_info, snmpsec_manager_max_size, snmpsec_manager_message,
-    snmpsec_manager_new, snmpsec_manager_part, snmpsec_manager_reply, snmpsec_manager_report,
-    snmpsec_manager_request, snmpsec_manager_save, snmpsec_manager_take,
+    self, snmpsec_manager_absorb, snmpsec_manager_answered, snmpsec_manager_ask,
+    snmpsec_manager_ask_discovery, snmpsec_manager_clock, snmpsec_manager_discover,
+    snmpsec_manager_free, snmpsec_manager_give_up, snmpsec_manager_info, snmpsec_manager_max_size,
+    snmpsec_manager_message, snmpsec_manager_new, snmpsec_manager_part, snmpsec_manager_reply,
+    snmpsec_manager_report, snmpsec_manager_request, snmpsec_manager_save, snmpsec_manager_take,
     snmpsec_manager_take_reply,
 };
 use crate::fault::{done, Error};
@@ -45,6 +46,20 @@ impl Reply {
     }
 }
 
+/// What a message is to a request that was asked.
+#[derive(Clone, Copy, Debug, PartialEq, Eq)]
+pub enum Answer {
+    /// Its Response, which ends it.
+    Response,
+    /// A Report.
+    Report {
+        /// 1 to 6 by the order of [`Counters`](crate::Counters), a number of [`Unhandled`](crate::Unhandled), or none of them.
+        counter: Option<u32>,
+        /// It came with authentication, from the engine that was asked and for the user that asks; any other can be anybody's.
+        is_authentic: bool,
+    },
+}
+
 /// What a Report tells.
 #[derive(Clone, Copy, Debug, PartialEq, Eq)]
 pub struct Report {
@@ -79,6 +94,25 @@ pub struct Request<'a> {
     pub context_engine: &'a [u8],
     pub context_name: &'a [u8],
     pub bindings: &'a [u8],
+}
+
+impl<'a> Request<'a> {
+    fn to_call(self, salt: u64) -> calls::Request<'a> {
+        calls::Request {
+            pdu: self.pdu as u32,
+            message_id: self.message_id,
+            request_id: self.request_id,
+            error_status: self.error_status,
+            error_index: self.error_index,
+            level: self.level as u32,
+            engine: self.engine.into(),
+            user: self.user.into(),
+            context_engine: self.context_engine.into(),
+            context_name: self.context_name.into(),
+            list: self.bindings.into(),
+            salt,
+        }
+    }
 }
 
 impl Manager {
@@ -155,23 +189,50 @@ impl Manager {
         done(unsafe { snmpsec_manager_discover(self.held.at(), message_id) })
     }
 
-    /// Writes a request. One is waited for at a time.
+    /// Writes a request. One is waited for at a time; [`ask`](Manager::ask) has many.
     pub fn request(&mut self, now: u64, of: &Request<'_>, salt: u64) -> Result<(), Error> {
-        let request = calls::Request {
-            pdu: of.pdu as u32,
-            message_id: of.message_id,
-            request_id: of.request_id,
-            error_status: of.error_status,
-            error_index: of.error_index,
-            level: of.level as u32,
-            engine: of.engine.into(),
-            user: of.user.into(),
-            context_engine: of.context_engine.into(),
-            context_name: of.context_name.into(),
-            list: of.bindings.into(),
-            salt,
-        };
+        let request = of.to_call(salt);
         done(unsafe { snmpsec_manager_request(self.held.at(), now, &request) })
+    }
+
+    /// Writes a request that waits for its answer beside all others that were asked, and returns its token. The first of all
+    /// has the `message_id` of the request, which is to be random; each later one has the next that none has that waits. At
+    /// most 65,536 wait.
+    pub fn ask(&mut self, now: u64, of: &Request<'_>, salt: u64) -> Result<u64, Error> {
+        let request = of.to_call(salt);
+        let mut token = 0;
+        done(unsafe { snmpsec_manager_ask(self.held.at(), now, &request, &mut token) })?;
+        Ok(token)
+    }
+
+    /// Writes the request by which an engine is discovered, as [`ask`](Manager::ask) does. It waits until it is given up.
+    pub fn ask_discovery(&mut self, message_id: u32) -> Result<u64, Error> {
+        let mut token = 0;
+        done(unsafe { snmpsec_manager_ask_discovery(self.held.at(), message_id, &mut token) })?;
+        Ok(token)
+    }
+
+    /// The token of the request that is answered by what is kept, and how. None: it answers none that waits. A Response is
+    /// reported once.
+    pub fn answered(&mut self) -> Result<Option<(u64, Answer)>, Error> {
+        let mut found = calls::Answered::default();
+        done(unsafe { snmpsec_manager_answered(self.held.at(), &mut found) })?;
+        Ok(match found.kind {
+            0 => Some((found.token, Answer::Response)),
+            2 => Some((
+                found.token,
+                Answer::Report {
+                    counter: u32::try_from(found.counter).ok().filter(|n| *n > 0),
+                    is_authentic: found.is_authentic,
+                },
+            )),
+            _ => None,
+        })
+    }
+
+    /// The request with this token isn't waited for any more. The error is NothingTaken, where it doesn't wait.
+    pub fn give_up(&mut self, token: u64) -> Result<(), Error> {
+        done(unsafe { snmpsec_manager_give_up(self.held.at(), token) })
     }
 
     /// Joins in the clocks of a saved text, where the marks of version 1 were seen at this moment.

@@ -1,5 +1,5 @@
 //! `snmp_gate`: a Set goes out once, and a copy of it has the outcome of the first.
-use snmp_gate::{RememberedSets, SetNote, ResponseStatus, set_digest, set_outcome};
+use snmp_gate::{RememberedSets, ResponseStatus, SetNote, set_digest, set_outcome};
 use std::test::Fail;
 
 #[test]

@@ -22,7 +22,7 @@ A handle may be used by several threads: each call waits for the one before it. 
 yours, or a handle for each thread. Handles share nothing. In a forked child of a process with threads no handle is used.
 
 What a call doesn't do is an Error: Refused with its Refusal where a message can't be written, BadArgument, NothingTaken, NotAsked, BadBindings,
-BadConfiguration or BadClocks. Want of memory is MemoryError, and a closed handle ValueError.
+BadConfiguration, BadClocks or TooManyRequests. Want of memory is MemoryError, and a closed handle ValueError.
 
 Keys that these functions give back are Python's, which nothing wipes. A configuration's passwords are wiped where from_file reads it, or where
 it is a bytearray, or a memoryview of one, that you overwrite: no copy is made of what can be written to. bytes can't be wiped, nor can the copy
@@ -41,9 +41,9 @@ from . import _library
 from ._library import CALLS, Octets as _Slice
 
 __version__ = "0.1.0"
-__all__ = ["Access", "Agent", "AuthProtocol", "BadArgument", "BadBindings", "BadClocks", "BadConfiguration", "Binding", "Clock", "ConfigFault",
-           "ConfigKey", "ConfigReason", "ConfigTable", "Counters", "Counts", "Error", "Info", "LARGEST", "Level", "Manager", "NO_CLOCKS",
-           "NotAsked", "NothingTaken", "Part", "Pdu", "Refusal", "Refused", "Reply", "Report", "Status", "Unhandled", "View", "binding",
+__all__ = ["Access", "Agent", "Answered", "AuthProtocol", "BadArgument", "BadBindings", "BadClocks", "BadConfiguration", "Binding", "Clock", "ConfigFault",
+           "ConfigKey", "ConfigReason", "ConfigTable", "Counters", "Counts", "Device", "Error", "Info", "Known", "LARGEST", "Level", "Manager", "NO_CLOCKS",
+           "NotAsked", "NothingTaken", "Part", "Pdu", "Refusal", "Refused", "Reply", "Report", "Status", "Step", "TooManyRequests", "Unhandled", "View", "binding",
            "bindings", "config_fault", "localise", "mac", "open_text", "password_key", "seal_text", "status_of", "value_is", "version"]
 
 Buffer = Union[bytes, bytearray, memoryview]
@@ -241,6 +241,10 @@ class BadConfiguration(Error, ValueError):
 class BadClocks(Error, ValueError): ...
 
 
+class TooManyRequests(Error, RuntimeError):
+    """65,536 requests wait for their answers."""
+
+
 class Info(NamedTuple):
     """The numbers of the message that is kept; of a GET_BULK the fourth and fifth are non-repeaters and max-repetitions."""
 
@@ -300,6 +304,35 @@ class Reply(NamedTuple):
     report_of: Optional[int]
 
 
+class Answered(NamedTuple):
+    """Which request that was asked a message answers: its token, and whether it is its Response or a Report of a counter (1 to 6 as in Counters,
+    the numbers of Unhandled, 0 of none). A Report that isn't authentic can be anybody's."""
+
+    token: int
+    is_response: bool
+    report_of: Optional[int]
+    is_authentic: bool
+
+
+class Step(IntEnum):
+    """What is to be done for a request of a device."""
+
+    SEND_DISCOVERY = 0
+    SEND_TIME_REQUEST = 1
+    SEND_REQUEST = 2
+    WAIT = 3
+    ANSWERED = 4
+    DENIED = 5
+
+
+class Known(IntEnum):
+    """What is known of a device: nothing, its engine ID, or boots and time of its engine too."""
+
+    NOTHING = 0
+    ENGINE = 1
+    CLOCK = 2
+
+
 class Clock(NamedTuple):
     boots: int
     time: int
@@ -311,7 +344,7 @@ class Binding(NamedTuple):
     content: bytes
 
 
-_FAULTS = {-1: BadArgument, -2: NothingTaken, -3: NotAsked, -4: BadBindings, -6: BadConfiguration, -7: BadClocks}
+_FAULTS = {-1: BadArgument, -2: NothingTaken, -3: NotAsked, -4: BadBindings, -6: BadConfiguration, -7: BadClocks, -8: TooManyRequests}
 _SHORT_BUFFER, _OUT_OF_MEMORY = -5, 14
 
 
@@ -637,6 +670,34 @@ class Agent(_Held):
         return Counters(*(getattr(out, name) for name, _ in out._fields_))
 
 
+class Device:
+    """One request of a device whose engine ID, or whose boots and time, may be unknown (RFC 3414, section 4): `step` is what is to be done, and
+    `counter` the counter of the last Report that says why the request is refused or, where it isn't authentic, is likely to have no answer."""
+
+    def __init__(self, level: Level, known: Known = Known.NOTHING):
+        self._device, step = _library.Device(), _library.Enumeration()
+        _done(CALLS["device_begin"](ctypes.byref(self._device), level, known, ctypes.byref(step)))
+        self.step = Step(step.value)
+
+    def hear(self, answered: Answered, holds_clock: bool) -> Step:
+        """What is to be done once a message answered what was sent last. The request is sent again once, after an authentic Report that it was
+        outside of the time window, and never at another level. A Report that isn't authentic ends nothing."""
+        heard = _library.Heard(0 if answered.is_response else 2, answered.report_of or 0, answered.is_authentic, answered.token)
+        step = _library.Enumeration()
+        _done(CALLS["device_hear"](ctypes.byref(self._device), ctypes.byref(heard), holds_clock, ctypes.byref(step)))
+        self.step = Step(step.value)
+        return self.step
+
+    @property
+    def counter(self) -> Optional[int]:
+        return None if self._device.counter < 0 else self._device.counter
+
+    @property
+    def is_authentic(self) -> bool:
+        """Whether the Report of `counter` came with authentication; without, it can be anybody's."""
+        return bool(self._device.is_authentic)
+
+
 class Manager(_Held):
     """A manager with the users of a configuration in TOML, that begins with the clocks of a saved text."""
 
@@ -681,11 +742,47 @@ class Manager(_Held):
     def request(self, now: int, pdu: Pdu, *, engine: Buffer, user: Buffer, level: Level, octets: Buffer, salt: int, message_id: int,
                 request_id: Optional[int] = None, error_status: int = 0, error_index: int = 0, context_engine: Optional[Buffer] = None,
                 context_name: Buffer = b"") -> None:
-        """Writes a request, as the message. One is waited for at a time."""
+        """Writes a request, as the message. One is waited for at a time; `ask` has many."""
         asked = _library.Request(pdu, _ranged(message_id), _ranged(message_id if request_id is None else request_id), _ranged(error_status),
                                  _ranged(error_index), level, _slice(engine), _slice(user),
                                  _slice(engine if context_engine is None else context_engine), _slice(context_name), _slice(octets), _ranged(salt, 64))
         _done(self._call("request", _ranged(now, 64), ctypes.byref(asked)))
+
+    def ask(self, now: int, pdu: Pdu, *, engine: Buffer, user: Buffer, level: Level, octets: Buffer, salt: int, message_id: int,
+            request_id: int, error_status: int = 0, error_index: int = 0, context_engine: Optional[Buffer] = None,
+            context_name: Buffer = b"") -> int:
+        """Writes a request, as the message, that waits for its answer beside all others that were asked, and returns its token.
+
+        The first request of all has `message_id`, which is to be random; each later one has the next that none has that waits."""
+        asked = _library.Request(pdu, _ranged(message_id), _ranged(request_id), _ranged(error_status), _ranged(error_index), level, _slice(engine),
+                                 _slice(user), _slice(engine if context_engine is None else context_engine), _slice(context_name), _slice(octets),
+                                 _ranged(salt, 64))
+        token = ctypes.c_uint64()
+        _done(self._call("ask", _ranged(now, 64), ctypes.byref(asked), ctypes.byref(token)))
+        return token.value
+
+    def ask_discovery(self, message_id: int) -> int:
+        """Writes the request by which an engine is discovered, as `ask` does. It waits until it is given up."""
+        token = ctypes.c_uint64()
+        _done(self._call("ask_discovery", _ranged(message_id), ctypes.byref(token)))
+        return token.value
+
+    def answered(self) -> Optional[Answered]:
+        """Which request that was asked the message answers that is kept, or None. A Response ends its request, and is reported once."""
+        out = _library.Answered()
+        try:
+            _done(self._call("answered", ctypes.byref(out)))
+        except NothingTaken:
+            return None
+        return None if out.kind == 1 else Answered(out.token, out.kind == 0, out.counter if out.kind == 2 else None, out.is_authentic)
+
+    def give_up(self, token: int) -> bool:
+        """The request isn't waited for any more. False where it doesn't wait."""
+        try:
+            _done(self._call("give_up", _ranged(token, 64)))
+        except NothingTaken:
+            return False
+        return True
 
     def absorb(self, text: Buffer, now: int) -> None:
         """Joins in the clocks of a saved text."""

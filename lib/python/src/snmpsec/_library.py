@@ -49,6 +49,18 @@ class Reply(ctypes.Structure):
     _fields_ = [("kind", c_uint), ("counter", c_int)]
 
 
+class Answered(ctypes.Structure):
+    _fields_ = [("kind", c_uint), ("counter", c_int), ("is_authentic", c_bool), ("token", c_uint64)]
+
+
+class Heard(Answered):
+    """The same, where a call only reads it."""
+
+
+class Device(ctypes.Structure):
+    _fields_ = [("level", c_uint), ("sent", c_uint32), ("again", c_uint32), ("counter", c_int), ("is_authentic", c_bool)]
+
+
 class Clock(ctypes.Structure):
     _fields_ = [("boots", c_uint32), ("time", c_uint32)]
 
@@ -107,6 +119,12 @@ SIGNATURES = {
     "manager_report": (c_int, [c_void_p, POINTER(Report)]),
     "manager_discover": (c_int, [c_void_p, c_uint32]),
     "manager_request": (c_int, [c_void_p, c_uint64, POINTER(Request)]),
+    "manager_ask": (c_int, [c_void_p, c_uint64, POINTER(Request), POINTER(c_uint64)]),
+    "manager_ask_discovery": (c_int, [c_void_p, c_uint32, POINTER(c_uint64)]),
+    "manager_answered": (c_int, [c_void_p, POINTER(Answered)]),
+    "manager_give_up": (c_int, [c_void_p, c_uint64]),
+    "device_begin": (c_int, [POINTER(Device), c_uint, c_uint, POINTER(Enumeration)]),
+    "device_hear": (c_int, [POINTER(Device), POINTER(Heard), c_bool, POINTER(Enumeration)]),
     "manager_absorb": (c_int, [c_void_p] + _slice + [c_uint64]),
     "manager_save": (c_int, [c_void_p] + _out),
     "manager_clock": (c_int, [c_void_p] + _slice + [POINTER(Clock)]),

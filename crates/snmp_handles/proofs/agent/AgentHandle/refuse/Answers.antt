@@ -6,7 +6,7 @@ use Rattle.snmp_agent.specs.declared.unhandled.Unhandled.{Unhandled}
 use Rattle.snmp_handles.specs.Agents.{AgentHeld}
 use Rattle.snmp_handles.specs.Dispatch.{Reports, AnswersReport, StopsReport}
 use Rattle.snmp_handles.specs.declared.fault.CallFault.{CallFault}
-use Rattle.snmp_handles.specs.declared.fault.CallFault.TheVariants.{Refused, BadArgument, NothingTaken, NotAsked, BadBindings, ShortBuffer, BadConfiguration, BadClocks}
+use Rattle.snmp_handles.specs.declared.fault.CallFault.TheVariants.{Refused, BadArgument, NothingTaken, NotAsked, BadBindings, ShortBuffer, BadConfiguration, BadClocks, TooManyRequests}
 use Rattle.snmp_handles.proofs.agent.AgentHandle.refuse.Goals as goal
 
 pub returns-in-Ok : goal.returns-in-Ok
@@ -27,6 +27,7 @@ stops held g now why salt BadBindings new kept answer = absurd answer
 stops held g now why salt ShortBuffer new kept answer = absurd answer
 stops held g now why salt BadConfiguration new kept answer = absurd answer
 stops held g now why salt BadClocks new kept answer = absurd answer
+stops held g now why salt TooManyRequests new kept answer = absurd answer
 
 pub returns-in-Err : goal.returns-in-Err
 returns-in-Err c =

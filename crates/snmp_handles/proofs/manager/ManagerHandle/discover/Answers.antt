@@ -12,7 +12,7 @@ use Rattle.snmp_handles.proofs.manager.ManagerHandle.discover.Goals as goal
 pub returns-in-Ok : goal.returns-in-Ok
 returns-in-Ok c =
     let text : List ℕ = c.in-Ok.text.items in
-    let new : ManagerHeld = record { manager = c.self.inside.manager; last = c.self.inside.last; message = Some text; pending = Some c.in-Ok.pending } in
+    let new : ManagerHeld = record { manager = c.self.inside.manager; last = c.self.inside.last; message = Some text; pending = Some c.in-Ok.pending; requests = c.self.inside.requests } in
     let P : ManagerHeld → Type 0 = λ h. (t : List ℕ) × (a : Pending) × Seals h.manager.users (discovering c.args.id) (Ok t) × Remembers a c.args.id [] [] NoAuthNoPriv [] [] (pos c.args.id) × Waits h t a new in
     let in_range : c.args.id ≤ MAX_INTEGER32 = search rules in
     (in_range, subst P c.self.view_is (text, c.in-Ok.pending, c.in-Ok.ensures.text, c.in-Ok.ensures.pending, refl))

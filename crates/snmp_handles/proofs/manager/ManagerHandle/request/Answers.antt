@@ -15,7 +15,7 @@ returns-in-Ok c =
     let salt : List ℕ = to_be_bytes w64 c.args.salt in
     let of_is : asked.of ≡ c.args.of.now = c.in-Some.ensures.1 in
     let text : List ℕ = c.in-Ok.text.items in
-    let wrap : Held → ManagerHeld = λ m. record { manager = m; last = c.self.inside.last; message = Some text; pending = Some c.in-Ok.pending } in
+    let wrap : Held → ManagerHeld = λ m. record { manager = m; last = c.self.inside.last; message = Some text; pending = Some c.in-Ok.pending; requests = c.self.inside.requests } in
     let P : AskedOf → ManagerHeld → Type 0 = λ of h. (level : Level) × (t : List ℕ) × (a : Pending) × (level_of c.args.of.now.level ≡ Some level) × AsksAt h.manager c.args.now (asking_of of) level c.args.list.now salt (Ok t)
     × RemembersAsking a (asking_of of) level × Waits h t a (wrap c.request.new.manager) in
     let asks : AsksAt c.self.inside.manager c.args.now (asking_of asked.of) asked.level c.args.list.now salt (Ok text) = rw c.to_be_bytes-salt.ensures at c.in-Ok.ensures.answer.0 in

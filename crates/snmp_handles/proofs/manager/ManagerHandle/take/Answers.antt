@@ -13,8 +13,8 @@ returns-in-Ok-clause-takes c =
     let nothing : Option (List ℕ) = None in
     let P : ManagerHeld → Type 0 = λ h.
     (x : Given) × (Some c.in-Ok.kept ≡ Some x) × (nothing ≡ nothing) × (c.self.inside.pending ≡ h.pending)
-    × manager.Takes h.manager c.args.now c.args.datagram.now (Some (Ok x)) c.take_kept.new.self in
-    subst P c.self.view_is (c.in-Ok.kept, refl, refl, refl, c.in-Ok.ensures.takes)
+    × (c.self.inside.requests ≡ h.requests) × manager.Takes h.manager c.args.now c.args.datagram.now (Some (Ok x)) c.take_kept.new.self in
+    subst P c.self.view_is (c.in-Ok.kept, refl, refl, refl, refl, c.in-Ok.ensures.takes)
 
 pub returns-in-Err-clause-no_memory : goal.returns-in-Err-clause-no_memory
 returns-in-Err-clause-no_memory c =

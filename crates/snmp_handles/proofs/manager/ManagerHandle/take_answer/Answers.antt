@@ -16,7 +16,7 @@ returns-in-Ok-Response c =
       told.2,
       told.3,
       λ k p f q. subst (λ (answer : Answer). IsAnswer told.1 told.0 k p answer) is (told.4 k p f q),
-      subst (λ (h : ManagerHeld). record { manager = c.self.inside.manager; last = c.self.inside.last; message = option_map (λ v. v.items) c.self.inside.message; pending = nothing } ≡ record h { pending = nothing })
+      subst (λ (h : ManagerHeld). record { manager = c.self.inside.manager; last = c.self.inside.last; message = option_map (λ v. v.items) c.self.inside.message; pending = nothing; requests = c.self.inside.requests } ≡ record h { pending = nothing })
           c.self.view_is refl,
     )
 
