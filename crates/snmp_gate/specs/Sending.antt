@@ -1,7 +1,8 @@
 -- What goes out of what becomes of a message.
 --
 -- `RepliesTo`: what becomes of a message of a request that ends. `IsSentBy`: what is sent of it. `IsOpenAt` and
--- `IsAskedAt`: the request at a place. `MayAskAt`: a datagram that may be sent for it. `SetsAsked`: its device is asked.
+-- `IsAskedAt`: the request at a place. `MayAskAt`: a datagram that may be sent for it. `SetsAsked`: its device is
+-- asked.
 use Rattle.std.specs.Prelude.{◌≡◌, ⊤, ℕ, List, Some, None, slice_index_or, slice_set}
 use Rattle.std.specs.Global.{Vec}
 use Rattle.snmp_msg.specs.Variables.{Variable}
