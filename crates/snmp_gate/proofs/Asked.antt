@@ -1,7 +1,7 @@
 -- What an accepted message asks, by what is read of it.
 use Rattle.std.specs.Prelude.{◌≡◌, ℕ, List, Option, None, Some, option_and_then, option_map}
 use Rattle.std.proofs.Common.{ap, sym, ◌∙◌}
-use Rattle.snmp_message.specs.Scoped.{Contexts, ScopedFront, scoped_front_in}
+use Rattle.snmp_message.specs.Scoped.{Contexts, ScopedFront}
 use Rattle.snmp_message.proofs.Scopeds.{scoped_front_in-again}
 use Rattle.snmp_msg.specs.Pdu.{PduParts, PduText, pdu_in}
 use Rattle.snmp_msg.proofs.Pdus.{pdu_in-again}

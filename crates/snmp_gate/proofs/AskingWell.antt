@@ -1,15 +1,15 @@
 -- What a device may be asked: the law inwards, for the columns of a dialogue.
-use Rattle.std.specs.Prelude.{◌≡◌, ◌⊎◌, ◌∷◌, ◌++◌, ◌<◌, ℕ, List, [], All, Contains, length, map, slice_index_or}
+use Rattle.std.specs.Prelude.{◌≡◌, ◌⊎◌, ◌∷◌, ℕ, List, [], All, Contains, map, slice_index_or}
 use Rattle.std.specs.List.{flat_map}
-use Rattle.std.proofs.Common.{refl, inl, inr, sym, ap, subst, ◌∙◌, arith}
+use Rattle.std.proofs.Common.{refl, inl, inr, sym, subst}
 use Rattle.std.proofs.lemmas.List.Elements.{All-append, All-cons, All-head, All-nil, All-tail, Contains-get_or}
 use Rattle.snmp_msg.specs.Variables.{Variable, variables_of}
 use Rattle.vacm_core.specs.Tables.{Tables}
 use Rattle.snmp_walk.specs.BulkColumn.{bulk_request}
-use Rattle.snmp_walk.specs.BulkDialogue.{bulk_requests, bulk_requests_of}
+use Rattle.snmp_walk.specs.BulkDialogue.{bulk_requests_of}
 use Rattle.snmp_walk.specs.BulkRun.{BulkAsksWell}
 use Rattle.snmp_walk.specs.Column.{Asks, MayAsk}
-use Rattle.snmp_walk.specs.Dialogue.{request, requests, requests_of}
+use Rattle.snmp_walk.specs.Dialogue.{request, requests_of}
 use Rattle.snmp_walk.specs.Run.{AsksWell}
 use Rattle.snmp_walk.specs.declared.bulk_column.BulkColumn.{BulkColumn}
 use Rattle.snmp_walk.specs.declared.column.Column.{Column}

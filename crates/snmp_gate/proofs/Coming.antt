@@ -1,5 +1,5 @@
 -- What happens when a client's message is taken.
-use Rattle.std.specs.Prelude.{◌≡◌, ◌∷◌, ◌/◌, ℕ, List, Result, Ok, Err, IfOk}
+use Rattle.std.specs.Prelude.{◌≡◌, ◌/◌, ℕ, List, Result, Ok, Err, IfOk}
 use Rattle.std.specs.declared.alloc.AllocError.{AllocError}
 use Rattle.snmp_agent.specs.Agent.{taker_of}
 use Rattle.snmp_incoming.specs.Outcome.{Outcome}

@@ -1,7 +1,7 @@
 -- Variables that may be set, by the answers on access.
 use Rattle.std.specs.Prelude.{◌≡◌, ◌∷◌, ℕ, List, [], All}
 use Rattle.std.specs.List.{AllZip}
-use Rattle.std.proofs.Common.{sym, subst, ◌∙◌, arith}
+use Rattle.std.proofs.Common.{sym, subst, arith}
 use Rattle.std.proofs.lemmas.List.Elements.{All-cons, All-head, All-nil, All-tail}
 use Rattle.snmp_msg.specs.PduTypes.{pdu_tag}
 use Rattle.snmp_msg.specs.Variables.{Variable}

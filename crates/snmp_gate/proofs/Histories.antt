@@ -1,5 +1,5 @@
 -- What is known of the requests that wait, as more happens.
-use Rattle.std.specs.Prelude.{◌≡◌, ◌≢◌, ◌⊎◌, ◌∷◌, ◌++◌, ◌<◌, ℕ, pos, Bool, true, false, cond, nat_eq, List, [], All, AllPairs, Contains, Option, Some, None, length, map, remove, slice_index_or, slice_set}
+use Rattle.std.specs.Prelude.{◌≡◌, ◌≢◌, ◌⊎◌, ◌∷◌, ◌++◌, ◌<◌, ℕ, pos, Bool, true, false, cond, nat_eq, List, [], All, AllPairs, Contains, Option, Some, None, length, map, slice_index_or, slice_set}
 use Rattle.std.proofs.Common.{refl, sym, ap, subst, ◌∙◌, inl, inr, arith}
 use Rattle.std.proofs.lemmas.Bool.Decides.{Decides-int_eq, eqb_tells, leb_tells}
 use Rattle.std.proofs.lemmas.List.{get_or_default, get_or-set_other, get_or-set_same, length-set}
@@ -32,10 +32,10 @@ use Rattle.snmp_gate.specs.declared.work.RequestEnd.TheVariants as ending
 use Rattle.std.proofs.lemmas.Bool.{false≢true}
 use Rattle.snmp_gate.specs.declared.requests.WaitingRequest.{WaitingRequest}
 use Rattle.snmp_gate.proofs.GroupSteps.{group_at, groups_set}
-use Rattle.snmp_gate.specs.History.{AskedBy, Happening, IsAccepted, IsAnswerOf, IsLawful, MayAskFor, OpenAsk, accepted, answered, asked, ends_in, open_ask, said_by, sent, told_in}
+use Rattle.snmp_gate.specs.History.{AskedBy, Happening, IsAccepted, IsAnswerOf, IsLawful, MayAskFor, OpenAsk, answered, asked, ends_in, open_ask, said_by, sent, told_in}
 use Rattle.snmp_gate.specs.Question.{Question}
 use Rattle.snmp_gate.specs.Waiting.{AreNumbered, GateStands, GroupStands, GroupsStand, OpenStands, SendHappens, WorkStands}
-use Rattle.snmp_gate.specs.Work.{EndingStands, SaysAll, TaskStands, end_of, says_no_such_name, variables_of_task}
+use Rattle.snmp_gate.specs.Work.{EndingStands, SaysAll, TaskStands, end_of, variables_of_task}
 use Rattle.snmp_gate.specs.declared.devices.Device.{Device}
 use Rattle.snmp_gate.specs.declared.waiting_message.WaitingMessage.{WaitingMessage}
 use Rattle.snmp_gate.specs.declared.work.OpenRequest.{OpenRequest}

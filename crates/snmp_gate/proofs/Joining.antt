@@ -1,17 +1,15 @@
 -- What is known of the requests that wait, when a message comes.
-use Rattle.std.specs.Prelude.{◌≡◌, ◌<◌, ◌≤◌, ◌+◌, ◌-◌, ◌^◌, ℕ, suc, min, List, [], ◌∷◌, ◌++◌, All, Contains, Option, Some, None}
-use Rattle.std.specs.List.{HoldsAt}
-use Rattle.std.proofs.Common.{refl, sym, ap, subst, ◌∙◌, arith, length, slice_index_or, slice_set}
-use Rattle.std.proofs.lemmas.List.Elements.{All-cons, All-contains_itself, All-head, All-nil, All-push, All-weaker, Contains-append_left}
-use Rattle.snmp_msg.specs.Variables.{Variable}
+use Rattle.std.specs.Prelude.{◌≡◌, ◌<◌, ℕ, suc, List, [], ◌∷◌, ◌++◌, All, Contains, Some}
+use Rattle.std.proofs.Common.{refl, sym, ap, subst, ◌∙◌, length, slice_index_or}
+use Rattle.std.proofs.lemmas.List.Elements.{All-cons, All-contains_itself, All-head, All-nil, All-push, All-weaker}
 use Rattle.vacm_core.specs.Tables.{Tables}
 use Rattle.snmp_gate.specs.Beginning.{BeginsWell}
-use Rattle.snmp_gate.specs.Groups.{Group, IsAt, IsJoined, begun, group_of, groups_of, with_messages}
+use Rattle.snmp_gate.specs.Groups.{IsJoined, begun, group_of, groups_of, with_messages}
 use Rattle.snmp_gate.specs.History.{Happening, IsAccepted, accepted, told_in}
 use Rattle.snmp_gate.specs.Messages.{question_in}
 use Rattle.snmp_gate.specs.Question.{Question}
 use Rattle.snmp_gate.specs.Sending.{Requests}
-use Rattle.snmp_gate.specs.Waiting.{AreNumbered, GroupStands, GroupsStand, WorkStands}
+use Rattle.snmp_gate.specs.Waiting.{GroupStands, GroupsStand, WorkStands}
 use Rattle.snmp_gate.specs.declared.devices.Device.{Device}
 use Rattle.snmp_gate.specs.declared.requests.Joined.TheVariants.{Joined}
 use Rattle.snmp_gate.specs.declared.requests.WaitingRequest.{WaitingRequest}
@@ -19,7 +17,7 @@ use Rattle.snmp_gate.specs.declared.waiting_message.WaitingMessage.{WaitingMessa
 use Rattle.snmp_gate.specs.declared.work.Work.{Work}
 use Rattle.snmp_gate.specs.declared.work.Work.TheVariants.{Open, Ends}
 use Rattle.snmp_gate.proofs.GroupSteps.{group_at}
-use Rattle.snmp_gate.proofs.Histories.{Waiting, all_set, group_later, later, numbered_set}
+use Rattle.snmp_gate.proofs.Histories.{Waiting, all_set, group_later, numbered_set}
 use Rattle.snmp_gate.proofs.Questions.{numbered_begun}
 use Rattle.std.proofs.lemmas.List.{get_or_default}
 use Rattle.snmp_gate.proofs.Asked.{none_is_some}

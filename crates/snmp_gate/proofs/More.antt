@@ -1,5 +1,5 @@
 -- What is known of a dialogue stays known as the device tells more.
-use Rattle.std.specs.Prelude.{◌≡◌, ◌⊎◌, ℕ, List, All, Contains}
+use Rattle.std.specs.Prelude.{ℕ, List, All, Contains}
 use Rattle.std.proofs.Common.{inl, inr}
 use Rattle.std.proofs.lemmas.List.Elements.{All-weaker}
 use Rattle.snmp_msg.specs.Variables.{Variable}

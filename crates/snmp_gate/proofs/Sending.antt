@@ -1,7 +1,7 @@
 -- Responses that were written.
 use Rattle.std.specs.Prelude.{◌≡◌, ℕ, List, Option, Some, None, Result, Ok, Err, IfOk, IfSome}
 use Rattle.snmp_message.specs.declared.refusal.Refusal.{Refusal}
-use Rattle.snmp_outgoing.specs.UpTo.{UpTo, fits, longer, refuses}
+use Rattle.snmp_outgoing.specs.UpTo.{UpTo, fits}
 use Rattle.snmp_agent.specs.Agent.{AgentState}
 use Rattle.snmp_agent.specs.Dispatch.{Refuses, agent_counted}
 use Rattle.snmp_agent.specs.declared.unhandled.Unhandled.{Unhandled}

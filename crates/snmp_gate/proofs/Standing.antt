@@ -1,10 +1,9 @@
 -- What is known of a request, as its dialogue with the device goes on.
-use Rattle.std.specs.Prelude.{◌≡◌, ◌<◌, ◌∷◌, ◌++◌, ℕ, ℤ, zero, suc, List, [], All, Contains, length, slice_index_or, true}
+use Rattle.std.specs.Prelude.{◌≡◌, ◌<◌, ◌∷◌, ℕ, ℤ, zero, suc, List, [], All, Contains, length, slice_index_or, true}
 use Rattle.std.specs.List.{HoldsAt, flat_map}
 use Rattle.std.proofs.Common.{refl, sym, ap, subst, ◌∙◌, arith}
 use Rattle.std.proofs.lemmas.List.{get_or_default}
 use Rattle.std.proofs.lemmas.List.Elements.{All-contains, Contains-append_left, Contains-append_right, Contains-push}
-use Rattle.snmp_msg.specs.Values.{syntax_of}
 use Rattle.snmp_msg.specs.PduTypes.{pdu_tag}
 use Rattle.snmp_msg.specs.Variables.{Variable, variables_of}
 use Rattle.snmp_msg.specs.declared.pdu_type.PduType.TheVariants.{GetBulkRequest}
@@ -17,8 +16,8 @@ use Rattle.vacm_next.specs.Next.{Sees}
 use Rattle.snmp_responder.specs.Code.{seen_by}
 use Rattle.snmp_responder.specs.Instrumentation.{IsException}
 use Rattle.snmp_responder.specs.declared.viewer.Viewer.{Viewer}
-use Rattle.snmp_walk.specs.Answer.{IsAnswered, IsEndAt, Tells, no_such_name_of}
-use Rattle.snmp_walk.specs.BulkAnswered.{BulkTells, IsBulkAnswered, IsBulkEndAt}
+use Rattle.snmp_walk.specs.Answer.{IsAnswered, Tells}
+use Rattle.snmp_walk.specs.BulkAnswered.{BulkTells, IsBulkAnswered}
 use Rattle.snmp_walk.specs.BulkDialogue.{BulkAllStand, IsBulkFor, IsCountOf, bulk_requests, bulk_requests_of}
 use Rattle.snmp_walk.specs.Column.{Asks, IsAsked}
 use Rattle.snmp_walk.specs.Dialogue.{AllStand, requests, requests_of}

@@ -1,22 +1,22 @@
 -- What may be told of a request.
-use Rattle.std.specs.Prelude.{◌≡◌, ◌≢◌, ◌⊎◌, Bool, true, false, ◌∷◌, ◌++◌, ◌<◌, ⊤, ℕ, ℤ, zero, suc, pos, List, [], All, Contains, map, take, drop, length, Some}
+use Rattle.std.specs.Prelude.{◌≡◌, ◌≢◌, ◌⊎◌, Bool, true, false, ◌∷◌, ℕ, ℤ, zero, suc, pos, List, [], All, Contains, map, take, drop, Some}
 use Rattle.std.specs.List.{AllZip}
 use Rattle.std.proofs.Common.{refl, inl, inr, sym, ap, subst, ◌∙◌, arith}
 use Rattle.std.proofs.lemmas.Bool.{false≢true}
 use Rattle.std.proofs.lemmas.Bool.Decides.{Decides-int_eq}
 use Rattle.std.proofs.lemmas.List.{get_or-map, length-map, take-append-drop}
-use Rattle.std.proofs.lemmas.List.Elements.{All-cons, All-contains, All-head, All-nil, All-tail, All-take, All-weaker, Contains-append_cases, Contains-append_left, Contains-append_right}
+use Rattle.std.proofs.lemmas.List.Elements.{All-contains, All-take, All-weaker, Contains-append_cases, Contains-append_left, Contains-append_right}
 use Rattle.std.specs.Ordering.{int_eq}
 use Rattle.snmp_msg.specs.PduTypes.{pdu_tag}
 use Rattle.snmp_msg.specs.Variables.{Variable, variable_of, variables_of}
 use Rattle.snmp_msg.specs.declared.binding.Binding.{Binding}
-use Rattle.snmp_msg.specs.declared.pdu_type.PduType.TheVariants.{GetBulkRequest, SetRequest}
+use Rattle.snmp_msg.specs.declared.pdu_type.PduType.TheVariants.{SetRequest}
 use Rattle.vacm_core.specs.Tables.{Tables}
 use Rattle.snmp_incoming.specs.Outcome.{Given}
 use Rattle.snmp_walk.specs.BulkColumn.{Ascends, BulkStands, IsGiven, bulk_request, given_in, last_name}
-use Rattle.snmp_walk.specs.BulkDialogue.{BulkAllStand, bulk_requests, bulk_requests_of}
+use Rattle.snmp_walk.specs.BulkDialogue.{bulk_requests_of}
 use Rattle.snmp_walk.specs.Column.{MayShow}
-use Rattle.snmp_walk.specs.Dialogue.{Shows, request, requests, requests_of}
+use Rattle.snmp_walk.specs.Dialogue.{Shows, request, requests_of}
 use Rattle.snmp_walk.specs.Front.{IsShownOf}
 use Rattle.snmp_walk.specs.declared.bulk_column.BulkColumn.{BulkColumn}
 use Rattle.snmp_walk.specs.declared.bulk_dialogue.BulkDialogue.{BulkDialogue}
@@ -26,12 +26,12 @@ use Rattle.snmp_walk.specs.declared.operation.ReadOperation.TheVariants.{GetNext
 use Rattle.snmp_gate.specs.Messages.{question_given, seen_in}
 use Rattle.snmp_gate.specs.Question.{Question}
 use Rattle.snmp_gate.specs.ReadAsks.{read_type}
-use Rattle.snmp_gate.specs.Replies.{Answering, IsAnswerTo, IsFrontSentOr, IsOwnList, IsReportedOr, IsReplyTo, IsSentOr, MayTell, MayTellBulk, MayTellValues, columns, front, set, told_with, too_big}
-use Rattle.snmp_gate.specs.Work.{BulkStandsFor, IsOwnStatus, ReadStands}
+use Rattle.snmp_gate.specs.Replies.{Answering, IsFrontSentOr, IsOwnList, IsReportedOr, IsReplyTo, IsSentOr, MayTell, MayTellBulk, columns, front, set, told_with, too_big}
+use Rattle.snmp_gate.specs.Work.{BulkStandsFor, IsOwnStatus}
 use Rattle.snmp_gate.specs.declared.reply.Reply.{Reply}
 use Rattle.snmp_gate.specs.declared.reply.Reply.TheVariants as reply
 use Rattle.snmp_gate.specs.declared.set_answer.ResponseStatus.{ResponseStatus}
-use Rattle.snmp_gate.specs.declared.set_answer.TheConstants.{NO_ERROR, TOO_BIG}
+use Rattle.snmp_gate.specs.declared.set_answer.TheConstants.{NO_ERROR}
 
 true_or_false : (b : Bool) → (b ≡ true) ⊎ (b ≡ false)
 true_or_false true = inl refl

@@ -2,11 +2,11 @@
 --
 -- `IsFailing`: a status with an error. `FailsOrGoesOn`: the answer has an error, or the request goes on. `IsEndFor`: an
 -- answer without an error ends only a SetRequest.
-use Rattle.std.specs.Prelude.{◌≡◌, ◌≢◌, ⊤}
+use Rattle.std.specs.Prelude.{◌≢◌, ⊤}
 use Rattle.snmp_gate.specs.Question.{Question}
 use Rattle.snmp_gate.specs.Work.{IsOwnStatus}
 use Rattle.snmp_gate.specs.declared.onward.AnswerTaken.{AnswerTaken}
-use Rattle.snmp_gate.specs.declared.onward.AnswerTaken.TheVariants.{Ends, Front, GoesOn}
+use Rattle.snmp_gate.specs.declared.onward.AnswerTaken.TheVariants.{Ends}
 use Rattle.snmp_gate.specs.declared.set_answer.ResponseStatus.{ResponseStatus}
 use Rattle.snmp_gate.specs.declared.set_answer.TheConstants.{NO_ERROR}
 

@@ -4,13 +4,13 @@
 -- a device was asked for it, and didn't answer. `IsLawful`: the laws, of what happens after a history. `IsAccepted`: a
 -- message was accepted. `MayAskFor`: the law inwards, what a device may be asked. `IsAnswerOf`: whose answer it is.
 -- `IsAnswerTo` has the law outwards. `Mediated`: each part of a history is lawful after the parts before it.
-use Rattle.std.specs.Prelude.{◌≡◌, ◌≢◌, ◌⊎◌, ◌/◌, ⊤, ℕ, pos, cond, nat_eq, All, Contains, Option, Some, None, map, Ok}
+use Rattle.std.specs.Prelude.{◌≡◌, ◌⊎◌, ◌/◌, ⊤, ℕ, pos, cond, nat_eq, All, Contains, Option, Some, None, map, Ok}
 use Rattle.std.specs.Prelude.{List, [], ◌∷◌, ◌++◌}
 use Rattle.std.specs.Global.{Vec}
 use Rattle.std.specs.List.{HoldsAt}
 use Rattle.snmp_msg.specs.Pdu.{PduParts}
 use Rattle.snmp_msg.specs.PduTypes.{pdu_tag}
-use Rattle.snmp_msg.specs.Variables.{AreBindings, Variable, variables_of}
+use Rattle.snmp_msg.specs.Variables.{Variable, variables_of}
 use Rattle.snmp_msg.specs.declared.pdu_type.PduType.{PduType}
 use Rattle.snmp_msg.specs.declared.pdu_type.PduType.TheVariants.{GetBulkRequest, GetNextRequest, SetRequest}
 use Rattle.vacm_core.specs.Tables.{Tables}

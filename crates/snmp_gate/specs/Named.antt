@@ -7,8 +7,6 @@ use Rattle.snmp_ber.specs.Oid.{IsObjectId}
 use Rattle.snmp_walk.specs.ObjectIds.{AllNamed, BulkAllNamed, IsNamed}
 use Rattle.snmp_walk.specs.declared.column.Progress.{Progress}
 use Rattle.snmp_walk.specs.declared.column.Progress.TheVariants as progress
-use Rattle.snmp_walk.specs.declared.dialogue.Dialogue.{Dialogue}
-use Rattle.snmp_walk.specs.declared.bulk_dialogue.BulkDialogue.{BulkDialogue}
 use Rattle.snmp_gate.specs.declared.task.Task.{Task}
 use Rattle.snmp_gate.specs.declared.task.Task.TheVariants.{Read, Bulk, Set}
 

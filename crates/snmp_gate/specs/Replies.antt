@@ -3,7 +3,7 @@
 -- `IsSent`: the Response to an accepted message with an error-status, an error-index and bindings. `IsSentOr`: that, or
 -- tooBig without bindings. `MayTell`: the law outwards, which Response a message may be sent. `IsReplyTo`: what becomes
 -- of a message.
-use Rattle.std.specs.Prelude.{◌≡◌, ◌≢◌, ◌⊎◌, ⊤, ℕ, ℤ, pos, List, [], All, Contains, Some, Ok, length, take}
+use Rattle.std.specs.Prelude.{◌≡◌, ◌≢◌, ◌⊎◌, ⊤, ℕ, ℤ, pos, List, [], All, Contains, Some, Ok, take}
 use Rattle.std.specs.List.{AllZip}
 use Rattle.snmp_message.specs.Scoped.{Contexts, ScopedFront}
 use Rattle.snmp_msg.specs.Pdu.{PduParts, PduText}
@@ -21,7 +21,7 @@ use Rattle.snmp_walk.specs.BulkColumn.{Ascends, IsGiven, last_name}
 use Rattle.snmp_walk.specs.Column.{MayShow}
 use Rattle.snmp_walk.specs.declared.operation.ReadOperation.{ReadOperation}
 use Rattle.snmp_walk.specs.declared.operation.ReadOperation.TheVariants.{GetNext}
-use Rattle.snmp_gate.specs.Messages.{question_given, seen_in}
+use Rattle.snmp_gate.specs.Messages.{seen_in}
 use Rattle.snmp_gate.specs.Question.{Question}
 use Rattle.snmp_gate.specs.ReadAsks.{read_type}
 use Rattle.snmp_gate.specs.declared.reply.Reply.{Reply}

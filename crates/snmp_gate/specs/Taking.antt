@@ -8,7 +8,7 @@ use Rattle.snmp_msg.specs.Variables.{Variable}
 use Rattle.snmp_msg.specs.declared.pdu.Pdu.{Pdu}
 use Rattle.vacm_core.specs.Tables.{Tables}
 use Rattle.snmp_gate.specs.Question.{Question}
-use Rattle.snmp_gate.specs.Work.{EndingStands, OnwardStands, TaskStands}
+use Rattle.snmp_gate.specs.Work.{EndingStands, TaskStands}
 use Rattle.snmp_gate.specs.declared.requests.WaitingRequest.{WaitingRequest}
 use Rattle.snmp_gate.specs.declared.waiting_message.WaitingMessage.{WaitingMessage}
 use Rattle.snmp_gate.specs.declared.work.OpenRequest.{OpenRequest}

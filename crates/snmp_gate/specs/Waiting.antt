@@ -3,8 +3,7 @@
 -- `OpenStands`: a request whose device is asked, or is to be asked. `GroupStands`: a request with its messages.
 -- `GateStands`: all of a gateway. `ClientHappens`, `DeviceHappens`, `SendHappens`: what happens by a call, and that it
 -- is lawful after what happened before. `SameWaiting`: the same requests wait.
-use Rattle.std.specs.Prelude.{◌≡◌, ◌<◌, ⊤, ℕ, List, ◌∷◌, All, AllPairs, Some}
-use Rattle.std.specs.List.{HoldsAt}
+use Rattle.std.specs.Prelude.{◌≡◌, ◌<◌, ℕ, List, ◌∷◌, All, AllPairs, Some}
 use Rattle.snmp_msg.specs.Pdu.{PduParts}
 use Rattle.snmp_msg.specs.Variables.{Variable}
 use Rattle.vacm_core.specs.Tables.{Tables}

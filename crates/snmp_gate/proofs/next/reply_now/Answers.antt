@@ -1,5 +1,4 @@
 use Rattle.std.proofs.Common.{sym, subst}
-use Rattle.snmp_agent.specs.Agent.{AgentState}
 use Rattle.snmp_gate.specs.Sending.{RepliesTo}
 use Rattle.snmp_gate.specs.declared.work.Work.{Work}
 use Rattle.snmp_gate.proofs.next.reply_now.Goals as goal

@@ -1,6 +1,5 @@
-use Rattle.std.proofs.Common.{refl, sym, ap, ◌≡◌, ◌∙◌}
+use Rattle.std.proofs.Common.{refl, ap}
 use Rattle.snmp_gate.specs.declared.work.OpenRequest.{OpenRequest}
-use Rattle.snmp_gate.specs.declared.work.Work.TheVariants.{Open, Ends}
 use Rattle.snmp_gate.proofs.Endings.{never_open, one_open}
 use Rattle.snmp_gate.proofs.next.set_asked.Goals as goal
 

@@ -1,6 +1,5 @@
 use Rattle.snmp_responder.specs.Code.{seen_by}
 use Rattle.snmp_gate.proofs.Standing.{read_stands, tells}
-use Rattle.snmp_walk.specs.declared.dialogue.Answered.TheVariants as answered
 use Rattle.snmp_gate.proofs.onward.take_read.Goals as goal
 
 pub returns-in-Taken-clause-stands : goal.returns-in-Taken-clause-stands

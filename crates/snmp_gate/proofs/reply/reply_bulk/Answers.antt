@@ -1,17 +1,12 @@
-use Rattle.std.proofs.Common.{ℕ, List, All, map, pos, refl, subst, sym}
-use Rattle.std.specs.List.{AllZip}
+use Rattle.std.proofs.Common.{ℕ, List, All, map, refl, subst, sym}
 use Rattle.snmp_msg.specs.Variables.{variable_of}
 use Rattle.snmp_msg.specs.declared.binding.Binding.{Binding}
 use Rattle.snmp_incoming.specs.Answers.{given_of}
-use Rattle.snmp_responder.specs.Code.{seen_by}
 use Rattle.snmp_responder.specs.declared.viewer.Viewer.{Viewer}
 use Rattle.snmp_walk.specs.BulkDialogue.{BulkAllStand}
-use Rattle.snmp_walk.specs.Dialogue.{AllStand, Shows}
 use Rattle.snmp_walk.specs.Front.{IsShownOf}
 use Rattle.snmp_gate.specs.Messages.{IsViewerOf, seen_in}
-use Rattle.snmp_gate.specs.Replies.{IsFrontSentOr, IsSentOr, answering, told_with}
-use Rattle.snmp_gate.specs.Work.{IsOwnStatus}
-use Rattle.snmp_gate.specs.declared.set_answer.TheConstants.{NO_ERROR}
+use Rattle.snmp_gate.specs.Replies.{IsFrontSentOr, answering}
 use Rattle.snmp_gate.proofs.Sending.{on_ok}
 use Rattle.snmp_gate.proofs.Standing.{from_seen, to_seen}
 use Rattle.snmp_gate.proofs.Telling.{front_reply, unwritten}

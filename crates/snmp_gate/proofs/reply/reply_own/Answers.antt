@@ -4,7 +4,6 @@ use Rattle.snmp_msg.specs.Variables.{bound_variable}
 use Rattle.snmp_msg.specs.declared.variable.VariableBinding.{VariableBinding}
 use Rattle.snmp_incoming.specs.Answers.{given_of}
 use Rattle.snmp_gate.specs.Replies.{IsOwnList, IsSentOr, answering, told_with}
-use Rattle.snmp_gate.specs.declared.reply.Reply.{Reply}
 use Rattle.snmp_gate.proofs.Sending.{on_ok}
 use Rattle.snmp_gate.proofs.Telling.{own_reply}
 use Rattle.snmp_gate.proofs.reply.reply_own.Goals as goal

@@ -1,4 +1,4 @@
-use Rattle.std.proofs.Common.{inl, ℤ, to_z, of_z, w32, map}
+use Rattle.std.proofs.Common.{inl, to_z, of_z, w32}
 use Rattle.std.proofs.lemmas.Int.{to_z-of_z}
 use Rattle.snmp_incoming.specs.Answers.{given_of}
 use Rattle.snmp_gate.specs.Replies.{answering}

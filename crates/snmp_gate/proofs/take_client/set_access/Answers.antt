@@ -1,9 +1,8 @@
-use Rattle.std.proofs.Common.{List, ap, subst, sym, ◌∙◌, ◌≡◌, ◌∷◌, All, ℕ}
+use Rattle.std.proofs.Common.{List, ap, subst, sym, ◌∙◌, All, ℕ}
 use Rattle.std.specs.List.{AllZip}
 use Rattle.snmp_msg.specs.Variables.{Variable, variables_of}
 use Rattle.vacm_core.specs.declared.access.Access.{Access}
 use Rattle.vacm_core.specs.declared.access.ViewType.TheVariants.{Write}
-use Rattle.snmp_gate.specs.Access.{IsGranted}
 use Rattle.snmp_gate.specs.Messages.{IsAnswerFor, question_given, set_in}
 use Rattle.snmp_gate.proofs.Granted.{may_all}
 use Rattle.snmp_gate.proofs.take_client.set_access.Goals as goal

@@ -1,9 +1,8 @@
-use Rattle.std.proofs.Common.{◌≡◌, ap, subst, sym, ◌∙◌}
+use Rattle.std.proofs.Common.{ap, subst, sym, ◌∙◌}
 use Rattle.snmp_gate.specs.Messages.{question_given}
 use Rattle.snmp_gate.specs.Taking.{WorkAfter}
 use Rattle.snmp_gate.specs.Work.{TaskStands}
 use Rattle.snmp_gate.specs.declared.work.OpenRequest.{OpenRequest}
-use Rattle.snmp_gate.specs.declared.work.Work.{Work}
 use Rattle.snmp_gate.proofs.Endings.{one_open}
 use Rattle.snmp_gate.proofs.take_device.after_answer.Goals as goal
 

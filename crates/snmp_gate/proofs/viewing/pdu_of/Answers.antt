@@ -1,4 +1,4 @@
-use Rattle.std.proofs.Common.{ap, sym, subst}
+use Rattle.std.proofs.Common.{ap}
 use Rattle.snmp_message.specs.Scoped.{contexts_of}
 use Rattle.snmp_msg.specs.Pdu.{pdu_of}
 use Rattle.snmp_incoming.specs.Answers.{given_of}

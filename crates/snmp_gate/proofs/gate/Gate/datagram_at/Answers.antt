@@ -1,4 +1,4 @@
-use Rattle.std.proofs.Common.{refl, subst, sym}
+use Rattle.std.proofs.Common.{subst, sym}
 use Rattle.std.proofs.lemmas.List.Elements.{at_read}
 use Rattle.snmp_gate.specs.History.{MayAskFor}
 use Rattle.snmp_gate.specs.Sending.{MayAskOf}

@@ -5,7 +5,6 @@ use Rattle.snmp_incoming.specs.Answers.{given_of}
 use Rattle.snmp_gate.specs.Devices.{IsDeviceOf}
 use Rattle.snmp_gate.specs.Messages.{question_given}
 use Rattle.snmp_gate.specs.Question.{Question}
-use Rattle.snmp_gate.specs.SetBegins.{SetStandsSo}
 use Rattle.snmp_gate.proofs.Asked.{asked_with}
 use Rattle.snmp_gate.proofs.gate.Gate.handled_work.Goals as goal
 

@@ -1,5 +1,5 @@
-use Rattle.std.proofs.Common.{◌∙◌, ap, HoldsAt, refl, subst, sym}
-use Rattle.std.specs.Prelude.{List, ℕ, ◌∷◌, ◌≡◌, ◌<◌, length}
+use Rattle.std.proofs.Common.{ap, HoldsAt, refl, subst, sym}
+use Rattle.std.specs.Prelude.{List, ◌∷◌, ◌≡◌, ◌<◌, length}
 use Rattle.snmp_gate.specs.Groups.{groups_of}
 use Rattle.snmp_gate.specs.History.{accepted}
 use Rattle.snmp_gate.specs.Messages.{question_in}

@@ -1,4 +1,4 @@
-use Rattle.std.specs.Prelude.{◌≡◌, Option, Some}
+use Rattle.std.specs.Prelude.{◌≡◌, Some}
 use Rattle.std.proofs.Common.{subst, sym}
 use Rattle.snmp_incoming.specs.Outcome.{Given}
 use Rattle.snmp_gate.specs.Messages.{question_given}
