@@ -64,14 +64,17 @@ test_notifications() {
 
 test_python() {
     if ! command -v python3 > /dev/null; then echo "skipped: python3 isn't installed"; return; fi
-    PYTHONPATH=$here/python/src python3 "$here/python/tests/test_snmpsec.py" > "$work/python.out" 2>&1
-    check "Python" 0 $?
-    grep -E '^(FAIL|ERROR|[A-Za-z.]*Error)' "$work/python.out"
-    echo "Python: $(grep '^Ran ' "$work/python.out")"
+    local tests
+    for tests in snmpsec aio; do
+        PYTHONPATH=$here/python/src python3 "$here/python/tests/test_$tests.py" > "$work/python.out" 2>&1
+        check "Python: $tests" 0 $?
+        grep -E '^(FAIL|ERROR|[A-Za-z.]*Error)' "$work/python.out"
+        echo "Python: $tests: $(grep '^Ran ' "$work/python.out")"
+    done
     has "signatures" ", 0 differ" "$(python3 "$here/tests/signatures.py" "$OUT/libsnmpsec.so.0" 2>&1 | tee "$work/signatures.out")"
     grep -v ', 0 differ' "$work/signatures.out"
     if command -v mypy > /dev/null; then
-        has "the types in Python" "Success" "$(cd "$work" && mypy --strict-optional "$here/python/src/snmpsec" 2>&1 | tail -1)"
+        has "the types in Python" "Success" "$(cd "$work" && mypy --strict "$here/python/src/snmpsec" 2>&1 | tail -1)"
     else
         echo "skipped: the types in Python: there is no mypy (apt-get install mypy)"
     fi

@@ -35,7 +35,7 @@ import operator
 import os
 import threading
 from enum import IntEnum
-from typing import Iterator, NamedTuple, Optional, Sequence, Tuple, Union
+from typing import Any, Callable, Iterator, List, NamedTuple, Optional, Sequence, Tuple, TypeVar, Union
 
 from . import _library
 from ._library import CALLS, Octets as _Slice
@@ -49,6 +49,8 @@ __all__ = ["Access", "Agent", "Answered", "AuthProtocol", "BadArgument", "BadBin
 Buffer = Union[bytes, bytearray, memoryview]
 Path = Union[str, "os.PathLike[str]"]
 LARGEST, LARGEST_KEY = 65507, 32
+_ROOM = 2048  # for most messages
+_Made = TypeVar("_Made")
 _MOST_ARCS = 128
 NO_CLOCKS = b"snmp-clocks 2\n"
 
@@ -349,12 +351,12 @@ _SHORT_BUFFER, _OUT_OF_MEMORY = -5, 14
 
 
 def _words(answer: int) -> str:
-    return CALLS["strerror"](answer).decode()
+    return str(CALLS["strerror"](answer), "ascii")
 
 
 def version() -> str:
     """The version of the library that is loaded."""
-    return CALLS["version"]().decode()
+    return str(CALLS["version"](), "ascii")
 
 
 def _refusal(answer: int) -> Optional[Refusal]:
@@ -374,7 +376,7 @@ def _done(answer: int) -> None:
         raise Refused(refusal)
 
 
-def _lent(octets: Buffer) -> tuple:
+def _lent(octets: Buffer) -> Tuple[Any, int]:
     """What can be written to is handed in as it lies there, so that no copy is left of what its owner wipes; and how many octets it has."""
     if isinstance(octets, bytes):
         return octets, len(octets)
@@ -384,11 +386,11 @@ def _lent(octets: Buffer) -> tuple:
         return (ctypes.c_char * view.nbytes).from_buffer(octets), view.nbytes
 
 
-def _octets(*many: Buffer) -> list:
+def _octets(*many: Buffer) -> List[Any]:
     return [part for octets in many for part in _lent(octets)]
 
 
-def _wiped(path: Path, use):
+def wiped(path: Path, use: Callable[[bytearray], _Made]) -> _Made:
     """What `use` makes of the file's octets, which are overwritten then: a configuration has passwords."""
     with open(path, "rb", buffering=0) as file:
         octets = bytearray(os.fstat(file.fileno()).st_size)
@@ -411,19 +413,19 @@ def _ranged(value: int, bits: int = 32) -> int:
     return value
 
 
-def _arcs(name: Sequence[int]) -> tuple:
+def _arcs(name: Sequence[int]) -> Tuple[Any, int]:
     return (ctypes.c_uint32 * len(name))(*map(_ranged, name)), len(name)
 
 
-def _copied(call, *arguments, room: int = LARGEST) -> bytes:
-    """The octets that a call writes. There is room for a datagram, and where more is wanted, as for a saved text, the call is made again."""
+def _copied(call: Callable[..., Any], *arguments: Any, room: int = _ROOM) -> bytes:
+    """The octets that a call writes. There is room for most messages, and where more is wanted, as for a saved text, the call is made again."""
     written = ctypes.c_size_t()
     while True:
         out = ctypes.create_string_buffer(room)
         answer = call(*arguments, out, room, ctypes.byref(written))
         if answer != _SHORT_BUFFER or written.value <= room:
             _done(answer)
-            return out.raw[: written.value]
+            return ctypes.string_at(out, written.value)
         room = written.value
 
 
@@ -490,7 +492,7 @@ def mac(protocol: AuthProtocol, key: Buffer, front: Buffer, zeros: int, back: Bu
     return _copied(CALLS["mac"], protocol, *_octets(key, front), _ranged(zeros, 64), *_octets(back), room=LARGEST_KEY)
 
 
-def _changed(call, key: Buffer, boots: int, time: int, salt: Buffer, text: Buffer) -> bytes:
+def _changed(call: Callable[..., Any], key: Buffer, boots: int, time: int, salt: Buffer, text: Buffer) -> bytes:
     out = ctypes.create_string_buffer(bytes(text), max(len(text), 1))
     _done(call(*_octets(key), _ranged(boots), _ranged(time), *_octets(salt), out, len(text)))
     return out.raw[: len(text)]
@@ -506,13 +508,16 @@ def open_text(key: Buffer, boots: int, time: int, salt: Buffer, text: Buffer) ->
     return _changed(CALLS["open"], key, boots, time, salt, text)
 
 
+_Handle = TypeVar("_Handle", bound="_Held")
+
+
 class _Held:
     """What an agent and a manager have in common."""
 
     _kind = ""
     _handle: Optional[ctypes.c_void_p] = None
 
-    def __init__(self, config: Buffer, *arguments):
+    def __init__(self, config: Buffer, *arguments: Any):
         self._lock = threading.Lock()
         handle = ctypes.c_void_p()
         try:
@@ -522,7 +527,7 @@ class _Held:
             raise BadConfiguration(fault.text if fault else str(refused), fault) from None
         self._handle = handle
 
-    def _call(self, name: str, *arguments):
+    def _call(self, name: str, *arguments: Any) -> Any:
         with self._lock:
             if not self._handle:
                 raise ValueError("closed")
@@ -537,10 +542,10 @@ class _Held:
             if handle:
                 CALLS[f"{self._kind}_free"](handle)
 
-    def __enter__(self):
+    def __enter__(self: _Handle) -> _Handle:
         return self
 
-    def __exit__(self, *_) -> None:
+    def __exit__(self, *_: object) -> None:
         self.close()
 
     def __del__(self) -> None:
@@ -595,7 +600,7 @@ class Agent(_Held):
 
     @classmethod
     def from_file(cls, path: Path, engine: Buffer, boots: int, started: int) -> "Agent":
-        return _wiped(path, lambda config: cls(config, engine, boots, started))
+        return wiped(path, lambda config: cls(config, engine, boots, started))
 
     def access(self, view: View, name: Sequence[int]) -> Access:
         """Whether the sender of what is kept may see the variable, or why not."""
@@ -708,7 +713,7 @@ class Manager(_Held):
 
     @classmethod
     def from_file(cls, path: Path, clocks: Buffer = NO_CLOCKS, now: int = 0) -> "Manager":
-        return _wiped(path, lambda config: cls(config, clocks, now))
+        return wiped(path, lambda config: cls(config, clocks, now))
 
     def reply(self) -> Optional[Reply]:
         """What is kept is to the request that was written last; None where nothing is kept or nothing was asked."""

@@ -1,0 +1,307 @@
+"""A client of SNMPv3 and a receiver of notifications, by asyncio. Not proved; the library accepts and writes each message.
+
+    config = configuration("ann", auth="sha256", auth_password=b"maplesyrup", priv_password=b"syrupmaple")
+    async with Client(config) as client:
+        router = Target("192.0.2.7", user="ann")
+        [(name, value)] = await client.get(router, "1.3.6.1.2.1.1.5.0")
+        async for name, value in client.walk(router, "1.3.6.1.2.1.2.2"):
+            ..
+
+    async with Listener(config, engine=b"\x80\0\x1f\x88\4me", boots="listener.boots") as notifications:
+        async for it in notifications:
+            ..
+
+One client asks many devices over one socket, and each of them for many things at once. An engine that isn't known is discovered first, and its boots
+and time are learned (RFC 3414, section 4). A request that has no answer is sent again, with the same msgID and request-id. What a device doesn't do is
+an SnmpError: NoAnswer, ReportReceived, ErrorStatus or NotIncreasing.
+"""
+from __future__ import annotations
+
+import asyncio
+import secrets
+import socket
+import time
+from typing import Any, AsyncIterator, Dict, List, NamedTuple, Optional, Sequence, Tuple
+
+from . import NO_CLOCKS, Answered, Buffer, Device, Known, Level, Manager, Part, Pdu, Refusal, Step, binding, wiped
+from .files import Path, read_whole, replace
+from .notifications import Listener, Notification, TrapSender, Variables, listed, notified, variables_of
+from .targets import TOO_BIG, ErrorStatus, NoAnswer, NotIncreasing, ReportReceived, SnmpError, Target, configuration
+from .values import END_OF_MIB_VIEW, Name, ObjectId, Value, Variable, encode
+
+__all__ = ["Client", "ErrorStatus", "Listener", "NoAnswer", "NotIncreasing", "Notification", "ReportReceived", "SnmpError", "Target", "TrapSender",
+           "configuration"]
+
+_UNKNOWN_ENGINES, _MOST_REPETITIONS = 4, 100
+
+
+class _Peer:
+    """What is known of an address: how to reach it, its engine, whether the engine's boots and time are held, and why its last datagram was refused."""
+
+    def __init__(self, family: int, address: Tuple[Any, ...]):
+        self.family, self.address = family, address
+        self.engine: Optional[bytes] = None
+        self.holds_clock = False
+        self.refusal: Optional[Refusal] = None
+        self.turn = asyncio.Lock()  # of discovery
+
+
+class _Waiting:
+    """A request on its way: whom it asks, what it waits for, and what is to be done once it is heard of, or None where nothing came in time."""
+
+    __slots__ = ("peer", "state", "future")
+
+    def __init__(self, peer: _Peer, state: Device):
+        self.peer, self.state = peer, state
+        self.future: Optional[asyncio.Future[Optional[Step]]] = None
+
+    def heard(self, step: Optional[Step]) -> None:
+        if self.future is not None and not self.future.done():
+            self.future.set_result(step)
+
+
+class _Response(NamedTuple):
+    error_status: int
+    error_index: int
+    octets: bytes
+
+
+class _Socket(asyncio.DatagramProtocol):
+    """Hands what comes to the client."""
+
+    def __init__(self, client: Client):
+        self.client = client
+
+    def datagram_received(self, datagram: bytes, address: Tuple[Any, ...]) -> None:
+        self.client._take(datagram, address)
+
+
+class Client:
+    """Asks devices by SNMPv3, with the users of a configuration in TOML. Each datagram goes out at most 1 + `retries` times, `timeout` seconds apart; at
+    most `at_once` requests are on their way.
+
+    `clocks` is a saved text: what another station, or this one before, knows of engines (the files of `snmpsec merge-clocks`). A client is closed at
+    the end of its block, or by `close`; its keys are wiped then.
+    """
+
+    def __init__(self, config: Buffer, *, clocks: Buffer = NO_CLOCKS, timeout: float = 1.0, retries: int = 3, at_once: int = 1024):
+        self.timeout, self.retries = timeout, retries
+        self._manager = Manager(config, clocks, int(time.time()))
+        self._room = asyncio.Semaphore(at_once)
+        self._peers: Dict[Tuple[str, int], _Peer] = {}
+        self._by_address: Dict[Tuple[Any, ...], _Peer] = {}
+        self._sockets: Dict[int, asyncio.DatagramTransport] = {}
+        self._waiting: Dict[int, _Waiting] = {}
+        self._responses: Dict[int, _Response] = {}
+        self._first_id = secrets.randbelow(1 << 31)
+        self._request_id = secrets.randbelow(1 << 31)
+        self._turn = asyncio.Lock()
+
+    @classmethod
+    def from_file(cls, path: Path, **settings: Any) -> Client:
+        """A client with the users of a file. What is read is overwritten then."""
+        return wiped(path, lambda config: cls(config, **settings))
+
+    async def __aenter__(self) -> Client:
+        return self
+
+    async def __aexit__(self, *_: object) -> None:
+        self.close()
+
+    def close(self) -> None:
+        """Closes the sockets and wipes the keys. What waits ends with CancelledError."""
+        for transport in self._sockets.values():
+            transport.close()
+        for waiting in self._waiting.values():
+            if waiting.future is not None:
+                waiting.future.cancel()
+        self._sockets.clear()
+        self._manager.close()
+
+    # -- clocks, which stations share
+
+    def saved(self) -> bytes:
+        """What is known of engines, as a saved text: for each engine the greatest boots and time that were authenticated."""
+        return self._manager.saved()
+
+    def save(self, path: Path) -> None:
+        """Puts the saved text in the place of a file."""
+        replace(path, self.saved())
+
+    def absorb(self, text: Buffer) -> None:
+        """Joins in what another station knows. BadClocks: it is no saved text."""
+        self._manager.absorb(text, int(time.time()))
+
+    def load(self, path: Path) -> None:
+        """Joins in a file of another station, or of this one before."""
+        self.absorb(read_whole(path))
+
+    # -- requests
+
+    async def get(self, target: Target, *names: Name) -> List[Variable]:
+        """The values of variables, in their order (RFC 3416, section 4.2.1). A variable that isn't there has a value of Exceptional."""
+        return await self._ask(target, Pdu.GET, [(ObjectId(name), None) for name in names])
+
+    async def get_next(self, target: Target, *names: Name) -> List[Variable]:
+        """For each name the next variable after it (RFC 3416, section 4.2.2)."""
+        return await self._ask(target, Pdu.GET_NEXT, [(ObjectId(name), None) for name in names])
+
+    async def get_bulk(self, target: Target, *names: Name, non_repeaters: int = 0, max_repetitions: int = 10) -> List[Variable]:
+        """The next variables after each name, repetition by repetition (RFC 3416, section 4.2.3)."""
+        return await self._ask(target, Pdu.GET_BULK, [(ObjectId(name), None) for name in names], non_repeaters, max_repetitions)
+
+    async def set(self, target: Target, variables: Variables) -> List[Variable]:
+        """Sets variables, all or none (RFC 3416, section 4.2.5), and returns what the Response has. After NoAnswer it may have been done."""
+        return await self._ask(target, Pdu.SET, listed(variables))
+
+    async def inform(self, target: Target, notification: Name, variables: Variables = (), *, uptime: float = 0.0) -> None:
+        """Sends an InformRequest, and waits until it is acknowledged (RFC 3416, section 4.2.7): the notification's name, and what it is about."""
+        await self._ask(target, Pdu.INFORM, notified(notification, variables, uptime))
+
+    async def walk(self, target: Target, root: Name, *, max_repetitions: int = _MOST_REPETITIONS) -> AsyncIterator[Variable]:
+        """The variables below a name, in their order. It asks by GetBulkRequests, first for few variables and then for more, up to `max_repetitions`;
+        where an answer is too big, or doesn't come, for fewer. NotIncreasing: the device goes back."""
+        begin = last = ObjectId(root)
+        size = min(10, max_repetitions)
+        while True:
+            try:
+                found = await self.get_bulk(target, last, max_repetitions=size)
+            except (ErrorStatus, NoAnswer) as fault:
+                if size == 1 or isinstance(fault, ErrorStatus) and fault.status != TOO_BIG:
+                    raise
+                size = max(1, size // 2)
+                continue
+            for name, value in found:
+                if value is END_OF_MIB_VIEW or not name.is_below(begin):
+                    return
+                if name <= last:
+                    raise NotIncreasing(name, last)
+                last = name
+                yield Variable(name, value)
+            if not found:
+                raise NotIncreasing(last, last)
+            size = min(2 * size, max_repetitions) if len(found) == size else max(1, len(found))
+
+    # -- what goes out
+
+    async def _ask(self, target: Target, pdu: Pdu, variables: Sequence[Tuple[ObjectId, Value]], second: int = 0, third: int = 0) -> List[Variable]:
+        octets = b"".join(binding(name, *encode(value)) for name, value in variables)
+        async with self._room:
+            peer = await self._peer(target)
+            response = await self._answer(target, peer, pdu, octets, (second, third))
+        if response.error_status:
+            at = response.error_index
+            raise ErrorStatus(response.error_status, at, variables[at - 1][0] if 0 < at <= len(variables) else None)
+        return variables_of(response.octets)
+
+    async def _answer(self, target: Target, peer: _Peer, pdu: Pdu, octets: bytes, numbers: Tuple[int, int]) -> _Response:
+        """Sends what is to be sent until the request is answered."""
+        turn = None if peer.holds_clock else peer.turn
+        if turn is not None:
+            await turn.acquire()
+        try:
+            state = Device(target.level, self._known(peer))
+            request_id = self._request_id = (self._request_id + 1) % (1 << 31)
+            step = state.step
+            while True:
+                if step is Step.SEND_REQUEST and turn is not None:
+                    turn.release()
+                    turn = None
+                token, message = self._write(step, target, peer, pdu, octets, request_id, numbers)
+                step = await self._exchange(target, peer, state, token, message)
+                if step is Step.ANSWERED:
+                    return self._responses.pop(token)
+                if step is Step.DENIED:
+                    raise ReportReceived(target, state.counter)
+        finally:
+            if turn is not None:
+                turn.release()
+
+    def _known(self, peer: _Peer) -> Known:
+        if peer.engine is None:
+            return Known.NOTHING
+        peer.holds_clock = peer.holds_clock or self._manager.clock(peer.engine) is not None
+        return Known.CLOCK if peer.holds_clock else Known.ENGINE
+
+    def _write(self, step: Step, target: Target, peer: _Peer, pdu: Pdu, octets: bytes, request_id: int, numbers: Tuple[int, int]) -> Tuple[int, bytes]:
+        """What is sent next, and its token."""
+        if step is Step.SEND_DISCOVERY:
+            token = self._manager.ask_discovery(self._first_id)
+        else:
+            is_request = step is Step.SEND_REQUEST
+            token = self._manager.ask(
+                int(time.time()), pdu if is_request else Pdu.GET, engine=peer.engine or b"", user=target.user.encode(),
+                level=target.level if is_request else Level.AUTH_NO_PRIV, octets=octets if is_request else b"", salt=secrets.randbits(64),
+                message_id=self._first_id, request_id=request_id, error_status=numbers[0] if is_request else 0,
+                error_index=numbers[1] if is_request else 0, context_engine=target.context_engine, context_name=target.context)
+        message = self._manager.message()
+        assert message is not None
+        return token, message
+
+    async def _exchange(self, target: Target, peer: _Peer, state: Device, token: int, message: bytes) -> Step:
+        """Sends a message until something is to be done."""
+        loop = asyncio.get_running_loop()
+        waiting = self._waiting[token] = _Waiting(peer, state)
+        try:
+            for _ in range(1 + self.retries):
+                waiting.future = loop.create_future()
+                timer = loop.call_later(self.timeout, waiting.heard, None)
+                self._sockets[peer.family].sendto(message, peer.address)
+                try:
+                    step = await waiting.future
+                finally:
+                    timer.cancel()
+                if step is not None:
+                    return step
+            if state.counter == _UNKNOWN_ENGINES:
+                peer.engine, peer.holds_clock = None, False  # the next request discovers it
+            raise NoAnswer(target, state.counter, peer.refusal, peer.engine is not None)
+        finally:
+            del self._waiting[token]
+            if token not in self._responses:
+                self._manager.give_up(token)
+
+    async def _peer(self, target: Target) -> _Peer:
+        """What is known of the target's address. It is looked up, and a socket is there of its family."""
+        place = target.host, target.port
+        peer = self._peers.get(place)
+        if peer is not None:
+            return peer
+        async with self._turn:
+            loop = asyncio.get_running_loop()
+            found = await loop.getaddrinfo(target.host, target.port, type=socket.SOCK_DGRAM)
+            family, _, _, _, address = found[0]
+            if family not in self._sockets:
+                own = ("::" if family == socket.AF_INET6 else "0.0.0.0", 0)
+                transport, _protocol = await loop.create_datagram_endpoint(lambda: _Socket(self), local_addr=own, family=family)
+                self._sockets[family] = transport
+            return self._peers.setdefault(place, self._by_address.setdefault(address[:2], _Peer(family, address)))
+
+    # -- what comes
+
+    def _take(self, datagram: bytes, address: Tuple[Any, ...]) -> None:
+        peer = self._by_address.get(address[:2])
+        refusal = self._manager.take(int(time.time()), datagram)
+        if refusal is not None:
+            if peer is not None:
+                peer.refusal = refusal
+            return
+        answered = self._manager.answered()
+        waiting = self._waiting.get(answered.token) if answered else None
+        if answered is None or waiting is None:
+            return
+        if answered.is_response or answered.is_authentic or waiting.peer is peer:
+            self._hear(answered, waiting)  # (any other can be anybody's, from elsewhere)
+
+    def _hear(self, answered: Answered, waiting: _Waiting) -> None:
+        """A message answers what was sent last of a request."""
+        peer = waiting.peer
+        if answered.is_response:
+            info = self._manager.info()
+            assert info is not None
+            self._responses[answered.token] = _Response(info.error_status, info.error_index, self._manager.part(Part.BINDINGS) or b"")
+        elif answered.report_of == _UNKNOWN_ENGINES and peer.engine is None:
+            peer.engine = self._manager.part(Part.ENGINE)
+        step = waiting.state.hear(answered, self._known(peer) is Known.CLOCK)
+        if step is not Step.WAIT:
+            waiting.heard(step)

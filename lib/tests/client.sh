@@ -1,0 +1,73 @@
+# The commands of the Python package, against net-snmp's snmpd, snmptrapd, snmptrap and snmpinform. test.sh runs this.
+
+# ours COMMAND ARGUMENTS..: a command of the package; the password of privacy is in $privacy
+ours() {
+    local program="import sys; from snmpsec import commands; sys.argv[0] = 'snmpsec'; sys.exit(commands.$1())"
+    shift
+    SNMPSEC_AUTH_PASSWORD=${password:-maplesyrup} SNMPSEC_PRIV_PASSWORD=${privacy:-syrupmaple} PYTHONPATH=$here/python/src python3 -c "$program" "$@" 2>&1
+}
+
+# a variable that counts or tells the time differs between two walks
+still() { grep -v -e 'Counter[36]' -e Timeticks -e 'Gauge32' -e '^.1.3.6.1.2.1.25' -e 'No more variables'; }
+
+test_client_levels() {
+    local user hash level options described=".1.3.6.1.2.1.1.1.0 = STRING: \"loopback\""
+    while read -r user hash privacy; do
+        for level in authNoPriv authPriv; do
+            options="-u $user -a $hash -l $level 127.0.0.1:$snmpd_port"
+            check "the client gets as $user at $level" "$described" "$(ours get $options $system.1.0)"
+            check "and the next one" "$described" "$(ours get_next $options $system.1)"
+            has "and by GetBulk" "$described" "$(ours bulk -M 3 $options $system.1)"
+        done
+        walked=$(snmpwalk -v3 -u "$user" -l authPriv -a "$hash" -A maplesyrup -x AES -X "$privacy" -On "127.0.0.1:$snmpd_port" 1.3.6.1 2>&1 | still)
+        check "the client walks as snmpwalk does, as $user" "$walked" "$(ours walk -u "$user" -a "$hash" "127.0.0.1:$snmpd_port" 1.3.6.1 | still)"
+    done << 'USERS'
+md MD5 syrupmaple
+sha SHA another-one
+sha256 SHA-256 a-third-one
+USERS
+}
+
+test_client_refusals() {
+    local options="-t 0.3 -r 1 127.0.0.1:$snmpd_port" privacy=a-third-one
+    has "the client names a wrong password" "usmStatsWrongDigests" "$(password=wrongwrong ours get -u sha256 $options $system.1.0)"
+    has "an unknown user" "usmStatsUnknownUserNames" "$(ours get -u nobody -l authNoPriv $options $system.1.0)"
+    has "a password of privacy that may be wrong" "the privacy password" "$(privacy=wrongwrong ours get -u sha256 $options $system.1.0)"
+    has "a refused Set" "noAccess" "$(ours set_variables -u sha256 $options $system.6.0 s here)"
+    check "a variable that isn't there" ".$system.99.0 = No Such Object available on this agent at this OID" "$(ours get -u sha256 $options $system.99.0)"
+    has "an address where nothing is" "nothing came from there" "$(ours get -u sha256 -t 0.2 -r 0 127.0.0.1:9 $system.1.0)"
+    has "a password on the command line" "--insecure-passwords" "$(ours get -u sha256 -A maplesyrup $options $system.1.0)"
+    check "with status 2" 2 "$(ours get -u sha256 -A maplesyrup $options $system.1.0 > /dev/null; echo $?)"
+}
+
+test_client_notifications() {
+    local options="-v3 -u sha256 -l authPriv -a SHA-256 -A maplesyrup -x AES -X a-third-one 127.0.0.1:$trap_port" privacy=a-third-one
+    ours listen -u sha256 --engine 8000000005060708 --boots "$work/listen.boots" --count 3 "127.0.0.1:$trap_port" > "$work/listened" &
+    local listener=$!
+    bound "$trap_port"
+    snmptrap -e 0x8000000001020304 $options 42 1.3.6.1.6.3.1.1.5.3 $system.5.0 s up
+    snmpinform $options 43 1.3.6.1.6.3.1.1.5.4
+    check "an Inform of net-snmp is acknowledged" 0 $?
+    check "so is ours" "" "$(ours trap -u sha256 --inform "127.0.0.1:$trap_port" 1.3.6.1.6.3.1.1.5.1)"
+    wait "$listener"
+    check "all three are printed" "trap inform inform" "$(grep -o '^trap\|^inform' "$work/listened" | tr '\n' ' ' | sed 's/ $//')"
+    has "with their variables" '.1.3.6.1.2.1.1.5.0 = STRING: "up"' "$(cat "$work/listened")"
+    check "the boots are counted" 1 "$(cat "$work/listen.boots")"
+    printf 'createUser -e 0x8000000001020305 sha256 SHA-256 maplesyrup AES a-third-one\ncreateUser sha256 SHA-256 maplesyrup AES a-third-one\n' > "$work/trapd.conf"
+    echo "authUser log sha256" >> "$work/trapd.conf"
+    begin_trapd
+    check "a trap to snmptrapd" "" "$(ours trap -u sha256 --engine 8000000001020305 --boots "$work/trap.boots" "127.0.0.1:$trap_port" 1.3.6.1.6.3.1.1.5.1)"
+    check "an Inform to snmptrapd" "" "$(ours trap -u sha256 --inform "127.0.0.1:$trap_port" 1.3.6.1.6.3.1.1.5.2)"
+    end_trapd
+    check "both are logged" "1.3.6.1.6.3.1.1.5.1 1.3.6.1.6.3.1.1.5.2" "$(grep -o '1\.3\.6\.1\.6\.3\.1\.1\.5\.[12]' "$work/trapd.log" | tr '\n' ' ' | sed 's/ $//')"
+}
+
+if ! command -v snmpd > /dev/null || ! command -v snmptrapd > /dev/null || ! command -v python3 > /dev/null; then
+    echo "skipped: the client: net-snmp's snmpd, snmptrapd or python3 isn't installed"
+else
+    begin_snmpd
+    test_client_levels
+    test_client_refusals
+    end_snmpd
+    test_client_notifications
+fi
