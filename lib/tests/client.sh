@@ -62,6 +62,22 @@ test_client_notifications() {
     check "both are logged" "1.3.6.1.6.3.1.1.5.1 1.3.6.1.6.3.1.1.5.2" "$(grep -o '1\.3\.6\.1\.6\.3\.1\.1\.5\.[12]' "$work/trapd.log" | tr '\n' ' ' | sed 's/ $//')"
 }
 
+# the examples of the client's page, in a folder of their own
+test_client_page() {
+    local page=$here/../docs/python-client.md number
+    begin_agent
+    for number in 1 2; do
+        awk -v wanted=$number '/^```python/ { n++; inside = 1; next } /^```/ { inside = 0 } inside && n == wanted' "$page" |
+            sed "s/16161/$port/" > "$work/page.py"
+        (cd "$work" && PYTHONPATH=$here/python/src python3 page.py > "page$number.out" 2>&1)
+        check "example $number of the client's page" 0 $?
+    done
+    end_agent
+    check "prints what the agent has" "1.3.6.1.2.1.1.1.0 b'a proved agent'" "$(head -1 "$work/page1.out")"
+    check "and the notification" "ann 1.3.6.1.6.3.1.1.5.1" "$(cat "$work/page2.out")"
+}
+
+if command -v python3 > /dev/null; then test_client_page; fi
 if ! command -v snmpd > /dev/null || ! command -v snmptrapd > /dev/null || ! command -v python3 > /dev/null; then
     echo "skipped: the client: net-snmp's snmpd, snmptrapd or python3 isn't installed"
 else
