@@ -1,5 +1,7 @@
 # The commands of the Python package, against net-snmp's snmpd, snmptrapd, snmptrap and snmpinform. test.sh runs this.
 
+export SNMPSEC_LIBRARY=$OUT/libsnmpsec.so.0
+
 # ours COMMAND ARGUMENTS..: a command of the package; the password of privacy is in $privacy
 ours() {
     local program="import sys; from snmpsec import commands; sys.argv[0] = 'snmpsec'; sys.exit(commands.$1())"
@@ -77,6 +79,19 @@ test_client_page() {
     check "and the notification" "ann 1.3.6.1.6.3.1.1.5.1" "$(cat "$work/page2.out")"
 }
 
+# the example in Rust, which asks the example agent, snmpd and an address where nothing is, at once
+test_client_rust() {
+    if ! command -v cargo > /dev/null; then echo "skipped: cargo isn't installed"; return; fi
+    (cd "$here/rust" && SNMPSEC_OUT=$OUT cargo build --offline --example poll_many --target-dir "$OUT/cargo") > "$work/poll_many.out" 2>&1
+    check "poll_many is built" 0 $?
+    begin_agent
+    LD_LIBRARY_PATH=$OUT "$OUT/cargo/debug/examples/poll_many" "$here/examples/agent.toml" sha256 3 $system.1.0 $at "127.0.0.1:$snmpd_port" 127.0.0.1:9 2>&1 |
+        sort > "$work/polled"
+    end_agent
+    check "poll_many asks three devices" "$(printf '%s\n' "$at 04 612070726f766564206167656e74" "127.0.0.1:$snmpd_port 04 6c6f6f706261636b" \
+        "127.0.0.1:9 doesn't answer, report None" | sort)" "$(cat "$work/polled")"
+}
+
 if command -v python3 > /dev/null; then test_client_page; fi
 if ! command -v snmpd > /dev/null || ! command -v snmptrapd > /dev/null || ! command -v python3 > /dev/null; then
     echo "skipped: the client: net-snmp's snmpd, snmptrapd or python3 isn't installed"
@@ -84,6 +99,7 @@ else
     begin_snmpd
     test_client_levels
     test_client_refusals
+    test_client_rust
     end_snmpd
     test_client_notifications
 fi
