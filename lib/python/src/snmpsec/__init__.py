@@ -562,8 +562,7 @@ class _Held:
             _done(self._call("info", ctypes.byref(out)))
         except NothingTaken:
             return None
-        level, *rest = (getattr(out, name) for name, _ in out._fields_)
-        return Info(Level(level), *rest)
+        return Info(Level(out.level), out.pdu, out.request_id, out.error_status, out.error_index, out.message_id)
 
     def part(self, part: Part) -> Optional[bytes]:
         """A part of what is kept, or None."""

@@ -21,6 +21,7 @@ import asyncio
 import secrets
 import socket
 import time
+from functools import lru_cache
 from typing import Any, AsyncIterator, Dict, List, NamedTuple, Optional, Sequence, Tuple
 
 from . import NO_CLOCKS, Answered, Buffer, Device, Known, Level, Manager, Part, Pdu, Refusal, Step, binding, wiped
@@ -33,6 +34,12 @@ __all__ = ["Client", "ErrorStatus", "Listener", "NoAnswer", "NotIncreasing", "No
            "configuration"]
 
 _UNKNOWN_ENGINES, _MOST_REPETITIONS = 4, 100
+
+
+@lru_cache(1 << 14)
+def _asked(name: Name) -> bytes:
+    """The binding that asks for a variable."""
+    return binding(ObjectId(name), 5)
 
 
 class _Peer:
@@ -140,23 +147,23 @@ class Client:
 
     async def get(self, target: Target, *names: Name) -> List[Variable]:
         """The values of variables, in their order (RFC 3416, section 4.2.1). A variable that isn't there has a value of Exceptional."""
-        return await self._ask(target, Pdu.GET, [(ObjectId(name), None) for name in names])
+        return await self._ask_names(target, Pdu.GET, names)
 
     async def get_next(self, target: Target, *names: Name) -> List[Variable]:
         """For each name the next variable after it (RFC 3416, section 4.2.2)."""
-        return await self._ask(target, Pdu.GET_NEXT, [(ObjectId(name), None) for name in names])
+        return await self._ask_names(target, Pdu.GET_NEXT, names)
 
     async def get_bulk(self, target: Target, *names: Name, non_repeaters: int = 0, max_repetitions: int = 10) -> List[Variable]:
         """The next variables after each name, repetition by repetition (RFC 3416, section 4.2.3)."""
-        return await self._ask(target, Pdu.GET_BULK, [(ObjectId(name), None) for name in names], non_repeaters, max_repetitions)
+        return await self._ask_names(target, Pdu.GET_BULK, names, (non_repeaters, max_repetitions))
 
     async def set(self, target: Target, variables: Variables) -> List[Variable]:
         """Sets variables, all or none (RFC 3416, section 4.2.5), and returns what the Response has. After NoAnswer it may have been done."""
-        return await self._ask(target, Pdu.SET, listed(variables))
+        return await self._ask_variables(target, Pdu.SET, listed(variables))
 
     async def inform(self, target: Target, notification: Name, variables: Variables = (), *, uptime: float = 0.0) -> None:
         """Sends an InformRequest, and waits until it is acknowledged (RFC 3416, section 4.2.7): the notification's name, and what it is about."""
-        await self._ask(target, Pdu.INFORM, notified(notification, variables, uptime))
+        await self._ask_variables(target, Pdu.INFORM, notified(notification, variables, uptime))
 
     async def walk(self, target: Target, root: Name, *, max_repetitions: int = _MOST_REPETITIONS) -> AsyncIterator[Variable]:
         """The variables below a name, in their order. It asks by GetBulkRequests, first for few variables and then for more, up to `max_repetitions`;
@@ -184,14 +191,21 @@ class Client:
 
     # -- what goes out
 
-    async def _ask(self, target: Target, pdu: Pdu, variables: Sequence[Tuple[ObjectId, Value]], second: int = 0, third: int = 0) -> List[Variable]:
+    async def _ask_names(self, target: Target, pdu: Pdu, names: Sequence[Name], numbers: Tuple[int, int] = (0, 0)) -> List[Variable]:
+        octets = b"".join(_asked(name if isinstance(name, str) else tuple(name)) for name in names)
+        return await self._ask(target, pdu, names, octets, numbers)
+
+    async def _ask_variables(self, target: Target, pdu: Pdu, variables: Sequence[Tuple[ObjectId, Value]]) -> List[Variable]:
         octets = b"".join(binding(name, *encode(value)) for name, value in variables)
+        return await self._ask(target, pdu, [name for name, _ in variables], octets, (0, 0))
+
+    async def _ask(self, target: Target, pdu: Pdu, names: Sequence[Name], octets: bytes, numbers: Tuple[int, int]) -> List[Variable]:
         async with self._room:
-            peer = await self._peer(target)
-            response = await self._answer(target, peer, pdu, octets, (second, third))
+            peer = self._peers.get((target.host, target.port)) or await self._peer(target)
+            response = await self._answer(target, peer, pdu, octets, numbers)
         if response.error_status:
             at = response.error_index
-            raise ErrorStatus(response.error_status, at, variables[at - 1][0] if 0 < at <= len(variables) else None)
+            raise ErrorStatus(response.error_status, at, ObjectId(names[at - 1]) if 0 < at <= len(names) else None)
         return variables_of(response.octets)
 
     async def _answer(self, target: Target, peer: _Peer, pdu: Pdu, octets: bytes, numbers: Tuple[int, int]) -> _Response:
@@ -264,9 +278,6 @@ class Client:
     async def _peer(self, target: Target) -> _Peer:
         """What is known of the target's address. It is looked up, and a socket is there of its family."""
         place = target.host, target.port
-        peer = self._peers.get(place)
-        if peer is not None:
-            return peer
         async with self._turn:
             loop = asyncio.get_running_loop()
             found = await loop.getaddrinfo(target.host, target.port, type=socket.SOCK_DGRAM)
