@@ -18,6 +18,7 @@ an SnmpError: NoAnswer, ReportReceived, ErrorStatus or NotIncreasing.
 from __future__ import annotations
 
 import asyncio
+import contextlib
 import secrets
 import socket
 import time
@@ -34,6 +35,7 @@ __all__ = ["Client", "ErrorStatus", "Listener", "NoAnswer", "NotIncreasing", "No
            "configuration"]
 
 _UNKNOWN_ENGINES, _MOST_REPETITIONS = 4, 100
+_LARGEST, _RECEIVED, _AT_A_TIME = 65507, 4 << 20, 64
 
 
 @lru_cache(1 << 14)
@@ -73,16 +75,6 @@ class _Response(NamedTuple):
     octets: bytes
 
 
-class _Socket(asyncio.DatagramProtocol):
-    """Hands what comes to the client."""
-
-    def __init__(self, client: Client):
-        self.client = client
-
-    def datagram_received(self, datagram: bytes, address: Tuple[Any, ...]) -> None:
-        self.client._take(datagram, address)
-
-
 class Client:
     """Asks devices by SNMPv3, with the users of a configuration in TOML. Each datagram goes out at most 1 + `retries` times, `timeout` seconds apart; at
     most `at_once` requests are on their way.
@@ -97,12 +89,14 @@ class Client:
         self._room = asyncio.Semaphore(at_once)
         self._peers: Dict[Tuple[str, int], _Peer] = {}
         self._by_address: Dict[Tuple[Any, ...], _Peer] = {}
-        self._sockets: Dict[int, asyncio.DatagramTransport] = {}
+        self._sockets: Dict[int, socket.socket] = {}
         self._waiting: Dict[int, _Waiting] = {}
         self._responses: Dict[int, _Response] = {}
         self._first_id = secrets.randbelow(1 << 31)
         self._request_id = secrets.randbelow(1 << 31)
+        self._salt = secrets.randbits(64)
         self._turn = asyncio.Lock()
+        self._loop: Optional[asyncio.AbstractEventLoop] = None
 
     @classmethod
     def from_file(cls, path: Path, **settings: Any) -> Client:
@@ -117,8 +111,10 @@ class Client:
 
     def close(self) -> None:
         """Closes the sockets and wipes the keys. What waits ends with CancelledError."""
-        for transport in self._sockets.values():
-            transport.close()
+        for own in self._sockets.values():
+            if self._loop is not None and not self._loop.is_closed():
+                self._loop.remove_reader(own)
+            own.close()
         for waiting in self._waiting.values():
             if waiting.future is not None:
                 waiting.future.cancel()
@@ -245,12 +241,17 @@ class Client:
             is_request = step is Step.SEND_REQUEST
             token = self._manager.ask(
                 int(time.time()), pdu if is_request else Pdu.GET, engine=peer.engine or b"", user=target.user.encode(),
-                level=target.level if is_request else Level.AUTH_NO_PRIV, octets=octets if is_request else b"", salt=secrets.randbits(64),
+                level=target.level if is_request else Level.AUTH_NO_PRIV, octets=octets if is_request else b"", salt=self._next_salt(),
                 message_id=self._first_id, request_id=request_id, error_status=numbers[0] if is_request else 0,
                 error_index=numbers[1] if is_request else 0, context_engine=target.context_engine, context_name=target.context)
         message = self._manager.message()
         assert message is not None
         return token, message
+
+    def _next_salt(self) -> int:
+        """It begins at a random number, and counts on, so that none comes again (RFC 3826, section 3.1.2.1)."""
+        self._salt = (self._salt + 1) % (1 << 64)
+        return self._salt
 
     async def _exchange(self, target: Target, peer: _Peer, state: Device, token: int, message: bytes) -> Step:
         """Sends a message until something is to be done."""
@@ -260,7 +261,7 @@ class Client:
             for _ in range(1 + self.retries):
                 waiting.future = loop.create_future()
                 timer = loop.call_later(self.timeout, waiting.heard, None)
-                self._sockets[peer.family].sendto(message, peer.address)
+                self._send(peer, message)
                 try:
                     step = await waiting.future
                 finally:
@@ -283,12 +284,27 @@ class Client:
             found = await loop.getaddrinfo(target.host, target.port, type=socket.SOCK_DGRAM)
             family, _, _, _, address = found[0]
             if family not in self._sockets:
-                own = ("::" if family == socket.AF_INET6 else "0.0.0.0", 0)
-                transport, _protocol = await loop.create_datagram_endpoint(lambda: _Socket(self), local_addr=own, family=family)
-                self._sockets[family] = transport
+                own = self._sockets[family] = socket.socket(family, socket.SOCK_DGRAM)
+                own.setblocking(False)
+                own.setsockopt(socket.SOL_SOCKET, socket.SO_RCVBUF, _RECEIVED)
+                loop.add_reader(own, self._receive, own)
+                self._loop = loop
             return self._peers.setdefault(place, self._by_address.setdefault(address[:2], _Peer(family, address)))
 
     # -- what comes
+
+    def _receive(self, own: socket.socket) -> None:
+        """Takes what has come, as far as the loop may be kept from other work."""
+        for _ in range(_AT_A_TIME):
+            try:
+                datagram, address = own.recvfrom(_LARGEST)
+            except OSError:
+                return
+            self._take(datagram, address)
+
+    def _send(self, peer: _Peer, message: bytes) -> None:
+        with contextlib.suppress(BlockingIOError):  # (it is sent again, as if it had been lost)
+            self._sockets[peer.family].sendto(message, peer.address)
 
     def _take(self, datagram: bytes, address: Tuple[Any, ...]) -> None:
         peer = self._by_address.get(address[:2])
