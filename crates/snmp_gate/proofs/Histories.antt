@@ -168,7 +168,7 @@ after_stands tables devices before n q o (Open new) device after = record {
 }
 after_stands tables devices before n q o (Ends e) device after = after
 
-group_in : (tables : Tables) (devices : List Device) (before : List Happening) (next : ℕ) (gs : List Waiting) (place : ℕ) (g : Waiting) → IsAt gs place g → GroupsStand tables devices before next gs → GroupStands tables devices before g
+pub group_in : (tables : Tables) (devices : List Device) (before : List Happening) (next : ℕ) (gs : List Waiting) (place : ℕ) (g : Waiting) → IsAt gs place g → GroupsStand tables devices before next gs → GroupStands tables devices before g
 group_in tables devices before next gs place g at stands = subst (GroupStands tables devices before) (sym at.group_is) (stands.all place g at.within)
 
 pub answered_all : (tables : Tables) (devices : List Device) (before : List Happening) (next : ℕ) (rs : List (WaitingRequest WaitingMessage Work)) (place : ℕ) (r : WaitingRequest WaitingMessage Work) (w : Work)

@@ -21,3 +21,5 @@ pub mod Joining
 pub mod Coming
 pub mod Endings
 pub mod AskingWell
+pub mod Same
+pub mod Keeping

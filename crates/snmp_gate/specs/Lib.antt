@@ -22,3 +22,4 @@ pub mod Waiting
 pub mod Sending
 pub mod Beginning
 pub mod SetBegins
+pub mod Noting

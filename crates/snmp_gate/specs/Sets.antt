@@ -19,6 +19,10 @@ lasts now set = nat_le now (set.came + REMEMBERED)
 abbrev pub lasting : ℕ → List RememberedSet → List RememberedSet
 lasting now sets = filter (lasts now) sets
 
+-- those that came over 301 seconds ago are forgotten, or aren't yet, and nothing else changes
+abbrev pub KeepsSets : ℕ → List RememberedSet → List RememberedSet → Type 0
+KeepsSets now old new = (new ≡ old) ⊎ (new ≡ lasting now old)
+
 -- one of the Sets, whose datagram has this digest
 pub record HasDigest (digest : List ℕ) (sets : List RememberedSet) (set : RememberedSet) : Type 0 where
   pub there : Contains sets set

@@ -2,8 +2,8 @@
 --
 -- `OpenStands`: a request whose device is asked, or is to be asked. `GroupStands`: a request with its messages.
 -- `GateStands`: all of a gateway. `ClientHappens`, `DeviceHappens`, `SendHappens`: what happens by a call, and that it
--- is lawful after what happened before. `SameWaiting`: the same requests wait.
-use Rattle.std.specs.Prelude.{◌≡◌, ◌<◌, ℕ, List, ◌∷◌, All, AllPairs, Some}
+-- is lawful after what happened before. `SameButSets`, `IsAsBefore`: what stays the same.
+use Rattle.std.specs.Prelude.{◌≡◌, ◌<◌, ℕ, List, ◌∷◌, All, AllPairs, Some, map}
 use Rattle.snmp_msg.specs.Pdu.{PduParts}
 use Rattle.snmp_msg.specs.Variables.{Variable}
 use Rattle.vacm_core.specs.Tables.{Tables}
@@ -12,8 +12,11 @@ use Rattle.snmp_gate.specs.Groups.{Group, groups_of}
 use Rattle.snmp_gate.specs.History.{Happening, IsAccepted, IsLawful, accepted, answered, asked, open_ask, sent, told_in}
 use Rattle.snmp_gate.specs.Messages.{question_in}
 use Rattle.snmp_gate.specs.Question.{Question}
-use Rattle.snmp_gate.specs.Replies.{Answering, SameAgent}
+use Rattle.snmp_gate.specs.Replies.{Answering}
+use Rattle.snmp_gate.specs.Sets.{KeepsSets}
 use Rattle.snmp_gate.specs.Work.{EndingStands, TaskStands, variables_of_task}
+use Rattle.snmp_gate.specs.declared.asks.DeviceAsk.{DeviceAsk}
+use Rattle.snmp_gate.specs.declared.asks.DeviceAsks.{DeviceAsks}
 use Rattle.snmp_gate.specs.declared.devices.Device.{Device}
 use Rattle.snmp_gate.specs.declared.gate.ClientTaken.{ClientTaken}
 use Rattle.snmp_gate.specs.declared.gate.ClientTaken.TheVariants as client
@@ -61,12 +64,32 @@ abbrev pub GateStands : List Happening → Gate → Type 0
 GateStands before g = GroupsStand g.agent.tables g.devices.list.items before g.requests.next
     (groups_of g.requests.list.items)
 
--- the same requests wait for the same devices
-pub record SameWaiting (old new : Gate) : Type 0 where
-  pub agent : SameAgent old.agent new.agent
+-- all is the same but the Sets that are remembered
+pub record SameButSets (old new : Gate) : Type 0 where
+  pub agent : new.agent ≡ old.agent
   pub devices : new.devices ≡ old.devices
-  pub groups : groups_of new.requests.list.items ≡ groups_of old.requests.list.items
+  pub limits : new.limits ≡ old.limits
+  pub asks : new.asks ≡ old.asks
+  pub requests : new.requests ≡ old.requests
+
+-- the numbers of the requests, and the messages that ask them
+abbrev pub messages_in : List (Group WaitingMessage Work) → List (ℕ × List WaitingMessage)
+messages_in groups = map (λ (g : Group WaitingMessage Work). (g.number, g.messages)) groups
+
+-- what the devices are asked
+abbrev pub asks_in : List DeviceAsks → List (List DeviceAsk)
+asks_in asks = map (λ (a : DeviceAsks). a.asks.items) asks
+
+-- all is as before, but that Sets which came over 301 seconds ago may be forgotten
+pub record IsAsBefore (now : ℕ) (old new : Gate) : Type 0 where
+  pub agent : new.agent ≡ old.agent
+  pub devices : new.devices ≡ old.devices
+  pub limits : new.limits ≡ old.limits
+  pub asks : asks_in new.asks.items ≡ asks_in old.asks.items
+  pub messages : messages_in (groups_of new.requests.list.items) ≡ messages_in (groups_of old.requests.list.items)
   pub next : new.requests.next ≡ old.requests.next
+  pub sets : KeepsSets now old.sets.sets.items new.sets.sets.items
+  pub stands : (before : List Happening) → GateStands before old → GateStands before new
 
 -- what happens is lawful, and the gateway stands after it
 pub record Happens (old : Gate) (before : List Happening) (happening : Happening) (new : Gate) : Type 0 where

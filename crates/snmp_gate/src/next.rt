@@ -1,13 +1,13 @@
 //! What goes out.
 
-ghost use Rattle.std.specs.Prelude.{◌≡◌, ◌<◌, ℕ, List, Some, length, IfOk, IfSome};
+ghost use Rattle.std.specs.Prelude.{◌≡◌, ◌<◌, ℕ, List, Some, length, IfOk, IfSome, OnErr};
 ghost use Rattle.snmp_msg.specs.Variables.{Variable};
 ghost use Rattle.snmp_gate.specs.Question.{Question};
 ghost use Rattle.snmp_gate.specs.Messages.{question_in};
 ghost use Rattle.snmp_gate.specs.History.{Happening};
 ghost use Rattle.snmp_gate.specs.Replies.{SameAgent};
 ghost use Rattle.snmp_gate.specs.Sending.{IsAskedAt, IsGivenUp, IsOpenAt, IsSentBy, MayAskAt, RepliesTo, SetsAsked};
-ghost use Rattle.snmp_gate.specs.Waiting.{GateStands, SendHappens};
+ghost use Rattle.snmp_gate.specs.Waiting.{GateStands, IsAsBefore, SendHappens};
 
 use crate::ask::ask_of;
 use crate::asks::{DeviceAsks, REQUEST_IDS};
@@ -78,6 +78,7 @@ fn reply_now(
         → question_in request.now.first ≡ Some q
         → RepliesTo agent.old seconds salt q said request.now.first.kept request.now.work reply)) }
     ensures same { SameAgent agent.old agent.new }
+    ensures err { OnErr result (agent.new ≡ agent.old) }
 {
     let Work::Ends(ending) = &request.work else {
         return Ok(None);
@@ -159,8 +160,9 @@ impl Gate {
     ///
     /// The error is out of memory. Then all is as before, and the call may be made again.
     pub fn next(&mut self, now: u64, salt: [u8; 8], ask_id: u32) -> Result<Sent, AllocError>
-        ensures { IfOk result (λ sent. (before : List Happening) → GateStands before self.old
+        ensures happens { IfOk result (λ sent. (before : List Happening) → GateStands before self.old
             → SendHappens self.old before sent self.new) }
+        ensures err { OnErr result (IsAsBefore now self.old self.new) }
     {
         let Some((place, todo)) = self.first_due(now) else {
             return Ok(Sent::Nothing);
@@ -213,8 +215,9 @@ impl Gate {
     /// Answers the first message of the request at this place.
     fn answer_at(&mut self, place: usize, now: u64, salt: [u8; 8]) -> Result<Sent, AllocError>
         requires { place < length self.old.requests.list.items }
-        ensures { IfOk result (λ sent. (before : List Happening) → GateStands before self.old
+        ensures happens { IfOk result (λ sent. (before : List Happening) → GateStands before self.old
             → SendHappens self.old before sent self.new) }
+        ensures err { OnErr result (IsAsBefore now self.old self.new) }
     {
         let request = &self.requests.list[place];
         let number = request.number;
@@ -310,8 +313,9 @@ impl Gate {
     fn ask_at(&mut self, place: usize, now: u64, ask_id: u32) -> Result<Sent, AllocError>
         requires place { place < length self.old.requests.list.items }
         requires id { ask_id < REQUEST_IDS }
-        ensures { IfOk result (λ sent. (before : List Happening) → GateStands before self.old
+        ensures happens { IfOk result (λ sent. (before : List Happening) → GateStands before self.old
             → SendHappens self.old before sent self.new) }
+        ensures err { OnErr result (IsAsBefore now self.old self.new) }
     {
         let Some((device, number)) = self.device_at(place) else {
             return Ok(Sent::Nothing);
@@ -336,8 +340,9 @@ impl Gate {
     /// Asks the device the same again for the request at this place.
     fn ask_again_at(&mut self, place: usize, now: u64) -> Result<Sent, AllocError>
         requires { place < length self.old.requests.list.items }
-        ensures { IfOk result (λ sent. (before : List Happening) → GateStands before self.old
+        ensures happens { IfOk result (λ sent. (before : List Happening) → GateStands before self.old
             → SendHappens self.old before sent self.new) }
+        ensures err { OnErr result (IsAsBefore now self.old self.new) }
     {
         let Some((device, number)) = self.device_at(place) else {
             return Ok(Sent::Nothing);

@@ -9,6 +9,7 @@ ghost use Rattle.snmp_gate.specs.Messages.{IsViewerOf};
 ghost use Rattle.snmp_gate.specs.ReadAsks.{asked_variables, bulk_asked_variables};
 ghost use Rattle.snmp_gate.specs.Work.{BulkStandsFor, OnwardStands, ReadStands, SaysAll, TaskStands};
 ghost use Rattle.snmp_gate.specs.Ends.{IsEndFor, IsFailing, FailsOrGoesOn};
+ghost use Rattle.snmp_gate.specs.Taking.{BulkSaysSame};
 
 use crate::named_task::NamedTask;
 use crate::set_answer::{GEN_ERR, NO_SUCH_NAME, ResponseStatus, TOO_BIG};
@@ -153,6 +154,7 @@ pub(crate) fn take_bulk(
         → SaysAll (bulk_asked_variables dialogue.old) answer.now told
         → BulkStandsFor tables q told dialogue.old → BulkStandsFor tables q told dialogue.new) }
     ensures fails { IfOk result FailsOrGoesOn }
+    ensures err { OnErr result (BulkSaysSame dialogue.old dialogue.new) }
 {
     match dialogue.take(alloc, viewer, answer)? {
         BulkAnswered::Taken | BulkAnswered::Less | BulkAnswered::Ended(_) => {

@@ -1,6 +1,7 @@
 //! What comes from clients.
 
-ghost use Rattle.std.specs.Prelude.{◌≡◌, ◌<◌, ◌⊎◌, ℕ, List, Some, None, length, IfOk, IfSome, MatchOption};
+ghost use Rattle.std.specs.Prelude.{◌≡◌, ◌↔◌, ◌<◌, ◌⊎◌, ℕ, List, Some, None, length, IfOk, IfSome, IsTrue};
+ghost use Rattle.std.specs.Prelude.{MatchOption, OnErr};
 ghost use Rattle.std.specs.List.{HoldsAt};
 ghost use Rattle.snmp_msg.specs.Variables.{Variable};
 ghost use Rattle.snmp_incoming.specs.Answers.{given_of};
@@ -9,8 +10,10 @@ ghost use Rattle.snmp_gate.specs.Messages.{question_given, question_in};
 ghost use Rattle.snmp_gate.specs.Beginning.{BeginsWell, IsSet, MaySetAll, TakenIn};
 ghost use Rattle.snmp_gate.specs.Devices.{IsDeviceOf};
 ghost use Rattle.snmp_gate.specs.History.{Happening};
+ghost use Rattle.snmp_gate.specs.Noting.{AsksSet, IsNotedAgain, IsNotedFor, IsUnnoted};
 ghost use Rattle.snmp_gate.specs.SetBegins.{SetStandsSo};
-ghost use Rattle.snmp_gate.specs.Waiting.{ClientHappens, GateStands};
+ghost use Rattle.snmp_gate.specs.Sets.{KeepsSets};
+ghost use Rattle.snmp_gate.specs.Waiting.{ClientHappens, GateStands, IsAsBefore, SameButSets};
 ghost use Rattle.snmp_gate.specs.Work.{EndingStands, OnwardStands};
 ghost use Rattle.snmp_gate.specs.declared.devices.Device.{Device as DeviceIs};
 ghost use Rattle.vacm_core.specs.Tables.{Tables};
@@ -78,7 +81,9 @@ fn work_of(device: usize, now: u64, onward: Onward) -> Work
 }
 
 /// Returns true if a Set's device is to be asked.
-fn asks_set(work: &Work) -> bool {
+fn asks_set(work: &Work) -> bool
+    ensures { IsTrue result ↔ AsksSet work.now }
+{
     match work {
         Work::Open(open) => matches!(open.task.task, Task::Set),
         Work::Ends(_) => false,
@@ -122,6 +127,17 @@ fn set_access(
     }
 }
 
+/// What is remembered of a Set before its device is asked.
+#[derive(Clone, Copy, PartialEq, Eq)]
+enum Noted {
+    /// It is no Set, or its device isn't asked.
+    NoSet,
+    /// It is remembered now, and its device may be asked.
+    Now,
+    /// It was remembered before, or can't be: its device may not be asked.
+    Before,
+}
+
 /// How a Set goes on.
 #[derive(Drop)]
 enum SetBegins {
@@ -140,8 +156,9 @@ impl Gate {
         client: &[u8],
         datagram: &[u8],
     ) -> Result<ClientTaken, AllocError>
-        ensures { IfOk result (λ taken. (before : List Happening) → GateStands before self.old
+        ensures happens { IfOk result (λ taken. (before : List Happening) → GateStands before self.old
             → ClientHappens self.old before now client.now datagram.now taken self.new) }
+        ensures err { OnErr result (IsAsBefore now self.old self.new) }
     {
         let taken = match self.agent.take(now / 1000, datagram) {
             Ok(taken) => taken,
@@ -190,8 +207,9 @@ impl Gate {
     ) -> Result<ClientTaken, AllocError>
         requires place { place < length self.old.requests.list.items }
         requires same { HoldsAt (λ r. question_in r.first ≡ question_in message) self.old.requests.list.items place }
-        ensures { IfOk result (λ taken. (before : List Happening) (at : ℕ) (datagram : List ℕ)
+        ensures takes { IfOk result (λ taken. (before : List Happening) (at : ℕ) (datagram : List ℕ)
             → GateStands before self.old → TakenIn before at datagram message taken self.new) }
+        ensures err { OnErr result (IsAsBefore now self.old self.new) }
     {
         let digest = message.digest;
         match self.note_again(now, digest)? {
@@ -204,7 +222,10 @@ impl Gate {
             Ok(Joined::Joined) => Ok(ClientTaken::Joins(number)),
             Ok(Joined::NoRoom) => Ok(ClientTaken::NoRoom),
             Err(none) => {
-                self.unnote(digest);
+                self.unnote(match digest {
+                    Some(_) => Noted::Now,
+                    None => Noted::NoSet,
+                });
                 Err(none)
             }
         }
@@ -212,9 +233,9 @@ impl Gate {
 
     /// Notes a datagram that asks again what waits, if it is of a Set, and returns what it is then.
     fn note_again(&mut self, now: u64, digest: Option<[u8; 32]>) -> Result<SetNote, AllocError>
-        ensures agent { self.new.agent ≡ self.old.agent }
-        ensures devices { self.new.devices ≡ self.old.devices }
-        ensures requests { self.new.requests ≡ self.old.requests }
+        ensures same { SameButSets self.old self.new }
+        ensures noted { IfOk result (IsNotedAgain now digest self.old.sets.sets.items self.new.sets.sets.items) }
+        ensures err { OnErr result (KeepsSets now self.old.sets.sets.items self.new.sets.sets.items) }
     {
         match digest {
             Some(digest) => self.sets.note(now, &digest),
@@ -223,13 +244,13 @@ impl Gate {
     }
 
     /// Forgets a Set that was just noted, and isn't asked.
-    fn unnote(&mut self, digest: Option<[u8; 32]>)
-        ensures agent { self.new.agent ≡ self.old.agent }
-        ensures devices { self.new.devices ≡ self.old.devices }
-        ensures requests { self.new.requests ≡ self.old.requests }
+    fn unnote(&mut self, noted: Noted)
+        ensures same { SameButSets self.old self.new }
+        ensures sets { IsUnnoted noted self.old.sets.sets.items self.new.sets.sets.items }
     {
-        if let Some(_) = digest {
-            self.sets.forget_last();
+        match noted {
+            Noted::Now => self.sets.forget_last(),
+            Noted::NoSet | Noted::Before => {}
         }
     }
 
@@ -241,8 +262,9 @@ impl Gate {
         unhandled: Option<Unhandled>,
     ) -> Result<ClientTaken, AllocError>
         requires { (q : Question) × (question_in message ≡ Some q) }
-        ensures { IfOk result (λ taken. (before : List Happening) (at : ℕ) (datagram : List ℕ)
+        ensures takes { IfOk result (λ taken. (before : List Happening) (at : ℕ) (datagram : List ℕ)
             → GateStands before self.old → TakenIn before at datagram message taken self.new) }
+        ensures err { OnErr result (IsAsBefore now self.old self.new) }
     {
         if self.requests.is_full() || self.requests.next_number() == u64::MAX {
             return Ok(ClientTaken::NoRoom);
@@ -251,6 +273,9 @@ impl Gate {
             return Ok(ClientTaken::SetOfBefore);
         };
         let noted = self.note_asked(now, &work, message.digest)?;
+        if noted == Noted::Before {
+            return Ok(ClientTaken::SetOfBefore);
+        }
         match self.requests.begin(self.alloc, message, work) {
             Ok(number) => Ok(ClientTaken::Begins(number)),
             Err(none) => {
@@ -260,24 +285,28 @@ impl Gate {
         }
     }
 
-    /// Notes a Set whose device is to be asked, and returns its digest if it is one.
+    /// Notes a Set whose device is to be asked.
     fn note_asked(
         &mut self,
         now: u64,
         work: &Work,
         digest: Option<[u8; 32]>,
-    ) -> Result<Option<[u8; 32]>, AllocError>
-        ensures agent { self.new.agent ≡ self.old.agent }
-        ensures devices { self.new.devices ≡ self.old.devices }
-        ensures requests { self.new.requests ≡ self.old.requests }
+    ) -> Result<Noted, AllocError>
+        ensures same { SameButSets self.old self.new }
+        ensures noted { IfOk result
+            (IsNotedFor now digest work.now self.old.sets.sets.items self.new.sets.sets.items) }
+        ensures err { OnErr result (KeepsSets now self.old.sets.sets.items self.new.sets.sets.items) }
     {
         if !asks_set(work) {
-            return Ok(None);
+            return Ok(Noted::NoSet);
         }
-        if let Some(digest) = digest {
-            self.sets.note(now, &digest)?;
+        let Some(digest) = digest else {
+            return Ok(Noted::Before);
+        };
+        match self.sets.note(now, &digest)? {
+            SetNote::New => Ok(Noted::Now),
+            SetNote::Repeated(_) | SetNote::NoRoom => Ok(Noted::Before),
         }
-        Ok(digest)
     }
 
     /// Returns what becomes of a request at first, which no application answers for this reason.
@@ -290,9 +319,8 @@ impl Gate {
         ensures begins { IfOk result (λ begins. IfSome begins (λ work. (q : Question)
             → question_in message.now ≡ Some q
             → BeginsWell self.old.agent.tables self.old.devices.list.items q work)) }
-        ensures agent { self.new.agent ≡ self.old.agent }
-        ensures devices { self.new.devices ≡ self.old.devices }
-        ensures requests { self.new.requests ≡ self.old.requests }
+        ensures same { SameButSets self.old self.new }
+        ensures sets { KeepsSets now self.old.sets.sets.items self.new.sets.sets.items }
     {
         match unhandled {
             Some(why) => Ok(Some(Work::Ends(RequestEnd::Unhandled(why)))),
@@ -310,9 +338,8 @@ impl Gate {
         ensures begins { IfOk result (λ begins. IfSome begins (λ work. (q : Question)
             → question_in message.now ≡ Some q
             → BeginsWell self.old.agent.tables self.old.devices.list.items q work)) }
-        ensures agent { self.new.agent ≡ self.old.agent }
-        ensures devices { self.new.devices ≡ self.old.devices }
-        ensures requests { self.new.requests ≡ self.old.requests }
+        ensures same { SameButSets self.old self.new }
+        ensures sets { KeepsSets now self.old.sets.sets.items self.new.sets.sets.items }
     {
         let taken = message.kept.taken();
         let Some(device) = self.devices.find(taken.scoped().name) else {
@@ -357,9 +384,8 @@ impl Gate {
         requires { device < length self.old.devices.list.items }
         ensures begins { IfOk result (λ begins. (q : Question) → question_in message.now ≡ Some q → IsSet q
             → SetStandsSo self.old.agent.tables q begins) }
-        ensures agent { self.new.agent ≡ self.old.agent }
-        ensures devices { self.new.devices ≡ self.old.devices }
-        ensures requests { self.new.requests ≡ self.old.requests }
+        ensures same { SameButSets self.old self.new }
+        ensures sets { KeepsSets now self.old.sets.sets.items self.new.sets.sets.items }
     {
         let Some(digest) = message.digest else {
             return Ok(SetBegins::Unknown);
@@ -386,9 +412,8 @@ impl Gate {
         requires { device < length self.old.devices.list.items }
         ensures begins { IfOk result (λ begins. (q : Question) → question_in message.now ≡ Some q → IsSet q
             → SetStandsSo self.old.agent.tables q begins) }
-        ensures agent { self.new.agent ≡ self.old.agent }
-        ensures devices { self.new.devices ≡ self.old.devices }
-        ensures requests { self.new.requests ≡ self.old.requests }
+        ensures same { SameButSets self.old self.new }
+        ensures sets { self.new.sets ≡ self.old.sets }
     {
         if let Some(ending) = self.refused_set(now, device, message)? {
             return Ok(SetBegins::Onward(Onward::Ends(ending)));
@@ -411,9 +436,8 @@ impl Gate {
             → IsSet q → EndingStands self.old.agent.tables q told ending)) }
         ensures may { IfOk result (λ refused. (refused ≡ None) → (q : Question)
             → question_in message.now ≡ Some q → IsSet q → MaySetAll self.old.agent.tables q) }
-        ensures agent { self.new.agent ≡ self.old.agent }
-        ensures devices { self.new.devices ≡ self.old.devices }
-        ensures requests { self.new.requests ≡ self.old.requests }
+        ensures same { SameButSets self.old self.new }
+        ensures sets { self.new.sets ≡ self.old.sets }
     {
         let SetAccess { refused, bindings } = set_access(self.alloc, self.agent.tables(), message)?;
         if let Some(ending) = refused {

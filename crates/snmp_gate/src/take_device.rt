@@ -1,6 +1,6 @@
 //! What comes from devices.
 
-ghost use Rattle.std.specs.Prelude.{◌≡◌, ◌↔◌, ◌<◌, List, Some, length, IfOk, IfSome, IsTrue};
+ghost use Rattle.std.specs.Prelude.{◌≡◌, ◌↔◌, ◌<◌, List, Some, length, IfOk, IfSome, IsTrue, OnErr};
 ghost use Rattle.std.specs.List.{HoldsAt};
 ghost use Rattle.vacm_core.specs.Tables.{Tables};
 ghost use Rattle.snmp_msg.specs.Variables.{Variable};
@@ -8,8 +8,8 @@ ghost use Rattle.snmp_gate.specs.Question.{Question};
 ghost use Rattle.snmp_gate.specs.Messages.{IsViewerOf, question_in};
 ghost use Rattle.snmp_gate.specs.Ends.{IsEndFor};
 ghost use Rattle.snmp_gate.specs.History.{Happening};
-ghost use Rattle.snmp_gate.specs.Taking.{AnswerPlace, WaitsFor, WorkAfter};
-ghost use Rattle.snmp_gate.specs.Waiting.{DeviceHappens, GateStands};
+ghost use Rattle.snmp_gate.specs.Taking.{AnswerPlace, OpenSaysSame, TaskSaysSame, WaitsFor, WorkAfter, WorkSaysSame};
+ghost use Rattle.snmp_gate.specs.Waiting.{DeviceHappens, GateStands, IsAsBefore};
 ghost use Rattle.snmp_gate.specs.Work.{SaysAll, TaskStands, variables_of_task};
 ghost use Rattle.snmp_gate.specs.declared.work.OpenRequest.{OpenRequest as OpenIs};
 ghost use Rattle.snmp_gate.specs.declared.work.Work.TheVariants.{Open};
@@ -44,6 +44,7 @@ fn take_task(
         → SaysAll (variables_of_task q named.old.task) answer.now told
         → TaskStands tables q told named.old.task
         → TaskStands tables q told named.new.task × IsEndFor q taken) }
+    ensures err { OnErr result (TaskSaysSame named.old.task named.new.task) }
 {
     match &mut named.task {
         Task::Read(_, dialogue) => take_read(alloc, dialogue, viewer, answer),
@@ -115,6 +116,7 @@ fn take_open(
         → TaskStands tables.now q told waiting.old.task.task
         → TaskStands tables.now q told waiting.new.task.task × IsEndFor q taken) }
     ensures device { waiting.new.device ≡ waiting.old.device }
+    ensures err { OnErr result (OpenSaysSame waiting.old waiting.new) }
 {
     let taken = message.kept.taken();
     let viewer = viewer_of(tables, &taken);
@@ -155,10 +157,11 @@ fn take_answer(
     answer: &Pdu<'_>,
     lateness: Lateness,
 ) -> Result<(), AllocError>
-    ensures { IfOk result (λ _. (o : OpenIs) (q : Question) (told : List Variable)
+    ensures after { IfOk result (λ _. (o : OpenIs) (q : Question) (told : List Variable)
         → question_in message.now ≡ Some q → work.old ≡ Open o
         → SaysAll (variables_of_task q o.task.task) answer.now told
         → TaskStands tables.now q told o.task.task → WorkAfter tables.now q told o work.new) }
+    ensures err { OnErr result (WorkSaysSame work.old work.new) }
 {
     let Work::Open(waiting) = work else {
         return Ok(());
@@ -211,8 +214,9 @@ impl Gate {
         device: usize,
         datagram: &[u8],
     ) -> Result<DeviceTaken, AllocError>
-        ensures { IfOk result (λ taken. (before : List Happening) → GateStands before self.old
+        ensures happens { IfOk result (λ taken. (before : List Happening) → GateStands before self.old
             → DeviceHappens self.old before device datagram.now taken self.new) }
+        ensures err { OnErr result (IsAsBefore now self.old self.new) }
     {
         let Some(answer) = read_device_answer(datagram) else {
             return Ok(DeviceTaken::Unreadable);

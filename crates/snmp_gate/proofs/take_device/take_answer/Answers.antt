@@ -4,8 +4,8 @@ use Rattle.snmp_gate.specs.declared.work.OpenRequest.{OpenRequest}
 use Rattle.snmp_gate.proofs.Endings.{after_same, one_open}
 use Rattle.snmp_gate.proofs.take_device.take_answer.Goals as goal
 
-pub returns : goal.returns
-returns c o q told asked is says stands =
+pub returns-clause-after : goal.returns-clause-after
+returns-clause-after c o q told asked is says stands =
     let tables = c.args.tables.now in
     let same = one_open c.args.work.now c.in-Open.waiting o c.in-Open.is is in
     let took = c.in_ok-became.ensures.stands q told asked

@@ -7,8 +7,8 @@ use Rattle.snmp_gate.specs.declared.work.Work.{Work}
 use Rattle.snmp_gate.proofs.Histories.{IsLeftAfter, sent_all}
 use Rattle.snmp_gate.proofs.gate.Gate.answer_at.Goals as goal
 
-pub returns : goal.returns
-returns c before stands =
+pub returns-clause-happens : goal.returns-clause-happens
+returns-clause-happens c before stands =
     let g = c.args.self.now in
     let r = c.index-request.result.now in
     let m = c.answer-message.result in

@@ -4,8 +4,8 @@ use Rattle.snmp_gate.specs.History.{asked}
 use Rattle.snmp_gate.proofs.Histories.{asked_all, moved}
 use Rattle.snmp_gate.proofs.gate.Gate.ask_again_at.Goals as goal
 
-pub returns : goal.returns
-returns c before stands =
+pub returns-clause-happens : goal.returns-clause-happens
+returns-clause-happens c before stands =
     let g = c.args.self.now in
     let rs = g.requests.list.items in
     let id = c.in-Some-asked_at.id in

@@ -1,4 +1,4 @@
-use Rattle.std.proofs.Common.{◌≡◌, ◌<◌, ◌≤◌, ◌∷◌, ◌∙◌, ℕ, List, length, slice_index_or, inl, inr, refl, subst, sym}
+use Rattle.std.proofs.Common.{◌≡◌, ◌<◌, ◌≤◌, ◌∷◌, ◌∙◌, ℕ, List, length, slice_index_or, ap, inl, inr, refl, subst, sym}
 use Rattle.std.proofs.lemmas.Bool.{false≢true}
 use Rattle.std.proofs.lemmas.Bool.Decides.{leb_tells}
 use Rattle.std.proofs.lemmas.List.{get_or_default}
@@ -6,11 +6,13 @@ use Rattle.snmp_gate.specs.declared.asks.DeviceAsks.{DeviceAsks}
 use Rattle.snmp_gate.specs.declared.asks.TheConstants.{REQUEST_IDS}
 use Rattle.snmp_gate.specs.Groups.{groups_of}
 use Rattle.snmp_gate.specs.History.{asked}
+use Rattle.std.proofs.Math.Seq.{map-set_same}
+use Rattle.snmp_gate.proofs.GroupSteps.{on_err}
 use Rattle.snmp_gate.proofs.Histories.{asked_all, ended_all, moved, too_long}
 use Rattle.snmp_gate.proofs.gate.Gate.ask_at.Goals as goal
 
-pub returns : goal.returns
-returns c before stands =
+pub returns-clause-happens : goal.returns-clause-happens
+returns-clause-happens c before stands =
     let g = c.args.self.now in
     let rs = g.requests.list.items in
     let id = c.free_id-id.result in
@@ -45,9 +47,24 @@ ask-requires-clause-room c =
     (read_same c.args.self.now.asks.items c.in-Some.device c.index.result.now c.index_mut.result.now c.in-Some.ensures.1 c.index.ensures c.index_mut.ensures.value)
     (below (length c.index.result.now.asks.items) c.index.result.now.at_once (λ le. false≢true (c.if-is_full.ensures.full.1 le)))
 
-pub returns-in_default-2 : goal.returns-in_default-2
-returns-in_default-2 c before stands =
+pub returns-in_default-2-clause-happens : goal.returns-in_default-2-clause-happens
+returns-in_default-2-clause-happens c before stands =
     let g = c.args.self.now in
     moved g.agent.tables g.agent.tables g.devices.list.items g.devices.list.items before g.requests.next c.work.new.self.next (groups_of c.work.new.self.list.items) (groups_of c.work.new.self.list.items) refl refl c.work.ensures.next refl
     (ended_all g.agent.tables g.devices.list.items before g.requests.next (groups_of g.requests.list.items) (groups_of c.work.new.self.list.items) c.args.place c.work.result _
     (too_long g.agent.tables) c.work.ensures.worked stands)
+
+pub returns-in_err-ask-clause-err : goal.returns-in_err-ask-clause-err
+returns-in_err-ask-clause-err c =
+    let asks = c.args.self.now.asks.items in
+    on_err c.from_residual-in_err-ask.result _ (record {
+      agent = refl;
+      devices = refl;
+      limits = refl;
+      asks = map-set_same (λ (a : DeviceAsks). a.asks.items) asks c.in-Some.device c.ask.new.self c.index_mut.result.now
+          (c.in_err-ask.ensures.err ∙ ap (λ (a : DeviceAsks). a.asks.items) c.index_mut.ensures.value);
+      messages = refl;
+      next = refl;
+      sets = inl refl;
+      stands = λ before stands. stands;
+    })

@@ -13,8 +13,8 @@ use Rattle.snmp_gate.proofs.Histories.{moved}
 use Rattle.snmp_gate.proofs.Joining.{joined_all}
 use Rattle.snmp_gate.proofs.gate.Gate.join.Goals as goal
 
-pub returns-in-Ok-Joined : goal.returns-in-Ok-Joined
-returns-in-Ok-Joined c before at datagram stands =
+pub returns-in-Ok-Joined-clause-takes : goal.returns-in-Ok-Joined-clause-takes
+returns-in-Ok-Joined-clause-takes c before at datagram stands =
     let g = c.args.self.now in
     let n = c.note_again.new.self in
     let m = c.args.message in
@@ -22,14 +22,14 @@ returns-in-Ok-Joined c before at datagram stands =
     let rs = n.requests.list.items in
     let r = c.index.result.now in
     let same = subst (λ (x : List (WaitingRequest WaitingMessage Work)). HoldsAt (λ (y : WaitingRequest WaitingMessage Work). question_in y.first ≡ question_in m) x place)
-    (sym (ap (λ (x : WaitingRequests WaitingMessage Work). x.list.items) c.note_again.ensures.requests)) c.requires.same in
-    let within = subst (λ (x : WaitingRequests WaitingMessage Work). place < length x.list.items) (sym c.note_again.ensures.requests) c.requires.place in
+    (sym (ap (λ (x : WaitingRequests WaitingMessage Work). x.list.items) c.note_again.ensures.same.requests)) c.requires.same in
+    let within = subst (λ (x : WaitingRequests WaitingMessage Work). place < length x.list.items) (sym c.note_again.ensures.same.requests) c.requires.place in
     let asks = subst (λ (x : WaitingRequest WaitingMessage Work). question_in x.first ≡ question_in m) (sym c.index.ensures) (same r) in
     let before_it = moved g.agent.tables n.agent.tables g.devices.list.items n.devices.list.items before g.requests.next n.requests.next (groups_of g.requests.list.items) (groups_of rs)
-    (ap (λ (x : AgentState). x.tables) c.note_again.ensures.agent)
-    (ap (λ (x : Devices). x.list.items) c.note_again.ensures.devices)
-    (ap (λ (x : WaitingRequests WaitingMessage Work). x.next) c.note_again.ensures.requests)
-    (ap (λ (x : WaitingRequests WaitingMessage Work). groups_of x.list.items) c.note_again.ensures.requests)
+    (ap (λ (x : AgentState). x.tables) c.note_again.ensures.same.agent)
+    (ap (λ (x : Devices). x.list.items) c.note_again.ensures.same.devices)
+    (ap (λ (x : WaitingRequests WaitingMessage Work). x.next) c.note_again.ensures.same.requests)
+    (ap (λ (x : WaitingRequests WaitingMessage Work). groups_of x.list.items) c.note_again.ensures.same.requests)
     stands in
     let joins = rw c.in-Ok-Joined.field-0-is at c.in-Ok-Joined.ensures.joined in
     let all = joined_all n.agent.tables n.devices.list.items before n.requests.next n.requests.most_messages rs place r m (groups_of c.join.new.self.list.items) at datagram within c.index.ensures asks joins before_it in

@@ -1,0 +1,89 @@
+-- A gateway that is as it was, where memory runs out.
+use Rattle.std.specs.Prelude.{◌≡◌, ◌≢◌, ◌⊎◌, ◌++◌, ◌-◌, ℕ, List, [], ◌∷◌, All, Bool, true, cond, filter, Option, length, take, Result, Ok, Err, OnErr}
+use Rattle.std.proofs.Common.{refl, sym, ap, subst, ◌∙◌, inl, inr, arith}
+use Rattle.std.specs.Global.{Vec}
+use Rattle.snmp_agent.specs.Agent.{AgentState}
+use Rattle.snmp_gate.specs.Groups.{groups_of}
+use Rattle.snmp_gate.specs.History.{Happening}
+use Rattle.snmp_gate.specs.Noting.{IsNotedAgain, IsNotedFor, IsUnnoted}
+use Rattle.snmp_gate.specs.Sending.{Requests}
+use Rattle.snmp_gate.specs.Sets.{KeepsSets, lasting, lasts, new_set}
+use Rattle.snmp_gate.specs.Waiting.{GateStands, IsAsBefore, asks_in, messages_in}
+use Rattle.snmp_gate.specs.declared.asks.DeviceAsks.{DeviceAsks}
+use Rattle.snmp_gate.specs.declared.devices.Devices.{Devices}
+use Rattle.snmp_gate.specs.declared.gate.Gate.{Gate}
+use Rattle.snmp_gate.specs.declared.requests.WaitingRequests.{WaitingRequests}
+use Rattle.snmp_gate.specs.declared.sets.RememberedSet.{RememberedSet}
+use Rattle.snmp_gate.specs.declared.sets.RememberedSets.{RememberedSets}
+use Rattle.snmp_gate.specs.declared.take_client.Noted.{Noted}
+use Rattle.snmp_gate.specs.declared.take_client.Noted.TheVariants as noted
+use Rattle.snmp_gate.specs.declared.waiting_message.WaitingMessage.{WaitingMessage}
+use Rattle.snmp_gate.specs.declared.work.Work.{Work}
+use Rattle.snmp_gate.proofs.Histories.{moved}
+use Rattle.std.proofs.lemmas.List.{length_push}
+use Rattle.std.proofs.lemmas.List.Elements.{All-head, All-tail, filter_passes}
+use Rattle.std.proofs.Math.Seq.{take-append_seam}
+
+filter_kept : {X : Type 0} (p : X → Bool) (xs : List X) → All (λ x. p x ≡ true) xs → filter p xs ≡ xs
+filter_kept p [] all = refl
+filter_kept p (x ∷ xs) all =
+    ap (λ (b : Bool). cond b (x ∷ filter p xs) (filter p xs)) (All-head (λ y. p y ≡ true) x xs all) ∙ ap (λ ys. x ∷ ys) (filter_kept p xs (All-tail (λ y. p y ≡ true) x xs all))
+
+last_again : (now : ℕ) (sets : List RememberedSet) → lasting now (lasting now sets) ≡ lasting now sets
+last_again now sets = filter_kept (lasts now) (lasting now sets) (filter_passes (lasts now) sets)
+
+-- the last one that was pushed is taken off
+pushed_off : {X : Type 0} (xs : List X) (y : X) → take (length (xs ++ y ∷ []) - 1) (xs ++ y ∷ []) ≡ xs
+pushed_off xs y =
+    let long : length (xs ++ y ∷ []) - 1 ≡ length xs = omega (arith, length_push xs y) in
+    ap (λ (n : ℕ). take n (xs ++ y ∷ [])) long ∙ take-append_seam xs (y ∷ [])
+
+pub keeps_again : (now : ℕ) (a b c : List RememberedSet) → KeepsSets now a b → KeepsSets now b c → KeepsSets now a c
+keeps_again now a b c first second = elim first [
+  | inl same ↦ elim second [ inl stays ↦ inl (stays ∙ same) | inr forgets ↦ inr (forgets ∙ ap (lasting now) same) ]
+  | inr last ↦ elim second [ inl stays ↦ inr (stays ∙ last) | inr forgets ↦ inr (forgets ∙ ap (lasting now) last ∙ last_again now a) ]
+]
+
+-- the Set that was noted just now is forgotten again
+pub unnoted : (now : ℕ) (digest : Option (List ℕ)) (w : Work) (a b c : List RememberedSet) (n : Noted) → IsNotedFor now digest w a b n → IsUnnoted n b c → KeepsSets now a c
+unnoted now digest w a b c noted.NoSet is un = inl (un ∙ is.1)
+unnoted now digest w a b c noted.Now is un =
+    inr (un ∙ ap (λ (x : List RememberedSet). take (length x - 1) x) is.2.2 ∙ pushed_off (lasting now a) (new_set now is.0))
+unnoted now digest w a b c noted.Before is un = subst (KeepsSets now a) (sym un) is
+
+pub as_before : (now : ℕ) (old new : Gate) → new.agent ≡ old.agent → new.devices ≡ old.devices → new.limits ≡ old.limits → new.asks ≡ old.asks
+    → groups_of new.requests.list.items ≡ groups_of old.requests.list.items → new.requests.next ≡ old.requests.next → KeepsSets now old.sets.sets.items new.sets.sets.items → IsAsBefore now old new
+as_before now old new agent devices limits asks groups next sets = record {
+  agent = agent;
+  devices = devices;
+  limits = limits;
+  asks = ap (λ (v : Vec DeviceAsks). asks_in v.items) asks;
+  messages = ap messages_in groups;
+  next = next;
+  sets = sets;
+  stands = λ before stands.
+      moved old.agent.tables new.agent.tables old.devices.list.items new.devices.list.items before old.requests.next new.requests.next (groups_of old.requests.list.items) (groups_of new.requests.list.items)
+      (ap (λ (a : AgentState). a.tables) agent)
+      (ap (λ (d : Devices). d.list.items) devices)
+      next groups stands;
+}
+
+-- the same, where another gateway was the same at first
+pub as_before_same : (now : ℕ) (old mid new : Gate) → mid.agent ≡ old.agent → mid.devices ≡ old.devices → mid.limits ≡ old.limits → mid.asks ≡ old.asks → mid.requests ≡ old.requests → mid.sets ≡ old.sets
+    → IsAsBefore now mid new → IsAsBefore now old new
+as_before_same now old mid new agent devices limits asks requests sets is =
+    let first = as_before now old mid agent devices limits asks (ap (λ (rs : WaitingRequests WaitingMessage Work). groups_of rs.list.items) requests) (ap (λ (rs : WaitingRequests WaitingMessage Work). rs.next) requests)
+    (inl (ap (λ (s : RememberedSets). s.sets.items) sets)) in record {
+      agent = is.agent ∙ first.agent;
+      devices = is.devices ∙ first.devices;
+      limits = is.limits ∙ first.limits;
+      asks = is.asks ∙ first.asks;
+      messages = is.messages ∙ first.messages;
+      next = is.next ∙ first.next;
+      sets = keeps_again now old.sets.sets.items mid.sets.sets.items new.sets.sets.items first.sets is.sets;
+      stands = λ before stands. is.stands before (first.stands before stands);
+    }
+
+pub if_err : {T E : Type 0} (r : Result T E) (P Q : Type 0) → (P → Q) → OnErr r P → OnErr r Q
+if_err (Ok t) P Q f p = tt
+if_err (Err e) P Q f p = f p
