@@ -15,8 +15,14 @@ pub mod Standing
 pub mod Sending
 pub mod Telling
 pub mod More
+pub mod Others
 pub mod Histories
 pub mod Granted
+pub mod AsksKept
+pub mod SetsKept
+pub mod SetsGoing
+pub mod GivingUp
+pub mod SetsComing
 pub mod Joining
 pub mod Coming
 pub mod Endings

@@ -17,6 +17,7 @@ use Rattle.snmp_gate.specs.Devices.{IsDeviceOf}
 use Rattle.snmp_gate.specs.Groups.{Group, group_of, groups_of}
 use Rattle.snmp_gate.specs.History.{Happening, open_ask, told_in}
 use Rattle.snmp_gate.specs.Messages.{seen_in}
+use Rattle.snmp_gate.specs.Noting.{AsksSet}
 use Rattle.snmp_gate.specs.Question.{Question}
 use Rattle.snmp_gate.specs.ReadAsks.{bulk_variables_asked, variables_in}
 use Rattle.snmp_gate.specs.Sending.{Requests}
@@ -78,11 +79,25 @@ task_asks_same q (task.Bulk by old) (task.Bulk other new) same = columns_ask old
 task_asks_same q (task.Bulk by old) (task.Read o d) same = ap (variables_of_task q) same
 task_asks_same q (task.Bulk by old) task.Set same = ap (variables_of_task q) same
 
+-- a Set stays a Set
+pub task_set_same : (old new : Task) → TaskSaysSame old new → new ≡ task.Set → old ≡ task.Set
+task_set_same (task.Read o d) new same set = sym same ∙ set
+task_set_same task.Set new same set = refl
+task_set_same (task.Bulk by old) (task.Bulk other new) same set = absurd (let is : task.Bulk other new ≡ task.Set = set in cc)
+task_set_same (task.Bulk by old) (task.Read o d) same set = sym same ∙ set
+task_set_same (task.Bulk by old) task.Set same set = sym same ∙ set
+
+pub work_set_same : (old new : Work) → WorkSaysSame old new → AsksSet new → AsksSet old
+work_set_same (Open old) (Open new) same set = task_set_same old.task.task new.task.task same.task set
+work_set_same (Open old) (Ends e) same set = absurd set
+work_set_same (Ends e) new same set = subst AsksSet same set
+
 open_stands_same : (tables : Tables) (devices : List Device) (before : List Happening) (n : ℕ) (q : Question) (old new : OpenRequest) → OpenSaysSame old new → OpenStands tables devices before n q old → OpenStands tables devices before n q new
 open_stands_same tables devices before n q old new same stands = record {
   task = task_stands_same tables q (told_in n before) old.task.task new.task.task same.task stands.task;
   device = subst (IsDeviceOf devices q.context) (sym same.device) stands.device;
   asked = λ id is. stands.asked id (sym same.asked ∙ is) ∙ (λ i. Some (record { device = sym same.device i; id = id; variables = sym (task_asks_same q old.task.task new.task.task same.task) i }));
+  set_once = λ set none. stands.set_once (task_set_same old.task.task new.task.task same.task set) (sym same.asked ∙ none);
 }
 
 pub work_stands_same : (tables : Tables) (devices : List Device) (before : List Happening) (n : ℕ) (q : Question) (old new : Work) → WorkSaysSame old new → WorkStands tables devices before n q old → WorkStands tables devices before n q new
@@ -102,11 +117,14 @@ all_stand_same tables devices before next rs place r w within is same stands =
       question = group.question;
       asks = group.asks;
       are_accepted = group.are_accepted;
+      wait = group.wait;
+      one = group.one;
       work = work_stands_same tables devices before r.number group.question r.work w same group.work;
     } in
     subst (GroupsStand tables devices before next) (sym (groups_set rs place new)) (record {
       all = all_set (GroupStands tables devices before) (GroupStands tables devices before) (groups_of rs) place (group_of r) (group_of new) stands.numbered.rise at stands.all new_stands (λ x other it. it);
       numbered = numbered_set next (groups_of rs) place (group_of r) (group_of new) at refl stands.numbered;
+      past = stands.past;
     })
 
 -- the same messages ask the same requests

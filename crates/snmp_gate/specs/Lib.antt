@@ -17,6 +17,7 @@ pub mod Work
 pub mod Ends
 pub mod Replies
 pub mod History
+pub mod Lawful
 pub mod Taking
 pub mod Waiting
 pub mod Sending

@@ -3,13 +3,15 @@
 -- `AsksSet`: a Set's device is to be asked. `IsNotedFor`: what is remembered before that. `IsNotedAgain`: what is
 -- remembered of a message that asks again what waits. `IsUnnoted`: that is forgotten.
 use Rattle.std.specs.Prelude.{◌≡◌, ◌-◌, ℕ, List, Option, Some, None, MatchOption, length, take}
-use Rattle.snmp_gate.specs.Sets.{IsNoted, KeepsSets}
+use Rattle.snmp_gate.specs.Sets.{IsNoted, IsTold, KeepsSets}
+use Rattle.snmp_gate.specs.declared.set_answer.ResponseStatus.{ResponseStatus}
 use Rattle.snmp_gate.specs.declared.sets.RememberedSet.{RememberedSet}
 use Rattle.snmp_gate.specs.declared.sets.SetNote.{SetNote}
 use Rattle.snmp_gate.specs.declared.sets.SetNote.TheVariants.{New}
 use Rattle.snmp_gate.specs.declared.take_client.Noted.{Noted}
 use Rattle.snmp_gate.specs.declared.take_client.Noted.TheVariants as noted
 use Rattle.snmp_gate.specs.declared.task.Task.TheVariants.{Set}
+use Rattle.snmp_gate.specs.declared.waiting_message.WaitingMessage.{WaitingMessage}
 use Rattle.snmp_gate.specs.declared.work.Work.{Work}
 use Rattle.snmp_gate.specs.declared.work.Work.TheVariants.{Open, Ends}
 
@@ -35,3 +37,8 @@ IsLastForgotten old new = new ≡ take (length old - 1) old
 abbrev pub IsUnnoted : Noted → List RememberedSet → List RememberedSet → Type 0
 IsUnnoted noted.Now old new = IsLastForgotten old new
 IsUnnoted _ old new = new ≡ old
+
+-- what the Response to a message says is remembered, if it is a Set and that is known
+abbrev pub IsToldOf : WaitingMessage → Option ResponseStatus → List RememberedSet → List RememberedSet → Type 0
+IsToldOf m said old new = MatchOption m.digest (new ≡ old)
+    (λ d. MatchOption said (new ≡ old) (λ says. IsTold d says old new))

@@ -1,7 +1,7 @@
 -- Sets that are remembered, so that no datagram of a Set is asked of its device twice.
 --
 -- `lasting`: the Sets that are remembered at a moment. `IsNoted`: what a Set is that comes, and what is remembered
--- then. `IsTold`: what its Response says is remembered. A Set is known by the digest of its datagram. Moments are
+-- then. `IsTold`: what its Response says is remembered. `IsKept`: a Set is remembered. A Set is known by the digest of its datagram. Moments are
 -- milliseconds.
 use Rattle.std.specs.Prelude.{◌≡◌, ◌≢◌, ◌⊎◌, ℕ, ◌+◌, ◌<◌, ◌≤◌, nat_le, Bool, List, [], ◌∷◌, ◌++◌, length, Contains}
 use Rattle.std.specs.Prelude.{Some, None, filter, slice_index_or, slice_set}
@@ -74,3 +74,10 @@ pub record TellsAt (outcome : ResponseStatus) (old new : List RememberedSet) (pl
 abbrev pub IsTold : List ℕ → ResponseStatus → List RememberedSet → List RememberedSet → Type 0
 IsTold digest outcome old new = (IsUnknown digest old × (new ≡ old))
     ⊎ ((place : ℕ) × IsPlace digest old place × TellsAt outcome old new place)
+
+-- a Set of this digest is remembered that didn't come before this moment
+pub record IsKept (digest : List ℕ) (from : ℕ) (sets : List RememberedSet) : Type 0 where
+  pub set : RememberedSet
+  pub there : Contains sets set
+  pub digest_is : set.digest ≡ digest
+  pub came : from ≤ set.came

@@ -1,19 +1,19 @@
 //! What comes from clients.
 
-ghost use Rattle.std.specs.Prelude.{◌≡◌, ◌↔◌, ◌<◌, ◌⊎◌, ℕ, List, Some, None, length, IfOk, IfSome, IsTrue};
+ghost use Rattle.std.specs.Prelude.{◌≡◌, ◌↔◌, ◌<◌, ◌≤◌, ◌⊎◌, ℕ, List, Some, None, length, IfOk, IfSome, IsTrue};
 ghost use Rattle.std.specs.Prelude.{MatchOption, OnErr};
 ghost use Rattle.std.specs.List.{HoldsAt};
 ghost use Rattle.snmp_msg.specs.Variables.{Variable};
 ghost use Rattle.snmp_incoming.specs.Answers.{given_of};
 ghost use Rattle.snmp_gate.specs.Question.{Question};
 ghost use Rattle.snmp_gate.specs.Messages.{question_given, question_in};
-ghost use Rattle.snmp_gate.specs.Beginning.{BeginsWell, IsSet, MaySetAll, TakenIn};
+ghost use Rattle.snmp_gate.specs.Beginning.{BeginsWell, IsDigestOf, IsSet, MaySetAll, TakenIn};
 ghost use Rattle.snmp_gate.specs.Devices.{IsDeviceOf};
 ghost use Rattle.snmp_gate.specs.History.{Happening};
 ghost use Rattle.snmp_gate.specs.Noting.{AsksSet, IsNotedAgain, IsNotedFor, IsUnnoted};
 ghost use Rattle.snmp_gate.specs.SetBegins.{SetStandsSo};
 ghost use Rattle.snmp_gate.specs.Sets.{KeepsSets};
-ghost use Rattle.snmp_gate.specs.Waiting.{ClientHappens, GateStands, IsAsBefore, SameButSets};
+ghost use Rattle.snmp_gate.specs.Waiting.{ClientHappens, GateStands, IsAsBefore, SameButSets, Stays};
 ghost use Rattle.snmp_gate.specs.Work.{EndingStands, OnwardStands};
 ghost use Rattle.snmp_gate.specs.declared.devices.Device.{Device as DeviceIs};
 ghost use Rattle.vacm_core.specs.Tables.{Tables};
@@ -138,6 +138,16 @@ enum Noted {
     Before,
 }
 
+/// Returns what was remembered of a message that asks again what waits, and is of this digest if it is a Set.
+fn noted_again(digest: Option<[u8; 32]>) -> Noted
+    ensures { MatchOption digest (result ≡ Noted.NoSet) (λ _. result ≡ Noted.Now) }
+{
+    match digest {
+        Some(_) => Noted::Now,
+        None => Noted::NoSet,
+    }
+}
+
 /// How a Set goes on.
 #[derive(Drop)]
 enum SetBegins {
@@ -156,8 +166,10 @@ impl Gate {
         client: &[u8],
         datagram: &[u8],
     ) -> Result<ClientTaken, AllocError>
-        ensures happens { IfOk result (λ taken. (before : List Happening) → GateStands before self.old
-            → ClientHappens self.old before now client.now datagram.now taken self.new) }
+        ensures happens { IfOk result (λ taken. (since : ℕ) (before : List Happening) → since ≤ now
+            → GateStands since before self.old
+            → ClientHappens self.old now before client.now datagram.now taken self.new) }
+        ensures stays { Stays self.old self.new }
         ensures err { OnErr result (IsAsBefore now self.old self.new) }
     {
         let taken = match self.agent.take(now / 1000, datagram) {
@@ -166,7 +178,7 @@ impl Gate {
             Err(refused) => return Ok(ClientTaken::Refused(refused)),
         };
         let unhandled = self.agent.unhandled(&taken);
-        let message = self.message_of(client, datagram, taken, unhandled.is_none())?;
+        let message = self.message_of(client, datagram, taken)?;
         match place_of(self.requests.requests(), &message) {
             Some(place) => self.join(now, place, message),
             None => self.begin(now, message, unhandled),
@@ -179,13 +191,13 @@ impl Gate {
         client: &[u8],
         datagram: &[u8],
         taken: Taken<'_>,
-        is_handled: bool,
     ) -> Result<WaitingMessage, AllocError>
         ensures is { IfOk result (λ m. (m.client.items ≡ client.now) × (m.kept ≡ given_of taken.entry)) }
         ensures asks { IfOk result (λ m. (q : Question) × (question_in m ≡ Some q)) }
+        ensures digest { IfOk result (λ m. IsDigestOf m datagram.now) }
     {
         let pdu = pdu_of(&taken);
-        let digest = if is_handled && pdu.tag == PduType::SetRequest.tag() {
+        let digest = if pdu.tag == PduType::SetRequest.tag() {
             Some(set_digest(datagram))
         } else {
             None
@@ -207,8 +219,10 @@ impl Gate {
     ) -> Result<ClientTaken, AllocError>
         requires place { place < length self.old.requests.list.items }
         requires same { HoldsAt (λ r. question_in r.first ≡ question_in message) self.old.requests.list.items place }
-        ensures takes { IfOk result (λ taken. (before : List Happening) (at : ℕ) (datagram : List ℕ)
-            → GateStands before self.old → TakenIn before at datagram message taken self.new) }
+        ensures takes { IfOk result (λ taken. (since : ℕ) (before : List Happening) (datagram : List ℕ) → since ≤ now
+            → IsDigestOf message datagram → GateStands since before self.old
+            → TakenIn before now datagram message taken self.new) }
+        ensures stays { Stays self.old self.new }
         ensures err { OnErr result (IsAsBefore now self.old self.new) }
     {
         let digest = message.digest;
@@ -222,10 +236,7 @@ impl Gate {
             Ok(Joined::Joined) => Ok(ClientTaken::Joins(number)),
             Ok(Joined::NoRoom) => Ok(ClientTaken::NoRoom),
             Err(none) => {
-                self.unnote(match digest {
-                    Some(_) => Noted::Now,
-                    None => Noted::NoSet,
-                });
+                self.unnote(noted_again(digest));
                 Err(none)
             }
         }
@@ -262,8 +273,10 @@ impl Gate {
         unhandled: Option<Unhandled>,
     ) -> Result<ClientTaken, AllocError>
         requires { (q : Question) × (question_in message ≡ Some q) }
-        ensures takes { IfOk result (λ taken. (before : List Happening) (at : ℕ) (datagram : List ℕ)
-            → GateStands before self.old → TakenIn before at datagram message taken self.new) }
+        ensures takes { IfOk result (λ taken. (since : ℕ) (before : List Happening) (datagram : List ℕ) → since ≤ now
+            → IsDigestOf message datagram → GateStands since before self.old
+            → TakenIn before now datagram message taken self.new) }
+        ensures stays { Stays self.old self.new }
         ensures err { OnErr result (IsAsBefore now self.old self.new) }
     {
         if self.requests.is_full() || self.requests.next_number() == u64::MAX {
@@ -273,7 +286,7 @@ impl Gate {
             return Ok(ClientTaken::SetOfBefore);
         };
         let noted = self.note_asked(now, &work, message.digest)?;
-        if noted == Noted::Before {
+        if let Noted::Before = noted {
             return Ok(ClientTaken::SetOfBefore);
         }
         match self.requests.begin(self.alloc, message, work) {
