@@ -29,3 +29,4 @@ pub mod Endings
 pub mod AskingWell
 pub mod Same
 pub mod Keeping
+pub mod Running

@@ -24,3 +24,4 @@ pub mod Sending
 pub mod Beginning
 pub mod SetBegins
 pub mod Noting
+pub mod Runs

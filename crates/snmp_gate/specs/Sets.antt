@@ -1,8 +1,8 @@
 -- Sets that are remembered, so that no datagram of a Set is asked of its device twice.
 --
--- `lasting`: the Sets that are remembered at a moment. `IsNoted`: what a Set is that comes, and what is remembered
--- then. `IsTold`: what its Response says is remembered. `IsKept`: a Set is remembered. A Set is known by the digest of its datagram. Moments are
--- milliseconds.
+-- `lasting`: the Sets that are remembered at a moment. `KeepsSets`: what is remembered, but for what came too long ago.
+-- `IsNoted`: what a Set is that comes, and what is remembered then. `IsTold`: what its Response says is remembered.
+-- `IsKept`: a Set is remembered. A Set is known by the digest of its datagram. Moments are milliseconds.
 use Rattle.std.specs.Prelude.{◌≡◌, ◌≢◌, ◌⊎◌, ℕ, ◌+◌, ◌<◌, ◌≤◌, nat_le, Bool, List, [], ◌∷◌, ◌++◌, length, Contains}
 use Rattle.std.specs.Prelude.{Some, None, filter, slice_index_or, slice_set}
 use Rattle.std.specs.List.{HoldsAt}
