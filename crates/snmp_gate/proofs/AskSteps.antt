@@ -11,12 +11,12 @@ use Rattle.snmp_gate.specs.Asks.{Ends, IsNextFree, ask_of}
 use Rattle.snmp_gate.specs.declared.asks.DeviceAsk.{DeviceAsk}
 
 -- a free request-id is no ask's
-own_asked : (all : List DeviceAsk) (id request free : ℕ) → IsNextFree all id free → HaveOwnIds all → HaveOwnIds (all ++ ask_of free request ∷ [])
+pub own_asked : (all : List DeviceAsk) (id request free : ℕ) → IsNextFree all id free → HaveOwnIds all → HaveOwnIds (all ++ ask_of free request ∷ [])
 own_asked all id request free is own =
     all_pairs_push (λ (a b : DeviceAsk). a.id ≢ b.id) all (ask_of free request) own
     (λ k d within same. is.is_free (record { ask = slice_index_or all k d; there = Contains-get_or all k d within; id_is = same }))
 
-own_ended : (first second : List DeviceAsk) (ask : DeviceAsk) → Ends first ask second → HaveOwnIds first → HaveOwnIds second
+pub own_ended : (first second : List DeviceAsk) (ask : DeviceAsk) → Ends first ask second → HaveOwnIds first → HaveOwnIds second
 own_ended first second ask ended own = subst HaveOwnIds (sym ended.new_is) (all_pairs_remove (λ (a b : DeviceAsk). a.id ≢ b.id) first ended.place ended.within own)
 
 pub run_own : (at_once : ℕ) (steps : List AskStep) (first last : List DeviceAsk) → HaveOwnIds first → IsAskRun at_once first steps last → HaveOwnIds last

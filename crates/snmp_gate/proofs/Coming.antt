@@ -1,29 +1,59 @@
 -- What happens when a client's message is taken.
-use Rattle.std.specs.Prelude.{◌≡◌, ◌/◌, ℕ, List, Result, Ok, Err, IfOk}
+use Rattle.std.specs.Prelude.{◌≡◌, ◌/◌, ◌≤◌, ℕ, List, Result, Ok, Err, IfOk}
+use Rattle.std.specs.Global.{Vec}
+use Rattle.std.proofs.Common.{ap, subst, sym}
 use Rattle.std.specs.declared.alloc.AllocError.{AllocError}
-use Rattle.snmp_agent.specs.Agent.{taker_of}
+use Rattle.snmp_agent.specs.Agent.{AgentState, taker_of}
 use Rattle.snmp_incoming.specs.Outcome.{Outcome}
-use Rattle.snmp_gate.specs.Beginning.{TakenIn}
-use Rattle.snmp_gate.specs.History.{Happening}
-use Rattle.snmp_gate.specs.Waiting.{ClientHappens, GateStands}
+use Rattle.snmp_gate.specs.Beginning.{IsDigestOf, TakenFor, TakenIn}
+use Rattle.snmp_gate.specs.Groups.{groups_of}
+use Rattle.snmp_gate.specs.History.{Happening, accepted}
+use Rattle.snmp_gate.specs.Waiting.{AsksStand, ClientHappens, GateStands, Happens, SetsStand, asks_in}
+use Rattle.snmp_gate.specs.declared.asks.DeviceAsks.{DeviceAsks}
+use Rattle.snmp_gate.specs.declared.devices.Devices.{Devices}
+use Rattle.snmp_gate.specs.declared.requests.WaitingRequests.{WaitingRequests}
+use Rattle.snmp_gate.specs.declared.sets.RememberedSets.{RememberedSets}
+use Rattle.snmp_gate.specs.declared.work.Work.{Work}
+use Rattle.snmp_gate.proofs.Histories.{moved}
 use Rattle.snmp_gate.specs.declared.gate.ClientTaken.{ClientTaken}
 use Rattle.snmp_gate.specs.declared.gate.ClientTaken.TheVariants as client
 use Rattle.snmp_gate.specs.declared.gate.Gate.{Gate}
 use Rattle.snmp_gate.specs.declared.waiting_message.WaitingMessage.{WaitingMessage}
 
-module _ (old new : Gate) (Stood : List Happening → Type 0) (now : ℕ) (from datagram : List ℕ) (m : WaitingMessage) where
+module _ (old new : Gate) (now : ℕ) (from datagram : List ℕ) (m : WaitingMessage) where
+  accepts_for : (before : List Happening) (n : ℕ) → Outcome (taker_of old.agent) old.agent.users (now / 1000) datagram (Ok m.kept) → TakenFor before now datagram m n new
+      → Happens old now before (accepted n now datagram m) new
+  accepts_for before n accepts takes = record {
+    lawful = record { mediated = accepts; in_turn = takes.0; own_id = tt; once = tt };
+    stands = takes.1;
+  }
+
   taken_so : (before : List Happening) (taken : ClientTaken) → m.client.items ≡ from → Outcome (taker_of old.agent) old.agent.users (now / 1000) datagram (Ok m.kept)
-      → TakenIn before now datagram m taken new → ClientHappens old before now from datagram taken new
+      → TakenIn before now datagram m taken new → ClientHappens old now before from datagram taken new
   taken_so before (client.Refused why) is accepts stands = stands
-  taken_so before (client.Begins n) is accepts stands = (m, is, record { lawful = accepts; stands = stands })
-  taken_so before (client.Joins n) is accepts stands = (m, is, record { lawful = accepts; stands = stands })
+  taken_so before (client.Begins n) is accepts takes = (m, is, accepts_for before n accepts takes)
+  taken_so before (client.Joins n) is accepts takes = (m, is, accepts_for before n accepts takes)
   taken_so before client.NoRoom is accepts stands = stands
   taken_so before client.SetOfBefore is accepts stands = stands
 
   -- the message is accepted, and the gateway stood before it is taken in
-  pub message_happens : (result : Result ClientTaken AllocError) → m.client.items ≡ from → Outcome (taker_of old.agent) old.agent.users (now / 1000) datagram (Ok m.kept)
-      → ((before : List Happening) → GateStands before old → Stood before)
-      → IfOk result (λ taken. (before : List Happening) (at : ℕ) (w : List ℕ) → Stood before → TakenIn before at w m taken new)
-      → IfOk result (λ taken. (before : List Happening) → GateStands before old → ClientHappens old before now from datagram taken new)
-  message_happens (Ok taken) is accepts stood takes = λ before stands. taken_so before taken is accepts (takes before now datagram (stood before stands))
-  message_happens (Err none) is accepts stood takes = tt
+  pub message_happens : (mid : Gate) (result : Result ClientTaken AllocError) → m.client.items ≡ from → Outcome (taker_of old.agent) old.agent.users (now / 1000) datagram (Ok m.kept) → IsDigestOf m datagram
+      → ((since : ℕ) (before : List Happening) → GateStands since before old → GateStands since before mid)
+      → IfOk result (λ taken. (since : ℕ) (before : List Happening) (w : List ℕ) → since ≤ now → IsDigestOf m w → GateStands since before mid → TakenIn before now w m taken new)
+      → IfOk result (λ taken. (since : ℕ) (before : List Happening) → since ≤ now → GateStands since before old → ClientHappens old now before from datagram taken new)
+  message_happens mid (Ok taken) is accepts digest stood takes = λ since before later stands. taken_so before taken is accepts (takes since before datagram later digest (stood since before stands))
+  message_happens mid (Err none) is accepts digest stood takes = tt
+
+-- the same, with an agent that is the same
+pub same_stands : (old mid : Gate) → mid.agent ≡ old.agent → mid.devices ≡ old.devices → mid.asks ≡ old.asks → mid.requests ≡ old.requests → mid.sets ≡ old.sets → (since : ℕ) (before : List Happening) → GateStands since before old → GateStands since before mid
+same_stands old mid agent devices asks requests sets since before stands = record {
+  requests = moved old.agent.tables mid.agent.tables old.devices.list.items mid.devices.list.items before old.requests.next mid.requests.next (groups_of old.requests.list.items) (groups_of mid.requests.list.items)
+      (ap (λ (a : AgentState). a.tables) agent)
+      (ap (λ (d : Devices). d.list.items) devices)
+      (ap (λ (rs : WaitingRequests WaitingMessage Work). rs.next) requests)
+      (ap (λ (rs : WaitingRequests WaitingMessage Work). groups_of rs.list.items) requests)
+      stands.requests;
+  asks = subst (λ (v : Vec DeviceAsks). AsksStand before (asks_in v.items)) (sym asks) stands.asks;
+  sets = subst (λ (rs : WaitingRequests WaitingMessage Work). SetsStand since before (groups_of rs.list.items) mid.sets.sets.items) (sym requests)
+      (subst (λ (s : RememberedSets). SetsStand since before (groups_of old.requests.list.items) s.sets.items) (sym sets) stands.sets);
+}

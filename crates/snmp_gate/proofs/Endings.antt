@@ -23,7 +23,7 @@ pub one_open : (w : Work) (a b : OpenRequest) → w ≡ Open a → w ≡ Open b 
 one_open w a b is also = let same : Open a ≡ Open b = sym is ∙ also in cc
 
 pub after_same : (tables : Tables) (q : Question) (told : List Variable) (a b : OpenRequest) (w : Work) → a.device ≡ b.device → WorkAfter tables q told a w → WorkAfter tables q told b w
-after_same tables q told a b (Open new) device after = (after.0, after.1 ∙ device, after.2)
+after_same tables q told a b (Open new) device after = (after.0, after.1 ∙ device, after.2, after.3)
 after_same tables q told a b (work.Ends e) device after = after
 
 pub never_open : (w : Work) (e : RequestEnd) (o : OpenRequest) → w ≡ work.Ends e → w ≡ Open o → ⊥

@@ -1,9 +1,10 @@
 -- What is known of the requests that wait, as more happens.
-use Rattle.std.specs.Prelude.{◌≡◌, ◌≢◌, ◌⊎◌, ◌∷◌, ◌++◌, ◌<◌, ℕ, pos, Bool, true, false, cond, nat_eq, List, [], All, AllPairs, Contains, Option, Some, None, length, map, slice_index_or, slice_set}
+use Rattle.std.specs.Prelude.{◌≡◌, ◌≢◌, ◌⊎◌, ◌∷◌, ◌++◌, ◌+◌, ◌<◌, ℕ, pos, Bool, true, cond, nat_eq, drop, remove, List, [], All, AllPairs, Contains, Option, Some, None, length, map, slice_index_or, slice_set}
 use Rattle.std.proofs.Common.{refl, sym, ap, subst, ◌∙◌, inl, inr, arith}
 use Rattle.std.proofs.lemmas.Bool.Decides.{Decides-int_eq, eqb_tells, leb_tells}
 use Rattle.std.proofs.lemmas.List.{get_or_default, get_or-set_other, get_or-set_same, length-set}
-use Rattle.std.proofs.lemmas.List.Elements.{All-contains_itself, All-head, All-tail, All-weaker, Contains-append_left, Contains-append_right}
+use Rattle.std.proofs.lemmas.List.Edits.{get_or-remove_above, get_or-remove_below, length-remove}
+use Rattle.std.proofs.lemmas.List.Elements.{All-cons, All-contains_itself, All-head, All-tail, All-weaker, Contains-append_left, Contains-append_right}
 use Rattle.snmp_msg.specs.Pdu.{PduParts, pdu_of}
 use Rattle.snmp_msg.specs.Variables.{Variable, variables_of}
 use Rattle.snmp_msg.specs.declared.pdu.Pdu.{Pdu}
@@ -13,18 +14,21 @@ use Rattle.snmp_gate.specs.DeviceMessages.{IsDeviceAnswer}
 use Rattle.std.specs.Global.{Vec}
 use Rattle.std.specs.List.{HoldsAt}
 use Rattle.snmp_agent.specs.Agent.{AgentState}
-use Rattle.snmp_gate.specs.Groups.{Group, IsAnswered, IsAt, IsWorked, group_of, groups_of, with_messages, with_work}
+use Rattle.snmp_gate.specs.Groups.{Group, IsAnswered, IsAt, IsLeft, IsWorked, group_of, groups_of, with_messages, with_work}
 use Rattle.snmp_gate.specs.Messages.{question_in}
 use Rattle.snmp_incoming.specs.Outcome.{Given}
 use Rattle.snmp_gate.specs.Replies.{Answering, IsAnswerTo}
-use Rattle.snmp_gate.specs.Sending.{IsGivenUp, IsOpenAt, IsSentBy, MayAskAt, RepliesTo, Requests, SetsAsked}
+use Rattle.snmp_gate.specs.Sending.{IsGivenUp, IsOpenAt, MayAskAt, RepliesTo, Requests, SetsAsked}
 use Rattle.snmp_gate.specs.declared.devices.Devices.{Devices}
 use Rattle.snmp_gate.specs.declared.gate.Gate.{Gate}
-use Rattle.snmp_gate.specs.declared.gate.Sent.{Sent}
-use Rattle.snmp_gate.specs.declared.gate.Sent.TheVariants as out
 use Rattle.snmp_gate.specs.declared.reply.Reply.{Reply}
 use Rattle.snmp_gate.specs.declared.reply.Reply.TheVariants as reply
-use Rattle.snmp_gate.specs.Taking.{WaitsFor, WorkAfter}
+use Rattle.snmp_gate.specs.Taking.{IsCommunityOfTask, IsCommunityOfWork, WaitsFor, WorkAfter}
+use Rattle.snmp_gate.specs.declared.task.Task.{Task}
+use Rattle.snmp_gate.specs.declared.task.Task.TheVariants as task
+use Rattle.snmp_walk.specs.declared.operation.ReadOperation.TheVariants.{Get, GetNext}
+use Rattle.snmp_msg.specs.PduTypes.{pdu_tag}
+use Rattle.snmp_msg.specs.declared.pdu_type.PduType.TheVariants.{GetRequest, GetNextRequest, SetRequest}
 use Rattle.snmp_gate.specs.declared.named_task.NamedTask.{NamedTask}
 use Rattle.snmp_gate.specs.declared.set_answer.TheConstants.{NO_ERROR, TOO_BIG}
 use Rattle.snmp_gate.specs.declared.work.RequestEnd.{RequestEnd}
@@ -32,18 +36,21 @@ use Rattle.snmp_gate.specs.declared.work.RequestEnd.TheVariants as ending
 use Rattle.std.proofs.lemmas.Bool.{false≢true}
 use Rattle.snmp_gate.specs.declared.requests.WaitingRequest.{WaitingRequest}
 use Rattle.snmp_gate.proofs.GroupSteps.{group_at, groups_set}
-use Rattle.snmp_gate.specs.History.{AskedBy, Happening, IsAccepted, IsAnswerOf, IsLawful, MayAskFor, OpenAsk, answered, asked, ends_in, open_ask, said_by, sent, told_in}
+use Rattle.snmp_gate.specs.History.{AskedBy, Happening, IsAccepted, IsAnswerOf, IsCommunityFor, IsMediated, MayAskFor, OpenAsk, accepted, answered, asked, ends_in, given_up, number_of, open_ask, said_by, sent, told_in, unanswered, waiting_in}
+use Rattle.snmp_gate.specs.Lawful.{IsInTurn, IsNext, WasAsked}
 use Rattle.snmp_gate.specs.Question.{Question}
-use Rattle.snmp_gate.specs.Waiting.{AreNumbered, GateStands, GroupStands, GroupsStand, OpenStands, SendHappens, WorkStands}
+use Rattle.snmp_gate.specs.Waiting.{AreNumbered, GroupStands, GroupsStand, OpenStands, RequestsStand, WorkStands}
 use Rattle.snmp_gate.specs.Work.{EndingStands, SaysAll, TaskStands, end_of, variables_of_task}
 use Rattle.snmp_gate.specs.declared.devices.Device.{Device}
 use Rattle.snmp_gate.specs.declared.waiting_message.WaitingMessage.{WaitingMessage}
 use Rattle.snmp_gate.specs.declared.work.OpenRequest.{OpenRequest}
 use Rattle.snmp_gate.specs.declared.work.Work.{Work}
 use Rattle.snmp_gate.specs.declared.work.Work.TheVariants.{Open, Ends}
+use Rattle.snmp_gate.proofs.Asked.{none_is_some}
+use Rattle.snmp_gate.proofs.Others.{ask_later, ask_other, chosen, open_other, same_number, told_other, wait_other, was_before, was_other}
 use Rattle.snmp_gate.proofs.More.{HasAll, task_more}
 use Rattle.snmp_gate.proofs.Pairs.{pairs_set}
-use Rattle.snmp_gate.proofs.Questions.{all_answered, all_worked, numbered_left}
+use Rattle.snmp_gate.proofs.Questions.{all_worked, numbered_left}
 use Rattle.snmp_gate.proofs.Telling.{contains_map}
 
 abbrev pub Waiting : Type 0
@@ -55,47 +62,29 @@ pub later : (e : Happening) (before : List Happening) (n : ℕ) (m : WaitingMess
 later e before n m is = record { now = is.now; datagram = is.datagram; there = Contains-append_right (e ∷ []) before _ is.there }
 
 -- the same is known of the work, if as much was told and asked
-work_same : (tables : Tables) (devices : List Device) (before after : List Happening) (n : ℕ) (q : Question) (w : Work) → told_in n after ≡ told_in n before → open_ask n after ≡ open_ask n before
-    → WorkStands tables devices before n q w → WorkStands tables devices after n q w
-work_same tables devices before after n q (Open o) told ask stands = record {
+pub work_later : (tables : Tables) (devices : List Device) (e : Happening) (before : List Happening) (n : ℕ) (q : Question) (w : Work) → told_in n (e ∷ before) ≡ told_in n before → open_ask n (e ∷ before) ≡ open_ask n before
+    → (WasAsked (e ∷ before) n → WasAsked before n) → WorkStands tables devices before n q w → WorkStands tables devices (e ∷ before) n q w
+work_later tables devices e before n q (Open o) told ask was stands = record {
   task = subst (λ (vs : List Variable). TaskStands tables q vs o.task.task) (sym told) stands.task;
   device = stands.device;
   asked = λ id is. ask ∙ stands.asked id is;
+  set_once = λ set none asked. stands.set_once set none (was asked);
 }
-work_same tables devices before after n q (Ends e) told ask stands = subst (λ (vs : List Variable). EndingStands tables q vs e) (sym told) stands
+work_later tables devices e before n q (Ends x) told ask was stands = subst (λ (vs : List Variable). EndingStands tables q vs x) (sym told) stands
 
--- the same is known of a request, if what happens tells nothing of it
-pub group_later : (tables : Tables) (devices : List Device) (e : Happening) (before : List Happening) (g : Waiting) → told_in g.number (e ∷ before) ≡ told_in g.number before
-    → open_ask g.number (e ∷ before) ≡ open_ask g.number before → GroupStands tables devices before g → GroupStands tables devices (e ∷ before) g
-group_later tables devices e before g told ask stands = record {
+-- the same is known of another request
+pub others_later : (tables : Tables) (devices : List Device) (e : Happening) (before : List Happening) (g : Waiting) → g.number ≢ number_of e → GroupStands tables devices before g → GroupStands tables devices (e ∷ before) g
+others_later tables devices e before g other stands = record {
   question = stands.question;
   asks = stands.asks;
   are_accepted = All-weaker (IsAccepted before g.number) (IsAccepted (e ∷ before) g.number) (later e before g.number) g.messages stands.are_accepted;
-  work = work_same tables devices before (e ∷ before) g.number stands.question g.work told ask stands.work;
+  wait = wait_other e before g.number other ∙ stands.wait;
+  one = ask_other e before g.number stands.question other stands.one;
+  work = work_later tables devices e before g.number stands.question g.work (told_other e before g.number other) (open_other e before g.number other) (was_other e before g.number other) stands.work;
 }
 
-other_number : (a b : ℕ) → a ≢ b → nat_eq a b ≡ false
-other_number a b other = elim (eqb_tells a b) [ inl (test, same) ↦ absurd (other same) | inr (test, not_same) ↦ test ]
-
-pub same_number : (a : ℕ) → nat_eq a a ≡ true
-same_number a = elim (eqb_tells a a) [ inl (test, same) ↦ test | inr (test, not_same) ↦ absurd (not_same refl) ]
-
-pub others_answered : (tables : Tables) (devices : List Device) (n device : ℕ) (p : PduParts) (datagram : List ℕ) (before : List Happening) (g : Waiting) → g.number ≢ n
-    → GroupStands tables devices before g → GroupStands tables devices (answered n device p datagram ∷ before) g
-others_answered tables devices n device p datagram before g other stands =
-    let test = other_number g.number n other in
-    group_later tables devices (answered n device p datagram) before g
-    (ap (λ (b : Bool). cond b (said_by (open_ask g.number before) p ++ told_in g.number before) (told_in g.number before)) test)
-    (ap (λ (b : Bool). cond b None (open_ask g.number before)) test)
-    stands
-
-pub others_asked : (tables : Tables) (devices : List Device) (n device id : ℕ) (vs : List Variable) (datagram : List ℕ) (before : List Happening) (g : Waiting) → g.number ≢ n
-    → GroupStands tables devices before g → GroupStands tables devices (asked n device id vs datagram ∷ before) g
-others_asked tables devices n device id vs datagram before g other stands =
-    let test = other_number g.number n other in
-    group_later tables devices (asked n device id vs datagram) before g refl
-    (ap (λ (b : Bool). cond b (Some (record { device = device; id = id; variables = vs })) (open_ask g.number before)) test)
-    stands
+pub past_later : (e : Happening) (before : List Happening) (next : ℕ) → number_of e < next → All (λ (x : Happening). number_of x < next) before → All (λ (x : Happening). number_of x < next) (e ∷ before)
+past_later e before next lt past = All-cons (λ (x : Happening). number_of x < next) e before lt past
 
 -- ---- the requests, one of which changes
 
@@ -128,7 +117,47 @@ numbered_set next gs place g h at same numbered = record {
       (λ x other lt. lt);
 }
 
+-- those that are left where one is taken out have other numbers
+pub all_out : (P Q : Waiting → Type 0) (gs : List Waiting) (place : ℕ) (g : Waiting) → AllPairs (λ (a b : Waiting). a.number < b.number) gs → IsAt gs place g → All P gs
+    → ((x : Waiting) → x.number ≢ g.number → P x → Q x) → All Q (remove gs place)
+all_out P Q gs place g rise at all others k d within =
+    let long = length-remove gs place at.within in
+    elim (leb_tells place k) [
+      | inl (test, from) ↦
+          let short : k + 1 < length gs = omega (arith, long, within) in
+          let isnt : k + 1 ≢ place = omega (arith, from) in
+          subst Q (sym (get_or-remove_above gs place d k from at.within)) (others (slice_index_or gs (k + 1) d) (numbers_differ gs place g rise at (k + 1) d short isnt) (all (k + 1) d short))
+      | inr (test, below) ↦
+          let short : k < length gs = omega (arith, below, at.within) in
+          let isnt : k ≢ place = omega (arith, below) in
+          subst Q (sym (get_or-remove_below gs place d k below at.within)) (others (slice_index_or gs k d) (numbers_differ gs place g rise at k d short isnt) (all k d short))
+    ]
+
+pub below_next : (next : ℕ) (gs : List Waiting) (place : ℕ) (g : Waiting) → IsAt gs place g → AreNumbered next gs → g.number < next
+below_next next gs place g at numbered = subst (λ (x : Waiting). x.number < next) (sym at.group_is) (numbered.less place g at.within)
+
+-- an accepted message asks what the request asks
+pub asked_by : (tables : Tables) (devices : List Device) (before : List Happening) (r : WaitingRequest WaitingMessage Work) (group : GroupStands tables devices before (group_of r)) → AskedBy before r.number group.question
+asked_by tables devices before r group = record {
+  message = r.first;
+  is_accepted = All-head (IsAccepted before r.number) r.first r.others.items group.are_accepted;
+  asks = All-head (λ (m : WaitingMessage). question_in m ≡ Some group.question) r.first r.others.items group.asks;
+}
+
 -- ---- an answer
+
+answered_not_accepted : (n device : ℕ) (p : PduParts) (w : List ℕ) (k at : ℕ) (v : List ℕ) (m : WaitingMessage) → answered n device p w ≡ accepted k at v m → ⊥
+answered_not_accepted n device p w k at v m is = cc
+
+asked_not_accepted : (n device id : ℕ) (vs : List Variable) (w : List ℕ) (k at : ℕ) (v : List ℕ) (m : WaitingMessage) → asked n device id vs w ≡ accepted k at v m → ⊥
+asked_not_accepted n device id vs w k at v m is = cc
+
+-- the community by which the request's device is asked
+pub community_for : (tables : Tables) (q : Question) (told : List Variable) (t : Task) (d : Device) (community : List ℕ) → TaskStands tables q told t → IsCommunityOfTask d community t → IsCommunityFor d q.tag community
+community_for tables q told (task.Read Get d) device community stands is = inl ((λ (same : q.tag ≡ pdu_tag SetRequest). let tag : q.tag ≡ pdu_tag GetRequest = stands.tag in omega (arith, same, tag)), is)
+community_for tables q told (task.Read GetNext d) device community stands is = inl ((λ (same : q.tag ≡ pdu_tag SetRequest). let tag : q.tag ≡ pdu_tag GetNextRequest = stands.tag in omega (arith, same, tag)), is)
+community_for tables q told (task.Bulk by d) device community stands is = inl ((λ (same : q.tag ≡ pdu_tag SetRequest). omega (arith, same, stands.tag)), is)
+community_for tables q told task.Set device community stands is = inr (stands.tag, is)
 
 open_of : (device id : ℕ) (w : Work) → WaitsFor device id w → (o : OpenRequest) × (w ≡ Open o) × (o.device ≡ device) × (o.asked ≡ Some id)
 open_of device id (Open o) waits = (o, refl, waits.0, waits.1)
@@ -165,19 +194,21 @@ after_stands tables devices before n q o (Open new) device after = record {
   task = after.0;
   device = subst (IsDeviceOf devices q.context) (sym after.1) device;
   asked = λ id is. absurd (let none : None ≡ Some id = sym after.2 ∙ is in cc);
+  set_once = λ set none was. after.3 set;
 }
 after_stands tables devices before n q o (Ends e) device after = after
 
-group_in : (tables : Tables) (devices : List Device) (before : List Happening) (next : ℕ) (gs : List Waiting) (place : ℕ) (g : Waiting) → IsAt gs place g → GroupsStand tables devices before next gs → GroupStands tables devices before g
+pub group_in : (tables : Tables) (devices : List Device) (before : List Happening) (next : ℕ) (gs : List Waiting) (place : ℕ) (g : Waiting) → IsAt gs place g → GroupsStand tables devices before next gs → GroupStands tables devices before g
 group_in tables devices before next gs place g at stands = subst (GroupStands tables devices before) (sym at.group_is) (stands.all place g at.within)
 
 pub answered_all : (tables : Tables) (devices : List Device) (before : List Happening) (next : ℕ) (rs : List (WaitingRequest WaitingMessage Work)) (place : ℕ) (r : WaitingRequest WaitingMessage Work) (w : Work)
     (device id : ℕ) (answer : Pdu) (datagram community : List ℕ) → place < length rs → r ≡ slice_index_or rs place r → WaitsFor device id r.work → answer.id ≡ pos id → IsDeviceAnswer datagram community (pdu_of answer)
+    → HoldsAt (λ (d : Device). IsCommunityOfWork d community r.work) devices device
     → ((o : OpenRequest) (q : Question) (told : List Variable) → question_in r.first ≡ Some q → r.work ≡ Open o → SaysAll (variables_of_task q o.task.task) answer told → TaskStands tables q told o.task.task → WorkAfter tables q told o w)
     → GroupsStand tables devices before next (groups_of rs)
-    → IsAnswerOf before r.number device (pdu_of answer) datagram
+    → IsAnswerOf devices before r.number device (pdu_of answer) datagram
     × GroupsStand tables devices (answered r.number device (pdu_of answer) datagram ∷ before) next (groups_of (slice_set rs place (record { number = r.number; first = r.first; others = r.others; work = w })))
-answered_all tables devices before next rs place r w device id answer datagram community within is waits id_is response after stands =
+answered_all tables devices before next rs place r w device id answer datagram community within is waits id_is response pays after stands =
     let at = group_at rs place r within is in
     let group = group_in tables devices before next (groups_of rs) place (group_of r) at stands in
     let q = group.question in
@@ -196,14 +227,28 @@ answered_all tables devices before next rs place r w device id answer datagram c
       question = q;
       asks = group.asks;
       are_accepted = All-weaker (IsAccepted before n) (IsAccepted (now ∷ before) n) (later now before n) (group_of r).messages group.are_accepted;
+      wait = group.wait;
+      one = ask_later now before n q (λ at w m same. absurd (answered_not_accepted n device (pdu_of answer) datagram n at w m same)) group.one;
       work = after_stands tables devices (now ∷ before) n q o w open_stands.device after_now;
     } in (
-      record { ask = record { device = o.device; id = id; variables = variables_of_task q o.task.task }; is_open = asks; device_is = open_is.2; id_is = id_is; community = community; is_answer = response },
+      record {
+        ask = record { device = o.device; id = id; variables = variables_of_task q o.task.task };
+        is_open = asks;
+        device_is = open_is.2;
+        id_is = id_is;
+        community = community;
+        is_answer = response;
+        question = q;
+        is_asked = asked_by tables devices before r group;
+        is_community = λ d. community_for tables q (told_in n before) o.task.task (slice_index_or devices device d) community open_stands.task
+            (subst (IsCommunityOfWork (slice_index_or devices device d) community) open_is.1 (pays d));
+      },
       record {
         all = subst (λ (gs : List Waiting). All (GroupStands tables devices (now ∷ before)) gs) (sym (groups_set rs place new))
             (all_set (GroupStands tables devices before) (GroupStands tables devices (now ∷ before)) (groups_of rs) place (group_of r) (group_of new) stands.numbered.rise at stands.all new_stands
-            (λ x other known. others_answered tables devices n device (pdu_of answer) datagram before x other known));
+            (λ x other known. others_later tables devices now before x other known));
         numbered = subst (λ (gs : List Waiting). AreNumbered next gs) (sym (groups_set rs place new)) (numbered_set next (groups_of rs) place (group_of r) (group_of new) at refl stands.numbered);
+        past = past_later now before next (below_next next (groups_of rs) place (group_of r) at stands.numbered) stands.past;
       },
     )
 
@@ -215,17 +260,9 @@ one_head a b xs ys is = cc
 same_some : {A : Type 0} (a b : A) → Some a ≡ Some b → a ≡ b
 same_some a b is = cc
 
--- an accepted message asks what the request at the place asks
-asked_by : (tables : Tables) (devices : List Device) (before : List Happening) (r : WaitingRequest WaitingMessage Work) (group : GroupStands tables devices before (group_of r)) → AskedBy before r.number group.question
-asked_by tables devices before r group = record {
-  message = r.first;
-  is_accepted = All-head (IsAccepted before r.number) r.first r.others.items group.are_accepted;
-  asks = All-head (λ (m : WaitingMessage). question_in m ≡ Some group.question) r.first r.others.items group.asks;
-}
-
 pub record AsksAll (agent : AgentState) (devices : List Device) (before : List Happening) (next number device id : ℕ) (datagram : List ℕ) (gs : List Waiting) : Type 0 where
   pub variables : List Variable
-  pub lawful : IsLawful agent devices before (asked number device id variables datagram)
+  pub mediated : IsMediated agent devices before (asked number device id variables datagram)
   pub stands : GroupsStand agent.tables devices (asked number device id variables datagram ∷ before) next gs
 
 pub asked_all : (agent : AgentState) (devices : List Device) (before : List Happening) (next : ℕ) (rs new : Requests) (place device number id : ℕ) (datagram : Vec ℕ) → place < length rs → IsOpenAt rs place device number
@@ -257,23 +294,27 @@ asked_all agent devices before next rs new place device number id datagram withi
           let first : open_ask r.number (now ∷ before) ≡ Some (record { device = device; id = id; variables = vs }) =
           ap (λ (b : Bool). cond b (Some (record { device = device; id = id; variables = vs })) (open_ask r.number before)) (same_number r.number) in
           first ∙ (λ i. Some (record { device = sym (a.3 ∙ on) i; id = one i; variables = sym task i }));
+      set_once = λ set none was. absurd (none_is_some id (sym none ∙ a.4));
     } in
     let h : WaitingRequest WaitingMessage Work = record { number = r.number; first = r.first; others = r.others; work = sets.work } in
     let h_stands : GroupStands tables devices (now ∷ before) (group_of h) = record {
       question = q;
       asks = group.asks;
       are_accepted = All-weaker (IsAccepted before r.number) (IsAccepted (now ∷ before) r.number) (later now before r.number) (group_of r).messages group.are_accepted;
+      wait = group.wait;
+      one = ask_later now before r.number q (λ at w m same. absurd (asked_not_accepted r.number device id vs datagram.items r.number at w m same)) group.one;
       work = subst (λ (x : Work). WorkStands tables devices (now ∷ before) r.number q x) (sym a.1) a_stands;
     } in
     let groups_are : groups_of new ≡ slice_set (groups_of rs) place (group_of h) = ap (λ (xs : Requests). groups_of xs) sets.new_is ∙ groups_set rs place h in
     subst (λ (n : ℕ). AsksAll agent devices before next n device id datagram.items (groups_of new)) is_open.0 (record {
       variables = vs;
-      lawful = (q, by, subst (IsDeviceOf devices q.context) on open_stands.device, may_ask o q (told_in r.number before) work_is by.asks open_stands.task);
+      mediated = (q, by, subst (IsDeviceOf devices q.context) on open_stands.device, may_ask o q (told_in r.number before) work_is by.asks open_stands.task);
       stands = record {
         all = subst (λ (gs : List Waiting). All (GroupStands tables devices (now ∷ before)) gs) (sym groups_are)
             (all_set (GroupStands tables devices before) (GroupStands tables devices (now ∷ before)) (groups_of rs) place (group_of r) (group_of h) stands.numbered.rise at stands.all h_stands
-            (λ x other known. others_asked tables devices r.number device id vs datagram.items before x other known));
+            (λ x other known. others_later tables devices now before x other known));
         numbered = subst (λ (gs : List Waiting). AreNumbered next gs) (sym groups_are) (numbered_set next (groups_of rs) place (group_of r) (group_of h) at refl stands.numbered);
+        past = past_later now before next (below_next next (groups_of rs) place (group_of r) at stands.numbered) stands.past;
       };
     })
 
@@ -286,36 +327,103 @@ ended_all tables devices before next gs new place was e ends worked stands = rec
     question = known.question;
     asks = known.asks;
     are_accepted = known.are_accepted;
+    wait = known.wait;
+    one = known.one;
     work = ends known.question (told_in g.number before);
   }) stands.all;
   numbered = subst (λ (xs : List Waiting). AreNumbered next xs) (sym worked.new_is) (numbered_set next gs place worked.group (with_work worked.group (Ends e)) worked.at refl stands.numbered);
+  past = stands.past;
 }
 
-fewer : (tables : Tables) (devices : List Device) (before : List Happening) (m : WaitingMessage) (g : Waiting) (next : WaitingMessage) (rest : List WaitingMessage) → g.messages ≡ m ∷ next ∷ rest
-    → GroupStands tables devices before g → GroupStands tables devices before (with_messages g (next ∷ rest))
-fewer tables devices before m g next rest were known = record {
-  question = known.question;
-  asks = All-tail (λ (x : WaitingMessage). question_in x ≡ Some known.question) m (next ∷ rest) (subst (All (λ (x : WaitingMessage). question_in x ≡ Some known.question)) were known.asks);
-  are_accepted = All-tail (IsAccepted before g.number) m (next ∷ rest) (subst (All (IsAccepted before g.number)) were known.are_accepted);
-  work = known.work;
-}
+given_up_not_accepted : (n device : ℕ) (k at : ℕ) (v : List ℕ) (m : WaitingMessage) → given_up n device ≡ accepted k at v m → ⊥
+given_up_not_accepted n device k at v m is = cc
+
+-- the request at the place is given up
+pub given_up_all : (tables : Tables) (devices : List Device) (before : List Happening) (next : ℕ) (gs new : List Waiting) (place number device : ℕ) (was : Work) (e : RequestEnd) → ((q : Question) (told : List Variable) → EndingStands tables q told e)
+    → (worked : IsWorked gs place was (Ends e) new) → worked.group.number ≡ number → GroupsStand tables devices before next gs → GroupsStand tables devices (given_up number device ∷ before) next new
+given_up_all tables devices before next gs new place number device was e ends worked same stands =
+    let now = given_up number device in
+    let g = worked.group in
+    let h = with_work g (Ends e) in
+    let known = group_in tables devices before next gs place g worked.at stands in
+    let own : GroupStands tables devices (now ∷ before) h = record {
+      question = known.question;
+      asks = known.asks;
+      are_accepted = All-weaker (IsAccepted before g.number) (IsAccepted (now ∷ before) g.number) (later now before g.number) g.messages known.are_accepted;
+      wait = known.wait;
+      one = ask_later now before g.number known.question (λ at w m is. absurd (given_up_not_accepted number device g.number at w m is)) known.one;
+      work = ends known.question (told_in g.number before);
+    } in record {
+      all = subst (All (GroupStands tables devices (now ∷ before))) (sym worked.new_is)
+          (all_set (GroupStands tables devices before) (GroupStands tables devices (now ∷ before)) gs place g h stands.numbered.rise worked.at stands.all own
+          (λ x other it. others_later tables devices now before x (λ is. other (is ∙ sym same)) it));
+      numbered = subst (λ (xs : List Waiting). AreNumbered next xs) (sym worked.new_is) (numbered_set next gs place g h worked.at refl stands.numbered);
+      past = past_later now before next (subst (λ (n : ℕ). n < next) same (below_next next gs place g worked.at stands.numbered)) stands.past;
+    }
 
 numbered_answered : (next : ℕ) (gs new : List Waiting) (place : ℕ) (m : WaitingMessage) → IsAnswered gs place m new → AreNumbered next gs → AreNumbered next new
 numbered_answered next gs new place m answer numbered =
     let is = numbered_left (λ (x : WaitingMessage). x) 0 0 next place gs new answer.group answer.others answer.at answer.left (record { below = numbered.less; rise = numbered.rise }) in
     record { rise = is.rise; less = is.below }
 
--- a message is gone, and this happens, which tells nothing of any request
-pub message_gone : (tables : Tables) (devices : List Device) (before after : List Happening) (next : ℕ) (gs new : List Waiting) (place : ℕ) (m : WaitingMessage)
-    → ((g : Waiting) → GroupStands tables devices before g → GroupStands tables devices after g) → IsAnswered gs place m new → GroupsStand tables devices before next gs → GroupsStand tables devices after next new
-message_gone tables devices before after next gs new place m keeps answer stands = record {
-  all = all_answered (GroupStands tables devices after) gs new place m answer (fewer tables devices after m)
-      (All-weaker (GroupStands tables devices before) (GroupStands tables devices after) keeps gs stands.all);
-  numbered = numbered_answered next gs new place m answer stands.numbered;
+-- a happening by which the first message of a request waits no longer
+pub record TakesOne (e : Happening) (before : List Happening) (n : ℕ) : Type 0 where
+  pub number : n ≡ number_of e
+  pub wait : waiting_in n (e ∷ before) ≡ drop 1 (waiting_in n before)
+  pub told : told_in n (e ∷ before) ≡ told_in n before
+  pub ask : open_ask n (e ∷ before) ≡ open_ask n before
+  pub was : WasAsked (e ∷ before) n → WasAsked before n
+  pub none : (k at : ℕ) (v : List ℕ) (m : WaitingMessage) → e ≡ accepted k at v m → ⊥
+
+fewer : (tables : Tables) (devices : List Device) (e : Happening) (before : List Happening) (m : WaitingMessage) (g : Waiting) (next : WaitingMessage) (rest : List WaitingMessage) → TakesOne e before g.number → g.messages ≡ m ∷ next ∷ rest
+    → GroupStands tables devices before g → GroupStands tables devices (e ∷ before) (with_messages g (next ∷ rest))
+fewer tables devices e before m g next rest takes were known = record {
+  question = known.question;
+  asks = All-tail (λ (x : WaitingMessage). question_in x ≡ Some known.question) m (next ∷ rest) (subst (All (λ (x : WaitingMessage). question_in x ≡ Some known.question)) were known.asks);
+  are_accepted = All-weaker (IsAccepted before g.number) (IsAccepted (e ∷ before) g.number) (later e before g.number) (next ∷ rest)
+      (All-tail (IsAccepted before g.number) m (next ∷ rest) (subst (All (IsAccepted before g.number)) were known.are_accepted));
+  wait = takes.wait ∙ ap (λ (ms : List WaitingMessage). drop 1 ms) (known.wait ∙ were);
+  one = ask_later e before g.number known.question (λ at v x is. absurd (takes.none g.number at v x is)) known.one;
+  work = work_later tables devices e before g.number known.question g.work takes.told takes.ask takes.was known.work;
 }
 
-pub sent_keeps : (tables : Tables) (devices : List Device) (before : List Happening) (n : ℕ) (m : WaitingMessage) (by : Answering) (datagram : List ℕ) (g : Waiting) → GroupStands tables devices before g → GroupStands tables devices (sent n m by datagram ∷ before) g
-sent_keeps tables devices before n m by datagram g known = group_later tables devices (sent n m by datagram) before g refl refl known
+all_gone : (tables : Tables) (devices : List Device) (e : Happening) (before : List Happening) (next : ℕ) (gs new : List Waiting) (place : ℕ) (m : WaitingMessage) (g : Waiting) (others : List WaitingMessage) → TakesOne e before g.number
+    → IsAt gs place g → g.messages ≡ m ∷ others → IsLeft gs place g others new → GroupsStand tables devices before next gs → All (GroupStands tables devices (e ∷ before)) new
+all_gone tables devices e before next gs new place m g [] takes at were left stands = subst (All (GroupStands tables devices (e ∷ before))) (sym left)
+    (all_out (GroupStands tables devices before) (GroupStands tables devices (e ∷ before)) gs place g stands.numbered.rise at stands.all
+    (λ x other it. others_later tables devices e before x (λ is. other (is ∙ sym takes.number)) it))
+all_gone tables devices e before next gs new place m g (x ∷ rest) takes at were left stands = subst (All (GroupStands tables devices (e ∷ before))) (sym left)
+    (all_set (GroupStands tables devices before) (GroupStands tables devices (e ∷ before)) gs place g (with_messages g (x ∷ rest)) stands.numbered.rise at stands.all
+    (fewer tables devices e before m g x rest takes were (group_in tables devices before next gs place g at stands))
+    (λ y other it. others_later tables devices e before y (λ is. other (is ∙ sym takes.number)) it))
+
+pub message_gone : (tables : Tables) (devices : List Device) (e : Happening) (before : List Happening) (next : ℕ) (gs new : List Waiting) (place : ℕ) (m : WaitingMessage) → (answer : IsAnswered gs place m new) → TakesOne e before answer.group.number
+    → GroupsStand tables devices before next gs → GroupsStand tables devices (e ∷ before) next new
+message_gone tables devices e before next gs new place m answer takes stands = record {
+  all = all_gone tables devices e before next gs new place m answer.group answer.others takes answer.at answer.messages_are answer.left stands;
+  numbered = numbered_answered next gs new place m answer stands.numbered;
+  past = past_later e before next (subst (λ (n : ℕ). n < next) takes.number (below_next next gs place answer.group answer.at stands.numbered)) stands.past;
+}
+
+sent_takes : (n : ℕ) (m : WaitingMessage) (by : Answering) (w : List ℕ) (before : List Happening) → TakesOne (sent n m by w) before n
+sent_takes n m by w before = record {
+  number = refl;
+  wait = chosen n (drop 1 (waiting_in n before)) (waiting_in n before);
+  told = refl;
+  ask = refl;
+  was = was_before (sent n m by w) before n (λ d id vs v is. let same : sent n m by w ≡ asked n d id vs v = is in cc);
+  none = λ k at v x is. let same : sent n m by w ≡ accepted k at v x = is in cc;
+}
+
+unanswered_takes : (n : ℕ) (m : WaitingMessage) (before : List Happening) → TakesOne (unanswered n m) before n
+unanswered_takes n m before = record {
+  number = refl;
+  wait = chosen n (drop 1 (waiting_in n before)) (waiting_in n before);
+  told = refl;
+  ask = refl;
+  was = was_before (unanswered n m) before n (λ d id vs v is. let same : unanswered n m ≡ asked n d id vs v = is in cc);
+  none = λ k at v x is. let same : unanswered n m ≡ accepted k at v x = is in cc;
+}
 
 -- the same, with what is equal
 pub moved : (tables other_tables : Tables) (devices others : List Device) (before : List Happening) (next after : ℕ) (gs new : List Waiting) → other_tables ≡ tables → others ≡ devices → after ≡ next → new ≡ gs
@@ -340,56 +448,75 @@ pub record IsLeftAfter (old : Gate) (place : ℕ) (m : WaitingMessage) (new : Ga
   pub next : new.requests.next ≡ old.requests.next
   pub answer : IsAnswered (groups_of old.requests.list.items) place m (groups_of new.requests.list.items)
 
-left_stands : (old new : Gate) (before after : List Happening) (place : ℕ) (m : WaitingMessage)
-    → ((g : Waiting) → GroupStands old.agent.tables old.devices.list.items before g → GroupStands old.agent.tables old.devices.list.items after g) → IsLeftAfter old place m new → GateStands before old → GateStands after new
-left_stands old new before after place m keeps left stands =
-    moved old.agent.tables new.agent.tables old.devices.list.items new.devices.list.items after old.requests.next new.requests.next (groups_of new.requests.list.items) (groups_of new.requests.list.items)
+left_stands : (old new : Gate) (e : Happening) (before : List Happening) (place : ℕ) (m : WaitingMessage) (left : IsLeftAfter old place m new) → TakesOne e before left.answer.group.number → RequestsStand before old → RequestsStand (e ∷ before) new
+left_stands old new e before place m left takes stands =
+    moved old.agent.tables new.agent.tables old.devices.list.items new.devices.list.items (e ∷ before) old.requests.next new.requests.next (groups_of new.requests.list.items) (groups_of new.requests.list.items)
     left.tables (ap (λ (d : Devices). d.list.items) left.devices) left.next refl
-    (message_gone old.agent.tables old.devices.list.items before after old.requests.next (groups_of old.requests.list.items) (groups_of new.requests.list.items) place m keeps left.answer stands)
+    (message_gone old.agent.tables old.devices.list.items e before old.requests.next (groups_of old.requests.list.items) (groups_of new.requests.list.items) place m left.answer takes stands)
 
-pub sent_all : (old new : Gate) (before : List Happening) (place seconds : ℕ) (salt : List ℕ) (r : WaitingRequest WaitingMessage Work) (m : WaitingMessage) (client : Vec ℕ) (replied : Reply) (output : Sent) → place < length old.requests.list.items
-    → r ≡ slice_index_or old.requests.list.items place r → IsLeftAfter old place m new → client ≡ m.client
-    → ((q : Question) (said : List Variable) → question_in r.first ≡ Some q → RepliesTo old.agent seconds salt q said r.first.kept r.work replied)
-    → IsSentBy r.number client replied output → GateStands before old → SendHappens old before output new
-sent_all old new before place seconds salt r m client (reply.Sends datagram) output within is left from replies sends stands =
+-- by this happening the first message of the request at the place waits no longer, and that is lawful
+pub record IsEnd (old : Gate) (before : List Happening) (e : Happening) (new : Gate) : Type 0 where
+  pub mediated : IsMediated old.agent old.devices.list.items before e
+  pub in_turn : IsInTurn before e
+  pub requests : RequestsStand (e ∷ before) new
+
+-- what is known of the message that is answered
+record IsFirstAt (old : Gate) (before : List Happening) (r : WaitingRequest WaitingMessage Work) (m : WaitingMessage) (number : ℕ) : Type 0 where
+  pub group : GroupStands old.agent.tables old.devices.list.items before (group_of r)
+  pub first : r.first ≡ m
+  pub number_is : r.number ≡ number
+  pub turn : IsNext before r.number m
+
+first_at : (old new : Gate) (before : List Happening) (place : ℕ) (r : WaitingRequest WaitingMessage Work) (m : WaitingMessage) → place < length old.requests.list.items → r ≡ slice_index_or old.requests.list.items place r
+    → (left : IsLeftAfter old place m new) → RequestsStand before old → IsFirstAt old before r m left.answer.group.number
+first_at old new before place r m within is left stands =
     let rs = old.requests.list.items in
     let at = group_at rs place r within is in
     let group = group_in old.agent.tables old.devices.list.items before old.requests.next (groups_of rs) place (group_of r) at stands in
     let same : group_of r ≡ left.answer.group = at.group_is ∙ get_or_default (groups_of rs) place (group_of r) left.answer.group at.within ∙ sym left.answer.at.group_is in
-    let messages : r.first ∷ r.others.items ≡ m ∷ left.answer.others = ap (λ (x : Waiting). x.messages) same ∙ left.answer.messages_are in
-    let first : r.first ≡ m = one_head r.first m r.others.items left.answer.others messages in
+    let messages : r.first ∷ r.others.items ≡ m ∷ left.answer.others = ap (λ (x : Waiting). x.messages) same ∙ left.answer.messages_are in record {
+      group = group;
+      first = one_head r.first m r.others.items left.answer.others messages;
+      number_is = ap (λ (x : Waiting). x.number) same;
+      turn = (left.answer.others, group.wait ∙ messages);
+    }
+
+pub sent_all : (old new : Gate) (before : List Happening) (place seconds : ℕ) (salt : List ℕ) (r : WaitingRequest WaitingMessage Work) (m : WaitingMessage) (datagram : Vec ℕ) → place < length old.requests.list.items
+    → r ≡ slice_index_or old.requests.list.items place r → IsLeftAfter old place m new
+    → ((q : Question) (said : List Variable) → question_in r.first ≡ Some q → RepliesTo old.agent seconds salt q said r.first.kept r.work (reply.Sends datagram))
+    → RequestsStand before old → IsEnd old before (sent r.number m (record { agent = old.agent; now = seconds; salt = salt }) datagram.items) new
+sent_all old new before place seconds salt r m datagram within is left replies stands =
     let by : Answering = record { agent = old.agent; now = seconds; salt = salt } in
+    let at = first_at old new before place r m within is left stands in
+    let group = at.group in
+    let first = at.first in
     let asks = All-head (λ (x : WaitingMessage). question_in x ≡ Some group.question) r.first r.others.items group.asks in
     let law = answer_law old.agent old.devices.list.items before r.number seconds salt group.question r.first.kept r.work datagram (replies group.question (told_in r.number before) asks) group.work in
-    let accepted_first = All-head (IsAccepted before r.number) r.first r.others.items group.are_accepted in
-    let lawful : IsLawful old.agent old.devices.list.items before (sent r.number m by datagram.items) = (
-      subst (λ (x : WaitingMessage). IsAccepted before r.number x) first accepted_first,
-      (λ q asked.
-          let one = same_some group.question q (sym asks ∙ ap question_in first ∙ asked) in
-          subst (λ (x : WaitingMessage). IsAnswerTo by old.agent.tables q (told_in r.number before) x.kept datagram.items) first
-          (subst (λ (x : Question). IsAnswerTo by old.agent.tables x (told_in r.number before) r.first.kept datagram.items) one law)),
-    ) in
-    let happens : SendHappens old before (out.ToClient r.number client datagram) new = (
-      m,
-      by,
-      from,
-      record {
-        lawful = lawful;
-        stands = left_stands old new before (sent r.number m by datagram.items ∷ before) place m (sent_keeps old.agent.tables old.devices.list.items before r.number m by datagram.items) left stands;
-      },
-    ) in
-    subst (λ (o : Sent). SendHappens old before o new) (sym sends) happens
-sent_all old new before place seconds salt r m client reply.Nothing output within is left from replies sends stands =
-    subst (λ (o : Sent). SendHappens old before o new) (sym sends) (left_stands old new before before place m (λ g known. known) left stands)
-sent_all old new before place seconds salt r m client reply.SilentDrop output within is left from replies sends stands =
-    subst (λ (o : Sent). SendHappens old before o new) (sym sends) (left_stands old new before before place m (λ g known. known) left stands)
-sent_all old new before place seconds salt r m client (reply.Refused why) output within is left from replies sends stands =
-    subst (λ (o : Sent). SendHappens old before o new) (sym sends) (left_stands old new before before place m (λ g known. known) left stands)
+    let accepted_first = All-head (IsAccepted before r.number) r.first r.others.items group.are_accepted in record {
+      mediated = (
+        subst (λ (x : WaitingMessage). IsAccepted before r.number x) first accepted_first,
+        (λ q asked.
+            let one = same_some group.question q (sym asks ∙ ap question_in first ∙ asked) in
+            subst (λ (x : WaitingMessage). IsAnswerTo by old.agent.tables q (told_in r.number before) x.kept datagram.items) first
+            (subst (λ (x : Question). IsAnswerTo by old.agent.tables x (told_in r.number before) r.first.kept datagram.items) one law)),
+      );
+      in_turn = at.turn;
+      requests = left_stands old new (sent r.number m by datagram.items) before place m left (subst (TakesOne (sent r.number m by datagram.items) before) at.number_is (sent_takes r.number m by datagram.items before)) stands;
+    }
 
-pub given_up : (tables : Tables) (e : RequestEnd) → IsGivenUp e → (q : Question) (told : List Variable) → EndingStands tables q told e
-given_up tables ending.Silent is q told = tt
-given_up tables (ending.Unhandled why) is q told = tt
-given_up tables _ is q told = absurd is
+pub unanswered_all : (old new : Gate) (before : List Happening) (place : ℕ) (r : WaitingRequest WaitingMessage Work) (m : WaitingMessage) → place < length old.requests.list.items
+    → r ≡ slice_index_or old.requests.list.items place r → IsLeftAfter old place m new → RequestsStand before old → IsEnd old before (unanswered r.number m) new
+unanswered_all old new before place r m within is left stands =
+    let at = first_at old new before place r m within is left stands in record {
+      mediated = subst (λ (x : WaitingMessage). IsAccepted before r.number x) at.first (All-head (IsAccepted before r.number) r.first r.others.items at.group.are_accepted);
+      in_turn = at.turn;
+      requests = left_stands old new (unanswered r.number m) before place m left (subst (TakesOne (unanswered r.number m) before) at.number_is (unanswered_takes r.number m before)) stands;
+    }
+
+pub given_up_ends : (tables : Tables) (e : RequestEnd) → IsGivenUp e → (q : Question) (told : List Variable) → EndingStands tables q told e
+given_up_ends tables ending.Silent is q told = tt
+given_up_ends tables (ending.Unhandled why) is q told = tt
+given_up_ends tables _ is q told = absurd is
 
 -- tooBig may be told of any request
 pub too_long : (tables : Tables) (q : Question) (told : List Variable) → EndingStands tables q told (ending.Own (record { status = TOO_BIG; index = pos 0 }))

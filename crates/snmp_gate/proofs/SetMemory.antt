@@ -7,7 +7,7 @@ use Rattle.std.proofs.lemmas.List.Elements.{Contains-append_cases, Contains-appe
 use Rattle.std.proofs.lemmas.List.Filters.{length-filter_both}
 use Rattle.std.proofs.lemmas.Bool.Decides.{eqb_tells, leb_tells}
 use Rattle.std.proofs.lemmas.Slice.Eq.{bytes_eq-Decides}
-use Rattle.snmp_gate.specs.Sets.{IsNoted, IsTold, lasting, lasts, new_set, with_outcome}
+use Rattle.snmp_gate.specs.Sets.{IsKept, IsNoted, IsTold, lasting, lasts, new_set, with_outcome}
 use Rattle.snmp_gate.specs.SetRuns.{ComesWithin, IsSetRun, IsWithin, SetStep, forgets, notes, tells, times_new}
 use Rattle.snmp_gate.specs.declared.set_answer.ResponseStatus.{ResponseStatus}
 use Rattle.snmp_gate.specs.declared.sets.RememberedSet.{RememberedSet}
@@ -16,7 +16,7 @@ use Rattle.snmp_gate.specs.declared.sets.SetNote.TheVariants.{New, NoRoom, Repea
 use Rattle.snmp_gate.specs.declared.sets.TheConstants.{REMEMBERED, SETS_LIMIT}
 
 -- what a filter keeps
-contains_filtered : (p : RememberedSet → Bool) (xs : List RememberedSet) (x : RememberedSet) → Contains xs x → p x ≡ true → Contains (filter p xs) x
+pub contains_filtered : (p : RememberedSet → Bool) (xs : List RememberedSet) (x : RememberedSet) → Contains xs x → p x ≡ true → Contains (filter p xs) x
 contains_filtered p [] x there passes = absurd (omega (arith, there.1))
 contains_filtered p (y ∷ ys) x there passes = elim (Contains-append_cases (y ∷ []) ys x there) [
   | inl first ↦ elim (Contains-push_cases [] y x first) [
@@ -31,14 +31,7 @@ contains_filtered p (y ∷ ys) x there passes = elim (Contains-append_cases (y �
       ]
 ]
 
--- a Set of this digest is remembered that didn't come before this moment
-record IsKept (digest : List ℕ) (from : ℕ) (sets : List RememberedSet) : Type 0 where
-  set : RememberedSet
-  there : Contains sets set
-  digest_is : set.digest ≡ digest
-  came : from ≤ set.came
-
-kept_lasts : (digest : List ℕ) (from now : ℕ) (sets : List RememberedSet) → now ≤ from + REMEMBERED → IsKept digest from sets → IsKept digest from (lasting now sets)
+pub kept_lasts : (digest : List ℕ) (from now : ℕ) (sets : List RememberedSet) → now ≤ from + REMEMBERED → IsKept digest from sets → IsKept digest from (lasting now sets)
 kept_lasts digest from now sets soon kept = record {
   set = kept.set;
   there = contains_filtered (lasts now) sets kept.set kept.there (le-leb now (kept.set.came + REMEMBERED) (omega (arith, soon, kept.came)));
@@ -46,7 +39,7 @@ kept_lasts digest from now sets soon kept = record {
   came = kept.came;
 }
 
-kept_told : (digest other : List ℕ) (from : ℕ) (outcome : ResponseStatus) (old new : List RememberedSet) → IsTold other outcome old new → IsKept digest from old → IsKept digest from new
+pub kept_told : (digest other : List ℕ) (from : ℕ) (outcome : ResponseStatus) (old new : List RememberedSet) → IsTold other outcome old new → IsKept digest from old → IsKept digest from new
 kept_told digest other from outcome old new told kept = elim told [
   | inl same ↦ subst (IsKept digest from) (sym same.1) kept
   | inr at_place ↦
@@ -90,7 +83,7 @@ abbrev IsGuarded : List ℕ → ℕ → ℕ → List RememberedSet → Type 0
 IsGuarded digest from since sets = IsKept digest from sets ⊎ (from + REMEMBERED < since)
 
 -- what is remembered after a Set came is what lasts, and perhaps one more
-noted_keeps : (digest other : List ℕ) (from now : ℕ) (old new : List RememberedSet) (note : SetNote) → IsNoted now other old new note → IsKept digest from (lasting now old) → IsKept digest from new
+pub noted_keeps : (digest other : List ℕ) (from now : ℕ) (old new : List RememberedSet) (note : SetNote) → IsNoted now other old new note → IsKept digest from (lasting now old) → IsKept digest from new
 noted_keeps digest other from now old new New noted kept = subst (IsKept digest from) (sym noted.2) (record {
   set = kept.set;
   there = Contains-append_left (lasting now old) (new_set now other ∷ []) kept.set kept.there;

@@ -1,11 +1,11 @@
 -- What happened at a gateway, and what the laws of complete mediation say of it.
 --
--- A history is a list of what happened, the latest first. `told_in`: what devices told for a request. `open_ask`: what
--- a device was asked for it, and didn't answer. `IsLawful`: the laws, of what happens after a history. `IsAccepted`: a
--- message was accepted. `MayAskFor`: the law inwards, what a device may be asked. `IsAnswerOf`: whose answer it is.
--- `IsAnswerTo` has the law outwards. `Mediated`: each part of a history is lawful after the parts before it.
-use Rattle.std.specs.Prelude.{◌≡◌, ◌⊎◌, ◌/◌, ⊤, ℕ, pos, cond, nat_eq, All, Contains, Option, Some, None, map, Ok}
-use Rattle.std.specs.Prelude.{List, [], ◌∷◌, ◌++◌}
+-- A history is a list of what happened, the latest first. `waiting_in`: the messages that wait for their answers.
+-- `told_in`: what devices told for a request. `open_ask`: what a device was asked for it, and didn't answer.
+-- `IsMediated`: the laws, of what happens after a history. `IsAccepted`: a message was accepted. `MayAskFor`: the law
+-- inwards, what a device may be asked. `IsAnswerOf`: whose answer it is. `IsAnswerTo` has the law outwards.
+use Rattle.std.specs.Prelude.{◌≡◌, ◌≢◌, ◌⊎◌, ◌/◌, ℕ, pos, cond, nat_eq, All, Contains, Option, Some, None, map, Ok}
+use Rattle.std.specs.Prelude.{List, [], ◌∷◌, ◌++◌, drop}
 use Rattle.std.specs.Global.{Vec}
 use Rattle.std.specs.List.{HoldsAt}
 use Rattle.snmp_msg.specs.Pdu.{PduParts}
@@ -38,6 +38,32 @@ pub data Happening : Type 0 where
   answered : (number device : ℕ) (answer : PduParts) (datagram : List ℕ) → Happening
   -- a client is sent the answer to a message that asks the request of this number
   sent : (number : ℕ) (message : WaitingMessage) (by : Answering) (datagram : List ℕ) → Happening
+  -- such a message isn't answered
+  unanswered : (number : ℕ) (message : WaitingMessage) → Happening
+  -- the device didn't answer in time: the request of this number is given up
+  given_up : (number device : ℕ) → Happening
+
+-- the request of which it happens
+abbrev pub number_of : Happening → ℕ
+number_of (accepted number now datagram message) = number
+number_of (asked number device id vs datagram) = number
+number_of (answered number device answer datagram) = number
+number_of (sent number message by datagram) = number
+number_of (unanswered number message) = number
+number_of (given_up number device) = number
+
+-- the messages that ask the request of this number and wait for their answers, in the order in which they came
+abbrev pub waiting_in : ℕ → List Happening → List WaitingMessage
+waiting_in n [] = []
+waiting_in n (accepted number now datagram message ∷ before) =
+    cond (nat_eq n number) (waiting_in n before ++ message ∷ []) (waiting_in n before)
+waiting_in n (asked number device id vs datagram ∷ before) = waiting_in n before
+waiting_in n (answered number device answer datagram ∷ before) = waiting_in n before
+waiting_in n (sent number message by datagram ∷ before) =
+    cond (nat_eq n number) (drop 1 (waiting_in n before)) (waiting_in n before)
+waiting_in n (unanswered number message ∷ before) =
+    cond (nat_eq n number) (drop 1 (waiting_in n before)) (waiting_in n before)
+waiting_in n (given_up number device ∷ before) = waiting_in n before
 
 -- what a device is asked
 pub record OpenAsk : Type 0 where
@@ -45,7 +71,7 @@ pub record OpenAsk : Type 0 where
   pub id : ℕ
   pub variables : List Variable
 
--- what it is asked last for the request of this number, unless it answered
+-- what it is asked last for the request of this number, unless it answered or was given up
 abbrev pub open_ask : ℕ → List Happening → Option OpenAsk
 open_ask n [] = None
 open_ask n (accepted number now datagram message ∷ before) = open_ask n before
@@ -53,6 +79,8 @@ open_ask n (asked number device id vs datagram ∷ before) =
     cond (nat_eq n number) (Some (record { device = device; id = id; variables = vs })) (open_ask n before)
 open_ask n (answered number device answer datagram ∷ before) = cond (nat_eq n number) None (open_ask n before)
 open_ask n (sent number message by datagram ∷ before) = open_ask n before
+open_ask n (unanswered number message ∷ before) = open_ask n before
+open_ask n (given_up number device ∷ before) = cond (nat_eq n number) None (open_ask n before)
 
 -- what an answer says of each name that was asked, if it says noSuchName: that there is none after it
 abbrev pub ends_in : Option OpenAsk → PduParts → List Variable
@@ -71,6 +99,8 @@ told_in n (asked number device id vs datagram ∷ before) = told_in n before
 told_in n (answered number device answer datagram ∷ before) =
     cond (nat_eq n number) (said_by (open_ask n before) answer ++ told_in n before) (told_in n before)
 told_in n (sent number message by datagram ∷ before) = told_in n before
+told_in n (unanswered number message ∷ before) = told_in n before
+told_in n (given_up number device ∷ before) = told_in n before
 
 -- ---- the laws
 
@@ -111,30 +141,38 @@ pub data MayAskFor (tables : Tables) (d : Device) (q : Question) (told : List Va
       → IsAsk datagram community.items SetRequest id vs
       → MayAskFor tables d q told id vs datagram
 
--- the answer is that of this device to what it was asked last for the request of this number, which it didn't answer
-pub record IsAnswerOf (before : List Happening) (number device : ℕ) (answer : PduParts) (datagram : List ℕ)
-    : Type 0 where
+-- the community by which a device is asked by a request of this type
+abbrev pub IsCommunityFor : Device → ℕ → List ℕ → Type 0
+IsCommunityFor d tag community = ((tag ≢ pdu_tag SetRequest) × (community ≡ d.community.items))
+    ⊎ ((tag ≡ pdu_tag SetRequest)
+    × ((write : Vec ℕ) × (d.write_community ≡ Some write) × (community ≡ write.items)))
+
+-- the answer is that of this device to what it was asked last for the request of this number, which it didn't answer,
+-- and has the community by which it was asked
+pub record IsAnswerOf (devices : List Device) (before : List Happening) (number device : ℕ) (answer : PduParts)
+    (datagram : List ℕ) : Type 0 where
   pub ask : OpenAsk
   pub is_open : open_ask number before ≡ Some ask
   pub device_is : ask.device ≡ device
   pub id_is : answer.id ≡ pos ask.id
   pub community : List ℕ
   pub is_answer : IsDeviceAnswer datagram community answer
+  pub question : Question
+  pub is_asked : AskedBy before number question
+  pub is_community : HoldsAt (λ (d : Device). IsCommunityFor d question.tag community) devices device
 
--- the agent, the devices, what happened before, and what happens
-abbrev pub IsLawful : AgentState → List Device → List Happening → Happening → Type 0
-IsLawful agent devices before (accepted number now datagram message) =
+-- the law of complete mediation: the agent, the devices, what happened before, and what happens
+abbrev pub IsMediated : AgentState → List Device → List Happening → Happening → Type 0
+IsMediated agent devices before (accepted number now datagram message) =
     Outcome (taker_of agent) agent.users (now / 1000) datagram (Ok message.kept)
-IsLawful agent devices before (asked number device id vs datagram) = (q : Question) × AskedBy before number q
+IsMediated agent devices before (asked number device id vs datagram) = (q : Question) × AskedBy before number q
     × IsDeviceOf devices q.context device
     × HoldsAt (λ (d : Device). MayAskFor agent.tables d q (told_in number before) id vs datagram) devices device
-IsLawful agent devices before (answered number device answer datagram) =
-    IsAnswerOf before number device answer datagram
-IsLawful agent devices before (sent number message by datagram) = IsAccepted before number message
+IsMediated agent devices before (answered number device answer datagram) =
+    IsAnswerOf devices before number device answer datagram
+IsMediated agent devices before (sent number message by datagram) = IsAccepted before number message
     × ((q : Question) → question_in message ≡ Some q
     → IsAnswerTo by agent.tables q (told_in number before) message.kept datagram)
-
--- complete mediation
-abbrev pub Mediated : AgentState → List Device → List Happening → Type 0
-Mediated agent devices [] = ⊤
-Mediated agent devices (now ∷ before) = IsLawful agent devices before now × Mediated agent devices before
+IsMediated agent devices before (unanswered number message) = IsAccepted before number message
+IsMediated agent devices before (given_up number device) = (q : Question) × AskedBy before number q
+    × IsDeviceOf devices q.context device

@@ -17,8 +17,11 @@ pub mod Work
 pub mod Ends
 pub mod Replies
 pub mod History
+pub mod Lawful
 pub mod Taking
 pub mod Waiting
 pub mod Sending
 pub mod Beginning
 pub mod SetBegins
+pub mod Noting
+pub mod Runs

@@ -52,6 +52,11 @@ abbrev pub IsAskedAt : Requests → ℕ → ℕ → Type 0
 IsAskedAt rs place id = HoldsAt (λ (r : WaitingRequest WaitingMessage Work).
     (o : OpenRequest) × (r.work ≡ Open o) × (o.asked ≡ Some id)) rs place
 
+-- its device isn't asked now
+abbrev pub IsUnasked : Work → Type 0
+IsUnasked (Open o) = o.asked ≡ None
+IsUnasked (Ends e) = ⊥
+
 -- by the datagram it may be asked with this request-id
 abbrev pub MayAskOf : Tables → List Device → ℕ → ℕ → Vec ℕ → WaitingRequest WaitingMessage Work → Type 0
 MayAskOf tables devices device id datagram r = (o : OpenRequest) (q : Question) (told : List Variable)

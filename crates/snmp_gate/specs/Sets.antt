@@ -1,8 +1,8 @@
 -- Sets that are remembered, so that no datagram of a Set is asked of its device twice.
 --
--- `lasting`: the Sets that are remembered at a moment. `IsNoted`: what a Set is that comes, and what is remembered
--- then. `IsTold`: what its Response says is remembered. A Set is known by the digest of its datagram. Moments are
--- milliseconds.
+-- `lasting`: the Sets that are remembered at a moment. `KeepsSets`: what is remembered, but for what came too long ago.
+-- `IsNoted`: what a Set is that comes, and what is remembered then. `IsTold`: what its Response says is remembered.
+-- `IsKept`: a Set is remembered. A Set is known by the digest of its datagram. Moments are milliseconds.
 use Rattle.std.specs.Prelude.{◌≡◌, ◌≢◌, ◌⊎◌, ℕ, ◌+◌, ◌<◌, ◌≤◌, nat_le, Bool, List, [], ◌∷◌, ◌++◌, length, Contains}
 use Rattle.std.specs.Prelude.{Some, None, filter, slice_index_or, slice_set}
 use Rattle.std.specs.List.{HoldsAt}
@@ -18,6 +18,10 @@ lasts now set = nat_le now (set.came + REMEMBERED)
 
 abbrev pub lasting : ℕ → List RememberedSet → List RememberedSet
 lasting now sets = filter (lasts now) sets
+
+-- those that came over 301 seconds ago are forgotten, or aren't yet, and nothing else changes
+abbrev pub KeepsSets : ℕ → List RememberedSet → List RememberedSet → Type 0
+KeepsSets now old new = (new ≡ old) ⊎ (new ≡ lasting now old)
 
 -- one of the Sets, whose datagram has this digest
 pub record HasDigest (digest : List ℕ) (sets : List RememberedSet) (set : RememberedSet) : Type 0 where
@@ -70,3 +74,10 @@ pub record TellsAt (outcome : ResponseStatus) (old new : List RememberedSet) (pl
 abbrev pub IsTold : List ℕ → ResponseStatus → List RememberedSet → List RememberedSet → Type 0
 IsTold digest outcome old new = (IsUnknown digest old × (new ≡ old))
     ⊎ ((place : ℕ) × IsPlace digest old place × TellsAt outcome old new place)
+
+-- a Set of this digest is remembered that didn't come before this moment
+pub record IsKept (digest : List ℕ) (from : ℕ) (sets : List RememberedSet) : Type 0 where
+  pub set : RememberedSet
+  pub there : Contains sets set
+  pub digest_is : set.digest ≡ digest
+  pub came : from ≤ set.came

@@ -2,18 +2,28 @@
 --
 -- `OpenStands`: a request whose device is asked, or is to be asked. `GroupStands`: a request with its messages.
 -- `GateStands`: all of a gateway. `ClientHappens`, `DeviceHappens`, `SendHappens`: what happens by a call, and that it
--- is lawful after what happened before. `SameWaiting`: the same requests wait.
-use Rattle.std.specs.Prelude.{◌≡◌, ◌<◌, ℕ, List, ◌∷◌, All, AllPairs, Some}
+-- is lawful after what happened before. `SameButSets`, `IsAsBefore`: what stays the same.
+use Rattle.std.specs.Prelude.{◌≡◌, ◌≢◌, ◌⊎◌, ◌+◌, ◌/◌, ◌<◌, ◌≤◌, ℕ, List, [], ◌∷◌, All, AllPairs, Contains, Some}
+use Rattle.std.specs.Prelude.{None, Option, map, slice_index_or, slice_set}
+use Rattle.sha2.specs.Sha256.{sha256}
 use Rattle.snmp_msg.specs.Pdu.{PduParts}
 use Rattle.snmp_msg.specs.Variables.{Variable}
 use Rattle.vacm_core.specs.Tables.{Tables}
+use Rattle.snmp_gate.specs.AskRuns.{HaveOwnIds}
+use Rattle.snmp_gate.specs.Asks.{Ends, Waits, ask_of}
 use Rattle.snmp_gate.specs.Devices.{IsDeviceOf}
 use Rattle.snmp_gate.specs.Groups.{Group, groups_of}
-use Rattle.snmp_gate.specs.History.{Happening, IsAccepted, IsLawful, accepted, answered, asked, open_ask, sent, told_in}
+use Rattle.snmp_gate.specs.History.{Happening, IsAccepted, OpenAsk, accepted, answered, asked, given_up, number_of}
+use Rattle.snmp_gate.specs.History.{open_ask, sent, told_in, unanswered, waiting_in}
+use Rattle.snmp_gate.specs.Lawful.{IsLawful, IsSetRequest, ShareNoDatagram, WasAsked}
 use Rattle.snmp_gate.specs.Messages.{question_in}
+use Rattle.snmp_gate.specs.Noting.{AsksSet}
 use Rattle.snmp_gate.specs.Question.{Question}
 use Rattle.snmp_gate.specs.Replies.{Answering, SameAgent}
+use Rattle.snmp_gate.specs.Sets.{IsKept, KeepsSets}
 use Rattle.snmp_gate.specs.Work.{EndingStands, TaskStands, variables_of_task}
+use Rattle.snmp_gate.specs.declared.asks.DeviceAsk.{DeviceAsk}
+use Rattle.snmp_gate.specs.declared.asks.DeviceAsks.{DeviceAsks}
 use Rattle.snmp_gate.specs.declared.devices.Device.{Device}
 use Rattle.snmp_gate.specs.declared.gate.ClientTaken.{ClientTaken}
 use Rattle.snmp_gate.specs.declared.gate.ClientTaken.TheVariants as client
@@ -22,10 +32,14 @@ use Rattle.snmp_gate.specs.declared.gate.DeviceTaken.TheVariants as device
 use Rattle.snmp_gate.specs.declared.gate.Gate.{Gate}
 use Rattle.snmp_gate.specs.declared.gate.Sent.{Sent}
 use Rattle.snmp_gate.specs.declared.gate.Sent.TheVariants as out
+use Rattle.snmp_gate.specs.declared.sets.RememberedSet.{RememberedSet}
+use Rattle.snmp_gate.specs.declared.sets.TheConstants.{REMEMBERED}
+use Rattle.snmp_gate.specs.declared.task.Task.TheVariants.{Set}
 use Rattle.snmp_gate.specs.declared.waiting_message.WaitingMessage.{WaitingMessage}
 use Rattle.snmp_gate.specs.declared.work.OpenRequest.{OpenRequest}
 use Rattle.snmp_gate.specs.declared.work.Work.{Work}
-use Rattle.snmp_gate.specs.declared.work.Work.TheVariants.{Open, Ends}
+use Rattle.snmp_gate.specs.declared.work.Work.TheVariants as work
+use Rattle.snmp_gate.specs.declared.work.Work.TheVariants.{Open}
 
 -- the device is that of the context, its answers are those of this request, and it is asked what the task asks
 pub record OpenStands (tables : Tables) (devices : List Device) (before : List Happening) (n : ℕ) (q : Question)
@@ -34,17 +48,26 @@ pub record OpenStands (tables : Tables) (devices : List Device) (before : List H
   pub device : IsDeviceOf devices q.context o.device
   pub asked : (id : ℕ) → o.asked ≡ Some id → open_ask n before
       ≡ Some (record { device = o.device; id = id; variables = variables_of_task q o.task.task })
+  -- a Set that isn't asked now never was
+  pub set_once : o.task.task ≡ Set → o.asked ≡ None → ¬ WasAsked before n
 
 abbrev pub WorkStands : Tables → List Device → List Happening → ℕ → Question → Work → Type 0
 WorkStands tables devices before n q (Open o) = OpenStands tables devices before n q o
-WorkStands tables devices before n q (Ends e) = EndingStands tables q (told_in n before) e
+WorkStands tables devices before n q (work.Ends e) = EndingStands tables q (told_in n before) e
 
--- its messages were accepted, and ask one thing
+-- each message that was accepted for the request of this number asks this
+abbrev pub AllAsk : List Happening → ℕ → Question → Type 0
+AllAsk before n q = (now : ℕ) (datagram : List ℕ) (m : WaitingMessage)
+    → Contains before (accepted n now datagram m) → question_in m ≡ Some q
+
+-- its messages were accepted, wait in this order, and ask one thing
 pub record GroupStands (tables : Tables) (devices : List Device) (before : List Happening)
     (g : Group WaitingMessage Work) : Type 0 where
   pub question : Question
   pub asks : All (λ (m : WaitingMessage). question_in m ≡ Some question) g.messages
   pub are_accepted : All (IsAccepted before g.number) g.messages
+  pub wait : waiting_in g.number before ≡ g.messages
+  pub one : AllAsk before g.number question
   pub work : WorkStands tables devices before g.number question g.work
 
 -- the requests' numbers rise, and are less than the next one
@@ -56,41 +79,131 @@ pub record GroupsStand (tables : Tables) (devices : List Device) (before : List 
     (groups : List (Group WaitingMessage Work)) : Type 0 where
   pub all : All (GroupStands tables devices before) groups
   pub numbered : AreNumbered next groups
+  -- of no later request anything happened
+  pub past : All (λ (e : Happening). number_of e < next) before
 
-abbrev pub GateStands : List Happening → Gate → Type 0
-GateStands before g = GroupsStand g.agent.tables g.devices.list.items before g.requests.next
+abbrev pub RequestsStand : List Happening → Gate → Type 0
+RequestsStand before g = GroupsStand g.agent.tables g.devices.list.items before g.requests.next
     (groups_of g.requests.list.items)
 
--- the same requests wait for the same devices
-pub record SameWaiting (old new : Gate) : Type 0 where
-  pub agent : SameAgent old.agent new.agent
+-- what the devices are asked
+abbrev pub asks_in : List DeviceAsks → List (List DeviceAsk)
+asks_in asks = map (λ (a : DeviceAsks). a.asks.items) asks
+
+-- what the devices are asked: each ask that waits has its request-id among those of its device
+pub record AsksStand (before : List Happening) (asks : List (List DeviceAsk)) : Type 0 where
+  pub own : All HaveOwnIds asks
+  pub there : (n : ℕ) (ask : OpenAsk) → open_ask n before ≡ Some ask
+      → Contains (slice_index_or asks ask.device []) (ask_of ask.id n)
+
+-- a Set by the request of this number was asked, or is to be asked
+abbrev pub GoesOut : List Happening → List (Group WaitingMessage Work) → ℕ → Type 0
+GoesOut before groups n = (WasAsked before n × IsSetRequest before n)
+    ⊎ ((g : Group WaitingMessage Work) × Contains groups g × (g.number ≡ n) × AsksSet g.work)
+
+-- the Sets: at this moment each datagram is remembered that came in the last 301 seconds for a Set that goes out, and
+-- no two such Sets have come by one
+pub record SetsStand (now : ℕ) (before : List Happening) (groups : List (Group WaitingMessage Work))
+    (sets : List RememberedSet) : Type 0 where
+  pub past : (n at : ℕ) (datagram : List ℕ) (m : WaitingMessage) → Contains before (accepted n at datagram m)
+      → at ≤ now
+  pub known : (n at : ℕ) (datagram : List ℕ) (m : WaitingMessage) → Contains before (accepted n at datagram m)
+      → GoesOut before groups n → now ≤ at + REMEMBERED → IsKept (sha256 datagram) at sets
+  pub apart : (a b : ℕ) → a ≢ b → GoesOut before groups a → GoesOut before groups b → ShareNoDatagram before a b
+
+-- all that is known of a gateway at a moment: the last one at which it took or sent something
+pub record GateStands (now : ℕ) (before : List Happening) (g : Gate) : Type 0 where
+  pub requests : RequestsStand before g
+  pub asks : AsksStand before (asks_in g.asks.items)
+  pub sets : SetsStand now before (groups_of g.requests.list.items) g.sets.sets.items
+
+-- all is the same but the Sets that are remembered
+pub record SameButSets (old new : Gate) : Type 0 where
+  pub agent : new.agent ≡ old.agent
   pub devices : new.devices ≡ old.devices
-  pub groups : groups_of new.requests.list.items ≡ groups_of old.requests.list.items
+  pub limits : new.limits ≡ old.limits
+  pub asks : new.asks ≡ old.asks
+  pub requests : new.requests ≡ old.requests
+
+-- all is the same but what the devices are asked
+pub record SameButAsks (old new : Gate) : Type 0 where
+  pub agent : new.agent ≡ old.agent
+  pub devices : new.devices ≡ old.devices
+  pub limits : new.limits ≡ old.limits
+  pub sets : new.sets ≡ old.sets
+  pub requests : new.requests ≡ old.requests
+
+-- what the device is asked with a request-id waits no longer, if it is asked
+pub data EndsAsk (device : ℕ) (asked : Option ℕ) (old new : List (List DeviceAsk)) : Type 0 where
+  none : asked ≡ None → new ≡ old → EndsAsk device asked old new
+  idle : (id : ℕ) → asked ≡ Some id → ¬ Waits (slice_index_or old device []) id → new ≡ old
+      → EndsAsk device asked old new
+  ends : (id request : ℕ) (left : List DeviceAsk) → asked ≡ Some id
+      → Ends (slice_index_or old device []) (ask_of id request) left → new ≡ slice_set old device left
+      → EndsAsk device asked old new
+
+-- the numbers of the requests, and the messages that ask them
+abbrev pub messages_in : List (Group WaitingMessage Work) → List (ℕ × List WaitingMessage)
+messages_in groups = map (λ (g : Group WaitingMessage Work). (g.number, g.messages)) groups
+
+-- all is as before, but that Sets which came over 301 seconds ago may be forgotten
+pub record IsAsBefore (now : ℕ) (old new : Gate) : Type 0 where
+  pub agent : new.agent ≡ old.agent
+  pub devices : new.devices ≡ old.devices
+  pub limits : new.limits ≡ old.limits
+  pub asks : asks_in new.asks.items ≡ asks_in old.asks.items
+  pub messages : messages_in (groups_of new.requests.list.items) ≡ messages_in (groups_of old.requests.list.items)
   pub next : new.requests.next ≡ old.requests.next
+  pub sets : KeepsSets now old.sets.sets.items new.sets.sets.items
+  pub stands : (since : ℕ) (before : List Happening) → since ≤ now → GateStands since before old
+      → GateStands now before new
 
 -- what happens is lawful, and the gateway stands after it
-pub record Happens (old : Gate) (before : List Happening) (happening : Happening) (new : Gate) : Type 0 where
+pub record Happens (old : Gate) (now : ℕ) (before : List Happening) (happening : Happening) (new : Gate) : Type 0 where
   pub lawful : IsLawful old.agent old.devices.list.items before happening
-  pub stands : GateStands (happening ∷ before) new
+  pub stands : GateStands now (happening ∷ before) new
 
 -- a message of this client is accepted
-abbrev pub Accepts : Gate → List Happening → ℕ → List ℕ → List ℕ → ℕ → Gate → Type 0
-Accepts old before now client datagram n new = (m : WaitingMessage) × (m.client.items ≡ client)
-    × Happens old before (accepted n now datagram m) new
+abbrev pub Accepts : Gate → ℕ → List Happening → List ℕ → List ℕ → ℕ → Gate → Type 0
+Accepts old now before client datagram n new = (m : WaitingMessage) × (m.client.items ≡ client)
+    × Happens old now before (accepted n now datagram m) new
 
-abbrev pub ClientHappens : Gate → List Happening → ℕ → List ℕ → List ℕ → ClientTaken → Gate → Type 0
-ClientHappens old before now from datagram (client.Begins n) new = Accepts old before now from datagram n new
-ClientHappens old before now from datagram (client.Joins n) new = Accepts old before now from datagram n new
-ClientHappens old before now from datagram _ new = GateStands before new
+abbrev pub ClientHappens : Gate → ℕ → List Happening → List ℕ → List ℕ → ClientTaken → Gate → Type 0
+ClientHappens old now before from datagram (client.Begins n) new = Accepts old now before from datagram n new
+ClientHappens old now before from datagram (client.Joins n) new = Accepts old now before from datagram n new
+ClientHappens old now before from datagram _ new = GateStands now before new
 
-abbrev pub DeviceHappens : Gate → List Happening → ℕ → List ℕ → DeviceTaken → Gate → Type 0
-DeviceHappens old before number datagram (device.Answers n) new =
-    (p : PduParts) × Happens old before (answered n number p datagram) new
-DeviceHappens old before number datagram _ new = GateStands before new
+abbrev pub DeviceHappens : Gate → ℕ → List Happening → ℕ → List ℕ → DeviceTaken → Gate → Type 0
+DeviceHappens old now before number datagram (device.Answers n) new =
+    (p : PduParts) × Happens old now before (answered n number p datagram) new
+DeviceHappens old now before number datagram _ new = GateStands now before new
 
-abbrev pub SendHappens : Gate → List Happening → Sent → Gate → Type 0
-SendHappens old before (out.ToClient number to datagram) new = (m : WaitingMessage) × (by : Answering)
-    × (to ≡ m.client) × Happens old before (sent number m by datagram.items) new
-SendHappens old before (out.ToDevice number to datagram) new = (id : ℕ) × (vs : List Variable)
-    × Happens old before (asked number to id vs datagram.items) new
-SendHappens old before _ new = GateStands before new
+-- the agent that answers at this moment, in milliseconds, with this salt
+abbrev pub answering_at : Gate → ℕ → List ℕ → Answering
+answering_at old now salt = record { agent = old.agent; now = now / 1000; salt = salt }
+
+abbrev pub SendHappens : Gate → ℕ → List Happening → List ℕ → Sent → Gate → Type 0
+SendHappens old now before salt (out.ToClient number to datagram) new = (m : WaitingMessage) × (to ≡ m.client)
+    × Happens old now before (sent number m (answering_at old now salt) datagram.items) new
+SendHappens old now before salt (out.ToDevice number to datagram) new = (id : ℕ) × (vs : List Variable)
+    × Happens old now before (asked number to id vs datagram.items) new
+SendHappens old now before salt (out.Unanswered number why) new = (m : WaitingMessage)
+    × Happens old now before (unanswered number m) new
+SendHappens old now before salt (out.GivenUp number to) new = Happens old now before (given_up number to) new
+SendHappens old now before salt out.Nothing new = GateStands now before new
+
+-- a device is asked nothing
+abbrev pub AsksNothing : DeviceAsks → Type 0
+AsksNothing asks = asks.asks.items ≡ []
+
+-- how much a device may be asked at once
+abbrev pub at_once_of : Device → ℕ
+at_once_of d = d.at_once
+
+abbrev pub at_once_in : DeviceAsks → ℕ
+at_once_in asks = asks.at_once
+
+-- the same engine, boots, users, tables and devices
+pub record Stays (old new : Gate) : Type 0 where
+  pub agent : SameAgent old.agent new.agent
+  pub devices : new.devices ≡ old.devices

@@ -3,7 +3,7 @@
 -- `told`: a list with all that the device's answers for the request say. `SaysAll`: it has all that one of them says.
 -- `TaskStands`: what a device is asked for a request, and what is known of it. `EndingStands`: how it ends.
 -- `OnwardStands`: how it goes on.
-use Rattle.std.specs.Prelude.{◌≡◌, ⊤, ℕ, ℤ, Bool, List, [], All, Contains, true}
+use Rattle.std.specs.Prelude.{◌≡◌, ◌≢◌, ⊤, ℕ, ℤ, Bool, List, [], All, Contains, true}
 use Rattle.std.specs.Ordering.{int_eq}
 use Rattle.snmp_msg.specs.PduTypes.{pdu_tag}
 use Rattle.snmp_msg.specs.Variables.{Variable, variables_of}
@@ -93,3 +93,8 @@ EndingStands tables q told ending.Silent = ⊤
 abbrev pub OnwardStands : Tables → Question → List Variable → Onward → Type 0
 OnwardStands tables q told (Asks named) = TaskStands tables q told named.task
 OnwardStands tables q told (Ends e) = EndingStands tables q told e
+
+-- its device isn't asked a Set
+abbrev pub AsksNoSet : Onward → Type 0
+AsksNoSet (Asks named) = named.task ≢ task.Set
+AsksNoSet (Ends e) = ⊤

@@ -1,7 +1,7 @@
 //! The gateway: what comes in, and what goes out.
 
-ghost use Rattle.std.specs.Prelude.{◌≡◌, [], length, IfOk};
-ghost use Rattle.snmp_gate.specs.Waiting.{GateStands};
+ghost use Rattle.std.specs.Prelude.{◌≡◌, [], All, length, map, IfOk};
+ghost use Rattle.snmp_gate.specs.Waiting.{AsksNothing, GateStands, at_once_in, at_once_of};
 
 use crate::asks::DeviceAsks;
 use crate::devices::{Device, Devices};
@@ -78,7 +78,10 @@ pub enum Sent {
 }
 
 /// Returns that these devices are asked nothing.
-fn asks_of(alloc: Global, devices: &[Device]) -> Result<Vec<DeviceAsks>, AllocError> {
+fn asks_of(alloc: Global, devices: &[Device]) -> Result<Vec<DeviceAsks>, AllocError>
+    ensures none { IfOk result (λ asks. All AsksNothing asks.items) }
+    ensures at_once { IfOk result (λ asks. map at_once_of devices.now ≡ map at_once_in asks.items) }
+{
     let mut asks = Vec::new(alloc);
     for device in devices {
         asks.push(DeviceAsks::new(alloc, device.at_once))?;
@@ -108,10 +111,14 @@ impl Gate {
         devices: Devices,
         limits: GateLimits,
     ) -> Result<Gate, AllocError>
-        ensures stands { IfOk result (GateStands []) }
+        ensures stands { IfOk result (GateStands 0 []) }
         ensures agent { IfOk result (λ gate. gate.agent ≡ agent) }
         ensures devices { IfOk result (λ gate. gate.devices ≡ devices) }
+        ensures limits { IfOk result (λ gate. gate.limits ≡ limits) }
         ensures none { IfOk result (λ gate. gate.requests.list.items ≡ []) }
+        ensures waiting { IfOk result (λ gate. gate.requests.most ≡ limits.waiting) }
+        ensures joined { IfOk result (λ gate. gate.requests.most_messages ≡ limits.joined) }
+        ensures at_once { IfOk result (λ gate. map at_once_of devices.list.items ≡ map at_once_in gate.asks.items) }
     {
         let asks = asks_of(alloc, devices.list())?;
         Ok(Gate {

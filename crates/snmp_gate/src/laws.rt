@@ -1,13 +1,21 @@
 //! Laws of the gateway's pieces, over any run of steps. Each function does nothing: its contract is the law.
 
 ghost use Rattle.std.specs.Prelude.{◌≡◌, ◌⊎◌, ℕ, ◌+◌, ◌*◌, ◌^◌, ◌<◌, ◌≤◌, max, List, [], length, All, Bool, count_by};
+ghost use Rattle.std.specs.Prelude.{◌++◌};
+ghost use Rattle.snmp_agent.specs.Agent.{AgentState};
 ghost use Rattle.snmp_gate.specs.AskRuns.{AskStep, HaveOwnIds, IsAskRun, times_asked, times_ended, times_waiting};
 ghost use Rattle.snmp_gate.specs.declared.asks.DeviceAsk.{DeviceAsk};
 ghost use Rattle.snmp_gate.specs.Groups.{Group};
 ghost use Rattle.snmp_gate.specs.GroupRuns.{AskOwn, AsksOneThing, GroupStep, HaveOwnNumbers, IsFew, IsGroupRun};
 ghost use Rattle.snmp_gate.specs.GroupRuns.{answered_by, taken_by, times_held};
+ghost use Rattle.snmp_gate.specs.History.{Happening, waiting_in};
+ghost use Rattle.snmp_gate.specs.Lawful.{AreLawful};
+ghost use Rattle.snmp_gate.specs.Runs.{Event, IsHistoryOf, IsRun, accepted_for, ended_for};
 ghost use Rattle.snmp_gate.specs.Time.{AreAsks, IsDue, IsTimed, TimerStep};
 ghost use Rattle.snmp_gate.specs.SetRuns.{AreAsTold, ComesWithin, IsSetRun, SetStep, times_new};
+ghost use Rattle.snmp_gate.specs.Waiting.{GateStands};
+ghost use Rattle.snmp_gate.specs.declared.devices.Device.{Device};
+ghost use Rattle.snmp_gate.specs.declared.gate.Gate.{Gate};
 ghost use Rattle.snmp_gate.specs.declared.retries.Retries.{Retries};
 ghost use Rattle.snmp_gate.specs.declared.sets.RememberedSet.{RememberedSet};
 ghost use Rattle.snmp_gate.specs.declared.sets.TheConstants.{SETS_LIMIT};
@@ -82,4 +90,23 @@ pub fn a_request_is_one_question<M: Drop, W: Drop, Q: Drop>()
     ensures own { (question : M → Q) (most most_messages : ℕ) (steps : List (GroupStep M W))
         (last : List (Group M W)) → IsGroupRun question most most_messages 0 [] steps last
         → AskOwn question last }
+{}
+
+/// Whatever comes to a new gateway, from clients and from devices, and as long as its moments don't go back: what it
+/// sends has a history that is lawful. So nothing reaches a device but what an accepted message asks and
+/// its sender may see, or set; nothing comes back that he may not see; and a Set goes out once. A call that found no
+/// memory is no part of the history.
+///
+/// The events are calls of `take_client`, `take_device` and `next` with their answers, the latest first.
+pub fn a_gateway_mediates()
+    ensures { (first last : Gate) (events : List Event) → GateStands 0 [] first → IsRun first events last
+        → (history : List Happening) × IsHistoryOf first events history }
+{}
+
+/// In a lawful history of a gateway the messages of each request end in the order in which they came: those that were
+/// answered, or weren't and won't be, and then those that wait, are those that were accepted. So each
+/// message is answered once at most.
+pub fn messages_end_in_turn()
+    ensures { (agent : AgentState) (devices : List Device) (n : ℕ) (history : List Happening)
+        → AreLawful agent devices history → ended_for n history ++ waiting_in n history ≡ accepted_for n history }
 {}

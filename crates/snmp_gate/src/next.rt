@@ -1,13 +1,17 @@
 //! What goes out.
 
-ghost use Rattle.std.specs.Prelude.{◌≡◌, ◌<◌, ℕ, List, Some, length, IfOk, IfSome};
+ghost use Rattle.std.specs.Prelude.{◌≡◌, ◌↔◌, ◌<◌, ◌≤◌, ℕ, List, Some, length, IfOk, IfSome, IsTrue, None, OnErr};
 ghost use Rattle.snmp_msg.specs.Variables.{Variable};
 ghost use Rattle.snmp_gate.specs.Question.{Question};
 ghost use Rattle.snmp_gate.specs.Messages.{question_in};
 ghost use Rattle.snmp_gate.specs.History.{Happening};
 ghost use Rattle.snmp_gate.specs.Replies.{SameAgent};
-ghost use Rattle.snmp_gate.specs.Sending.{IsAskedAt, IsGivenUp, IsOpenAt, IsSentBy, MayAskAt, RepliesTo, SetsAsked};
-ghost use Rattle.snmp_gate.specs.Waiting.{GateStands, SendHappens};
+ghost use Rattle.snmp_gate.specs.Sending.{IsAskedAt, IsGivenUp, IsOpenAt, IsSentBy, IsUnasked, MayAskAt, RepliesTo};
+ghost use Rattle.snmp_gate.specs.Sending.{SetsAsked};
+ghost use Rattle.std.specs.List.{HoldsAt};
+ghost use Rattle.snmp_gate.specs.Noting.{AsksSet, IsToldOf};
+ghost use Rattle.snmp_gate.specs.Waiting.{EndsAsk, GateStands, IsAsBefore, SameButAsks, SameButSets, SendHappens};
+ghost use Rattle.snmp_gate.specs.Waiting.{Stays, asks_in};
 
 use crate::ask::ask_of;
 use crate::asks::{DeviceAsks, REQUEST_IDS};
@@ -33,7 +37,9 @@ fn retries_of(task: &Task, limits: &GateLimits) -> Retries {
 }
 
 /// Returns what is to be done now for a request whose device is to be asked, or to answer.
-fn todo_open(open: &OpenRequest, is_full: bool, limits: &GateLimits, now: u64) -> Todo {
+fn todo_open(open: &OpenRequest, is_full: bool, limits: &GateLimits, now: u64) -> Todo
+    ensures { result ≡ Todo.Ask → open.now.asked ≡ None }
+{
     let retries = retries_of(&open.task.task, limits);
     match open.timer.due(&retries, now) {
         Due::GiveUp => Todo::GiveUp,
@@ -78,6 +84,7 @@ fn reply_now(
         → question_in request.now.first ≡ Some q
         → RepliesTo agent.old seconds salt q said request.now.first.kept request.now.work reply)) }
     ensures same { SameAgent agent.old agent.new }
+    ensures err { OnErr result (agent.new ≡ agent.old) }
 {
     let Work::Ends(ending) = &request.work else {
         return Ok(None);
@@ -108,7 +115,9 @@ const TOO_LONG: RequestEnd = RequestEnd::Own(ResponseStatus {
 });
 
 /// Returns true if a Set's device is asked.
-fn is_set_at(work: &Work) -> bool {
+fn is_set_at(work: &Work) -> bool
+    ensures { IsTrue result ↔ AsksSet work.now }
+{
     match work {
         Work::Open(waiting) => matches!(waiting.task.task, Task::Set),
         Work::Ends(_) => false,
@@ -159,8 +168,10 @@ impl Gate {
     ///
     /// The error is out of memory. Then all is as before, and the call may be made again.
     pub fn next(&mut self, now: u64, salt: [u8; 8], ask_id: u32) -> Result<Sent, AllocError>
-        ensures { IfOk result (λ sent. (before : List Happening) → GateStands before self.old
-            → SendHappens self.old before sent self.new) }
+        ensures happens { IfOk result (λ sent. (since : ℕ) (before : List Happening) → since ≤ now
+            → GateStands since before self.old → SendHappens self.old now before salt sent self.new) }
+        ensures stays { Stays self.old self.new }
+        ensures err { OnErr result (IsAsBefore now self.old self.new) }
     {
         let Some((place, todo)) = self.first_due(now) else {
             return Ok(Sent::Nothing);
@@ -193,7 +204,9 @@ impl Gate {
 
     /// Returns the place of the first request for which something is to be done now, and what.
     fn first_due(&self, now: u64) -> Option<(usize, Todo)>
-        ensures { IfSome result (λ due. due.0 < length self.now.requests.list.items) }
+        ensures within { IfSome result (λ due. due.0 < length self.now.requests.list.items) }
+        ensures asks { IfSome result (λ due. due.1 ≡ Todo.Ask
+            → HoldsAt (λ r. IsUnasked r.work) self.now.requests.list.items due.0) }
     {
         for (place, request) in self.requests.requests().iter().enumerate() {
             let todo = match &request.work {
@@ -213,8 +226,10 @@ impl Gate {
     /// Answers the first message of the request at this place.
     fn answer_at(&mut self, place: usize, now: u64, salt: [u8; 8]) -> Result<Sent, AllocError>
         requires { place < length self.old.requests.list.items }
-        ensures { IfOk result (λ sent. (before : List Happening) → GateStands before self.old
-            → SendHappens self.old before sent self.new) }
+        ensures happens { IfOk result (λ sent. (since : ℕ) (before : List Happening) → since ≤ now
+            → GateStands since before self.old → SendHappens self.old now before salt sent self.new) }
+        ensures stays { Stays self.old self.new }
+        ensures err { OnErr result (IsAsBefore now self.old self.new) }
     {
         let request = &self.requests.list[place];
         let number = request.number;
@@ -238,9 +253,8 @@ impl Gate {
 
     /// Remembers what the Response to a Set says.
     fn tell_set(&mut self, message: &WaitingMessage, said: Option<ResponseStatus>)
-        ensures agent { self.new.agent ≡ self.old.agent }
-        ensures devices { self.new.devices ≡ self.old.devices }
-        ensures requests { self.new.requests ≡ self.old.requests }
+        ensures same { SameButSets self.old self.new }
+        ensures told { IsToldOf message.now said self.old.sets.sets.items self.new.sets.sets.items }
     {
         if let Some(digest) = &message.digest {
             if let Some(says) = said {
@@ -310,8 +324,11 @@ impl Gate {
     fn ask_at(&mut self, place: usize, now: u64, ask_id: u32) -> Result<Sent, AllocError>
         requires place { place < length self.old.requests.list.items }
         requires id { ask_id < REQUEST_IDS }
-        ensures { IfOk result (λ sent. (before : List Happening) → GateStands before self.old
-            → SendHappens self.old before sent self.new) }
+        requires unasked { HoldsAt (λ r. IsUnasked r.work) self.old.requests.list.items place }
+        ensures happens { IfOk result (λ sent. (since : ℕ) (before : List Happening) (salt : List ℕ) → since ≤ now
+            → GateStands since before self.old → SendHappens self.old now before salt sent self.new) }
+        ensures stays { Stays self.old self.new }
+        ensures err { OnErr result (IsAsBefore now self.old self.new) }
     {
         let Some((device, number)) = self.device_at(place) else {
             return Ok(Sent::Nothing);
@@ -333,12 +350,17 @@ impl Gate {
         })
     }
 
-    /// Asks the device the same again for the request at this place.
+    /// Asks the device the same again for the request at this place. A Set is never asked again.
     fn ask_again_at(&mut self, place: usize, now: u64) -> Result<Sent, AllocError>
         requires { place < length self.old.requests.list.items }
-        ensures { IfOk result (λ sent. (before : List Happening) → GateStands before self.old
-            → SendHappens self.old before sent self.new) }
+        ensures happens { IfOk result (λ sent. (since : ℕ) (before : List Happening) (salt : List ℕ) → since ≤ now
+            → GateStands since before self.old → SendHappens self.old now before salt sent self.new) }
+        ensures stays { Stays self.old self.new }
+        ensures err { OnErr result (IsAsBefore now self.old self.new) }
     {
+        if is_set_at(&self.requests.list[place].work) {
+            return Ok(self.give_up_at(place));
+        }
         let Some((device, number)) = self.device_at(place) else {
             return Ok(Sent::Nothing);
         };
@@ -371,7 +393,9 @@ impl Gate {
     /// Gives up the request at this place.
     fn give_up_at(&mut self, place: usize) -> Sent
         requires { place < length self.old.requests.list.items }
-        ensures { (before : List Happening) → GateStands before self.old → SendHappens self.old before result self.new }
+        ensures happens { (since now : ℕ) (before : List Happening) (salt : List ℕ) → since ≤ now
+            → GateStands since before self.old → SendHappens self.old now before salt result self.new }
+        ensures stays { Stays self.old self.new }
     {
         let Some((device, number)) = self.device_at(place) else {
             return Sent::Nothing;
@@ -385,9 +409,8 @@ impl Gate {
 
     /// What a device is asked is given up.
     fn end_ask(&mut self, device: usize, asked: Option<u32>)
-        ensures agent { self.new.agent ≡ self.old.agent }
-        ensures devices { self.new.devices ≡ self.old.devices }
-        ensures requests { self.new.requests ≡ self.old.requests }
+        ensures same { SameButAsks self.old self.new }
+        ensures ends { EndsAsk device asked (asks_in self.old.asks.items) (asks_in self.new.asks.items) }
     {
         if let Some(id) = asked {
             if device < self.asks.len() {

@@ -7,8 +7,9 @@ ghost use Rattle.snmp_walk.specs.ObjectIds.{AllNamed, BulkAllNamed};
 ghost use Rattle.snmp_gate.specs.Question.{Question};
 ghost use Rattle.snmp_gate.specs.Messages.{IsViewerOf};
 ghost use Rattle.snmp_gate.specs.ReadAsks.{asked_variables, bulk_asked_variables};
-ghost use Rattle.snmp_gate.specs.Work.{BulkStandsFor, OnwardStands, ReadStands, SaysAll, TaskStands};
+ghost use Rattle.snmp_gate.specs.Work.{AsksNoSet, BulkStandsFor, OnwardStands, ReadStands, SaysAll, TaskStands};
 ghost use Rattle.snmp_gate.specs.Ends.{IsEndFor, IsFailing, FailsOrGoesOn};
+ghost use Rattle.snmp_gate.specs.Taking.{BulkSaysSame};
 
 use crate::named_task::NamedTask;
 use crate::set_answer::{GEN_ERR, NO_SUCH_NAME, ResponseStatus, TOO_BIG};
@@ -91,8 +92,9 @@ pub(crate) fn read_on(
     viewer: &Viewer<'_>,
 ) -> Onward
     requires { AllNamed dialogue }
-    ensures { (tables : Tables) (q : Question) (told : List Variable) → IsViewerOf tables q viewer.now
+    ensures stands { (tables : Tables) (q : Question) (told : List Variable) → IsViewerOf tables q viewer.now
         → ReadStands tables q told operation dialogue → OnwardStands tables q told result }
+    ensures no_set { AsksNoSet result }
 {
     match dialogue.go_on(viewer) {
         Next::Asks => Onward::Asks(NamedTask {
@@ -106,8 +108,9 @@ pub(crate) fn read_on(
 /// Returns how a GetBulkRequest goes on.
 pub(crate) fn bulk_on(mut dialogue: BulkDialogue, viewer: &Viewer<'_>) -> Onward
     requires { BulkAllNamed dialogue }
-    ensures { (tables : Tables) (q : Question) (told : List Variable) → IsViewerOf tables q viewer.now
+    ensures stands { (tables : Tables) (q : Question) (told : List Variable) → IsViewerOf tables q viewer.now
         → BulkStandsFor tables q told dialogue → OnwardStands tables q told result }
+    ensures no_set { AsksNoSet result }
 {
     match dialogue.go_on(viewer) {
         BulkNext::Asks(by) => Onward::Asks(NamedTask {
@@ -153,6 +156,7 @@ pub(crate) fn take_bulk(
         → SaysAll (bulk_asked_variables dialogue.old) answer.now told
         → BulkStandsFor tables q told dialogue.old → BulkStandsFor tables q told dialogue.new) }
     ensures fails { IfOk result FailsOrGoesOn }
+    ensures err { OnErr result (BulkSaysSame dialogue.old dialogue.new) }
 {
     match dialogue.take(alloc, viewer, answer)? {
         BulkAnswered::Taken | BulkAnswered::Less | BulkAnswered::Ended(_) => {
@@ -171,8 +175,9 @@ pub(crate) fn take_bulk(
 /// Returns how a request goes on after its device's answer, which isn't the end of it. A GetBulkRequest that is `late`
 /// ends with its front if that has a whole repetition.
 fn after_task(named: NamedTask, is_front: bool, viewer: &Viewer<'_>, late: bool) -> Onward
-    ensures { (tables : Tables) (q : Question) (told : List Variable) → IsViewerOf tables q viewer.now
+    ensures stands { (tables : Tables) (q : Question) (told : List Variable) → IsViewerOf tables q viewer.now
         → TaskStands tables q told named.task → OnwardStands tables q told result }
+    ensures no_set { AsksNoSet result }
 {
     let NamedTask { task } = named;
     match task {
@@ -189,9 +194,10 @@ fn after_task(named: NamedTask, is_front: bool, viewer: &Viewer<'_>, late: bool)
 
 /// Returns how a request goes on after its device's answer.
 pub(crate) fn after(named: NamedTask, taken: AnswerTaken, viewer: &Viewer<'_>, late: bool) -> Onward
-    ensures { (tables : Tables) (q : Question) (told : List Variable) → IsViewerOf tables q viewer.now
+    ensures stands { (tables : Tables) (q : Question) (told : List Variable) → IsViewerOf tables q viewer.now
         → IsEndFor q taken
         → TaskStands tables q told named.task → OnwardStands tables q told result }
+    ensures no_set { AsksNoSet result }
 {
     match taken {
         AnswerTaken::Ends(status) => Onward::Ends(RequestEnd::Own(status)),

@@ -1,16 +1,19 @@
 //! What comes from clients.
 
-ghost use Rattle.std.specs.Prelude.{◌≡◌, ◌<◌, ◌⊎◌, ℕ, List, Some, None, length, IfOk, IfSome, MatchOption};
+ghost use Rattle.std.specs.Prelude.{◌≡◌, ◌↔◌, ◌<◌, ◌≤◌, ◌⊎◌, ℕ, List, Some, None, length, IfOk, IfSome, IsTrue};
+ghost use Rattle.std.specs.Prelude.{MatchOption, OnErr};
 ghost use Rattle.std.specs.List.{HoldsAt};
 ghost use Rattle.snmp_msg.specs.Variables.{Variable};
 ghost use Rattle.snmp_incoming.specs.Answers.{given_of};
 ghost use Rattle.snmp_gate.specs.Question.{Question};
 ghost use Rattle.snmp_gate.specs.Messages.{question_given, question_in};
-ghost use Rattle.snmp_gate.specs.Beginning.{BeginsWell, IsSet, MaySetAll, TakenIn};
+ghost use Rattle.snmp_gate.specs.Beginning.{BeginsWell, IsDigestOf, IsSet, MaySetAll, TakenIn};
 ghost use Rattle.snmp_gate.specs.Devices.{IsDeviceOf};
 ghost use Rattle.snmp_gate.specs.History.{Happening};
+ghost use Rattle.snmp_gate.specs.Noting.{AsksSet, IsNotedAgain, IsNotedFor, IsUnnoted};
 ghost use Rattle.snmp_gate.specs.SetBegins.{SetStandsSo};
-ghost use Rattle.snmp_gate.specs.Waiting.{ClientHappens, GateStands};
+ghost use Rattle.snmp_gate.specs.Sets.{KeepsSets};
+ghost use Rattle.snmp_gate.specs.Waiting.{ClientHappens, GateStands, IsAsBefore, SameButSets, Stays};
 ghost use Rattle.snmp_gate.specs.Work.{EndingStands, OnwardStands};
 ghost use Rattle.snmp_gate.specs.declared.devices.Device.{Device as DeviceIs};
 ghost use Rattle.vacm_core.specs.Tables.{Tables};
@@ -78,7 +81,9 @@ fn work_of(device: usize, now: u64, onward: Onward) -> Work
 }
 
 /// Returns true if a Set's device is to be asked.
-fn asks_set(work: &Work) -> bool {
+fn asks_set(work: &Work) -> bool
+    ensures { IsTrue result ↔ AsksSet work.now }
+{
     match work {
         Work::Open(open) => matches!(open.task.task, Task::Set),
         Work::Ends(_) => false,
@@ -122,6 +127,27 @@ fn set_access(
     }
 }
 
+/// What is remembered of a Set before its device is asked.
+#[derive(Clone, Copy, PartialEq, Eq)]
+enum Noted {
+    /// It is no Set, or its device isn't asked.
+    NoSet,
+    /// It is remembered now, and its device may be asked.
+    Now,
+    /// It was remembered before, or can't be: its device may not be asked.
+    Before,
+}
+
+/// Returns what was remembered of a message that asks again what waits, and is of this digest if it is a Set.
+fn noted_again(digest: Option<[u8; 32]>) -> Noted
+    ensures { MatchOption digest (result ≡ Noted.NoSet) (λ _. result ≡ Noted.Now) }
+{
+    match digest {
+        Some(_) => Noted::Now,
+        None => Noted::NoSet,
+    }
+}
+
 /// How a Set goes on.
 #[derive(Drop)]
 enum SetBegins {
@@ -140,8 +166,11 @@ impl Gate {
         client: &[u8],
         datagram: &[u8],
     ) -> Result<ClientTaken, AllocError>
-        ensures { IfOk result (λ taken. (before : List Happening) → GateStands before self.old
-            → ClientHappens self.old before now client.now datagram.now taken self.new) }
+        ensures happens { IfOk result (λ taken. (since : ℕ) (before : List Happening) → since ≤ now
+            → GateStands since before self.old
+            → ClientHappens self.old now before client.now datagram.now taken self.new) }
+        ensures stays { Stays self.old self.new }
+        ensures err { OnErr result (IsAsBefore now self.old self.new) }
     {
         let taken = match self.agent.take(now / 1000, datagram) {
             Ok(taken) => taken,
@@ -149,7 +178,7 @@ impl Gate {
             Err(refused) => return Ok(ClientTaken::Refused(refused)),
         };
         let unhandled = self.agent.unhandled(&taken);
-        let message = self.message_of(client, datagram, taken, unhandled.is_none())?;
+        let message = self.message_of(client, datagram, taken)?;
         match place_of(self.requests.requests(), &message) {
             Some(place) => self.join(now, place, message),
             None => self.begin(now, message, unhandled),
@@ -162,13 +191,13 @@ impl Gate {
         client: &[u8],
         datagram: &[u8],
         taken: Taken<'_>,
-        is_handled: bool,
     ) -> Result<WaitingMessage, AllocError>
         ensures is { IfOk result (λ m. (m.client.items ≡ client.now) × (m.kept ≡ given_of taken.entry)) }
         ensures asks { IfOk result (λ m. (q : Question) × (question_in m ≡ Some q)) }
+        ensures digest { IfOk result (λ m. IsDigestOf m datagram.now) }
     {
         let pdu = pdu_of(&taken);
-        let digest = if is_handled && pdu.tag == PduType::SetRequest.tag() {
+        let digest = if pdu.tag == PduType::SetRequest.tag() {
             Some(set_digest(datagram))
         } else {
             None
@@ -190,8 +219,11 @@ impl Gate {
     ) -> Result<ClientTaken, AllocError>
         requires place { place < length self.old.requests.list.items }
         requires same { HoldsAt (λ r. question_in r.first ≡ question_in message) self.old.requests.list.items place }
-        ensures { IfOk result (λ taken. (before : List Happening) (at : ℕ) (datagram : List ℕ)
-            → GateStands before self.old → TakenIn before at datagram message taken self.new) }
+        ensures takes { IfOk result (λ taken. (since : ℕ) (before : List Happening) (datagram : List ℕ) → since ≤ now
+            → IsDigestOf message datagram → GateStands since before self.old
+            → TakenIn before now datagram message taken self.new) }
+        ensures stays { Stays self.old self.new }
+        ensures err { OnErr result (IsAsBefore now self.old self.new) }
     {
         let digest = message.digest;
         match self.note_again(now, digest)? {
@@ -204,7 +236,7 @@ impl Gate {
             Ok(Joined::Joined) => Ok(ClientTaken::Joins(number)),
             Ok(Joined::NoRoom) => Ok(ClientTaken::NoRoom),
             Err(none) => {
-                self.unnote(digest);
+                self.unnote(noted_again(digest));
                 Err(none)
             }
         }
@@ -212,9 +244,9 @@ impl Gate {
 
     /// Notes a datagram that asks again what waits, if it is of a Set, and returns what it is then.
     fn note_again(&mut self, now: u64, digest: Option<[u8; 32]>) -> Result<SetNote, AllocError>
-        ensures agent { self.new.agent ≡ self.old.agent }
-        ensures devices { self.new.devices ≡ self.old.devices }
-        ensures requests { self.new.requests ≡ self.old.requests }
+        ensures same { SameButSets self.old self.new }
+        ensures noted { IfOk result (IsNotedAgain now digest self.old.sets.sets.items self.new.sets.sets.items) }
+        ensures err { OnErr result (KeepsSets now self.old.sets.sets.items self.new.sets.sets.items) }
     {
         match digest {
             Some(digest) => self.sets.note(now, &digest),
@@ -223,13 +255,13 @@ impl Gate {
     }
 
     /// Forgets a Set that was just noted, and isn't asked.
-    fn unnote(&mut self, digest: Option<[u8; 32]>)
-        ensures agent { self.new.agent ≡ self.old.agent }
-        ensures devices { self.new.devices ≡ self.old.devices }
-        ensures requests { self.new.requests ≡ self.old.requests }
+    fn unnote(&mut self, noted: Noted)
+        ensures same { SameButSets self.old self.new }
+        ensures sets { IsUnnoted noted self.old.sets.sets.items self.new.sets.sets.items }
     {
-        if let Some(_) = digest {
-            self.sets.forget_last();
+        match noted {
+            Noted::Now => self.sets.forget_last(),
+            Noted::NoSet | Noted::Before => {}
         }
     }
 
@@ -241,8 +273,11 @@ impl Gate {
         unhandled: Option<Unhandled>,
     ) -> Result<ClientTaken, AllocError>
         requires { (q : Question) × (question_in message ≡ Some q) }
-        ensures { IfOk result (λ taken. (before : List Happening) (at : ℕ) (datagram : List ℕ)
-            → GateStands before self.old → TakenIn before at datagram message taken self.new) }
+        ensures takes { IfOk result (λ taken. (since : ℕ) (before : List Happening) (datagram : List ℕ) → since ≤ now
+            → IsDigestOf message datagram → GateStands since before self.old
+            → TakenIn before now datagram message taken self.new) }
+        ensures stays { Stays self.old self.new }
+        ensures err { OnErr result (IsAsBefore now self.old self.new) }
     {
         if self.requests.is_full() || self.requests.next_number() == u64::MAX {
             return Ok(ClientTaken::NoRoom);
@@ -251,6 +286,9 @@ impl Gate {
             return Ok(ClientTaken::SetOfBefore);
         };
         let noted = self.note_asked(now, &work, message.digest)?;
+        if let Noted::Before = noted {
+            return Ok(ClientTaken::SetOfBefore);
+        }
         match self.requests.begin(self.alloc, message, work) {
             Ok(number) => Ok(ClientTaken::Begins(number)),
             Err(none) => {
@@ -260,24 +298,28 @@ impl Gate {
         }
     }
 
-    /// Notes a Set whose device is to be asked, and returns its digest if it is one.
+    /// Notes a Set whose device is to be asked.
     fn note_asked(
         &mut self,
         now: u64,
         work: &Work,
         digest: Option<[u8; 32]>,
-    ) -> Result<Option<[u8; 32]>, AllocError>
-        ensures agent { self.new.agent ≡ self.old.agent }
-        ensures devices { self.new.devices ≡ self.old.devices }
-        ensures requests { self.new.requests ≡ self.old.requests }
+    ) -> Result<Noted, AllocError>
+        ensures same { SameButSets self.old self.new }
+        ensures noted { IfOk result
+            (IsNotedFor now digest work.now self.old.sets.sets.items self.new.sets.sets.items) }
+        ensures err { OnErr result (KeepsSets now self.old.sets.sets.items self.new.sets.sets.items) }
     {
         if !asks_set(work) {
-            return Ok(None);
+            return Ok(Noted::NoSet);
         }
-        if let Some(digest) = digest {
-            self.sets.note(now, &digest)?;
+        let Some(digest) = digest else {
+            return Ok(Noted::Before);
+        };
+        match self.sets.note(now, &digest)? {
+            SetNote::New => Ok(Noted::Now),
+            SetNote::Repeated(_) | SetNote::NoRoom => Ok(Noted::Before),
         }
-        Ok(digest)
     }
 
     /// Returns what becomes of a request at first, which no application answers for this reason.
@@ -290,9 +332,8 @@ impl Gate {
         ensures begins { IfOk result (λ begins. IfSome begins (λ work. (q : Question)
             → question_in message.now ≡ Some q
             → BeginsWell self.old.agent.tables self.old.devices.list.items q work)) }
-        ensures agent { self.new.agent ≡ self.old.agent }
-        ensures devices { self.new.devices ≡ self.old.devices }
-        ensures requests { self.new.requests ≡ self.old.requests }
+        ensures same { SameButSets self.old self.new }
+        ensures sets { KeepsSets now self.old.sets.sets.items self.new.sets.sets.items }
     {
         match unhandled {
             Some(why) => Ok(Some(Work::Ends(RequestEnd::Unhandled(why)))),
@@ -310,9 +351,8 @@ impl Gate {
         ensures begins { IfOk result (λ begins. IfSome begins (λ work. (q : Question)
             → question_in message.now ≡ Some q
             → BeginsWell self.old.agent.tables self.old.devices.list.items q work)) }
-        ensures agent { self.new.agent ≡ self.old.agent }
-        ensures devices { self.new.devices ≡ self.old.devices }
-        ensures requests { self.new.requests ≡ self.old.requests }
+        ensures same { SameButSets self.old self.new }
+        ensures sets { KeepsSets now self.old.sets.sets.items self.new.sets.sets.items }
     {
         let taken = message.kept.taken();
         let Some(device) = self.devices.find(taken.scoped().name) else {
@@ -357,9 +397,8 @@ impl Gate {
         requires { device < length self.old.devices.list.items }
         ensures begins { IfOk result (λ begins. (q : Question) → question_in message.now ≡ Some q → IsSet q
             → SetStandsSo self.old.agent.tables q begins) }
-        ensures agent { self.new.agent ≡ self.old.agent }
-        ensures devices { self.new.devices ≡ self.old.devices }
-        ensures requests { self.new.requests ≡ self.old.requests }
+        ensures same { SameButSets self.old self.new }
+        ensures sets { KeepsSets now self.old.sets.sets.items self.new.sets.sets.items }
     {
         let Some(digest) = message.digest else {
             return Ok(SetBegins::Unknown);
@@ -386,9 +425,8 @@ impl Gate {
         requires { device < length self.old.devices.list.items }
         ensures begins { IfOk result (λ begins. (q : Question) → question_in message.now ≡ Some q → IsSet q
             → SetStandsSo self.old.agent.tables q begins) }
-        ensures agent { self.new.agent ≡ self.old.agent }
-        ensures devices { self.new.devices ≡ self.old.devices }
-        ensures requests { self.new.requests ≡ self.old.requests }
+        ensures same { SameButSets self.old self.new }
+        ensures sets { self.new.sets ≡ self.old.sets }
     {
         if let Some(ending) = self.refused_set(now, device, message)? {
             return Ok(SetBegins::Onward(Onward::Ends(ending)));
@@ -411,9 +449,8 @@ impl Gate {
             → IsSet q → EndingStands self.old.agent.tables q told ending)) }
         ensures may { IfOk result (λ refused. (refused ≡ None) → (q : Question)
             → question_in message.now ≡ Some q → IsSet q → MaySetAll self.old.agent.tables q) }
-        ensures agent { self.new.agent ≡ self.old.agent }
-        ensures devices { self.new.devices ≡ self.old.devices }
-        ensures requests { self.new.requests ≡ self.old.requests }
+        ensures same { SameButSets self.old self.new }
+        ensures sets { self.new.sets ≡ self.old.sets }
     {
         let SetAccess { refused, bindings } = set_access(self.alloc, self.agent.tables(), message)?;
         if let Some(ending) = refused {

@@ -1,6 +1,7 @@
 //! What comes from devices.
 
-ghost use Rattle.std.specs.Prelude.{◌≡◌, ◌↔◌, ◌<◌, List, Some, length, IfOk, IfSome, IsTrue};
+ghost use Rattle.std.specs.Prelude.{◌≡◌, ◌↔◌, ◌<◌, ◌≤◌, ℕ, List, Some, length, IfOk, IfSome, IsTrue, OnErr};
+ghost use Rattle.std.specs.Global.{Vec as VecOf};
 ghost use Rattle.std.specs.List.{HoldsAt};
 ghost use Rattle.vacm_core.specs.Tables.{Tables};
 ghost use Rattle.snmp_msg.specs.Variables.{Variable};
@@ -8,8 +9,9 @@ ghost use Rattle.snmp_gate.specs.Question.{Question};
 ghost use Rattle.snmp_gate.specs.Messages.{IsViewerOf, question_in};
 ghost use Rattle.snmp_gate.specs.Ends.{IsEndFor};
 ghost use Rattle.snmp_gate.specs.History.{Happening};
-ghost use Rattle.snmp_gate.specs.Taking.{AnswerPlace, WaitsFor, WorkAfter};
-ghost use Rattle.snmp_gate.specs.Waiting.{DeviceHappens, GateStands};
+ghost use Rattle.snmp_gate.specs.Noting.{AsksSet};
+ghost use Rattle.snmp_gate.specs.Taking.{AnswerPlace, IsCommunityOfWork, OpenSaysSame, TaskSaysSame, WaitsFor, WorkAfter, WorkSaysSame};
+ghost use Rattle.snmp_gate.specs.Waiting.{DeviceHappens, GateStands, IsAsBefore, Stays};
 ghost use Rattle.snmp_gate.specs.Work.{SaysAll, TaskStands, variables_of_task};
 ghost use Rattle.snmp_gate.specs.declared.work.OpenRequest.{OpenRequest as OpenIs};
 ghost use Rattle.snmp_gate.specs.declared.work.Work.TheVariants.{Open};
@@ -44,6 +46,7 @@ fn take_task(
         → SaysAll (variables_of_task q named.old.task) answer.now told
         → TaskStands tables q told named.old.task
         → TaskStands tables q told named.new.task × IsEndFor q taken) }
+    ensures err { OnErr result (TaskSaysSame named.old.task named.new.task) }
 {
     match &mut named.task {
         Task::Read(_, dialogue) => take_read(alloc, dialogue, viewer, answer),
@@ -54,8 +57,9 @@ fn take_task(
 
 /// Returns what becomes of a request whose device answered so.
 fn work_after(asked: OpenRequest, taken: AnswerTaken, viewer: &Viewer<'_>, late: bool) -> Work
-    ensures { (tables : Tables) (q : Question) (told : List Variable) → IsViewerOf tables q viewer.now
+    ensures after { (tables : Tables) (q : Question) (told : List Variable) → IsViewerOf tables q viewer.now
         → IsEndFor q taken → TaskStands tables q told asked.task.task → WorkAfter tables q told asked result }
+    ensures no_set { ¬ AsksSet result }
 {
     let OpenRequest {
         device,
@@ -115,6 +119,7 @@ fn take_open(
         → TaskStands tables.now q told waiting.old.task.task
         → TaskStands tables.now q told waiting.new.task.task × IsEndFor q taken) }
     ensures device { waiting.new.device ≡ waiting.old.device }
+    ensures err { OnErr result (OpenSaysSame waiting.old waiting.new) }
 {
     let taken = message.kept.taken();
     let viewer = viewer_of(tables, &taken);
@@ -131,9 +136,10 @@ fn after_answer(
     tables: &Vacm,
     lateness: Lateness,
 ) -> Work
-    ensures { (o : OpenIs) (q : Question) (told : List Variable)
+    ensures after { (o : OpenIs) (q : Question) (told : List Variable)
         → question_in message.now ≡ Some q → old ≡ Open o → IsEndFor q became
         → TaskStands tables.now q told o.task.task → WorkAfter tables.now q told o result }
+    ensures no_set { ¬ AsksSet result }
 {
     let taken = message.kept.taken();
     let viewer = viewer_of(tables, &taken);
@@ -155,10 +161,12 @@ fn take_answer(
     answer: &Pdu<'_>,
     lateness: Lateness,
 ) -> Result<(), AllocError>
-    ensures { IfOk result (λ _. (o : OpenIs) (q : Question) (told : List Variable)
+    ensures after { IfOk result (λ _. (o : OpenIs) (q : Question) (told : List Variable)
         → question_in message.now ≡ Some q → work.old ≡ Open o
         → SaysAll (variables_of_task q o.task.task) answer.now told
         → TaskStands tables.now q told o.task.task → WorkAfter tables.now q told o work.new) }
+    ensures no_set { IfOk result (λ _. ¬ AsksSet work.new) }
+    ensures err { OnErr result (WorkSaysSame work.old work.new) }
 {
     let Work::Open(waiting) = work else {
         return Ok(());
@@ -186,17 +194,27 @@ fn place_for(
     None
 }
 
+/// Returns true if the device is asked for Sets with this community.
+fn is_write_community(device: &Device, community: &[u8]) -> bool
+    ensures { IsTrue result → (write : VecOf ℕ) × (device.now.write_community ≡ Some write)
+        × (community.now ≡ write.items) }
+{
+    let Some(own) = &device.write_community else {
+        return false;
+    };
+    own.as_slice() == community
+}
+
 /// Returns true if the device is asked for this request with this community.
-fn is_of(work: &Work, device: &Device, community: &[u8]) -> bool {
+fn is_of(work: &Work, device: &Device, community: &[u8]) -> bool
+    ensures { IsTrue result → IsCommunityOfWork device.now community.now work.now }
+{
     let Work::Open(open) = work else {
         return false;
     };
     match &open.task.task {
         Task::Read(_, _) | Task::Bulk(_, _) => device.community.as_slice() == community,
-        Task::Set => match &device.write_community {
-            Some(own) => own.as_slice() == community,
-            None => false,
-        },
+        Task::Set => is_write_community(device, community),
     }
 }
 
@@ -211,8 +229,11 @@ impl Gate {
         device: usize,
         datagram: &[u8],
     ) -> Result<DeviceTaken, AllocError>
-        ensures { IfOk result (λ taken. (before : List Happening) → GateStands before self.old
-            → DeviceHappens self.old before device datagram.now taken self.new) }
+        ensures happens { IfOk result (λ taken. (since : ℕ) (before : List Happening) → since ≤ now
+            → GateStands since before self.old
+            → DeviceHappens self.old now before device datagram.now taken self.new) }
+        ensures stays { Stays self.old self.new }
+        ensures err { OnErr result (IsAsBefore now self.old self.new) }
     {
         let Some(answer) = read_device_answer(datagram) else {
             return Ok(DeviceTaken::Unreadable);
@@ -240,7 +261,8 @@ impl Gate {
 
     /// Returns the request-id of an answer, and the place of the request for which the device was asked with it.
     fn place_of(&self, device: usize, answer: &DeviceAnswer<'_>) -> Option<(u32, usize)>
-        ensures place { IfSome result (λ p. AnswerPlace self.now.requests.list.items device answer.now.pdu p.0 p.1) }
+        ensures place { IfSome result (λ p. AnswerPlace self.now.devices.list.items self.now.requests.list.items device
+            answer.now.community.now answer.now.pdu p.0 p.1) }
         ensures asks { IfSome result (λ _. device < length self.now.asks.items) }
     {
         if device >= self.asks.len() || device >= self.devices.list.len() {

@@ -1,10 +1,10 @@
 use Rattle.snmp_gate.proofs.Standing.{bulk_stands}
 use Rattle.snmp_gate.proofs.onward.bulk_on.Goals as goal
 
-pub returns-in-Asks : goal.returns-in-Asks
-returns-in-Asks c tables q told viewer stands =
+pub returns-in-Asks-clause-stands : goal.returns-in-Asks-clause-stands
+returns-in-Asks-clause-stands c tables q told viewer stands =
     bulk_stands tables q told c.args.viewer.now c.args.dialogue c.go_on.new.self viewer (c.go_on.ensures.stand told) c.go_on.ensures.requests stands
 
-pub returns-in-Ends : goal.returns-in-Ends
-returns-in-Ends c tables q told viewer stands =
+pub returns-in-Ends-clause-stands : goal.returns-in-Ends-clause-stands
+returns-in-Ends-clause-stands c tables q told viewer stands =
     bulk_stands tables q told c.args.viewer.now c.args.dialogue c.go_on.new.self viewer (c.go_on.ensures.stand told) c.go_on.ensures.requests stands

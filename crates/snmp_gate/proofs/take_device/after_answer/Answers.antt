@@ -6,11 +6,11 @@ use Rattle.snmp_gate.specs.declared.work.OpenRequest.{OpenRequest}
 use Rattle.snmp_gate.proofs.Endings.{one_open}
 use Rattle.snmp_gate.proofs.take_device.after_answer.Goals as goal
 
-pub returns-in-Open : goal.returns-in-Open
-returns-in-Open c o q told asked is ends stands =
+pub returns-in-Open-clause-after : goal.returns-in-Open-clause-after
+returns-in-Open-clause-after c o q told asked is ends stands =
     let client = c.args.message.now.client.items in
     let tables = c.args.tables.now in
     let same = one_open c.args.old c.in-Open.waiting o c.in-Open.is is in
     let viewer = c.viewer_of-viewer.ensures client q (ap (question_given client) c.taken-taken.ensures ∙ asked) in
     subst (λ (x : OpenRequest). WorkAfter tables q told x c.work_after.result) same
-    (c.work_after.ensures tables q told viewer ends (subst (λ (x : OpenRequest). TaskStands tables q told x.task.task) (sym same) stands))
+    (c.work_after.ensures.after tables q told viewer ends (subst (λ (x : OpenRequest). TaskStands tables q told x.task.task) (sym same) stands))

@@ -6,12 +6,11 @@ use Rattle.snmp_gate.proofs.Endings.{fails_end}
 use Rattle.snmp_gate.proofs.Sending.{on_both, on_ok}
 use Rattle.snmp_gate.proofs.take_device.take_task.Goals as goal
 
-pub returns-in-Read : goal.returns-in-Read
-returns-in-Read c = record {
-  stands = on_ok c.take_read.result _ _ (λ taken both tables q told viewer says stands. (
-    both.0 tables q told c.in-Read.field-0 viewer
-        (subst (λ (t : Task). SaysAll (variables_of_task q t) c.args.answer.now told) c.in-Read.is says)
-        (subst (TaskStands tables q told) c.in-Read.is stands),
-    fails_end q taken both.1,
-  )) (on_both c.take_read.result _ FailsOrGoesOn c.take_read.ensures.stands c.take_read.ensures.fails);
-}
+pub returns-in-Read-clause-stands : goal.returns-in-Read-clause-stands
+returns-in-Read-clause-stands c =
+    on_ok c.take_read.result _ _ (λ taken both tables q told viewer says stands. (
+      both.0 tables q told c.in-Read.field-0 viewer
+          (subst (λ (t : Task). SaysAll (variables_of_task q t) c.args.answer.now told) c.in-Read.is says)
+          (subst (TaskStands tables q told) c.in-Read.is stands),
+      fails_end q taken both.1,
+    )) (on_both c.take_read.result _ FailsOrGoesOn c.take_read.ensures.stands c.take_read.ensures.fails)

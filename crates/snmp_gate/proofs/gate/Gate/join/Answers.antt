@@ -1,4 +1,4 @@
-use Rattle.std.proofs.Common.{ap, HoldsAt, refl, subst, sym}
+use Rattle.std.proofs.Common.{ap, HoldsAt, refl, subst, sym, ◌∙◌}
 use Rattle.std.specs.Prelude.{List, ◌∷◌, ◌≡◌, ◌<◌, length}
 use Rattle.snmp_gate.specs.Groups.{groups_of}
 use Rattle.snmp_gate.specs.History.{accepted}
@@ -9,29 +9,83 @@ use Rattle.snmp_gate.specs.declared.requests.WaitingRequests.{WaitingRequests}
 use Rattle.snmp_gate.specs.declared.requests.WaitingRequest.{WaitingRequest}
 use Rattle.snmp_gate.specs.declared.waiting_message.WaitingMessage.{WaitingMessage}
 use Rattle.snmp_gate.specs.declared.work.Work.{Work}
+use Rattle.std.specs.Global.{Vec}
+use Rattle.snmp_gate.specs.Waiting.{AsksStand, SetsStand, asks_in}
+use Rattle.snmp_gate.specs.declared.asks.DeviceAsks.{DeviceAsks}
+use Rattle.snmp_gate.proofs.AsksKept.{asks_same}
+use Rattle.snmp_gate.proofs.GroupSteps.{on_err}
 use Rattle.snmp_gate.proofs.Histories.{moved}
-use Rattle.snmp_gate.proofs.Joining.{joined_all}
+use Rattle.snmp_gate.proofs.Keeping.{as_before, same_before, stands_kept, stands_noted, unnoted_again}
+use Rattle.snmp_gate.proofs.SetsComing.{joined_sets}
+use Rattle.snmp_gate.proofs.SetsKept.{keeps_noted_again}
+use Rattle.snmp_gate.proofs.Joining.{joined_all, joins_in_turn, request_asks}
 use Rattle.snmp_gate.proofs.gate.Gate.join.Goals as goal
 
-pub returns-in-Ok-Joined : goal.returns-in-Ok-Joined
-returns-in-Ok-Joined c before at datagram stands =
+pub returns-in-Ok-Joined-clause-takes : goal.returns-in-Ok-Joined-clause-takes
+returns-in-Ok-Joined-clause-takes c since before datagram later digest stands =
     let g = c.args.self.now in
     let n = c.note_again.new.self in
     let m = c.args.message in
     let place = c.args.place in
     let rs = n.requests.list.items in
     let r = c.index.result.now in
+    let note = c.note_again.ensures.same in
+    let new = groups_of c.join.new.self.list.items in
     let same = subst (λ (x : List (WaitingRequest WaitingMessage Work)). HoldsAt (λ (y : WaitingRequest WaitingMessage Work). question_in y.first ≡ question_in m) x place)
-    (sym (ap (λ (x : WaitingRequests WaitingMessage Work). x.list.items) c.note_again.ensures.requests)) c.requires.same in
-    let within = subst (λ (x : WaitingRequests WaitingMessage Work). place < length x.list.items) (sym c.note_again.ensures.requests) c.requires.place in
+    (sym (ap (λ (x : WaitingRequests WaitingMessage Work). x.list.items) note.requests)) c.requires.same in
+    let within = subst (λ (x : WaitingRequests WaitingMessage Work). place < length x.list.items) (sym note.requests) c.requires.place in
     let asks = subst (λ (x : WaitingRequest WaitingMessage Work). question_in x.first ≡ question_in m) (sym c.index.ensures) (same r) in
-    let before_it = moved g.agent.tables n.agent.tables g.devices.list.items n.devices.list.items before g.requests.next n.requests.next (groups_of g.requests.list.items) (groups_of rs)
-    (ap (λ (x : AgentState). x.tables) c.note_again.ensures.agent)
-    (ap (λ (x : Devices). x.list.items) c.note_again.ensures.devices)
-    (ap (λ (x : WaitingRequests WaitingMessage Work). x.next) c.note_again.ensures.requests)
-    (ap (λ (x : WaitingRequests WaitingMessage Work). groups_of x.list.items) c.note_again.ensures.requests)
-    stands in
+    let requests = moved g.agent.tables n.agent.tables g.devices.list.items n.devices.list.items before g.requests.next n.requests.next (groups_of g.requests.list.items) (groups_of rs)
+    (ap (λ (x : AgentState). x.tables) note.agent)
+    (ap (λ (x : Devices). x.list.items) note.devices)
+    (ap (λ (x : WaitingRequests WaitingMessage Work). x.next) note.requests)
+    (ap (λ (x : WaitingRequests WaitingMessage Work). groups_of x.list.items) note.requests)
+    stands.requests in
     let joins = rw c.in-Ok-Joined.field-0-is at c.in-Ok-Joined.ensures.joined in
-    let all = joined_all n.agent.tables n.devices.list.items before n.requests.next n.requests.most_messages rs place r m (groups_of c.join.new.self.list.items) at datagram within c.index.ensures asks joins before_it in
-    moved n.agent.tables n.agent.tables n.devices.list.items n.devices.list.items (accepted r.number at datagram m ∷ before) n.requests.next c.join.new.self.next (groups_of c.join.new.self.list.items) (groups_of c.join.new.self.list.items)
-    refl refl c.join.ensures.next refl all
+    let all = joined_all n.agent.tables n.devices.list.items before n.requests.next n.requests.most_messages rs place r m new c.args.now datagram within c.index.ensures asks joins requests in
+    let known = subst (λ (x : WaitingRequests WaitingMessage Work). SetsStand since before (groups_of x.list.items) g.sets.sets.items) (sym note.requests) stands.sets in (
+      joins_in_turn n.agent.tables n.devices.list.items before n.requests.next rs place r m c.args.now datagram within c.index.ensures asks requests,
+      record {
+        requests = moved n.agent.tables n.agent.tables n.devices.list.items n.devices.list.items (accepted r.number c.args.now datagram m ∷ before) n.requests.next c.join.new.self.next new new
+            refl refl c.join.ensures.next refl all;
+        asks = asks_same (accepted r.number c.args.now datagram m) before (asks_in n.asks.items) (λ k. refl) (subst (λ (v : Vec DeviceAsks). AsksStand before (asks_in v.items)) (sym note.asks) stands.asks);
+        sets = joined_sets n.agent.tables n.devices.list.items before n.requests.next rs place n.requests.most_messages r m new since c.args.now datagram g.sets.sets.items n.sets.sets.items within c.index.ensures
+            (request_asks n.agent.tables n.devices.list.items before n.requests.next rs place r within c.index.ensures requests) asks joins digest later (rw c.in-New.is at c.in_ok-note_again.ensures.noted) requests known;
+      },
+    )
+
+pub returns-in_err-note_again-clause-err : goal.returns-in_err-note_again-clause-err
+returns-in_err-note_again-clause-err c = on_err c.from_residual.result _ (same_before c.args.now c.args.self.now c.note_again.new.self c.note_again.ensures.same c.in_err-note_again.ensures.err)
+
+pub returns-in-Repeated-clause-takes : goal.returns-in-Repeated-clause-takes
+returns-in-Repeated-clause-takes c since before datagram later digest stands =
+    stands_noted c.args.now c.args.self.now c.note_again.new.self c.note_again.ensures.same
+    (keeps_noted_again c.args.now c.args.message.digest c.args.self.now.sets.sets.items c.note_again.new.self.sets.sets.items _ c.in_ok-note_again.ensures.noted) since before later stands
+
+pub returns-in-NoRoom-clause-takes : goal.returns-in-NoRoom-clause-takes
+returns-in-NoRoom-clause-takes c since before datagram later digest stands =
+    stands_noted c.args.now c.args.self.now c.note_again.new.self c.note_again.ensures.same
+    (keeps_noted_again c.args.now c.args.message.digest c.args.self.now.sets.sets.items c.note_again.new.self.sets.sets.items _ c.in_ok-note_again.ensures.noted) since before later stands
+
+pub returns-in-Ok-NoRoom-clause-takes : goal.returns-in-Ok-NoRoom-clause-takes
+returns-in-Ok-NoRoom-clause-takes c since before datagram later digest stands =
+    let g = c.args.self.now in
+    let n = c.note_again.new.self in
+    let note = c.note_again.ensures.same in
+    let joins = rw c.in-Ok-NoRoom.field-0-is at c.in-Ok-NoRoom.ensures.joined in
+    stands_kept c.args.now g _ (ap (λ (x : AgentState). x.tables) note.agent) note.devices (ap (λ (v : Vec DeviceAsks). asks_in v.items) note.asks)
+    (joins.3 ∙ ap (λ (x : WaitingRequests WaitingMessage Work). groups_of x.list.items) note.requests)
+    (c.join.ensures.next ∙ ap (λ (x : WaitingRequests WaitingMessage Work). x.next) note.requests)
+    (keeps_noted_again c.args.now c.args.message.digest g.sets.sets.items n.sets.sets.items _ c.in_ok-note_again.ensures.noted) since before later stands
+
+pub returns-in-Err-clause-err : goal.returns-in-Err-clause-err
+returns-in-Err-clause-err c =
+    let g = c.args.self.now in
+    let n = c.note_again.new.self in
+    let u = c.unnote.new.self in
+    let note = c.note_again.ensures.same in
+    let last = c.unnote.ensures.same in
+    as_before c.args.now g u (last.agent ∙ note.agent) (last.devices ∙ note.devices) (last.limits ∙ note.limits) (last.asks ∙ note.asks)
+    (ap (λ (x : WaitingRequests WaitingMessage Work). groups_of x.list.items) last.requests ∙ c.in-Err.ensures.err ∙ ap (λ (x : WaitingRequests WaitingMessage Work). groups_of x.list.items) note.requests)
+    (ap (λ (x : WaitingRequests WaitingMessage Work). x.next) last.requests ∙ c.in-Err.ensures.next ∙ ap (λ (x : WaitingRequests WaitingMessage Work). x.next) note.requests)
+    (unnoted_again c.args.now c.args.message.digest g.sets.sets.items n.sets.sets.items u.sets.sets.items c.noted_again.result (rw c.in-New.is at c.in_ok-note_again.ensures.noted) c.noted_again.ensures c.unnote.ensures.sets)

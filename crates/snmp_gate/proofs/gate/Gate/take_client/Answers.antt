@@ -1,37 +1,78 @@
-use Rattle.std.specs.Prelude.{◌/◌, List, Ok}
-use Rattle.std.proofs.Common.{ap, subst, sym}
+use Rattle.std.specs.Prelude.{◌≡◌, ◌/◌, ℕ, Bool, List, Ok, Option, Some, None, Result}
+use Rattle.std.proofs.Common.{ap, inl, refl, subst, sym}
 use Rattle.vacm_core.specs.Tables.{Tables}
-use Rattle.snmp_agent.specs.Agent.{AgentState, taker_of}
+use Rattle.snmp_message.specs.declared.refusal.Refusal.{Refusal}
+use Rattle.snmp_message.specs.Numbers.{MemoryIs, in_table}
+use Rattle.usm_core.specs.Table.{refusal_answer, refused}
+use Rattle.snmp_agent.specs.Agent.{AgentState, AgentTakes, taker_of}
 use Rattle.snmp_incoming.specs.Outcome.{Given, Outcome}
 use Rattle.snmp_gate.specs.Groups.{groups_of}
 use Rattle.snmp_gate.specs.History.{Happening}
-use Rattle.snmp_gate.specs.Waiting.{GroupsStand}
-use Rattle.snmp_gate.proofs.Coming.{message_happens}
+use Rattle.snmp_gate.specs.Waiting.{GroupsStand, IsAsBefore}
+use Rattle.snmp_gate.specs.declared.gate.Gate.{Gate}
+use Rattle.snmp_gate.proofs.Coming.{message_happens, same_stands}
+use Rattle.snmp_gate.proofs.GroupSteps.{on_err}
+use Rattle.snmp_gate.proofs.Keeping.{as_before, as_before_same, if_err, stands_kept}
+use Rattle.snmp_gate.proofs.SetsKept.{keeps_same}
 use Rattle.snmp_gate.proofs.gate.Gate.take_client.Goals as goal
+
+same_tables : (old new : AgentState) (now : ℕ) (w : List ℕ) (a : Option (Result Given Refusal)) → AgentTakes old now w a new → new.tables ≡ old.tables
+same_tables old new now w None is = ap (λ (x : AgentState). x.tables) is
+same_tables old new now w (Some answer) is = ap (λ (x : AgentState). x.tables) is.1
+
+same_agent : (old new : AgentState) (now : ℕ) (w : List ℕ) (why : Refusal) → in_table why ≡ None → AgentTakes old now w (refusal_answer why) new → new ≡ old
+same_agent old new now w why memory is = subst (λ (r : Option Refusal). AgentTakes old now w (refused r) new) memory is
 
 pub begin-requires : goal.begin-requires
 begin-requires c = c.in_ok-message.ensures.asks
 
-pub returns-in-Some : goal.returns-in-Some
-returns-in-Some c =
+pub returns-in-Some-clause-happens : goal.returns-in-Some-clause-happens
+returns-in-Some-clause-happens c =
     let g = c.args.self.now in
+    let mid : Gate = record g { agent = c.take.new.self } in
     let m = c.in_ok-message.message in
     let takes = c.in-Ok.ensures.takes in
     let accepts = subst (λ (x : Given). Outcome (taker_of g.agent) g.agent.users (c.args.now / 1000) c.args.datagram.now (Ok x)) (sym c.in_ok-message.ensures.is.1) takes.0 in
-    message_happens g c.join.new.self
-    (λ (before : List Happening). GroupsStand c.take.new.self.tables g.devices.list.items before g.requests.next (groups_of g.requests.list.items))
-    c.args.now c.args.client.now c.args.datagram.now m c.join.result c.in_ok-message.ensures.is.0 accepts
-    (λ before stands. subst (λ (t : Tables). GroupsStand t g.devices.list.items before g.requests.next (groups_of g.requests.list.items)) (sym (ap (λ (a : AgentState). a.tables) takes.1)) stands)
-    c.join.ensures
+    message_happens g c.join.new.self c.args.now c.args.client.now c.args.datagram.now m mid c.join.result c.in_ok-message.ensures.is.0 accepts c.in_ok-message.ensures.digest
+    (same_stands g mid takes.1 refl refl refl refl) c.join.ensures.takes
 
-pub returns-in-None : goal.returns-in-None
-returns-in-None c =
+pub returns-in-None-clause-happens : goal.returns-in-None-clause-happens
+returns-in-None-clause-happens c =
     let g = c.args.self.now in
+    let mid : Gate = record g { agent = c.take.new.self } in
     let m = c.in_ok-message.message in
     let takes = c.in-Ok.ensures.takes in
     let accepts = subst (λ (x : Given). Outcome (taker_of g.agent) g.agent.users (c.args.now / 1000) c.args.datagram.now (Ok x)) (sym c.in_ok-message.ensures.is.1) takes.0 in
-    message_happens g c.begin.new.self
-    (λ (before : List Happening). GroupsStand c.take.new.self.tables g.devices.list.items before g.requests.next (groups_of g.requests.list.items))
-    c.args.now c.args.client.now c.args.datagram.now m c.begin.result c.in_ok-message.ensures.is.0 accepts
-    (λ before stands. subst (λ (t : Tables). GroupsStand t g.devices.list.items before g.requests.next (groups_of g.requests.list.items)) (sym (ap (λ (a : AgentState). a.tables) takes.1)) stands)
-    c.begin.ensures
+    message_happens g c.begin.new.self c.args.now c.args.client.now c.args.datagram.now m mid c.begin.result c.in_ok-message.ensures.is.0 accepts c.in_ok-message.ensures.digest
+    (same_stands g mid takes.1 refl refl refl refl) c.begin.ensures.takes
+
+pub returns-in-Some-clause-err : goal.returns-in-Some-clause-err
+returns-in-Some-clause-err c =
+    let g = c.args.self.now in
+    let mid : Gate = record g { agent = c.take.new.self } in
+    if_err c.join.result (IsAsBefore c.args.now mid c.join.new.self) (IsAsBefore c.args.now g c.join.new.self)
+    (as_before_same c.args.now g mid c.join.new.self c.in-Ok.ensures.takes.1 refl refl refl refl refl) c.join.ensures.err
+
+pub returns-in-None-clause-err : goal.returns-in-None-clause-err
+returns-in-None-clause-err c =
+    let g = c.args.self.now in
+    let mid : Gate = record g { agent = c.take.new.self } in
+    if_err c.begin.result (IsAsBefore c.args.now mid c.begin.new.self) (IsAsBefore c.args.now g c.begin.new.self)
+    (as_before_same c.args.now g mid c.begin.new.self c.in-Ok.ensures.takes.1 refl refl refl refl refl) c.begin.ensures.err
+
+pub returns-in-Err-clause-err : goal.returns-in-Err-clause-err
+returns-in-Err-clause-err c =
+    let g = c.args.self.now in
+    let memory : in_table c.in-Err.refused.why.refusal ≡ None = subst (λ (b : Bool). MemoryIs c.in-Err.refused.why.refusal b) c.if-is_memory.true c.is_memory.ensures in
+    as_before c.args.now g (record g { agent = c.take.new.self }) (same_agent g.agent c.take.new.self (c.args.now / 1000) c.args.datagram.now c.in-Err.refused.why.refusal memory c.in-Err.ensures.takes) refl refl refl refl refl (inl refl)
+
+pub returns-in-Err-2-clause-happens : goal.returns-in-Err-2-clause-happens
+returns-in-Err-2-clause-happens c since before later stands =
+    let g = c.args.self.now in
+    stands_kept c.args.now g (record g { agent = c.take.new.self }) (same_tables g.agent c.take.new.self (c.args.now / 1000) c.args.datagram.now (refusal_answer c.in-Err.refused.why.refusal) c.in-Err.ensures.takes) refl refl refl refl
+    (keeps_same c.args.now g.sets.sets.items g.sets.sets.items refl) since before later stands
+
+pub returns-in_err-message-clause-err : goal.returns-in_err-message-clause-err
+returns-in_err-message-clause-err c =
+    let g = c.args.self.now in
+    on_err c.from_residual.result _ (as_before c.args.now g (record g { agent = c.take.new.self }) c.in-Ok.ensures.takes.1 refl refl refl refl refl (inl refl))

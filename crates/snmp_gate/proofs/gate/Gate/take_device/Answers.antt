@@ -1,16 +1,25 @@
-use Rattle.std.proofs.Common.{subst, sym}
+use Rattle.std.proofs.Common.{None, inl, refl, subst, sym, ◌∙◌}
 use Rattle.snmp_msg.specs.Pdu.{pdu_of}
 use Rattle.vacm_core.specs.Tables.{Tables}
-use Rattle.snmp_gate.specs.Taking.{WaitsFor, WorkAfter}
+use Rattle.std.specs.List.{HoldsAt}
+use Rattle.snmp_gate.specs.History.{answered, open_ask}
+use Rattle.snmp_gate.specs.Taking.{IsCommunityOfWork, WaitsFor, WorkAfter}
+use Rattle.snmp_gate.specs.declared.devices.Device.{Device}
 use Rattle.snmp_gate.specs.Work.{TaskStands}
 use Rattle.snmp_gate.specs.declared.requests.WaitingRequest.{WaitingRequest}
 use Rattle.snmp_gate.specs.declared.waiting_message.WaitingMessage.{WaitingMessage}
 use Rattle.snmp_gate.specs.declared.work.Work.{Work}
+use Rattle.snmp_gate.proofs.GroupSteps.{on_err}
 use Rattle.snmp_gate.proofs.Histories.{answered_all}
+use Rattle.snmp_gate.proofs.AsksKept.{answered_asks, same_id}
+use Rattle.snmp_gate.proofs.Keeping.{stands_later}
+use Rattle.snmp_gate.proofs.Others.{chosen, open_other}
+use Rattle.snmp_gate.proofs.SetsGoing.{answered_sets, kept_stands}
+use Rattle.snmp_gate.proofs.Same.{same_messages}
 use Rattle.snmp_gate.proofs.gate.Gate.take_device.Goals as goal
 
-pub returns : goal.returns
-returns c before stands =
+pub returns-clause-happens : goal.returns-clause-happens
+returns-clause-happens c since before later stands =
     let g = c.args.self.now in
     let rs = g.requests.list.items in
     let place = c.in-Some-place_of.place in
@@ -18,11 +27,50 @@ returns c before stands =
     let at = c.in-Some-place_of.ensures.place in
     let r = c.index_mut-request.result.now in
     let w = c.take_answer.new.work in
+    let waits = subst (λ (x : WaitingRequest WaitingMessage Work). WaitsFor c.args.device id x.work) (sym c.index_mut-request.ensures.value) (at.waits r) in
     let both = answered_all g.agent.tables g.devices.list.items before g.requests.next rs place r w c.args.device id c.in-Some.answer.pdu c.args.datagram.now c.in-Some.answer.community.now
-    at.within c.index_mut-request.ensures.value
-    (subst (λ (x : WaitingRequest WaitingMessage Work). WaitsFor c.args.device id x.work) (sym c.index_mut-request.ensures.value) (at.waits r))
+    at.within c.index_mut-request.ensures.value waits
     at.id_is c.in-Some.ensures
+    (subst (λ (x : WaitingRequest WaitingMessage Work). HoldsAt (λ (d : Device). IsCommunityOfWork d c.in-Some.answer.community.now x.work) g.devices.list.items c.args.device) (sym c.index_mut-request.ensures.value) (at.pays r))
     (λ o q told asked is says known. subst (λ (t : Tables). WorkAfter t q told o w) c.tables.ensures
-    (c.in_ok-take_answer.ensures o q told asked is says (subst (λ (t : Tables). TaskStands t q told o.task.task) (sym c.tables.ensures) known)))
-    stands in
-    (pdu_of c.in-Some.answer.pdu, record { lawful = both.0; stands = both.1 })
+    (c.in_ok-take_answer.ensures.after o q told asked is says (subst (λ (t : Tables). TaskStands t q told o.task.task) (sym c.tables.ensures) known)))
+    stands.requests in
+    let now = answered r.number c.args.device (pdu_of c.in-Some.answer.pdu) c.args.datagram.now in
+    let s : WaitingRequest WaitingMessage Work = record { number = r.number; first = r.first; others = r.others; work = w } in (
+      pdu_of c.in-Some.answer.pdu,
+      record {
+        lawful = record { mediated = both.0; in_turn = tt; own_id = tt; once = tt };
+        stands = record {
+          requests = both.1;
+          asks = answered_asks now before r.number c.args.device id g.asks.items c.index_mut.result.now c.end.new.self c.end.result
+              (chosen r.number None (open_ask r.number before)) (λ k other. open_other now before k other) c.in-Some-place_of.ensures.asks c.index_mut.ensures.value c.end.ensures.ended
+              both.0.ask both.0.is_open both.0.device_is (same_id both.0.ask.id id (sym both.0.id_is ∙ at.id_is)) stands.asks;
+          sets = answered_sets since c.args.now r.number c.args.device (pdu_of c.in-Some.answer.pdu) c.args.datagram.now before rs place r s g.sets.sets.items later at.within c.index_mut-request.ensures.value refl c.in_ok-take_answer.ensures.no_set stands.sets;
+        };
+      },
+    )
+
+pub returns-in_default-clause-happens : goal.returns-in_default-clause-happens
+returns-in_default-clause-happens c = stands_later c.args.now c.args.self.now
+
+pub returns-in_default-place_of-clause-happens : goal.returns-in_default-place_of-clause-happens
+returns-in_default-place_of-clause-happens c = stands_later c.args.now c.args.self.now
+
+pub returns-in_err-take_answer-clause-err : goal.returns-in_err-take_answer-clause-err
+returns-in_err-take_answer-clause-err c =
+    let g = c.args.self.now in
+    let rs = g.requests.list.items in
+    let place = c.in-Some-place_of.place in
+    let r = c.index_mut-request.result.now in
+    let w = c.take_answer.new.work in
+    let s : WaitingRequest WaitingMessage Work = record { number = r.number; first = r.first; others = r.others; work = w } in
+    on_err c.from_residual.result _ (record {
+      agent = refl;
+      devices = refl;
+      limits = refl;
+      asks = refl;
+      messages = same_messages rs place r s c.in-Some-place_of.ensures.place.within c.index_mut-request.ensures.value refl;
+      next = refl;
+      sets = inl refl;
+      stands = kept_stands c.args.now g _ place r w refl refl refl refl refl refl c.in-Some-place_of.ensures.place.within c.index_mut-request.ensures.value c.in_err-take_answer.ensures.err;
+    })

@@ -1,0 +1,109 @@
+-- A request that is given up.
+use Rattle.std.specs.Prelude.{◌≡◌, ◌∷◌, ◌<◌, ◌≤◌, ℕ, suc, zero, List, [], Option, Some, None, IfSome, length, slice_index_or}
+use Rattle.std.specs.List.{HoldsAt}
+use Rattle.std.proofs.Common.{refl, sym, ap, subst, ◌∙◌, arith}
+use Rattle.snmp_gate.specs.Devices.{IsDeviceOf}
+use Rattle.snmp_gate.specs.Groups.{Group, IsWorked, group_of, groups_of}
+use Rattle.snmp_gate.specs.History.{AskedBy, Happening, given_up, open_ask, told_in}
+use Rattle.snmp_gate.specs.Question.{Question}
+use Rattle.snmp_gate.specs.Sending.{IsAskedAt, IsGivenUp, IsOpenAt}
+use Rattle.snmp_gate.specs.Waiting.{EndsAsk, GateStands, GroupStands, Happens, OpenStands, SetsStand, WorkStands, asks_in}
+use Rattle.snmp_gate.specs.Work.{variables_of_task}
+use Rattle.snmp_msg.specs.Variables.{Variable}
+use Rattle.snmp_gate.specs.declared.asks.TheConstants.{REQUEST_IDS}
+use Rattle.snmp_gate.specs.declared.devices.Devices.{Devices}
+use Rattle.snmp_gate.specs.declared.gate.Gate.{Gate}
+use Rattle.snmp_gate.specs.declared.requests.WaitingRequest.{WaitingRequest}
+use Rattle.snmp_gate.specs.declared.sets.RememberedSets.{RememberedSets}
+use Rattle.snmp_gate.specs.declared.waiting_message.WaitingMessage.{WaitingMessage}
+use Rattle.snmp_gate.specs.declared.work.OpenRequest.{OpenRequest}
+use Rattle.snmp_gate.specs.declared.work.RequestEnd.{RequestEnd}
+use Rattle.snmp_gate.specs.declared.work.Work.{Work}
+use Rattle.snmp_gate.specs.declared.work.Work.TheVariants.{Open, Ends}
+use Rattle.snmp_gate.proofs.Asked.{none_is_some}
+use Rattle.snmp_gate.proofs.AsksKept.{asks_ended, long_lists}
+use Rattle.snmp_gate.proofs.Endings.{one_open}
+use Rattle.snmp_gate.proofs.GroupSteps.{group_at}
+use Rattle.snmp_gate.proofs.Histories.{asked_by, given_up_all, given_up_ends, group_in, moved}
+use Rattle.snmp_gate.proofs.Others.{chosen, open_other}
+use Rattle.snmp_gate.proofs.SetsGoing.{given_up_sets}
+use Rattle.std.proofs.lemmas.List.{get_or_default}
+
+-- what is known of the request at the place
+record IsKnownAt (old : Gate) (before : List Happening) (place number device : ℕ) : Type 0 where
+  pub request : WaitingRequest WaitingMessage Work
+  pub is : request ≡ slice_index_or old.requests.list.items place request
+  pub group : GroupStands old.agent.tables old.devices.list.items before (group_of request)
+  pub number_is : request.number ≡ number
+  pub waits : OpenRequest
+  pub opened : OpenStands old.agent.tables old.devices.list.items before request.number group.question waits
+  pub work_is : request.work ≡ Open waits
+  pub device_is : waits.device ≡ device
+
+known_at : (old : Gate) (since : ℕ) (before : List Happening) (place number device : ℕ) (r : WaitingRequest WaitingMessage Work) → r ≡ slice_index_or old.requests.list.items place r → place < length old.requests.list.items
+    → IsOpenAt old.requests.list.items place device number → GateStands since before old → IsKnownAt old before place number device
+known_at old since before place number device r is within opened stands =
+    let rs = old.requests.list.items in
+    let group = group_in old.agent.tables old.devices.list.items before old.requests.next (groups_of rs) place (group_of r) (group_at rs place r within is) stands.requests in
+    let at = subst (λ (x : WaitingRequest WaitingMessage Work). (x.number ≡ number) × ((o : OpenRequest) × (x.work ≡ Open o) × (o.device ≡ device))) (sym is) (opened r) in record {
+      request = r;
+      is = is;
+      group = group;
+      number_is = at.0;
+      waits = at.1.0;
+      opened = subst (λ (w : Work). WorkStands old.agent.tables old.devices.list.items before r.number group.question w) at.1.1 group.work;
+      work_is = at.1.1;
+      device_is = at.1.2;
+    }
+
+-- if it is asked with a request-id, that is open
+asked_open : (old : Gate) (before : List Happening) (place number device : ℕ) (known : IsKnownAt old before place number device) (asked : Option ℕ) → IfSome asked (λ id. (id < REQUEST_IDS) × IsAskedAt old.requests.list.items place id) → (i : ℕ) → asked ≡ Some i
+    → (vs : List Variable) × (open_ask number before ≡ Some (record { device = device; id = i; variables = vs }))
+asked_open old before place number device known None asks i is = absurd (none_is_some i is)
+asked_open old before place number device known (Some id) asks i is =
+    let r = known.request in
+    let o = subst (λ (x : WaitingRequest WaitingMessage Work). (p : OpenRequest) × (x.work ≡ Open p) × (p.asked ≡ Some id)) (sym known.is) (asks.1 r) in
+    let same = one_open r.work o.0 known.waits o.1 known.work_is in
+    let asked_is : known.waits.asked ≡ Some i = ap (λ (p : OpenRequest). p.asked) (sym same) ∙ o.2 ∙ is in
+    let vs = variables_of_task known.group.question known.waits.task.task in (
+      vs,
+      subst (λ (n : ℕ). open_ask n before ≡ Some (record { device = device; id = i; variables = vs })) known.number_is
+          (known.opened.asked i asked_is ∙ (λ j. Some (record { device = known.device_is j; id = i; variables = vs }))),
+    )
+
+-- what stands at a place
+pick : {X : Type 0} (xs : List X) (i : ℕ) → i < length xs → (x : X) × (x ≡ slice_index_or xs i x)
+pick [] i within = absurd (omega (arith, within))
+pick (x ∷ xs) zero within = (x, refl)
+pick (x ∷ xs) (suc i) within = pick xs i (omega (arith, within))
+
+pub gives_up : (old new : Gate) (since now : ℕ) (before : List Happening) (place number device : ℕ) (asked : Option ℕ) (was : Work) (e : RequestEnd) → since ≤ now
+    → place < length old.requests.list.items → IsOpenAt old.requests.list.items place device number × (device < length old.asks.items) × (device < length old.devices.list.items)
+    → IfSome asked (λ id. (id < REQUEST_IDS) × IsAskedAt old.requests.list.items place id) → IsGivenUp e → new.agent.tables ≡ old.agent.tables → new.devices ≡ old.devices → new.requests.next ≡ old.requests.next → new.sets ≡ old.sets
+    → IsWorked (groups_of old.requests.list.items) place was (Ends e) (groups_of new.requests.list.items) → EndsAsk device asked (asks_in old.asks.items) (asks_in new.asks.items) → GateStands since before old → Happens old now before (given_up number device) new
+gives_up old new since now before place number device asked was e later within opened asks ends tables devices next sets worked ended stands =
+    let rs = old.requests.list.items in
+    let one = pick rs place within in
+    let r = one.0 in
+    let is = one.1 in
+    let gs = groups_of rs in
+    let news = groups_of new.requests.list.items in
+    let known = known_at old since before place number device r is within opened.0 stands in
+    let at = group_at rs place r within is in
+    let same : group_of known.request ≡ worked.group = (group_at rs place known.request within known.is).group_is ∙ get_or_default gs place (group_of known.request) worked.group at.within ∙ sym worked.at.group_is in
+    let by = asked_by old.agent.tables old.devices.list.items before known.request known.group in
+    let now_up = given_up number device in record {
+      lawful = record {
+        mediated = (known.group.question, subst (λ (n : ℕ). AskedBy before n known.group.question) known.number_is by, subst (IsDeviceOf old.devices.list.items known.group.question.context) known.device_is known.opened.device);
+        in_turn = tt;
+        own_id = tt;
+        once = tt;
+      };
+      stands = record {
+        requests = moved old.agent.tables new.agent.tables old.devices.list.items new.devices.list.items (now_up ∷ before) old.requests.next new.requests.next news news tables (ap (λ (d : Devices). d.list.items) devices) next refl
+            (given_up_all old.agent.tables old.devices.list.items before old.requests.next gs news place number device was e (given_up_ends old.agent.tables e ends) worked (sym (ap (λ (g : Group WaitingMessage Work). g.number) same) ∙ known.number_is) stands.requests);
+        asks = asks_ended now_up before number device (chosen number None (open_ask number before)) (λ k other. open_other now_up before k other) asked (asks_in old.asks.items) (asks_in new.asks.items)
+            (omega (arith, opened.1, long_lists old.asks.items)) ended (asked_open old before place number device known asked asks) stands.asks;
+        sets = subst (λ (s : RememberedSets). SetsStand now (now_up ∷ before) news s.sets.items) (sym sets) (given_up_sets since now number device before gs news place was e old.sets.sets.items later worked stands.sets);
+      };
+    }

@@ -1,0 +1,137 @@
+-- Requests that stay what they were, where memory runs out.
+use Rattle.std.specs.Prelude.{◌≡◌, ◌<◌, ◌∷◌, ◌++◌, ℕ, List, [], All, Some, length, map, slice_index_or, slice_set}
+use Rattle.std.proofs.Common.{refl, sym, ap, subst, ◌∙◌}
+use Rattle.std.proofs.Math.Seq.{map-set_same}
+use Rattle.snmp_msg.specs.Variables.{Variable}
+use Rattle.vacm_core.specs.Tables.{Tables}
+use Rattle.snmp_walk.specs.BulkAnswer.{AllSaySame}
+use Rattle.snmp_walk.specs.BulkColumn.{BulkStands}
+use Rattle.snmp_walk.specs.declared.bulk_column.BulkColumn.{BulkColumn}
+use Rattle.snmp_walk.specs.declared.bulk_dialogue.BulkDialogue.{BulkDialogue}
+use Rattle.snmp_walk.specs.Bindings.{given_says}
+use Rattle.snmp_walk.specs.BulkColumn.{StandsInBulk, given_in}
+use Rattle.snmp_walk.specs.BulkSteps.{SaysSame}
+use Rattle.snmp_walk.specs.declared.column.Progress.{Progress}
+use Rattle.snmp_walk.specs.declared.given.GivenVariable.{GivenVariable}
+use Rattle.snmp_gate.specs.Devices.{IsDeviceOf}
+use Rattle.snmp_gate.specs.Groups.{Group, group_of, groups_of}
+use Rattle.snmp_gate.specs.History.{Happening, open_ask, told_in}
+use Rattle.snmp_gate.specs.Messages.{seen_in}
+use Rattle.snmp_gate.specs.Noting.{AsksSet}
+use Rattle.snmp_gate.specs.Question.{Question}
+use Rattle.snmp_gate.specs.ReadAsks.{bulk_variables_asked, variables_in}
+use Rattle.snmp_gate.specs.Sending.{Requests}
+use Rattle.snmp_gate.specs.Taking.{BulkSaysSame, OpenSaysSame, TaskSaysSame, WorkSaysSame}
+use Rattle.snmp_gate.specs.Waiting.{GroupStands, GroupsStand, OpenStands, WorkStands, messages_in}
+use Rattle.snmp_gate.specs.Work.{BulkStandsFor, TaskStands, variables_of_task}
+use Rattle.snmp_gate.specs.declared.devices.Device.{Device}
+use Rattle.snmp_gate.specs.declared.requests.WaitingRequest.{WaitingRequest}
+use Rattle.snmp_gate.specs.declared.task.Task.{Task}
+use Rattle.snmp_gate.specs.declared.task.Task.TheVariants as task
+use Rattle.snmp_gate.specs.declared.waiting_message.WaitingMessage.{WaitingMessage}
+use Rattle.snmp_gate.specs.declared.work.OpenRequest.{OpenRequest}
+use Rattle.snmp_gate.specs.declared.work.Work.{Work}
+use Rattle.snmp_gate.specs.declared.work.Work.TheVariants.{Open, Ends}
+use Rattle.snmp_gate.proofs.GroupSteps.{group_at, groups_set}
+use Rattle.snmp_gate.proofs.Histories.{all_set, group_in, numbered_set}
+use Rattle.std.proofs.lemmas.List.Elements.{All-cons, All-head, All-nil, All-tail}
+
+column_stands : (Seen : List ℕ → Type 0) (told : List Variable) (old new : BulkColumn) → SaysSame old new → BulkStands Seen told old → BulkStands Seen told new
+column_stands Seen told old new says stands =
+    subst (λ (p : Progress). StandsInBulk Seen told new.first (given_in new) p) (sym says.progress)
+    (subst (λ (gs : List GivenVariable). StandsInBulk Seen told new.first (map given_says gs) old.progress) (sym says.given)
+    (subst (λ (r : List ℕ × ℕ). StandsInBulk Seen told r.0 (given_in old) old.progress) (sym says.same) stands))
+
+columns_stand : (Seen : List ℕ → Type 0) (told : List Variable) (olds news : List BulkColumn) → AllSaySame olds news → All (BulkStands Seen told) olds → All (BulkStands Seen told) news
+columns_stand Seen told olds [] zip all = All-nil (BulkStands Seen told)
+columns_stand Seen told [] (n ∷ ns) zip all = absurd zip
+columns_stand Seen told (o ∷ os) (n ∷ ns) zip all = All-cons (BulkStands Seen told) n ns (column_stands Seen told o n zip.0 (All-head (BulkStands Seen told) o os all))
+    (columns_stand Seen told os ns zip.1 (All-tail (BulkStands Seen told) o os all))
+
+columns_ask : (olds news : List BulkColumn) → AllSaySame olds news → bulk_variables_asked news ≡ bulk_variables_asked olds
+columns_ask [] [] zip = refl
+columns_ask [] (n ∷ ns) zip = absurd zip
+columns_ask (o ∷ os) [] zip = absurd zip
+columns_ask (o ∷ os) (n ∷ ns) zip = λ i. variables_in (zip.0.progress i) ++ columns_ask os ns zip.1 i
+
+bulk_stands_same : (tables : Tables) (q : Question) (told : List Variable) (old new : BulkDialogue) → BulkSaysSame old new → BulkStandsFor tables q told old → BulkStandsFor tables q told new
+bulk_stands_same tables q told old new same stands = record {
+  tag = stands.tag;
+  non_repeaters = stands.non_repeaters;
+  first = stands.first;
+  max_repetitions = stands.max_repetitions;
+  most = stands.most;
+  requests_are = same.requests ∙ stands.requests_are;
+  stand = columns_stand (seen_in tables q) told old.columns.items new.columns.items same.says.columns stands.stand;
+}
+
+task_stands_same : (tables : Tables) (q : Question) (told : List Variable) (old new : Task) → TaskSaysSame old new → TaskStands tables q told old → TaskStands tables q told new
+task_stands_same tables q told (task.Read o d) new same stands = subst (TaskStands tables q told) (sym same) stands
+task_stands_same tables q told task.Set new same stands = subst (TaskStands tables q told) (sym same) stands
+task_stands_same tables q told (task.Bulk by old) (task.Bulk other new) same stands = bulk_stands_same tables q told old new same.1 stands
+task_stands_same tables q told (task.Bulk by old) (task.Read o d) same stands = subst (TaskStands tables q told) (sym same) stands
+task_stands_same tables q told (task.Bulk by old) task.Set same stands = subst (TaskStands tables q told) (sym same) stands
+
+task_asks_same : (q : Question) (old new : Task) → TaskSaysSame old new → variables_of_task q new ≡ variables_of_task q old
+task_asks_same q (task.Read o d) new same = ap (variables_of_task q) same
+task_asks_same q task.Set new same = ap (variables_of_task q) same
+task_asks_same q (task.Bulk by old) (task.Bulk other new) same = columns_ask old.columns.items new.columns.items same.1.says.columns
+task_asks_same q (task.Bulk by old) (task.Read o d) same = ap (variables_of_task q) same
+task_asks_same q (task.Bulk by old) task.Set same = ap (variables_of_task q) same
+
+-- a Set stays a Set
+pub task_set_same : (old new : Task) → TaskSaysSame old new → new ≡ task.Set → old ≡ task.Set
+task_set_same (task.Read o d) new same set = sym same ∙ set
+task_set_same task.Set new same set = refl
+task_set_same (task.Bulk by old) (task.Bulk other new) same set = absurd (let is : task.Bulk other new ≡ task.Set = set in cc)
+task_set_same (task.Bulk by old) (task.Read o d) same set = sym same ∙ set
+task_set_same (task.Bulk by old) task.Set same set = sym same ∙ set
+
+pub work_set_same : (old new : Work) → WorkSaysSame old new → AsksSet new → AsksSet old
+work_set_same (Open old) (Open new) same set = task_set_same old.task.task new.task.task same.task set
+work_set_same (Open old) (Ends e) same set = absurd set
+work_set_same (Ends e) new same set = subst AsksSet same set
+
+open_stands_same : (tables : Tables) (devices : List Device) (before : List Happening) (n : ℕ) (q : Question) (old new : OpenRequest) → OpenSaysSame old new → OpenStands tables devices before n q old → OpenStands tables devices before n q new
+open_stands_same tables devices before n q old new same stands = record {
+  task = task_stands_same tables q (told_in n before) old.task.task new.task.task same.task stands.task;
+  device = subst (IsDeviceOf devices q.context) (sym same.device) stands.device;
+  asked = λ id is. stands.asked id (sym same.asked ∙ is) ∙ (λ i. Some (record { device = sym same.device i; id = id; variables = sym (task_asks_same q old.task.task new.task.task same.task) i }));
+  set_once = λ set none. stands.set_once (task_set_same old.task.task new.task.task same.task set) (sym same.asked ∙ none);
+}
+
+pub work_stands_same : (tables : Tables) (devices : List Device) (before : List Happening) (n : ℕ) (q : Question) (old new : Work) → WorkSaysSame old new → WorkStands tables devices before n q old → WorkStands tables devices before n q new
+work_stands_same tables devices before n q (Open old) (Open new) same stands = open_stands_same tables devices before n q old new same stands
+work_stands_same tables devices before n q (Ends e) new same stands = subst (WorkStands tables devices before n q) (sym same) stands
+work_stands_same tables devices before n q (Open old) (Ends e) same stands = subst (WorkStands tables devices before n q) (sym same) stands
+
+-- all stands as it did, where the work at a place says the same
+pub all_stand_same : (tables : Tables) (devices : List Device) (before : List Happening) (next : ℕ) (rs : Requests) (place : ℕ) (r : WaitingRequest WaitingMessage Work) (w : Work) → place < length rs → r ≡ slice_index_or rs place r
+    → WorkSaysSame r.work w → GroupsStand tables devices before next (groups_of rs)
+    → GroupsStand tables devices before next (groups_of (slice_set rs place (record { number = r.number; first = r.first; others = r.others; work = w })))
+all_stand_same tables devices before next rs place r w within is same stands =
+    let at = group_at rs place r within is in
+    let group = group_in tables devices before next (groups_of rs) place (group_of r) at stands in
+    let new : WaitingRequest WaitingMessage Work = record { number = r.number; first = r.first; others = r.others; work = w } in
+    let new_stands : GroupStands tables devices before (group_of new) = record {
+      question = group.question;
+      asks = group.asks;
+      are_accepted = group.are_accepted;
+      wait = group.wait;
+      one = group.one;
+      work = work_stands_same tables devices before r.number group.question r.work w same group.work;
+    } in
+    subst (GroupsStand tables devices before next) (sym (groups_set rs place new)) (record {
+      all = all_set (GroupStands tables devices before) (GroupStands tables devices before) (groups_of rs) place (group_of r) (group_of new) stands.numbered.rise at stands.all new_stands (λ x other it. it);
+      numbered = numbered_set next (groups_of rs) place (group_of r) (group_of new) at refl stands.numbered;
+      past = stands.past;
+    })
+
+-- the same messages ask the same requests
+pub same_messages : (rs : Requests) (place : ℕ) (r s : WaitingRequest WaitingMessage Work) → place < length rs → r ≡ slice_index_or rs place r → ◌≡◌ {A = ℕ × List WaitingMessage} (s.number, s.first ∷ s.others.items) (r.number, r.first ∷ r.others.items)
+    → messages_in (groups_of (slice_set rs place s)) ≡ messages_in (groups_of rs)
+same_messages rs place r s within is same =
+    let both : Group WaitingMessage Work → ℕ × List WaitingMessage = λ g. (g.number, g.messages) in
+    ap (map both) (groups_set rs place s)
+    ∙ map-set_same both (groups_of rs) place (group_of s) (group_of r)
+    (same ∙ ap both (group_at rs place r within is).group_is)

@@ -1,0 +1,12 @@
+use Rattle.std.specs.Prelude.{◌≡◌, ◌<◌, ℕ, List, [], All}
+use Rattle.std.proofs.Common.{arith, sym}
+use Rattle.snmp_gate.proofs.AsksKept.{asks_first}
+use Rattle.snmp_gate.proofs.SetsKept.{nothing_stands, sets_first}
+use Rattle.snmp_gate.proofs.gate.Gate.new.Goals as goal
+
+pub returns-clause-stands : goal.returns-clause-stands
+returns-clause-stands c = record {
+  requests = nothing_stands c.args.agent.tables c.args.devices.list.items c.new.result.next c.new.result.list.items c.new.ensures.list;
+  asks = asks_first c.in_ok-asks.asks.items c.in_ok-asks.ensures.none;
+  sets = sets_first c.new.result.list.items c.new-2.result.sets.items;
+}
