@@ -137,6 +137,10 @@ impl Gateways {
     fn tables(&self, row: &mut Row<'_>) -> Option<Vacm> {
         match AccessConfig::read(row.alloc, &self.tables) {
             Ok(config) => Some(config.access),
+            Err(fault) if fault.is_memory() => {
+                row.lack();
+                None
+            }
             Err(_) => {
                 row.fail("tables that are read");
                 None
@@ -202,28 +206,57 @@ fn of_gate(gate: &mut Gate, row: &mut Row<'_>) {
     }
 }
 
-/// `take_client NOW CLIENT DATAGRAM`.
+/// What is seen of a gateway: how many requests wait, and when it has something to do.
+fn seen(gate: &Gate) -> (usize, Option<u64>) {
+    (gate.waiting(), gate.due())
+}
+
+/// Whether a call is made again that found no memory: the gateway is to be as it was.
+fn is_again(gate: &Gate, before: (usize, Option<u64>), row: &mut Row<'_>) -> bool {
+    let is_same = seen(gate) == before;
+    if !is_same {
+        row.fail("a call that finds no memory leaves the gateway as it was");
+    }
+    is_same
+}
+
+/// `take_client NOW CLIENT DATAGRAM`. It is taken again if there was no memory.
 fn take_client(gate: &mut Gate, row: &mut Row<'_>) {
     let (now, client, datagram) = (row.number(), row.octets(), row.octets());
-    match gate.take_client(now, client, datagram) {
+    let before = seen(gate);
+    let mut taken = gate.take_client(now, client, datagram);
+    if taken.is_err() && is_again(gate, before, row) {
+        taken = gate.take_client(now, client, datagram);
+    }
+    match taken {
         Ok(taken) => say_taken(row, &taken),
         Err(_) => row.lack(),
     }
 }
 
-/// `take_device NOW NUMBER DATAGRAM`.
+/// `take_device NOW NUMBER DATAGRAM`. It is taken again if there was no memory.
 fn take_device(gate: &mut Gate, row: &mut Row<'_>) {
     let (now, device, datagram) = (row.number(), row.place(), row.octets());
-    match gate.take_device(now, device, datagram) {
+    let before = seen(gate);
+    let mut taken = gate.take_device(now, device, datagram);
+    if taken.is_err() && is_again(gate, before, row) {
+        taken = gate.take_device(now, device, datagram);
+    }
+    match taken {
         Ok(taken) => row.say(format!(in row.alloc; "{taken:?}")),
         Err(_) => row.lack(),
     }
 }
 
-/// `next NOW SALT ID`.
+/// `next NOW SALT ID`. It is called again if there was no memory.
 fn next(gate: &mut Gate, row: &mut Row<'_>) {
     let (now, salt, id) = (row.number(), row.salt(), row.number32());
-    match gate.next(now, salt, id) {
+    let before = seen(gate);
+    let mut sent = gate.next(now, salt, id);
+    if sent.is_err() && is_again(gate, before, row) {
+        sent = gate.next(now, salt, id);
+    }
+    match sent {
         Ok(sent) => say_sent(row, &sent),
         Err(_) => row.lack(),
     }
