@@ -3,3 +3,4 @@ mod InTime
 mod Twice
 mod Begun
 mod Twins
+mod Seen

@@ -6,6 +6,7 @@
 #![tactic(auto)]
 
 mod agents;
+mod gateways;
 mod keys;
 mod managers;
 mod replays;
@@ -15,6 +16,7 @@ mod sealing;
 mod worlds;
 
 pub use agents::same_answer;
+pub use gateways::{Out, send};
 pub use keys::two_keys_one_code;
 pub use managers::{take_all_the_same, take_one, take_wrong_digest};
 pub use replays::accept_twice;

@@ -5,8 +5,36 @@
 //! can't be understood.
 #![tactic(auto)]
 
+use anyhow::{Error, ensure};
+use std::env;
 use std::process::ExitCode;
-use tests_subjects::check_files;
+use std::rt::{Env, Files};
+use tests_gateway::Gateways;
+use tests_subjects::{Count, check_file, check_named};
+
+/// Checks the rows of a file by the subject of its name, which is what is after the last slash.
+fn check<R: Files + Print + AllocGlobal>(rt: &R, file: &str) -> Result<Count, Error> {
+    let name = match file.rsplit_once('/') {
+        Some((_, name)) => name,
+        None => file,
+    };
+    match name {
+        "gate.rows" | "gate_devices.rows" => check_file::<R, Gateways>(rt, file),
+        _ => check_named(rt, file, name),
+    }
+}
+
+/// Checks the files that the arguments name. Gives whether each row passed.
+fn check_files<R: Files + Env + Print + AllocGlobal>(rt: &R) -> Result<bool, Error> {
+    let words: Vec<String> = env::args(rt)?.collect(rt.alloc())?;
+    ensure!(words.len() > 1, "usage: tests_rows FILE..");
+    let mut count = Count::new();
+    for file in words.iter().skip(1) {
+        count.add(check(rt, file)?);
+    }
+    println!(rt; "{} passed, {} failed", count.passed, count.failed)?;
+    Ok(count.failed == 0)
+}
 
 fn main(rt: HostRuntime) -> ExitCode {
     match check_files(&rt) {

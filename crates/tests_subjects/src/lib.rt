@@ -15,4 +15,4 @@ mod stations;
 mod walk;
 mod world;
 
-pub use rows::check_files;
+pub use rows::{Count, check_file, check_named};

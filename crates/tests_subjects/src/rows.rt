@@ -9,10 +9,10 @@ use crate::replay::Logs;
 use crate::stations::Stations;
 use crate::walk::Walks;
 use crate::world::Sharing;
-use anyhow::{Context, Error, bail, ensure};
+use anyhow::{Context, Error, bail};
 use std::alloc::Global;
-use std::rt::{Env, Files};
-use std::{env, fs};
+use std::fs;
+use std::rt::Files;
 use tests_messages::ber::Elements;
 use tests_messages::clocks::Held;
 use tests_messages::keys::Keys;
@@ -23,21 +23,22 @@ use tests_messages::usm::Sealing;
 
 /// How many rows passed, and how many failed.
 #[derive(Clone, Copy)]
-struct Count {
-    passed: u64,
-    failed: u64,
+pub struct Count {
+    pub passed: u64,
+    pub failed: u64,
 }
 
 impl Count {
     /// No row.
-    fn new() -> Count {
+    pub fn new() -> Count {
         Count {
             passed: 0,
             failed: 0,
         }
     }
 
-    fn add(&mut self, other: Count) {
+    /// Counts those of another file too.
+    pub fn add(&mut self, other: Count) {
         self.passed = self.passed.saturating_add(other.passed);
         self.failed = self.failed.saturating_add(other.failed);
     }
@@ -146,7 +147,7 @@ fn check_text<R: Print + AllocGlobal, S: Subject>(
 }
 
 /// Checks the rows of a file, and prints how many passed.
-fn check_file<R: Files + Print + AllocGlobal, S: Subject>(
+pub fn check_file<R: Files + Print + AllocGlobal, S: Subject>(
     rt: &R,
     file: &str,
 ) -> Result<Count, Error> {
@@ -156,12 +157,12 @@ fn check_file<R: Files + Print + AllocGlobal, S: Subject>(
     Ok(count)
 }
 
-/// Checks the rows of a file by the subject of its name, which is what is after the last slash.
-fn check_named<R: Files + Print + AllocGlobal>(rt: &R, file: &str) -> Result<Count, Error> {
-    let name = match file.rsplit_once('/') {
-        Some((_, name)) => name,
-        None => file,
-    };
+/// Checks the rows of a file by the subject of this name.
+pub fn check_named<R: Files + Print + AllocGlobal>(
+    rt: &R,
+    file: &str,
+    name: &str,
+) -> Result<Count, Error> {
     match name {
         "ber.rows" => check_file::<R, Elements>(rt, file),
         "message.rows" => check_file::<R, Messages>(rt, file),
@@ -181,16 +182,4 @@ fn check_named<R: Files + Print + AllocGlobal>(rt: &R, file: &str) -> Result<Cou
         "replay.rows" => check_file::<R, Logs>(rt, file),
         _ => bail!("{file}: no subject has this name"),
     }
-}
-
-/// Checks the files that the arguments name. Gives whether each row passed.
-pub fn check_files<R: Files + Env + Print + AllocGlobal>(rt: &R) -> Result<bool, Error> {
-    let words: Vec<String> = env::args(rt)?.collect(rt.alloc())?;
-    ensure!(words.len() > 1, "usage: tests_rows FILE..");
-    let mut count = Count::new();
-    for file in words.iter().skip(1) {
-        count.add(check_named(rt, file)?);
-    }
-    println!(rt; "{} passed, {} failed", count.passed, count.failed)?;
-    Ok(count.failed == 0)
 }

@@ -1,0 +1,79 @@
+-- What is told of a request has nothing hidden, and what is asked neither.
+use Rattle.std.specs.Prelude.{◌≡◌, ◌⊎◌, ◌<◌, ℕ, pos, List, All, Contains, slice_index_or}
+use Rattle.std.specs.Global.{Vec}
+use Rattle.std.proofs.Common.{inl, inr, sym, subst, arith}
+use Rattle.std.proofs.lemmas.List.Elements.{All-weaker, All-contains_itself, AllZip-get_or, length_all_zip}
+use Rattle.snmp_msg.specs.Variables.{Variable, variables_of}
+use Rattle.snmp_msg.specs.declared.pdu_type.PduType.TheVariants.{GetNextRequest}
+use Rattle.vacm_core.specs.Tables.{Tables}
+use Rattle.snmp_incoming.specs.Outcome.{Given}
+use Rattle.snmp_walk.specs.Column.{MayShow}
+use Rattle.snmp_walk.specs.declared.operation.ReadOperation.{ReadOperation}
+use Rattle.snmp_walk.specs.declared.operation.ReadOperation.TheVariants.{Get, GetNext}
+use Rattle.snmp_gate.specs.History.{Happening, MayAskFor, MayAskName, reads, bulk, sets, told_in}
+use Rattle.snmp_gate.specs.Messages.{seen_in}
+use Rattle.snmp_gate.specs.Question.{Question}
+use Rattle.snmp_gate.specs.Replies.{Answering, IsAnswerTo, IsReported, IsSent, MayTellBulk, MayTellValues, Told, columns, front, set}
+use Rattle.snmp_gate.specs.Waiting.{SendHappens}
+use Rattle.snmp_gate.specs.declared.devices.Device.{Device as DeviceIs}
+use Rattle.snmp_gate.specs.declared.gate.Gate.{Gate}
+use Rattle.snmp_gate.specs.declared.gate.Sent.{Sent}
+use Rattle.snmp_gate.specs.declared.gate.Sent.TheVariants as out
+use Rattle.tests_callers.specs.declared.gateways.Out.TheVariants.{Client, Device}
+use Rattle.tests_callers.specs.Hidden.{AsksSeen, IsOwnOrSeen, KeepsHidden, is_own, is_empty, is_seen, gets, walks}
+use Rattle.tests_callers.specs.Hidden as hidden
+
+shown : (Seen : List ℕ → Type 0) (own said : List Variable) (operation : ReadOperation) (first : List ℕ) (v : Variable) → MayShow Seen said operation first v → IsOwnOrSeen Seen own said v
+shown Seen own said Get first v (inl hidden) = is_empty hidden.1.empty
+shown Seen own said Get first v (inr (seen, named, reply, told)) = is_seen (subst Seen (sym named) seen) told
+shown Seen own said GetNext first v (inl (seen, before, value, told)) = is_seen seen told
+shown Seen own said GetNext first v (inr end) = is_empty end.1.empty
+
+of_own : (tables : Tables) (q : Question) (said vs : List Variable) → vs ≡ variables_of q.list → All (IsOwnOrSeen (seen_in tables q) (variables_of q.list) said) vs
+of_own tables q said vs own =
+    subst (All (IsOwnOrSeen (seen_in tables q) (variables_of q.list) said)) (sym own)
+    (All-weaker (Contains (variables_of q.list)) (IsOwnOrSeen (seen_in tables q) (variables_of q.list) said) (λ v there. is_own there) (variables_of q.list) (All-contains_itself (variables_of q.list)))
+
+values : (tables : Tables) (q : Question) (said vs : List Variable) → MayTellValues tables q said vs → All (IsOwnOrSeen (seen_in tables q) (variables_of q.list) said) vs
+values tables q said vs (columns operation tag each) = λ k d lt.
+    shown (seen_in tables q) (variables_of q.list) said operation _ _
+    (AllZip-get_or (λ (asked v : Variable). MayShow (seen_in tables q) said operation asked.name v) (variables_of q.list) vs k d d each (subst (λ (n : ℕ). k < n) (sym (length_all_zip _ (variables_of q.list) vs each)) lt))
+values tables q said vs (front tag each) =
+    All-weaker (MayTellBulk (seen_in tables q) said (variables_of q.list)) (IsOwnOrSeen (seen_in tables q) (variables_of q.list) said)
+    (λ v may. shown (seen_in tables q) (variables_of q.list) said GetNext _ v may.shows) vs each
+values tables q said vs (set tag own) = of_own tables q said vs own
+
+asks : (tables : Tables) (d : DeviceIs) (q : Question) (said : List Variable) (id : ℕ) (vs : List Variable) (datagram : List ℕ) → MayAskFor tables d q said id vs datagram → AsksSeen tables q said datagram d
+asks tables d q said id vs datagram (reads Get tag each ask) =
+    gets id vs ask
+    (All-weaker (MayAskName q tables said Get) (λ v. seen_in tables q v.name) (λ v may. subst (seen_in tables q) (sym may.may.0) may.may.1) vs each)
+asks tables d q said id vs datagram (reads GetNext tag each ask) = walks GetNextRequest id (pos 0) (pos 0) vs ask each
+asks tables d q said id vs datagram (bulk type second third which tag each ask) = walks type id (pos second) (pos third) vs ask each
+asks tables d q said id vs datagram (sets community write tag same each ask) = hidden.sets community id vs write ask each
+
+answers : (by : Answering) (tables : Tables) (q : Question) (said : List Variable) (g : Given) (datagram : List ℕ) → IsAnswerTo by tables q said g datagram → IsReported by g datagram ⊎ ((told : Told) × IsSent by g told datagram × All (IsOwnOrSeen (seen_in tables q) (variables_of q.list) said) told.variables)
+answers by tables q said g datagram (inr report) = inl report
+answers by tables q said g datagram (inl (told, sent, inl (none, may))) = inr (told, sent, values tables q said told.variables may)
+answers by tables q said g datagram (inl (told, sent, inr (inl (some, own)))) = inr (told, sent, of_own tables q said told.variables own)
+answers by tables q said g datagram (inl (told, sent, inr (inr (big, none)))) = inr (told, sent, subst (All (IsOwnOrSeen (seen_in tables q) (variables_of q.list) said)) (sym none) (λ k d lt. absurd (omega (arith, lt))))
+
+client_shown : (old new : Gate) (before : List Happening) (number : ℕ) (to datagram : Vec ℕ) → SendHappens old before (out.ToClient number to datagram) new → KeepsHidden old before (Client to datagram)
+client_shown old new before number to datagram (m, by, same, happens) =
+    (number, m, by, same, happens.lawful.0, λ q asks. answers by old.agent.tables q (told_in number before) m.kept datagram.items (happens.lawful.1 q asks))
+
+pub to_client : (old new : Gate) (before : List Happening) (sent : Sent) (number : ℕ) (to datagram : Vec ℕ) → sent ≡ out.ToClient number to datagram → SendHappens old before sent new → KeepsHidden old before (Client to datagram)
+to_client old new before sent number to datagram is happens =
+    client_shown old new before number to datagram (subst (λ s. SendHappens old before s new) is happens)
+
+device_asked : (old new : Gate) (before : List Happening) (number to : ℕ) (datagram : Vec ℕ) → SendHappens old before (out.ToDevice number to datagram) new → KeepsHidden old before (Device to datagram)
+device_asked old new before number to datagram (id, vs, happens) = (
+  number,
+  happens.lawful.0,
+  happens.lawful.1,
+  happens.lawful.2,
+  λ d. asks old.agent.tables (slice_index_or old.devices.list.items to d) happens.lawful.0 (told_in number before) id vs datagram.items (happens.lawful.3 d),
+)
+
+pub to_device : (old new : Gate) (before : List Happening) (sent : Sent) (number to : ℕ) (datagram : Vec ℕ) → sent ≡ out.ToDevice number to datagram → SendHappens old before sent new → KeepsHidden old before (Device to datagram)
+to_device old new before sent number to datagram is happens =
+    device_asked old new before number to datagram (subst (λ s. SendHappens old before s new) is happens)
