@@ -21,8 +21,6 @@ mod gate;
 #[cfg(test)]
 mod gate_config;
 #[cfg(test)]
-mod gateway;
-#[cfg(test)]
 mod handles;
 #[cfg(test)]
 mod manager;
