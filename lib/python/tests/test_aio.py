@@ -52,7 +52,7 @@ class Network(asyncio.DatagramProtocol):
 
     def __init__(self, boots=1, lost=0.0, repeated=0.0, late=0.0, config=ACCESS, engine=ENGINE):
         self.lost, self.repeated, self.late, self.engine, self.config = lost, repeated, late, engine, config
-        self.chance, self.variables, self.requests = random.Random(7), dict(VARIABLES), []
+        self.chance, self.variables, self.requests, self.sent = random.Random(7), dict(VARIABLES), [], []
         self.begin(boots)
 
     def begin(self, boots):
@@ -86,6 +86,7 @@ class Network(asyncio.DatagramProtocol):
             why = self.agent.unhandled()
             self.agent.refuse(now, why, secrets.randbits(64)) if why else self.respond(now)
         message = self.agent.message()
+        self.sent.append(message)
         for _ in range(self.times() if message else 0):
             asyncio.get_running_loop().call_later(self.chance.random() * self.late, self.transport.sendto, message, address)
 
@@ -187,6 +188,22 @@ class Asking(unittest.IsolatedAsyncioTestCase):
             self.assertEqual(two._manager.clock(ENGINE), one._manager.clock(ENGINE))
             with self.assertRaises(BadClocks):
                 two.absorb(b"no clocks")
+
+    async def test_what_one_station_has_seen_to_be_old_no_other_accepts(self):
+        async with Network(boots=1) as device, Client(config()) as north, Client(config()) as south:
+            await north.get(self.target(device), SYSTEM)
+            old = device.sent[-1]
+            self.assertIsNone(Client(config())._manager.take(int(time.time()), old))
+            device.begin(2)
+            await south.get(self.target(device), SYSTEM)
+            with tempfile.TemporaryDirectory() as folder:
+                south.save(f"{folder}/south.clocks")
+                north.load(f"{folder}/south.clocks")
+                north.load(f"{folder}/south.clocks")
+            for station in north, south:
+                self.assertEqual(station._manager.take(int(time.time()), old), snmpsec.Refusal.NOT_IN_WINDOW)
+                await station.get(self.target(device), SYSTEM)
+            self.assertEqual(north.saved().split()[:-1], south.saved().split()[:-1])
 
     async def test_many_devices_over_one_socket(self):
         async with Client(config()) as client:
