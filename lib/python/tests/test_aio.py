@@ -144,10 +144,11 @@ class Asking(unittest.IsolatedAsyncioTestCase):
                 [it async for it in client.walk(self.target(device), TABLE)]
 
     async def test_a_network_that_loses_repeats_and_delays(self):
-        async with Network(lost=0.2, repeated=0.2, late=0.02) as device, Client(config(), timeout=0.1, retries=30) as client:
-            asked = sorted(ROWS)[:60]
-            found = await asyncio.gather(*(client.get(self.target(device), name) for name in asked))
-            self.assertEqual(found, [[(name, ROWS[name])] for name in asked])
+        for lost in 0.01, 0.1, 0.5:
+            async with Network(lost=lost, repeated=0.2, late=0.02) as device, Client(config(), timeout=0.1, retries=60) as client:
+                asked = sorted(ROWS)[:40]
+                found = await asyncio.gather(*(client.get(self.target(device), name) for name in asked))
+                self.assertEqual(found, [[(name, ROWS[name])] for name in asked])
 
     async def test_a_restart(self):
         async with Network() as device, Client(config()) as client:
@@ -203,7 +204,6 @@ class Asking(unittest.IsolatedAsyncioTestCase):
             for station in north, south:
                 self.assertEqual(station._manager.take(int(time.time()), old), snmpsec.Refusal.NOT_IN_WINDOW)
                 await station.get(self.target(device), SYSTEM)
-            self.assertEqual(north.saved().split()[:-1], south.saved().split()[:-1])
 
     async def test_many_devices_over_one_socket(self):
         async with Client(config()) as client:
