@@ -14,7 +14,7 @@ use Rattle.snmp_gate.specs.History.{Happening, MayAskFor, MayAskName, reads, bul
 use Rattle.snmp_gate.specs.Messages.{seen_in}
 use Rattle.snmp_gate.specs.Question.{Question}
 use Rattle.snmp_gate.specs.Replies.{Answering, IsAnswerTo, IsReported, IsSent, MayTellBulk, MayTellValues, Told, columns, front, set}
-use Rattle.snmp_gate.specs.Waiting.{SendHappens}
+use Rattle.snmp_gate.specs.Waiting.{SendHappens, answering_at}
 use Rattle.snmp_gate.specs.declared.devices.Device.{Device as DeviceIs}
 use Rattle.snmp_gate.specs.declared.gate.Gate.{Gate}
 use Rattle.snmp_gate.specs.declared.gate.Sent.{Sent}
@@ -57,23 +57,25 @@ answers by tables q said g datagram (inl (told, sent, inl (none, may))) = inr (t
 answers by tables q said g datagram (inl (told, sent, inr (inl (some, own)))) = inr (told, sent, of_own tables q said told.variables own)
 answers by tables q said g datagram (inl (told, sent, inr (inr (big, none)))) = inr (told, sent, subst (All (IsOwnOrSeen (seen_in tables q) (variables_of q.list) said)) (sym none) (λ k d lt. absurd (omega (arith, lt))))
 
-client_shown : (old new : Gate) (before : List Happening) (number : ℕ) (to datagram : Vec ℕ) → SendHappens old before (out.ToClient number to datagram) new → KeepsHidden old before (Client to datagram)
-client_shown old new before number to datagram (m, by, same, happens) =
-    (number, m, by, same, happens.lawful.0, λ q asks. answers by old.agent.tables q (told_in number before) m.kept datagram.items (happens.lawful.1 q asks))
+client_shown : (old new : Gate) (now : ℕ) (before : List Happening) (salt : List ℕ) (number : ℕ) (to datagram : Vec ℕ) → SendHappens old now before salt (out.ToClient number to datagram) new → KeepsHidden old before (Client to datagram)
+client_shown old new now before salt number to datagram (m, same, happens) =
+    let mediated = happens.lawful.mediated in
+    (number, m, answering_at old now salt, same, mediated.0, λ q asks. answers (answering_at old now salt) old.agent.tables q (told_in number before) m.kept datagram.items (mediated.1 q asks))
 
-pub to_client : (old new : Gate) (before : List Happening) (sent : Sent) (number : ℕ) (to datagram : Vec ℕ) → sent ≡ out.ToClient number to datagram → SendHappens old before sent new → KeepsHidden old before (Client to datagram)
-to_client old new before sent number to datagram is happens =
-    client_shown old new before number to datagram (subst (λ s. SendHappens old before s new) is happens)
+pub to_client : (old new : Gate) (now : ℕ) (before : List Happening) (salt : List ℕ) (sent : Sent) (number : ℕ) (to datagram : Vec ℕ) → sent ≡ out.ToClient number to datagram → SendHappens old now before salt sent new → KeepsHidden old before (Client to datagram)
+to_client old new now before salt sent number to datagram is happens =
+    client_shown old new now before salt number to datagram (subst (λ s. SendHappens old now before salt s new) is happens)
 
-device_asked : (old new : Gate) (before : List Happening) (number to : ℕ) (datagram : Vec ℕ) → SendHappens old before (out.ToDevice number to datagram) new → KeepsHidden old before (Device to datagram)
-device_asked old new before number to datagram (id, vs, happens) = (
-  number,
-  happens.lawful.0,
-  happens.lawful.1,
-  happens.lawful.2,
-  λ d. asks old.agent.tables (slice_index_or old.devices.list.items to d) happens.lawful.0 (told_in number before) id vs datagram.items (happens.lawful.3 d),
-)
+device_asked : (old new : Gate) (now : ℕ) (before : List Happening) (salt : List ℕ) (number to : ℕ) (datagram : Vec ℕ) → SendHappens old now before salt (out.ToDevice number to datagram) new → KeepsHidden old before (Device to datagram)
+device_asked old new now before salt number to datagram (id, vs, happens) =
+    let mediated = happens.lawful.mediated in (
+      number,
+      mediated.0,
+      mediated.1,
+      mediated.2,
+      λ d. asks old.agent.tables (slice_index_or old.devices.list.items to d) mediated.0 (told_in number before) id vs datagram.items (mediated.3 d),
+    )
 
-pub to_device : (old new : Gate) (before : List Happening) (sent : Sent) (number to : ℕ) (datagram : Vec ℕ) → sent ≡ out.ToDevice number to datagram → SendHappens old before sent new → KeepsHidden old before (Device to datagram)
-to_device old new before sent number to datagram is happens =
-    device_asked old new before number to datagram (subst (λ s. SendHappens old before s new) is happens)
+pub to_device : (old new : Gate) (now : ℕ) (before : List Happening) (salt : List ℕ) (sent : Sent) (number to : ℕ) (datagram : Vec ℕ) → sent ≡ out.ToDevice number to datagram → SendHappens old now before salt sent new → KeepsHidden old before (Device to datagram)
+to_device old new now before salt sent number to datagram is happens =
+    device_asked old new now before salt number to datagram (subst (λ s. SendHappens old now before salt s new) is happens)

@@ -1,6 +1,6 @@
 //! What goes out of a gateway, of variables that are hidden.
 
-ghost use Rattle.std.specs.Prelude.{List, IfOk};
+ghost use Rattle.std.specs.Prelude.{◌≤◌, ℕ, List, IfOk};
 ghost use Rattle.snmp_gate.specs.History.{Happening};
 ghost use Rattle.snmp_gate.specs.Waiting.{GateStands};
 ghost use Rattle.tests_callers.specs.Hidden.{KeepsHidden};
@@ -23,8 +23,8 @@ pub enum Out {
 /// which the client's message may see. A device is asked for values only of variables that an accepted message for its
 /// context may see.
 pub fn send(gate: &mut Gate, now: u64, salt: [u8; 8], ask_id: u32) -> Result<Out, AllocError>
-    ensures { IfOk result (λ out. (before : List Happening) → GateStands before gate.old
-        → KeepsHidden gate.old before out) }
+    ensures { IfOk result (λ out. (since : ℕ) (before : List Happening) → since ≤ now
+        → GateStands since before gate.old → KeepsHidden gate.old before out) }
 {
     let sent = gate.next(now, salt, ask_id)?;
     match sent {
