@@ -1,7 +1,7 @@
 -- What happens lawfully at a gateway.
 --
--- `IsInTurn`: the message that is answered is the one that waits longest. `HasOwnId`: a device isn't asked twice at once
--- with one request-id. `IsOnce`: a Set goes out once. `IsLawful`: all laws of what happens after a history.
+-- `IsInTurn`: the message that is answered is the one that waits longest. `HasOwnId`: a device isn't asked twice at
+-- once with one request-id. `IsOnce`: a Set goes out once. `IsLawful`: all laws of what happens after a history.
 -- `AreLawful`: each part of a history is lawful after the parts before it.
 use Rattle.std.specs.Prelude.{◌≡◌, ◌≢◌, ◌⊎◌, ⊤, ◌+◌, ◌<◌, ℕ, List, [], ◌∷◌, All, Contains, Some}
 use Rattle.snmp_msg.specs.PduTypes.{pdu_tag}

@@ -92,8 +92,8 @@ pub fn a_request_is_one_question<M: Drop, W: Drop, Q: Drop>()
         → AskOwn question last }
 {}
 
-/// Whatever comes to a new gateway, from clients and from devices, and as long as its moments don't go back: what it
-/// sends has a history that is lawful. So nothing reaches a device but what an accepted message asks and
+/// Whatever clients and devices send to a new gateway, and as long as its moments don't go back: what it sends has a
+/// history that is lawful. So nothing reaches a device but what an accepted message asks and
 /// its sender may see, or set; nothing comes back that he may not see; and a Set goes out once. A call that found no
 /// memory is no part of the history.
 ///
