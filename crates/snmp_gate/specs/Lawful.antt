@@ -8,7 +8,7 @@ use Rattle.snmp_msg.specs.PduTypes.{pdu_tag}
 use Rattle.snmp_msg.specs.Variables.{Variable}
 use Rattle.snmp_msg.specs.declared.pdu_type.PduType.TheVariants.{SetRequest}
 use Rattle.snmp_agent.specs.Agent.{AgentState}
-use Rattle.snmp_gate.specs.History.{AskedBy, Happening, IsMediated, OpenAsk, accepted, asked, answered, given_up}
+use Rattle.snmp_gate.specs.History.{AskedBy, Happening, IsMediated, OpenAsk, accepted, asked}
 use Rattle.snmp_gate.specs.History.{open_ask, sent, unanswered, waiting_in}
 use Rattle.snmp_gate.specs.Messages.{question_in}
 use Rattle.snmp_gate.specs.Question.{Question}

@@ -1,14 +1,11 @@
 use Rattle.std.specs.Prelude.{◌≡◌, ◌/◌, ℕ, Bool, List, Ok, Option, Some, None, Result}
 use Rattle.std.proofs.Common.{ap, inl, refl, subst, sym}
-use Rattle.vacm_core.specs.Tables.{Tables}
 use Rattle.snmp_message.specs.declared.refusal.Refusal.{Refusal}
 use Rattle.snmp_message.specs.Numbers.{MemoryIs, in_table}
 use Rattle.usm_core.specs.Table.{refusal_answer, refused}
 use Rattle.snmp_agent.specs.Agent.{AgentState, AgentTakes, taker_of}
 use Rattle.snmp_incoming.specs.Outcome.{Given, Outcome}
-use Rattle.snmp_gate.specs.Groups.{groups_of}
-use Rattle.snmp_gate.specs.History.{Happening}
-use Rattle.snmp_gate.specs.Waiting.{GroupsStand, IsAsBefore}
+use Rattle.snmp_gate.specs.Waiting.{IsAsBefore}
 use Rattle.snmp_gate.specs.declared.gate.Gate.{Gate}
 use Rattle.snmp_gate.proofs.Coming.{message_happens, same_stands}
 use Rattle.snmp_gate.proofs.GroupSteps.{on_err}
