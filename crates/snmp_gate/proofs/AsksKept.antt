@@ -1,16 +1,15 @@
 -- What the devices are asked, as more happens.
-use Rattle.std.specs.Prelude.{◌≡◌, ◌≢◌, ◌⊎◌, ◌∷◌, ◌++◌, ◌<◌, ℕ, suc, List, [], All, AllPairs, Contains, Option, Some, None, MatchOption, ◌≤◌, zero, pos, drop, length, remove, slice_index_or, slice_set, take}
+use Rattle.std.specs.Prelude.{◌≡◌, ◌≢◌, ◌∷◌, ◌++◌, ◌<◌, ℕ, suc, List, [], All, Contains, Option, Some, None, MatchOption, ◌≤◌, zero, pos, drop, length, remove, slice_index_or, slice_set, take}
 use Rattle.std.proofs.Common.{refl, sym, ap, subst, ◌∙◌, inl, inr, arith}
 use Rattle.std.proofs.lemmas.Bool.Decides.{eqb_tells, leb_tells}
 use Rattle.std.proofs.Math.Seq.{split_at}
 use Rattle.std.proofs.lemmas.List.{get_or_default, get_or-set_other, get_or-set_same}
 use Rattle.std.proofs.lemmas.List.Elements.{All-get_or, All-set, Contains-append_cases, Contains-append_left, Contains-append_right, Contains-push, Contains-push_cases}
-use Rattle.std.proofs.lemmas.List.Quantifiers.{all_pairs_push, all_pairs_remove}
 use Rattle.snmp_msg.specs.Variables.{Variable}
 use Rattle.snmp_gate.specs.AskRuns.{HaveOwnIds}
 use Rattle.snmp_gate.specs.Asks.{Ends, IsNextFree, Waits, ask_of, id_after}
 use Rattle.snmp_gate.specs.declared.asks.TheConstants.{REQUEST_IDS}
-use Rattle.snmp_gate.specs.History.{Happening, OpenAsk, answered, asked, given_up, open_ask}
+use Rattle.snmp_gate.specs.History.{Happening, OpenAsk, asked, open_ask}
 use Rattle.snmp_gate.specs.Lawful.{IsOwnId}
 use Rattle.snmp_gate.specs.Waiting.{AsksNothing, AsksStand, EndsAsk, asks_in}
 use Rattle.std.proofs.Math.Seq.{map-set_same}

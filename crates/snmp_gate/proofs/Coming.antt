@@ -5,10 +5,10 @@ use Rattle.std.proofs.Common.{ap, subst, sym}
 use Rattle.std.specs.declared.alloc.AllocError.{AllocError}
 use Rattle.snmp_agent.specs.Agent.{AgentState, taker_of}
 use Rattle.snmp_incoming.specs.Outcome.{Outcome}
-use Rattle.snmp_gate.specs.Beginning.{IsDigestOf, TakenFor, TakenIn}
+use Rattle.snmp_gate.specs.Beginning.{IsDigestOf, IsNoRefusal, TakenFor, TakenIn}
 use Rattle.snmp_gate.specs.Groups.{groups_of}
 use Rattle.snmp_gate.specs.History.{Happening, accepted}
-use Rattle.snmp_gate.specs.Waiting.{AsksStand, ClientHappens, GateStands, Happens, SetsStand, asks_in}
+use Rattle.snmp_gate.specs.Waiting.{AsksStand, ClientHappens, GateStands, Happens, IsRefusedBy, SetsStand, asks_in}
 use Rattle.snmp_gate.specs.declared.asks.DeviceAsks.{DeviceAsks}
 use Rattle.snmp_gate.specs.declared.devices.Devices.{Devices}
 use Rattle.snmp_gate.specs.declared.requests.WaitingRequests.{WaitingRequests}
@@ -57,3 +57,12 @@ same_stands old mid agent devices asks requests sets since before stands = recor
   sets = subst (λ (rs : WaitingRequests WaitingMessage Work). SetsStand since before (groups_of rs.list.items) mid.sets.sets.items) (sym requests)
       (subst (λ (s : RememberedSets). SetsStand since before (groups_of old.requests.list.items) s.sets.items) (sym sets) stands.sets);
 }
+
+-- what isn't refused needs no refusal
+pub no_refusal : (old new : Gate) (seconds : ℕ) (datagram : List ℕ) (result : Result ClientTaken AllocError) → IfOk result IsNoRefusal → IfOk result (IsRefusedBy old seconds datagram new)
+no_refusal old new seconds datagram (Ok (client.Refused why)) is = absurd is
+no_refusal old new seconds datagram (Ok (client.Begins n)) is = tt
+no_refusal old new seconds datagram (Ok (client.Joins n)) is = tt
+no_refusal old new seconds datagram (Ok client.NoRoom) is = tt
+no_refusal old new seconds datagram (Ok client.SetOfBefore) is = tt
+no_refusal old new seconds datagram (Err none) is = tt

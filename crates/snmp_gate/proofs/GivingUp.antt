@@ -1,11 +1,9 @@
 -- A request that is given up.
 use Rattle.std.specs.Prelude.{◌≡◌, ◌∷◌, ◌<◌, ◌≤◌, ℕ, suc, zero, List, [], Option, Some, None, IfSome, length, slice_index_or}
-use Rattle.std.specs.List.{HoldsAt}
 use Rattle.std.proofs.Common.{refl, sym, ap, subst, ◌∙◌, arith}
 use Rattle.snmp_gate.specs.Devices.{IsDeviceOf}
 use Rattle.snmp_gate.specs.Groups.{Group, IsWorked, group_of, groups_of}
-use Rattle.snmp_gate.specs.History.{AskedBy, Happening, given_up, open_ask, told_in}
-use Rattle.snmp_gate.specs.Question.{Question}
+use Rattle.snmp_gate.specs.History.{AskedBy, Happening, given_up, open_ask}
 use Rattle.snmp_gate.specs.Sending.{IsAskedAt, IsGivenUp, IsOpenAt}
 use Rattle.snmp_gate.specs.Waiting.{EndsAsk, GateStands, GroupStands, Happens, OpenStands, SetsStand, WorkStands, asks_in}
 use Rattle.snmp_gate.specs.Work.{variables_of_task}

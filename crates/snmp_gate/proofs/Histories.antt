@@ -1,5 +1,5 @@
 -- What is known of the requests that wait, as more happens.
-use Rattle.std.specs.Prelude.{◌≡◌, ◌≢◌, ◌⊎◌, ◌∷◌, ◌++◌, ◌+◌, ◌<◌, ℕ, pos, Bool, true, cond, nat_eq, drop, remove, List, [], All, AllPairs, Contains, Option, Some, None, length, map, slice_index_or, slice_set}
+use Rattle.std.specs.Prelude.{◌≡◌, ◌≢◌, ◌⊎◌, ◌∷◌, ◌++◌, ◌+◌, ◌<◌, ℕ, pos, Bool, cond, drop, remove, List, [], All, AllPairs, Contains, Option, Some, None, length, map, slice_index_or, slice_set}
 use Rattle.std.proofs.Common.{refl, sym, ap, subst, ◌∙◌, inl, inr, arith}
 use Rattle.std.proofs.lemmas.Bool.Decides.{Decides-int_eq, eqb_tells, leb_tells}
 use Rattle.std.proofs.lemmas.List.{get_or_default, get_or-set_other, get_or-set_same, length-set}
@@ -21,7 +21,6 @@ use Rattle.snmp_gate.specs.Replies.{Answering, IsAnswerTo}
 use Rattle.snmp_gate.specs.Sending.{IsGivenUp, IsOpenAt, MayAskAt, RepliesTo, Requests, SetsAsked}
 use Rattle.snmp_gate.specs.declared.devices.Devices.{Devices}
 use Rattle.snmp_gate.specs.declared.gate.Gate.{Gate}
-use Rattle.snmp_gate.specs.declared.reply.Reply.{Reply}
 use Rattle.snmp_gate.specs.declared.reply.Reply.TheVariants as reply
 use Rattle.snmp_gate.specs.Taking.{IsCommunityOfTask, IsCommunityOfWork, WaitsFor, WorkAfter}
 use Rattle.snmp_gate.specs.declared.task.Task.{Task}

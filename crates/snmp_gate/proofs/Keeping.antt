@@ -1,12 +1,11 @@
 -- A gateway that is as it was, where memory runs out.
-use Rattle.std.specs.Prelude.{◌≡◌, ◌≢◌, ◌⊎◌, ◌++◌, ◌-◌, ℕ, List, [], ◌∷◌, All, Bool, true, cond, filter, Option, length, take, Result, Ok, Err, OnErr, ◌≤◌, Some, None, MatchOption}
+use Rattle.std.specs.Prelude.{◌≡◌, ◌++◌, ◌-◌, ℕ, List, [], ◌∷◌, All, Bool, true, cond, filter, Option, length, take, Result, Ok, Err, OnErr, ◌≤◌, Some, None, MatchOption}
 use Rattle.std.proofs.Common.{refl, sym, ap, subst, ◌∙◌, inl, inr, arith}
 use Rattle.std.specs.Global.{Vec}
 use Rattle.snmp_agent.specs.Agent.{AgentState}
 use Rattle.snmp_gate.specs.Groups.{Group, groups_of}
 use Rattle.snmp_gate.specs.History.{Happening}
 use Rattle.snmp_gate.specs.Noting.{IsNotedAgain, IsNotedFor, IsUnnoted}
-use Rattle.snmp_gate.specs.Sending.{Requests}
 use Rattle.snmp_gate.specs.Sets.{KeepsSets, lasting, lasts, new_set}
 use Rattle.snmp_gate.specs.Waiting.{AsksStand, GateStands, IsAsBefore, SameButSets, SetsStand, asks_in, messages_in}
 use Rattle.snmp_gate.specs.declared.asks.DeviceAsks.{DeviceAsks}

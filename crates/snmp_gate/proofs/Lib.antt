@@ -30,3 +30,4 @@ pub mod AskingWell
 pub mod Same
 pub mod Keeping
 pub mod Running
+pub mod Dues

@@ -1,10 +1,10 @@
 -- What happens for one request tells nothing of another.
-use Rattle.std.specs.Prelude.{◌≡◌, ◌≢◌, ◌⊎◌, ◌∷◌, ◌++◌, ◌<◌, ℕ, Bool, true, false, cond, nat_eq, List, [], All, Contains, Option, Some, None, drop}
-use Rattle.std.proofs.Common.{refl, sym, ap, subst, ◌∙◌, inl, inr, arith}
+use Rattle.std.specs.Prelude.{◌≡◌, ◌≢◌, ◌⊎◌, ◌∷◌, ◌++◌, ◌<◌, ℕ, Bool, true, false, cond, nat_eq, List, [], All, Contains, Some, None, drop}
+use Rattle.std.proofs.Common.{refl, sym, ap, ◌∙◌, inl, inr, arith}
 use Rattle.std.proofs.lemmas.Bool.Decides.{eqb_tells}
 use Rattle.std.proofs.lemmas.List.Elements.{All-contains, All-head, All-tail, Contains-append_cases, Contains-append_right, Contains-push_cases}
 use Rattle.snmp_msg.specs.Variables.{Variable}
-use Rattle.snmp_gate.specs.History.{Happening, OpenAsk, accepted, answered, asked, given_up, number_of, open_ask, said_by, sent, told_in, unanswered, waiting_in}
+use Rattle.snmp_gate.specs.History.{Happening, accepted, answered, asked, given_up, number_of, open_ask, said_by, sent, told_in, unanswered, waiting_in}
 use Rattle.snmp_gate.specs.Lawful.{WasAsked}
 use Rattle.snmp_gate.specs.Messages.{question_in}
 use Rattle.snmp_gate.specs.Question.{Question}

@@ -1,17 +1,13 @@
 -- Runs of a gateway, and the messages of a request.
-use Rattle.std.specs.Prelude.{◌≡◌, ◌/◌, ◌≤◌, ℕ, List, [], ◌∷◌, ◌++◌, cond, drop, nat_eq, Bool, Result, Ok}
+use Rattle.std.specs.Prelude.{◌≡◌, ◌/◌, ℕ, List, [], ◌∷◌, ◌++◌, cond, drop, nat_eq, Bool, Ok}
 use Rattle.std.specs.List.{HoldsAt}
 use Rattle.std.proofs.Common.{refl, sym, ap, subst, ◌∙◌, inl, inr, append_assoc}
 use Rattle.std.proofs.lemmas.Bool.Decides.{eqb_tells}
-use Rattle.std.proofs.lemmas.List.{append-nil}
-use Rattle.snmp_msg.specs.Variables.{Variable}
 use Rattle.vacm_core.specs.Tables.{Tables}
 use Rattle.snmp_incoming.specs.Outcome.{Outcome}
 use Rattle.snmp_agent.specs.Agent.{AgentState, taker_of}
 use Rattle.snmp_gate.specs.History.{Happening, IsMediated, MayAskFor, accepted, answered, asked, given_up, sent, told_in, unanswered, waiting_in}
-use Rattle.snmp_gate.specs.Lawful.{AreLawful, IsInTurn, IsLawful}
-use Rattle.snmp_gate.specs.Messages.{question_in}
-use Rattle.snmp_gate.specs.Question.{Question}
+use Rattle.snmp_gate.specs.Lawful.{AreLawful, IsLawful}
 use Rattle.snmp_gate.specs.Replies.{IsAnswerTo, SameAgent}
 use Rattle.snmp_gate.specs.Runs.{Event, IsHistoryOf, IsRun, accepted_for, asked_in, client_comes, device_comes, ended_for, finds_no_memory, goes_out, moment_of, sent_in, to_clients, to_devices}
 use Rattle.snmp_gate.specs.Waiting.{ClientHappens, DeviceHappens, GateStands, Happens, SendHappens, Stays}
@@ -25,7 +21,6 @@ use Rattle.snmp_gate.specs.declared.gate.Gate.{Gate}
 use Rattle.snmp_gate.specs.declared.gate.Sent.{Sent}
 use Rattle.snmp_gate.specs.declared.gate.Sent.TheVariants as out
 use Rattle.snmp_gate.specs.declared.waiting_message.WaitingMessage.{WaitingMessage}
-use Rattle.std.specs.Global.{Vec}
 
 -- ---- the same law, by an agent that is the same but for its counters
 

@@ -15,7 +15,7 @@ use Rattle.snmp_walk.specs.declared.column.Progress.{Progress}
 use Rattle.snmp_walk.specs.declared.given.GivenVariable.{GivenVariable}
 use Rattle.snmp_gate.specs.Devices.{IsDeviceOf}
 use Rattle.snmp_gate.specs.Groups.{Group, group_of, groups_of}
-use Rattle.snmp_gate.specs.History.{Happening, open_ask, told_in}
+use Rattle.snmp_gate.specs.History.{Happening, told_in}
 use Rattle.snmp_gate.specs.Messages.{seen_in}
 use Rattle.snmp_gate.specs.Noting.{AsksSet}
 use Rattle.snmp_gate.specs.Question.{Question}

@@ -1,5 +1,5 @@
 -- Sets that come.
-use Rattle.std.specs.Prelude.{◌≡◌, ◌≢◌, ◌⊎◌, ◌∷◌, ◌++◌, ◌<◌, ◌≤◌, ℕ, List, [], All, Contains, Option, Some, None, length, slice_index_or}
+use Rattle.std.specs.Prelude.{◌≡◌, ◌≢◌, ◌⊎◌, ◌∷◌, ◌++◌, ◌<◌, ◌≤◌, ℕ, List, [], Contains, Option, Some, length, slice_index_or}
 use Rattle.std.proofs.Common.{refl, sym, ap, subst, ◌∙◌, inl, inr, arith}
 use Rattle.std.proofs.lemmas.List.Elements.{All-contains, All-head, Contains-push_cases}
 use Rattle.sha2.specs.Sha256.{sha256}
@@ -14,8 +14,8 @@ use Rattle.snmp_gate.specs.Messages.{question_in}
 use Rattle.snmp_gate.specs.Noting.{AsksSet, IsNotedAgain, IsNotedFor}
 use Rattle.snmp_gate.specs.Question.{Question}
 use Rattle.snmp_gate.specs.Sending.{Requests}
-use Rattle.snmp_gate.specs.Sets.{IsNoted, IsUnknown, KeepsSets, lasting}
-use Rattle.snmp_gate.specs.Waiting.{AllAsk, GoesOut, GroupStands, GroupsStand, OpenStands, SetsStand, WorkStands}
+use Rattle.snmp_gate.specs.Sets.{IsNoted, IsUnknown, KeepsSets}
+use Rattle.snmp_gate.specs.Waiting.{AllAsk, GoesOut, GroupStands, GroupsStand, SetsStand, WorkStands}
 use Rattle.snmp_gate.specs.Work.{TaskStands}
 use Rattle.snmp_gate.specs.declared.devices.Device.{Device}
 use Rattle.snmp_gate.specs.declared.requests.Joined.TheVariants.{Joined}
@@ -26,7 +26,6 @@ use Rattle.snmp_gate.specs.declared.take_client.Noted.{Noted}
 use Rattle.snmp_gate.specs.declared.take_client.Noted.TheVariants as noted
 use Rattle.snmp_gate.specs.declared.task.Task.TheVariants as task
 use Rattle.snmp_gate.specs.declared.waiting_message.WaitingMessage.{WaitingMessage}
-use Rattle.snmp_gate.specs.declared.work.OpenRequest.{OpenRequest}
 use Rattle.snmp_gate.specs.declared.work.Work.{Work}
 use Rattle.snmp_gate.specs.declared.work.Work.TheVariants.{Open, Ends}
 use Rattle.snmp_gate.proofs.Joining.{same_message}

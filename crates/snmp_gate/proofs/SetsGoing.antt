@@ -1,5 +1,5 @@
 -- Which Sets go out, as the requests change.
-use Rattle.std.specs.Prelude.{◌≡◌, ◌≢◌, ◌⊎◌, ◌∷◌, ◌/◌, ◌<◌, ◌≤◌, ℕ, List, [], All, Contains, Option, Some, None, length, slice_index_or, slice_set}
+use Rattle.std.specs.Prelude.{◌≡◌, ◌≢◌, ◌∷◌, ◌/◌, ◌<◌, ◌≤◌, ℕ, List, All, Contains, Option, Some, None, length, slice_index_or, slice_set}
 use Rattle.std.specs.Global.{Vec}
 use Rattle.std.specs.List.{HoldsAt}
 use Rattle.std.proofs.Common.{refl, sym, ap, subst, ◌∙◌, inl, inr, arith}

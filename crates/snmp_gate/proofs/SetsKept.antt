@@ -1,27 +1,27 @@
 -- The Sets that are remembered, as more happens.
-use Rattle.std.specs.Prelude.{◌≡◌, ◌≢◌, ◌⊎◌, ◌∷◌, ◌++◌, ◌+◌, ◌<◌, ◌≤◌, ℕ, List, [], All, Contains, Option, Some, None, MatchOption, slice_index_or}
-use Rattle.std.proofs.Common.{refl, sym, ap, subst, ◌∙◌, inl, inr, arith, le-leb}
+use Rattle.std.specs.Prelude.{◌≡◌, ◌≢◌, ◌∷◌, ◌+◌, ◌<◌, ◌≤◌, ℕ, List, [], All, Contains, Option, Some, None, MatchOption, slice_index_or}
+use Rattle.std.proofs.Common.{refl, sym, subst, ◌∙◌, inl, inr, arith}
 use Rattle.std.proofs.lemmas.Bool.Decides.{eqb_tells, leb_tells}
-use Rattle.std.proofs.lemmas.List.Elements.{All-contains, All-nil, All-contains_itself, Contains-append_right, Contains-push}
+use Rattle.std.proofs.lemmas.List.Elements.{All-contains, All-nil, All-contains_itself, Contains-push}
 use Rattle.sha2.specs.Sha256.{sha256}
 use Rattle.vacm_core.specs.Tables.{Tables}
 use Rattle.snmp_gate.specs.Groups.{Group, groups_of}
 use Rattle.snmp_gate.specs.Sending.{Requests}
 use Rattle.snmp_gate.specs.declared.devices.Device.{Device}
 use Rattle.snmp_gate.specs.History.{Happening, accepted, number_of}
-use Rattle.snmp_gate.specs.Lawful.{AreApart, IsSetRequest, WasAsked}
-use Rattle.snmp_gate.specs.Noting.{AsksSet, IsNotedAgain, IsNotedFor, IsToldOf}
-use Rattle.snmp_gate.specs.Sets.{IsKept, IsNoted, IsTold, IsUnknown, KeepsSets, lasting, lasts, new_set}
+use Rattle.snmp_gate.specs.Lawful.{IsSetRequest, WasAsked}
+use Rattle.snmp_gate.specs.Noting.{AsksSet, IsNotedAgain, IsToldOf}
+use Rattle.snmp_gate.specs.Sets.{IsKept, IsNoted, IsTold, IsUnknown, KeepsSets, lasting, new_set}
 use Rattle.snmp_gate.specs.Waiting.{GoesOut, GroupStands, GroupsStand, SetsStand}
 use Rattle.snmp_gate.specs.declared.set_answer.ResponseStatus.{ResponseStatus}
 use Rattle.snmp_gate.specs.declared.sets.RememberedSet.{RememberedSet}
 use Rattle.snmp_gate.specs.declared.sets.SetNote.{SetNote}
-use Rattle.snmp_gate.specs.declared.sets.SetNote.TheVariants.{New, Repeated, NoRoom}
+use Rattle.snmp_gate.specs.declared.sets.SetNote.TheVariants.{New}
 use Rattle.snmp_gate.specs.declared.sets.TheConstants.{REMEMBERED}
 use Rattle.snmp_gate.specs.declared.waiting_message.WaitingMessage.{WaitingMessage}
 use Rattle.snmp_gate.specs.declared.work.Work.{Work}
 use Rattle.snmp_gate.proofs.Others.{contains_cons}
-use Rattle.snmp_gate.proofs.SetMemory.{contains_filtered, kept_lasts, kept_told, noted_keeps}
+use Rattle.snmp_gate.proofs.SetMemory.{kept_lasts, kept_told, noted_keeps}
 
 -- what was remembered, and may still come, is remembered
 abbrev pub KeepsKnown : ℕ → List RememberedSet → List RememberedSet → Type 0

@@ -2,7 +2,7 @@
 --
 -- `BeginsWell`: what is known of a request at first. `MaySetAll`: each variable of a SetRequest may be set. `TakenIn`:
 -- what a gateway is behind a message.
-use Rattle.std.specs.Prelude.{◌≡◌, ℕ, List, ◌∷◌, All, None, Some}
+use Rattle.std.specs.Prelude.{◌≡◌, ⊤, ℕ, List, ◌∷◌, All, None, Some}
 use Rattle.sha2.specs.Sha256.{sha256}
 use Rattle.snmp_msg.specs.PduTypes.{pdu_tag}
 use Rattle.snmp_msg.specs.Variables.{Variable, variables_of}
@@ -48,3 +48,8 @@ abbrev pub TakenIn : List Happening → ℕ → List ℕ → WaitingMessage → 
 TakenIn before now datagram m (client.Begins n) new = TakenFor before now datagram m n new
 TakenIn before now datagram m (client.Joins n) new = TakenFor before now datagram m n new
 TakenIn before now datagram m _ new = GateStands now before new
+
+-- the datagram isn't refused
+abbrev pub IsNoRefusal : ClientTaken → Type 0
+IsNoRefusal (client.Refused why) = ⊥
+IsNoRefusal _ = ⊤

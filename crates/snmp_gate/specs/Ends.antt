@@ -1,9 +1,11 @@
 -- How a device's answer ends a request (RFC 3416, section 4.2).
 --
 -- `IsFailing`: a status with an error. `FailsOrGoesOn`: the answer has an error, or the request goes on. `IsEndFor`: an
--- answer without an error ends only a SetRequest.
-use Rattle.std.specs.Prelude.{◌≢◌, ⊤}
+-- answer without an error ends only a SetRequest. `EndsSet`: an answer ends a SetRequest by what it says.
+use Rattle.std.specs.Prelude.{◌≢◌, ⊤, ℕ}
+use Rattle.snmp_msg.specs.declared.pdu.Pdu.{Pdu}
 use Rattle.snmp_gate.specs.Question.{Question}
+use Rattle.snmp_gate.specs.SetOutcome.{IsToldIndex, IsToldStatus}
 use Rattle.snmp_gate.specs.Work.{IsOwnStatus}
 use Rattle.snmp_gate.specs.declared.onward.AnswerTaken.{AnswerTaken}
 use Rattle.snmp_gate.specs.declared.onward.AnswerTaken.TheVariants.{Ends}
@@ -20,3 +22,13 @@ FailsOrGoesOn _ = ⊤
 abbrev pub IsEndFor : Question → AnswerTaken → Type 0
 IsEndFor q (Ends says) = IsOwnStatus q says
 IsEndFor q _ = ⊤
+
+-- the Response to a SetRequest says what the device's answer says
+pub record IsOutcomeOf (answer : Pdu) (says : ResponseStatus) : Type 0 where
+  pub status : IsToldStatus answer.second says.status
+  pub bindings : ℕ
+  pub index : IsToldIndex answer.second answer.third bindings says.index
+
+abbrev pub EndsSet : Pdu → AnswerTaken → Type 0
+EndsSet answer (Ends says) = IsOutcomeOf answer says
+EndsSet answer _ = ⊥

@@ -1,14 +1,14 @@
 -- What happens lawfully at a gateway.
 --
--- `IsInTurn`: the message that is answered is the one that waits longest. `HasOwnId`: a device isn't asked twice at once
--- with one request-id. `IsOnce`: a Set goes out once. `IsLawful`: all laws of what happens after a history.
+-- `IsInTurn`: the message that is answered is the one that waits longest. `HasOwnId`: a device isn't asked twice at
+-- once with one request-id. `IsOnce`: a Set goes out once. `IsLawful`: all laws of what happens after a history.
 -- `AreLawful`: each part of a history is lawful after the parts before it.
 use Rattle.std.specs.Prelude.{◌≡◌, ◌≢◌, ◌⊎◌, ⊤, ◌+◌, ◌<◌, ℕ, List, [], ◌∷◌, All, Contains, Some}
 use Rattle.snmp_msg.specs.PduTypes.{pdu_tag}
 use Rattle.snmp_msg.specs.Variables.{Variable}
 use Rattle.snmp_msg.specs.declared.pdu_type.PduType.TheVariants.{SetRequest}
 use Rattle.snmp_agent.specs.Agent.{AgentState}
-use Rattle.snmp_gate.specs.History.{AskedBy, Happening, IsMediated, OpenAsk, accepted, asked, answered, given_up}
+use Rattle.snmp_gate.specs.History.{AskedBy, Happening, IsMediated, OpenAsk, accepted, asked}
 use Rattle.snmp_gate.specs.History.{open_ask, sent, unanswered, waiting_in}
 use Rattle.snmp_gate.specs.Messages.{question_in}
 use Rattle.snmp_gate.specs.Question.{Question}

@@ -25,3 +25,4 @@ pub mod Beginning
 pub mod SetBegins
 pub mod Noting
 pub mod Runs
+pub mod Due

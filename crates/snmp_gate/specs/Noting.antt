@@ -2,7 +2,7 @@
 --
 -- `AsksSet`: a Set's device is to be asked. `IsNotedFor`: what is remembered before that. `IsNotedAgain`: what is
 -- remembered of a message that asks again what waits. `IsUnnoted`: that is forgotten.
-use Rattle.std.specs.Prelude.{◌≡◌, ◌-◌, ℕ, List, Option, Some, None, MatchOption, length, take}
+use Rattle.std.specs.Prelude.{◌≡◌, ◌-◌, ℕ, List, Option, Some, MatchOption, length, take}
 use Rattle.snmp_gate.specs.Sets.{IsNoted, IsTold, KeepsSets}
 use Rattle.snmp_gate.specs.declared.set_answer.ResponseStatus.{ResponseStatus}
 use Rattle.snmp_gate.specs.declared.sets.RememberedSet.{RememberedSet}

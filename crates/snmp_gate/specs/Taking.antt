@@ -2,7 +2,7 @@
 --
 -- `WaitsFor`: the request's device is asked with a request-id. `WorkAfter`: what the request is behind the answer.
 -- `AnswerPlace`: for which request a device was asked with an answer's request-id. `WorkSaysSame`: a request stays what
--- it was.
+-- it was. `EndsAsSaid`: a SetRequest ends by what its device's answer says.
 use Rattle.std.specs.Prelude.{◌≡◌, ◌≢◌, ◌<◌, ℕ, pos, List, Some, None, length}
 use Rattle.std.specs.Global.{Vec}
 use Rattle.std.specs.List.{HoldsAt}
@@ -12,10 +12,12 @@ use Rattle.vacm_core.specs.Tables.{Tables}
 use Rattle.snmp_walk.specs.BulkAnswered.{DialogueSaysSame}
 use Rattle.snmp_walk.specs.BulkDialogue.{bulk_requests}
 use Rattle.snmp_walk.specs.declared.bulk_dialogue.BulkDialogue.{BulkDialogue}
+use Rattle.snmp_gate.specs.Ends.{IsOutcomeOf}
 use Rattle.snmp_gate.specs.Question.{Question}
 use Rattle.snmp_gate.specs.Work.{EndingStands, TaskStands}
 use Rattle.snmp_gate.specs.declared.devices.Device.{Device}
 use Rattle.snmp_gate.specs.declared.requests.WaitingRequest.{WaitingRequest}
+use Rattle.snmp_gate.specs.declared.work.RequestEnd.TheVariants as ending
 use Rattle.snmp_gate.specs.declared.task.Task.{Task}
 use Rattle.snmp_gate.specs.declared.task.Task.TheVariants as task
 use Rattle.snmp_gate.specs.declared.waiting_message.WaitingMessage.{WaitingMessage}
@@ -76,3 +78,9 @@ pub record OpenSaysSame (old new : OpenRequest) : Type 0 where
 abbrev pub WorkSaysSame : Work → Work → Type 0
 WorkSaysSame (Open old) (Open new) = OpenSaysSame old new
 WorkSaysSame old new = new ≡ old
+
+-- ---- a SetRequest ends by its device's answer
+
+abbrev pub EndsAsSaid : Pdu → Work → Type 0
+EndsAsSaid answer (Ends (ending.Own says)) = IsOutcomeOf answer says
+EndsAsSaid answer _ = ⊥

@@ -3,12 +3,16 @@
 -- `OpenStands`: a request whose device is asked, or is to be asked. `GroupStands`: a request with its messages.
 -- `GateStands`: all of a gateway. `ClientHappens`, `DeviceHappens`, `SendHappens`: what happens by a call, and that it
 -- is lawful after what happened before. `SameButSets`, `IsAsBefore`: what stays the same.
-use Rattle.std.specs.Prelude.{◌≡◌, ◌≢◌, ◌⊎◌, ◌+◌, ◌/◌, ◌<◌, ◌≤◌, ℕ, List, [], ◌∷◌, All, AllPairs, Contains, Some}
+use Rattle.std.specs.Prelude.{◌≡◌, ◌≢◌, ◌⊎◌, ◌+◌, ◌/◌, ◌<◌, ◌≤◌, ⊤, ℕ, List, [], ◌∷◌, All, AllPairs, Contains, Some}
 use Rattle.std.specs.Prelude.{None, Option, map, slice_index_or, slice_set}
 use Rattle.sha2.specs.Sha256.{sha256}
 use Rattle.snmp_msg.specs.Pdu.{PduParts}
 use Rattle.snmp_msg.specs.Variables.{Variable}
 use Rattle.vacm_core.specs.Tables.{Tables}
+use Rattle.snmp_message.specs.Numbers.{in_table}
+use Rattle.usm_core.specs.Table.{refusal_answer}
+use Rattle.snmp_agent.specs.Agent.{AgentTakes}
+use Rattle.snmp_agent.specs.Report.{AgentReports, report_of}
 use Rattle.snmp_gate.specs.AskRuns.{HaveOwnIds}
 use Rattle.snmp_gate.specs.Asks.{Ends, Waits, ask_of}
 use Rattle.snmp_gate.specs.Devices.{IsDeviceOf}
@@ -202,6 +206,13 @@ at_once_of d = d.at_once
 
 abbrev pub at_once_in : DeviceAsks → ℕ
 at_once_in asks = asks.at_once
+
+-- if a client's datagram is refused, the agent refuses it so, counts it and writes the report (RFC 3412, section 7.2)
+abbrev pub IsRefusedBy : Gate → ℕ → List ℕ → Gate → ClientTaken → Type 0
+IsRefusedBy old seconds datagram new (client.Refused r) =
+    AgentTakes old.agent seconds datagram (refusal_answer r.why.refusal) new.agent
+    × AgentReports new.agent seconds datagram (in_table r.why.refusal) (report_of r.report)
+IsRefusedBy old seconds datagram new _ = ⊤
 
 -- the same engine, boots, users, tables and devices
 pub record Stays (old new : Gate) : Type 0 where

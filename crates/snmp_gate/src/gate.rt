@@ -89,7 +89,8 @@ fn asks_of(alloc: Global, devices: &[Device]) -> Result<Vec<DeviceAsks>, AllocEr
     Ok(asks)
 }
 
-/// A gateway from clients that speak SNMPv3 to devices that speak SNMPv2c. Moments are milliseconds from one beginning.
+/// A gateway from clients that speak SNMPv3 to devices that speak SNMPv2c. Moments are milliseconds from one beginning,
+/// and don't go back from call to call.
 #[derive(Drop)]
 pub struct Gate {
     pub(crate) alloc: Global,

@@ -92,10 +92,10 @@ pub fn a_request_is_one_question<M: Drop, W: Drop, Q: Drop>()
         → AskOwn question last }
 {}
 
-/// Whatever comes to a new gateway, from clients and from devices, and as long as its moments don't go back: what it
-/// sends has a history that is lawful. So nothing reaches a device but what an accepted message asks and
-/// its sender may see, or set; nothing comes back that he may not see; and a Set goes out once. A call that found no
-/// memory is no part of the history.
+/// Whatever clients and devices send to a new gateway, and as long as its moments don't go back: what it sends has a
+/// history that is lawful. So nothing reaches a device but what an accepted message asks, and its sender may see, or
+/// set; nothing comes back that he may not see; and a Set goes out once. A call that found no memory is no part of the
+/// history.
 ///
 /// The events are calls of `take_client`, `take_device` and `next` with their answers, the latest first.
 pub fn a_gateway_mediates()
@@ -104,8 +104,8 @@ pub fn a_gateway_mediates()
 {}
 
 /// In a lawful history of a gateway the messages of each request end in the order in which they came: those that were
-/// answered, or weren't and won't be, and then those that wait, are those that were accepted. So each
-/// message is answered once at most.
+/// answered, or weren't and won't be, and then those that wait, are those that were accepted. So each message is
+/// answered once at most.
 pub fn messages_end_in_turn()
     ensures { (agent : AgentState) (devices : List Device) (n : ℕ) (history : List Happening)
         → AreLawful agent devices history → ended_for n history ++ waiting_in n history ≡ accepted_for n history }

@@ -1,6 +1,7 @@
 //! What goes out.
 
-ghost use Rattle.std.specs.Prelude.{◌≡◌, ◌↔◌, ◌<◌, ◌≤◌, ℕ, List, Some, length, IfOk, IfSome, IsTrue, None, OnErr};
+ghost use Rattle.std.specs.Prelude.{◌≡◌, ◌↔◌, ◌<◌, ◌≤◌, [], ℕ, min, MatchOption, List, Some, length, IfOk, IfSome};
+ghost use Rattle.std.specs.Prelude.{IsTrue, None, OnErr};
 ghost use Rattle.snmp_msg.specs.Variables.{Variable};
 ghost use Rattle.snmp_gate.specs.Question.{Question};
 ghost use Rattle.snmp_gate.specs.Messages.{question_in};
@@ -9,6 +10,7 @@ ghost use Rattle.snmp_gate.specs.Replies.{SameAgent};
 ghost use Rattle.snmp_gate.specs.Sending.{IsAskedAt, IsGivenUp, IsOpenAt, IsSentBy, IsUnasked, MayAskAt, RepliesTo};
 ghost use Rattle.snmp_gate.specs.Sending.{SetsAsked};
 ghost use Rattle.std.specs.List.{HoldsAt};
+ghost use Rattle.snmp_gate.specs.Due.{IsFirstDue, due_in, retries_in};
 ghost use Rattle.snmp_gate.specs.Noting.{AsksSet, IsToldOf};
 ghost use Rattle.snmp_gate.specs.Waiting.{EndsAsk, GateStands, IsAsBefore, SameButAsks, SameButSets, SendHappens};
 ghost use Rattle.snmp_gate.specs.Waiting.{Stays, asks_in};
@@ -29,7 +31,9 @@ use snmp_agent::{Agent, Unhandled};
 use std::alloc::{AllocError, Global};
 
 /// Returns how long a request waits for its device: a Set is asked once.
-fn retries_of(task: &Task, limits: &GateLimits) -> Retries {
+fn retries_of(task: &Task, limits: &GateLimits) -> Retries
+    ensures { result ≡ retries_in limits.now task.now }
+{
     match task {
         Task::Set => limits.retries.for_set(),
         Task::Read(_, _) | Task::Bulk(_, _) => limits.retries,
@@ -63,8 +67,21 @@ fn is_full(asks: &[DeviceAsks], device: usize) -> bool {
     }
 }
 
+/// Returns the moment from which on something is due for a request by time alone.
+fn due_of(work: &Work, limits: &GateLimits) -> u64
+    ensures { result ≡ due_in limits.now work.now }
+{
+    let Work::Open(open) = work else {
+        return 0;
+    };
+    let retries = retries_of(&open.task.task, limits);
+    open.timer.due_at(&retries)
+}
+
 /// Returns the earlier one of two moments, if there is one.
-fn earlier(due: Option<u64>, at: u64) -> u64 {
+fn earlier(due: Option<u64>, at: u64) -> u64
+    ensures { MatchOption due (result ≡ at) (λ other. result ≡ min other at) }
+{
     match due {
         Some(other) => other.min(at),
         None => at,
@@ -158,6 +175,20 @@ fn sent_by(number: u64, client: Vec<u8>, reply: Reply) -> Sent
     }
 }
 
+/// Returns the first moment from which on something is due for one of these requests by time alone.
+fn first_due_of(
+    requests: &[WaitingRequest<WaitingMessage, Work>],
+    limits: &GateLimits,
+) -> Option<u64>
+    ensures { MatchOption result (requests.now ≡ []) (IsFirstDue limits.now requests.now) }
+{
+    let mut due = None;
+    for request in requests {
+        due = Some(earlier(due, due_of(&request.work, limits)));
+    }
+    due
+}
+
 impl Gate {
     /// Does the first thing that is due at this moment, in milliseconds, and returns what goes out. It is called until
     /// it returns `Nothing`. What has come is taken before: first what came from devices, and then what came from
@@ -187,19 +218,11 @@ impl Gate {
 
     /// Returns the moment, in milliseconds, from which on `next` has something to do by time alone, if nothing comes
     /// before.
-    pub fn due(&self) -> Option<u64> {
-        let mut due = None;
-        for request in self.requests.requests() {
-            let at = match &request.work {
-                Work::Open(open) => {
-                    let retries = retries_of(&open.task.task, &self.limits);
-                    open.timer.due_at(&retries)
-                }
-                Work::Ends(_) => 0,
-            };
-            due = Some(earlier(due, at));
-        }
-        due
+    pub fn due(&self) -> Option<u64>
+        ensures { MatchOption result (self.now.requests.list.items ≡ [])
+            (IsFirstDue self.now.limits self.now.requests.list.items) }
+    {
+        first_due_of(self.requests.requests(), &self.limits)
     }
 
     /// Returns the place of the first request for which something is to be done now, and what.

@@ -8,6 +8,7 @@ ghost use Rattle.snmp_gate.specs.Question.{Question};
 ghost use Rattle.snmp_gate.specs.Messages.{IsViewerOf};
 ghost use Rattle.snmp_gate.specs.ReadAsks.{asked_variables, bulk_asked_variables};
 ghost use Rattle.snmp_gate.specs.Work.{AsksNoSet, BulkStandsFor, OnwardStands, ReadStands, SaysAll, TaskStands};
+ghost use Rattle.snmp_gate.specs.declared.set_answer.ResponseStatus.{ResponseStatus as Says};
 ghost use Rattle.snmp_gate.specs.Ends.{IsEndFor, IsFailing, FailsOrGoesOn};
 ghost use Rattle.snmp_gate.specs.Taking.{BulkSaysSame};
 
@@ -198,6 +199,7 @@ pub(crate) fn after(named: NamedTask, taken: AnswerTaken, viewer: &Viewer<'_>, l
         → IsEndFor q taken
         → TaskStands tables q told named.task → OnwardStands tables q told result }
     ensures no_set { AsksNoSet result }
+    ensures ends { (says : Says) → taken ≡ AnswerTaken.Ends says → result ≡ Onward.Ends (RequestEnd.Own says) }
 {
     match taken {
         AnswerTaken::Ends(status) => Onward::Ends(RequestEnd::Own(status)),

@@ -5,12 +5,17 @@ ghost use Rattle.std.specs.Global.{Vec as VecOf};
 ghost use Rattle.std.specs.List.{HoldsAt};
 ghost use Rattle.vacm_core.specs.Tables.{Tables};
 ghost use Rattle.snmp_msg.specs.Variables.{Variable};
+ghost use Rattle.snmp_msg.specs.Pdu.{PduParts};
+ghost use Rattle.snmp_gate.specs.DeviceMessages.{IsDeviceAnswer};
 ghost use Rattle.snmp_gate.specs.Question.{Question};
 ghost use Rattle.snmp_gate.specs.Messages.{IsViewerOf, question_in};
-ghost use Rattle.snmp_gate.specs.Ends.{IsEndFor};
+ghost use Rattle.snmp_gate.specs.Ends.{EndsSet, IsEndFor};
+ghost use Rattle.snmp_gate.specs.declared.set_answer.ResponseStatus.{ResponseStatus as Says};
+ghost use Rattle.snmp_gate.specs.declared.task.Task.TheVariants as TaskIs;
 ghost use Rattle.snmp_gate.specs.History.{Happening};
 ghost use Rattle.snmp_gate.specs.Noting.{AsksSet};
-ghost use Rattle.snmp_gate.specs.Taking.{AnswerPlace, IsCommunityOfWork, OpenSaysSame, TaskSaysSame, WaitsFor, WorkAfter, WorkSaysSame};
+ghost use Rattle.snmp_gate.specs.Taking.{AnswerPlace, IsCommunityOfWork, OpenSaysSame, TaskSaysSame, WaitsFor};
+ghost use Rattle.snmp_gate.specs.Taking.{EndsAsSaid, WorkAfter, WorkSaysSame};
 ghost use Rattle.snmp_gate.specs.Waiting.{DeviceHappens, GateStands, IsAsBefore, Stays};
 ghost use Rattle.snmp_gate.specs.Work.{SaysAll, TaskStands, variables_of_task};
 ghost use Rattle.snmp_gate.specs.declared.work.OpenRequest.{OpenRequest as OpenIs};
@@ -46,6 +51,7 @@ fn take_task(
         → SaysAll (variables_of_task q named.old.task) answer.now told
         → TaskStands tables q told named.old.task
         → TaskStands tables q told named.new.task × IsEndFor q taken) }
+    ensures set { IfOk result (λ taken. named.old.task ≡ TaskIs.Set → EndsSet answer.now taken) }
     ensures err { OnErr result (TaskSaysSame named.old.task named.new.task) }
 {
     match &mut named.task {
@@ -60,6 +66,7 @@ fn work_after(asked: OpenRequest, taken: AnswerTaken, viewer: &Viewer<'_>, late:
     ensures after { (tables : Tables) (q : Question) (told : List Variable) → IsViewerOf tables q viewer.now
         → IsEndFor q taken → TaskStands tables q told asked.task.task → WorkAfter tables q told asked result }
     ensures no_set { ¬ AsksSet result }
+    ensures ends { (says : Says) → taken ≡ AnswerTaken.Ends says → result ≡ Work.Ends (RequestEnd.Own says) }
 {
     let OpenRequest {
         device,
@@ -119,6 +126,7 @@ fn take_open(
         → TaskStands tables.now q told waiting.old.task.task
         → TaskStands tables.now q told waiting.new.task.task × IsEndFor q taken) }
     ensures device { waiting.new.device ≡ waiting.old.device }
+    ensures set { IfOk result (λ taken. waiting.old.task.task ≡ TaskIs.Set → EndsSet answer.now taken) }
     ensures err { OnErr result (OpenSaysSame waiting.old waiting.new) }
 {
     let taken = message.kept.taken();
@@ -140,6 +148,8 @@ fn after_answer(
         → question_in message.now ≡ Some q → old ≡ Open o → IsEndFor q became
         → TaskStands tables.now q told o.task.task → WorkAfter tables.now q told o result }
     ensures no_set { ¬ AsksSet result }
+    ensures ends { (o : OpenIs) (says : Says) → old ≡ Open o → became ≡ AnswerTaken.Ends says
+        → result ≡ Work.Ends (RequestEnd.Own says) }
 {
     let taken = message.kept.taken();
     let viewer = viewer_of(tables, &taken);
@@ -166,6 +176,7 @@ fn take_answer(
         → SaysAll (variables_of_task q o.task.task) answer.now told
         → TaskStands tables.now q told o.task.task → WorkAfter tables.now q told o work.new) }
     ensures no_set { IfOk result (λ _. ¬ AsksSet work.new) }
+    ensures set { IfOk result (λ _. AsksSet work.old → EndsAsSaid answer.now work.new) }
     ensures err { OnErr result (WorkSaysSame work.old work.new) }
 {
     let Work::Open(waiting) = work else {
@@ -232,6 +243,8 @@ impl Gate {
         ensures happens { IfOk result (λ taken. (since : ℕ) (before : List Happening) → since ≤ now
             → GateStands since before self.old
             → DeviceHappens self.old now before device datagram.now taken self.new) }
+        ensures unreadable { IfOk result (λ taken. taken ≡ DeviceTaken.Unreadable
+            → (community : List ℕ) (p : PduParts) → ¬ IsDeviceAnswer datagram.now community p) }
         ensures stays { Stays self.old self.new }
         ensures err { OnErr result (IsAsBefore now self.old self.new) }
     {

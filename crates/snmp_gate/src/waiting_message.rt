@@ -15,7 +15,7 @@ pub struct WaitingMessage {
     pub client: Vec<u8>,
     /// How many octets its datagram has.
     pub size: usize,
-    /// The SHA-256 digest of its datagram, if it is a Set that its device may be asked.
+    /// The SHA-256 digest of its datagram, if it is a Set.
     pub digest: Option<[u8; 32]>,
     /// What was accepted.
     pub kept: Kept,

@@ -1,5 +1,4 @@
-use Rattle.std.proofs.Common.{refl, subst}
-use Rattle.snmp_gate.specs.Work.{OnwardStands}
+use Rattle.std.proofs.Common.{refl}
 use Rattle.snmp_gate.proofs.take_device.work_after.Goals as goal
 
 pub returns-in-Asks-clause-after : goal.returns-in-Asks-clause-after

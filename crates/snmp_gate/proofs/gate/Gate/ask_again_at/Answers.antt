@@ -1,5 +1,4 @@
-use Rattle.std.proofs.Common.{◌∷◌, refl, subst, arith}
-use Rattle.std.specs.List.{HoldsAt}
+use Rattle.std.proofs.Common.{◌∷◌, refl, arith}
 use Rattle.snmp_gate.specs.Groups.{groups_of}
 use Rattle.snmp_gate.specs.History.{asked}
 use Rattle.snmp_gate.proofs.AsksKept.{asks_again, long_lists}

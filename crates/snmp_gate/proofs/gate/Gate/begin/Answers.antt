@@ -5,7 +5,7 @@ use Rattle.snmp_gate.specs.Beginning.{BeginsWell}
 use Rattle.snmp_gate.specs.Groups.{groups_of}
 use Rattle.snmp_gate.specs.History.{accepted}
 use Rattle.snmp_gate.specs.Sending.{Requests}
-use Rattle.snmp_gate.specs.Waiting.{GroupsStand, IsAsBefore}
+use Rattle.snmp_gate.specs.Waiting.{IsAsBefore}
 use Rattle.snmp_gate.specs.declared.devices.Devices.{Devices}
 use Rattle.snmp_gate.specs.declared.requests.WaitingRequests.{WaitingRequests}
 use Rattle.snmp_gate.specs.declared.waiting_message.WaitingMessage.{WaitingMessage}

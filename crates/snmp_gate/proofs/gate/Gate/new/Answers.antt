@@ -1,5 +1,3 @@
-use Rattle.std.specs.Prelude.{◌≡◌, ◌<◌, ℕ, List, [], All}
-use Rattle.std.proofs.Common.{arith, sym}
 use Rattle.snmp_gate.proofs.AsksKept.{asks_first}
 use Rattle.snmp_gate.proofs.SetsKept.{nothing_stands, sets_first}
 use Rattle.snmp_gate.proofs.gate.Gate.new.Goals as goal

@@ -1,16 +1,13 @@
 use Rattle.std.specs.Prelude.{◌≡◌, ◌/◌, ℕ, Bool, List, Ok, Option, Some, None, Result}
 use Rattle.std.proofs.Common.{ap, inl, refl, subst, sym}
-use Rattle.vacm_core.specs.Tables.{Tables}
 use Rattle.snmp_message.specs.declared.refusal.Refusal.{Refusal}
 use Rattle.snmp_message.specs.Numbers.{MemoryIs, in_table}
 use Rattle.usm_core.specs.Table.{refusal_answer, refused}
 use Rattle.snmp_agent.specs.Agent.{AgentState, AgentTakes, taker_of}
 use Rattle.snmp_incoming.specs.Outcome.{Given, Outcome}
-use Rattle.snmp_gate.specs.Groups.{groups_of}
-use Rattle.snmp_gate.specs.History.{Happening}
-use Rattle.snmp_gate.specs.Waiting.{GroupsStand, IsAsBefore}
+use Rattle.snmp_gate.specs.Waiting.{IsAsBefore}
 use Rattle.snmp_gate.specs.declared.gate.Gate.{Gate}
-use Rattle.snmp_gate.proofs.Coming.{message_happens, same_stands}
+use Rattle.snmp_gate.proofs.Coming.{message_happens, no_refusal, same_stands}
 use Rattle.snmp_gate.proofs.GroupSteps.{on_err}
 use Rattle.snmp_gate.proofs.Keeping.{as_before, as_before_same, if_err, stands_kept}
 use Rattle.snmp_gate.proofs.SetsKept.{keeps_same}
@@ -76,3 +73,9 @@ pub returns-in_err-message-clause-err : goal.returns-in_err-message-clause-err
 returns-in_err-message-clause-err c =
     let g = c.args.self.now in
     on_err c.from_residual.result _ (as_before c.args.now g (record g { agent = c.take.new.self }) c.in-Ok.ensures.takes.1 refl refl refl refl refl (inl refl))
+
+pub returns-in-Some-clause-refused : goal.returns-in-Some-clause-refused
+returns-in-Some-clause-refused c = no_refusal c.args.self.now c.join.new.self (c.args.now / 1000) c.args.datagram.now c.join.result c.join.ensures.accepts
+
+pub returns-in-None-clause-refused : goal.returns-in-None-clause-refused
+returns-in-None-clause-refused c = no_refusal c.args.self.now c.begin.new.self (c.args.now / 1000) c.args.datagram.now c.begin.result c.begin.ensures.accepts
