@@ -87,7 +87,12 @@ fn variables_of<'a>(alloc: Global, pdu: &Pdu<'a>) -> Result<Vec<VariableBinding<
 }
 
 /// The Response of an agent to the message, with the message's bindings.
-fn answered(alloc: Global, agent: &mut Agent, message: &[u8], salt: [u8; 8]) -> Result<Vec<u8>> {
+fn agent_response(
+    alloc: Global,
+    agent: &mut Agent,
+    message: &[u8],
+    salt: [u8; 8],
+) -> Result<Vec<u8>> {
     let taken = match agent.take(SECONDS, message) {
         Ok(taken) => taken,
         Err(refused) => return Err(refused.why.into()),
@@ -97,7 +102,12 @@ fn answered(alloc: Global, agent: &mut Agent, message: &[u8], salt: [u8; 8]) -> 
 }
 
 /// The Response of a gateway to the message, with what its device answers.
-fn passed(gate: &mut Gate, message: &[u8], answer: &[u8], salt: [u8; 8]) -> Result<Vec<u8>> {
+fn gateway_response(
+    gate: &mut Gate,
+    message: &[u8],
+    answer: &[u8],
+    salt: [u8; 8],
+) -> Result<Vec<u8>> {
     gate.take_client(NOW, b"client", message)?;
     let Sent::ToDevice { .. } = gate.next(NOW, salt, ASK_ID)? else {
         bail!("the device isn't asked");
@@ -122,7 +132,7 @@ fn by_agent(alloc: Global, wanted: &Wanted) -> Result<Vec<u8>> {
     let mut agent = agent(alloc)?;
     let mut last = Vec::new(alloc);
     for number in 0..wanted.times {
-        last = answered(alloc, &mut agent, &wanted.message, number.to_be_bytes())?;
+        last = agent_response(alloc, &mut agent, &wanted.message, number.to_be_bytes())?;
     }
     Ok(last)
 }
@@ -132,7 +142,7 @@ fn by_gate(alloc: Global, wanted: &Wanted) -> Result<Vec<u8>> {
     let mut gate = gate(alloc, 1)?;
     let mut last = Vec::new(alloc);
     for number in 0..wanted.times {
-        last = passed(
+        last = gateway_response(
             &mut gate,
             &wanted.message,
             &wanted.answer,
