@@ -1,0 +1,30 @@
+-- The numbers of what becomes of what a gateway gets, and of what goes out.
+--
+-- `event_number`: that of an event. `event_code`: that of an event or of a fault.
+use Rattle.std.specs.Prelude.{◌+◌, ℤ, pos, Some, None, Result, Ok, Err}
+use Rattle.snmp_message.specs.Numbers.{refusal_number}
+use Rattle.snmp_handles.specs.Faults.{fault_code}
+use Rattle.snmp_handles.specs.declared.fault.CallFault.{CallFault}
+use Rattle.gate_handles.specs.declared.event.GateEvent.{GateEvent}
+use Rattle.gate_handles.specs.declared.event.GateEvent.TheVariants.{Nothing, Begins, Joins, NoRoom, SetOfBefore}
+use Rattle.gate_handles.specs.declared.event.GateEvent.TheVariants.{Answers, NotWaitedFor, Unreadable, ToClient}
+use Rattle.gate_handles.specs.declared.event.GateEvent.TheVariants.{ToDevice, GivenUp, Unanswered}
+
+abbrev pub event_number : GateEvent → ℤ
+event_number Nothing = pos 0
+event_number Begins = pos 20
+event_number Joins = pos 21
+event_number NoRoom = pos 22
+event_number SetOfBefore = pos 23
+event_number Answers = pos 24
+event_number NotWaitedFor = pos 25
+event_number Unreadable = pos 26
+event_number ToClient = pos 27
+event_number ToDevice = pos 28
+event_number GivenUp = pos 29
+event_number (Unanswered None) = pos 30
+event_number (Unanswered (Some refusal)) = pos (30 + refusal_number refusal)
+
+abbrev pub event_code : Result GateEvent CallFault → ℤ
+event_code (Ok event) = event_number event
+event_code (Err fault) = fault_code fault

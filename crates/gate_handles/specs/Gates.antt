@@ -1,0 +1,248 @@
+-- A gateway with what it is made of, and what its calls leave.
+--
+-- `GateHeld`: a gateway, what its configuration says, and what came of the last call. `IsGateOf`: a gateway of a
+-- configuration that nothing has reached; `device_said`, `limits_said`: a device and the limits that it says.
+-- `RefusesGate`: why there is none, the first that applies.
+--
+-- `TakesClient`, `TakesDevice`, `SendsNext`: what becomes of a datagram and what goes out, with what happens by it
+-- and that it is lawful after what happened before (`ClientHappens`, `DeviceHappens`, `SendHappens`). `RunsOut`:
+-- there was no memory. `Empties`: all is given back.
+use Rattle.std.specs.Prelude.{◌≡◌, ◌<◌, ◌≤◌, ◌⊎◌, ⊤, ℕ, List, [], map, Option, Some, None, option_map, Result, Ok, Err}
+use Rattle.std.specs.Prelude.{replicate, string_bytes}
+use Rattle.std.specs.Global.{Vec}
+use Rattle.engine_clock.specs.Pairs.{pair_max}
+use Rattle.usm_users.specs.User.{User}
+use Rattle.usm_users.specs.declared.load.UserRow.{UserRow}
+use Rattle.vacm_core.specs.Tables.{Tables, HaveSameRows}
+use Rattle.vacm_core.specs.declared.rows.AccessRow.{AccessRow}
+use Rattle.snmp_message.specs.declared.refusal.Refusal.TheVariants.{OutOfMemory}
+use Rattle.snmp_agent.specs.Agent.{AgentState}
+use Rattle.snmp_gate.specs.History.{Happening}
+use Rattle.snmp_gate.specs.Waiting.{GateStands, ClientHappens, DeviceHappens, SendHappens}
+use Rattle.snmp_gate.specs.declared.devices.Device.{Device}
+use Rattle.snmp_gate.specs.declared.limits.GateLimits.{GateLimits}
+use Rattle.snmp_gate.specs.declared.gate.Gate.{Gate}
+use Rattle.snmp_gate.specs.declared.gate.ClientTaken.{ClientTaken}
+use Rattle.snmp_gate.specs.declared.gate.ClientTaken.TheVariants as client
+use Rattle.snmp_gate.specs.declared.gate.DeviceTaken.{DeviceTaken}
+use Rattle.snmp_gate.specs.declared.gate.DeviceTaken.TheVariants as device
+use Rattle.snmp_gate.specs.declared.gate.Sent.{Sent}
+use Rattle.snmp_gate.specs.declared.gate.Sent.TheVariants as out
+use Rattle.snmpsec_gate_config.specs.Refusals.{Loads, RefusesText, SaysSound}
+use Rattle.snmpsec_gate_config.specs.declared.fault.GateFault.{GateFault}
+use Rattle.snmpsec_gate_config.specs.declared.settings.GateSettings.{GateSettings}
+use Rattle.snmpsec_gate_config.specs.declared.settings.DeviceSettings.{DeviceSettings}
+use Rattle.snmp_handles.specs.Agents.{begins, no_rows}
+use Rattle.snmp_handles.specs.declared.fault.CallFault.{CallFault}
+use Rattle.snmp_handles.specs.declared.fault.CallFault.TheVariants.{Refused, BadArgument, BadConfiguration}
+use Rattle.gate_handles.specs.declared.making.TheConstants.{NAMES, JOINED, GATHERED}
+use Rattle.gate_handles.specs.declared.event.GateEvent.{GateEvent}
+use Rattle.gate_handles.specs.declared.event.GateEvent.TheVariants as event
+
+pub record GateHeld : Type 0 where
+  pub gate : Gate
+  -- what the configuration says of it, of its devices, and of access
+  pub settings : GateSettings
+  pub devices : List DeviceSettings
+  pub access : List AccessRow
+  -- the request and the device that the last call was about, if it was about one
+  pub request : ℕ
+  pub device : ℕ
+  -- the datagram that is to be sent, and the client to whom
+  pub message : Option (List ℕ)
+  pub client : Option (List ℕ)
+
+-- ---- making one
+
+-- a device, whatever memory it is in
+pub record DeviceParts : Type 0 where
+  pub context : List ℕ
+  pub community : List ℕ
+  pub write_community : Option (List ℕ)
+  pub max_size : ℕ
+  pub repetitions : ℕ
+  pub names : ℕ
+  pub at_once : ℕ
+
+abbrev pub device_parts : Device → DeviceParts
+device_parts d = record {
+  context = d.context.items;
+  community = d.community.items;
+  write_community = option_map (λ c. c.items) d.write_community;
+  max_size = d.max_size;
+  repetitions = d.repetitions;
+  names = d.names;
+  at_once = d.at_once;
+}
+
+-- the device that the configuration says
+abbrev pub device_said : DeviceSettings → DeviceParts
+device_said said = record {
+  context = said.context;
+  community = said.community.items;
+  write_community = option_map (λ c. c.items) said.write_community;
+  max_size = said.limits.max_size;
+  repetitions = said.limits.repetitions;
+  names = NAMES;
+  at_once = said.limits.at_once;
+}
+
+-- the limits that the configuration says, and those that it can't say
+abbrev pub limits_said : GateSettings → GateLimits
+limits_said said = record {
+  waiting = said.limits.waiting;
+  joined = JOINED;
+  rounds = said.limits.rounds;
+  retries = record { again = said.limits.again; tries = said.limits.tries; last = said.limits.last };
+  gather = said.limits.gather;
+  gathered = GATHERED;
+  long_answers = said.long_answers;
+  report_unreachable = said.report_unreachable;
+}
+
+-- nothing came of a call, and nothing is to be sent
+pub record IsQuiet (held : GateHeld) : Type 0 where
+  pub message : held.message ≡ None
+  pub client : held.client ≡ None
+
+-- the access rows are those of the text
+pub record IsAccessOf (config : List ℕ) (access : List AccessRow) : Type 0 where
+  pub settings : GateSettings
+  pub devices : List DeviceSettings
+  pub users : List UserRow
+  pub rows : Tables
+  pub sound : SaysSound config settings devices users rows
+  pub is : access ≡ rows.access
+
+-- a gateway to these devices, with the agent that begins so, that nothing has reached
+pub record IsNewGate (agent : AgentState) (devices : List DeviceSettings) (gate : Gate) : Type 0 where
+  pub agent_is : gate.agent ≡ agent
+  pub asks : map device_parts gate.devices.list.items ≡ map device_said devices
+  pub stands : GateStands [] gate
+  pub none_wait : gate.requests.list.items ≡ []
+
+-- a gateway of the configuration, with these boots, whose agent started at this moment, in seconds
+pub record IsGateOf (config : List ℕ) (boots started : ℕ) (made : GateHeld) : Type 0 where
+  pub in_range : boots ≤ pair_max
+  pub users : List User
+  pub tables : Tables
+  pub loads : Loads config made.settings made.devices users tables
+  pub access : IsAccessOf config made.access
+  pub gate : IsNewGate (begins made.settings.engine boots started users tables).agent made.devices made.gate
+  pub quiet : IsQuiet made
+
+-- the text is refused as a configuration, or there was no memory
+abbrev pub RefusesConfig : List ℕ → CallFault → Type 0
+RefusesConfig config BadConfiguration = (fault : GateFault) × RefusesText config fault
+RefusesConfig config (Refused fault) = fault ≡ OutOfMemory
+RefusesConfig config _ = ⊥
+
+-- why none is made, the first that applies
+abbrev pub RefusesGate : List ℕ → ℕ → CallFault → Type 0
+RefusesGate config boots BadArgument = pair_max < boots
+RefusesGate config boots fault = (boots ≤ pair_max) × RefusesConfig config fault
+
+abbrev pub MakesGate : List ℕ → ℕ → ℕ → Result GateHeld CallFault → Type 0
+MakesGate config boots started (Ok made) = IsGateOf config boots started made
+MakesGate config boots started (Err fault) = RefusesGate config boots fault
+
+-- ---- what stays
+
+-- what the configuration says stays
+pub record KeepsSaid (old new : GateHeld) : Type 0 where
+  pub settings : new.settings ≡ old.settings
+  pub devices : new.devices ≡ old.devices
+  pub access : new.access ≡ old.access
+
+-- there is no memory, and nothing is to be sent
+pub record RunsOut (told : Result GateEvent CallFault) (new : GateHeld) : Type 0 where
+  pub fault : told ≡ Err (Refused OutOfMemory)
+  pub quiet : IsQuiet new
+
+-- ---- what comes from a client
+
+-- what is reported of what becomes of it
+abbrev pub TellsClient : ClientTaken → Result GateEvent CallFault → GateHeld → Type 0
+TellsClient (client.Refused refused) told new = (told ≡ Err (Refused refused.why.refusal))
+    × (new.message ≡ option_map (λ v. v.items) refused.report) × (new.client ≡ None)
+TellsClient (client.Begins number) told new = (told ≡ Ok event.Begins) × (new.request ≡ number) × IsQuiet new
+TellsClient (client.Joins number) told new = (told ≡ Ok event.Joins) × (new.request ≡ number) × IsQuiet new
+TellsClient client.NoRoom told new = (told ≡ Ok event.NoRoom) × IsQuiet new
+TellsClient client.SetOfBefore told new = (told ≡ Ok event.SetOfBefore) × IsQuiet new
+
+-- The datagram is taken, and what happens by that is lawful.
+pub record TookClient (old : GateHeld) (now : ℕ) (from datagram : List ℕ) (told : Result GateEvent CallFault)
+    (new : GateHeld) : Type 0 where
+  pub taken : ClientTaken
+  pub tells : TellsClient taken told new
+  pub happens : (before : List Happening) → GateStands before old.gate
+      → ClientHappens old.gate before now from datagram taken new.gate
+
+abbrev pub TakesClient : GateHeld → ℕ → List ℕ → List ℕ → Result GateEvent CallFault → GateHeld → Type 0
+TakesClient old now from datagram told new = KeepsSaid old new
+    × (TookClient old now from datagram told new ⊎ RunsOut told new)
+
+-- ---- what comes from a device
+
+abbrev pub TellsDevice : DeviceTaken → Result GateEvent CallFault → GateHeld → Type 0
+TellsDevice (device.Answers number) told new = (told ≡ Ok event.Answers) × (new.request ≡ number)
+TellsDevice device.NotWaitedFor told new = told ≡ Ok event.NotWaitedFor
+TellsDevice device.Unreadable told new = told ≡ Ok event.Unreadable
+
+pub record TookDevice (old : GateHeld) (number : ℕ) (datagram : List ℕ) (told : Result GateEvent CallFault)
+    (new : GateHeld) : Type 0 where
+  pub taken : DeviceTaken
+  pub tells : TellsDevice taken told new
+  pub quiet : IsQuiet new
+  pub happens : (before : List Happening) → GateStands before old.gate
+      → DeviceHappens old.gate before number datagram taken new.gate
+
+abbrev pub TakesDevice : GateHeld → ℕ → List ℕ → Result GateEvent CallFault → GateHeld → Type 0
+TakesDevice old number datagram told new = KeepsSaid old new
+    × (TookDevice old number datagram told new ⊎ RunsOut told new)
+
+-- ---- what goes out
+
+-- the datagram that is to be sent, and to whom
+abbrev pub Leaves : GateHeld → Option (List ℕ) → Option (List ℕ) → Type 0
+Leaves new to datagram = (new.client ≡ to) × (new.message ≡ datagram)
+
+abbrev pub TellsSent : Sent → Result GateEvent CallFault → GateHeld → Type 0
+TellsSent (out.ToClient number to datagram) told new = (told ≡ Ok event.ToClient) × (new.request ≡ number)
+    × Leaves new (Some to.items) (Some datagram.items)
+TellsSent (out.ToDevice number to datagram) told new = (told ≡ Ok event.ToDevice) × (new.request ≡ number)
+    × (new.device ≡ to) × Leaves new None (Some datagram.items)
+TellsSent (out.Unanswered number why) told new = (told ≡ Ok (event.Unanswered why)) × (new.request ≡ number)
+    × IsQuiet new
+TellsSent (out.GivenUp number to) told new = (told ≡ Ok event.GivenUp) × (new.request ≡ number) × (new.device ≡ to)
+    × IsQuiet new
+TellsSent out.Nothing told new = (told ≡ Ok event.Nothing) × IsQuiet new
+
+pub record Sends (old : GateHeld) (told : Result GateEvent CallFault) (new : GateHeld) : Type 0 where
+  pub sent : Sent
+  pub tells : TellsSent sent told new
+  pub happens : (before : List Happening) → GateStands before old.gate → SendHappens old.gate before sent new.gate
+
+abbrev pub SendsNext : GateHeld → Result GateEvent CallFault → GateHeld → Type 0
+SendsNext old told new = KeepsSaid old new × (Sends old told new ⊎ RunsOut told new)
+
+-- ---- giving back
+
+-- an agent with no user and no row
+abbrev pub IsEmptyAgent : AgentState → Type 0
+IsEmptyAgent agent = (tables : Tables) × HaveSameRows no_rows tables
+    × (agent ≡ (begins (replicate 5 0) 0 0 [] tables).agent)
+
+-- no device, no user, no row, no request and no datagram
+pub record IsEmpty (new : GateHeld) : Type 0 where
+  pub no_users : IsEmptyAgent new.gate.agent
+  pub gate : IsNewGate new.gate.agent [] new.gate
+  pub path : string_bytes new.settings.boots ≡ []
+  pub listens : new.settings.listen.items ≡ []
+  pub no_devices : new.devices ≡ []
+  pub no_access : new.access ≡ []
+  pub quiet : IsQuiet new
+
+abbrev pub Empties : GateHeld → Result ⊤ CallFault → GateHeld → Type 0
+Empties old (Ok done) new = IsEmpty new
+Empties old (Err fault) new = (fault ≡ Refused OutOfMemory) × (new ≡ old)

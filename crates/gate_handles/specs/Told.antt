@@ -1,0 +1,125 @@
+-- What a caller gets of a gateway: what its configuration says, its numbers and counters, why a configuration is
+-- refused, and the user of a datagram.
+--
+-- `ReadsSetting`, `IsSetting`: a text that the configuration says. `numbers_of`: whom the last call was about.
+-- `CountsOf`: a counter of the agent. `TellsGate`: why a text is refused as a configuration. `CopiesUser`: the user
+-- that a datagram names.
+use Rattle.std.specs.Prelude.{◌≡◌, ◌<◌, ◌≤◌, ◌⊎◌, ⊤, ℕ, List, []}
+use Rattle.std.specs.Prelude.{◌∷◌, ◌++◌, length, drop, codes, string_bytes, slice_get, if◌then◌else◌, ◌==◌}
+use Rattle.std.specs.Prelude.{Option, Some, None, option_map, MatchOption, Result, Ok, Err}
+use Rattle.std.specs.Net.Text.{socket_text}
+use Rattle.usm_users.specs.declared.load.UserRow.{UserRow}
+use Rattle.vacm_core.specs.Tables.{Tables}
+use Rattle.vacm_core.specs.declared.rows.AccessRow.{AccessRow}
+use Rattle.snmp_message.specs.Layout.{Outer, Parts}
+use Rattle.snmp_message.specs.Security.{SecText, Fields}
+use Rattle.snmp_message.specs.declared.refusal.Refusal.{Refusal}
+use Rattle.snmp_message.specs.declared.refusal.Refusal.TheVariants.{OutOfMemory}
+use Rattle.snmp_agent.specs.RefusalCounters.{counter_at}
+use Rattle.snmpsec_gate_config.specs.Oddities.{TellsOddity, oddity_words}
+use Rattle.snmpsec_gate_config.specs.Refusals.{RefusesText, SaysSound, refusal_line}
+use Rattle.snmpsec_gate_config.specs.Told.{IsWhy}
+use Rattle.snmpsec_gate_config.specs.declared.fault.GateFault.{GateFault}
+use Rattle.snmpsec_gate_config.specs.declared.oddity.DeviceOddity.{DeviceOddity}
+use Rattle.snmpsec_gate_config.specs.declared.settings.GateSettings.{GateSettings}
+use Rattle.snmpsec_gate_config.specs.declared.settings.DeviceSettings.{DeviceSettings}
+use Rattle.snmp_handles.specs.Parts.{Copies, CopiesMessage, CopiesNothing}
+use Rattle.snmp_handles.specs.declared.fault.CallFault.{CallFault}
+use Rattle.snmp_handles.specs.declared.fault.CallFault.TheVariants.{Refused, BadArgument, BadConfiguration, ShortBuffer}
+use Rattle.gate_handles.specs.Gates.{GateHeld}
+use Rattle.gate_handles.specs.declared.setting.GateText.{GateText}
+use Rattle.gate_handles.specs.declared.setting.GateText.TheVariants as setting
+
+-- ---- what the configuration says
+
+abbrev pub setting_of : ℕ → Option GateText
+setting_of n =
+    if n == 0 then Some setting.Boots else if n == 1 then Some setting.Listen else if n == 2 then Some setting.Context
+    else if n == 3 then Some setting.Address else
+    if n == 4 then Some setting.Note else None
+
+-- what is probably a mistake about the device at this position, in words
+abbrev pub IsNote : List DeviceSettings → List AccessRow → ℕ → Option (List ℕ) → Type 0
+IsNote devices access position text = MatchOption (slice_get devices position) (text ≡ None)
+    (λ device. (oddity : Option DeviceOddity) × TellsOddity device access oddity
+    × (text ≡ option_map oddity_words oddity))
+
+-- the text that is said so, at this position, if one is
+abbrev pub IsSetting : GateSettings → List DeviceSettings → List AccessRow → GateText → ℕ → Option (List ℕ) → Type 0
+IsSetting said devices access setting.Boots position text = text ≡ Some (string_bytes said.boots)
+IsSetting said devices access setting.Listen position text =
+    text ≡ option_map socket_text (slice_get said.listen.items position)
+IsSetting said devices access setting.Context position text =
+    text ≡ option_map (λ device. device.context) (slice_get devices position)
+IsSetting said devices access setting.Address position text =
+    text ≡ option_map (λ device. socket_text device.address) (slice_get devices position)
+IsSetting said devices access setting.Note position text = IsNote devices access position text
+
+-- It is copied; or there is no memory for it.
+abbrev pub ReadsSetting : GateHeld → GateText → ℕ → List ℕ → List ℕ → ℕ → ℕ → Result ⊤ CallFault → Type 0
+ReadsSetting held which position out out_new written written_new told =
+    ((text : Option (List ℕ)) × IsSetting held.settings held.devices held.access which position text
+    × CopiesMessage text out out_new written written_new told)
+    ⊎ ((told ≡ Err (Refused OutOfMemory)) × CopiesNothing out out_new written written_new)
+
+-- ---- numbers
+
+-- the request and the device that the last call was about, and how many requests wait
+abbrev pub numbers_of : GateHeld → List ℕ
+numbers_of held = held.request ∷ held.device ∷ length held.gate.requests.list.items ∷ []
+
+-- usmStats n of the agent (RFC 3414, section 5)
+abbrev pub CountsOf : GateHeld → ℕ → Result ℕ CallFault → Type 0
+CountsOf held n (Ok value) = (1 ≤ n) × (n ≤ 6) × (value ≡ counter_at held.gate.agent.counters n)
+CountsOf held n (Err BadArgument) = (n ≡ 0) ⊎ (6 < n)
+CountsOf held n (Err _) = ⊥
+
+-- ---- a configuration
+
+-- two lines: the refusal, and what is wrong and what is expected
+abbrev pub IsTold : GateFault → List ℕ → Type 0
+IsTold fault text = (why : List ℕ) × IsWhy fault why
+    × (text ≡ refusal_line fault ++ (codes "\n" ++ (why ++ codes "\n")))
+
+-- the text is refused for this fault, and this is reported of it
+abbrev pub RefusesSo : List ℕ → List ℕ → Type 0
+RefusesSo config text = (fault : GateFault) × RefusesText config fault × IsTold fault text
+
+-- the text is a configuration
+pub record IsGateConfig (config : List ℕ) : Type 0 where
+  pub settings : GateSettings
+  pub devices : List DeviceSettings
+  pub users : List UserRow
+  pub rows : Tables
+  pub sound : SaysSound config settings devices users rows
+
+abbrev pub TellsGate : List ℕ → List ℕ → List ℕ → ℕ → ℕ → Result ⊤ CallFault → Type 0
+TellsGate config out out_new written written_new (Ok done) = IsGateConfig config × (out_new ≡ out) × (written_new ≡ 0)
+TellsGate config out out_new written written_new (Err BadConfiguration) = (text : List ℕ) × RefusesSo config text
+    × (length text ≤ length out) × (written_new ≡ length text) × (out_new ≡ text ++ drop (length text) out)
+TellsGate config out out_new written written_new (Err ShortBuffer) = (text : List ℕ) × RefusesSo config text
+    × (length out < length text) × (written_new ≡ length text) × (out_new ≡ out)
+TellsGate config out out_new written written_new (Err (Refused fault)) = (fault ≡ OutOfMemory)
+    × CopiesNothing out out_new written written_new
+TellsGate config out out_new written written_new (Err _) = ⊥
+
+-- ---- a datagram
+
+-- the datagram is a message of SNMPv3 whose msgSecurityParameters have this msgUserName
+pub record IsUserOf (datagram user : List ℕ) : Type 0 where
+  pub message : Parts
+  pub is_message : Outer datagram message
+  pub fields : Fields
+  pub is_security : SecText message.security_at message.security fields
+  pub is : user ≡ fields.user
+
+-- the datagram has no msgUserName
+abbrev pub HasNoUser : List ℕ → Type 0
+HasNoUser datagram = (user : List ℕ) → IsUserOf datagram user → ⊥
+
+-- The msgUserName is copied, whether or not the message is authentic.
+abbrev pub CopiesUser : List ℕ → List ℕ → List ℕ → ℕ → ℕ → Result ⊤ CallFault → Type 0
+CopiesUser datagram out out_new written written_new told =
+    ((user : List ℕ) × IsUserOf datagram user × Copies user out out_new written_new told)
+    ⊎ (HasNoUser datagram × ((why : Refusal) × (told ≡ Err (Refused why)))
+    × CopiesNothing out out_new written written_new)

@@ -1,0 +1,446 @@
+//! A gateway with what its configuration says, and what came of the last call.
+
+ghost use Rattle.std.specs.Prelude.{◌≡◌, ℕ, List, [], string_bytes, Ok, IfOk, IfErr};
+ghost use Rattle.snmp_message.specs.declared.refusal.Refusal.TheVariants.{OutOfMemory};
+ghost use Rattle.snmp_agent.specs.Counts.{count_at};
+ghost use Rattle.snmpsec_gate_config.specs.Refusals.{Loads, Refuses};
+ghost use Rattle.snmpsec_gate_config.specs.Rows.{HaveOwnContexts};
+ghost use Rattle.snmp_handles.specs.Parts.{CopiesMessage};
+ghost use Rattle.snmp_handles.specs.declared.fault.CallFault.TheVariants.{Refused};
+ghost use Rattle.gate_handles.specs.Gates.{MakesGate, RefusesConfig, IsAccessOf, IsNewGate, IsEmptyAgent, Empties};
+ghost use Rattle.gate_handles.specs.Gates.{KeepsSaid, IsQuiet, TakesClient, TellsClient, TakesDevice, SendsNext};
+ghost use Rattle.gate_handles.specs.Gates.{TellsDevice, TellsSent};
+ghost use Rattle.gate_handles.specs.Told.{CountsOf, ReadsSetting, numbers_of};
+
+use crate::event::GateEvent;
+use crate::making::{devices_of, limits_of};
+use crate::setting::{GateText, setting_text};
+use engine_clock::EngineId;
+use snmp_agent::Agent;
+use snmp_ber::MAX_INTEGER32;
+use snmp_gate::{ClientTaken, DeviceTaken, Devices, Gate, Sent};
+use snmp_handles::{CallFault, copied_message};
+use snmp_msg::Refusal;
+use snmp_outgoing::Counter;
+use snmpsec_gate_config::{
+    DeviceSettings, GateConfig, GateFault, GateRows, GateSettings, GatewayLimits,
+};
+use std::alloc::{AllocError, Global};
+use std::marker::Model;
+use usm_core::{UserRow, Users};
+use vacm_core::{AccessRow, Rows, Vacm};
+
+/// A gateway, what its configuration says, and what came of the last call.
+#[derive(Drop)]
+pub struct GateHandle {
+    pub(crate) alloc: Global,
+    pub(crate) gate: Gate,
+    pub(crate) settings: GateSettings,
+    pub(crate) devices: Vec<DeviceSettings>,
+    pub(crate) access: Vec<AccessRow>,
+    pub(crate) request: u64,
+    pub(crate) device: usize,
+    pub(crate) message: Option<Vec<u8>>,
+    pub(crate) client: Option<Vec<u8>>,
+}
+
+impl Model for GateHandle {
+    ghost use Rattle.std.specs.Prelude.{option_map};
+    ghost use Rattle.std.specs.Coded.{codes};
+    ghost use Rattle.snmp_gate.specs.contracts.gate.Gate as gates;
+    ghost use Rattle.gate_handles.specs.Gates.{GateHeld};
+
+    ghost Value = { GateHeld };
+
+    ghost coded = { Prim.hlevel (codes, gates.the_row.coded) };
+
+    ghost view = { λ h. record {
+      gate = h.gate;
+      settings = h.settings;
+      devices = h.devices.items;
+      access = h.access.items;
+      request = h.request;
+      device = h.device;
+      message = option_map (λ v. v.items) h.message;
+      client = option_map (λ v. v.items) h.client;
+    } };
+}
+
+/// The fault of a call that found no memory.
+const NO_MEMORY: CallFault = CallFault::Refused(Refusal::OutOfMemory);
+
+/// Returns the fault of a call that was given a text that is refused so.
+fn fault_of(fault: &GateFault) -> CallFault
+    ensures { (config : List ℕ) → Refuses config fault.now → RefusesConfig config result }
+{
+    if fault.is_memory() {
+        NO_MEMORY
+    } else {
+        CallFault::BadConfiguration
+    }
+}
+
+/// Returns the access rows that a configuration says.
+fn access_of(alloc: Global, config: &[u8]) -> Result<Vec<AccessRow>, CallFault>
+    ensures access { IfOk result (λ access. IsAccessOf config.now access.items) }
+    ensures refuses { IfErr result (RefusesConfig config.now) }
+{
+    match GateRows::read(alloc, config) {
+        Ok(said) => {
+            let rows = said.rows;
+            let tables = rows.access;
+            Ok(tables.access)
+        }
+        Err(fault) => Err(fault_of(&fault)),
+    }
+}
+
+/// Returns what a configuration says.
+fn config_of(alloc: Global, config: &[u8]) -> Result<GateConfig, CallFault>
+    ensures loads { IfOk result (λ said. Loads config.now said.gate said.devices.items
+        said.users.users said.access) }
+    ensures own_contexts { IfOk result (λ said. HaveOwnContexts said.devices.items) }
+    ensures refuses { IfErr result (RefusesConfig config.now) }
+{
+    match GateConfig::read(alloc, config) {
+        Ok(said) => Ok(said),
+        Err(fault) => Err(fault_of(&fault)),
+    }
+}
+
+/// Returns a gateway with this agent to the devices that a configuration says.
+fn gate_of(
+    alloc: Global,
+    agent: Agent,
+    said: &GateSettings,
+    devices: &[DeviceSettings],
+) -> Result<Gate, AllocError>
+    requires { HaveOwnContexts devices.now }
+    ensures { IfOk result (IsNewGate agent devices.now) }
+{
+    let list = devices_of(alloc, devices)?;
+    let Ok(devices) = Devices::new(list) else {
+        unreachable!();
+    };
+    Gate::new(alloc, agent, devices, limits_of(said))
+}
+
+/// Returns an agent without users and rows.
+fn empty_agent(alloc: Global) -> Result<Agent, CallFault>
+    ensures agent { IfOk result IsEmptyAgent }
+    ensures no_memory { IfErr result (λ fault. fault ≡ Refused OutOfMemory) }
+{
+    let Some(engine) = EngineId::of(&[0; 5]) else {
+        unreachable!();
+    };
+    let users: Vec<UserRow> = Vec::new(alloc);
+    let rows = Rows {
+        contexts: Vec::new(alloc),
+        groups: Vec::new(alloc),
+        access: Vec::new(alloc),
+        families: Vec::new(alloc),
+    };
+    let Ok(users) = Users::load(alloc, &users) else {
+        return Err(NO_MEMORY);
+    };
+    let Ok(tables) = Vacm::load(alloc, &rows) else {
+        return Err(NO_MEMORY);
+    };
+    Ok(Agent::new(alloc, engine, 0, 0, users, tables))
+}
+
+/// Returns what a configuration without addresses would say.
+fn empty_settings(alloc: Global, engine: EngineId) -> GateSettings
+    ensures path { string_bytes result.boots ≡ [] }
+    ensures listen { result.listen.items ≡ [] }
+{
+    GateSettings {
+        engine,
+        boots: String::new(alloc),
+        listen: Vec::new(alloc),
+        limits: GatewayLimits {
+            waiting: 1,
+            rounds: 1,
+            again: 1,
+            tries: 1,
+            last: 1,
+            gather: 0,
+        },
+        long_answers: false,
+        report_unreachable: false,
+    }
+}
+
+impl GateHandle {
+    /// Returns a gateway of this configuration, in TOML, with these boots, whose agent started at the moment
+    /// `started`, in seconds. No datagram has reached it.
+    ///
+    /// The errors are BadArgument, if boots are above 2147483647; then BadConfiguration, or out of memory.
+    pub fn of(
+        alloc: Global,
+        config: &[u8],
+        boots: u32,
+        started: u64,
+    ) -> Result<GateHandle, CallFault>
+        ensures { MakesGate config.now boots started result }
+    {
+        if boots > MAX_INTEGER32 {
+            return Err(CallFault::BadArgument);
+        }
+        let access = access_of(alloc, config)?;
+        let said = config_of(alloc, config)?;
+        let GateConfig {
+            gate: settings,
+            devices,
+            users,
+            access: tables,
+        } = said;
+        let agent = Agent::new(alloc, settings.engine.copy(), boots, started, users, tables);
+        let Ok(gate) = gate_of(alloc, agent, &settings, &devices) else {
+            return Err(NO_MEMORY);
+        };
+        Ok(GateHandle {
+            alloc,
+            gate,
+            settings,
+            devices,
+            access,
+            request: 0,
+            device: 0,
+            message: None,
+            client: None,
+        })
+    }
+
+    /// Gives back the memory of all that is held: users, tables, devices, and what waits. The error is out of memory,
+    /// and changes nothing.
+    pub fn clear(&mut self) -> Result<(), CallFault>
+        ensures { Empties self.old result self.new }
+    {
+        let agent = empty_agent(self.alloc)?;
+        let settings = empty_settings(self.alloc, self.settings.engine.copy());
+        let devices = Vec::new(self.alloc);
+        let Ok(gate) = gate_of(self.alloc, agent, &settings, &devices) else {
+            return Err(NO_MEMORY);
+        };
+        self.gate = gate;
+        self.settings = settings;
+        self.devices = devices;
+        self.access = Vec::new(self.alloc);
+        self.message = None;
+        self.client = None;
+        Ok(())
+    }
+
+    /// Takes a datagram from a client at this moment, in milliseconds, as `Gate::take_client` does. The client's
+    /// address is of any octets.
+    ///
+    /// The errors are the refusals of `Agent::take`, which leave the report to be sent, if there is one, and out of
+    /// memory: then the datagram isn't taken, and may be taken again.
+    pub fn take_client(
+        &mut self,
+        now: u64,
+        client: &[u8],
+        datagram: &[u8],
+    ) -> Result<GateEvent, CallFault>
+        ensures { TakesClient self.old now client.now datagram.now result self.new }
+    {
+        self.message = None;
+        self.client = None;
+        match self.gate.take_client(now, client, datagram) {
+            Ok(taken) => self.took_client(taken),
+            Err(_) => Err(NO_MEMORY),
+        }
+    }
+
+    /// Returns what is reported of what became of a client's datagram.
+    fn took_client(&mut self, taken: ClientTaken) -> Result<GateEvent, CallFault>
+        requires { IsQuiet self.old }
+        ensures tells { TellsClient taken result self.new }
+        ensures keeps { KeepsSaid self.old self.new }
+        ensures gate { self.new.gate ≡ self.old.gate }
+    {
+        match taken {
+            ClientTaken::Refused(refused) => {
+                self.message = refused.report;
+                Err(CallFault::Refused(refused.why.refusal))
+            }
+            ClientTaken::Begins(number) => {
+                self.request = number;
+                Ok(GateEvent::Begins)
+            }
+            ClientTaken::Joins(number) => {
+                self.request = number;
+                Ok(GateEvent::Joins)
+            }
+            ClientTaken::NoRoom => Ok(GateEvent::NoRoom),
+            ClientTaken::SetOfBefore => Ok(GateEvent::SetOfBefore),
+        }
+    }
+
+    /// Takes a datagram from the device of this number, counted from 0, at this moment, in milliseconds, as
+    /// `Gate::take_device` does. Nothing is to be sent. The error is out of memory: then the datagram isn't taken,
+    /// and may be taken again.
+    pub fn take_device(
+        &mut self,
+        now: u64,
+        device: usize,
+        datagram: &[u8],
+    ) -> Result<GateEvent, CallFault>
+        ensures { TakesDevice self.old device datagram.now result self.new }
+    {
+        self.message = None;
+        self.client = None;
+        match self.gate.take_device(now, device, datagram) {
+            Ok(taken) => Ok(self.took_device(taken)),
+            Err(_) => Err(NO_MEMORY),
+        }
+    }
+
+    /// Returns what is reported of what became of a device's datagram.
+    fn took_device(&mut self, taken: DeviceTaken) -> GateEvent
+        requires { IsQuiet self.old }
+        ensures tells { TellsDevice taken (Ok result) self.new }
+        ensures quiet { IsQuiet self.new }
+        ensures keeps { KeepsSaid self.old self.new }
+        ensures gate { self.new.gate ≡ self.old.gate }
+    {
+        match taken {
+            DeviceTaken::Answers(number) => {
+                self.request = number;
+                GateEvent::Answers
+            }
+            DeviceTaken::NotWaitedFor => GateEvent::NotWaitedFor,
+            DeviceTaken::Unreadable => GateEvent::Unreadable,
+        }
+    }
+
+    /// Does the first thing that is due at this moment, in milliseconds, as `Gate::next` does, and leaves the
+    /// datagram to be sent, if there is one. The error is out of memory: then the call may be made again.
+    pub fn next(&mut self, now: u64, salt: u64, ask_id: u32) -> Result<GateEvent, CallFault>
+        ensures { SendsNext self.old result self.new }
+    {
+        self.message = None;
+        self.client = None;
+        match self.gate.next(now, salt.to_be_bytes(), ask_id) {
+            Ok(sent) => Ok(self.note_sent(sent)),
+            Err(_) => Err(NO_MEMORY),
+        }
+    }
+
+    /// Returns what is reported of what goes out.
+    fn note_sent(&mut self, sent: Sent) -> GateEvent
+        requires { IsQuiet self.old }
+        ensures tells { TellsSent sent (Ok result) self.new }
+        ensures keeps { KeepsSaid self.old self.new }
+        ensures gate { self.new.gate ≡ self.old.gate }
+    {
+        match sent {
+            Sent::ToClient {
+                number,
+                client,
+                datagram,
+            } => {
+                self.request = number;
+                self.client = Some(client);
+                self.message = Some(datagram);
+                GateEvent::ToClient
+            }
+            Sent::ToDevice {
+                number,
+                device,
+                datagram,
+            } => {
+                self.request = number;
+                self.device = device;
+                self.message = Some(datagram);
+                GateEvent::ToDevice
+            }
+            Sent::Unanswered { number, why } => {
+                self.request = number;
+                GateEvent::Unanswered(why)
+            }
+            Sent::GivenUp { number, device } => {
+                self.request = number;
+                self.device = device;
+                GateEvent::GivenUp
+            }
+            Sent::Nothing => GateEvent::Nothing,
+        }
+    }
+
+    /// Returns the moment, in milliseconds, from which on `next` has something to do by time alone, if there is one.
+    pub fn due(&self) -> Option<u64> {
+        self.gate.due()
+    }
+
+    /// Copies what is to be sent to the front of the buffer, and tells how many octets it has. The errors are
+    /// NothingTaken, if nothing is to be sent, and ShortBuffer.
+    pub fn message(&self, out: &mut [u8], written: &mut usize) -> Result<(), CallFault>
+        ensures { CopiesMessage self.now.message out.old out.new written.old written.new result }
+    {
+        copied_message(&self.message, out, written)
+    }
+
+    /// Copies the address of the client to whom it goes, in the same way, as it was given with the client's datagram.
+    pub fn client(&self, out: &mut [u8], written: &mut usize) -> Result<(), CallFault>
+        ensures { CopiesMessage self.now.client out.old out.new written.old written.new result }
+    {
+        copied_message(&self.client, out, written)
+    }
+
+    /// Copies what the configuration says at this position, counted from 0, in the same way: the setting's text, or a
+    /// part of it for one device or one address. The errors are NothingTaken, if it says nothing there, ShortBuffer,
+    /// and out of memory.
+    pub fn setting(
+        &self,
+        setting: GateText,
+        position: usize,
+        out: &mut [u8],
+        written: &mut usize,
+    ) -> Result<(), CallFault>
+        ensures { ReadsSetting self.now setting position out.old out.new written.old written.new result }
+    {
+        let text = setting_text(
+            self.alloc,
+            &self.settings,
+            &self.devices,
+            &self.access,
+            setting,
+            position,
+        );
+        match text {
+            Ok(text) => copied_message(&text, out, written),
+            Err(_) => Err(NO_MEMORY),
+        }
+    }
+
+    /// Returns the number of the request that the last call was about, that of the device, and how many requests
+    /// wait.
+    pub fn numbers(&self) -> [u64; 3]
+        ensures { result ≡ numbers_of self.now }
+    {
+        [self.request, self.device as u64, self.gate.waiting() as u64]
+    }
+
+    /// Returns counter n of the agent, usmStats n of RFC 3414, section 5. The error is BadArgument, if n isn't 1 to
+    /// 6.
+    pub fn counter(&self, n: u32) -> Result<u32, CallFault>
+        ensures { CountsOf self.now n result }
+    {
+        if n > 6 {
+            return Err(CallFault::BadArgument);
+        }
+        match self.gate.agent().counter(n as u8) {
+            Some(value) => Ok(value),
+            None => Err(CallFault::BadArgument),
+        }
+    }
+
+    /// Returns how many messages this counter of the agent has counted.
+    pub fn count(&self, counter: Counter) -> u32
+        ensures { result ≡ count_at self.now.gate.agent.counts counter }
+    {
+        self.gate.agent().count(counter)
+    }
+}
