@@ -17,7 +17,7 @@ GET, GET_NEXT, RESPONSE, SET, GET_BULK, INFORM, TRAP, REPORT = 0xA0, 0xA1, 0xA2,
 CONFIRMED = GET, GET_NEXT, GET_BULK, SET, INFORM
 NO_ACCESS, RESOURCE_UNAVAILABLE, AUTHORIZATION_ERROR, LAST_STATUS = 6, 13, 16, 18
 NO_AUTH, AUTH, PRIV = 0, 1, 2
-REMEMBERED, REMEMBERED_SETS, REQUEST_IDS = 301_000, 4096, 1 << 31
+REMEMBERED, REMEMBERED_SETS, REQUEST_IDS, MOST_VARIABLES = 301_000, 4096, 1 << 31, 128
 COUNTERS = {
     "UnknownContexts": (1, 3, 6, 1, 6, 3, 12, 1, 5, 0),
     "UnavailableContexts": (1, 3, 6, 1, 6, 3, 12, 1, 4, 0),
@@ -488,6 +488,8 @@ class Gateway:
         view = self.tables.view_of(message, False)
         if message.names and isinstance(view, str):
             raise Ends("own", AUTHORIZATION_ERROR, 0)
+        if len(message.names) > MOST_VARIABLES:
+            raise Ends("own", TOO_BIG, 0)
         request.talk = Talk(message, view, self.limits, self.devices[request.device])
         request.talk.go_on()
         return True

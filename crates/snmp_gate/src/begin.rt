@@ -13,7 +13,7 @@ ghost use Rattle.snmp_gate.specs.Work.{EndingStands, OnwardStands};
 use crate::limits::GateLimits;
 use crate::onward::{Onward, bulk_on, read_on};
 use crate::refused_access::{AccessRefusal, access_refusal};
-use crate::set_answer::{AUTHORIZATION_ERROR, NO_ACCESS, ResponseStatus};
+use crate::set_answer::{AUTHORIZATION_ERROR, NO_ACCESS, ResponseStatus, TOO_BIG};
 use crate::viewing::answers_of;
 use crate::work::RequestEnd;
 use snmp_agent::Unhandled;
@@ -38,6 +38,19 @@ pub(crate) fn ending_of(refusal: AccessRefusal) -> RequestEnd
         }),
         AccessRefusal::UnknownContext => RequestEnd::Unhandled(Unhandled::UnknownContexts),
     }
+}
+
+/// How many variables a request for values asks for at most. Each name that waits has room for 128 arcs.
+const MOST_VARIABLES: usize = 128;
+
+/// Returns how a request ends that asks for more variables: by tooBig (RFC 3416, section 4.2.1).
+fn asks_too_much() -> RequestEnd
+    ensures { (tables : Tables) (q : Question) (told : List Variable) → EndingStands tables q told result }
+{
+    RequestEnd::Own(ResponseStatus {
+        status: TOO_BIG,
+        index: 0,
+    })
 }
 
 /// Returns how a GetRequest or a GetNextRequest begins.
@@ -87,6 +100,9 @@ pub(crate) fn begin(
     let answers = answers_of(alloc, viewer, ViewType::Read, pdu)?;
     if let Some(refusal) = access_refusal(&answers, pdu.tag) {
         return Ok(Onward::Ends(ending_of(refusal)));
+    }
+    if answers.len() > MOST_VARIABLES {
+        return Ok(Onward::Ends(asks_too_much()));
     }
     if pdu.tag == PduType::GetBulkRequest.tag() {
         return begin_bulk(alloc, viewer, pdu, bulk);

@@ -273,9 +273,17 @@ def behind_the_end(it):
     it.answer([it.due()[0], it.due()[1], (LAST, (4, b"odd"))])
 
 
+def names_too_many(it):
+    it.request(GET, [ONE] * 128)
+    it.answer()
+    it.request(GET, [ONE] * 129)
+    it.request(SET, [ONE] * 129)
+    it.answer()
+
+
 WAYS = (silent, late, too_late, twice, in_turn, other_number, number_of_other, other_device, other_community, version_1, a_report, cut, other_names, swapped,
         a_hidden_name, same, back, hidden_end, no_such_object, no_value, fewer, more, none, no_such_name, gen_err, no_access, other_error, too_big, silent_bulk,
-        behind_the_end)
+        behind_the_end, names_too_many)
 
 print(HEAD)
 print("user guest - -\nusers -> loaded")
