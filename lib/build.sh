@@ -36,13 +36,20 @@ done
 for program in agent poll; do
     $cc -Wconversion "$@" $bound "$here/examples/$program.c" $beside $library -o "$out/$program"
 done
+gate=
+for source in $(listed gate_sources); do
+    part=$out/gate_$(basename "$source" .c).o
+    $cc -Wconversion -I"$here/examples" "$@" -c "$here/$source" -o "$part"
+    gate="$gate $part"
+done
+$cc "$@" $bound $gate "$out/config_told.o" "$out/files.o" $library -o "$out/snmpsec-gate"
 names="-Wl,-soname,libsnmpsec.so.0 -Wl,--version-script=$here/src/snmpsec.map"
 $cc -shared "$@" $bound $library $names -o "$out/libsnmpsec.so.0"
 # what a linker finds by -lsnmpsec
 echo 'INPUT(-l:libsnmpsec.so.0)' > "$out/libsnmpsec.so"
 
 cc="$cc -I$here/src -I$here/examples"
-for test in calls manager_calls bindings keys exchange many hostile; do
+for test in calls manager_calls gate_calls bindings keys exchange many hostile; do
     checks="$here/tests/checks.c $out/words_of.o"
     $cc "$@" -Wl,--wrap=malloc,--wrap=realloc "$here/tests/$test.c" $checks $library -o "$out/$test"
 done

@@ -1,5 +1,5 @@
 #!/bin/bash
-# Builds the Debian packages libsnmpsec0, libsnmpsec-dev, python3-snmpsec and snmpsec, and a wheel with the library in it, into a folder:
+# Builds the Debian packages libsnmpsec0, libsnmpsec-dev, python3-snmpsec, snmpsec and snmpsec-gate, and a wheel with the library in it, into a folder:
 # packages.sh OUT
 #
 # Two builds of the same sources are the same, octet for octet. Each package has a bill of materials (sbom.py).

@@ -11,8 +11,8 @@
  * Secrets: what the library frees is wiped first, and so is the stack that its calls used. The caller wipes the configuration that it handed in.
  * Keys lie in memory as long as their handle does.
  *
- * Stack: the calls that read a configuration need 52 KB of it, the two that free a handle 24 KB, and any other 16 KB. So a thread with 64 KB can make
- * each of them.
+ * Stack: the calls that read a configuration and those on a gateway need 52 KB of it, the two that free another handle 24 KB, and any other 16 KB. So
+ * a thread with 64 KB can make each of them.
  *
  * Work: a datagram makes a call look at its own octets, and at a few rows. _take reads a datagram once, and hashes and opens it once if its user has
  * the keys; it finds the user by halving the table. _part and _message copy. _respond and _respond_front read the list, write, hash and seal it once.
@@ -365,6 +365,69 @@ SNMPSEC_CHECK int snmpsec_manager_save(snmpsec_manager *manager, uint8_t *out, s
 typedef struct snmpsec_clock { uint32_t boots, time; } snmpsec_clock;
 /* What is held of an engine: SNMPSEC_BAD_ARGUMENT: no engine ID; SNMPSEC_NOTHING_TAKEN: nothing is held. */
 SNMPSEC_CHECK int snmpsec_manager_clock(snmpsec_manager *manager, const uint8_t *engine, size_t engine_len, snmpsec_clock *out);
+
+/* ---- a gateway: managers that speak SNMPv3 before devices that speak SNMPv2c (docs/gateway.md)
+ *
+ * Moments are milliseconds from one beginning that don't go back; the agent's seconds are those moments by 1000. The program has the sockets: it gives
+ * each datagram to the gateway, devices' first, and then calls _next until there is nothing to do. */
+
+typedef struct snmpsec_gate snmpsec_gate;
+
+/* What becomes of a datagram, and what goes out. */
+typedef enum snmpsec_gate_event {
+    /* _next: there is nothing to do now */
+    SNMPSEC_GATE_NOTHING = 0,
+    /* _take_client: it begins a request; it asks again what waits; as many wait as may; it is a Set of before whose outcome isn't known */
+    SNMPSEC_GATE_BEGINS = 20, SNMPSEC_GATE_JOINS = 21, SNMPSEC_GATE_NO_ROOM = 22, SNMPSEC_GATE_SET_OF_BEFORE = 23,
+    /* _take_device: it is the answer to what was asked; nothing waits for it; it is no Response of SNMPv2c */
+    SNMPSEC_GATE_ANSWERS = 24, SNMPSEC_GATE_NOT_WAITED_FOR = 25, SNMPSEC_GATE_UNREADABLE = 26,
+    /* _next: _message goes to _client, or to the device; a device is given up; a message isn't answered */
+    SNMPSEC_GATE_TO_CLIENT = 27, SNMPSEC_GATE_TO_DEVICE = 28, SNMPSEC_GATE_GIVEN_UP = 29, SNMPSEC_GATE_UNANSWERED = 30
+} snmpsec_gate_event;
+
+SNMPSEC_CALL void snmpsec_gate_free(snmpsec_gate *gate);
+/* Why a text is refused as a gateway's configuration, in two lines: the refusal, and what is wrong. SNMPSEC_OK: it isn't, and *written is 0;
+ * SNMPSEC_BAD_CONFIGURATION: they are written; SNMPSEC_SHORT_BUFFER; SNMPSEC_OUT_OF_MEMORY. */
+SNMPSEC_CHECK int snmpsec_gate_fault(const uint8_t *config, size_t config_len, uint8_t *out, size_t out_len, size_t *written);
+/* Makes a gateway of a configuration, whose agent started at this moment in seconds: SNMPSEC_BAD_ARGUMENT: boots are above 2147483647;
+ * SNMPSEC_BAD_CONFIGURATION, SNMPSEC_OUT_OF_MEMORY; *out is then null. The path of its boots is a setting, so a program that doesn't know it makes one
+ * with boots 0 to look, and frees it. */
+SNMPSEC_CHECK int snmpsec_gate_new(const uint8_t *config, size_t config_len, uint32_t boots, uint64_t started, snmpsec_gate **out);
+
+/* What the configuration says, at a position from 0. Boots are at each. */
+typedef enum snmpsec_gate_text {
+    /* the path of the boots' file; an address at which the gateway listens */
+    SNMPSEC_GATE_BOOTS = 0, SNMPSEC_GATE_LISTEN = 1,
+    /* of a device: its contextName, its address, and what about it is probably a mistake */
+    SNMPSEC_GATE_CONTEXT = 2, SNMPSEC_GATE_ADDRESS = 3, SNMPSEC_GATE_NOTE = 4
+} snmpsec_gate_text;
+/* Copies it: SNMPSEC_NOTHING_TAKEN: nothing is said there; SNMPSEC_SHORT_BUFFER, and *written says how much is wanted; SNMPSEC_OUT_OF_MEMORY. */
+SNMPSEC_CHECK int snmpsec_gate_setting(snmpsec_gate *gate, snmpsec_gate_text text, size_t position, uint8_t *out, size_t out_len, size_t *written);
+
+/* Takes a datagram from a client, whose address is any octets that tell it from others. SNMPSEC_OK: *event says what becomes of it; a refusal, and
+ * _message is the report on it, if there is one. SNMPSEC_OUT_OF_MEMORY: it isn't taken, and may be taken again. */
+SNMPSEC_CHECK int snmpsec_gate_take_client(snmpsec_gate *gate, uint64_t now, const uint8_t *client, size_t client_len, const uint8_t *datagram,
+                                           size_t datagram_len, snmpsec_gate_event *event);
+/* Takes a datagram from the device at this position: SNMPSEC_OK, SNMPSEC_OUT_OF_MEMORY. */
+SNMPSEC_CHECK int snmpsec_gate_take_device(snmpsec_gate *gate, uint64_t now, size_t device, const uint8_t *datagram, size_t datagram_len,
+                                           snmpsec_gate_event *event);
+/* Does the first thing that is due: SNMPSEC_OK, SNMPSEC_OUT_OF_MEMORY. Each salt is another one, also after a restart, and each ask_id. *why is a
+ * refusal for which a message isn't answered, or 0. */
+SNMPSEC_CHECK int snmpsec_gate_next(snmpsec_gate *gate, uint64_t now, uint64_t salt, uint32_t ask_id, snmpsec_gate_event *event, int *why);
+/* The moment from which on _next has something to do by time alone: SNMPSEC_NOTHING_TAKEN: there is none. */
+SNMPSEC_CHECK int snmpsec_gate_due(snmpsec_gate *gate, uint64_t *at);
+/* The datagram that is to be sent, and the client to whom: SNMPSEC_NOTHING_TAKEN, SNMPSEC_SHORT_BUFFER. */
+SNMPSEC_CHECK int snmpsec_gate_message(snmpsec_gate *gate, uint8_t *out, size_t out_len, size_t *written);
+SNMPSEC_CHECK int snmpsec_gate_client(snmpsec_gate *gate, uint8_t *out, size_t out_len, size_t *written);
+/* The request and the device that the last call was about, where it was about one, and how many requests wait. */
+typedef struct snmpsec_gate_info { uint64_t request, device, waiting; } snmpsec_gate_info;
+SNMPSEC_CHECK int snmpsec_gate_numbers(snmpsec_gate *gate, snmpsec_gate_info *out);
+/* The agent's counters. */
+SNMPSEC_CHECK int snmpsec_gate_counters(snmpsec_gate *gate, snmpsec_counters *out);
+SNMPSEC_CHECK int snmpsec_gate_counts(snmpsec_gate *gate, snmpsec_counts *out);
+/* The msgUserName of a datagram, at most 32 octets, for a log. Nobody has shown that it is the sender's. SNMPSEC_NOT_MESSAGE, SNMPSEC_BAD_VERSION,
+ * SNMPSEC_NOT_SECURITY: there is none; SNMPSEC_SHORT_BUFFER. */
+SNMPSEC_CHECK int snmpsec_datagram_user(const uint8_t *datagram, size_t datagram_len, uint8_t *out, size_t out_len, size_t *written);
 
 /* ---- variable bindings, as octets */
 

@@ -3,30 +3,14 @@
 #include "snmpsec.h"
 #include "inside.h"
 #include "proved.h"
+#include "slices.h"
 #include <string.h>
 
-static const uint8_t no_octets[16];
-static uint8_t no_room[16];
 static const uint32_t no_arcs[1];
 static uint32_t no_room_for_arcs[1];
 
-/* A slice is never null, though its length be 0. */
-static const uint8_t *in(const uint8_t *at, size_t len) { return len ? at : no_octets; }
-static uint8_t *room(uint8_t *at, size_t len) { return len ? at : no_room; }
 static const uint32_t *name(const uint32_t *at, size_t len) { return len ? at : no_arcs; }
 static uint32_t *room_for_arcs(uint32_t *at, size_t len) { return len ? at : no_room_for_arcs; }
-
-/* After a call that sees a key. */
-static int done(int32_t answer) {
-    snmpsec_inside_wipe_stack();
-    return answer;
-}
-
-/* After one that read a configuration. */
-static int done_deep(int32_t answer) {
-    snmpsec_inside_wipe_deep_stack();
-    return answer;
-}
 
 _Static_assert(sizeof(snmpsec_config_place) == 4 * sizeof(size_t), "the numbers of a fault lie one after another");
 

@@ -40,7 +40,7 @@ print(*sorted(set(told.items()) ^ set(there.items())), sep="\n", end="")' "$1" "
 
 look_at_packages() {
     local name
-    for name in libsnmpsec0 libsnmpsec-dev python3-snmpsec snmpsec; do
+    for name in libsnmpsec0 libsnmpsec-dev python3-snmpsec snmpsec snmpsec-gate; do
         mkdir -p "$work/unpacked/$name"
         dpkg-deb -x "$work/packages/$name"_*.deb "$work/unpacked/$name"
         look_at_flags "$work/unpacked/$name"
@@ -63,10 +63,10 @@ test_reproducible() {
 
 test_debian() {
     local packages=$work/packages name
-    for name in libsnmpsec0 libsnmpsec-dev python3-snmpsec snmpsec; do
+    for name in libsnmpsec0 libsnmpsec-dev python3-snmpsec snmpsec snmpsec-gate; do
         check "the package $name" 1 "$(find "$packages" -maxdepth 1 -name "${name}_*.deb" | wc -l)"
     done
-    check "no licence is named" 4 "$(for name in "$packages"/*.deb; do dpkg-deb --fsys-tarfile "$name" | tar xO --wildcards '*/copyright' 2> /dev/null | grep -l 'names no licence yet'; done | wc -l)"
+    check "no licence is named" 5 "$(for name in "$packages"/*.deb; do dpkg-deb --fsys-tarfile "$name" | tar xO --wildcards '*/copyright' 2> /dev/null | grep -l 'names no licence yet'; done | wc -l)"
     look_at_packages
     if command -v lintian > /dev/null; then
         lintian --allow-root "$packages"/*.changes > "$work/lintian.out" 2>&1
@@ -93,18 +93,19 @@ echo "Python: \$(python3 main.py)"
 echo "agent: \$(snmpsec-agent --version)"
 cp -r /usr/share/doc/libsnmpsec-dev/examples examples && make -s -C examples > examples.out 2>&1 && echo "examples: \$(examples/agent --version) \$(examples/poll --version)"
 echo "program: \$(snmpsec show 3038020103300e020101020300ffe30401040201030410300e0400020100020100040004000400301104000400a00b0201010201000201003000 | head -1)"
-echo "pages: \$(man -w snmpsec snmpsec-agent snmpsec-poll 2> /dev/null | wc -l)"
-dpkg -P snmpsec python3-snmpsec libsnmpsec-dev libsnmpsec0 >> $work/dpkg.log 2>&1 || exit 9
+echo "pages: \$(man -w snmpsec snmpsec-agent snmpsec-poll snmpsec-gate 2> /dev/null | wc -l)"
+echo "gate: \$(snmpsec-gate --check /usr/share/doc/snmpsec-gate/examples/gate.toml)"
+dpkg -P snmpsec-gate snmpsec python3-snmpsec libsnmpsec-dev libsnmpsec0 >> $work/dpkg.log 2>&1 || exit 9
 $LISTED > $work/after
 SCRIPT
     in_copy "bash $work/installed.sh" > "$work/installed.out" 2>&1
     check "the packages are installed and removed" 0 $?
     local expected="discovered 80001f88046578616d706c65"
     for name in "C: $expected" "static: $expected" "Python: $expected" "agent: $("$OUT/agent" --version)" "examples: $("$OUT/agent" --version) $("$OUT/poll" --version)" \
-        "program: id 1"; do
+        "program: id 1" "gate: 1 devices, 1 addresses"; do
         has "the packages' ${name%%:*}" "$name" "$(cat "$work/installed.out")"
     done
-    if command -v man > /dev/null; then has "the packages' manual pages" "pages: 3" "$(cat "$work/installed.out")"; fi
+    if command -v man > /dev/null; then has "the packages' manual pages" "pages: 4" "$(cat "$work/installed.out")"; fi
     check "without a rest" "" "$(diff "$work/before" "$work/after")"
 }
 

@@ -20,8 +20,9 @@ from snmpsec import _library  # noqa: E402
 HEADER = (LIB / "include/snmpsec.h").read_text()
 DECLARED = set(re.findall(r"\bsnmpsec_(\w+)\(", HEADER))
 # what a wrapper builds from other calls, or has of its own
-NOT_IN_PYTHON = {"agent_allows", "agent_user_allows", "wipe"}
-NOT_IN_RUST = {"agent_allows", "agent_user_allows", "error_name"}
+GATEWAY = {it for it in DECLARED if it.startswith("gate_")} | {"datagram_user"}
+NOT_IN_PYTHON = {"agent_allows", "agent_user_allows", "wipe"} | GATEWAY
+NOT_IN_RUST = {"agent_allows", "agent_user_allows", "error_name"} | GATEWAY
 
 STRUCTS = {"Octets": "octets", "Info": "info", "Counters": "counters", "Counts": "counts", "Report": "report", "Reply": "reply", "Answered": "answered", "Heard": "answered", "Device": "device", "Clock": "clock", "ConfigPlace": "config_place", "Notice": "notice", "Request": "request",
            "BindingRead": "binding"}

@@ -108,6 +108,75 @@ static void localised(void) { answer = snmpsec_localise(SNMPSEC_SHA256, key, key
 static void macced(void) { answer = snmpsec_mac(SNMPSEC_SHA256, key, key_len, list, 100, 24, list, 100, message, 64, &len); }
 static void sealed(void) { answer = snmpsec_seal(key, 16, 1, 2, key, 8, message, 1000); }
 
+
+/* ---- a gateway, whose device is asked and answers */
+
+#define USERS "[[user]]\nname = 'bob'\nauth = 'sha256'\nauth-password = 'maplesyrup'\npriv-password = 'syrupmaple'\n" \
+    "[[group]]\nmodel = 3\nname = 'bob'\ngroup = 'all'\n" \
+    "[[access]]\ngroup = 'all'\nprefix = ''\nmodel = 3\nlevel = 'noAuthNoPriv'\nmatch = 'exact'\nread = 'all'\nwrite = 'all'\n" \
+    "[[family]]\nview = 'all'\nsubtree = '1.3'\ninclude = true\n"
+static const char users[] = USERS, gate_config[] = "[gate]\nengine = '80001f880478'\nboots = '/boots'\nlisten = ['127.0.0.1:161']\n"
+    "[[device]]\ncontext = ''\naddress = '127.0.0.1:162'\ncommunity = 'reads'\nwrite-community = 'reads'\n" USERS;
+static snmpsec_gate *gate;
+static snmpsec_gate_event event;
+static snmpsec_pdu asks_by;
+static void gate_new(void) { answer = snmpsec_gate_new((const uint8_t *)gate_config, sizeof gate_config - 1, 5, NOW - 100, &gate); }
+static void gate_request(void) {
+    snmpsec_request r = asked();
+    r.pdu = asks_by;
+    if (asks_by == SNMPSEC_GET_BULK_REQUEST) r.max_repetitions = 10;
+    answer = snmpsec_manager_request(manager, NOW, &r);
+}
+static void gate_take_client(void) { answer = snmpsec_gate_take_client(gate, NOW * 1000, engine, sizeof engine, message, len, &event); }
+static void gate_take_device(void) { answer = snmpsec_gate_take_device(gate, NOW * 1000, 0, message, len, &event); }
+static void gate_next(void) {
+    int why;
+    id++;
+    answer = snmpsec_gate_next(gate, NOW * 1000, id, id, &event, &why);
+}
+static void gate_free(void) { snmpsec_gate_free(gate); answer = 0; }
+
+/* What a device is asked, as its Response: the names with what stands behind them, which is an error. */
+static void answer_of_device(void) {
+    for (size_t at = 8; at < 20 && at < len; at++)
+        if (message[at] == 0xA0 || message[at] == 0xA1 || message[at] == 0xA3 || message[at] == 0xA5) { message[at] = 0xA2; return; }
+}
+
+static int one_request(void) {
+    gate_request();
+    if (answer || snmpsec_manager_message(manager, message, sizeof message, &len)) return 1;
+    measure("gate_take_client", gate_take_client, SNMPSEC_DEEP_STACK);
+    if (answer || event != SNMPSEC_GATE_BEGINS) return 1;
+    measure("gate_next", gate_next, SNMPSEC_DEEP_STACK);
+    if (event == SNMPSEC_GATE_TO_DEVICE) {
+        if (snmpsec_gate_message(gate, message, sizeof message, &len)) return 1;
+        answer_of_device();
+        measure("gate_take_device", gate_take_device, SNMPSEC_DEEP_STACK);
+        measure("gate_next to the client", gate_next, SNMPSEC_DEEP_STACK);
+    }
+    return event != SNMPSEC_GATE_TO_CLIENT;
+}
+
+static int measure_gate(void) {
+    static const snmpsec_pdu types[] = {SNMPSEC_GET_REQUEST, SNMPSEC_GET_NEXT_REQUEST, SNMPSEC_GET_BULK_REQUEST, SNMPSEC_SET_REQUEST};
+    snmpsec_manager_free(manager);
+    if (snmpsec_manager_new((const uint8_t *)users, sizeof users - 1, (const uint8_t *)SNMPSEC_NO_CLOCKS, strlen(SNMPSEC_NO_CLOCKS), NOW, &manager)) return 1;
+    measure("gate_new", gate_new, SNMPSEC_DEEP_STACK);
+    if (answer) return 1;
+    /* the manager learns the gateway's boots and time by its report */
+    asks_by = SNMPSEC_GET_REQUEST;
+    gate_request();
+    if (snmpsec_manager_message(manager, message, sizeof message, &len)) return 1;
+    gate_take_client();
+    if (snmpsec_gate_message(gate, message, sizeof message, &len) || snmpsec_manager_take(manager, NOW, message, len)) return 1;
+    for (size_t i = 0; i < sizeof types / sizeof *types; i++) {
+        asks_by = types[i];
+        if (one_request()) return 1;
+    }
+    measure("gate_free", gate_free, SNMPSEC_DEEP_STACK);
+    return 0;
+}
+
 int main(int argc, char **argv) {
     FILE *file = argc == 2 ? fopen(argv[1], "rb") : NULL;
     stack = malloc(SIZE);
@@ -136,6 +205,14 @@ int main(int argc, char **argv) {
         measure("manager_take", manager_take, SNMPSEC_STACK);
         measure("answered", answered, SNMPSEC_STACK);
     }
+    list_len = 0;
+    for (uint32_t i = 0; i < 20; i++) {
+        uint32_t arcs[] = {1, 3, 6, 1, 2, 1, 1, 1, i};
+        size_t more;
+        if (snmpsec_binding_write(arcs, 9, 4, (const uint8_t *)"hello, world", 12, list + list_len, sizeof list - list_len, &more)) return 1;
+        list_len += more;
+    }
+    if (measure_gate()) { printf("FAILED the gateway's exchange stops at answer %d, event %d\n", answer, event); return 1; }
     measure("password_key", password_key, SNMPSEC_STACK);
     measure("localise", localised, SNMPSEC_STACK);
     measure("mac", macced, SNMPSEC_STACK);

@@ -1,0 +1,65 @@
+#define _GNU_SOURCE
+#include "counts.h"
+#include "files.h"
+#include <inttypes.h>
+#include <stdio.h>
+#include <stdlib.h>
+#include <string.h>
+
+static const struct { int event; const char *name; } names[] = {
+    {SNMPSEC_GATE_BEGINS, "begins"}, {SNMPSEC_GATE_JOINS, "joins"}, {SNMPSEC_GATE_NO_ROOM, "no_room"},
+    {SNMPSEC_GATE_SET_OF_BEFORE, "set_of_before"}, {SNMPSEC_GATE_ANSWERS, "answers"}, {SNMPSEC_GATE_NOT_WAITED_FOR, "not_waited_for"},
+    {SNMPSEC_GATE_UNREADABLE, "unreadable"}, {SNMPSEC_GATE_TO_CLIENT, "to_client"}, {SNMPSEC_GATE_TO_DEVICE, "to_device"},
+    {SNMPSEC_GATE_GIVEN_UP, "given_up"}, {SNMPSEC_GATE_UNANSWERED, "unanswered"}};
+
+static void write_name(FILE *to, const char *name, const char *kind) { fprintf(to, "# TYPE snmpsec_gate_%s %s\n", name, kind); }
+
+static void write_one(FILE *to, const char *name, const char *kind, uint64_t value) {
+    write_name(to, name, kind);
+    fprintf(to, "snmpsec_gate_%s %" PRIu64 "\n", name, value);
+}
+
+static void write_agent(FILE *to, snmpsec_gate *gate) {
+    snmpsec_counters n;
+    snmpsec_counts m;
+    if (snmpsec_gate_counters(gate, &n) || snmpsec_gate_counts(gate, &m)) return;
+    const struct { const char *name; uint32_t value; } all[] = {
+        {"usmStatsUnsupportedSecLevels", n.unsupported_levels}, {"usmStatsNotInTimeWindows", n.not_in_windows},
+        {"usmStatsUnknownUserNames", n.unknown_users}, {"usmStatsUnknownEngineIDs", n.unknown_engines},
+        {"usmStatsWrongDigests", n.wrong_digests}, {"usmStatsDecryptionErrors", n.decryption_errors},
+        {"snmpUnknownPDUHandlers", m.unknown_pdu_handlers}, {"snmpUnavailableContexts", m.unavailable_contexts},
+        {"snmpUnknownContexts", m.unknown_contexts}, {"snmpInBadVersions", m.bad_versions}, {"snmpInASNParseErrs", m.asn_parse_errors},
+        {"snmpUnknownSecurityModels", m.unknown_security_models}, {"snmpInvalidMsgs", m.invalid_messages}, {"snmpSilentDrops", m.silent_drops}};
+    write_name(to, "agent_total", "counter");
+    for (size_t i = 0; i < sizeof all / sizeof *all; i++) fprintf(to, "snmpsec_gate_agent_total{counter=\"%s\"} %u\n", all[i].name, all[i].value);
+}
+
+static void write_all(FILE *to, const struct counts *counts, snmpsec_gate *gate) {
+    snmpsec_gate_info info;
+    write_name(to, "events_total", "counter");
+    for (size_t i = 0; i < sizeof names / sizeof *names; i++)
+        fprintf(to, "snmpsec_gate_events_total{event=\"%s\"} %" PRIu64 "\n", names[i].name, counts->events[names[i].event]);
+    write_name(to, "refused_total", "counter");
+    for (int i = 1; i <= 18; i++)
+        if (snmpsec_error_name(i))
+            fprintf(to, "snmpsec_gate_refused_total{refusal=\"%s\"} %" PRIu64 "\n", snmpsec_error_name(i), counts->refused[i]);
+    write_one(to, "reports_total", "counter", counts->reports);
+    write_one(to, "unsent_total", "counter", counts->unsent);
+    write_one(to, "device_errors_total", "counter", counts->device_errors);
+    if (!snmpsec_gate_numbers(gate, &info)) write_one(to, "waiting", "gauge", info.waiting);
+    write_agent(to, gate);
+}
+
+int counts_write(const struct counts *counts, snmpsec_gate *gate, const char *path) {
+    char *text = NULL;
+    size_t len = 0;
+    FILE *to = open_memstream(&text, &len);
+    if (!to) { perror("snmpsec-gate: counts"); return -1; }
+    write_all(to, counts, gate);
+    if (fclose(to)) { perror("snmpsec-gate: counts"); free(text); return -1; }
+    int answer = 0;
+    if (path) answer = file_replace(path, text, len);
+    else fwrite(text, 1, len, stderr);
+    free(text);
+    return answer;
+}

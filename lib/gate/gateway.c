@@ -1,0 +1,202 @@
+#define _GNU_SOURCE
+#include "gateway.h"
+#include "config_told.h"
+#include "files.h"
+#include "lines.h"
+#include "sockets.h"
+#include <errno.h>
+#include <grp.h>
+#include <inttypes.h>
+#include <pwd.h>
+#include <stdlib.h>
+#include <string.h>
+#include <sys/epoll.h>
+#include <time.h>
+#include <unistd.h>
+
+/* the most octets of a configuration */
+#define MOST_CONFIG (16u << 20)
+
+uint64_t now_in_milliseconds(void) {
+    struct timespec now;
+    clock_gettime(CLOCK_BOOTTIME, &now);
+    return (uint64_t)now.tv_sec * 1000 + (uint64_t)now.tv_nsec / 1000000;
+}
+
+char *setting_of(snmpsec_gate *gate, snmpsec_gate_text text, size_t position, size_t *len) {
+    *len = 0;
+    if (snmpsec_gate_setting(gate, text, position, NULL, 0, len) != SNMPSEC_SHORT_BUFFER && *len) return NULL;
+    char *copy = malloc(*len + 1);
+    if (copy && snmpsec_gate_setting(gate, text, position, (uint8_t *)copy, *len, len)) { free(copy); return NULL; }
+    if (copy) copy[*len] = 0;
+    return copy;
+}
+
+/* Makes the machine of the file: 0, or the status to end with. */
+static int make_gate(const char *path, uint32_t boots, snmpsec_gate **gate) {
+    uint8_t *config;
+    size_t len;
+    if (file_read(path, MOST_CONFIG, &config, &len)) return 1;
+    int answer = snmpsec_gate_new(config, len, boots, now_in_milliseconds() / 1000, gate);
+    if (answer == SNMPSEC_BAD_CONFIGURATION) gate_config_told("snmpsec-gate", path, config, len);
+    else if (answer) fprintf(stderr, "snmpsec-gate: %s: %s\n", path, snmpsec_strerror(answer));
+    file_free(config, len);
+    return answer == SNMPSEC_BAD_CONFIGURATION ? 2 : answer ? 1 : 0;
+}
+
+/* How many devices there are. */
+static size_t count_of(snmpsec_gate *gate, snmpsec_gate_text text) {
+    size_t n = 0, len = 0;
+    for (int answer; (answer = snmpsec_gate_setting(gate, text, n, NULL, 0, &len)) == SNMPSEC_SHORT_BUFFER || !answer;) n++;
+    return n;
+}
+
+static void say_note(snmpsec_gate *gate, size_t device) {
+    size_t len;
+    char words[200], *note = setting_of(gate, SNMPSEC_GATE_NOTE, device, &len), *context = setting_of(gate, SNMPSEC_GATE_CONTEXT, device, &len);
+    if (note && context) {
+        shown((const uint8_t *)context, len, words, sizeof words);
+        fprintf(stderr, "snmpsec-gate: device %s: %s\n", words, note);
+    }
+    free(note);
+    free(context);
+}
+
+static void say_notes(snmpsec_gate *gate) {
+    for (size_t i = 0, n = count_of(gate, SNMPSEC_GATE_ADDRESS); i < n; i++) say_note(gate, i);
+}
+
+int gateway_check(const struct words *words) {
+    snmpsec_gate *gate = NULL;
+    int status = make_gate(words->config, 0, &gate);
+    if (status) return status;
+    say_notes(gate);
+    printf("%zu devices, %zu addresses\n", count_of(gate, SNMPSEC_GATE_ADDRESS), count_of(gate, SNMPSEC_GATE_LISTEN));
+    snmpsec_gate_free(gate);
+    return 0;
+}
+
+static int watch(struct gateway *gateway, int file, enum source source, size_t number) {
+    struct epoll_event event = {.events = EPOLLIN, .data.u64 = source_of(source, number)};
+    if (!epoll_ctl(gateway->poll, EPOLL_CTL_ADD, file, &event)) return 0;
+    perror("snmpsec-gate: epoll");
+    return 1;
+}
+
+/* Opens a listening socket at each address of the command line, or else of the configuration. */
+static int open_listeners(struct gateway *gateway, const struct words *words) {
+    size_t n = words->listens ? words->listens : count_of(gateway->gate, SNMPSEC_GATE_LISTEN), len;
+    if (n > MOST_LISTENERS) { fprintf(stderr, "snmpsec-gate: more than %d addresses to listen at\n", MOST_LISTENERS); return 1; }
+    for (size_t i = 0; i < n; i++) {
+        char *address = words->listens ? strdup(words->listen[i]) : setting_of(gateway->gate, SNMPSEC_GATE_LISTEN, i, &len);
+        int fault = !address || listen_at(address, &gateway->listeners[i]);
+        free(address);
+        if (fault) return 1;
+        gateway->listeners_len++;
+        if (watch(gateway, gateway->listeners[i], FROM_CLIENT, i)) return 1;
+    }
+    return 0;
+}
+
+static void close_all(int *files, size_t *len) {
+    while (*len) close(files[--*len]);
+}
+
+/* Opens a socket connected to each device: 0, or 1 and none is open. */
+static int open_devices(snmpsec_gate *gate, int *files, size_t *files_len) {
+    size_t n = count_of(gate, SNMPSEC_GATE_ADDRESS), len;
+    *files_len = 0;
+    if (n > MOST_DEVICES) { fprintf(stderr, "snmpsec-gate: more than %d devices\n", MOST_DEVICES); return 1; }
+    for (size_t i = 0; i < n; i++) {
+        char *address = setting_of(gate, SNMPSEC_GATE_ADDRESS, i, &len);
+        int fault = !address || connect_to(address, &files[i]);
+        free(address);
+        if (fault) { close_all(files, files_len); return 1; }
+        ++*files_len;
+    }
+    return 0;
+}
+
+static int watch_devices(struct gateway *gateway) {
+    for (size_t i = 0; i < gateway->devices_len; i++)
+        if (watch(gateway, gateway->devices[i], FROM_DEVICE, i)) return 1;
+    return 0;
+}
+
+static int become(const char *name) {
+    struct passwd *user = getpwnam(name);
+    if (!user) { fprintf(stderr, "snmpsec-gate: %s: no such user\n", name); return 1; }
+    if (!initgroups(name, user->pw_gid) && !setgid(user->pw_gid) && !setuid(user->pw_uid)) { keep_secrets(); return 0; }
+    fprintf(stderr, "snmpsec-gate: %s: %s\n", name, strerror(errno));
+    return 1;
+}
+
+/* Locks the boots' file, and makes the machine with the boots of this start, which are kept before anything is sent. */
+static int begin_boots(struct gateway *gateway, const struct words *words) {
+    uint32_t boots;
+    size_t len;
+    gateway->boots_path = setting_of(gateway->gate, SNMPSEC_GATE_BOOTS, 0, &len);
+    if (!gateway->boots_path || boots_next(gateway->boots_path, false, &boots)) return 1;
+    snmpsec_gate_free(gateway->gate);
+    gateway->gate = NULL;
+    int status = make_gate(words->config, boots, &gateway->gate);
+    if (status) return status;
+    gateway->boots = boots;
+    return boots_keep(gateway->boots_path, boots) ? 1 : 0;
+}
+
+int gateway_open(struct gateway *gateway, const struct words *words) {
+    int status = make_gate(words->config, 0, &gateway->gate);
+    if (status) return status;
+    say_notes(gateway->gate);
+    gateway->poll = epoll_create1(EPOLL_CLOEXEC);
+    if (gateway->poll < 0) { perror("snmpsec-gate: epoll"); return 1; }
+    if (open_listeners(gateway, words) || open_devices(gateway->gate, gateway->devices, &gateway->devices_len) || watch_devices(gateway)) return 1;
+    if (words->user && become(words->user)) return 1;
+    if (words->log && !(gateway->log = fopen(words->log, "ae"))) {
+        fprintf(stderr, "snmpsec-gate: %s: %s\n", words->log, strerror(errno));
+        return 1;
+    }
+    return begin_boots(gateway, words);
+}
+
+/* Whether the file is the one that is locked. */
+static bool has_boots_path(const struct gateway *gateway, snmpsec_gate *gate) {
+    size_t len;
+    char *path = setting_of(gate, SNMPSEC_GATE_BOOTS, 0, &len);
+    bool same = path && !strcmp(path, gateway->boots_path);
+    if (!same) fprintf(stderr, "snmpsec-gate: boots: another file is only taken at a start\n");
+    free(path);
+    return same;
+}
+
+void gateway_reload(struct gateway *gateway, const struct words *words) {
+    static int devices[MOST_DEVICES];
+    snmpsec_gate *gate = NULL;
+    size_t len = 0;
+    uint32_t boots = gateway->boots < BOOTS_LATCHED ? gateway->boots + 1 : BOOTS_LATCHED;
+    if (!make_gate(words->config, boots, &gate) && has_boots_path(gateway, gate) && !open_devices(gate, devices, &len)
+        && !boots_keep(gateway->boots_path, boots)) {
+        close_all(gateway->devices, &gateway->devices_len);
+        memcpy(gateway->devices, devices, len * sizeof *devices);
+        gateway->devices_len = len;
+        gateway->boots = boots;
+        snmpsec_gate_free(gateway->gate);
+        gateway->gate = gate;
+        (void)watch_devices(gateway);
+        say_notes(gate);
+        fprintf(stderr, "snmpsec-gate: %s is read anew\n", words->config);
+        return;
+    }
+    close_all(devices, &len);
+    snmpsec_gate_free(gate);
+    fprintf(stderr, "snmpsec-gate: %s isn't taken, all stays as it was\n", words->config);
+}
+
+void gateway_close(struct gateway *gateway) {
+    snmpsec_gate_free(gateway->gate);
+    close_all(gateway->listeners, &gateway->listeners_len);
+    close_all(gateway->devices, &gateway->devices_len);
+    if (gateway->log) fclose(gateway->log);
+    free(gateway->boots_path);
+}

@@ -1,0 +1,39 @@
+/* The gateway's sockets: those at which it listens, one connected to each device, and who sent a datagram to whom. Not proved.
+ *
+ * A call that answers an int answers 0, or -1 and says on standard error which address and why. */
+#ifndef SOCKETS_H
+#define SOCKETS_H
+
+#include <netinet/in.h>
+#include <stdbool.h>
+#include <stddef.h>
+#include <stdint.h>
+#include <sys/socket.h>
+
+/* the most octets of an address and its port in words */
+#define ADDRESS_WORDS 80
+
+/* Who sent a datagram, at which listening socket it came, and to which address of ours. All of it, each octet, tells one client from another. */
+struct client {
+    struct sockaddr_storage from;
+    struct in6_addr to6;
+    struct in_addr to4;
+    uint32_t interface, from_len, listener, has_to;
+};
+
+/* Reads a numeric address and its port, as "192.0.2.1:161" or "[2001:db8::1]:161". */
+int address_of(const char *words, struct sockaddr_storage *address, socklen_t *len);
+/* The other way round; words has ADDRESS_WORDS octets. */
+void address_words(const struct sockaddr_storage *address, char *words);
+
+/* A socket that listens at the address, and one connected to it; neither blocks. Written to *made. */
+int listen_at(const char *words, int *made);
+int connect_to(const char *words, int *made);
+
+/* Reads a datagram that came to a listening socket: how many octets, or -1 where there is none. Clients at port 0 are passed over: nothing can be sent
+ * there (RFC 768). */
+ssize_t receive_from(int listener, struct client *client, uint8_t *datagram, size_t most);
+/* Sends one to a client, from the address to which the client's datagram came: whether the system took it. */
+bool send_to(int listener, const struct client *client, const uint8_t *datagram, size_t len);
+
+#endif

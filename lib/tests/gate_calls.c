@@ -1,0 +1,143 @@
+/* The calls on a gateway: gate_calls CONFIG CAPTURED-LOG
+ *
+ * Null pointers, refused configurations, buffers that are too short, what the configuration says, refused datagrams, and refused memory. The captured
+ * datagrams are refused by the gateway, since they are for another engine. Not proved. */
+#include "checks.h"
+#include <stdio.h>
+#include <string.h>
+
+#define HEAD "[gate]\nengine = '80001f8804676174652d31'\nboots = '/var/lib/boots'\nlisten = ['192.0.2.1:161', '[2001:db8::1]:161']\n"
+#define DEVICE "[[device]]\ncontext = 'pdu'\naddress = '10.1.0.7:161'\ncommunity = 'reads'\n"
+static const char text[] = HEAD DEVICE "[[device]]\ncontext = 'ups'\naddress = '10.1.0.8:161'\ncommunity = 'reads'\n"
+    "[[user]]\nname = 'ann'\nauth = 'sha256'\nauth-password = 'maplesyrup'\npriv-password = 'another passphrase'\n";
+
+static int made(const char *words, snmpsec_gate **gate) {
+    return snmpsec_gate_new((const uint8_t *)words, strlen(words), 1, 0, gate);
+}
+
+/* A setting has these words. */
+static void has(snmpsec_gate *gate, const char *name, snmpsec_gate_text which, size_t position, const char *words) {
+    uint8_t *out = fenced((const uint8_t *)words, strlen(words));
+    size_t len = 0;
+    memset(out, 0, strlen(words));
+    if (*words) check(name, SNMPSEC_SHORT_BUFFER, snmpsec_gate_setting(gate, which, position, out, strlen(words) - 1, &len));
+    check(name, 0, snmpsec_gate_setting(gate, which, position, out, strlen(words), &len));
+    check(name, (long long)strlen(words), (long long)len);
+    check(name, 0, memcmp(out, words, len));
+}
+
+static void settings(void) {
+    snmpsec_gate *gate;
+    size_t len = 7;
+    check("new", 0, made(text, &gate));
+    has(gate, "boots", SNMPSEC_GATE_BOOTS, 0, "/var/lib/boots");
+    has(gate, "listen", SNMPSEC_GATE_LISTEN, 0, "192.0.2.1:161");
+    has(gate, "the second address", SNMPSEC_GATE_LISTEN, 1, "[2001:db8::1]:161");
+    has(gate, "context", SNMPSEC_GATE_CONTEXT, 1, "ups");
+    has(gate, "address", SNMPSEC_GATE_ADDRESS, 1, "10.1.0.8:161");
+    has(gate, "note", SNMPSEC_GATE_NOTE, 0, "no access row fits its context");
+    check("no third address", SNMPSEC_NOTHING_TAKEN, snmpsec_gate_setting(gate, SNMPSEC_GATE_LISTEN, 2, NULL, 0, &len));
+    check("no such setting", SNMPSEC_BAD_ARGUMENT, snmpsec_gate_setting(gate, (snmpsec_gate_text)5, 0, NULL, 0, &len));
+    check("and nothing is written", 7, (long long)len);
+    snmpsec_gate_free(gate);
+}
+
+static void refused_texts(void) {
+    static const char bad[] = HEAD "[[device]]\nadress = '10.1.0.7:161'\n", deep[] = "a = [[[[[[[[[[[[[[[[[[[[[[]]]]]]]]]]]]]]]]]]]]]]";
+    uint8_t out[400];
+    size_t len = 0;
+    snmpsec_gate *gate = (snmpsec_gate *)&len;
+    check("a refused text", SNMPSEC_BAD_CONFIGURATION, made(bad, &gate));
+    check("makes none", 1, gate == NULL);
+    check("nested too deep", SNMPSEC_BAD_CONFIGURATION, made(deep, &gate));
+    check("too many boots", SNMPSEC_BAD_ARGUMENT, snmpsec_gate_new((const uint8_t *)text, sizeof text - 1, 2147483648u, 0, &gate));
+    check("why", SNMPSEC_BAD_CONFIGURATION, snmpsec_gate_fault((const uint8_t *)bad, sizeof bad - 1, out, sizeof out, &len));
+    check("the line", 0, memcmp(out, "refused config device 0 BadKey\n", 31));
+    check("why: no room", SNMPSEC_SHORT_BUFFER, snmpsec_gate_fault((const uint8_t *)bad, sizeof bad - 1, out, len - 1, &len));
+    check("why: nested", SNMPSEC_BAD_CONFIGURATION, snmpsec_gate_fault((const uint8_t *)deep, sizeof deep - 1, out, sizeof out, &len));
+    check("the line of that", 0, memcmp(out, "refused config nesting\n", 23));
+    check("none", 0, snmpsec_gate_fault((const uint8_t *)text, sizeof text - 1, out, sizeof out, &len));
+    check("of no octets", 0, (long long)len);
+}
+
+static void nothing_given(void) {
+    snmpsec_gate_event event;
+    snmpsec_gate_info info;
+    snmpsec_counters counters;
+    snmpsec_counts counts;
+    uint64_t at;
+    size_t len;
+    int why;
+    snmpsec_gate_free(NULL);
+    check("no place", SNMPSEC_BAD_ARGUMENT, made(text, NULL));
+    check("no gateway: take_client", SNMPSEC_BAD_ARGUMENT, snmpsec_gate_take_client(NULL, 0, NULL, 0, NULL, 0, &event));
+    check("no gateway: take_device", SNMPSEC_BAD_ARGUMENT, snmpsec_gate_take_device(NULL, 0, 0, NULL, 0, &event));
+    check("no gateway: next", SNMPSEC_BAD_ARGUMENT, snmpsec_gate_next(NULL, 0, 0, 0, &event, &why));
+    check("no gateway: due", SNMPSEC_BAD_ARGUMENT, snmpsec_gate_due(NULL, &at));
+    check("no gateway: message", SNMPSEC_BAD_ARGUMENT, snmpsec_gate_message(NULL, NULL, 0, &len));
+    check("no gateway: client", SNMPSEC_BAD_ARGUMENT, snmpsec_gate_client(NULL, NULL, 0, &len));
+    check("no gateway: setting", SNMPSEC_BAD_ARGUMENT, snmpsec_gate_setting(NULL, SNMPSEC_GATE_BOOTS, 0, NULL, 0, &len));
+    check("no gateway: numbers", SNMPSEC_BAD_ARGUMENT, snmpsec_gate_numbers(NULL, &info));
+    check("no gateway: counters", SNMPSEC_BAD_ARGUMENT, snmpsec_gate_counters(NULL, &counters));
+    check("no gateway: counts", SNMPSEC_BAD_ARGUMENT, snmpsec_gate_counts(NULL, &counts));
+}
+
+/* Captured datagrams are of another engine: each is refused, and where it asks for reports one is to be sent. */
+static void datagrams_refused(void) {
+    snmpsec_gate *gate;
+    snmpsec_gate_event event = SNMPSEC_GATE_BEGINS;
+    snmpsec_gate_info info;
+    uint8_t out[SNMPSEC_LARGEST], user[32];
+    size_t len = 0, reports = 0, users = 0;
+    uint64_t at = 3;
+    int why = 0;
+    check("new", 0, made(text, &gate));
+    for (size_t i = 0; i < datagrams_len; i++) {
+        uint8_t *datagram = fenced(datagrams[i], lengths[i]);
+        check("a captured datagram is refused", 1, snmpsec_gate_take_client(gate, 1000, (const uint8_t *)"client", 6, datagram, lengths[i], &event) > 0);
+        reports += !snmpsec_gate_message(gate, out, sizeof out, &len);
+        users += !snmpsec_datagram_user(datagram, lengths[i], user, sizeof user, &len);
+        check("a device's", 0, snmpsec_gate_take_device(gate, 1000, 0, datagram, lengths[i], &event));
+        check("is unreadable", SNMPSEC_GATE_UNREADABLE, event);
+    }
+    check("some have a report", 1, reports > 0);
+    check("each names a user", (long long)datagrams_len, (long long)users);
+    check("nothing is due", SNMPSEC_NOTHING_TAKEN, snmpsec_gate_due(gate, &at));
+    check("nothing is to be done", 0, snmpsec_gate_next(gate, 1000, 1, 1, &event, &why));
+    check("nothing", SNMPSEC_GATE_NOTHING, event);
+    check("nothing is to be sent", SNMPSEC_NOTHING_TAKEN, snmpsec_gate_message(gate, out, sizeof out, &len));
+    check("numbers", 0, snmpsec_gate_numbers(gate, &info));
+    check("nothing waits", 0, (long long)info.waiting);
+    check("no octets name a user", 1, snmpsec_datagram_user(NULL, 0, user, sizeof user, &len) > 0);
+    snmpsec_gate_free(gate);
+}
+
+/* Each growth of memory is refused in turn, and nothing is lost. */
+static void refused_memory(void) {
+    snmpsec_gate *gate;
+    uint8_t out[100];
+    size_t len;
+    int answer = SNMPSEC_OUT_OF_MEMORY;
+    for (long n = 0; answer == SNMPSEC_OUT_OF_MEMORY && n < 100000; n++) {
+        left = n;
+        answer = made(text, &gate);
+        left = -1;
+        if (answer) check("no gateway without memory", 1, gate == NULL);
+    }
+    check("new, once there is enough", 0, answer);
+    left = 0;
+    check("a setting", SNMPSEC_OUT_OF_MEMORY, snmpsec_gate_setting(gate, SNMPSEC_GATE_ADDRESS, 0, out, sizeof out, &len));
+    left = 0;
+    snmpsec_gate_free(gate);
+    left = -1;
+}
+
+int main(int argc, char **argv) {
+    read_capture(argc, argv);
+    settings();
+    refused_texts();
+    nothing_given();
+    datagrams_refused();
+    refused_memory();
+    return checks_told();
+}
