@@ -12,7 +12,7 @@
 //! let mut out = [0; 40];
 //! let mut written = 0;
 //! gate.setting(GateText::Address, 0, &mut out, &mut written)?;
-//! assert_eq!(rt; &out[..written], b"10.1.0.7:161".as_slice());
+//! assert!(rt; written == 12 && out.starts_with(b"10.1.0.7:161"));
 //! assert!(rt; gate.take_client(1000, b"client", b"no message").is_err());
 //! assert_eq!(rt; event_code_of(gate.next(1000, 1, 1)), 0);
 //! assert_eq!(rt; gate.next(1000, 2, 2)?, GateEvent::Nothing);
