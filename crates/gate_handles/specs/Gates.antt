@@ -18,7 +18,7 @@ use Rattle.vacm_core.specs.declared.rows.AccessRow.{AccessRow}
 use Rattle.snmp_message.specs.declared.refusal.Refusal.TheVariants.{OutOfMemory}
 use Rattle.snmp_agent.specs.Agent.{AgentState}
 use Rattle.snmp_gate.specs.History.{Happening}
-use Rattle.snmp_gate.specs.Waiting.{GateStands, ClientHappens, DeviceHappens, SendHappens}
+use Rattle.snmp_gate.specs.Waiting.{GateStands, IsAsBefore, ClientHappens, DeviceHappens, SendHappens}
 use Rattle.snmp_gate.specs.declared.devices.Device.{Device}
 use Rattle.snmp_gate.specs.declared.limits.GateLimits.{GateLimits}
 use Rattle.snmp_gate.specs.declared.gate.Gate.{Gate}
@@ -118,7 +118,7 @@ pub record IsAccessOf (config : List ℕ) (access : List AccessRow) : Type 0 whe
 pub record IsNewGate (agent : AgentState) (devices : List DeviceSettings) (gate : Gate) : Type 0 where
   pub agent_is : gate.agent ≡ agent
   pub asks : map device_parts gate.devices.list.items ≡ map device_said devices
-  pub stands : GateStands [] gate
+  pub stands : GateStands 0 [] gate
   pub none_wait : gate.requests.list.items ≡ []
 
 -- a gateway of the configuration, with these boots, whose agent started at this moment, in seconds
@@ -154,10 +154,11 @@ pub record KeepsSaid (old new : GateHeld) : Type 0 where
   pub devices : new.devices ≡ old.devices
   pub access : new.access ≡ old.access
 
--- there is no memory, and nothing is to be sent
-pub record RunsOut (told : Result GateEvent CallFault) (new : GateHeld) : Type 0 where
+-- there is no memory, nothing is to be sent, and the gateway is as before, at this moment in milliseconds
+pub record RunsOut (old : GateHeld) (now : ℕ) (told : Result GateEvent CallFault) (new : GateHeld) : Type 0 where
   pub fault : told ≡ Err (Refused OutOfMemory)
   pub quiet : IsQuiet new
+  pub as_before : IsAsBefore now old.gate new.gate
 
 -- ---- what comes from a client
 
@@ -175,12 +176,12 @@ pub record TookClient (old : GateHeld) (now : ℕ) (from datagram : List ℕ) (t
     (new : GateHeld) : Type 0 where
   pub taken : ClientTaken
   pub tells : TellsClient taken told new
-  pub happens : (before : List Happening) → GateStands before old.gate
-      → ClientHappens old.gate before now from datagram taken new.gate
+  pub happens : (since : ℕ) (before : List Happening) → since ≤ now → GateStands since before old.gate
+      → ClientHappens old.gate now before from datagram taken new.gate
 
 abbrev pub TakesClient : GateHeld → ℕ → List ℕ → List ℕ → Result GateEvent CallFault → GateHeld → Type 0
 TakesClient old now from datagram told new = KeepsSaid old new
-    × (TookClient old now from datagram told new ⊎ RunsOut told new)
+    × (TookClient old now from datagram told new ⊎ RunsOut old now told new)
 
 -- ---- what comes from a device
 
@@ -189,17 +190,17 @@ TellsDevice (device.Answers number) told new = (told ≡ Ok event.Answers) × (n
 TellsDevice device.NotWaitedFor told new = told ≡ Ok event.NotWaitedFor
 TellsDevice device.Unreadable told new = told ≡ Ok event.Unreadable
 
-pub record TookDevice (old : GateHeld) (number : ℕ) (datagram : List ℕ) (told : Result GateEvent CallFault)
+pub record TookDevice (old : GateHeld) (now number : ℕ) (datagram : List ℕ) (told : Result GateEvent CallFault)
     (new : GateHeld) : Type 0 where
   pub taken : DeviceTaken
   pub tells : TellsDevice taken told new
   pub quiet : IsQuiet new
-  pub happens : (before : List Happening) → GateStands before old.gate
-      → DeviceHappens old.gate before number datagram taken new.gate
+  pub happens : (since : ℕ) (before : List Happening) → since ≤ now → GateStands since before old.gate
+      → DeviceHappens old.gate now before number datagram taken new.gate
 
-abbrev pub TakesDevice : GateHeld → ℕ → List ℕ → Result GateEvent CallFault → GateHeld → Type 0
-TakesDevice old number datagram told new = KeepsSaid old new
-    × (TookDevice old number datagram told new ⊎ RunsOut told new)
+abbrev pub TakesDevice : GateHeld → ℕ → ℕ → List ℕ → Result GateEvent CallFault → GateHeld → Type 0
+TakesDevice old now number datagram told new = KeepsSaid old new
+    × (TookDevice old now number datagram told new ⊎ RunsOut old now told new)
 
 -- ---- what goes out
 
@@ -218,13 +219,15 @@ TellsSent (out.GivenUp number to) told new = (told ≡ Ok event.GivenUp) × (new
     × IsQuiet new
 TellsSent out.Nothing told new = (told ≡ Ok event.Nothing) × IsQuiet new
 
-pub record Sends (old : GateHeld) (told : Result GateEvent CallFault) (new : GateHeld) : Type 0 where
+pub record Sends (old : GateHeld) (now : ℕ) (salt : List ℕ) (told : Result GateEvent CallFault) (new : GateHeld)
+    : Type 0 where
   pub sent : Sent
   pub tells : TellsSent sent told new
-  pub happens : (before : List Happening) → GateStands before old.gate → SendHappens old.gate before sent new.gate
+  pub happens : (since : ℕ) (before : List Happening) → since ≤ now → GateStands since before old.gate
+      → SendHappens old.gate now before salt sent new.gate
 
-abbrev pub SendsNext : GateHeld → Result GateEvent CallFault → GateHeld → Type 0
-SendsNext old told new = KeepsSaid old new × (Sends old told new ⊎ RunsOut told new)
+abbrev pub SendsNext : GateHeld → ℕ → List ℕ → Result GateEvent CallFault → GateHeld → Type 0
+SendsNext old now salt told new = KeepsSaid old new × (Sends old now salt told new ⊎ RunsOut old now told new)
 
 -- ---- giving back
 

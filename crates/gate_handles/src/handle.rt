@@ -1,6 +1,7 @@
 //! A gateway with what its configuration says, and what came of the last call.
 
 ghost use Rattle.std.specs.Prelude.{◌≡◌, ℕ, List, [], string_bytes, Ok, IfOk, IfErr};
+ghost use Rattle.std.specs.Int.{to_be_bytes, w64};
 ghost use Rattle.snmp_message.specs.declared.refusal.Refusal.TheVariants.{OutOfMemory};
 ghost use Rattle.snmp_agent.specs.Counts.{count_at};
 ghost use Rattle.snmpsec_gate_config.specs.Refusals.{Loads, Refuses};
@@ -287,7 +288,7 @@ impl GateHandle {
         device: usize,
         datagram: &[u8],
     ) -> Result<GateEvent, CallFault>
-        ensures { TakesDevice self.old device datagram.now result self.new }
+        ensures { TakesDevice self.old now device datagram.now result self.new }
     {
         self.message = None;
         self.client = None;
@@ -318,7 +319,7 @@ impl GateHandle {
     /// Does the first thing that is due at this moment, in milliseconds, as `Gate::next` does, and leaves the
     /// datagram to be sent, if there is one. The error is out of memory: then the call may be made again.
     pub fn next(&mut self, now: u64, salt: u64, ask_id: u32) -> Result<GateEvent, CallFault>
-        ensures { SendsNext self.old result self.new }
+        ensures { SendsNext self.old now (to_be_bytes w64 salt) result self.new }
     {
         self.message = None;
         self.client = None;

@@ -5,6 +5,7 @@
 -- `TellsSetting`, `TellsNumbersOf`, `GateCounter`, `GateCount`, `ClearsGate`: what each export answers and leaves.
 -- `TellsGateConfiguration`, `TellsUser`: those without a handle.
 use Rattle.std.specs.Prelude.{◌≡◌, ◌≤◌, ◌<◌, ◌⊎◌, ℕ, ℤ, pos, List, ◌++◌, length, drop, MatchOption, Result}
+use Rattle.std.specs.Int.{to_be_bytes, w64}
 use Rattle.snmp_agent.specs.Counts.{count_at}
 use Rattle.snmp_handles.specs.Faults.{code, value_code, fault_code}
 use Rattle.snmp_handles.specs.Numbers.{counter_of}
@@ -33,10 +34,11 @@ TakesFromClient now client datagram old new answer =
     Eventful (λ told. TakesClient old now client datagram told new) answer
 
 abbrev pub TakesFromDevice : ℕ → ℕ → List ℕ → GateHeld → GateHeld → ℤ → Type 0
-TakesFromDevice now device datagram old new answer = Eventful (λ told. TakesDevice old device datagram told new) answer
+TakesFromDevice now device datagram old new answer =
+    Eventful (λ told. TakesDevice old now device datagram told new) answer
 
 abbrev pub SendsDue : ℕ → ℕ → ℕ → GateHeld → GateHeld → ℤ → Type 0
-SendsDue now salt ask_id old new answer = Eventful (λ told. SendsNext old told new) answer
+SendsDue now salt ask_id old new answer = Eventful (λ told. SendsNext old now (to_be_bytes w64 salt) told new) answer
 
 -- the moment is written where there is one
 abbrev pub TellsDue : ℕ → ℕ → GateHeld → GateHeld → ℤ → Type 0
