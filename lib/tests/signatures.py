@@ -136,6 +136,7 @@ def rust_numbers():
 
 EXPORT_TYPES = {"*mut u8": ["void *"], "&mut *mut u8": ["void **"], "&[u8]": ["const uint8_t *", "size_t"], "&mut [u8]": ["uint8_t *", "size_t"],
                 "&[u32]": ["const uint32_t *", "size_t"], "&mut [u32]": ["uint32_t *", "size_t"], "&mut [i32]": ["int32_t *", "size_t"], "&mut [i64]": ["int64_t *", "size_t"],
+                "&mut [u64]": ["uint64_t *", "size_t"],
                 "&mut [usize]": ["size_t *", "size_t"], "&mut usize": ["size_t *"], "&mut u32": ["uint32_t *"], "&mut u64": ["uint64_t *"], "u32": ["uint32_t"], "u64": ["uint64_t"],
                 "usize": ["size_t"], "Global": []}
 

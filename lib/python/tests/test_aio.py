@@ -177,7 +177,7 @@ class Asking(unittest.IsolatedAsyncioTestCase):
             device.respond = lambda now: device.agent.respond(now, device.agent.part(Part.BINDINGS), 1, 16, 1)
             with self.assertRaises(ErrorStatus) as caught:
                 await client.set(self.target(device), [((*SYSTEM, 5, 0), b"x")])
-            self.assertEqual(str(caught.exception), "authorizationError at 1.3.6.1.2.1.1.5.0")
+            self.assertEqual(str(caught.exception), "authorizationError (error-status 16) at 1.3.6.1.2.1.1.5.0")
 
     async def test_clocks_of_two_stations(self):
         async with Network(boots=5) as device, Client(config()) as one, Client(config()) as two:

@@ -53,7 +53,7 @@ class ErrorStatus(SnmpError):
     """The Response has an error-status (RFC 3416, section 3). `name` is the variable of its error-index, if there is one."""
 
     def __init__(self, status: int, index: int, name: Optional[ObjectId]):
-        word = ERROR_STATUS[status] if 0 <= status < len(ERROR_STATUS) else f"error-status {status}"
+        word = f"{ERROR_STATUS[status]} (error-status {status})" if 0 <= status < len(ERROR_STATUS) else f"error-status {status}"
         super().__init__(f"{word} at {name}" if name else word)
         self.status, self.index, self.name = status, index, name
 
