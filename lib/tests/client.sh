@@ -88,10 +88,10 @@ test_client_rust() {
     check "poll_many is built" 0 $?
     begin_agent
     LD_LIBRARY_PATH=$OUT "$OUT/cargo/debug/examples/poll_many" "$here/examples/agent.toml" sha256 3 $system.1.0 $at "127.0.0.1:$snmpd_port" 127.0.0.1:9 2>&1 |
-        sort > "$work/polled"
+        sort > "$work/polled_many"
     end_agent
     check "poll_many asks three devices" "$(printf '%s\n' "$at 04 612070726f766564206167656e74" "127.0.0.1:$snmpd_port 04 6c6f6f706261636b" \
-        "127.0.0.1:9 doesn't answer, report None" | sort)" "$(cat "$work/polled")"
+        "127.0.0.1:9 doesn't answer, report None" | sort)" "$(cat "$work/polled_many")"
 }
 
 if command -v python3 > /dev/null; then test_client_page; fi
