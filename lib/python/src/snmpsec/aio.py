@@ -56,7 +56,7 @@ class _Peer:
 
 
 class _Waiting:
-    """A request on its way: whom it asks, what it waits for, and what is to be done once it is heard of, or None where nothing came in time."""
+    """A request on its way: whom it asks, what it waits for, and what is to be done once it is heard of, or None if nothing came in time."""
 
     __slots__ = ("peer", "state", "future")
 
