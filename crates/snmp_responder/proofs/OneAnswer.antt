@@ -38,7 +38,7 @@ same_exception s n only name v w a b =
 
 -- ---- names
 
-same_name : (x y : List ℕ) → IsUpto x y → IsUpto y x → x ≡ y
+pub same_name : (x y : List ℕ) → IsUpto x y → IsUpto y x → x ≡ y
 same_name x y low high = by (slice_cmp nat_cmp x y) refl
   where
     by : (o : Ordering) → slice_cmp nat_cmp x y ≡ o → x ≡ y

@@ -1,6 +1,6 @@
 -- What columns of a GetBulkRequest are for.
 use Rattle.std.specs.Prelude.{◌≡◌, ℕ, List, [], ◌∷◌, ◌++◌, drop, length, map, take}
-use Rattle.std.proofs.Common.{sym, ap, ◌∙◌, inl, inr, arith, append_assoc, append-nil}
+use Rattle.std.proofs.Common.{refl, suc, zero, sym, ap, ◌∙◌, inl, inr, arith, append_assoc, append-nil}
 use Rattle.std.proofs.lemmas.Bool.{cases_lt}
 use Rattle.std.proofs.lemmas.List.{drop_all, drop-append-le, length_push, take_all, take-append-le}
 use Rattle.snmp_msg.specs.Variables.{Variable}
@@ -8,6 +8,10 @@ use Rattle.snmp_walk.specs.BulkColumn.{bulk_request}
 use Rattle.snmp_walk.specs.BulkDialogue.{IsMostOf, bulk_requests_of}
 use Rattle.snmp_walk.specs.declared.bulk_column.BulkColumn.{BulkColumn}
 use Rattle.snmp_walk.proofs.Pushed.{map_push}
+
+pub none_requested : (n most : ℕ) → [] ≡ bulk_requests_of n most []
+none_requested zero most = refl
+none_requested (suc n) most = refl
 
 -- The columns are for the bindings, also with one more of each.
 pub bulk_pushed : (n most : ℕ) (cs : List BulkColumn) (c : BulkColumn) (vs : List Variable) (v : Variable) (wanted : ℕ) → length cs ≡ length vs → map bulk_request cs ≡ bulk_requests_of n most vs → bulk_request c ≡ (v.name, wanted)

@@ -1,23 +1,23 @@
-mod Places
+pub mod Places
 mod Steps
 mod Changed
-mod Asked
+pub mod Asked
 mod Each
 mod After
 mod Pushed
 mod Bulk
 mod Open
-mod Runs
+pub mod Runs
 mod TurnLists
 mod BulkReads
-mod Zipped
+pub mod Zipped
 mod BulkAnswers
 mod Choices
 mod BulkRequests
-mod BulkGoing
+pub mod BulkGoing
 mod BulkShows
 mod BulkAfter
-mod BulkRuns
+pub mod BulkRuns
 mod Fronts
 mod Names
 mod Named

@@ -2,8 +2,8 @@
 --
 -- A repeater is a walk: each repetition asks as a GetNextRequest does, at first for the name of the request, and then
 -- for the name that the one before gave. `given_in`: what of it the message may see. `shown`: the last name that the
--- message knows of. `name_before`: the name of a column before a repetition. `BulkStands`: what is known of a column.
--- `IsAt`: what the Response holds for a column in a repetition. `IsUnknownAt`: that isn't known yet.
+-- message knows of. `name_before`: the name of a column before a repetition. `IsNew`: how a column begins. `BulkStands`:
+-- what is known of it. `IsAt`: what the Response holds for it in a repetition. `IsUnknownAt`: that isn't known yet.
 use Rattle.std.specs.Prelude.{◌≡◌, ◌⊎◌, ◌+◌, ◌<◌, ◌≤◌, ⊤, ℕ, List, [], ◌∷◌, All, Contains, length, map, take}
 use Rattle.std.specs.List.{HoldsAt}
 use Rattle.snmp_msg.specs.Variables.{Variable}
@@ -13,7 +13,7 @@ use Rattle.snmp_responder.specs.Instrumentation.{IsException}
 use Rattle.snmp_walk.specs.Bindings.{IsValue, given_says}
 use Rattle.snmp_walk.specs.Column.{IsOpen, StandsInWalk}
 use Rattle.snmp_walk.specs.declared.column.Progress.{Progress}
-use Rattle.snmp_walk.specs.declared.column.Progress.TheVariants.{Ended}
+use Rattle.snmp_walk.specs.declared.column.Progress.TheVariants.{Ended, Wanting}
 use Rattle.snmp_walk.specs.declared.bulk_column.BulkColumn.{BulkColumn}
 
 -- the name of the last one of the variables, or else this name
@@ -51,6 +51,11 @@ shown c = last_name c.first (given_in c)
 -- the name of the column before the repetition of this number, which counts from 0
 abbrev pub name_before : BulkColumn → ℕ → List ℕ
 name_before c k = last_name c.first (take k (given_in c))
+
+-- the device gave nothing yet, and is to be asked from the name of the request on
+pub record IsNew (c : BulkColumn) : Type 0 where
+  pub given : c.got.items ≡ []
+  pub wanting : c.progress ≡ Wanting c.first
 
 -- what is known of a column
 abbrev pub BulkStands : (List ℕ → Type 0) → List Variable → BulkColumn → Type 0

@@ -1,16 +1,17 @@
 -- One dialogue with a device (RFC 3416, sections 4.2.1 and 4.2.2).
 --
--- `requests`: what the columns are for, in the order of the bindings. `asks_of`: what the device is asked. `AllStand`:
--- what is known of the columns. `IsWhole`: all is there for the Response. `IsFirstOpen`: the first column for which
--- something is missing. `Shows`: the law outwards of one binding. `AllGoOn`, `AllTake`: what becomes of the columns.
--- `IsNext`: what becomes of the dialogue next. `AnswersAll`, `IsFault`: whether an answer fits, and why not.
+-- `requests`: what the columns are for, in the order of the bindings. `asks_of`: what the device is asked. `AllBegin`:
+-- how the columns begin. `AllStand`: what is known of them. `IsWhole`: all is there for the Response. `IsFirstOpen`: the
+-- first column for which something is missing. `IsShown`: what the Response holds. `Shows`: the law outwards of one
+-- binding. `AllGoOn`, `AllTake`: what becomes of the columns. `IsNext`: what becomes of the dialogue next. `AnswersAll`,
+-- `IsFault`: whether an answer fits, and why not.
 use Rattle.std.specs.Prelude.{◌≡◌, ◌⊎◌, ℕ, ◌+◌, ◌<◌, List, [], ◌∷◌, ◌++◌, All, map, length, slice_index_or}
 use Rattle.std.specs.List.{HoldsAt, AllZip, flat_map}
 use Rattle.snmp_msg.specs.Variables.{Variable, variable_of}
 use Rattle.snmp_msg.specs.declared.binding.Binding.{Binding}
 use Rattle.snmp_walk.specs.Bindings.{FitsPlace, Misfits}
-use Rattle.snmp_walk.specs.Column.{IsAsked, IsOpen, MayShow, Stands}
-use Rattle.snmp_walk.specs.Steps.{GoesOn, Takes}
+use Rattle.snmp_walk.specs.Column.{IsAsked, IsOpen, IsShownBy, MayShow, Stands}
+use Rattle.snmp_walk.specs.Steps.{Begins, GoesOn, Takes}
 use Rattle.snmp_walk.specs.declared.operation.ReadOperation.{ReadOperation}
 use Rattle.snmp_walk.specs.declared.misfit.Misfit.{Misfit}
 use Rattle.snmp_walk.specs.declared.column.Column.{Column}
@@ -33,6 +34,13 @@ requests d = map request d.columns.items
 abbrev pub requests_of : ReadOperation → List Variable → List (ReadOperation × List ℕ)
 requests_of o vs = map (λ v. (o, v.name)) vs
 
+-- a column begins
+abbrev pub ColumnBegins : (List ℕ → Type 0) → Column → Type 0
+ColumnBegins Seen c = Begins Seen c.operation c.first c.progress
+
+abbrev pub AllBegin : (List ℕ → Type 0) → Dialogue → Type 0
+AllBegin Seen d = All (ColumnBegins Seen) d.columns.items
+
 abbrev pub AllStand : (List ℕ → Type 0) → List Variable → Dialogue → Type 0
 AllStand Seen told d = All (Stands Seen told) d.columns.items
 
@@ -49,6 +57,10 @@ pub record IsFirstOpen (d : Dialogue) (number : ℕ) : Type 0 where
 -- the binding of the Response is one that it may hold
 abbrev pub Shows : (List ℕ → Type 0) → List Variable → Column → Binding → Type 0
 Shows Seen told c b = MayShow Seen told c.operation c.first (variable_of b)
+
+-- the binding of the Response is what the column has come to
+abbrev pub IsShown : Column → Binding → Type 0
+IsShown c b = IsShownBy c.first c.progress (variable_of b)
 
 -- a column goes on
 pub record ColumnGoesOn (Seen : List ℕ → Type 0) (old new : Column) : Type 0 where

@@ -5,7 +5,7 @@ ghost use Rattle.snmp_ber.specs.Oid.{IsObjectId};
 ghost use Rattle.snmp_msg.specs.Variables.{Variable, bound_variable, variable_of};
 ghost use Rattle.snmp_responder.specs.Code.{seen_by};
 ghost use Rattle.snmp_walk.specs.Column.{Asks, IsAsked, MayAsk, MayShow};
-ghost use Rattle.snmp_walk.specs.BulkColumn.{BulkStands, IsAt, IsUnknownAt, Wants, bulk_request, given_in};
+ghost use Rattle.snmp_walk.specs.BulkColumn.{BulkStands, IsAt, IsNew, IsUnknownAt, Wants, bulk_request, given_in};
 ghost use Rattle.snmp_walk.specs.BulkColumn.{name_before, octets_in, shown};
 ghost use Rattle.snmp_walk.specs.Front.{IsOverAt};
 ghost use Rattle.snmp_walk.specs.ObjectIds.{IsNamed};
@@ -75,6 +75,7 @@ impl BulkColumn {
     /// Returns the column of a binding with this name, of which up to `most` variables are wanted.
     pub fn new(alloc: Global, name: &Oid, most: usize) -> BulkColumn
         ensures request { bulk_request result ≡ (name.now, most) }
+        ensures is_new { IsNew result }
         ensures stands { (viewer : Viewer) (told : List Variable) → BulkStands (seen_by viewer) told result }
         ensures named { IsObjectId name.now → IsNamed result.progress }
     {

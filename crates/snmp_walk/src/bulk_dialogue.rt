@@ -12,6 +12,7 @@ ghost use Rattle.snmp_walk.specs.BulkDialogue.{SameLimits, bulk_requests, gather
 ghost use Rattle.snmp_walk.specs.Answer.{IsNoError};
 ghost use Rattle.snmp_walk.specs.BulkAnswered.{BulkTells, DialogueSaysSame, HasNothing, IsBulkAnswered, IsBulkAskedAt};
 ghost use Rattle.snmp_walk.specs.BulkAnswered.{IsLessAnswered, is_next, repetitions_of};
+ghost use Rattle.snmp_walk.specs.BulkColumn.{IsNew};
 ghost use Rattle.snmp_walk.specs.BulkSteps.{ColumnWaits};
 ghost use Rattle.snmp_walk.specs.Front.{IsFront, IsShownOf};
 ghost use Rattle.snmp_walk.specs.ObjectIds.{BulkAllNamed};
@@ -248,6 +249,7 @@ impl BulkDialogue {
     ) -> Result<BulkDialogue, AllocError>
         ensures is_for { IfOk result (λ d. IsBulkFor request.now.second request.now.third
             (variables_of request.now.list.now) limits.now d) }
+        ensures begin { IfOk result (λ d. All IsNew d.columns.items) }
         ensures stand { IfOk result
             (λ d. (viewer : Viewer) (told : List Variable) → BulkAllStand (seen_by viewer) told d) }
         ensures named { IfOk result BulkAllNamed }

@@ -5,7 +5,7 @@ ghost use Rattle.snmp_ber.specs.Oid.{IsObjectId};
 ghost use Rattle.snmp_msg.specs.Variables.{Variable, bound_variable, variable_of};
 ghost use Rattle.snmp_responder.specs.Code.{seen_by};
 ghost use Rattle.snmp_walk.specs.Bindings.{FitsPlace, Misfits, given_says};
-ghost use Rattle.snmp_walk.specs.Column.{Asks, IsAsked, IsOpen, MayAsk, MayShow, Stands};
+ghost use Rattle.snmp_walk.specs.Column.{Asks, IsAsked, IsOpen, IsShownBy, MayAsk, MayShow, Stands};
 ghost use Rattle.snmp_walk.specs.Steps.{Begins, GoesOn, GoesOnFrom, Takes};
 ghost use Rattle.snmp_walk.specs.ObjectIds.{IsNamed};
 
@@ -225,6 +225,7 @@ impl Column {
     pub fn binding(&self) -> Option<Binding<'_>>
         ensures whole { MatchOption result (IsOpen self.now.progress)
             (λ _. ¬ IsOpen self.now.progress) }
+        ensures shown { IfSome result (λ binding. IsShownBy self.now.first self.now.progress (variable_of binding)) }
         ensures outwards { (viewer : Viewer) (told : List Variable) → Stands (seen_by viewer) told self.now
             → IfSome result (λ binding. MayShow (seen_by viewer) told self.now.operation self.now.first
             (variable_of binding)) }

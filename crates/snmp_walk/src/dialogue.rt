@@ -4,8 +4,8 @@ ghost use Rattle.std.specs.Prelude.{◌≡◌, ◌↔◌, ◌+◌, List, All, Co
 ghost use Rattle.std.specs.List.{AllZip};
 ghost use Rattle.snmp_msg.specs.Variables.{Variable, variable_of, variables_of};
 ghost use Rattle.snmp_responder.specs.Code.{seen_by};
-ghost use Rattle.snmp_walk.specs.Dialogue.{AllGoOn, AllStand, IsFirstOpen, IsNext};
-ghost use Rattle.snmp_walk.specs.Dialogue.{IsWhole, Shows, requests, requests_of};
+ghost use Rattle.snmp_walk.specs.Dialogue.{AllBegin, AllGoOn, AllStand, IsFirstOpen, IsNext};
+ghost use Rattle.snmp_walk.specs.Dialogue.{IsShown, IsWhole, Shows, requests, requests_of};
 ghost use Rattle.snmp_walk.specs.Answer.{IsAnswered, IsNoError, Tells};
 ghost use Rattle.snmp_walk.specs.ObjectIds.{AllNamed};
 
@@ -79,6 +79,7 @@ impl Dialogue {
     ) -> Result<Dialogue, AllocError>
         ensures requests { IfOk result (λ d. requests d
             ≡ requests_of operation (variables_of request.now.list.now)) }
+        ensures begin { IfOk result (AllBegin (seen_by viewer.now)) }
         ensures stand { IfOk result (λ d. (told : List Variable) → AllStand (seen_by viewer.now) told d) }
         ensures rounds { IfOk result (λ d. d.rounds ≡ rounds) }
         ensures named { IfOk result AllNamed }
@@ -180,6 +181,7 @@ impl Dialogue {
     /// memory.
     pub fn bindings(&self, alloc: Global) -> Result<Vec<Binding<'_>>, AllocError>
         requires { IsWhole self.now }
+        ensures shown { IfOk result (λ v. AllZip IsShown self.now.columns.items v.items) }
         ensures outwards { (viewer : Viewer) (told : List Variable) → AllStand (seen_by viewer) told self.now
             → IfOk result (λ v. AllZip (Shows (seen_by viewer) told) self.now.columns.items v.items) }
     {

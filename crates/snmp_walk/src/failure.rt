@@ -11,7 +11,7 @@ use snmp_msg::Pdu;
 pub(crate) const TOO_BIG: i32 = 1;
 
 /// The number of noSuchName (RFC 3416, section 3).
-pub(crate) const NO_SUCH_NAME: i32 = 2;
+pub const NO_SUCH_NAME: i32 = 2;
 
 /// What an error of the device becomes.
 #[derive(Clone, Copy, Debug, PartialEq, Eq)]

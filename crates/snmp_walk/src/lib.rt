@@ -168,7 +168,7 @@ pub use bulk_column::BulkColumn;
 pub use bulk_dialogue::{BulkAnswered, BulkDialogue, BulkLimits, BulkNext};
 pub use column::{Ask, Column, Progress};
 pub use dialogue::{Answered, Dialogue, Next};
-pub use failure::{Failure, FailureStatus};
+pub use failure::{Failure, FailureStatus, NO_SUCH_NAME};
 pub use given::GivenVariable;
 pub use laws::{one_bulk_dialogue, one_dialogue};
 pub use misfit::Misfit;

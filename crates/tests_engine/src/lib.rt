@@ -17,10 +17,6 @@ mod elements;
 #[cfg(test)]
 mod examples;
 #[cfg(test)]
-mod gate;
-#[cfg(test)]
-mod gate_config;
-#[cfg(test)]
 mod handles;
 #[cfg(test)]
 mod manager;
@@ -28,7 +24,5 @@ mod manager;
 mod replay;
 #[cfg(test)]
 mod users;
-#[cfg(test)]
-mod walk;
 #[cfg(test)]
 mod world;

@@ -1,0 +1,9 @@
+mod Tracks
+mod Lists
+mod TrueRuns
+mod Taken
+mod Alike
+mod BulkTracks
+mod BulkReads
+mod BulkFronts
+mod BulkTrueRuns

@@ -1,0 +1,4 @@
+pub mod Device
+pub mod Dialogues
+pub mod Bulk
+pub mod Alike
