@@ -1,10 +1,10 @@
 -- One dialogue with a device (RFC 3416, sections 4.2.1 and 4.2.2).
 --
 -- `requests`: what the columns are for, in the order of the bindings. `asks_of`: what the device is asked. `AllBegin`:
--- how the columns begin. `AllStand`: what is known of them. `IsWhole`: all is there for the Response. `IsFirstOpen`: the
--- first column for which something is missing. `IsShown`: what the Response holds. `Shows`: the law outwards of one
--- binding. `AllGoOn`, `AllTake`: what becomes of the columns. `IsNext`: what becomes of the dialogue next. `AnswersAll`,
--- `IsFault`: whether an answer fits, and why not.
+-- how the columns begin. `AllStand`: what is known of them. `IsWhole`: all is there for the Response. `IsFirstOpen`:
+-- the first column for which something is missing. `IsShown`: what the Response holds. `Shows`: the law outwards of one
+-- binding. `AllGoOn`, `AllTake`: what becomes of the columns. `IsNext`: what becomes of the dialogue next.
+-- `AnswersAll`, `IsFault`: whether an answer fits, and why not.
 use Rattle.std.specs.Prelude.{◌≡◌, ◌⊎◌, ℕ, ◌+◌, ◌<◌, List, [], ◌∷◌, ◌++◌, All, map, length, slice_index_or}
 use Rattle.std.specs.List.{HoldsAt, AllZip, flat_map}
 use Rattle.snmp_msg.specs.Variables.{Variable, variable_of}
