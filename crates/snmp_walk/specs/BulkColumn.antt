@@ -2,8 +2,9 @@
 --
 -- A repeater is a walk: each repetition asks as a GetNextRequest does, at first for the name of the request, and then
 -- for the name that the one before gave. `given_in`: what of it the message may see. `shown`: the last name that the
--- message knows of. `name_before`: the name of a column before a repetition. `IsNew`: how a column begins. `BulkStands`:
--- what is known of it. `IsAt`: what the Response holds for it in a repetition. `IsUnknownAt`: that isn't known yet.
+-- message knows of. `name_before`: the name of a column before a repetition. `IsNew`: how a column begins.
+-- `BulkStands`: what is known of it. `IsAt`: what the Response holds for it in a repetition. `IsUnknownAt`: that isn't
+-- known yet.
 use Rattle.std.specs.Prelude.{◌≡◌, ◌⊎◌, ◌+◌, ◌<◌, ◌≤◌, ⊤, ℕ, List, [], ◌∷◌, All, Contains, length, map, take}
 use Rattle.std.specs.List.{HoldsAt}
 use Rattle.snmp_msg.specs.Variables.{Variable}

@@ -69,8 +69,8 @@ StandsIn Seen told GetNext first progress = StandsInWalk Seen told first progres
 abbrev pub Stands : (List ℕ → Type 0) → List Variable → Column → Type 0
 Stands Seen told c = StandsIn Seen told c.operation c.first c.progress
 
--- what the Response holds for it: what was given, noSuchObject where the name of a GetRequest isn't seen, or the name of
--- the request with endOfMibView
+-- what the Response holds for it: what was given, noSuchObject where the name of a GetRequest isn't seen, or the name
+-- of the request with endOfMibView
 abbrev pub IsShownBy : List ℕ → Progress → Variable → Type 0
 IsShownBy first (Given g) v = v ≡ given_says g
 IsShownBy first Hidden v = IsException NoSuchObject first v
