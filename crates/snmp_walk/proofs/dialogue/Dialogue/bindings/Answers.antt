@@ -23,7 +23,7 @@ loop-column-preserved c =
           subst (λ (cs : List Column). AllZip (Shows (seen_by viewer) told) cs c.push.new.self.items) (sym (take_more items i column c.loop-column-test.true))
           (subst (λ (x : Column). AllZip (Shows (seen_by viewer) told) (take i items ++ x ∷ []) c.push.new.self.items) c.column-item.is
           (rw c.in_ok-push.ensures.items (all_zipped_more (Shows (seen_by viewer) told) (take i items) c.loop-column.bindings.items column c.in-Some.binding (inv.outwards viewer told all)
-              (c.in-Some.ensures.outwards viewer told (subst (Stands (seen_by viewer) told) (sym c.column-item.is) (all i column c.loop-column-test.true))))));
+          (c.in-Some.ensures.outwards viewer told (subst (Stands (seen_by viewer) told) (sym c.column-item.is) (all i column c.loop-column-test.true))))));
     }
 
 pub returns : goal.returns
