@@ -222,6 +222,6 @@ test_traps() {
 test_c
 test_agent
 test_traps
-for part in gate poll client dispatch flood wrappers boots words memory secrets processors captures install packages; do . "$here/tests/$part.sh"; done
+for part in gate poll client dispatch made_tables flood wrappers boots words memory secrets processors captures install packages; do . "$here/tests/$part.sh"; done
 echo "$passed passed, $failed failed"
 [ $failed = 0 ]

@@ -1,5 +1,5 @@
 #!/usr/bin/env python3
-"""Compares what the example agent answers with RFC 3416, over tables and views that are made from a seed: plain.py AGENT PORT [TABLES [SEED]]
+"""Compares what the example agent answers with RFC 3416, over tables and views that are made from a seed: made_tables.py AGENT PORT [TABLES [SEED]]
 
 AGENT is the program. A table has 0 to 30 variables whose names begin with 1.3 and go on with 1 to 4 arcs of 0 to 4, and the view is one of
 tools/made_views.py, below 1.3. Each agent is asked by 10 requests of 0 to 4 names: Get, GetNext and GetBulk (RFC 3416, sections 4.2.1 to 4.2.3).
@@ -37,7 +37,7 @@ def below(name):
 def family(row):
     """A row of the view, below 1.3: its mask has two bits more in front."""
     subtree, mask, include = row
-    bits = "11" + "".join(str(compares(mask, at)) for at in range(8))
+    bits = "11" + "".join(str(int(compares(mask, at))) for at in range(8))
     octets = bytes(int(bits[at:at + 8].ljust(8, "1"), 2) for at in (0, 8))
     text = f"[[family]]\nview = 'v'\nsubtree = '{dotted(below(subtree))}'\ninclude = {str(include).lower()}\n"
     return text + (f"mask = '{octets.hex()}'\n" if mask else "")
