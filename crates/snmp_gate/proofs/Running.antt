@@ -6,7 +6,7 @@ use Rattle.std.proofs.lemmas.Bool.Decides.{eqb_tells}
 use Rattle.vacm_core.specs.Tables.{Tables}
 use Rattle.snmp_incoming.specs.Outcome.{Outcome}
 use Rattle.snmp_agent.specs.Agent.{AgentState, taker_of}
-use Rattle.snmp_gate.specs.Bounds.{AsksBounded, IsBounded}
+use Rattle.snmp_gate.specs.Bounds.{AreBounded, AsksBounded, IsBounded}
 use Rattle.snmp_gate.specs.Limits.{AlwaysKeepsTo, KeepsTo}
 use Rattle.snmp_gate.specs.History.{Happening, IsMediated, MayAskFor, accepted, answered, asked, given_up, sent, told_in, unanswered, waiting_in}
 use Rattle.snmp_gate.specs.Lawful.{AreLawful, IsLawful}
@@ -22,6 +22,7 @@ use Rattle.snmp_gate.specs.declared.gate.DeviceTaken.TheVariants as device
 use Rattle.snmp_gate.specs.declared.gate.Gate.{Gate}
 use Rattle.snmp_gate.specs.declared.gate.Sent.{Sent}
 use Rattle.snmp_gate.specs.declared.gate.Sent.TheVariants as out
+use Rattle.snmp_gate.specs.declared.limits.GateLimits.{GateLimits}
 use Rattle.snmp_gate.specs.declared.waiting_message.WaitingMessage.{WaitingMessage}
 use Rattle.snmp_gate.proofs.AtOnce.{keeps_to}
 use Rattle.snmp_gate.proofs.Bounded.{stays_on, stays_same}
@@ -59,12 +60,14 @@ pub record RunStands (first : Gate) (events : List Event) (last : Gate) : Type 0
   pub is : IsHistoryOf first events history
   pub stands : GateStands (moment_of events) history last
   pub stays : Stays first last
-  pub keeps : IsBounded first → AlwaysKeepsTo first.devices.list.items history
+  pub keeps : IsBounded first → AlwaysKeepsTo first.limits first.devices.list.items history
 
 -- the history keeps to the gateway's limits, with what happens now
-keeps_more : (first last : Gate) (now : ℕ) (history : List Happening) → Stays first last → GateStands now history last → IsBounded first → KeepsTo first.devices.list.items history
+keeps_more : (first last : Gate) (now : ℕ) (history : List Happening) → Stays first last → GateStands now history last → IsBounded first → KeepsTo first.limits first.devices.list.items history
 keeps_more first last now history stays stands b =
-    keeps_to history first.devices.list.items last.asks.items stands.asks (subst (λ (d : Devices). AsksBounded d.list.items last.asks.items) stays.devices (stays.bounded b).asks)
+    let bounded = stays.bounded b in
+    keeps_to last.agent.tables first.limits history first.devices.list.items last.devices.list.items last.requests last.asks.items stands.requests stands.asks
+    (subst (λ (l : GateLimits). AreBounded l last.requests) stays.limits bounded.requests) (subst (λ (d : Devices). AsksBounded d.list.items last.asks.items) stays.devices bounded.asks)
 
 -- a history with what happens now
 happened : (first middle last : Gate) (now : ℕ) (e : Happening) (history : List Happening) (events : List Event) (event : Event) → Stays first middle → IsHistoryOf first events history → Happens middle now history e last

@@ -86,6 +86,8 @@ pub record GroupsStand (tables : Tables) (devices : List Device) (before : List 
   pub numbered : AreNumbered next groups
   -- of no later request anything happened
   pub past : All (λ (e : Happening). number_of e < next) before
+  -- no message waits for another request
+  pub gone : (n : ℕ) → All (λ (g : Group WaitingMessage Work). g.number ≢ n) groups → waiting_in n before ≡ []
 
 abbrev pub RequestsStand : List Happening → Gate → Type 0
 RequestsStand before g = GroupsStand g.agent.tables g.devices.list.items before g.requests.next

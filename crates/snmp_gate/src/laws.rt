@@ -117,17 +117,17 @@ pub fn messages_end_in_turn()
         → AreLawful agent devices history → ended_for n history ++ waiting_in n history ≡ accepted_for n history }
 {}
 
-/// Whatever clients and devices send to a gateway that begins with nothing: it keeps to its limits. At most as many
-/// requests wait as may, and for each as many messages as may, or one; for each request its device is asked the same as
-/// often as it may be, and never `last` after it came or later (`bounded`). No device is asked for more requests at
-/// once than it may be, at any time of its history (`at_once`). A request for which nothing is due by time, as after
+/// Whatever clients and devices send to a gateway that begins with nothing: it keeps to its limits. For each request its
+/// device is asked the same as often as it may be, and never `last` after it came or later (`bounded`). At any time of
+/// its history at most as many requests wait as may, and for each as many messages as may, or one; and no device is
+/// asked for more requests at once than it may be (`history`). A request for which nothing is due by time, as after
 /// `next` returned `Nothing`, came less than `last` and once `again` before (`in_time`); a Set has `Retries::for_set`.
 pub fn a_gateway_keeps_to_its_limits()
     ensures bounded { (first last : Gate) (events : List Event) → IsBounded first → IsRun first events last
         → (last.limits ≡ first.limits) × (last.devices ≡ first.devices) × IsBounded last }
-    ensures at_once { (first last : Gate) (events : List Event) → GateStands 0 [] first → IsBounded first
+    ensures history { (first last : Gate) (events : List Event) → GateStands 0 [] first → IsBounded first
         → IsRun first events last → (history : List Happening) × IsHistoryOf first events history
-        × AlwaysKeepsTo first.devices.list.items history }
+        × AlwaysKeepsTo first.limits first.devices.list.items history }
     ensures in_time { (limits : GateLimits) (now : ℕ) (o : OpenRequest) → IsTimely limits (Open o)
         → IsIdle limits now (Open o)
         → now < o.timer.began + (retries_in limits o.task.task).last + (retries_in limits o.task.task).again }
