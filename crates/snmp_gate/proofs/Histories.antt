@@ -1,5 +1,5 @@
 -- What is known of the requests that wait, as more happens.
-use Rattle.std.specs.Prelude.{◌≡◌, ◌≢◌, ◌⊎◌, ◌∷◌, ◌++◌, ◌+◌, ◌<◌, ℕ, pos, Bool, cond, drop, remove, List, [], All, AllPairs, Contains, Option, Some, None, length, map, slice_index_or, slice_set}
+use Rattle.std.specs.Prelude.{◌≡◌, ◌≢◌, ◌⊎◌, ◌∷◌, ◌++◌, ◌+◌, ◌-◌, ◌<◌, ◌≤◌, ℕ, pos, Bool, cond, drop, remove, List, [], All, AllPairs, Contains, Option, Some, None, length, map, slice_index_or, slice_set}
 use Rattle.std.proofs.Common.{refl, sym, ap, subst, ◌∙◌, inl, inr, arith}
 use Rattle.std.proofs.lemmas.Bool.Decides.{Decides-int_eq, eqb_tells, leb_tells}
 use Rattle.std.proofs.lemmas.List.{get_or_default, get_or-set_other, get_or-set_same, length-set}
@@ -132,6 +132,33 @@ all_out P Q gs place g rise at all others k d within =
           subst Q (sym (get_or-remove_below gs place d k below at.within)) (others (slice_index_or gs k d) (numbers_differ gs place g rise at k d short isnt) (all k d short))
     ]
 
+-- the numbers before one of the requests changed, and keeps its own
+pub numbers_back : (n : ℕ) (gs : List Waiting) (place : ℕ) (g h : Waiting) → IsAt gs place g → h.number ≡ g.number → All (λ (x : Waiting). x.number ≢ n) (slice_set gs place h) → All (λ (x : Waiting). x.number ≢ n) gs × (n ≢ g.number)
+numbers_back n gs place g h at same all =
+    let long = length-set gs place h in
+    let own : n ≢ g.number = λ is. all place h (omega (arith, at.within, long)) (ap (λ (x : Waiting). x.number) (get_or-set_same gs place h h at.within) ∙ same ∙ sym is) in (
+      (λ k d within. elim (eqb_tells k place) [
+        | inl (test, here) ↦ λ is. own (sym is ∙ ap (λ (i : ℕ). (slice_index_or gs i d).number) here ∙ ap (λ (x : Waiting). x.number) (get_or_default gs place d g at.within ∙ sym at.group_is))
+        | inr (test, other) ↦ λ is. all k d (omega (arith, within, long)) (ap (λ (x : Waiting). x.number) (get_or-set_other gs place k h d other) ∙ is)
+      ]),
+      own,
+    )
+
+-- the numbers of all, by those that are left
+numbers_out : (n : ℕ) (gs : List Waiting) (place : ℕ) (g : Waiting) → IsAt gs place g → n ≢ g.number → All (λ (x : Waiting). x.number ≢ n) (remove gs place) → All (λ (x : Waiting). x.number ≢ n) gs
+numbers_out n gs place g at own all k d within =
+    let long = length-remove gs place at.within in
+    elim (eqb_tells k place) [
+      | inl (test, here) ↦ λ is. own (sym is ∙ ap (λ (i : ℕ). (slice_index_or gs i d).number) here ∙ ap (λ (x : Waiting). x.number) (get_or_default gs place d g at.within ∙ sym at.group_is))
+      | inr (test, other) ↦ elim (leb_tells place k) [
+        | inl (t, from) ↦
+            let above : place ≤ k - 1 = omega (arith, from, other) in
+            let back : k - 1 + 1 ≡ k = omega (arith, from, other) in
+            λ is. all (k - 1) d (omega (arith, within, long, from, other)) (ap (λ (x : Waiting). x.number) (get_or-remove_above gs place d (k - 1) above at.within) ∙ ap (λ (i : ℕ). (slice_index_or gs i d).number) back ∙ is)
+        | inr (t, below) ↦ λ is. all k d (omega (arith, below, at.within, long)) (ap (λ (x : Waiting). x.number) (get_or-remove_below gs place d k below at.within) ∙ is)
+      ]
+    ]
+
 pub below_next : (next : ℕ) (gs : List Waiting) (place : ℕ) (g : Waiting) → IsAt gs place g → AreNumbered next gs → g.number < next
 below_next next gs place g at numbered = subst (λ (x : Waiting). x.number < next) (sym at.group_is) (numbered.less place g at.within)
 
@@ -248,6 +275,7 @@ answered_all tables devices before next rs place r w device id answer datagram c
             (λ x other known. others_later tables devices now before x other known));
         numbered = subst (λ (gs : List Waiting). AreNumbered next gs) (sym (groups_set rs place new)) (numbered_set next (groups_of rs) place (group_of r) (group_of new) at refl stands.numbered);
         past = past_later now before next (below_next next (groups_of rs) place (group_of r) at stands.numbered) stands.past;
+        gone = λ k none. stands.gone k (numbers_back k (groups_of rs) place (group_of r) (group_of new) at refl (subst (All (λ (x : Waiting). x.number ≢ k)) (groups_set rs place new) none)).0;
       },
     )
 
@@ -314,6 +342,7 @@ asked_all agent devices before next rs new place device number id datagram withi
             (λ x other known. others_later tables devices now before x other known));
         numbered = subst (λ (gs : List Waiting). AreNumbered next gs) (sym groups_are) (numbered_set next (groups_of rs) place (group_of r) (group_of h) at refl stands.numbered);
         past = past_later now before next (below_next next (groups_of rs) place (group_of r) at stands.numbered) stands.past;
+        gone = λ k none. stands.gone k (numbers_back k (groups_of rs) place (group_of r) (group_of h) at refl (subst (All (λ (x : Waiting). x.number ≢ k)) groups_are none)).0;
       };
     })
 
@@ -332,6 +361,7 @@ ended_all tables devices before next gs new place was e ends worked stands = rec
   }) stands.all;
   numbered = subst (λ (xs : List Waiting). AreNumbered next xs) (sym worked.new_is) (numbered_set next gs place worked.group (with_work worked.group (Ends e)) worked.at refl stands.numbered);
   past = stands.past;
+  gone = λ n none. stands.gone n (numbers_back n gs place worked.group (with_work worked.group (Ends e)) worked.at refl (subst (All (λ (x : Waiting). x.number ≢ n)) worked.new_is none)).0;
 }
 
 given_up_not_accepted : (n device : ℕ) (k at : ℕ) (v : List ℕ) (m : WaitingMessage) → given_up n device ≡ accepted k at v m → ⊥
@@ -358,6 +388,7 @@ given_up_all tables devices before next gs new place number device was e ends wo
           (λ x other it. others_later tables devices now before x (λ is. other (is ∙ sym same)) it));
       numbered = subst (λ (xs : List Waiting). AreNumbered next xs) (sym worked.new_is) (numbered_set next gs place g h worked.at refl stands.numbered);
       past = past_later now before next (subst (λ (n : ℕ). n < next) same (below_next next gs place g worked.at stands.numbered)) stands.past;
+      gone = λ n none. stands.gone n (numbers_back n gs place g h worked.at refl (subst (All (λ (x : Waiting). x.number ≢ n)) worked.new_is none)).0;
     }
 
 numbered_answered : (next : ℕ) (gs new : List Waiting) (place : ℕ) (m : WaitingMessage) → IsAnswered gs place m new → AreNumbered next gs → AreNumbered next new
@@ -396,12 +427,28 @@ all_gone tables devices e before next gs new place m g (x ∷ rest) takes at wer
     (fewer tables devices e before m g x rest takes were (group_in tables devices before next gs place g at stands))
     (λ y other it. others_later tables devices e before y (λ is. other (is ∙ sym takes.number)) it))
 
+-- no message waits for a request that isn't left
+none_waits_out : (tables : Tables) (devices : List Device) (e : Happening) (before : List Happening) (next : ℕ) (gs new : List Waiting) (place : ℕ) (m : WaitingMessage) (g : Waiting) (others : List WaitingMessage) → TakesOne e before g.number
+    → IsAt gs place g → g.messages ≡ m ∷ others → IsLeft gs place g others new → GroupsStand tables devices before next gs → (n : ℕ) → All (λ (x : Waiting). x.number ≢ n) new → waiting_in n (e ∷ before) ≡ []
+none_waits_out tables devices e before next gs new place m g [] takes at were left stands n none = elim (eqb_tells n g.number) [
+  | inl (test, own) ↦
+      let known = group_in tables devices before next gs place g at stands in
+      ap (λ (i : ℕ). waiting_in i (e ∷ before)) own ∙ takes.wait ∙ ap (λ (ms : List WaitingMessage). drop 1 ms) (known.wait ∙ were)
+  | inr (test, other) ↦
+      wait_other e before n (λ is. other (is ∙ sym takes.number))
+      ∙ stands.gone n (numbers_out n gs place g at other (subst (All (λ (x : Waiting). x.number ≢ n)) left none))
+]
+none_waits_out tables devices e before next gs new place m g (x ∷ rest) takes at were left stands n none =
+    let back = numbers_back n gs place g (with_messages g (x ∷ rest)) at refl (subst (All (λ (y : Waiting). y.number ≢ n)) left none) in
+    wait_other e before n (λ is. back.1 (is ∙ sym takes.number)) ∙ stands.gone n back.0
+
 pub message_gone : (tables : Tables) (devices : List Device) (e : Happening) (before : List Happening) (next : ℕ) (gs new : List Waiting) (place : ℕ) (m : WaitingMessage) → (answer : IsAnswered gs place m new) → TakesOne e before answer.group.number
     → GroupsStand tables devices before next gs → GroupsStand tables devices (e ∷ before) next new
 message_gone tables devices e before next gs new place m answer takes stands = record {
   all = all_gone tables devices e before next gs new place m answer.group answer.others takes answer.at answer.messages_are answer.left stands;
   numbered = numbered_answered next gs new place m answer stands.numbered;
   past = past_later e before next (subst (λ (n : ℕ). n < next) takes.number (below_next next gs place answer.group answer.at stands.numbered)) stands.past;
+  gone = none_waits_out tables devices e before next gs new place m answer.group answer.others takes answer.at answer.messages_are answer.left stands;
 }
 
 sent_takes : (n : ℕ) (m : WaitingMessage) (by : Answering) (w : List ℕ) (before : List Happening) → TakesOne (sent n m by w) before n

@@ -1,7 +1,7 @@
 -- What is known of the requests that wait, when a message comes.
-use Rattle.std.specs.Prelude.{◌≡◌, ◌<◌, ℕ, suc, List, [], ◌∷◌, ◌++◌, All, Contains, Some}
+use Rattle.std.specs.Prelude.{◌≡◌, ◌≢◌, ◌<◌, ℕ, suc, List, [], ◌∷◌, ◌++◌, All, Contains, Some}
 use Rattle.std.proofs.Common.{refl, sym, ap, subst, ◌∙◌, length, slice_index_or, arith}
-use Rattle.std.proofs.lemmas.List.Elements.{All-cons, All-contains_itself, All-head, All-nil, All-push, All-weaker}
+use Rattle.std.proofs.lemmas.List.Elements.{All-cons, All-contains_itself, All-head, All-nil, All-push, All-tail, All-weaker}
 use Rattle.vacm_core.specs.Tables.{Tables}
 use Rattle.snmp_gate.specs.Beginning.{BeginsWell}
 use Rattle.snmp_gate.specs.Groups.{IsJoined, begun, group_of, groups_of, with_messages}
@@ -18,11 +18,19 @@ use Rattle.snmp_gate.specs.declared.waiting_message.WaitingMessage.{WaitingMessa
 use Rattle.snmp_gate.specs.declared.work.Work.{Work}
 use Rattle.snmp_gate.specs.declared.work.Work.TheVariants.{Open, Ends}
 use Rattle.snmp_gate.proofs.GroupSteps.{group_at}
-use Rattle.snmp_gate.proofs.Histories.{Waiting, all_set, below_next, group_in, later, numbered_set, others_later, past_later, work_later}
-use Rattle.snmp_gate.proofs.Others.{ask_later, chosen, none_happened, none_waits, was_before}
+use Rattle.snmp_gate.proofs.Histories.{Waiting, all_set, below_next, group_in, later, numbered_set, numbers_back, others_later, past_later, work_later}
+use Rattle.snmp_gate.proofs.Others.{ask_later, chosen, none_happened, none_waits, wait_other, was_before}
 use Rattle.snmp_gate.proofs.Questions.{numbered_begun}
 use Rattle.std.proofs.lemmas.List.{get_or_default}
 use Rattle.snmp_gate.proofs.Asked.{none_is_some}
+
+front_all : {X : Type 0} (P : X → Type 0) (xs ys : List X) → All P (xs ++ ys) → All P xs
+front_all P [] ys all = All-nil P
+front_all P (x ∷ xs) ys all = All-cons P x xs (All-head P x (xs ++ ys) all) (front_all P xs ys (All-tail P x (xs ++ ys) all))
+
+last_all : {X : Type 0} (P : X → Type 0) (xs : List X) (y : X) → All P (xs ++ y ∷ []) → P y
+last_all P [] y all = All-head P y [] all
+last_all P (x ∷ xs) y all = last_all P xs y (All-tail P x (xs ++ y ∷ []) all)
 
 is_accepted : (n at : ℕ) (datagram : List ℕ) (m : WaitingMessage) (before : List Happening) → IsAccepted (accepted n at datagram m ∷ before) n m
 is_accepted n at datagram m before = record {
@@ -63,6 +71,9 @@ joined_all tables devices before next most rs place r m new at datagram within i
           (λ x other it. others_later tables devices now before x (λ is. other (is ∙ sym number)) it);
       numbered = numbered_set next (groups_of rs) place g (with_messages g (g.messages ++ m ∷ [])) joins.1 refl stands.numbered;
       past = past_later now before next (subst (λ (n : ℕ). n < next) number (below_next next (groups_of rs) place g joins.1 stands.numbered)) stands.past;
+      gone = λ n none.
+          let back = numbers_back n (groups_of rs) place g (with_messages g (g.messages ++ m ∷ [])) joins.1 refl none in
+          wait_other now before n (λ is. back.1 (is ∙ sym number)) ∙ stands.gone n back.0;
     })
 
 -- the message that joins asks what all ask that wait
@@ -115,6 +126,9 @@ begun_all tables devices before next after gs new m q w at datagram asks well ne
           });
       numbered = record { rise = numbered.rise; less = numbered.below };
       past = past_later now before (suc next) (omega arith) (All-weaker (λ (e : Happening). number_of e < next) (λ (e : Happening). number_of e < suc next) (λ e lt. omega (arith, lt)) before stands.past);
+      gone = λ n none.
+          let other : n ≢ next = λ is. last_all (λ (x : Waiting). x.number ≢ n) gs (begun next m w) none (sym is) in
+          wait_other now before n other ∙ stands.gone n (front_all (λ (x : Waiting). x.number ≢ n) gs (begun next m w ∷ []) none);
     }))
 
 -- a message that begins a request joins none

@@ -33,7 +33,7 @@ use Rattle.snmp_gate.specs.declared.work.OpenRequest.{OpenRequest}
 use Rattle.snmp_gate.specs.declared.work.Work.{Work}
 use Rattle.snmp_gate.specs.declared.work.Work.TheVariants.{Open, Ends}
 use Rattle.snmp_gate.proofs.GroupSteps.{group_at, groups_set}
-use Rattle.snmp_gate.proofs.Histories.{all_set, group_in, numbered_set}
+use Rattle.snmp_gate.proofs.Histories.{all_set, group_in, numbered_set, numbers_back}
 use Rattle.std.proofs.lemmas.List.Elements.{All-cons, All-head, All-nil, All-tail}
 
 column_stands : (Seen : List ℕ → Type 0) (told : List Variable) (old new : BulkColumn) → SaysSame old new → BulkStands Seen told old → BulkStands Seen told new
@@ -125,6 +125,7 @@ all_stand_same tables devices before next rs place r w within is same stands =
       all = all_set (GroupStands tables devices before) (GroupStands tables devices before) (groups_of rs) place (group_of r) (group_of new) stands.numbered.rise at stands.all new_stands (λ x other it. it);
       numbered = numbered_set next (groups_of rs) place (group_of r) (group_of new) at refl stands.numbered;
       past = stands.past;
+      gone = λ n none. stands.gone n (numbers_back n (groups_of rs) place (group_of r) (group_of new) at refl none).0;
     })
 
 -- the same messages ask the same requests

@@ -53,3 +53,9 @@ TakenIn before now datagram m _ new = GateStands now before new
 abbrev pub IsNoRefusal : ClientTaken → Type 0
 IsNoRefusal (client.Refused why) = ⊥
 IsNoRefusal _ = ⊤
+
+-- the message isn't taken: there is no room for it, or it is of a Set that came before
+abbrev pub IsUntaken : ClientTaken → Type 0
+IsUntaken client.NoRoom = ⊤
+IsUntaken client.SetOfBefore = ⊤
+IsUntaken _ = ⊥

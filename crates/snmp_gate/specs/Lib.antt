@@ -26,3 +26,5 @@ pub mod SetBegins
 pub mod Noting
 pub mod Runs
 pub mod Due
+pub mod Bounds
+pub mod Limits

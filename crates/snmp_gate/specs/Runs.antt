@@ -59,7 +59,7 @@ IsRun first (device_comes now device datagram taken ∷ before) last = (moment_o
 IsRun first (goes_out now salt what ∷ before) last = (moment_of before ≤ now)
     × ((middle : Gate) × IsRun first before middle × SendsNext middle now salt what last)
 IsRun first (finds_no_memory now ∷ before) last = (moment_of before ≤ now)
-    × ((middle : Gate) × IsRun first before middle × IsAsBefore now middle last)
+    × ((middle : Gate) × IsRun first before middle × Stays middle last × IsAsBefore now middle last)
 
 -- ---- what went out
 

@@ -15,6 +15,7 @@ use Rattle.snmp_agent.specs.Agent.{AgentTakes}
 use Rattle.snmp_agent.specs.Report.{AgentReports, report_of}
 use Rattle.snmp_gate.specs.AskRuns.{HaveOwnIds}
 use Rattle.snmp_gate.specs.Asks.{Ends, Waits, ask_of}
+use Rattle.snmp_gate.specs.Bounds.{IsBounded}
 use Rattle.snmp_gate.specs.Devices.{IsDeviceOf}
 use Rattle.snmp_gate.specs.Groups.{Group, groups_of}
 use Rattle.snmp_gate.specs.History.{Happening, IsAccepted, OpenAsk, accepted, answered, asked, given_up, number_of}
@@ -85,6 +86,8 @@ pub record GroupsStand (tables : Tables) (devices : List Device) (before : List 
   pub numbered : AreNumbered next groups
   -- of no later request anything happened
   pub past : All (λ (e : Happening). number_of e < next) before
+  -- no message waits for another request
+  pub gone : (n : ℕ) → All (λ (g : Group WaitingMessage Work). g.number ≢ n) groups → waiting_in n before ≡ []
 
 abbrev pub RequestsStand : List Happening → Gate → Type 0
 RequestsStand before g = GroupsStand g.agent.tables g.devices.list.items before g.requests.next
@@ -200,13 +203,6 @@ SendHappens old now before salt out.Nothing new = GateStands now before new
 abbrev pub AsksNothing : DeviceAsks → Type 0
 AsksNothing asks = asks.asks.items ≡ []
 
--- how much a device may be asked at once
-abbrev pub at_once_of : Device → ℕ
-at_once_of d = d.at_once
-
-abbrev pub at_once_in : DeviceAsks → ℕ
-at_once_in asks = asks.at_once
-
 -- if a client's datagram is refused, the agent refuses it so, counts it and writes the report (RFC 3412, section 7.2)
 abbrev pub IsRefusedBy : Gate → ℕ → List ℕ → Gate → ClientTaken → Type 0
 IsRefusedBy old seconds datagram new (client.Refused r) =
@@ -214,7 +210,9 @@ IsRefusedBy old seconds datagram new (client.Refused r) =
     × AgentReports new.agent seconds datagram (in_table r.why.refusal) (report_of r.report)
 IsRefusedBy old seconds datagram new _ = ⊤
 
--- the same engine, boots, users, tables and devices
+-- the same engine, boots, users, tables, devices and limits, and it keeps to them
 pub record Stays (old new : Gate) : Type 0 where
   pub agent : SameAgent old.agent new.agent
   pub devices : new.devices ≡ old.devices
+  pub limits : new.limits ≡ old.limits
+  pub bounded : IsBounded old → IsBounded new

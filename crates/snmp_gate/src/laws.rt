@@ -14,14 +14,20 @@ ghost use Rattle.snmp_gate.specs.Runs.{Event, IsHistoryOf, IsRun, accepted_for, 
 ghost use Rattle.snmp_gate.specs.Time.{AreAsks, IsDue, IsTimed, TimerStep};
 ghost use Rattle.snmp_gate.specs.SetRuns.{AreAsTold, ComesWithin, IsSetRun, SetStep, times_new};
 ghost use Rattle.snmp_gate.specs.Waiting.{GateStands};
+ghost use Rattle.snmp_gate.specs.Bounds.{IsBounded, IsTimely};
+ghost use Rattle.snmp_gate.specs.Due.{IsIdle, retries_in};
+ghost use Rattle.snmp_gate.specs.Limits.{AlwaysKeepsTo};
 ghost use Rattle.snmp_gate.specs.declared.devices.Device.{Device};
 ghost use Rattle.snmp_gate.specs.declared.gate.Gate.{Gate};
+ghost use Rattle.snmp_gate.specs.declared.limits.GateLimits.{GateLimits};
 ghost use Rattle.snmp_gate.specs.declared.retries.Retries.{Retries};
 ghost use Rattle.snmp_gate.specs.declared.sets.RememberedSet.{RememberedSet};
 ghost use Rattle.snmp_gate.specs.declared.sets.TheConstants.{SETS_LIMIT};
 ghost use Rattle.snmp_gate.specs.declared.timer.Due.TheVariants.{GiveUp};
 ghost use Rattle.snmp_gate.specs.declared.timer.Timer.{Timer};
 ghost use Rattle.snmp_gate.specs.declared.timer.Turn.TheVariants.{ToAsk};
+ghost use Rattle.snmp_gate.specs.declared.work.OpenRequest.{OpenRequest};
+ghost use Rattle.snmp_gate.specs.declared.work.Work.TheVariants.{Open};
 
 /// However often its device is asked, and whatever it answers: a request that came at a moment is to be given up at the
 /// latest `last` and once `again` after it (`in_time`), and never earlier than `last` after it, or than `again` for
@@ -109,4 +115,20 @@ pub fn a_gateway_mediates()
 pub fn messages_end_in_turn()
     ensures { (agent : AgentState) (devices : List Device) (n : ℕ) (history : List Happening)
         → AreLawful agent devices history → ended_for n history ++ waiting_in n history ≡ accepted_for n history }
+{}
+
+/// Whatever clients and devices send to a gateway that begins with nothing: it keeps to its limits. For each request its
+/// device is asked the same as often as it may be, and never `last` after it came or later (`bounded`). At any time of
+/// its history at most as many requests wait as may, and for each as many messages as may, or one; and no device is
+/// asked for more requests at once than it may be (`history`). A request for which nothing is due by time, as after
+/// `next` returned `Nothing`, came less than `last` and once `again` before (`in_time`); a Set has `Retries::for_set`.
+pub fn a_gateway_keeps_to_its_limits()
+    ensures bounded { (first last : Gate) (events : List Event) → IsBounded first → IsRun first events last
+        → (last.limits ≡ first.limits) × (last.devices ≡ first.devices) × IsBounded last }
+    ensures history { (first last : Gate) (events : List Event) → GateStands 0 [] first → IsBounded first
+        → IsRun first events last → (history : List Happening) × IsHistoryOf first events history
+        × AlwaysKeepsTo first.limits first.devices.list.items history }
+    ensures in_time { (limits : GateLimits) (now : ℕ) (o : OpenRequest) → IsTimely limits (Open o)
+        → IsIdle limits now (Open o)
+        → now < o.timer.began + (retries_in limits o.task.task).last + (retries_in limits o.task.task).again }
 {}

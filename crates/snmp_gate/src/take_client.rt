@@ -7,7 +7,8 @@ ghost use Rattle.snmp_msg.specs.Variables.{Variable};
 ghost use Rattle.snmp_incoming.specs.Answers.{given_of};
 ghost use Rattle.snmp_gate.specs.Question.{Question};
 ghost use Rattle.snmp_gate.specs.Messages.{question_given, question_in};
-ghost use Rattle.snmp_gate.specs.Beginning.{BeginsWell, IsDigestOf, IsNoRefusal, IsSet, MaySetAll, TakenIn};
+ghost use Rattle.snmp_gate.specs.Beginning.{BeginsWell, IsDigestOf, IsNoRefusal, IsSet, IsUntaken, MaySetAll, TakenIn};
+ghost use Rattle.snmp_gate.specs.Bounds.{IsFresh};
 ghost use Rattle.snmp_gate.specs.Devices.{IsDeviceOf};
 ghost use Rattle.snmp_gate.specs.History.{Happening};
 ghost use Rattle.snmp_gate.specs.Noting.{AsksSet, IsNotedAgain, IsNotedFor, IsUnnoted};
@@ -65,9 +66,10 @@ fn own(status: i32, index: i32) -> RequestEnd
 
 /// Returns what becomes of a request that goes on so, and which came now.
 fn work_of(device: usize, now: u64, onward: Onward) -> Work
-    ensures { (tables : Tables) (devices : List DeviceIs) (q : Question)
+    ensures begins { (tables : Tables) (devices : List DeviceIs) (q : Question)
         → ((told : List Variable) → OnwardStands tables q told onward) → IsDeviceOf devices q.context device
         → BeginsWell tables devices q result }
+    ensures fresh { IsFresh result }
 {
     match onward {
         Onward::Asks(task) => Work::Open(OpenRequest {
@@ -157,7 +159,9 @@ enum SetBegins {
 }
 
 impl Gate {
-    /// Takes a datagram from a client at this moment, in milliseconds. The address of the client is of any octets.
+    /// Takes a datagram from a client at this moment, in milliseconds. The address of the client is of any octets. If
+    /// there is no room for it (`NoRoom`), or it is a Set that came before (`SetOfBefore`), all is as before, and a
+    /// datagram for which there was no room is taken as if it were new when it comes again.
     ///
     /// The error is out of memory. Then the datagram isn't taken, and may be taken again.
     pub fn take_client(
@@ -170,6 +174,7 @@ impl Gate {
             → GateStands since before self.old
             → ClientHappens self.old now before client.now datagram.now taken self.new) }
         ensures refused { IfOk result (IsRefusedBy self.old (now / 1000) datagram.now self.new) }
+        ensures untaken { IfOk result (λ taken. IsUntaken taken → IsAsBefore now self.old self.new) }
         ensures stays { Stays self.old self.new }
         ensures err { OnErr result (IsAsBefore now self.old self.new) }
     {
@@ -224,6 +229,7 @@ impl Gate {
             → IsDigestOf message datagram → GateStands since before self.old
             → TakenIn before now datagram message taken self.new) }
         ensures accepts { IfOk result IsNoRefusal }
+        ensures untaken { IfOk result (λ taken. IsUntaken taken → IsAsBefore now self.old self.new) }
         ensures stays { Stays self.old self.new }
         ensures err { OnErr result (IsAsBefore now self.old self.new) }
     {
@@ -236,7 +242,10 @@ impl Gate {
         let number = self.requests.list[place].number;
         match self.requests.join(place, message) {
             Ok(Joined::Joined) => Ok(ClientTaken::Joins(number)),
-            Ok(Joined::NoRoom) => Ok(ClientTaken::NoRoom),
+            Ok(Joined::NoRoom) => {
+                self.unnote(noted_again(digest));
+                Ok(ClientTaken::NoRoom)
+            }
             Err(none) => {
                 self.unnote(noted_again(digest));
                 Err(none)
@@ -279,6 +288,7 @@ impl Gate {
             → IsDigestOf message datagram → GateStands since before self.old
             → TakenIn before now datagram message taken self.new) }
         ensures accepts { IfOk result IsNoRefusal }
+        ensures untaken { IfOk result (λ taken. IsUntaken taken → IsAsBefore now self.old self.new) }
         ensures stays { Stays self.old self.new }
         ensures err { OnErr result (IsAsBefore now self.old self.new) }
     {
@@ -335,6 +345,7 @@ impl Gate {
         ensures begins { IfOk result (λ begins. IfSome begins (λ work. (q : Question)
             → question_in message.now ≡ Some q
             → BeginsWell self.old.agent.tables self.old.devices.list.items q work)) }
+        ensures fresh { IfOk result (λ begins. IfSome begins IsFresh) }
         ensures same { SameButSets self.old self.new }
         ensures sets { KeepsSets now self.old.sets.sets.items self.new.sets.sets.items }
     {
@@ -354,6 +365,7 @@ impl Gate {
         ensures begins { IfOk result (λ begins. IfSome begins (λ work. (q : Question)
             → question_in message.now ≡ Some q
             → BeginsWell self.old.agent.tables self.old.devices.list.items q work)) }
+        ensures fresh { IfOk result (λ begins. IfSome begins IsFresh) }
         ensures same { SameButSets self.old self.new }
         ensures sets { KeepsSets now self.old.sets.sets.items self.new.sets.sets.items }
     {

@@ -12,6 +12,7 @@ ghost use Rattle.snmp_gate.specs.Messages.{IsViewerOf, question_in};
 ghost use Rattle.snmp_gate.specs.Ends.{EndsSet, IsEndFor};
 ghost use Rattle.snmp_gate.specs.declared.set_answer.ResponseStatus.{ResponseStatus as Says};
 ghost use Rattle.snmp_gate.specs.declared.task.Task.TheVariants as TaskIs;
+ghost use Rattle.snmp_gate.specs.Bounds.{IsFresh};
 ghost use Rattle.snmp_gate.specs.History.{Happening};
 ghost use Rattle.snmp_gate.specs.Noting.{AsksSet};
 ghost use Rattle.snmp_gate.specs.Taking.{AnswerPlace, IsCommunityOfWork, OpenSaysSame, TaskSaysSame, WaitsFor};
@@ -66,6 +67,7 @@ fn work_after(asked: OpenRequest, taken: AnswerTaken, viewer: &Viewer<'_>, late:
     ensures after { (tables : Tables) (q : Question) (told : List Variable) → IsViewerOf tables q viewer.now
         → IsEndFor q taken → TaskStands tables q told asked.task.task → WorkAfter tables q told asked result }
     ensures no_set { ¬ AsksSet result }
+    ensures fresh { IsFresh result }
     ensures ends { (says : Says) → taken ≡ AnswerTaken.Ends says → result ≡ Work.Ends (RequestEnd.Own says) }
 {
     let OpenRequest {
@@ -148,6 +150,7 @@ fn after_answer(
         → question_in message.now ≡ Some q → old ≡ Open o → IsEndFor q became
         → TaskStands tables.now q told o.task.task → WorkAfter tables.now q told o result }
     ensures no_set { ¬ AsksSet result }
+    ensures fresh { IsFresh result }
     ensures ends { (o : OpenIs) (says : Says) → old ≡ Open o → became ≡ AnswerTaken.Ends says
         → result ≡ Work.Ends (RequestEnd.Own says) }
 {
@@ -176,6 +179,7 @@ fn take_answer(
         → SaysAll (variables_of_task q o.task.task) answer.now told
         → TaskStands tables.now q told o.task.task → WorkAfter tables.now q told o work.new) }
     ensures no_set { IfOk result (λ _. ¬ AsksSet work.new) }
+    ensures fresh { IfOk result (λ _. IsFresh work.new) }
     ensures set { IfOk result (λ _. AsksSet work.old → EndsAsSaid answer.now work.new) }
     ensures err { OnErr result (WorkSaysSame work.old work.new) }
 {

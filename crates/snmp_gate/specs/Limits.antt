@@ -1,0 +1,30 @@
+-- What the history of a gateway keeps to.
+--
+-- `AtMost`: at most so many requests are of a kind. `IsAskedFor`: a device is asked for a request, and didn't answer.
+-- `KeepsTo`: the bounds of what waits, and of what a device is asked at once. `AlwaysKeepsTo`: each part of a history
+-- keeps to them.
+use Rattle.std.specs.Prelude.{◌≡◌, ◌≢◌, ◌<◌, ◌≤◌, ⊤, ℕ, max, List, [], ◌∷◌, All, AllPairs, Some, length}
+use Rattle.std.specs.List.{HoldsAt}
+use Rattle.snmp_gate.specs.History.{Happening, OpenAsk, open_ask, waiting_in}
+use Rattle.snmp_gate.specs.declared.devices.Device.{Device}
+use Rattle.snmp_gate.specs.declared.limits.GateLimits.{GateLimits}
+
+-- of the numbers of requests at most so many are of the kind: there are no more in any list of different ones
+abbrev pub AtMost : ℕ → (ℕ → Type 0) → Type 0
+AtMost most Is = (ns : List ℕ) → AllPairs (λ (a b : ℕ). a ≢ b) ns → All Is ns → length ns ≤ most
+
+-- the device is asked for the request of this number, and didn't answer
+abbrev pub IsAskedFor : List Happening → ℕ → ℕ → Type 0
+IsAskedFor before device n = (ask : OpenAsk) × (open_ask n before ≡ Some ask) × (ask.device ≡ device)
+
+-- messages wait for the answers of at most as many requests as may wait, and of each request as many messages as may
+-- join, or one; each device is asked for at most as many requests at once as it may be
+pub record KeepsTo (limits : GateLimits) (devices : List Device) (before : List Happening) : Type 0 where
+  pub requests : AtMost limits.waiting (λ n. 0 < length (waiting_in n before))
+  pub messages : (n : ℕ) → length (waiting_in n before) ≤ max 1 limits.joined
+  pub asked : (device : ℕ) → device < length devices
+      → HoldsAt (λ (d : Device). AtMost d.at_once (IsAskedFor before device)) devices device
+
+abbrev pub AlwaysKeepsTo : GateLimits → List Device → List Happening → Type 0
+AlwaysKeepsTo limits devices [] = ⊤
+AlwaysKeepsTo limits devices (now ∷ before) = KeepsTo limits devices (now ∷ before) × AlwaysKeepsTo limits devices before
