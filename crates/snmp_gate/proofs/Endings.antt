@@ -3,6 +3,7 @@ use Rattle.std.specs.Prelude.{◌≡◌, List}
 use Rattle.std.proofs.Common.{sym, ◌∙◌}
 use Rattle.snmp_msg.specs.Variables.{Variable}
 use Rattle.vacm_core.specs.Tables.{Tables}
+use Rattle.snmp_gate.specs.Said.{Said}
 use Rattle.snmp_gate.specs.Ends.{FailsOrGoesOn, IsEndFor}
 use Rattle.snmp_gate.specs.Taking.{WorkAfter}
 use Rattle.snmp_gate.specs.declared.work.OpenRequest.{OpenRequest}
@@ -22,7 +23,7 @@ fails_end q GoesOn fails = tt
 pub one_open : (w : Work) (a b : OpenRequest) → w ≡ Open a → w ≡ Open b → a ≡ b
 one_open w a b is also = let same : Open a ≡ Open b = sym is ∙ also in cc
 
-pub after_same : (tables : Tables) (q : Question) (told : List Variable) (a b : OpenRequest) (w : Work) → a.device ≡ b.device → WorkAfter tables q told a w → WorkAfter tables q told b w
+pub after_same : (tables : Tables) (q : Question) (told : Said) (a b : OpenRequest) (w : Work) → a.device ≡ b.device → WorkAfter tables q told a w → WorkAfter tables q told b w
 after_same tables q told a b (Open new) device after = (after.0, after.1 ∙ device, after.2, after.3)
 after_same tables q told a b (work.Ends e) device after = after
 

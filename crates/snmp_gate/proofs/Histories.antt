@@ -4,11 +4,12 @@ use Rattle.std.proofs.Common.{refl, sym, ap, subst, ◌∙◌, inl, inr, arith}
 use Rattle.std.proofs.lemmas.Bool.Decides.{Decides-int_eq, eqb_tells, leb_tells}
 use Rattle.std.proofs.lemmas.List.{get_or_default, get_or-set_other, get_or-set_same, length-set}
 use Rattle.std.proofs.lemmas.List.Edits.{get_or-remove_above, get_or-remove_below, length-remove}
-use Rattle.std.proofs.lemmas.List.Elements.{All-cons, All-contains_itself, All-head, All-tail, All-weaker, Contains-append_left, Contains-append_right}
+use Rattle.std.proofs.lemmas.List.Elements.{All-cons, All-contains_itself, All-head, All-tail, All-weaker, Contains-append_left, Contains-append_right, Contains-push}
 use Rattle.snmp_msg.specs.Pdu.{PduParts, pdu_of}
 use Rattle.snmp_msg.specs.Variables.{Variable, variables_of}
 use Rattle.snmp_msg.specs.declared.pdu.Pdu.{Pdu}
 use Rattle.vacm_core.specs.Tables.{Tables}
+use Rattle.snmp_gate.specs.Said.{Exchange, Said}
 use Rattle.snmp_gate.specs.Devices.{IsDeviceOf}
 use Rattle.snmp_gate.specs.DeviceMessages.{IsDeviceAnswer}
 use Rattle.std.specs.Global.{Vec}
@@ -35,7 +36,7 @@ use Rattle.snmp_gate.specs.declared.work.RequestEnd.TheVariants as ending
 use Rattle.std.proofs.lemmas.Bool.{false≢true}
 use Rattle.snmp_gate.specs.declared.requests.WaitingRequest.{WaitingRequest}
 use Rattle.snmp_gate.proofs.GroupSteps.{group_at, groups_set}
-use Rattle.snmp_gate.specs.History.{AskedBy, Happening, IsAccepted, IsAnswerOf, IsCommunityFor, IsMediated, MayAskFor, OpenAsk, accepted, answered, asked, ends_in, given_up, number_of, open_ask, said_by, sent, told_in, unanswered, waiting_in}
+use Rattle.snmp_gate.specs.History.{AskedBy, Happening, IsAccepted, IsAnswerOf, IsCommunityFor, IsMediated, MayAskFor, OpenAsk, accepted, answered, asked, ends_in, exchange_in, given_up, more_said, number_of, open_ask, said_by, sent, told_in, unanswered, waiting_in}
 use Rattle.snmp_gate.specs.Lawful.{IsInTurn, IsNext, WasAsked}
 use Rattle.snmp_gate.specs.Question.{Question}
 use Rattle.snmp_gate.specs.Waiting.{AreNumbered, GroupStands, GroupsStand, OpenStands, RequestsStand, WorkStands}
@@ -64,12 +65,12 @@ later e before n m is = record { now = is.now; datagram = is.datagram; there = C
 pub work_later : (tables : Tables) (devices : List Device) (e : Happening) (before : List Happening) (n : ℕ) (q : Question) (w : Work) → told_in n (e ∷ before) ≡ told_in n before → open_ask n (e ∷ before) ≡ open_ask n before
     → (WasAsked (e ∷ before) n → WasAsked before n) → WorkStands tables devices before n q w → WorkStands tables devices (e ∷ before) n q w
 work_later tables devices e before n q (Open o) told ask was stands = record {
-  task = subst (λ (vs : List Variable). TaskStands tables q vs o.task.task) (sym told) stands.task;
+  task = subst (λ (vs : Said). TaskStands tables q vs o.task.task) (sym told) stands.task;
   device = stands.device;
   asked = λ id is. ask ∙ stands.asked id is;
   set_once = λ set none asked. stands.set_once set none (was asked);
 }
-work_later tables devices e before n q (Ends x) told ask was stands = subst (λ (vs : List Variable). EndingStands tables q vs x) (sym told) stands
+work_later tables devices e before n q (Ends x) told ask was stands = subst (λ (vs : Said). EndingStands tables q vs x) (sym told) stands
 
 -- the same is known of another request
 pub others_later : (tables : Tables) (devices : List Device) (e : Happening) (before : List Happening) (g : Waiting) → g.number ≢ number_of e → GroupStands tables devices before g → GroupStands tables devices (e ∷ before) g
@@ -179,7 +180,7 @@ asked_not_accepted : (n device id : ℕ) (vs : List Variable) (w : List ℕ) (k 
 asked_not_accepted n device id vs w k at v m is = cc
 
 -- the community by which the request's device is asked
-pub community_for : (tables : Tables) (q : Question) (told : List Variable) (t : Task) (d : Device) (community : List ℕ) → TaskStands tables q told t → IsCommunityOfTask d community t → IsCommunityFor d q.tag community
+pub community_for : (tables : Tables) (q : Question) (told : Said) (t : Task) (d : Device) (community : List ℕ) → TaskStands tables q told t → IsCommunityOfTask d community t → IsCommunityFor d q.tag community
 community_for tables q told (task.Read Get d) device community stands is = inl ((λ (same : q.tag ≡ pdu_tag SetRequest). let tag : q.tag ≡ pdu_tag GetRequest = stands.tag in omega (arith, same, tag)), is)
 community_for tables q told (task.Read GetNext d) device community stands is = inl ((λ (same : q.tag ≡ pdu_tag SetRequest). let tag : q.tag ≡ pdu_tag GetNextRequest = stands.tag in omega (arith, same, tag)), is)
 community_for tables q told (task.Bulk by d) device community stands is = inl ((λ (same : q.tag ≡ pdu_tag SetRequest). omega (arith, same, stands.tag)), is)
@@ -196,24 +197,31 @@ says_all n device id vs answer datagram before is =
     let own = variables_of answer.list.now in
     let ask : OpenAsk = record { device = device; id = id; variables = vs } in
     let told = told_in n before in
-    let full : said_by (Some ask) (pdu_of answer) ++ told ≡ told_in n (answered n device (pdu_of answer) datagram ∷ before) =
-    ap (λ (a : Option OpenAsk). said_by a (pdu_of answer) ++ told) (sym is)
-    ∙ sym (ap (λ (b : Bool). cond b (said_by (open_ask n before) (pdu_of answer) ++ told) told) (same_number n)) in
+    let full : more_said (Some ask) (pdu_of answer) told ≡ told_in n (answered n device (pdu_of answer) datagram ∷ before) =
+    ap (λ (a : Option OpenAsk). more_said a (pdu_of answer) told) (sym is)
+    ∙ sym (ap (λ (b : Bool). cond b (more_said (open_ask n before) (pdu_of answer) told) told) (same_number n)) in
+    let exchange : Exchange = record { asked = vs; answer = pdu_of answer } in
     record {
-      bindings = subst (λ (all : List Variable). All (Contains all) own) full
-          (All-weaker (Contains own) (Contains (said_by (Some ask) (pdu_of answer) ++ told))
-          (λ v there. Contains-append_left (said_by (Some ask) (pdu_of answer)) told v (Contains-append_left own (ends_in (Some ask) (pdu_of answer)) v there)) own (All-contains_itself own));
-      ends = λ no_such_name. subst (λ (all : List Variable). All (λ (v : Variable). Contains all (end_of v)) vs) full
-          (All-weaker (Contains vs) (λ (v : Variable). Contains (said_by (Some ask) (pdu_of answer) ++ told) (end_of v))
-          (λ v there. Contains-append_left (said_by (Some ask) (pdu_of answer)) told (end_of v) (Contains-append_right own (ends_in (Some ask) (pdu_of answer)) (end_of v)
+      bindings = subst (λ (all : Said). All (Contains all.variables) own) full
+          (All-weaker (Contains own) (Contains (said_by (Some ask) (pdu_of answer) ++ told.variables))
+          (λ v there. Contains-append_left (said_by (Some ask) (pdu_of answer)) told.variables v (Contains-append_left own (ends_in (Some ask) (pdu_of answer)) v there)) own (All-contains_itself own));
+      ends = λ no_such_name. subst (λ (all : Said). All (λ (v : Variable). Contains all.variables (end_of v)) vs) full
+          (All-weaker (Contains vs) (λ (v : Variable). Contains (said_by (Some ask) (pdu_of answer) ++ told.variables) (end_of v))
+          (λ v there. Contains-append_left (said_by (Some ask) (pdu_of answer)) told.variables (end_of v) (Contains-append_right own (ends_in (Some ask) (pdu_of answer)) (end_of v)
           (subst (λ (b : Bool). Contains (cond b (map end_of vs) []) (end_of v)) (sym no_such_name) (contains_map end_of vs v there)))) vs (All-contains_itself vs));
+      exchange = subst (λ (all : Said). Contains all.exchanges exchange) full (Contains-append_left (exchange ∷ []) told.exchanges exchange (Contains-push [] exchange));
     }
 
 -- as much is told as before
 told_more : (n device : ℕ) (p : PduParts) (datagram : List ℕ) (before : List Happening) → HasAll (told_in n before) (told_in n (answered n device p datagram ∷ before))
-told_more n device p datagram before v there =
-    subst (λ (b : Bool). Contains (cond b (said_by (open_ask n before) p ++ told_in n before) (told_in n before)) v) (sym (same_number n))
-    (Contains-append_right (said_by (open_ask n before) p) (told_in n before) v there)
+told_more n device p datagram before =
+    let told = told_in n before in
+    record {
+      variables = λ v there. subst (λ (b : Bool). Contains (cond b (more_said (open_ask n before) p told) told).variables v) (sym (same_number n))
+          (Contains-append_right (said_by (open_ask n before) p) told.variables v there);
+      exchanges = λ e there. subst (λ (b : Bool). Contains (cond b (more_said (open_ask n before) p told) told).exchanges e) (sym (same_number n))
+          (Contains-append_right (exchange_in (open_ask n before) p) told.exchanges e there);
+    }
 
 after_stands : (tables : Tables) (devices : List Device) (before : List Happening) (n : ℕ) (q : Question) (o : OpenRequest) (w : Work) → IsDeviceOf devices q.context o.device → WorkAfter tables q (told_in n before) o w → WorkStands tables devices before n q w
 after_stands tables devices before n q o (Open new) device after = record {
@@ -230,7 +238,7 @@ group_in tables devices before next gs place g at stands = subst (GroupStands ta
 pub answered_all : (tables : Tables) (devices : List Device) (before : List Happening) (next : ℕ) (rs : List (WaitingRequest WaitingMessage Work)) (place : ℕ) (r : WaitingRequest WaitingMessage Work) (w : Work)
     (device id : ℕ) (answer : Pdu) (datagram community : List ℕ) → place < length rs → r ≡ slice_index_or rs place r → WaitsFor device id r.work → answer.id ≡ pos id → IsDeviceAnswer datagram community (pdu_of answer)
     → HoldsAt (λ (d : Device). IsCommunityOfWork d community r.work) devices device
-    → ((o : OpenRequest) (q : Question) (told : List Variable) → question_in r.first ≡ Some q → r.work ≡ Open o → SaysAll (variables_of_task q o.task.task) answer told → TaskStands tables q told o.task.task → WorkAfter tables q told o w)
+    → ((o : OpenRequest) (q : Question) (told : Said) → question_in r.first ≡ Some q → r.work ≡ Open o → SaysAll (variables_of_task q o.task.task) answer told → TaskStands tables q told o.task.task → WorkAfter tables q told o w)
     → GroupsStand tables devices before next (groups_of rs)
     → IsAnswerOf devices before r.number device (pdu_of answer) datagram
     × GroupsStand tables devices (answered r.number device (pdu_of answer) datagram ∷ before) next (groups_of (slice_set rs place (record { number = r.number; first = r.first; others = r.others; work = w })))
@@ -308,7 +316,7 @@ asked_all agent devices before next rs new place device number id datagram withi
     let open_stands : OpenStands tables devices before r.number q o = subst (λ (x : Work). WorkStands tables devices before r.number q x) work_is group.work in
     let by = asked_by tables devices before r group in
     let vs = variables_of_task q o.task.task in
-    let may_ask = subst (λ (x : WaitingRequest WaitingMessage Work). (p : OpenRequest) (c : Question) (told : List Variable) → x.work ≡ Open p → question_in x.first ≡ Some c → TaskStands tables c told p.task.task
+    let may_ask = subst (λ (x : WaitingRequest WaitingMessage Work). (p : OpenRequest) (c : Question) (told : Said) → x.work ≡ Open p → question_in x.first ≡ Some c → TaskStands tables c told p.task.task
     → HoldsAt (λ (d : Device). MayAskFor tables d c told id (variables_of_task c p.task.task) datagram.items) devices device) (sym sets.is) (may r) in
     let now = asked r.number device id vs datagram.items in
     let a = sets.asked o work_is in
@@ -348,7 +356,7 @@ asked_all agent devices before next rs new place device number id datagram withi
 
 -- ---- an end, and a message that is answered
 
-pub ended_all : (tables : Tables) (devices : List Device) (before : List Happening) (next : ℕ) (gs new : List Waiting) (place : ℕ) (was : Work) (e : RequestEnd) → ((q : Question) (told : List Variable) → EndingStands tables q told e)
+pub ended_all : (tables : Tables) (devices : List Device) (before : List Happening) (next : ℕ) (gs new : List Waiting) (place : ℕ) (was : Work) (e : RequestEnd) → ((q : Question) (told : Said) → EndingStands tables q told e)
     → IsWorked gs place was (Ends e) new → GroupsStand tables devices before next gs → GroupsStand tables devices before next new
 ended_all tables devices before next gs new place was e ends worked stands = record {
   all = all_worked (GroupStands tables devices before) gs new place was (Ends e) worked (λ g known. record {
@@ -368,7 +376,7 @@ given_up_not_accepted : (n device : ℕ) (k at : ℕ) (v : List ℕ) (m : Waitin
 given_up_not_accepted n device k at v m is = cc
 
 -- the request at the place is given up
-pub given_up_all : (tables : Tables) (devices : List Device) (before : List Happening) (next : ℕ) (gs new : List Waiting) (place number device : ℕ) (was : Work) (e : RequestEnd) → ((q : Question) (told : List Variable) → EndingStands tables q told e)
+pub given_up_all : (tables : Tables) (devices : List Device) (before : List Happening) (next : ℕ) (gs new : List Waiting) (place number device : ℕ) (was : Work) (e : RequestEnd) → ((q : Question) (told : Said) → EndingStands tables q told e)
     → (worked : IsWorked gs place was (Ends e) new) → worked.group.number ≡ number → GroupsStand tables devices before next gs → GroupsStand tables devices (given_up number device ∷ before) next new
 given_up_all tables devices before next gs new place number device was e ends worked same stands =
     let now = given_up number device in
@@ -529,7 +537,7 @@ first_at old new before place r m within is left stands =
 
 pub sent_all : (old new : Gate) (before : List Happening) (place seconds : ℕ) (salt : List ℕ) (r : WaitingRequest WaitingMessage Work) (m : WaitingMessage) (datagram : Vec ℕ) → place < length old.requests.list.items
     → r ≡ slice_index_or old.requests.list.items place r → IsLeftAfter old place m new
-    → ((q : Question) (said : List Variable) → question_in r.first ≡ Some q → RepliesTo old.agent seconds salt q said r.first.kept r.work (reply.Sends datagram))
+    → ((q : Question) (said : Said) → question_in r.first ≡ Some q → RepliesTo old.agent seconds salt q said r.first.kept r.work (reply.Sends datagram))
     → RequestsStand before old → IsEnd old before (sent r.number m (record { agent = old.agent; now = seconds; salt = salt }) datagram.items) new
 sent_all old new before place seconds salt r m datagram within is left replies stands =
     let by : Answering = record { agent = old.agent; now = seconds; salt = salt } in
@@ -559,11 +567,11 @@ unanswered_all old new before place r m within is left stands =
       requests = left_stands old new (unanswered r.number m) before place m left (subst (TakesOne (unanswered r.number m) before) at.number_is (unanswered_takes r.number m before)) stands;
     }
 
-pub given_up_ends : (tables : Tables) (e : RequestEnd) → IsGivenUp e → (q : Question) (told : List Variable) → EndingStands tables q told e
+pub given_up_ends : (tables : Tables) (e : RequestEnd) → IsGivenUp e → (q : Question) (told : Said) → EndingStands tables q told e
 given_up_ends tables ending.Silent is q told = tt
 given_up_ends tables (ending.Unhandled why) is q told = tt
 given_up_ends tables _ is q told = absurd is
 
 -- tooBig may be told of any request
-pub too_long : (tables : Tables) (q : Question) (told : List Variable) → EndingStands tables q told (ending.Own (record { status = TOO_BIG; index = pos 0 }))
+pub too_long : (tables : Tables) (q : Question) (told : Said) → EndingStands tables q told (ending.Own (record { status = TOO_BIG; index = pos 0 }))
 too_long tables q told is = absurd (false≢true ((Decides-int_eq TOO_BIG NO_ERROR).1 is))

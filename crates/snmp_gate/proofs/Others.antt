@@ -4,7 +4,7 @@ use Rattle.std.proofs.Common.{refl, sym, ap, ◌∙◌, inl, inr, arith}
 use Rattle.std.proofs.lemmas.Bool.Decides.{eqb_tells}
 use Rattle.std.proofs.lemmas.List.Elements.{All-contains, All-head, All-tail, Contains-append_cases, Contains-append_right, Contains-push_cases}
 use Rattle.snmp_msg.specs.Variables.{Variable}
-use Rattle.snmp_gate.specs.History.{Happening, accepted, answered, asked, given_up, number_of, open_ask, said_by, sent, told_in, unanswered, waiting_in}
+use Rattle.snmp_gate.specs.History.{Happening, accepted, answered, asked, given_up, more_said, number_of, open_ask, sent, told_in, unanswered, waiting_in}
 use Rattle.snmp_gate.specs.Lawful.{WasAsked}
 use Rattle.snmp_gate.specs.Messages.{question_in}
 use Rattle.snmp_gate.specs.Question.{Question}
@@ -33,7 +33,7 @@ chosen a x y = ap (λ (t : Bool). cond t x y) (same_number a)
 pub told_other : (e : Happening) (before : List Happening) (n : ℕ) → n ≢ number_of e → told_in n (e ∷ before) ≡ told_in n before
 told_other (accepted k now w m) before n other = refl
 told_other (asked k d id vs w) before n other = refl
-told_other (answered k d p w) before n other = chosen_not n k (said_by (open_ask n before) p ++ told_in n before) (told_in n before) other
+told_other (answered k d p w) before n other = chosen_not n k (more_said (open_ask n before) p (told_in n before)) (told_in n before) other
 told_other (sent k m by w) before n other = refl
 told_other (unanswered k m) before n other = refl
 told_other (given_up k d) before n other = refl

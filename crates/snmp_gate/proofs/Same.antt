@@ -13,6 +13,7 @@ use Rattle.snmp_walk.specs.BulkColumn.{StandsInBulk, given_in}
 use Rattle.snmp_walk.specs.BulkSteps.{SaysSame}
 use Rattle.snmp_walk.specs.declared.column.Progress.{Progress}
 use Rattle.snmp_walk.specs.declared.given.GivenVariable.{GivenVariable}
+use Rattle.snmp_gate.specs.Said.{Said}
 use Rattle.snmp_gate.specs.Devices.{IsDeviceOf}
 use Rattle.snmp_gate.specs.Groups.{Group, group_of, groups_of}
 use Rattle.snmp_gate.specs.History.{Happening, told_in}
@@ -54,7 +55,7 @@ columns_ask [] (n ∷ ns) zip = absurd zip
 columns_ask (o ∷ os) [] zip = absurd zip
 columns_ask (o ∷ os) (n ∷ ns) zip = λ i. variables_in (zip.0.progress i) ++ columns_ask os ns zip.1 i
 
-bulk_stands_same : (tables : Tables) (q : Question) (told : List Variable) (old new : BulkDialogue) → BulkSaysSame old new → BulkStandsFor tables q told old → BulkStandsFor tables q told new
+bulk_stands_same : (tables : Tables) (q : Question) (told : Said) (old new : BulkDialogue) → BulkSaysSame old new → BulkStandsFor tables q told old → BulkStandsFor tables q told new
 bulk_stands_same tables q told old new same stands = record {
   tag = stands.tag;
   non_repeaters = stands.non_repeaters;
@@ -62,10 +63,10 @@ bulk_stands_same tables q told old new same stands = record {
   max_repetitions = stands.max_repetitions;
   most = stands.most;
   requests_are = same.requests ∙ stands.requests_are;
-  stand = columns_stand (seen_in tables q) told old.columns.items new.columns.items same.says.columns stands.stand;
+  stand = columns_stand (seen_in tables q) told.variables old.columns.items new.columns.items same.says.columns stands.stand;
 }
 
-task_stands_same : (tables : Tables) (q : Question) (told : List Variable) (old new : Task) → TaskSaysSame old new → TaskStands tables q told old → TaskStands tables q told new
+task_stands_same : (tables : Tables) (q : Question) (told : Said) (old new : Task) → TaskSaysSame old new → TaskStands tables q told old → TaskStands tables q told new
 task_stands_same tables q told (task.Read o d) new same stands = subst (TaskStands tables q told) (sym same) stands
 task_stands_same tables q told task.Set new same stands = subst (TaskStands tables q told) (sym same) stands
 task_stands_same tables q told (task.Bulk by old) (task.Bulk other new) same stands = bulk_stands_same tables q told old new same.1 stands

@@ -13,6 +13,7 @@ pub mod ReadAsks
 pub mod Devices
 pub mod Messages
 pub mod Named
+pub mod Said
 pub mod Work
 pub mod Ends
 pub mod Replies

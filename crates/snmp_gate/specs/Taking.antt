@@ -14,6 +14,7 @@ use Rattle.snmp_walk.specs.BulkDialogue.{bulk_requests}
 use Rattle.snmp_walk.specs.declared.bulk_dialogue.BulkDialogue.{BulkDialogue}
 use Rattle.snmp_gate.specs.Ends.{IsOutcomeOf}
 use Rattle.snmp_gate.specs.Question.{Question}
+use Rattle.snmp_gate.specs.Said.{Said}
 use Rattle.snmp_gate.specs.Work.{EndingStands, TaskStands}
 use Rattle.snmp_gate.specs.declared.devices.Device.{Device}
 use Rattle.snmp_gate.specs.declared.requests.WaitingRequest.{WaitingRequest}
@@ -30,7 +31,7 @@ WaitsFor device id (Open o) = (o.device ≡ device) × (o.asked ≡ Some id)
 WaitsFor device id (Ends e) = ⊥
 
 -- the request of the same device is to be asked more, or it ends
-abbrev pub WorkAfter : Tables → Question → List Variable → OpenRequest → Work → Type 0
+abbrev pub WorkAfter : Tables → Question → Said → OpenRequest → Work → Type 0
 WorkAfter tables q told old (Open new) = TaskStands tables q told new.task.task × (new.device ≡ old.device)
     × (new.asked ≡ None) × (new.task.task ≢ task.Set)
 WorkAfter tables q told old (Ends e) = EndingStands tables q told e

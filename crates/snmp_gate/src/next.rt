@@ -18,6 +18,7 @@ ghost use Rattle.snmp_gate.specs.Groups.{groups_of};
 ghost use Rattle.snmp_gate.specs.Noting.{AsksSet, IsToldOf};
 ghost use Rattle.snmp_gate.specs.Waiting.{EndsAsk, GateStands, IsAsBefore, SameButAsks, SameButSets, SendHappens};
 ghost use Rattle.snmp_gate.specs.Waiting.{Stays, asks_in};
+ghost use Rattle.snmp_gate.specs.Said.{Said};
 
 use crate::ask::ask_of;
 use crate::asks::{DeviceAsks, REQUEST_IDS};
@@ -124,7 +125,7 @@ fn reply_now(
     salt: [u8; 8],
 ) -> Result<Reply, AllocError>
     requires { HasEnded request.now.work }
-    ensures sent { IfOk result (λ reply. (q : Question) (said : List Variable)
+    ensures sent { IfOk result (λ reply. (q : Question) (said : Said)
         → question_in request.now.first ≡ Some q
         → RepliesTo agent.old seconds salt q said request.now.first.kept request.now.work reply) }
     ensures same { SameAgent agent.old agent.new }

@@ -19,6 +19,7 @@ ghost use Rattle.snmp_gate.specs.Taking.{AnswerPlace, IsCommunityOfWork, OpenSay
 ghost use Rattle.snmp_gate.specs.Taking.{EndsAsSaid, WorkAfter, WorkSaysSame};
 ghost use Rattle.snmp_gate.specs.Waiting.{DeviceHappens, GateStands, IsAsBefore, Stays};
 ghost use Rattle.snmp_gate.specs.Work.{SaysAll, TaskStands, variables_of_task};
+ghost use Rattle.snmp_gate.specs.Said.{Said};
 ghost use Rattle.snmp_gate.specs.declared.work.OpenRequest.{OpenRequest as OpenIs};
 ghost use Rattle.snmp_gate.specs.declared.work.Work.TheVariants.{Open};
 
@@ -47,7 +48,7 @@ fn take_task(
     bindings: usize,
     answer: &Pdu<'_>,
 ) -> Result<AnswerTaken, AllocError>
-    ensures stands { IfOk result (λ taken. (tables : Tables) (q : Question) (told : List Variable)
+    ensures stands { IfOk result (λ taken. (tables : Tables) (q : Question) (told : Said)
         → IsViewerOf tables q viewer.now
         → SaysAll (variables_of_task q named.old.task) answer.now told
         → TaskStands tables q told named.old.task
@@ -64,7 +65,7 @@ fn take_task(
 
 /// Returns what becomes of a request whose device answered so.
 fn work_after(asked: OpenRequest, taken: AnswerTaken, viewer: &Viewer<'_>, late: bool) -> Work
-    ensures after { (tables : Tables) (q : Question) (told : List Variable) → IsViewerOf tables q viewer.now
+    ensures after { (tables : Tables) (q : Question) (told : Said) → IsViewerOf tables q viewer.now
         → IsEndFor q taken → TaskStands tables q told asked.task.task → WorkAfter tables q told asked result }
     ensures no_set { ¬ AsksSet result }
     ensures fresh { IsFresh result }
@@ -122,7 +123,7 @@ fn take_open(
     tables: &Vacm,
     answer: &Pdu<'_>,
 ) -> Result<AnswerTaken, AllocError>
-    ensures stands { IfOk result (λ taken. (q : Question) (told : List Variable)
+    ensures stands { IfOk result (λ taken. (q : Question) (told : Said)
         → question_in message.now ≡ Some q
         → SaysAll (variables_of_task q waiting.old.task.task) answer.now told
         → TaskStands tables.now q told waiting.old.task.task
@@ -146,7 +147,7 @@ fn after_answer(
     tables: &Vacm,
     lateness: Lateness,
 ) -> Work
-    ensures after { (o : OpenIs) (q : Question) (told : List Variable)
+    ensures after { (o : OpenIs) (q : Question) (told : Said)
         → question_in message.now ≡ Some q → old ≡ Open o → IsEndFor q became
         → TaskStands tables.now q told o.task.task → WorkAfter tables.now q told o result }
     ensures no_set { ¬ AsksSet result }
@@ -174,7 +175,7 @@ fn take_answer(
     answer: &Pdu<'_>,
     lateness: Lateness,
 ) -> Result<(), AllocError>
-    ensures after { IfOk result (λ _. (o : OpenIs) (q : Question) (told : List Variable)
+    ensures after { IfOk result (λ _. (o : OpenIs) (q : Question) (told : Said)
         → question_in message.now ≡ Some q → work.old ≡ Open o
         → SaysAll (variables_of_task q o.task.task) answer.now told
         → TaskStands tables.now q told o.task.task → WorkAfter tables.now q told o work.new) }

@@ -2,6 +2,7 @@ use Rattle.std.proofs.Common.{arith, [], ◌++◌, ◌≡◌, ◌<◌, ◌≤◌
 use Rattle.std.proofs.lemmas.List.{get_or_default, length_push}
 use Rattle.std.proofs.lemmas.List.Elements.{at_read}
 use Rattle.snmp_msg.specs.Variables.{Variable}
+use Rattle.snmp_gate.specs.Said.{Said}
 use Rattle.snmp_gate.specs.Bounds.{IsTimely, MayBeAsked}
 use Rattle.snmp_gate.specs.Due.{IsTodo}
 use Rattle.snmp_gate.specs.Question.{Question}
@@ -111,7 +112,7 @@ returns-clause-happens c since before later stands =
     )
 
 -- the gateway, where a request ends that can't be asked
-too_long_stands : (g : Gate) (requests : WaitingRequests WaitingMessage Work) (place : ℕ) (was : Work) (e : RequestEnd) → ((q : Question) (told : List Variable) → EndingStands g.agent.tables q told e) → requests.next ≡ g.requests.next
+too_long_stands : (g : Gate) (requests : WaitingRequests WaitingMessage Work) (place : ℕ) (was : Work) (e : RequestEnd) → ((q : Question) (told : Said) → EndingStands g.agent.tables q told e) → requests.next ≡ g.requests.next
     → IsWorked (groups_of g.requests.list.items) place was (Ends e) (groups_of requests.list.items) → (since now : ℕ) (before : List Happening) → since ≤ now → GateStands since before g → GateStands now before (record g { requests = requests })
 too_long_stands g requests place was e ends next worked since now before later stands = record {
   requests = moved g.agent.tables g.agent.tables g.devices.list.items g.devices.list.items before g.requests.next requests.next (groups_of requests.list.items) (groups_of requests.list.items) refl refl next refl
