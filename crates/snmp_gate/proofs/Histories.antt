@@ -1,5 +1,5 @@
 -- What is known of the requests that wait, as more happens.
-use Rattle.std.specs.Prelude.{◌≡◌, ◌≢◌, ◌⊎◌, ◌∷◌, ◌++◌, ◌+◌, ◌-◌, ◌<◌, ◌≤◌, ℕ, pos, Bool, cond, drop, remove, List, [], All, AllPairs, Contains, Option, Some, None, length, map, slice_index_or, slice_set}
+use Rattle.std.specs.Prelude.{◌≡◌, ◌≢◌, ◌⊎◌, ◌∷◌, ◌++◌, ◌+◌, ◌-◌, ◌<◌, ◌≤◌, ⊤, ℕ, pos, Bool, cond, drop, remove, List, [], All, AllPairs, Contains, Option, Some, None, length, map, slice_index_or, slice_set}
 use Rattle.std.proofs.Common.{refl, sym, ap, subst, ◌∙◌, inl, inr, arith}
 use Rattle.std.proofs.lemmas.Bool.Decides.{Decides-int_eq, eqb_tells, leb_tells}
 use Rattle.std.proofs.lemmas.List.{get_or_default, get_or-set_other, get_or-set_same, length-set}
@@ -38,7 +38,7 @@ use Rattle.snmp_gate.proofs.GroupSteps.{group_at, groups_set}
 use Rattle.snmp_gate.specs.History.{AskedBy, Happening, IsAccepted, IsAnswerOf, IsCommunityFor, IsMediated, MayAskFor, OpenAsk, accepted, answered, asked, ends_in, given_up, number_of, open_ask, said_by, sent, told_in, unanswered, waiting_in}
 use Rattle.snmp_gate.specs.Lawful.{IsInTurn, IsNext, WasAsked}
 use Rattle.snmp_gate.specs.Question.{Question}
-use Rattle.snmp_gate.specs.Waiting.{AreNumbered, GroupStands, GroupsStand, OpenStands, RequestsStand, WorkStands}
+use Rattle.snmp_gate.specs.Waiting.{AllCameFrom, AreNumbered, GroupStands, GroupsStand, OpenStands, RequestsStand, WorkStands}
 use Rattle.snmp_gate.specs.Work.{EndingStands, SaysAll, TaskStands, end_of, variables_of_task}
 use Rattle.snmp_gate.specs.declared.devices.Device.{Device}
 use Rattle.snmp_gate.specs.declared.waiting_message.WaitingMessage.{WaitingMessage}
@@ -46,7 +46,7 @@ use Rattle.snmp_gate.specs.declared.work.OpenRequest.{OpenRequest}
 use Rattle.snmp_gate.specs.declared.work.Work.{Work}
 use Rattle.snmp_gate.specs.declared.work.Work.TheVariants.{Open, Ends}
 use Rattle.snmp_gate.proofs.Asked.{none_is_some}
-use Rattle.snmp_gate.proofs.Others.{ask_later, ask_other, chosen, open_other, same_number, told_other, wait_other, was_before, was_other}
+use Rattle.snmp_gate.proofs.Others.{ask_later, ask_other, chosen, contains_cons, open_other, same_number, told_other, wait_other, was_before, was_other}
 use Rattle.snmp_gate.proofs.More.{HasAll, task_more}
 use Rattle.snmp_gate.proofs.Pairs.{pairs_set}
 use Rattle.snmp_gate.proofs.Questions.{all_worked, numbered_left}
@@ -60,16 +60,25 @@ Waiting = Group WaitingMessage Work
 pub later : (e : Happening) (before : List Happening) (n : ℕ) (m : WaitingMessage) → IsAccepted before n m → IsAccepted (e ∷ before) n m
 later e before n m is = record { now = is.now; datagram = is.datagram; there = Contains-append_right (e ∷ []) before _ is.there }
 
+-- the request came by this moment
+abbrev pub CameBy : ℕ → Work → Type 0
+CameBy at (Open o) = o.timer.began ≤ at
+CameBy at (Ends e) = ⊤
+
+pub came_later : (e : Happening) (before : List Happening) (n began : ℕ) → ((at : ℕ) (v : List ℕ) (m : WaitingMessage) → e ≡ accepted n at v m → began ≤ at) → AllCameFrom before n began → AllCameFrom (e ∷ before) n began
+came_later e before n began now came at v m there = elim (contains_cons e before (accepted n at v m) there) [ inl is ↦ now at v m is | inr old ↦ came at v m old ]
+
 -- the same is known of the work, if as much was told and asked
 pub work_later : (tables : Tables) (devices : List Device) (e : Happening) (before : List Happening) (n : ℕ) (q : Question) (w : Work) → told_in n (e ∷ before) ≡ told_in n before → open_ask n (e ∷ before) ≡ open_ask n before
-    → (WasAsked (e ∷ before) n → WasAsked before n) → WorkStands tables devices before n q w → WorkStands tables devices (e ∷ before) n q w
-work_later tables devices e before n q (Open o) told ask was stands = record {
+    → (WasAsked (e ∷ before) n → WasAsked before n) → ((at : ℕ) (v : List ℕ) (m : WaitingMessage) → e ≡ accepted n at v m → CameBy at w) → WorkStands tables devices before n q w → WorkStands tables devices (e ∷ before) n q w
+work_later tables devices e before n q (Open o) told ask was came stands = record {
   task = subst (λ (vs : List Variable). TaskStands tables q vs o.task.task) (sym told) stands.task;
   device = stands.device;
   asked = λ id is. ask ∙ stands.asked id is;
   set_once = λ set none asked. stands.set_once set none (was asked);
+  came = came_later e before n o.timer.began came stands.came;
 }
-work_later tables devices e before n q (Ends x) told ask was stands = subst (λ (vs : List Variable). EndingStands tables q vs x) (sym told) stands
+work_later tables devices e before n q (Ends x) told ask was came stands = subst (λ (vs : List Variable). EndingStands tables q vs x) (sym told) stands
 
 -- the same is known of another request
 pub others_later : (tables : Tables) (devices : List Device) (e : Happening) (before : List Happening) (g : Waiting) → g.number ≢ number_of e → GroupStands tables devices before g → GroupStands tables devices (e ∷ before) g
@@ -79,7 +88,8 @@ others_later tables devices e before g other stands = record {
   are_accepted = All-weaker (IsAccepted before g.number) (IsAccepted (e ∷ before) g.number) (later e before g.number) g.messages stands.are_accepted;
   wait = wait_other e before g.number other ∙ stands.wait;
   one = ask_other e before g.number stands.question other stands.one;
-  work = work_later tables devices e before g.number stands.question g.work (told_other e before g.number other) (open_other e before g.number other) (was_other e before g.number other) stands.work;
+  work = work_later tables devices e before g.number stands.question g.work (told_other e before g.number other) (open_other e before g.number other) (was_other e before g.number other)
+      (λ at v m is. absurd (other (sym (ap number_of is)))) stands.work;
 }
 
 pub past_later : (e : Happening) (before : List Happening) (next : ℕ) → number_of e < next → All (λ (x : Happening). number_of x < next) before → All (λ (x : Happening). number_of x < next) (e ∷ before)
@@ -215,14 +225,16 @@ told_more n device p datagram before v there =
     subst (λ (b : Bool). Contains (cond b (said_by (open_ask n before) p ++ told_in n before) (told_in n before)) v) (sym (same_number n))
     (Contains-append_right (said_by (open_ask n before) p) (told_in n before) v there)
 
-after_stands : (tables : Tables) (devices : List Device) (before : List Happening) (n : ℕ) (q : Question) (o : OpenRequest) (w : Work) → IsDeviceOf devices q.context o.device → WorkAfter tables q (told_in n before) o w → WorkStands tables devices before n q w
-after_stands tables devices before n q o (Open new) device after = record {
+after_stands : (tables : Tables) (devices : List Device) (before : List Happening) (n : ℕ) (q : Question) (o : OpenRequest) (w : Work) → IsDeviceOf devices q.context o.device → AllCameFrom before n o.timer.began → WorkAfter tables q (told_in n before) o w
+    → WorkStands tables devices before n q w
+after_stands tables devices before n q o (Open new) device came after = record {
   task = after.0;
   device = subst (IsDeviceOf devices q.context) (sym after.1) device;
   asked = λ id is. absurd (let none : None ≡ Some id = sym after.2 ∙ is in cc);
   set_once = λ set none was. after.3 set;
+  came = subst (AllCameFrom before n) (sym after.4) came;
 }
-after_stands tables devices before n q o (Ends e) device after = after
+after_stands tables devices before n q o (Ends e) device came after = after
 
 pub group_in : (tables : Tables) (devices : List Device) (before : List Happening) (next : ℕ) (gs : List Waiting) (place : ℕ) (g : Waiting) → IsAt gs place g → GroupsStand tables devices before next gs → GroupStands tables devices before g
 group_in tables devices before next gs place g at stands = subst (GroupStands tables devices before) (sym at.group_is) (stands.all place g at.within)
@@ -255,7 +267,8 @@ answered_all tables devices before next rs place r w device id answer datagram c
       are_accepted = All-weaker (IsAccepted before n) (IsAccepted (now ∷ before) n) (later now before n) (group_of r).messages group.are_accepted;
       wait = group.wait;
       one = ask_later now before n q (λ at w m same. absurd (answered_not_accepted n device (pdu_of answer) datagram n at w m same)) group.one;
-      work = after_stands tables devices (now ∷ before) n q o w open_stands.device after_now;
+      work = after_stands tables devices (now ∷ before) n q o w open_stands.device
+          (came_later now before n o.timer.began (λ at v m same. absurd (answered_not_accepted n device (pdu_of answer) datagram n at v m same)) open_stands.came) after_now;
     } in (
       record {
         ask = record { device = o.device; id = id; variables = variables_of_task q o.task.task };
@@ -322,6 +335,8 @@ asked_all agent devices before next rs new place device number id datagram withi
           ap (λ (b : Bool). cond b (Some (record { device = device; id = id; variables = vs })) (open_ask r.number before)) (same_number r.number) in
           first ∙ (λ i. Some (record { device = sym (a.3 ∙ on) i; id = one i; variables = sym task i }));
       set_once = λ set none was. absurd (none_is_some id (sym none ∙ a.4));
+      came = came_later now before r.number a.0.timer.began (λ at w m same. absurd (asked_not_accepted r.number device id vs datagram.items r.number at w m same))
+          (subst (AllCameFrom before r.number) (sym a.5) open_stands.came);
     } in
     let h : WaitingRequest WaitingMessage Work = record { number = r.number; first = r.first; others = r.others; work = sets.work } in
     let h_stands : GroupStands tables devices (now ∷ before) (group_of h) = record {
@@ -414,7 +429,7 @@ fewer tables devices e before m g next rest takes were known = record {
       (All-tail (IsAccepted before g.number) m (next ∷ rest) (subst (All (IsAccepted before g.number)) were known.are_accepted));
   wait = takes.wait ∙ ap (λ (ms : List WaitingMessage). drop 1 ms) (known.wait ∙ were);
   one = ask_later e before g.number known.question (λ at v x is. absurd (takes.none g.number at v x is)) known.one;
-  work = work_later tables devices e before g.number known.question g.work takes.told takes.ask takes.was known.work;
+  work = work_later tables devices e before g.number known.question g.work takes.told takes.ask takes.was (λ at v x is. absurd (takes.none g.number at v x is)) known.work;
 }
 
 all_gone : (tables : Tables) (devices : List Device) (e : Happening) (before : List Happening) (next : ℕ) (gs new : List Waiting) (place : ℕ) (m : WaitingMessage) (g : Waiting) (others : List WaitingMessage) → TakesOne e before g.number

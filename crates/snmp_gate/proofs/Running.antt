@@ -7,7 +7,7 @@ use Rattle.vacm_core.specs.Tables.{Tables}
 use Rattle.snmp_incoming.specs.Outcome.{Outcome}
 use Rattle.snmp_agent.specs.Agent.{AgentState, taker_of}
 use Rattle.snmp_gate.specs.Bounds.{AreBounded, AsksBounded, IsBounded}
-use Rattle.snmp_gate.specs.Limits.{AlwaysKeepsTo, KeepsTo}
+use Rattle.snmp_gate.specs.Limits.{AlwaysKeepsTo, KeepsTo, WaitInTime}
 use Rattle.snmp_gate.specs.History.{Happening, IsMediated, MayAskFor, accepted, answered, asked, given_up, sent, told_in, unanswered, waiting_in}
 use Rattle.snmp_gate.specs.Lawful.{AreLawful, IsLawful}
 use Rattle.snmp_gate.specs.Replies.{IsAnswerTo, SameAgent}
@@ -24,7 +24,7 @@ use Rattle.snmp_gate.specs.declared.gate.Sent.{Sent}
 use Rattle.snmp_gate.specs.declared.gate.Sent.TheVariants as out
 use Rattle.snmp_gate.specs.declared.limits.GateLimits.{GateLimits}
 use Rattle.snmp_gate.specs.declared.waiting_message.WaitingMessage.{WaitingMessage}
-use Rattle.snmp_gate.proofs.AtOnce.{keeps_to}
+use Rattle.snmp_gate.proofs.AtOnce.{keeps_to, wait_in_time}
 use Rattle.snmp_gate.proofs.Bounded.{stays_on, stays_same}
 
 -- ---- the same law, by an agent that is the same but for its counters
@@ -162,7 +162,7 @@ run_stands first (device_comes now number w taken ∷ events) last stands run =
     device_stands first run.1.0 last now number w taken events known run.1.2.0 (run.1.2.1 (moment_of events) known.history run.0 known.stands)
 run_stands first (goes_out now salt what ∷ events) last stands run =
     let known = run_stands first events run.1.0 stands run.1.1 in
-    send_stands first run.1.0 last now salt what events known run.1.2.0 (run.1.2.1 (moment_of events) known.history run.0 known.stands)
+    send_stands first run.1.0 last now salt what events known run.1.2.0 (run.1.2.2 (moment_of events) known.history run.0 known.stands)
 run_stands first (finds_no_memory now ∷ events) last stands run =
     let known = run_stands first events run.1.0 stands run.1.1 in record {
       history = known.history;
@@ -179,6 +179,15 @@ run_keeps first (client_comes now from w taken ∷ events) last run = stays_on f
 run_keeps first (device_comes now number w taken ∷ events) last run = stays_on first run.1.0 last (run_keeps first events run.1.0 run.1.1) run.1.2.0
 run_keeps first (goes_out now salt what ∷ events) last run = stays_on first run.1.0 last (run_keeps first events run.1.0 run.1.1) run.1.2.0
 run_keeps first (finds_no_memory now ∷ events) last run = stays_on first run.1.0 last (run_keeps first events run.1.0 run.1.1) run.1.2
+
+-- after `next` returned nothing, no message waits for long
+pub run_in_time : (first last : Gate) (now : ℕ) (salt : List ℕ) (events : List Event) (stands : GateStands 0 [] first) (bounded : IsBounded first) (run : IsRun first (goes_out now salt out.Nothing ∷ events) last)
+    → WaitInTime first.limits now (run_stands first (goes_out now salt out.Nothing ∷ events) last stands run).history
+run_in_time first last now salt events stands bounded run =
+    let known = run_stands first (goes_out now salt out.Nothing ∷ events) last stands run in
+    let own = known.stays.bounded bounded in
+    subst (λ (l : GateLimits). WaitInTime l now known.history) known.stays.limits
+    (wait_in_time last.agent.tables last.limits now known.history last.devices.list.items last.requests known.stands.requests own.requests (run.1.2.1 refl))
 
 -- ---- each message is answered once at most
 

@@ -1,7 +1,7 @@
 -- What is to be done for a request.
-use Rattle.std.specs.Prelude.{◌≡◌, ◌<◌, ◌+◌, ◌≤◌, ℕ, List, All, None, Some, length, max, slice_index_or, slice_set}
+use Rattle.std.specs.Prelude.{◌≡◌, ◌<◌, ◌+◌, ◌≤◌, ℕ, List, Some, length, max, slice_index_or, slice_set}
 use Rattle.std.specs.List.{HoldsAt}
-use Rattle.std.proofs.Common.{refl, sym, ap, subst, ◌∙◌, arith}
+use Rattle.std.proofs.Common.{sym, ap, subst, ◌∙◌, arith}
 use Rattle.std.proofs.Math.Seq.{map-set_same}
 use Rattle.std.proofs.lemmas.List.{get_or-map, get_or-set_same, length-map, length-set}
 use Rattle.std.proofs.lemmas.List.Elements.{All-set}
@@ -16,7 +16,6 @@ use Rattle.snmp_gate.specs.declared.limits.GateLimits.{GateLimits}
 use Rattle.snmp_gate.specs.declared.named_task.NamedTask.{NamedTask}
 use Rattle.snmp_gate.specs.declared.requests.WaitingRequest.{WaitingRequest}
 use Rattle.snmp_gate.specs.declared.retries.Retries.{Retries}
-use Rattle.snmp_gate.specs.declared.timer.Due.TheVariants.{Nothing}
 use Rattle.snmp_gate.specs.declared.timer.Timer.{Timer}
 use Rattle.snmp_gate.specs.declared.timer.Turn.{Turn}
 use Rattle.snmp_gate.specs.declared.timer.Turn.TheVariants.{Asked, ToAsk}

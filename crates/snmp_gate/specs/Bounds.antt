@@ -43,6 +43,11 @@ abbrev pub IsFresh : Work → Type 0
 IsFresh (Open o) = (o.asked ≡ None) × (o.timer.turn ≡ ToAsk)
 IsFresh (Ends e) = ⊤
 
+-- it came now, and its device wasn't asked
+abbrev pub IsNew : ℕ → Work → Type 0
+IsNew now (Open o) = (o.asked ≡ None) × (o.timer.turn ≡ ToAsk) × (o.timer.began ≡ now)
+IsNew now (Ends e) = ⊤
+
 -- its device may be asked now
 abbrev pub MayBeAsked : GateLimits → ℕ → Work → Type 0
 MayBeAsked limits now (Open o) = (now < o.timer.began + (retries_in limits o.task.task).last)

@@ -2,12 +2,14 @@
 --
 -- `AtMost`: at most so many requests are of a kind. `IsAskedFor`: a device is asked for a request, and didn't answer.
 -- `KeepsTo`: the bounds of what waits, and of what a device is asked at once. `AlwaysKeepsTo`: each part of a history
--- keeps to them.
-use Rattle.std.specs.Prelude.{◌≡◌, ◌≢◌, ◌<◌, ◌≤◌, ⊤, ℕ, max, List, [], ◌∷◌, All, AllPairs, Some, length}
+-- keeps to them. `WaitInTime`: no message waits for long. Moments are milliseconds.
+use Rattle.std.specs.Prelude.{◌≡◌, ◌≢◌, ◌+◌, ◌*◌, ◌<◌, ◌≤◌, ⊤, ℕ, max, List, [], ◌∷◌, All}
+use Rattle.std.specs.Prelude.{AllPairs, Contains, Some, length}
 use Rattle.std.specs.List.{HoldsAt}
-use Rattle.snmp_gate.specs.History.{Happening, OpenAsk, open_ask, waiting_in}
+use Rattle.snmp_gate.specs.History.{Happening, OpenAsk, accepted, open_ask, waiting_in}
 use Rattle.snmp_gate.specs.declared.devices.Device.{Device}
 use Rattle.snmp_gate.specs.declared.limits.GateLimits.{GateLimits}
+use Rattle.snmp_gate.specs.declared.waiting_message.WaitingMessage.{WaitingMessage}
 
 -- of the numbers of requests at most so many are of the kind: there are no more in any list of different ones
 abbrev pub AtMost : ℕ → (ℕ → Type 0) → Type 0
@@ -28,3 +30,9 @@ pub record KeepsTo (limits : GateLimits) (devices : List Device) (before : List 
 abbrev pub AlwaysKeepsTo : GateLimits → List Device → List Happening → Type 0
 AlwaysKeepsTo limits devices [] = ⊤
 AlwaysKeepsTo limits devices (now ∷ before) = KeepsTo limits devices (now ∷ before) × AlwaysKeepsTo limits devices before
+
+-- each message that waits at this moment came less than `last`, and as long as all tries take, before
+abbrev pub WaitInTime : GateLimits → ℕ → List Happening → Type 0
+WaitInTime limits now before = (n at : ℕ) (datagram : List ℕ) (m : WaitingMessage)
+    → Contains before (accepted n at datagram m) → 0 < length (waiting_in n before)
+    → now < at + limits.retries.last + max 1 limits.retries.tries * limits.retries.again

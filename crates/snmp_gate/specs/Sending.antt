@@ -74,6 +74,7 @@ pub record SetsAsked (old : Requests) (place id : ℕ) (new : Requests) : Type 0
   pub work : Work
   pub asked : (o : OpenRequest) → request.work ≡ Open o
       → (a : OpenRequest) × (work ≡ Open a) × (a.task ≡ o.task) × (a.device ≡ o.device) × (a.asked ≡ Some id)
+      × (a.timer.began ≡ o.timer.began)
   pub new_is : new ≡ slice_set old place (record {
     number = request.number;
     first = request.first;

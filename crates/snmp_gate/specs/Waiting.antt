@@ -46,6 +46,11 @@ use Rattle.snmp_gate.specs.declared.work.Work.{Work}
 use Rattle.snmp_gate.specs.declared.work.Work.TheVariants as work
 use Rattle.snmp_gate.specs.declared.work.Work.TheVariants.{Open}
 
+-- each message that was accepted for the request of this number came at this moment or later
+abbrev pub AllCameFrom : List Happening → ℕ → ℕ → Type 0
+AllCameFrom before n began = (now : ℕ) (datagram : List ℕ) (m : WaitingMessage)
+    → Contains before (accepted n now datagram m) → began ≤ now
+
 -- the device is that of the context, its answers are those of this request, and it is asked what the task asks
 pub record OpenStands (tables : Tables) (devices : List Device) (before : List Happening) (n : ℕ) (q : Question)
     (o : OpenRequest) : Type 0 where
@@ -55,6 +60,7 @@ pub record OpenStands (tables : Tables) (devices : List Device) (before : List H
       ≡ Some (record { device = o.device; id = id; variables = variables_of_task q o.task.task })
   -- a Set that isn't asked now never was
   pub set_once : o.task.task ≡ Set → o.asked ≡ None → ¬ WasAsked before n
+  pub came : AllCameFrom before n o.timer.began
 
 abbrev pub WorkStands : Tables → List Device → List Happening → ℕ → Question → Work → Type 0
 WorkStands tables devices before n q (Open o) = OpenStands tables devices before n q o

@@ -1,4 +1,4 @@
-use Rattle.std.proofs.Common.{refl, ap, subst, sym}
+use Rattle.std.proofs.Common.{refl, ap, subst, sym, ◌∙◌}
 use Rattle.snmp_gate.specs.Bounds.{MayBeAsked}
 use Rattle.snmp_gate.specs.declared.requests.WaitingRequest.{WaitingRequest}
 use Rattle.snmp_gate.specs.declared.waiting_message.WaitingMessage.{WaitingMessage}
@@ -15,7 +15,7 @@ returns-in-Open-clause-asked c = record {
   work = _;
   asked = λ o is.
       let same = one_open c.index_mut-request.result.now.work c.in-Open.waiting o c.in-Open.is is in
-      (_, refl, ap (λ (x : OpenRequest). x.task) same, ap (λ (x : OpenRequest). x.device) same, refl);
+      (_, refl, ap (λ (x : OpenRequest). x.task) same, ap (λ (x : OpenRequest). x.device) same, refl, c.ask.ensures.began ∙ ap (λ (x : OpenRequest). x.timer.began) same);
   new_is = refl;
 }
 

@@ -22,7 +22,6 @@ use Rattle.snmp_gate.proofs.Questions.{at_place}
 use Rattle.snmp_gate.proofs.Sending.{on_ok}
 use Rattle.snmp_gate.proofs.Todos.{may_ask, open_asked, room_at, unasked, worked_ended, worked_messages}
 use Rattle.snmp_gate.specs.declared.asks.DeviceAsks.{DeviceAsks}
-use Rattle.snmp_gate.specs.declared.asks.TheConstants.{REQUEST_IDS}
 use Rattle.snmp_gate.specs.Asks.{IsNextFree, ask_of}
 use Rattle.snmp_gate.specs.Groups.{Group, IsWorked, group_of, groups_of}
 use Rattle.snmp_gate.specs.History.{Happening, asked}
