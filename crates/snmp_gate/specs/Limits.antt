@@ -29,7 +29,8 @@ pub record KeepsTo (limits : GateLimits) (devices : List Device) (before : List 
 
 abbrev pub AlwaysKeepsTo : GateLimits → List Device → List Happening → Type 0
 AlwaysKeepsTo limits devices [] = ⊤
-AlwaysKeepsTo limits devices (now ∷ before) = KeepsTo limits devices (now ∷ before) × AlwaysKeepsTo limits devices before
+AlwaysKeepsTo limits devices (now ∷ before) = KeepsTo limits devices (now ∷ before)
+    × AlwaysKeepsTo limits devices before
 
 -- each message that waits at this moment came less than `last`, and as long as all tries take, before
 abbrev pub WaitInTime : GateLimits → ℕ → List Happening → Type 0

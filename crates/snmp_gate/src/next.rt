@@ -44,8 +44,8 @@ fn retries_of(task: &Task, limits: &GateLimits) -> Retries
     }
 }
 
-/// Returns what is to be done now for a request whose device is to be asked, or to answer. `has_room`: more may be asked
-/// of its device at once.
+/// Returns what is to be done now for a request whose device is to be asked, or to answer. `has_room`: the device may
+/// be asked more at once.
 fn todo_open(open: &OpenRequest, has_room: bool, limits: &GateLimits, now: u64) -> Option<Todo>
     ensures { IsTodoOpen limits.now has_room now open.now result }
 {
@@ -355,8 +355,8 @@ impl Gate {
         Ok(datagram)
     }
 
-    /// Asks the device for the request at this place, with this request-id or the next free one. If it can't be asked by
-    /// a datagram that it takes, the request ends, and its first message is answered.
+    /// Asks the device for the request at this place, with this request-id or the next free one. If that takes a longer
+    /// datagram than the device does, the request ends, and its first message is answered.
     fn ask_at(
         &mut self,
         place: usize,
