@@ -8,6 +8,7 @@ use Rattle.snmp_gate.specs.Bounds.{IsNew}
 use Rattle.snmp_gate.specs.Groups.{IsJoined, begun, group_of, groups_of, with_messages}
 use Rattle.snmp_gate.specs.History.{Happening, IsAccepted, accepted, asked, number_of, told_in, waiting_in}
 use Rattle.snmp_gate.specs.Lawful.{IsInTurn, WasAsked}
+use Rattle.snmp_gate.specs.Limits.{asks_since}
 use Rattle.snmp_gate.specs.Messages.{question_in}
 use Rattle.snmp_gate.specs.Question.{Question}
 use Rattle.snmp_gate.specs.Sending.{Requests}
@@ -20,7 +21,7 @@ use Rattle.snmp_gate.specs.declared.work.Work.{Work}
 use Rattle.snmp_gate.specs.declared.work.Work.TheVariants.{Open, Ends}
 use Rattle.snmp_gate.proofs.GroupSteps.{group_at}
 use Rattle.snmp_gate.proofs.Histories.{CameBy, Waiting, all_set, below_next, group_in, later, numbered_set, numbers_back, others_later, past_later, work_later}
-use Rattle.snmp_gate.proofs.Others.{ask_later, chosen, contains_cons, none_happened, none_waits, wait_other, was_before}
+use Rattle.snmp_gate.proofs.Others.{ask_later, chosen, contains_cons, none_asked, none_happened, none_waits, wait_other, was_before}
 use Rattle.snmp_gate.proofs.Questions.{numbered_begun}
 use Rattle.std.proofs.lemmas.List.{get_or_default}
 use Rattle.snmp_gate.proofs.Asked.{none_is_some}
@@ -76,7 +77,7 @@ joined_all tables devices before next most rs place r m new at datagram within i
       wait = subst (λ (n : ℕ). waiting_in g.number (accepted n at datagram m ∷ before) ≡ g.messages ++ m ∷ []) number
           (chosen g.number (waiting_in g.number before ++ m ∷ []) (waiting_in g.number before) ∙ ap (λ (ms : List WaitingMessage). ms ++ m ∷ []) known.wait);
       one = ask_later now before g.number known.question (λ then w x is. subst P (same_message r.number at datagram m g.number then w x is) told) known.one;
-      work = work_later tables devices now before g.number known.question g.work refl refl (was_before now before g.number (λ d id vs w is. let wrong : accepted r.number at datagram m ≡ asked g.number d id vs w = is in cc))
+      work = work_later tables devices now before g.number known.question g.work refl refl refl (was_before now before g.number (λ d id vs w is. let wrong : accepted r.number at datagram m ≡ asked g.number d id vs w = is in cc))
           (λ then v x is. subst (λ (t : ℕ). CameBy t g.work) (same_moment r.number at datagram m g.number then v x is)
           (came_by tables devices before g.number known.question at g.work r.first
           (subst (λ (k : ℕ). IsAccepted before k r.first) (sym number) (All-head (IsAccepted before r.number) r.first r.others.items (subst (λ (x : Waiting). All (IsAccepted before x.number) x.messages) same known.are_accepted))) past known.work)) known.work;
@@ -106,15 +107,17 @@ pub request_asks : (tables : Tables) (devices : List Device) (before : List Happ
     → GroupsStand tables devices before next (groups_of rs) → GroupStands tables devices before (group_of r)
 request_asks tables devices before next rs place r within is stands = group_in tables devices before next (groups_of rs) place (group_of r) (group_at rs place r within is) stands
 
-begins_well : (tables : Tables) (devices : List Device) (before : List Happening) (n : ℕ) (q : Question) (w : Work) → ¬ WasAsked before n → ((at : ℕ) (v : List ℕ) (m : WaitingMessage) → Contains before (accepted n at v m) → CameBy at w) → BeginsWell tables devices q w → WorkStands tables devices before n q w
-begins_well tables devices before n q (Open o) never came well = record {
+begins_well : (tables : Tables) (devices : List Device) (before : List Happening) (n : ℕ) (q : Question) (w : Work) → ¬ WasAsked before n → ((at : ℕ) (v : List ℕ) (m : WaitingMessage) → Contains before (accepted n at v m) → CameBy at w) → asks_since n before ≡ 0 → BeginsWell tables devices q w → WorkStands tables devices before n q w
+begins_well tables devices before n q (Open o) never came since well = record {
   task = well.0 (told_in n before);
   device = well.1;
   asked = λ id is. absurd (none_is_some id (sym well.2 ∙ is));
   set_once = λ set none. never;
   came = came;
+  unasked = λ none. since;
+  tried = omega (arith, since);
 }
-begins_well tables devices before n q (Ends e) never came well = well (told_in n before)
+begins_well tables devices before n q (Ends e) never came since well = well (told_in n before)
 
 new_by : (at : ℕ) (w : Work) → IsNew at w → CameBy at w
 new_by at (Open o) is = omega (arith, is.2)
@@ -146,7 +149,7 @@ begun_all tables devices before next after gs new m q w at datagram asks well is
                 (λ then v x there. elim (contains_cons now before (accepted next then v x) there) [
                   | inl is ↦ subst (λ (t : ℕ). CameBy t w) (same_moment next at datagram m next then v x is) (new_by at w is_new)
                   | inr old ↦ absurd (none_happened before next (accepted next then v x) stands.past old refl)
-                ]) well;
+                ]) (none_asked before next stands.past) well;
           });
       numbered = record { rise = numbered.rise; less = numbered.below };
       past = past_later now before (suc next) (omega arith) (All-weaker (λ (e : Happening). number_of e < next) (λ (e : Happening). number_of e < suc next) (λ e lt. omega (arith, lt)) before stands.past);

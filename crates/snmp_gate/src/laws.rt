@@ -120,10 +120,11 @@ pub fn messages_end_in_turn()
 
 /// Whatever clients and devices send to a gateway that begins with nothing: it keeps to its limits. For each request
 /// its device is asked the same as often as it may be, and never `last` after it came or later (`bounded`). At any time
-/// of its history at most as many requests wait as may, and for each as many messages as may, or one; and no device is
-/// asked for more requests at once than it may be (`history`). A request for which nothing is due by time came less
-/// than `last` and once `again` before (`in_time`); a Set has `Retries::for_set`. So when `next` returns `Nothing`,
-/// each message that waits came less than `last`, and `again` for each of the tries, before (`ends`).
+/// of its history at most as many requests wait as may, and for each as many messages as may, or one; no device is
+/// asked for more requests at once than it may be; and none is asked for a request more often than it may be, or once,
+/// if it doesn't answer (`history`). A request for which nothing is due by time came less than `last` and once `again`
+/// before (`in_time`); a Set has `Retries::for_set`. So when `next` returns `Nothing`, each message that waits came
+/// less than `last`, and `again` for each of the tries, before (`ends`).
 pub fn a_gateway_keeps_to_its_limits()
     ensures bounded { (first last : Gate) (events : List Event) → IsBounded first → IsRun first events last
         → (last.limits ≡ first.limits) × (last.devices ≡ first.devices) × IsBounded last }

@@ -392,6 +392,13 @@ impl Gate {
         })
     }
 
+    /// Returns how often a device is asked the same at most, which is a number of 32 bits.
+    fn tries(&self) -> u32
+        ensures { result ≡ self.now.limits.retries.tries }
+    {
+        self.limits.retries.tries
+    }
+
     /// Asks the device the same again for the request at this place. A Set is never asked again: it is given up, and so
     /// is what can't be asked.
     fn ask_again_at(&mut self, place: usize, now: u64) -> Result<Sent, AllocError>
@@ -404,6 +411,8 @@ impl Gate {
         ensures stays { Stays self.old self.new }
         ensures err { OnErr result (IsAsBefore now self.old self.new) }
     {
+        // so that the prover knows how large it is
+        let _tries = self.tries();
         if is_set_at(&self.requests.list[place].work) {
             return Ok(self.give_up_at(place));
         }
