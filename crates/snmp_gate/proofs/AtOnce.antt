@@ -1,29 +1,38 @@
 -- How many requests and messages wait, and how much a device is asked at once.
-use Rattle.std.specs.Prelude.{◌≡◌, ◌≢◌, ◌⊎◌, ◌∷◌, ◌<◌, ◌≤◌, ℕ, max, zero, suc, List, [], All, AllPairs, Contains, Some, length, map, remove, slice_index_or}
+use Rattle.std.specs.Prelude.{◌≡◌, ◌≢◌, ◌⊎◌, ◌∷◌, ◌+◌, ◌*◌, ◌<◌, ◌≤◌, ℕ, max, suc, List, [], All, AllPairs, Contains, length, remove, slice_index_or}
 use Rattle.std.specs.List.{HoldsAt}
 use Rattle.std.proofs.Common.{refl, sym, ap, subst, ◌∙◌, inl, inr, arith, drop, take}
+use Rattle.std.proofs.Math.Nat.{mul_comm, mul-le-mul_right}
 use Rattle.std.proofs.Math.Seq.{split_at}
 use Rattle.std.proofs.lemmas.Bool.Decides.{eqb_tells, leb_tells}
-use Rattle.std.proofs.lemmas.List.{get_or_default, get_or-map, length-map}
+use Rattle.std.proofs.lemmas.List.{get_or-map, length-map}
 use Rattle.std.proofs.lemmas.List.Edits.{length-remove}
-use Rattle.std.proofs.lemmas.List.Elements.{All-cons, All-contains, All-contains_itself, All-get_or, All-head, All-nil, Contains-append_cases, Contains-append_left, Contains-append_right, Contains-push_cases}
+use Rattle.std.proofs.lemmas.List.Elements.{All-cons, All-contains, All-contains_itself, All-head, All-nil, Contains-append_cases, Contains-append_left, Contains-append_right, Contains-push_cases}
 use Rattle.snmp_gate.specs.Asks.{ask_of}
 use Rattle.vacm_core.specs.Tables.{Tables}
-use Rattle.snmp_gate.specs.Bounds.{AreBounded, AsksBounded, IsWithin, at_once_in, at_once_of}
-use Rattle.snmp_gate.specs.Groups.{groups_of}
+use Rattle.snmp_gate.specs.Bounds.{AreBounded, AsksBounded, IsTimely, at_once_in, at_once_of}
+use Rattle.snmp_gate.specs.Due.{AreIdle, IsIdle, retries_in}
+use Rattle.snmp_gate.specs.Groups.{group_of, groups_of}
 use Rattle.snmp_gate.specs.GroupRuns.{IsFew}
-use Rattle.snmp_gate.specs.History.{Happening, OpenAsk, open_ask, waiting_in}
-use Rattle.snmp_gate.specs.Limits.{AtMost, IsAskedFor, KeepsTo}
-use Rattle.snmp_gate.specs.Waiting.{AsksStand, GroupStands, GroupsStand, asks_in}
+use Rattle.snmp_gate.specs.History.{Happening, accepted, waiting_in}
+use Rattle.snmp_gate.specs.Limits.{AtMost, IsAskedFor, KeepsTo, WaitInTime}
+use Rattle.snmp_gate.specs.Question.{Question}
+use Rattle.snmp_gate.specs.Sending.{Requests}
+use Rattle.snmp_gate.specs.Waiting.{AsksStand, GroupStands, GroupsStand, WorkStands, asks_in}
 use Rattle.snmp_gate.specs.declared.asks.DeviceAsk.{DeviceAsk}
 use Rattle.snmp_gate.specs.declared.asks.DeviceAsks.{DeviceAsks}
 use Rattle.snmp_gate.specs.declared.devices.Device.{Device}
 use Rattle.snmp_gate.specs.declared.limits.GateLimits.{GateLimits}
+use Rattle.snmp_gate.specs.declared.requests.WaitingRequest.{WaitingRequest}
 use Rattle.snmp_gate.specs.declared.requests.WaitingRequests.{WaitingRequests}
+use Rattle.snmp_gate.specs.declared.task.Task.{Task}
+use Rattle.snmp_gate.specs.declared.task.Task.TheVariants as task
 use Rattle.snmp_gate.specs.declared.waiting_message.WaitingMessage.{WaitingMessage}
 use Rattle.snmp_gate.specs.declared.work.Work.{Work}
+use Rattle.snmp_gate.specs.declared.work.Work.TheVariants.{Open, Ends}
 use Rattle.snmp_gate.proofs.GivingUp.{pick}
 use Rattle.snmp_gate.proofs.Histories.{Waiting}
+use Rattle.snmp_gate.proofs.Todos.{idle_in_time}
 
 -- another one stays where one is taken out
 stays_out : {X : Type 0} (xs : List X) (place : ℕ) (d x : X) → place < length xs → x ≢ slice_index_or xs place d → Contains xs x → Contains (remove xs place) x
@@ -117,3 +126,45 @@ keeps_to tables limits before devices others requests asks stands asked bounded 
       ];
       asked = asks_keep_to before devices asks asked few;
     }
+
+-- what is idle, of all groups
+idle_groups : (limits : GateLimits) (now : ℕ) (rs : Requests) → AreIdle limits now rs → All (λ (g : Waiting). IsIdle limits now g.work) (groups_of rs)
+idle_groups limits now rs idle k d within =
+    let short : k < length rs = omega (arith, within, length-map rs (λ (r : WaitingRequest WaitingMessage Work). group_of r)) in
+    let one = pick rs k short in
+    subst (λ (g : Waiting). IsIdle limits now g.work) (sym (get_or-map (λ (r : WaitingRequest WaitingMessage Work). group_of r) rs k one.0 d short)) (idle k one.0 short)
+
+one_try : (tries : ℕ) → 1 ≤ max 1 tries
+one_try tries = omega arith
+
+all_tries : (tries : ℕ) → tries ≤ max 1 tries
+all_tries tries = omega arith
+
+-- how long a request waits at most
+longest : (limits : GateLimits) (t : Task) → (retries_in limits t).last + (retries_in limits t).again ≤ limits.retries.last + max 1 limits.retries.tries * limits.retries.again
+longest limits (task.Read o d) = let more = mul-le-mul_right limits.retries.again (one_try limits.retries.tries) in omega (arith, more)
+longest limits (task.Bulk by d) = let more = mul-le-mul_right limits.retries.again (one_try limits.retries.tries) in omega (arith, more)
+longest limits task.Set =
+    let more = mul-le-mul_right limits.retries.again (all_tries limits.retries.tries) in
+    let same : limits.retries.again * limits.retries.tries ≡ limits.retries.tries * limits.retries.again = mul_comm limits.retries.again limits.retries.tries in
+    omega (arith, more, same)
+
+work_in_time : (tables : Tables) (limits : GateLimits) (now : ℕ) (before : List Happening) (devices : List Device) (n : ℕ) (q : Question) (w : Work) (at : ℕ) (datagram : List ℕ) (m : WaitingMessage) → WorkStands tables devices before n q w
+    → IsIdle limits now w → IsTimely limits w → Contains before (accepted n at datagram m) → now < at + limits.retries.last + max 1 limits.retries.tries * limits.retries.again
+work_in_time tables limits now before devices n q (Open o) at datagram m stands idle timely there =
+    let from = stands.came at datagram m there in
+    let soon = idle_in_time (retries_in limits o.task.task) now o.timer timely.turn idle in
+    omega (arith, from, soon, longest limits o.task.task)
+work_in_time tables limits now before devices n q (Ends e) at datagram m stands idle timely there = absurd idle
+
+pub wait_in_time : (tables : Tables) (limits : GateLimits) (now : ℕ) (before : List Happening) (devices : List Device) (requests : WaitingRequests WaitingMessage Work) → GroupsStand tables devices before requests.next (groups_of requests.list.items)
+    → AreBounded limits requests → AreIdle limits now requests.list.items → WaitInTime limits now before
+wait_in_time tables limits now before devices requests stands bounded idle n at datagram m there waits =
+    let gs = groups_of requests.list.items in elim (find_group n gs) [
+      | inr none ↦ absurd (omega (arith, waits, none_long (waiting_in n before) (stands.gone n none)))
+      | inl found ↦
+          let known = All-contains (GroupStands tables devices before) gs found.0 stands.all found.1 in
+          let quiet = All-contains (λ (g : Waiting). IsIdle limits now g.work) gs found.0 (idle_groups limits now requests.list.items idle) found.1 in
+          let timely = All-contains (λ (g : Waiting). IsTimely limits g.work) gs found.0 bounded.timely found.1 in
+          work_in_time tables limits now before devices found.0.number known.question found.0.work at datagram m known.work quiet timely (subst (λ (k : ℕ). Contains before (accepted k at datagram m)) (sym found.2) there)
+    ]

@@ -1,5 +1,5 @@
 -- What a gateway keeps to, step by step.
-use Rattle.std.specs.Prelude.{◌≡◌, ◌∷◌, ◌++◌, ◌+◌, ◌<◌, ◌≤◌, ℕ, List, [], All, MatchOption, Option, None, Some, length, map, slice_index_or, slice_set}
+use Rattle.std.specs.Prelude.{◌≡◌, ◌∷◌, ◌++◌, ◌+◌, ◌<◌, ◌≤◌, ℕ, List, [], All, MatchOption, Option, None, Some, length, slice_index_or, slice_set}
 use Rattle.std.proofs.Common.{refl, sym, ap, subst, ◌∙◌, arith}
 use Rattle.std.specs.Global.{Vec}
 use Rattle.std.proofs.Math.Seq.{map-set_same}
@@ -9,13 +9,13 @@ use Rattle.std.proofs.lemmas.List.Elements.{All-get_or, All-push, All-set}
 use Rattle.snmp_agent.specs.Agent.{AgentState}
 use Rattle.snmp_gate.specs.Asks.{ask_of}
 use Rattle.snmp_gate.specs.Asks.{Ends as AskEnds, Waits as AskWaits}
-use Rattle.snmp_gate.specs.Bounds.{AreBounded, AreTimely, AsksBounded, IsBounded, IsFresh, IsTimely, IsTurnOf, IsWithin}
+use Rattle.snmp_gate.specs.Bounds.{AreBounded, AreTimely, AsksBounded, IsFresh, IsNew, IsTimely, IsTurnOf, IsWithin}
 use Rattle.snmp_gate.specs.Due.{retries_in}
-use Rattle.snmp_gate.specs.Groups.{Group, IsAnswered, IsJoined, IsWorked, begun, group_of, groups_of, with_messages, with_work}
+use Rattle.snmp_gate.specs.Groups.{Group, IsAnswered, IsJoined, IsWorked, begun, group_of, groups_of, with_work}
 use Rattle.snmp_gate.specs.GroupRuns.{IsFew}
 use Rattle.snmp_gate.specs.Replies.{SameAgent}
 use Rattle.snmp_gate.specs.Taking.{TaskSaysSame, WorkSaysSame}
-use Rattle.snmp_gate.specs.Waiting.{SameButAsks, SameButSets, Stays}
+use Rattle.snmp_gate.specs.Waiting.{SameButSets, Stays}
 use Rattle.snmp_gate.specs.declared.asks.DeviceAsk.{DeviceAsk}
 use Rattle.snmp_gate.specs.declared.asks.DeviceAsks.{DeviceAsks}
 use Rattle.snmp_gate.specs.declared.devices.Device.{Device}
@@ -31,7 +31,6 @@ use Rattle.snmp_gate.specs.declared.task.Task.TheVariants as task
 use Rattle.snmp_gate.specs.declared.timer.Timer.{Timer}
 use Rattle.snmp_gate.specs.declared.timer.Turn.{Turn}
 use Rattle.snmp_gate.specs.declared.waiting_message.WaitingMessage.{WaitingMessage}
-use Rattle.snmp_gate.specs.declared.work.OpenRequest.{OpenRequest}
 use Rattle.snmp_gate.specs.declared.work.Work.{Work}
 use Rattle.snmp_gate.specs.declared.work.Work.TheVariants.{Open, Ends}
 use Rattle.snmp_gate.proofs.GroupSteps.{group_at, groups_set}
@@ -48,6 +47,10 @@ fresh_timely limits (Open o) fresh = record {
   to_ask = λ none. fresh.1;
 }
 fresh_timely limits (Ends e) fresh = tt
+
+pub new_fresh : (now : ℕ) (w : Work) → IsNew now w → IsFresh w
+new_fresh now (Open o) is = (is.0, is.1)
+new_fresh now (Ends e) is = tt
 
 same_retries : (limits : GateLimits) (old new : Task) → TaskSaysSame old new → retries_in limits new ≡ retries_in limits old
 same_retries limits (task.Bulk by old) (task.Bulk other new) same = refl

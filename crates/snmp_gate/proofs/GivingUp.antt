@@ -97,6 +97,7 @@ gives_up old new since now before place number device asked was e later within o
         own_id = tt;
         once = tt;
       };
+      tried = tt;
       stands = record {
         requests = moved old.agent.tables new.agent.tables old.devices.list.items new.devices.list.items (now_up ∷ before) old.requests.next new.requests.next news news tables (ap (λ (d : Devices). d.list.items) devices) next refl
             (given_up_all old.agent.tables old.devices.list.items before old.requests.next gs news place number device was e (given_up_ends old.agent.tables e ends) worked (sym (ap (λ (g : Group WaitingMessage Work). g.number) same) ∙ known.number_is) stands.requests);

@@ -1,10 +1,10 @@
 -- What is known of the requests that wait, as more happens.
-use Rattle.std.specs.Prelude.{◌≡◌, ◌≢◌, ◌⊎◌, ◌∷◌, ◌++◌, ◌+◌, ◌-◌, ◌<◌, ◌≤◌, ℕ, pos, Bool, cond, drop, remove, List, [], All, AllPairs, Contains, Option, Some, None, length, map, slice_index_or, slice_set}
+use Rattle.std.specs.Prelude.{min, ◌≡◌, ◌≢◌, ◌⊎◌, ◌∷◌, ◌++◌, ◌+◌, ◌-◌, ◌^◌, ◌<◌, ◌≤◌, ⊤, ℕ, pos, Bool, cond, drop, remove, List, [], All, AllPairs, Contains, Option, Some, None, length, map, slice_index_or, slice_set}
 use Rattle.std.proofs.Common.{refl, sym, ap, subst, ◌∙◌, inl, inr, arith}
 use Rattle.std.proofs.lemmas.Bool.Decides.{Decides-int_eq, eqb_tells, leb_tells}
 use Rattle.std.proofs.lemmas.List.{get_or_default, get_or-set_other, get_or-set_same, length-set}
 use Rattle.std.proofs.lemmas.List.Edits.{get_or-remove_above, get_or-remove_below, length-remove}
-use Rattle.std.proofs.lemmas.List.Elements.{All-cons, All-contains_itself, All-head, All-tail, All-weaker, Contains-append_left, Contains-append_right, Contains-push}
+use Rattle.std.proofs.lemmas.List.Elements.{All-cons, All-contains_itself, All-head, All-tail, All-weaker, Contains-append_left, Contains-append_right, Contains-push, at_read}
 use Rattle.snmp_msg.specs.Pdu.{PduParts, pdu_of}
 use Rattle.snmp_msg.specs.Variables.{Variable, variables_of}
 use Rattle.snmp_msg.specs.declared.pdu.Pdu.{Pdu}
@@ -38,8 +38,10 @@ use Rattle.snmp_gate.specs.declared.requests.WaitingRequest.{WaitingRequest}
 use Rattle.snmp_gate.proofs.GroupSteps.{group_at, groups_set}
 use Rattle.snmp_gate.specs.History.{AskedBy, Happening, IsAccepted, IsAnswerOf, IsCommunityFor, IsMediated, MayAskFor, OpenAsk, accepted, answered, asked, ends_in, exchange_in, given_up, more_said, number_of, open_ask, said_by, sent, told_in, unanswered, waiting_in}
 use Rattle.snmp_gate.specs.Lawful.{IsInTurn, IsNext, WasAsked}
+use Rattle.snmp_gate.specs.Limits.{asks_since}
 use Rattle.snmp_gate.specs.Question.{Question}
-use Rattle.snmp_gate.specs.Waiting.{AreNumbered, GroupStands, GroupsStand, OpenStands, RequestsStand, WorkStands}
+use Rattle.snmp_gate.specs.Time.{times_asked}
+use Rattle.snmp_gate.specs.Waiting.{AllCameFrom, AreNumbered, GroupStands, GroupsStand, OpenStands, RequestsStand, WorkStands}
 use Rattle.snmp_gate.specs.Work.{EndingStands, SaysAll, TaskStands, end_of, variables_of_task}
 use Rattle.snmp_gate.specs.declared.devices.Device.{Device}
 use Rattle.snmp_gate.specs.declared.waiting_message.WaitingMessage.{WaitingMessage}
@@ -47,7 +49,7 @@ use Rattle.snmp_gate.specs.declared.work.OpenRequest.{OpenRequest}
 use Rattle.snmp_gate.specs.declared.work.Work.{Work}
 use Rattle.snmp_gate.specs.declared.work.Work.TheVariants.{Open, Ends}
 use Rattle.snmp_gate.proofs.Asked.{none_is_some}
-use Rattle.snmp_gate.proofs.Others.{ask_later, ask_other, chosen, open_other, same_number, told_other, wait_other, was_before, was_other}
+use Rattle.snmp_gate.proofs.Others.{ask_later, ask_other, chosen, contains_cons, open_other, same_number, since_other, told_other, wait_other, was_before, was_other}
 use Rattle.snmp_gate.proofs.More.{HasAll, task_more}
 use Rattle.snmp_gate.proofs.Pairs.{pairs_set}
 use Rattle.snmp_gate.proofs.Questions.{all_worked, numbered_left}
@@ -61,16 +63,27 @@ Waiting = Group WaitingMessage Work
 pub later : (e : Happening) (before : List Happening) (n : ℕ) (m : WaitingMessage) → IsAccepted before n m → IsAccepted (e ∷ before) n m
 later e before n m is = record { now = is.now; datagram = is.datagram; there = Contains-append_right (e ∷ []) before _ is.there }
 
+-- the request came by this moment
+abbrev pub CameBy : ℕ → Work → Type 0
+CameBy at (Open o) = o.timer.began ≤ at
+CameBy at (Ends e) = ⊤
+
+pub came_later : (e : Happening) (before : List Happening) (n began : ℕ) → ((at : ℕ) (v : List ℕ) (m : WaitingMessage) → e ≡ accepted n at v m → began ≤ at) → AllCameFrom before n began → AllCameFrom (e ∷ before) n began
+came_later e before n began now came at v m there = elim (contains_cons e before (accepted n at v m) there) [ inl is ↦ now at v m is | inr old ↦ came at v m old ]
+
 -- the same is known of the work, if as much was told and asked
 pub work_later : (tables : Tables) (devices : List Device) (e : Happening) (before : List Happening) (n : ℕ) (q : Question) (w : Work) → told_in n (e ∷ before) ≡ told_in n before → open_ask n (e ∷ before) ≡ open_ask n before
-    → (WasAsked (e ∷ before) n → WasAsked before n) → WorkStands tables devices before n q w → WorkStands tables devices (e ∷ before) n q w
-work_later tables devices e before n q (Open o) told ask was stands = record {
+    → asks_since n (e ∷ before) ≡ asks_since n before → (WasAsked (e ∷ before) n → WasAsked before n) → ((at : ℕ) (v : List ℕ) (m : WaitingMessage) → e ≡ accepted n at v m → CameBy at w) → WorkStands tables devices before n q w → WorkStands tables devices (e ∷ before) n q w
+work_later tables devices e before n q (Open o) told ask since was came stands = record {
   task = subst (λ (vs : Said). TaskStands tables q vs o.task.task) (sym told) stands.task;
   device = stands.device;
   asked = λ id is. ask ∙ stands.asked id is;
   set_once = λ set none asked. stands.set_once set none (was asked);
+  came = came_later e before n o.timer.began came stands.came;
+  unasked = λ none. since ∙ stands.unasked none;
+  tried = omega (arith, since, stands.tried);
 }
-work_later tables devices e before n q (Ends x) told ask was stands = subst (λ (vs : Said). EndingStands tables q vs x) (sym told) stands
+work_later tables devices e before n q (Ends x) told ask since was came stands = subst (λ (vs : Said). EndingStands tables q vs x) (sym told) stands
 
 -- the same is known of another request
 pub others_later : (tables : Tables) (devices : List Device) (e : Happening) (before : List Happening) (g : Waiting) → g.number ≢ number_of e → GroupStands tables devices before g → GroupStands tables devices (e ∷ before) g
@@ -80,7 +93,8 @@ others_later tables devices e before g other stands = record {
   are_accepted = All-weaker (IsAccepted before g.number) (IsAccepted (e ∷ before) g.number) (later e before g.number) g.messages stands.are_accepted;
   wait = wait_other e before g.number other ∙ stands.wait;
   one = ask_other e before g.number stands.question other stands.one;
-  work = work_later tables devices e before g.number stands.question g.work (told_other e before g.number other) (open_other e before g.number other) (was_other e before g.number other) stands.work;
+  work = work_later tables devices e before g.number stands.question g.work (told_other e before g.number other) (open_other e before g.number other) (since_other e before g.number other) (was_other e before g.number other)
+      (λ at v m is. absurd (other (sym (ap number_of is)))) stands.work;
 }
 
 pub past_later : (e : Happening) (before : List Happening) (next : ℕ) → number_of e < next → All (λ (x : Happening). number_of x < next) before → All (λ (x : Happening). number_of x < next) (e ∷ before)
@@ -223,14 +237,18 @@ told_more n device p datagram before =
           (Contains-append_right (exchange_in (open_ask n before) p) told.exchanges e there);
     }
 
-after_stands : (tables : Tables) (devices : List Device) (before : List Happening) (n : ℕ) (q : Question) (o : OpenRequest) (w : Work) → IsDeviceOf devices q.context o.device → WorkAfter tables q (told_in n before) o w → WorkStands tables devices before n q w
-after_stands tables devices before n q o (Open new) device after = record {
+after_stands : (tables : Tables) (devices : List Device) (before : List Happening) (n : ℕ) (q : Question) (o : OpenRequest) (w : Work) → IsDeviceOf devices q.context o.device → AllCameFrom before n o.timer.began → asks_since n before ≡ 0 → WorkAfter tables q (told_in n before) o w
+    → WorkStands tables devices before n q w
+after_stands tables devices before n q o (Open new) device came since after = record {
   task = after.0;
   device = subst (IsDeviceOf devices q.context) (sym after.1) device;
   asked = λ id is. absurd (let none : None ≡ Some id = sym after.2 ∙ is in cc);
   set_once = λ set none was. after.3 set;
+  came = subst (AllCameFrom before n) (sym after.4) came;
+  unasked = λ none. since;
+  tried = omega (arith, since);
 }
-after_stands tables devices before n q o (Ends e) device after = after
+after_stands tables devices before n q o (Ends e) device came since after = after
 
 pub group_in : (tables : Tables) (devices : List Device) (before : List Happening) (next : ℕ) (gs : List Waiting) (place : ℕ) (g : Waiting) → IsAt gs place g → GroupsStand tables devices before next gs → GroupStands tables devices before g
 group_in tables devices before next gs place g at stands = subst (GroupStands tables devices before) (sym at.group_is) (stands.all place g at.within)
@@ -263,7 +281,9 @@ answered_all tables devices before next rs place r w device id answer datagram c
       are_accepted = All-weaker (IsAccepted before n) (IsAccepted (now ∷ before) n) (later now before n) (group_of r).messages group.are_accepted;
       wait = group.wait;
       one = ask_later now before n q (λ at w m same. absurd (answered_not_accepted n device (pdu_of answer) datagram n at w m same)) group.one;
-      work = after_stands tables devices (now ∷ before) n q o w open_stands.device after_now;
+      work = after_stands tables devices (now ∷ before) n q o w open_stands.device
+          (came_later now before n o.timer.began (λ at v m same. absurd (answered_not_accepted n device (pdu_of answer) datagram n at v m same)) open_stands.came)
+          (chosen n 0 (asks_since n before)) after_now;
     } in (
       record {
         ask = record { device = o.device; id = id; variables = variables_of_task q o.task.task };
@@ -300,6 +320,27 @@ pub record AsksAll (agent : AgentState) (devices : List Device) (before : List H
   pub mediated : IsMediated agent devices before (asked number device id variables datagram)
   pub stands : GroupsStand agent.tables devices (asked number device id variables datagram ∷ before) next gs
 
+-- what is known of a request that may be asked
+pub record AskedSoFar (before : List Happening) (number place : ℕ) (rs : Requests) : Type 0 where
+  pub waits : OpenRequest
+  pub is_there : HoldsAt (λ (x : WaitingRequest WaitingMessage Work). x.work ≡ Open waits) rs place
+  pub unasked : waits.asked ≡ None → asks_since number before ≡ 0
+  pub tried : min (asks_since number before) (2 ^ 32 - 1) ≤ times_asked waits.timer.turn
+
+pub asked_so_far : (tables : Tables) (devices : List Device) (before : List Happening) (next : ℕ) (rs : Requests) (place device number : ℕ) (r : WaitingRequest WaitingMessage Work) → place < length rs → r ≡ slice_index_or rs place r
+    → IsOpenAt rs place device number → GroupsStand tables devices before next (groups_of rs) → AskedSoFar before number place rs
+asked_so_far tables devices before next rs place device number r within is opened stands =
+    let group = group_in tables devices before next (groups_of rs) place (group_of r) (group_at rs place r within is) stands in
+    let is_open = subst (λ (x : WaitingRequest WaitingMessage Work). (x.number ≡ number) × ((o : OpenRequest) × (x.work ≡ Open o) × (o.device ≡ device))) (sym is) (opened r) in
+    let o = is_open.1.0 in
+    let open_stands : OpenStands tables devices before r.number group.question o = subst (λ (x : Work). WorkStands tables devices before r.number group.question x) is_open.1.1 group.work in
+    subst (λ (n : ℕ). AskedSoFar before n place rs) is_open.0 (record {
+      waits = o;
+      is_there = at_read rs (λ (x : WaitingRequest WaitingMessage Work). x.work ≡ Open o) place r within is is_open.1.1;
+      unasked = open_stands.unasked;
+      tried = open_stands.tried;
+    })
+
 pub asked_all : (agent : AgentState) (devices : List Device) (before : List Happening) (next : ℕ) (rs new : Requests) (place device number id : ℕ) (datagram : Vec ℕ) → place < length rs → IsOpenAt rs place device number
     → MayAskAt agent.tables devices rs place device id datagram → SetsAsked rs place id new → GroupsStand agent.tables devices before next (groups_of rs) → AsksAll agent devices before next number device id datagram.items (groups_of new)
 unfolding asked_by
@@ -330,6 +371,12 @@ asked_all agent devices before next rs new place device number id datagram withi
           ap (λ (b : Bool). cond b (Some (record { device = device; id = id; variables = vs })) (open_ask r.number before)) (same_number r.number) in
           first ∙ (λ i. Some (record { device = sym (a.3 ∙ on) i; id = one i; variables = sym task i }));
       set_once = λ set none was. absurd (none_is_some id (sym none ∙ a.4));
+      came = came_later now before r.number a.0.timer.began (λ at w m same. absurd (asked_not_accepted r.number device id vs datagram.items r.number at w m same))
+          (subst (AllCameFrom before r.number) (sym a.5) open_stands.came);
+      unasked = λ none. absurd (none_is_some id (sym none ∙ a.4));
+      tried =
+          let one_more = chosen r.number (1 + asks_since r.number before) (asks_since r.number before) in
+          omega (arith, one_more, a.6, open_stands.tried);
     } in
     let h : WaitingRequest WaitingMessage Work = record { number = r.number; first = r.first; others = r.others; work = sets.work } in
     let h_stands : GroupStands tables devices (now ∷ before) (group_of h) = record {
@@ -410,6 +457,7 @@ pub record TakesOne (e : Happening) (before : List Happening) (n : ℕ) : Type 0
   pub wait : waiting_in n (e ∷ before) ≡ drop 1 (waiting_in n before)
   pub told : told_in n (e ∷ before) ≡ told_in n before
   pub ask : open_ask n (e ∷ before) ≡ open_ask n before
+  pub since : asks_since n (e ∷ before) ≡ asks_since n before
   pub was : WasAsked (e ∷ before) n → WasAsked before n
   pub none : (k at : ℕ) (v : List ℕ) (m : WaitingMessage) → e ≡ accepted k at v m → ⊥
 
@@ -422,7 +470,7 @@ fewer tables devices e before m g next rest takes were known = record {
       (All-tail (IsAccepted before g.number) m (next ∷ rest) (subst (All (IsAccepted before g.number)) were known.are_accepted));
   wait = takes.wait ∙ ap (λ (ms : List WaitingMessage). drop 1 ms) (known.wait ∙ were);
   one = ask_later e before g.number known.question (λ at v x is. absurd (takes.none g.number at v x is)) known.one;
-  work = work_later tables devices e before g.number known.question g.work takes.told takes.ask takes.was known.work;
+  work = work_later tables devices e before g.number known.question g.work takes.told takes.ask takes.since takes.was (λ at v x is. absurd (takes.none g.number at v x is)) known.work;
 }
 
 all_gone : (tables : Tables) (devices : List Device) (e : Happening) (before : List Happening) (next : ℕ) (gs new : List Waiting) (place : ℕ) (m : WaitingMessage) (g : Waiting) (others : List WaitingMessage) → TakesOne e before g.number
@@ -465,6 +513,7 @@ sent_takes n m by w before = record {
   wait = chosen n (drop 1 (waiting_in n before)) (waiting_in n before);
   told = refl;
   ask = refl;
+  since = refl;
   was = was_before (sent n m by w) before n (λ d id vs v is. let same : sent n m by w ≡ asked n d id vs v = is in cc);
   none = λ k at v x is. let same : sent n m by w ≡ accepted k at v x = is in cc;
 }
@@ -475,6 +524,7 @@ unanswered_takes n m before = record {
   wait = chosen n (drop 1 (waiting_in n before)) (waiting_in n before);
   told = refl;
   ask = refl;
+  since = refl;
   was = was_before (unanswered n m) before n (λ d id vs v is. let same : unanswered n m ≡ asked n d id vs v = is in cc);
   none = λ k at v x is. let same : unanswered n m ≡ accepted k at v x = is in cc;
 }

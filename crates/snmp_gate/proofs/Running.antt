@@ -7,7 +7,7 @@ use Rattle.vacm_core.specs.Tables.{Tables}
 use Rattle.snmp_incoming.specs.Outcome.{Outcome}
 use Rattle.snmp_agent.specs.Agent.{AgentState, taker_of}
 use Rattle.snmp_gate.specs.Bounds.{AreBounded, AsksBounded, IsBounded}
-use Rattle.snmp_gate.specs.Limits.{AlwaysKeepsTo, KeepsTo}
+use Rattle.snmp_gate.specs.Limits.{AlwaysKeepsTo, IsTriedFew, KeepsTo, WaitInTime}
 use Rattle.snmp_gate.specs.History.{Happening, IsMediated, MayAskFor, accepted, answered, asked, given_up, sent, told_in, unanswered, waiting_in}
 use Rattle.snmp_gate.specs.Lawful.{AreLawful, IsLawful}
 use Rattle.snmp_gate.specs.Replies.{IsAnswerTo, SameAgent}
@@ -24,7 +24,7 @@ use Rattle.snmp_gate.specs.declared.gate.Sent.{Sent}
 use Rattle.snmp_gate.specs.declared.gate.Sent.TheVariants as out
 use Rattle.snmp_gate.specs.declared.limits.GateLimits.{GateLimits}
 use Rattle.snmp_gate.specs.declared.waiting_message.WaitingMessage.{WaitingMessage}
-use Rattle.snmp_gate.proofs.AtOnce.{keeps_to}
+use Rattle.snmp_gate.proofs.AtOnce.{keeps_to, wait_in_time}
 use Rattle.snmp_gate.proofs.Bounded.{stays_on, stays_same}
 
 -- ---- the same law, by an agent that is the same but for its counters
@@ -69,6 +69,10 @@ keeps_more first last now history stays stands b =
     keeps_to last.agent.tables first.limits history first.devices.list.items last.devices.list.items last.requests last.asks.items stands.requests stands.asks
     (subst (λ (l : GateLimits). AreBounded l last.requests) stays.limits bounded.requests) (subst (λ (d : Devices). AsksBounded d.list.items last.asks.items) stays.devices bounded.asks)
 
+-- the limits are the same
+tried_few : (first middle : Gate) (before : List Happening) (e : Happening) → Stays first middle → IsTriedFew middle.limits before e → IsTriedFew first.limits before e
+tried_few first middle before e stays tried = subst (λ (l : GateLimits). IsTriedFew l before e) stays.limits tried
+
 -- a history with what happens now
 happened : (first middle last : Gate) (now : ℕ) (e : Happening) (history : List Happening) (events : List Event) (event : Event) → Stays first middle → IsHistoryOf first events history → Happens middle now history e last
     → to_devices (event ∷ events) ≡ asked_in (e ∷ history) → to_clients (event ∷ events) ≡ sent_in (e ∷ history) → IsHistoryOf first (event ∷ events) (e ∷ history)
@@ -85,14 +89,14 @@ client_stands first middle last now from w (client.Begins n) events known stays 
   is = happened first middle last now (accepted n now w happens.0) known.history events (client_comes now from w (client.Begins n)) known.stays known.is happens.2 known.is.devices known.is.clients;
   stands = happens.2.stands;
   stays = stays_on first middle last known.stays stays;
-  keeps = λ b. (keeps_more first last now (accepted n now w happens.0 ∷ known.history) (stays_on first middle last known.stays stays) happens.2.stands b, known.keeps b);
+  keeps = λ b. (keeps_more first last now (accepted n now w happens.0 ∷ known.history) (stays_on first middle last known.stays stays) happens.2.stands b, tried_few first middle known.history (accepted n now w happens.0) known.stays happens.2.tried, known.keeps b);
 }
 client_stands first middle last now from w (client.Joins n) events known stays happens = record {
   history = accepted n now w happens.0 ∷ known.history;
   is = happened first middle last now (accepted n now w happens.0) known.history events (client_comes now from w (client.Joins n)) known.stays known.is happens.2 known.is.devices known.is.clients;
   stands = happens.2.stands;
   stays = stays_on first middle last known.stays stays;
-  keeps = λ b. (keeps_more first last now (accepted n now w happens.0 ∷ known.history) (stays_on first middle last known.stays stays) happens.2.stands b, known.keeps b);
+  keeps = λ b. (keeps_more first last now (accepted n now w happens.0 ∷ known.history) (stays_on first middle last known.stays stays) happens.2.stands b, tried_few first middle known.history (accepted n now w happens.0) known.stays happens.2.tried, known.keeps b);
 }
 client_stands first middle last now from w (client.Refused why) events known stays happens = record { history = known.history; is = record { lawful = known.is.lawful; devices = known.is.devices; clients = known.is.clients }; stands = happens; stays = stays_on first middle last known.stays stays; keeps = known.keeps }
 client_stands first middle last now from w client.NoRoom events known stays happens = record { history = known.history; is = record { lawful = known.is.lawful; devices = known.is.devices; clients = known.is.clients }; stands = happens; stays = stays_on first middle last known.stays stays; keeps = known.keeps }
@@ -105,7 +109,7 @@ device_stands first middle last now number w (device.Answers n) events known sta
   is = happened first middle last now (answered n number happens.0 w) known.history events (device_comes now number w (device.Answers n)) known.stays known.is happens.1 known.is.devices known.is.clients;
   stands = happens.1.stands;
   stays = stays_on first middle last known.stays stays;
-  keeps = λ b. (keeps_more first last now (answered n number happens.0 w ∷ known.history) (stays_on first middle last known.stays stays) happens.1.stands b, known.keeps b);
+  keeps = λ b. (keeps_more first last now (answered n number happens.0 w ∷ known.history) (stays_on first middle last known.stays stays) happens.1.stands b, tried_few first middle known.history (answered n number happens.0 w) known.stays happens.1.tried, known.keeps b);
 }
 device_stands first middle last now number w device.Unreadable events known stays happens = record { history = known.history; is = record { lawful = known.is.lawful; devices = known.is.devices; clients = known.is.clients }; stands = happens; stays = stays_on first middle last known.stays stays; keeps = known.keeps }
 device_stands first middle last now number w device.NotWaitedFor events known stays happens = record { history = known.history; is = record { lawful = known.is.lawful; devices = known.is.devices; clients = known.is.clients }; stands = happens; stays = stays_on first middle last known.stays stays; keeps = known.keeps }
@@ -118,7 +122,7 @@ send_stands first middle last now salt (out.ToClient n to w) events known stays 
           (λ i. ((happens.1 i).items, w.items) ∷ known.is.clients i);
       stands = happens.2.stands;
       stays = stays_on first middle last known.stays stays;
-      keeps = λ b. (keeps_more first last now (e ∷ known.history) (stays_on first middle last known.stays stays) happens.2.stands b, known.keeps b);
+      keeps = λ b. (keeps_more first last now (e ∷ known.history) (stays_on first middle last known.stays stays) happens.2.stands b, tried_few first middle known.history e known.stays happens.2.tried, known.keeps b);
     }
 send_stands first middle last now salt (out.ToDevice n to w) events known stays happens =
     let e = asked n to happens.0 happens.1 w.items in record {
@@ -126,7 +130,7 @@ send_stands first middle last now salt (out.ToDevice n to w) events known stays 
       is = happened first middle last now e known.history events (goes_out now salt (out.ToDevice n to w)) known.stays known.is happens.2 (λ i. (to, w.items) ∷ known.is.devices i) known.is.clients;
       stands = happens.2.stands;
       stays = stays_on first middle last known.stays stays;
-      keeps = λ b. (keeps_more first last now (e ∷ known.history) (stays_on first middle last known.stays stays) happens.2.stands b, known.keeps b);
+      keeps = λ b. (keeps_more first last now (e ∷ known.history) (stays_on first middle last known.stays stays) happens.2.stands b, tried_few first middle known.history e known.stays happens.2.tried, known.keeps b);
     }
 send_stands first middle last now salt (out.Unanswered n why) events known stays happens =
     let e = unanswered n happens.0 in record {
@@ -134,7 +138,7 @@ send_stands first middle last now salt (out.Unanswered n why) events known stays
       is = happened first middle last now e known.history events (goes_out now salt (out.Unanswered n why)) known.stays known.is happens.1 known.is.devices known.is.clients;
       stands = happens.1.stands;
       stays = stays_on first middle last known.stays stays;
-      keeps = λ b. (keeps_more first last now (e ∷ known.history) (stays_on first middle last known.stays stays) happens.1.stands b, known.keeps b);
+      keeps = λ b. (keeps_more first last now (e ∷ known.history) (stays_on first middle last known.stays stays) happens.1.stands b, tried_few first middle known.history e known.stays happens.1.tried, known.keeps b);
     }
 send_stands first middle last now salt (out.GivenUp n to) events known stays happens =
     let e = given_up n to in record {
@@ -142,7 +146,7 @@ send_stands first middle last now salt (out.GivenUp n to) events known stays hap
       is = happened first middle last now e known.history events (goes_out now salt (out.GivenUp n to)) known.stays known.is happens known.is.devices known.is.clients;
       stands = happens.stands;
       stays = stays_on first middle last known.stays stays;
-      keeps = λ b. (keeps_more first last now (e ∷ known.history) (stays_on first middle last known.stays stays) happens.stands b, known.keeps b);
+      keeps = λ b. (keeps_more first last now (e ∷ known.history) (stays_on first middle last known.stays stays) happens.stands b, tried_few first middle known.history e known.stays happens.tried, known.keeps b);
     }
 send_stands first middle last now salt out.Nothing events known stays happens = record { history = known.history; is = record { lawful = known.is.lawful; devices = known.is.devices; clients = known.is.clients }; stands = happens; stays = stays_on first middle last known.stays stays; keeps = known.keeps }
 
@@ -162,7 +166,7 @@ run_stands first (device_comes now number w taken ∷ events) last stands run =
     device_stands first run.1.0 last now number w taken events known run.1.2.0 (run.1.2.1 (moment_of events) known.history run.0 known.stands)
 run_stands first (goes_out now salt what ∷ events) last stands run =
     let known = run_stands first events run.1.0 stands run.1.1 in
-    send_stands first run.1.0 last now salt what events known run.1.2.0 (run.1.2.1 (moment_of events) known.history run.0 known.stands)
+    send_stands first run.1.0 last now salt what events known run.1.2.0 (run.1.2.2 (moment_of events) known.history run.0 known.stands)
 run_stands first (finds_no_memory now ∷ events) last stands run =
     let known = run_stands first events run.1.0 stands run.1.1 in record {
       history = known.history;
@@ -179,6 +183,15 @@ run_keeps first (client_comes now from w taken ∷ events) last run = stays_on f
 run_keeps first (device_comes now number w taken ∷ events) last run = stays_on first run.1.0 last (run_keeps first events run.1.0 run.1.1) run.1.2.0
 run_keeps first (goes_out now salt what ∷ events) last run = stays_on first run.1.0 last (run_keeps first events run.1.0 run.1.1) run.1.2.0
 run_keeps first (finds_no_memory now ∷ events) last run = stays_on first run.1.0 last (run_keeps first events run.1.0 run.1.1) run.1.2
+
+-- after `next` returned nothing, no message waits for long
+pub run_in_time : (first last : Gate) (now : ℕ) (salt : List ℕ) (events : List Event) (stands : GateStands 0 [] first) (bounded : IsBounded first) (run : IsRun first (goes_out now salt out.Nothing ∷ events) last)
+    → WaitInTime first.limits now (run_stands first (goes_out now salt out.Nothing ∷ events) last stands run).history
+run_in_time first last now salt events stands bounded run =
+    let known = run_stands first (goes_out now salt out.Nothing ∷ events) last stands run in
+    let own = known.stays.bounded bounded in
+    subst (λ (l : GateLimits). WaitInTime l now known.history) known.stays.limits
+    (wait_in_time last.agent.tables last.limits now known.history last.devices.list.items last.requests known.stands.requests own.requests (run.1.2.1 refl))
 
 -- ---- each message is answered once at most
 

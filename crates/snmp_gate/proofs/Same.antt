@@ -1,5 +1,5 @@
 -- Requests that stay what they were, where memory runs out.
-use Rattle.std.specs.Prelude.{◌≡◌, ◌<◌, ◌∷◌, ◌++◌, ℕ, List, [], All, Some, length, map, slice_index_or, slice_set}
+use Rattle.std.specs.Prelude.{◌≤◌, ◌-◌, ◌^◌, min, ◌≡◌, ◌<◌, ◌∷◌, ◌++◌, ℕ, List, [], All, Some, length, map, slice_index_or, slice_set}
 use Rattle.std.proofs.Common.{refl, sym, ap, subst, ◌∙◌}
 use Rattle.std.proofs.Math.Seq.{map-set_same}
 use Rattle.snmp_msg.specs.Variables.{Variable}
@@ -23,7 +23,7 @@ use Rattle.snmp_gate.specs.Question.{Question}
 use Rattle.snmp_gate.specs.ReadAsks.{bulk_variables_asked, variables_in}
 use Rattle.snmp_gate.specs.Sending.{Requests}
 use Rattle.snmp_gate.specs.Taking.{BulkSaysSame, OpenSaysSame, TaskSaysSame, WorkSaysSame}
-use Rattle.snmp_gate.specs.Waiting.{GroupStands, GroupsStand, OpenStands, WorkStands, messages_in}
+use Rattle.snmp_gate.specs.Waiting.{AllCameFrom, GroupStands, GroupsStand, OpenStands, WorkStands, messages_in}
 use Rattle.snmp_gate.specs.Work.{BulkStandsFor, TaskStands, variables_of_task}
 use Rattle.snmp_gate.specs.declared.devices.Device.{Device}
 use Rattle.snmp_gate.specs.declared.requests.WaitingRequest.{WaitingRequest}
@@ -31,6 +31,9 @@ use Rattle.snmp_gate.specs.declared.task.Task.{Task}
 use Rattle.snmp_gate.specs.declared.task.Task.TheVariants as task
 use Rattle.snmp_gate.specs.declared.waiting_message.WaitingMessage.{WaitingMessage}
 use Rattle.snmp_gate.specs.declared.work.OpenRequest.{OpenRequest}
+use Rattle.snmp_gate.specs.Limits.{asks_since}
+use Rattle.snmp_gate.specs.Time.{times_asked}
+use Rattle.snmp_gate.specs.declared.timer.Timer.{Timer}
 use Rattle.snmp_gate.specs.declared.work.Work.{Work}
 use Rattle.snmp_gate.specs.declared.work.Work.TheVariants.{Open, Ends}
 use Rattle.snmp_gate.proofs.GroupSteps.{group_at, groups_set}
@@ -99,6 +102,9 @@ open_stands_same tables devices before n q old new same stands = record {
   device = subst (IsDeviceOf devices q.context) (sym same.device) stands.device;
   asked = λ id is. stands.asked id (sym same.asked ∙ is) ∙ (λ i. Some (record { device = sym same.device i; id = id; variables = sym (task_asks_same q old.task.task new.task.task same.task) i }));
   set_once = λ set none. stands.set_once (task_set_same old.task.task new.task.task same.task set) (sym same.asked ∙ none);
+  came = subst (λ (t : Timer). AllCameFrom before n t.began) (sym same.timer) stands.came;
+  unasked = λ none. stands.unasked (sym same.asked ∙ none);
+  tried = subst (λ (t : Timer). min (asks_since n before) (2 ^ 32 - 1) ≤ times_asked t.turn) (sym same.timer) stands.tried;
 }
 
 pub work_stands_same : (tables : Tables) (devices : List Device) (before : List Happening) (n : ℕ) (q : Question) (old new : Work) → WorkSaysSame old new → WorkStands tables devices before n q old → WorkStands tables devices before n q new

@@ -139,6 +139,7 @@ unanswered_happens old new since now before place salt r m said why later within
       m,
       record {
         lawful = record { mediated = ends.mediated; in_turn = ends.in_turn; own_id = tt; once = tt };
+        tried = tt;
         stands = record { requests = ends.requests; asks = rest.asks; sets = rest.sets };
       },
     )
@@ -158,6 +159,7 @@ reply_happens old new since now before place salt r m said client (reply.Sends d
       from,
       record {
         lawful = record { mediated = ends.mediated; in_turn = ends.in_turn; own_id = tt; once = tt };
+        tried = tt;
         stands = record { requests = ends.requests; asks = rest.asks; sets = rest.sets };
       },
     ) in

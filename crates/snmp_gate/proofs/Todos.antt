@@ -1,7 +1,7 @@
 -- What is to be done for a request.
-use Rattle.std.specs.Prelude.{◌≡◌, ◌<◌, ◌+◌, ◌≤◌, ℕ, List, All, None, Some, length, max, slice_index_or, slice_set}
+use Rattle.std.specs.Prelude.{◌≡◌, ◌<◌, ◌+◌, ◌≤◌, ℕ, List, None, Some, length, max, slice_index_or, slice_set}
 use Rattle.std.specs.List.{HoldsAt}
-use Rattle.std.proofs.Common.{refl, sym, ap, subst, ◌∙◌, arith}
+use Rattle.std.proofs.Common.{sym, ap, subst, ◌∙◌, arith}
 use Rattle.std.proofs.Math.Seq.{map-set_same}
 use Rattle.std.proofs.lemmas.List.{get_or-map, get_or-set_same, length-map, length-set}
 use Rattle.std.proofs.lemmas.List.Elements.{All-set}
@@ -16,7 +16,8 @@ use Rattle.snmp_gate.specs.declared.limits.GateLimits.{GateLimits}
 use Rattle.snmp_gate.specs.declared.named_task.NamedTask.{NamedTask}
 use Rattle.snmp_gate.specs.declared.requests.WaitingRequest.{WaitingRequest}
 use Rattle.snmp_gate.specs.declared.retries.Retries.{Retries}
-use Rattle.snmp_gate.specs.declared.timer.Due.TheVariants.{Nothing}
+use Rattle.snmp_gate.specs.declared.task.Task.{Task}
+use Rattle.snmp_gate.specs.declared.task.Task.TheVariants as task
 use Rattle.snmp_gate.specs.declared.timer.Timer.{Timer}
 use Rattle.snmp_gate.specs.declared.timer.Turn.{Turn}
 use Rattle.snmp_gate.specs.declared.timer.Turn.TheVariants.{Asked, ToAsk}
@@ -120,3 +121,18 @@ idle_turn r began now (Asked at times) is idle = omega (arith, idle, is.0)
 
 pub idle_in_time : (r : Retries) (now : ℕ) (t : Timer) → IsTurnOf r t.began t.turn → now < due_at r t → now < t.began + r.last + r.again
 idle_in_time r now t is idle = idle_turn r t.began now t.turn is idle
+
+few_tries : (limits : GateLimits) (t : Task) → (retries_in limits t).tries ≤ max 1 limits.retries.tries
+few_tries limits (task.Read o d) = omega arith
+few_tries limits (task.Bulk by d) = omega arith
+few_tries limits task.Set = omega arith
+
+module _ (limits : GateLimits) (asks : List DeviceAsks) (now : ℕ) (rs : Requests) (place : ℕ) where
+  pub asked_none : (o : OpenRequest) (r : WaitingRequest WaitingMessage Work) → HoldsAt (λ (x : WaitingRequest WaitingMessage Work). IsTodo limits asks now x.work (Some Ask)) rs place → (slice_index_or rs place r).work ≡ Open o → o.asked ≡ None
+  asked_none o r todo is = (subst (λ (x : Work). IsTodo limits asks now x (Some Ask)) is (todo r)).0
+
+  pub tried_less : (o : OpenRequest) (r : WaitingRequest WaitingMessage Work) → HoldsAt (λ (x : WaitingRequest WaitingMessage Work). IsTodo limits asks now x.work (Some AskAgain)) rs place → (slice_index_or rs place r).work ≡ Open o
+      → times_asked o.timer.turn < max 1 limits.retries.tries
+  tried_less o r todo is =
+      let due = subst (λ (x : Work). IsTodo limits asks now x (Some AskAgain)) is (todo r) in
+      omega (arith, due.1.tries, few_tries limits o.task.task)

@@ -1,8 +1,8 @@
 -- What a gateway keeps to, whatever comes.
 --
--- `IsTimely`: a request's device was asked as often, and as late, as it may be. `AreBounded`: there are as many requests
--- as may wait, and messages as may join one. `AsksBounded`: each device is asked as much as it may be at once.
--- `IsBounded`: all of that. Moments are milliseconds.
+-- `IsTimely`: a request's device was asked as often, and as late, as it may be. `AreBounded`: there are as many
+-- requests as may wait, and messages as may join one. `AsksBounded`: each device is asked as much as it may be at once.
+-- `IsBounded`: all of that. `IsFresh`, `IsNew`: a request whose device wasn't asked yet. Moments are milliseconds.
 use Rattle.std.specs.Prelude.{◌≡◌, ◌+◌, ◌<◌, ◌≤◌, ⊤, ℕ, max, List, All, None, length, map}
 use Rattle.snmp_gate.specs.Due.{retries_in}
 use Rattle.snmp_gate.specs.Groups.{Group, groups_of}
@@ -42,6 +42,11 @@ AreTimely limits groups = All (λ (g : Group WaitingMessage Work). IsTimely limi
 abbrev pub IsFresh : Work → Type 0
 IsFresh (Open o) = (o.asked ≡ None) × (o.timer.turn ≡ ToAsk)
 IsFresh (Ends e) = ⊤
+
+-- it came now, and its device wasn't asked
+abbrev pub IsNew : ℕ → Work → Type 0
+IsNew now (Open o) = (o.asked ≡ None) × (o.timer.turn ≡ ToAsk) × (o.timer.began ≡ now)
+IsNew now (Ends e) = ⊤
 
 -- its device may be asked now
 abbrev pub MayBeAsked : GateLimits → ℕ → Work → Type 0

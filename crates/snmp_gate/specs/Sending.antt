@@ -15,6 +15,7 @@ use Rattle.snmp_gate.specs.Messages.{question_in}
 use Rattle.snmp_gate.specs.Question.{Question}
 use Rattle.snmp_gate.specs.Replies.{IsReplyTo}
 use Rattle.snmp_gate.specs.Said.{Said}
+use Rattle.snmp_gate.specs.Time.{once_more, times_asked}
 use Rattle.snmp_gate.specs.Work.{EndingStands, TaskStands, variables_of_task}
 use Rattle.snmp_gate.specs.declared.gate.Sent.{Sent}
 use Rattle.snmp_gate.specs.declared.gate.Sent.TheVariants.{ToClient, Unanswered}
@@ -75,6 +76,8 @@ pub record SetsAsked (old : Requests) (place id : ℕ) (new : Requests) : Type 0
   pub work : Work
   pub asked : (o : OpenRequest) → request.work ≡ Open o
       → (a : OpenRequest) × (work ≡ Open a) × (a.task ≡ o.task) × (a.device ≡ o.device) × (a.asked ≡ Some id)
+      × (a.timer.began ≡ o.timer.began)
+      × (times_asked a.timer.turn ≡ once_more (times_asked o.timer.turn))
   pub new_is : new ≡ slice_set old place (record {
     number = request.number;
     first = request.first;

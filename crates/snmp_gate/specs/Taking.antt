@@ -33,7 +33,7 @@ WaitsFor device id (Ends e) = ⊥
 -- the request of the same device is to be asked more, or it ends
 abbrev pub WorkAfter : Tables → Question → Said → OpenRequest → Work → Type 0
 WorkAfter tables q told old (Open new) = TaskStands tables q told new.task.task × (new.device ≡ old.device)
-    × (new.asked ≡ None) × (new.task.task ≢ task.Set)
+    × (new.asked ≡ None) × (new.task.task ≢ task.Set) × (new.timer.began ≡ old.timer.began)
 WorkAfter tables q told old (Ends e) = EndingStands tables q told e
 
 -- the community by which a device is asked this

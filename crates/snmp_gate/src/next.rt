@@ -45,8 +45,8 @@ fn retries_of(task: &Task, limits: &GateLimits) -> Retries
     }
 }
 
-/// Returns what is to be done now for a request whose device is to be asked, or to answer. `has_room`: more may be asked
-/// of its device at once.
+/// Returns what is to be done now for a request whose device is to be asked, or to answer. `has_room`: the device may
+/// be asked more at once.
 fn todo_open(open: &OpenRequest, has_room: bool, limits: &GateLimits, now: u64) -> Option<Todo>
     ensures { IsTodoOpen limits.now has_room now open.now result }
 {
@@ -356,8 +356,8 @@ impl Gate {
         Ok(datagram)
     }
 
-    /// Asks the device for the request at this place, with this request-id or the next free one. If it can't be asked by
-    /// a datagram that it takes, the request ends, and its first message is answered.
+    /// Asks the device for the request at this place, with this request-id or the next free one. If that takes a longer
+    /// datagram than the device does, the request ends, and its first message is answered.
     fn ask_at(
         &mut self,
         place: usize,
@@ -393,6 +393,13 @@ impl Gate {
         })
     }
 
+    /// Returns how often a device is asked the same at most, which is a number of 32 bits.
+    fn tries(&self) -> u32
+        ensures { result ≡ self.now.limits.retries.tries }
+    {
+        self.limits.retries.tries
+    }
+
     /// Asks the device the same again for the request at this place. A Set is never asked again: it is given up, and so
     /// is what can't be asked.
     fn ask_again_at(&mut self, place: usize, now: u64) -> Result<Sent, AllocError>
@@ -405,6 +412,8 @@ impl Gate {
         ensures stays { Stays self.old self.new }
         ensures err { OnErr result (IsAsBefore now self.old self.new) }
     {
+        // so that the prover knows how large it is
+        let _tries = self.tries();
         if is_set_at(&self.requests.list[place].work) {
             return Ok(self.give_up_at(place));
         }

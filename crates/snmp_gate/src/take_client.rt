@@ -8,7 +8,7 @@ ghost use Rattle.snmp_incoming.specs.Answers.{given_of};
 ghost use Rattle.snmp_gate.specs.Question.{Question};
 ghost use Rattle.snmp_gate.specs.Messages.{question_given, question_in};
 ghost use Rattle.snmp_gate.specs.Beginning.{BeginsWell, IsDigestOf, IsNoRefusal, IsSet, IsUntaken, MaySetAll, TakenIn};
-ghost use Rattle.snmp_gate.specs.Bounds.{IsFresh};
+ghost use Rattle.snmp_gate.specs.Bounds.{IsNew};
 ghost use Rattle.snmp_gate.specs.Devices.{IsDeviceOf};
 ghost use Rattle.snmp_gate.specs.History.{Happening};
 ghost use Rattle.snmp_gate.specs.Noting.{AsksSet, IsNotedAgain, IsNotedFor, IsUnnoted};
@@ -70,7 +70,7 @@ fn work_of(device: usize, now: u64, onward: Onward) -> Work
     ensures begins { (tables : Tables) (devices : List DeviceIs) (q : Question)
         → ((told : Said) → OnwardStands tables q told onward) → IsDeviceOf devices q.context device
         → BeginsWell tables devices q result }
-    ensures fresh { IsFresh result }
+    ensures fresh { IsNew now result }
 {
     match onward {
         Onward::Asks(task) => Work::Open(OpenRequest {
@@ -346,7 +346,7 @@ impl Gate {
         ensures begins { IfOk result (λ begins. IfSome begins (λ work. (q : Question)
             → question_in message.now ≡ Some q
             → BeginsWell self.old.agent.tables self.old.devices.list.items q work)) }
-        ensures fresh { IfOk result (λ begins. IfSome begins IsFresh) }
+        ensures fresh { IfOk result (λ begins. IfSome begins (IsNew now)) }
         ensures same { SameButSets self.old self.new }
         ensures sets { KeepsSets now self.old.sets.sets.items self.new.sets.sets.items }
     {
@@ -366,7 +366,7 @@ impl Gate {
         ensures begins { IfOk result (λ begins. IfSome begins (λ work. (q : Question)
             → question_in message.now ≡ Some q
             → BeginsWell self.old.agent.tables self.old.devices.list.items q work)) }
-        ensures fresh { IfOk result (λ begins. IfSome begins IsFresh) }
+        ensures fresh { IfOk result (λ begins. IfSome begins (IsNew now)) }
         ensures same { SameButSets self.old self.new }
         ensures sets { KeepsSets now self.old.sets.sets.items self.new.sets.sets.items }
     {

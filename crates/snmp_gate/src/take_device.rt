@@ -129,6 +129,7 @@ fn take_open(
         → TaskStands tables.now q told waiting.old.task.task
         → TaskStands tables.now q told waiting.new.task.task × IsEndFor q taken) }
     ensures device { waiting.new.device ≡ waiting.old.device }
+    ensures timer { waiting.new.timer ≡ waiting.old.timer }
     ensures set { IfOk result (λ taken. waiting.old.task.task ≡ TaskIs.Set → EndsSet answer.now taken) }
     ensures err { OnErr result (OpenSaysSame waiting.old waiting.new) }
 {

@@ -1,7 +1,8 @@
-use Rattle.std.proofs.Common.{refl, ap, subst, sym}
+use Rattle.std.proofs.Common.{refl, ap, subst, sym, ◌∙◌}
 use Rattle.snmp_gate.specs.Bounds.{MayBeAsked}
 use Rattle.snmp_gate.specs.declared.requests.WaitingRequest.{WaitingRequest}
 use Rattle.snmp_gate.specs.declared.waiting_message.WaitingMessage.{WaitingMessage}
+use Rattle.snmp_gate.specs.Time.{once_more, times_asked}
 use Rattle.snmp_gate.specs.declared.work.OpenRequest.{OpenRequest}
 use Rattle.snmp_gate.specs.declared.work.Work.{Work}
 use Rattle.snmp_gate.proofs.Endings.{never_open, one_open}
@@ -14,8 +15,15 @@ returns-in-Open-clause-asked c = record {
   is = c.index_mut-request.ensures.value;
   work = _;
   asked = λ o is.
-      let same = one_open c.index_mut-request.result.now.work c.in-Open.waiting o c.in-Open.is is in
-      (_, refl, ap (λ (x : OpenRequest). x.task) same, ap (λ (x : OpenRequest). x.device) same, refl);
+      let same = one_open c.index_mut-request.result.now.work c.in-Open.waiting o c.in-Open.is is in (
+        _,
+        refl,
+        ap (λ (x : OpenRequest). x.task) same,
+        ap (λ (x : OpenRequest). x.device) same,
+        refl,
+        c.ask.ensures.began ∙ ap (λ (x : OpenRequest). x.timer.began) same,
+        ap times_asked c.ask.ensures.turn ∙ ap (λ (x : OpenRequest). once_more (times_asked x.timer.turn)) same,
+      );
   new_is = refl;
 }
 

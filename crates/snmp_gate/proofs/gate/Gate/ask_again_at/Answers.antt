@@ -2,7 +2,7 @@ use Rattle.std.proofs.Common.{◌∷◌, refl, slice_index_or, arith}
 use Rattle.snmp_gate.specs.Groups.{groups_of}
 use Rattle.snmp_gate.specs.History.{asked}
 use Rattle.snmp_gate.proofs.AsksKept.{asks_again, long_lists}
-use Rattle.snmp_gate.proofs.Histories.{asked_all, moved}
+use Rattle.snmp_gate.proofs.Histories.{asked_all, asked_so_far, moved}
 use Rattle.snmp_gate.proofs.Bounded.{agent_same, bounded_set, stays_requests, stays_same}
 use Rattle.snmp_gate.proofs.GroupSteps.{on_err}
 use Rattle.snmp_gate.proofs.Keeping.{stays_as_before}
@@ -13,7 +13,7 @@ use Rattle.snmp_gate.specs.declared.requests.WaitingRequest.{WaitingRequest}
 use Rattle.snmp_gate.specs.declared.waiting_message.WaitingMessage.{WaitingMessage}
 use Rattle.snmp_gate.specs.declared.work.Work.{Work}
 use Rattle.snmp_gate.proofs.SetsGoing.{asked_before, asked_once, asked_sets, no_set_never}
-use Rattle.snmp_gate.proofs.Todos.{may_again, open_again}
+use Rattle.snmp_gate.proofs.Todos.{may_again, tried_less, open_again}
 use Rattle.snmp_gate.proofs.gate.Gate.ask_again_at.Goals as goal
 
 pub returns-clause-happens : goal.returns-clause-happens
@@ -29,6 +29,8 @@ returns-clause-happens c since before salt later stands =
     let sets = c.set_asked.ensures.asked in
     let new = c.set_asked.new.requests.list.items in
     let may = rw c.in-Some-2.is at c.in_ok-datagram.ensures in
+    let known = asked_so_far g.agent.tables g.devices.list.items before g.requests.next rs place device n sets.request c.requires.place sets.is opened stands.requests in
+    let fewer = tried_less g.limits g.asks.items c.args.now rs place known.waits sets.request c.requires.due (known.is_there sets.request) in
     let all = asked_all g.agent g.devices.list.items before g.requests.next rs new place device n id datagram c.requires.place opened may sets stands.requests in
     let was = asked_before g.agent.tables g.devices.list.items before g.requests.next rs new place device n id datagram.items all.variables c.requires.place opened sets stands.requests id c.in-Some.ensures.1 in
     let again = asks_again before n device id id all.variables datagram.items _ (omega (arith, c.if-device-len.false, c.len.ensures, long_lists g.asks.items)) stands.asks was.0 was.1 in (
@@ -43,6 +45,7 @@ returns-clause-happens c since before salt later stands =
               (no_set_never g.agent.tables g.devices.list.items before g.requests.next rs new place device n id datagram.items all.variables c.requires.place opened sets stands.requests
               (at_read rs (λ (x : WaitingRequest WaitingMessage Work). ¬ AsksSet x.work) place c.index.result.now c.requires.place c.index.ensures (λ set. false≢true (c.if-is_set_at.ensures.1 set)))) stands.sets;
         };
+        tried = omega (arith, known.tried, fewer, c.tries-tries.type_inv, c.tries-tries.ensures);
         stands = record {
           requests = moved g.agent.tables g.agent.tables g.devices.list.items g.devices.list.items (asked n device id all.variables datagram.items ∷ before) g.requests.next c.set_asked.new.requests.next (groups_of new) (groups_of new)
               refl refl c.set_asked.ensures.next refl all.stands;

@@ -21,16 +21,15 @@ use Rattle.snmp_gate.specs.declared.work.Work.TheVariants.{Ends}
 use Rattle.snmp_gate.proofs.Bounded.{agent_same, asks_set, bounded_set, bounded_worked, stays_of, stays_on, stays_requests, stays_same}
 use Rattle.snmp_gate.proofs.Questions.{at_place}
 use Rattle.snmp_gate.proofs.Sending.{on_ok}
-use Rattle.snmp_gate.proofs.Todos.{may_ask, open_asked, room_at, unasked, worked_ended, worked_messages}
+use Rattle.snmp_gate.proofs.Todos.{asked_none, may_ask, open_asked, room_at, unasked, worked_ended, worked_messages}
 use Rattle.snmp_gate.specs.declared.asks.DeviceAsks.{DeviceAsks}
-use Rattle.snmp_gate.specs.declared.asks.TheConstants.{REQUEST_IDS}
 use Rattle.snmp_gate.specs.Asks.{IsNextFree, ask_of}
 use Rattle.snmp_gate.specs.Groups.{Group, IsWorked, group_of, groups_of}
 use Rattle.snmp_gate.specs.History.{Happening, asked}
 use Rattle.std.proofs.Math.Seq.{map-set_same}
 use Rattle.snmp_gate.proofs.GroupSteps.{group_at, on_err}
 use Rattle.snmp_gate.proofs.AsksKept.{asks_asked, asks_of_asked, free_again, free_own, is_free_in, long_lists}
-use Rattle.snmp_gate.proofs.Histories.{asked_all, ended_all, moved, too_long}
+use Rattle.snmp_gate.proofs.Histories.{asked_all, asked_so_far, ended_all, moved, too_long}
 use Rattle.snmp_gate.proofs.Keeping.{if_err, stands_kept, stays_as_before}
 use Rattle.snmp_gate.proofs.SetsGoing.{asked_once, asked_sets, ended_sets, unasked_never}
 use Rattle.snmp_gate.proofs.SetsKept.{keeps_same}
@@ -82,6 +81,8 @@ returns-clause-happens c since before later stands =
     let sets = c.set_asked.ensures.asked in
     let new = c.set_asked.new.requests.list.items in
     let may = rw c.in-Some.is at c.in_ok-datagram.ensures in
+    let known = asked_so_far g.agent.tables g.devices.list.items before g.requests.next rs place device n sets.request c.requires.place sets.is opened stands.requests in
+    let none = asked_none g.limits g.asks.items c.args.now rs place known.waits sets.request c.requires.due (known.is_there sets.request) in
     let all = asked_all g.agent g.devices.list.items before g.requests.next rs new place device n id datagram c.requires.place opened may sets stands.requests in
     let inside = (room_at g.limits g.asks.items c.args.now rs place device n c.requires.place c.requires.due opened).within in
     let lists = asks_in g.asks.items in
@@ -102,6 +103,7 @@ returns-clause-happens c since before later stands =
           once = asked_once g.agent.tables g.devices.list.items before g.requests.next rs new place device n id datagram.items all.variables c.requires.place opened sets stands.requests since g.sets.sets.items
               (unasked_never g.agent.tables g.devices.list.items before g.requests.next rs new place device n id datagram.items all.variables c.requires.place opened sets stands.requests (λ r. unasked g.limits g.asks.items c.args.now (slice_index_or rs place r).work (c.requires.due r))) stands.sets;
         };
+        tried = let none_asked = known.unasked none in omega (arith, none_asked);
         stands = record {
           requests = moved g.agent.tables g.agent.tables g.devices.list.items g.devices.list.items (asked n device id all.variables datagram.items ∷ before) g.requests.next c.set_asked.new.requests.next (groups_of new) (groups_of new)
               refl refl c.set_asked.ensures.next refl all.stands;
@@ -123,10 +125,10 @@ too_long_stands g requests place was e ends next worked since now before later s
 
 -- what happens is the same, where only requests changed before
 send_same : (g : Gate) (requests : WaitingRequests WaitingMessage Work) (now : ℕ) (before : List Happening) (salt : List ℕ) (what : Sent) (new : Gate) → SendHappens (record g { requests = requests }) now before salt what new → SendHappens g now before salt what new
-send_same g requests now before salt (out.ToClient n to w) new h = (h.0, h.1, record { lawful = h.2.lawful; stands = h.2.stands })
-send_same g requests now before salt (out.ToDevice n to w) new h = (h.0, h.1, record { lawful = h.2.lawful; stands = h.2.stands })
-send_same g requests now before salt (out.Unanswered n why) new h = (h.0, record { lawful = h.1.lawful; stands = h.1.stands })
-send_same g requests now before salt (out.GivenUp n to) new h = record { lawful = h.lawful; stands = h.stands }
+send_same g requests now before salt (out.ToClient n to w) new h = (h.0, h.1, record { lawful = h.2.lawful; tried = h.2.tried; stands = h.2.stands })
+send_same g requests now before salt (out.ToDevice n to w) new h = (h.0, h.1, record { lawful = h.2.lawful; tried = h.2.tried; stands = h.2.stands })
+send_same g requests now before salt (out.Unanswered n why) new h = (h.0, record { lawful = h.1.lawful; tried = h.1.tried; stands = h.1.stands })
+send_same g requests now before salt (out.GivenUp n to) new h = record { lawful = h.lawful; tried = h.tried; stands = h.stands }
 send_same g requests now before salt out.Nothing new h = h
 
 pub returns-in_default-clause-happens : goal.returns-in_default-clause-happens

@@ -20,7 +20,7 @@ use Rattle.snmp_gate.specs.Waiting.{AsksStand, GateStands, SetsStand, asks_in}
 use Rattle.snmp_gate.specs.declared.asks.DeviceAsks.{DeviceAsks}
 use Rattle.snmp_gate.proofs.AsksKept.{asks_same}
 use Rattle.snmp_gate.specs.declared.gate.Gate.{Gate}
-use Rattle.snmp_gate.proofs.Bounded.{agent_same, bounded_begun, stays_forgotten, stays_noted, stays_on, stays_requests, stays_same, stays_twice}
+use Rattle.snmp_gate.proofs.Bounded.{agent_same, bounded_begun, new_fresh, stays_forgotten, stays_noted, stays_on, stays_requests, stays_same, stays_twice}
 use Rattle.snmp_gate.proofs.Keeping.{as_before, keeps_again, same_before, stands_later, stands_noted, stays_as_before, unnoted}
 use Rattle.snmp_gate.proofs.SetsComing.{begun_sets, keeps_noted_for}
 use Rattle.snmp_gate.proofs.SetsKept.{keeps_kept}
@@ -58,7 +58,7 @@ returns-in-Ok-clause-takes c since before datagram later digest stands =
     (subst (λ (x : Devices). BeginsWell g.agent.tables x.list.items q w) (sym devices) well) in
     let next_one = c.in-Ok.ensures.next ∙ next_is n.requests.next (subst (λ (x : ℕ). x ≤ 2 ^ 64 - 1) (c.next_number.ensures ∙ sym same_next) fits) (λ is. c.if-next_number.false (c.next_number.ensures ∙ sym same_next ∙ is)) in
     let all = begun_all n.agent.tables n.devices.list.items before n.requests.next c.begin.new.self.next (groups_of n.requests.list.items) new m q w c.args.now datagram
-    c.requires.1 well_now c.in-Ok.ensures.ok next_one requests in
+    c.requires.1 well_now (rw c.in-Some.is at c.in_ok-work.ensures.fresh) c.in-Ok.ensures.ok next_one requests in
     let known = subst (λ (x : WaitingRequests WaitingMessage Work). SetsStand since before (groups_of x.list.items) g.sets.sets.items) (sym rs) stands.sets in
     let sets = begun_sets n.agent.tables n.devices.list.items before n.requests.next (groups_of n.requests.list.items) new m q w since c.args.now datagram g.sets.sets.items c.first_work.new.self.sets.sets.items n.sets.sets.items c.in_ok-noted.noted
     c.requires.1 well_now digest later c.in_default-noted.not-Before c.first_work.ensures.sets c.in_ok-noted.ensures.noted c.in-Ok.ensures.ok requests known in
@@ -158,7 +158,7 @@ returns-in-Ok-clause-stays c =
     stays_on g n new (stays_twice g c.first_work.new.self n c.first_work.ensures.same c.note_asked.ensures.same)
     (stays_requests n new (agent_same n.agent n.agent refl) refl refl refl (bounded_begun n.limits n.requests c.begin.new.self c.begin.ensures.most c.begin.ensures.most_messages n.requests.next c.args.message c.in-Some.work
     (subst (λ (rs : WaitingRequests WaitingMessage Work). length rs.list.items < rs.most) (sym (c.note_asked.ensures.same.requests ∙ c.first_work.ensures.same.requests))
-    (below (length g.requests.list.items) g.requests.most (λ le. false≢true (c.if-is_full.ensures.1 le)))) c.in-Ok.ensures.ok (rw c.in-Some.is at c.in_ok-work.ensures.fresh)))
+    (below (length g.requests.list.items) g.requests.most (λ le. false≢true (c.if-is_full.ensures.1 le)))) c.in-Ok.ensures.ok (new_fresh c.args.now c.in-Some.work (rw c.in-Some.is at c.in_ok-work.ensures.fresh))))
 
 pub returns-in-Err-clause-stays : goal.returns-in-Err-clause-stays
 returns-in-Err-clause-stays c =

@@ -1,4 +1,4 @@
-use Rattle.std.proofs.Common.{◌≡◌, refl, subst, sym}
+use Rattle.std.proofs.Common.{◌≡◌, refl}
 use Rattle.std.proofs.lemmas.List.Elements.{at_read}
 use Rattle.snmp_gate.specs.declared.requests.WaitingRequest.{WaitingRequest}
 use Rattle.snmp_gate.specs.declared.waiting_message.WaitingMessage.{WaitingMessage}

@@ -1,4 +1,4 @@
-use Rattle.std.proofs.Common.{ap, HoldsAt, refl, subst, sym, ◌∙◌}
+use Rattle.std.proofs.Common.{arith, ap, HoldsAt, refl, subst, sym}
 use Rattle.std.specs.Prelude.{List, ◌∷◌, ◌≡◌, ◌<◌, length}
 use Rattle.snmp_gate.specs.Groups.{groups_of}
 use Rattle.snmp_gate.specs.History.{accepted}
@@ -45,7 +45,7 @@ returns-in-Ok-Joined-clause-takes c since before datagram later digest stands =
     (ap (λ (x : WaitingRequests WaitingMessage Work). groups_of x.list.items) note.requests)
     stands.requests in
     let joins = rw c.in-Ok-Joined.field-0-is at c.in-Ok-Joined.ensures.joined in
-    let all = joined_all n.agent.tables n.devices.list.items before n.requests.next n.requests.most_messages rs place r m new c.args.now datagram within c.index.ensures asks joins requests in
+    let all = joined_all n.agent.tables n.devices.list.items before n.requests.next n.requests.most_messages rs place r m new c.args.now datagram within c.index.ensures asks joins (λ k then v x there. let by = stands.sets.past k then v x there in omega (arith, by, later)) requests in
     let known = subst (λ (x : WaitingRequests WaitingMessage Work). SetsStand since before (groups_of x.list.items) g.sets.sets.items) (sym note.requests) stands.sets in (
       joins_in_turn n.agent.tables n.devices.list.items before n.requests.next rs place r m c.args.now datagram within c.index.ensures asks requests,
       record {

@@ -42,6 +42,7 @@ returns-clause-happens c since before later stands =
       pdu_of c.in-Some.answer.pdu,
       record {
         lawful = record { mediated = both.0; in_turn = tt; own_id = tt; once = tt };
+        tried = tt;
         stands = record {
           requests = both.1;
           asks = answered_asks now before r.number c.args.device id g.asks.items c.index_mut.result.now c.end.new.self c.end.result
