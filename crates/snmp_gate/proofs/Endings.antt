@@ -1,7 +1,6 @@
 -- How a device's answer ends a request.
-use Rattle.std.specs.Prelude.{◌≡◌, List}
+use Rattle.std.specs.Prelude.{◌≡◌}
 use Rattle.std.proofs.Common.{ap, sym, ◌∙◌}
-use Rattle.snmp_msg.specs.Variables.{Variable}
 use Rattle.vacm_core.specs.Tables.{Tables}
 use Rattle.snmp_gate.specs.Said.{Said}
 use Rattle.snmp_gate.specs.Ends.{FailsOrGoesOn, IsEndFor}

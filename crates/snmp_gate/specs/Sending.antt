@@ -5,7 +5,6 @@
 -- asked.
 use Rattle.std.specs.Prelude.{◌≡◌, ⊤, ℕ, List, Some, None, slice_index_or, slice_set}
 use Rattle.std.specs.Global.{Vec}
-use Rattle.snmp_msg.specs.Variables.{Variable}
 use Rattle.snmp_agent.specs.Agent.{AgentState}
 use Rattle.snmp_incoming.specs.Outcome.{Given}
 use Rattle.std.specs.List.{HoldsAt}

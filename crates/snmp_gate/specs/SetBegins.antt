@@ -1,6 +1,5 @@
 -- How a Set begins.
-use Rattle.std.specs.Prelude.{⊤, List}
-use Rattle.snmp_msg.specs.Variables.{Variable}
+use Rattle.std.specs.Prelude.{⊤}
 use Rattle.vacm_core.specs.Tables.{Tables}
 use Rattle.snmp_gate.specs.Question.{Question}
 use Rattle.snmp_gate.specs.Said.{Said}

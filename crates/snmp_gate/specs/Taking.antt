@@ -6,7 +6,6 @@
 use Rattle.std.specs.Prelude.{◌≡◌, ◌≢◌, ◌<◌, ℕ, pos, List, Some, None, length}
 use Rattle.std.specs.Global.{Vec}
 use Rattle.std.specs.List.{HoldsAt}
-use Rattle.snmp_msg.specs.Variables.{Variable}
 use Rattle.snmp_msg.specs.declared.pdu.Pdu.{Pdu}
 use Rattle.vacm_core.specs.Tables.{Tables}
 use Rattle.snmp_walk.specs.BulkAnswered.{DialogueSaysSame}

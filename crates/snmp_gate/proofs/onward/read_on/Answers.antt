@@ -10,5 +10,5 @@ pub returns-in-Ends-clause-stands : goal.returns-in-Ends-clause-stands
 returns-in-Ends-clause-stands c tables q told viewer stands = (
   c.args.operation,
   read_stands tables q told c.args.viewer.now c.args.operation c.args.dialogue c.go_on.new.self viewer (c.go_on.ensures.stand told.variables)
-    (goes_tracking c.args.viewer.now c.args.operation told c.args.dialogue c.go_on.new.self c.go_on.ensures.go_on) c.go_on.ensures.requests stands,
+      (goes_tracking c.args.viewer.now c.args.operation told c.args.dialogue c.go_on.new.self c.go_on.ensures.go_on) c.go_on.ensures.requests stands,
 )

@@ -1,7 +1,6 @@
 use Rattle.std.proofs.Common.{arith, [], ◌++◌, ◌≡◌, ◌<◌, ◌≤◌, ◌∷◌, ◌∙◌, ℕ, List, Some, length, slice_index_or, ap, inl, refl, subst, sym}
 use Rattle.std.proofs.lemmas.List.{get_or_default, length_push}
 use Rattle.std.proofs.lemmas.List.Elements.{at_read}
-use Rattle.snmp_msg.specs.Variables.{Variable}
 use Rattle.snmp_gate.specs.Said.{Said}
 use Rattle.snmp_gate.specs.Bounds.{IsTimely, MayBeAsked}
 use Rattle.snmp_gate.specs.Due.{IsTodo}

@@ -1,5 +1,4 @@
 use Rattle.std.proofs.Common.{ap, List, ℕ, subst, ◌∙◌, sym}
-use Rattle.snmp_msg.specs.Variables.{Variable}
 use Rattle.snmp_message.specs.Scoped.{contexts_of}
 use Rattle.snmp_incoming.specs.Answers.{given_of}
 use Rattle.snmp_gate.specs.Said.{Said}
