@@ -455,14 +455,15 @@ class Gateway:
         return message.tag == SET and self.why_unhandled(message) is None
 
     def join(self, now, request, message):
-        if self.is_noted(message):
-            if message.datagram in self.sets:
-                return "set of before"
-            if len(self.sets) >= REMEMBERED_SETS:
-                return "no room"
-            self.sets[message.datagram] = now, None
+        is_noted = self.is_noted(message)
+        if is_noted and message.datagram in self.sets:
+            return "set of before"
+        if is_noted and len(self.sets) >= REMEMBERED_SETS:
+            return "no room"
         if len(request.messages) >= max(self.limits["joined"], 1):
             return "no room"
+        if is_noted:
+            self.sets[message.datagram] = now, None
         request.messages.append(message)
         return f"joins {request.number}"
 
@@ -571,10 +572,10 @@ class Gateway:
                 if now >= request.began + self.limits["last"]:
                     return self.give_up(request)
                 if len(self.ids[request.device]) < self.devices[request.device].at_once:
-                    return self.ask(now, request, ask_id)
+                    return self.ask(now, request, salt, ask_id)
             elif now >= request.at + wait:
                 if request.times < tries and now < request.began + self.limits["last"]:
-                    return self.ask(now, request, None)
+                    return self.ask(now, request, salt, None)
                 return self.give_up(request)
         return "nothing"
 
@@ -587,7 +588,7 @@ class Gateway:
         self.log.append(("given up", request))
         return f"given up {request.number} {request.device}"
 
-    def ask(self, now, request, ask_id):
+    def ask(self, now, request, salt, ask_id):
         message, ids = request.messages[0], self.ids[request.device]
         is_new = request.asked is None
         number = request.asked
@@ -599,7 +600,7 @@ class Gateway:
         datagram = community_message(self.community_of(request), pdu_of(tag, number, second, third, octets))
         if len(datagram) > self.devices[request.device].max_size:
             request.ends = Ends("own", TOO_BIG, 0)
-            return "nothing"
+            return self.answer(now, request, salt)
         if is_new:
             ids.append(number)
         request.asked, request.at, request.times = number, now, request.times + 1

@@ -15,7 +15,7 @@ use Rattle.gateway_laws.specs.Bulk.{AreFirstAnswers, IsFrontOfBulk, IsFrontOfRep
 use Rattle.gateway_laws.specs.Device.{IsDevice}
 use Rattle.gateway_laws.proofs.BulkReads.{AllBulkTrack}
 use Rattle.gateway_laws.proofs.BulkTracks.{AreNexts, BulkColumnTracks}
-use Rattle.gateway_laws.proofs.Tracks.{TracksWalk}
+use Rattle.gateway_laws.specs.Tracks.{TracksWalk}
 
 -- the names before a repetition, of each column
 abbrev names_before : ℕ → List BulkColumn → List (List ℕ)

@@ -16,7 +16,8 @@ use Rattle.snmp_walk.specs.declared.column.Progress.{Progress}
 use Rattle.snmp_walk.specs.declared.column.Progress.TheVariants.{Wanting, Asked, Given, Hidden, Ended}
 use Rattle.snmp_walk.specs.declared.bulk_column.BulkColumn.{BulkColumn}
 use Rattle.gateway_laws.specs.Device.{AllSeen, IsDevice}
-use Rattle.gateway_laws.proofs.Tracks.{HasNoneUpto, TracksWalk, ended_is_end, goes_on_tracks, hidden_goes_on, seen_is_next}
+use Rattle.gateway_laws.specs.Tracks.{HasNoneUpto, TracksWalk}
+use Rattle.gateway_laws.proofs.Tracks.{ended_is_end, goes_on_tracks, hidden_goes_on, seen_is_next}
 
 module _ (device : Known) (Seen : List ℕ → Type 0) where
   -- each is the next variable that is seen after the one before it

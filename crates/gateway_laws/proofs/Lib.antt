@@ -1,6 +1,6 @@
 mod Tracks
-mod Lists
-mod TrueRuns
+pub mod Lists
+pub mod TrueRuns
 mod Taken
 mod Alike
 mod BulkTracks

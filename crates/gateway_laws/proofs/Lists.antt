@@ -13,18 +13,16 @@ use Rattle.snmp_walk.specs.declared.column.Column.{Column}
 use Rattle.snmp_walk.specs.declared.column.Progress.{Progress}
 use Rattle.snmp_walk.proofs.Asked.{asks_none, asks_one, name_asked}
 use Rattle.gateway_laws.specs.Device.{AllSeen, AreAnswered, IsAnswered, IsDevice}
-use Rattle.gateway_laws.proofs.Tracks.{ColumnTracks, Tracks, begun_tracks, goes_on_tracks, shown_answers, takes_tracks}
+use Rattle.gateway_laws.specs.Tracks.{AllTrack, ColumnTracks, Tracks}
+use Rattle.gateway_laws.proofs.Tracks.{begun_tracks, goes_on_tracks, shown_answers, takes_tracks}
 
 module _ (device : Known) (Seen : List ℕ → Type 0) where
-  abbrev pub AllTrack : List Column → Type 0
-  AllTrack cs = All (ColumnTracks device Seen) cs
-
-  pub all_begin : (cs : List Column) → All (ColumnBegins Seen) cs → AllTrack cs
+  pub all_begin : (cs : List Column) → All (ColumnBegins Seen) cs → AllTrack device Seen cs
   all_begin [] all = All-nil (ColumnTracks device Seen)
   all_begin (c ∷ cs) all =
       All-cons (ColumnTracks device Seen) c cs (begun_tracks device Seen c.operation c.first c.progress (All-head (ColumnBegins Seen) c cs all)) (all_begin cs (All-tail (ColumnBegins Seen) c cs all))
 
-  pub all_shown : (cs : List Column) (bs : List Binding) → AllTrack cs → AllZip IsShown cs bs → AreAnswered device Seen (map request cs) (map variable_of bs)
+  pub all_shown : (cs : List Column) (bs : List Binding) → AllTrack device Seen cs → AllZip IsShown cs bs → AreAnswered device Seen (map request cs) (map variable_of bs)
   all_shown [] [] tracks shown = tt
   all_shown [] (b ∷ bs) tracks shown = absurd shown
   all_shown (c ∷ cs) [] tracks shown = absurd shown
@@ -34,7 +32,7 @@ module _ (device : Known) (Seen : List ℕ → Type 0) where
   )
 
   module _ (is : IsDevice device) where
-    pub all_go_on : (olds news : List Column) → AllGoOn Seen olds news → AllTrack olds → AllTrack news
+    pub all_go_on : (olds news : List Column) → AllGoOn Seen olds news → AllTrack device Seen olds → AllTrack device Seen news
     all_go_on [] [] all tracks = tracks
     all_go_on [] (new ∷ news) all tracks = absurd all
     all_go_on (old ∷ olds) [] all tracks = absurd all
@@ -52,8 +50,8 @@ module _ (device : Known) (Seen : List ℕ → Type 0) where
         → AreAnswered device AllSeen (asked_in o p ++ asks) (v ∷ vs) → IsAnswered device AllSeen o name v × AreAnswered device AllSeen asks vs
     answered_one o p name asks v vs is all = subst (λ (those : List (ReadOperation × List ℕ)). AreAnswered device AllSeen (those ++ asks) (v ∷ vs)) (asks_one o p name is) all
 
-    pub all_take : (olds : List Column) (vs : List Variable) (news : List Column) → AreAnswered device AllSeen (asks_of olds) vs → AllTake Seen olds vs news → AllTrack olds → AllTrack news
-    all_take [] vs news answered all tracks = subst AllTrack (sym all.1) tracks
+    pub all_take : (olds : List Column) (vs : List Variable) (news : List Column) → AreAnswered device AllSeen (asks_of olds) vs → AllTake Seen olds vs news → AllTrack device Seen olds → AllTrack device Seen news
+    all_take [] vs news answered all tracks = subst (AllTrack device Seen) (sym all.1) tracks
     all_take (old ∷ olds) vs [] answered all tracks = absurd all
     all_take (old ∷ olds) vs (new ∷ news) answered all tracks = elim all [
       | inl stays ↦ All-cons (ColumnTracks device Seen) new news (subst (ColumnTracks device Seen) (sym stays.1) (All-head (ColumnTracks device Seen) old olds tracks))

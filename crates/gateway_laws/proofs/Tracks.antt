@@ -1,5 +1,5 @@
 -- How far a column has come over the variables of a device.
-use Rattle.std.specs.Prelude.{◌≡◌, ℕ, List}
+use Rattle.std.specs.Prelude.{ℕ, List}
 use Rattle.std.proofs.Common.{sym, subst, ◌∙◌, inl, inr}
 use Rattle.snmp_msg.specs.Variables.{Variable}
 use Rattle.vacm_next.specs.Next.{IsBefore, IsUpto}
@@ -9,48 +9,18 @@ use Rattle.vacm_next.proofs.Walks.{passes}
 use Rattle.snmp_responder.specs.Instrumentation.{IsGot, Known}
 use Rattle.snmp_responder.specs.Next.{ComesNext, IsNext, NoneNext}
 use Rattle.snmp_responder.proofs.OneAnswer.{same_name}
-use Rattle.snmp_walk.specs.Bindings.{given_says}
 use Rattle.snmp_walk.specs.Column.{Asks, IsShownBy}
 use Rattle.snmp_walk.specs.Steps.{Begins, GoesOn, GoesOnFrom, Takes}
 use Rattle.snmp_walk.specs.declared.operation.ReadOperation.{ReadOperation}
 use Rattle.snmp_walk.specs.declared.operation.ReadOperation.TheVariants.{Get, GetNext}
-use Rattle.snmp_walk.specs.declared.column.Column.{Column}
 use Rattle.snmp_walk.specs.declared.column.Progress.{Progress}
 use Rattle.snmp_walk.specs.declared.column.Progress.TheVariants.{Wanting, Asked, Given, Hidden, Ended}
 use Rattle.snmp_walk.proofs.Places.{after_first}
 use Rattle.gateway_laws.specs.Device.{AllSeen, IsAnswered, IsDevice}
+use Rattle.gateway_laws.specs.Tracks.{HasNoneUpto, NoneUpto, Tracks}
 
 module _ (device : Known) (Seen : List ℕ → Type 0) where
-  -- of the variables that are seen after the first name, each is after the other name
-  abbrev pub NoneUpto : List ℕ → List ℕ → Type 0
-  NoneUpto first from = (v : Variable) → ComesNext device Seen first v → IsBefore from v.name
-
-  -- the other name is at or after the first one, and so is it
-  abbrev pub HasNoneUpto : List ℕ → List ℕ → Type 0
-  HasNoneUpto first from = IsUpto first from × NoneUpto first from
-
-  abbrev pub TracksWalk : List ℕ → Progress → Type 0
-  TracksWalk first (Wanting from) = HasNoneUpto first from
-  TracksWalk first (Asked ask) = HasNoneUpto first ask.from × HasNoneUpto first ask.name
-  TracksWalk first (Given g) = IsNext device Seen first (given_says g)
-  TracksWalk first Hidden = ⊥
-  TracksWalk first Ended = NoneNext device Seen first
-
-  abbrev pub TracksGet : List ℕ → Progress → Type 0
-  TracksGet first (Wanting from) = (from ≡ first) × Seen first
-  TracksGet first (Asked ask) = (ask.name ≡ first) × Seen first
-  TracksGet first (Given g) = IsGot device Seen first (given_says g)
-  TracksGet first Hidden = ¬ Seen first
-  TracksGet first Ended = ⊥
-
-  abbrev pub Tracks : ReadOperation → List ℕ → Progress → Type 0
-  Tracks Get first p = TracksGet first p
-  Tracks GetNext first p = TracksWalk first p
-
-  abbrev pub ColumnTracks : Column → Type 0
-  ColumnTracks c = Tracks c.operation c.first c.progress
-
-  pub begun_tracks : (o : ReadOperation) (first : List ℕ) (p : Progress) → Begins Seen o first p → Tracks o first p
+  pub begun_tracks : (o : ReadOperation) (first : List ℕ) (p : Progress) → Begins Seen o first p → Tracks device Seen o first p
   begun_tracks Get first (Wanting from) b = b
   begun_tracks Get first (Asked ask) b = absurd b
   begun_tracks Get first (Given g) b = absurd b
@@ -82,7 +52,7 @@ module _ (device : Known) (Seen : List ℕ → Type 0) where
   ))
 
   -- what the Response holds of a column
-  pub shown_answers : (o : ReadOperation) (first : List ℕ) (p : Progress) (v : Variable) → Tracks o first p → IsShownBy first p v → IsAnswered device Seen o first v
+  pub shown_answers : (o : ReadOperation) (first : List ℕ) (p : Progress) (v : Variable) → Tracks device Seen o first p → IsShownBy first p v → IsAnswered device Seen o first v
   shown_answers Get first (Wanting from) v t shown = absurd shown
   shown_answers Get first (Asked ask) v t shown = absurd shown
   shown_answers Get first (Given g) v t shown = subst (IsGot device Seen first) (sym shown) t
@@ -95,7 +65,7 @@ module _ (device : Known) (Seen : List ℕ → Type 0) where
   shown_answers GetNext first Ended v t shown = inr (t, shown)
 
   module _ (is : IsDevice device) where
-    went_on : (o : ReadOperation) (first from : List ℕ) (p : Progress) → GoesOnFrom Seen o from p → Tracks o first (Wanting from) → Tracks o first p
+    went_on : (o : ReadOperation) (first from : List ℕ) (p : Progress) → GoesOnFrom Seen o from p → Tracks device Seen o first (Wanting from) → Tracks device Seen o first p
     went_on Get first from (Wanting name) g t = absurd g
     went_on Get first from (Asked ask) g t = (g.1 ∙ t.0, t.1)
     went_on Get first from (Given given) g t = absurd g
@@ -104,7 +74,7 @@ module _ (device : Known) (Seen : List ℕ → Type 0) where
     went_on GetNext first from (Wanting name) g t = absurd g
     went_on GetNext first from (Asked ask) g t =
         let passed = passes Seen from ask.name g.1 in (
-          subst (HasNoneUpto first) (sym g.0) t,
+          subst (HasNoneUpto device Seen first) (sym g.0) t,
           (
             upto_trans first from ask.name t.0 passed.upto,
             λ v comes. elim (before_or_from ask.name v.name) [
@@ -117,22 +87,22 @@ module _ (device : Known) (Seen : List ℕ → Type 0) where
     went_on GetNext first from Hidden g t = absurd g
     went_on GetNext first from Ended g t = λ v comes. g v.name (is.arcs v comes.there, is.spelled v comes.there, t.1 v comes, comes.seen)
 
-    pub goes_on_tracks : (o : ReadOperation) (first : List ℕ) (old new : Progress) → GoesOn Seen o old new → Tracks o first old → Tracks o first new
+    pub goes_on_tracks : (o : ReadOperation) (first : List ℕ) (old new : Progress) → GoesOn Seen o old new → Tracks device Seen o first old → Tracks device Seen o first new
     goes_on_tracks o first (Wanting from) new g t = went_on o first from new g t
-    goes_on_tracks o first (Asked ask) new g t = subst (Tracks o first) (sym g) t
-    goes_on_tracks o first (Given given) new g t = subst (Tracks o first) (sym g) t
-    goes_on_tracks o first Hidden new g t = subst (Tracks o first) (sym g) t
-    goes_on_tracks o first Ended new g t = subst (Tracks o first) (sym g) t
+    goes_on_tracks o first (Asked ask) new g t = subst (Tracks device Seen o first) (sym g) t
+    goes_on_tracks o first (Given given) new g t = subst (Tracks device Seen o first) (sym g) t
+    goes_on_tracks o first Hidden new g t = subst (Tracks device Seen o first) (sym g) t
+    goes_on_tracks o first Ended new g t = subst (Tracks device Seen o first) (sym g) t
 
     -- no variable that is seen after the first name is before the next one that the device has after the name asked
-    least_seen : (first asked : List ℕ) (v : Variable) → NoneUpto first asked → IsNext device AllSeen asked v → (w : Variable) → ComesNext device Seen first w → IsUpto v.name w.name
+    least_seen : (first asked : List ℕ) (v : Variable) → NoneUpto device Seen first asked → IsNext device AllSeen asked v → (w : Variable) → ComesNext device Seen first w → IsUpto v.name w.name
     least_seen first asked v none next w comes = next.least w (record { there = comes.there; seen = tt; behind = none w comes })
 
     pub behind_first : (first asked : List ℕ) (v : Variable) → IsUpto first asked → IsNext device AllSeen asked v → IsBefore first v.name
     behind_first first asked v upto next = after_first first first asked v.name (upto_itself first) upto next.comes.behind
 
-    pub hidden_goes_on : (first asked : List ℕ) (v : Variable) → HasNoneUpto first asked → IsNext device AllSeen asked v → ¬ Seen v.name
-        → HasNoneUpto first v.name
+    pub hidden_goes_on : (first asked : List ℕ) (v : Variable) → HasNoneUpto device Seen first asked → IsNext device AllSeen asked v → ¬ Seen v.name
+        → HasNoneUpto device Seen first v.name
     hidden_goes_on first asked v t next hidden = (
       before_is_upto first v.name (behind_first first asked v t.0 next),
       λ w comes. elim (before_or_from v.name w.name) [
@@ -141,24 +111,24 @@ module _ (device : Known) (Seen : List ℕ → Type 0) where
       ],
     )
 
-    pub seen_is_next : (first asked : List ℕ) (v : Variable) → HasNoneUpto first asked → IsNext device AllSeen asked v → Seen v.name → IsNext device Seen first v
+    pub seen_is_next : (first asked : List ℕ) (v : Variable) → HasNoneUpto device Seen first asked → IsNext device AllSeen asked v → Seen v.name → IsNext device Seen first v
     seen_is_next first asked v t next seen = record {
       comes = record { there = next.comes.there; seen = seen; behind = behind_first first asked v t.0 next };
       least = least_seen first asked v t.1 next;
     }
 
-    pub ended_is_end : (first asked : List ℕ) → HasNoneUpto first asked → NoneNext device AllSeen asked → NoneNext device Seen first
+    pub ended_is_end : (first asked : List ℕ) → HasNoneUpto device Seen first asked → NoneNext device AllSeen asked → NoneNext device Seen first
     ended_is_end first asked t none w comes = none w (record { there = comes.there; seen = tt; behind = t.1 w comes })
 
     took : (o : ReadOperation) (first from asked : List ℕ) (v : Variable) (p : Progress) → IsAnswered device AllSeen o asked v → Takes Seen o v p
-        → Tracks o first (Asked (record { from = from; name = asked })) → Tracks o first p
+        → Tracks device Seen o first (Asked (record { from = from; name = asked })) → Tracks device Seen o first p
     took Get first from asked v (Wanting name) answer t old = absurd t
     took Get first from asked v (Asked ask) answer t old = absurd t
     took Get first from asked v (Given g) answer t old = subst (IsGot device Seen first) (sym t) (restricted first v old.1 (subst (λ (name : List ℕ). IsGot device AllSeen name v) old.0 answer))
     took Get first from asked v Hidden answer t old = absurd t
     took Get first from asked v Ended answer t old = absurd t
     took GetNext first from asked v (Wanting name) answer t old = elim answer [
-      | inl next ↦ subst (HasNoneUpto first) (sym t.2) (hidden_goes_on first asked v old.1 next t.1)
+      | inl next ↦ subst (HasNoneUpto device Seen first) (sym t.2) (hidden_goes_on first asked v old.1 next t.1)
       | inr none ↦ absurd (t.0 none.1.syntax_is)
     ]
     took GetNext first from asked v (Asked ask) answer t old = absurd t
@@ -174,7 +144,7 @@ module _ (device : Known) (Seen : List ℕ → Type 0) where
 
     -- a column of which the device was asked this name
     pub takes_tracks : (o : ReadOperation) (first asked : List ℕ) (v : Variable) (old new : Progress) → Asks old asked → IsAnswered device AllSeen o asked v → Takes Seen o v new
-        → Tracks o first old → Tracks o first new
+        → Tracks device Seen o first old → Tracks device Seen o first new
     takes_tracks o first asked v (Wanting from) new asks answer t tracks = absurd asks
     takes_tracks o first asked v (Asked ask) new asks answer t tracks =
         took o first ask.from ask.name v new (subst (λ (name : List ℕ). IsAnswered device AllSeen o name v) (sym asks) answer) t tracks

@@ -18,7 +18,8 @@ use Rattle.snmp_walk.specs.declared.dialogue.Dialogue.{Dialogue}
 use Rattle.snmp_walk.proofs.Runs.{run_requests}
 use Rattle.gateway_laws.specs.Device.{AreAnswered, IsDevice, IsTrueAnswer}
 use Rattle.gateway_laws.specs.Dialogues.{AreGot, IsTrueRun}
-use Rattle.gateway_laws.proofs.Lists.{AllTrack, all_begin, all_go_on, all_shown, all_take}
+use Rattle.gateway_laws.specs.Tracks.{AllTrack}
+use Rattle.gateway_laws.proofs.Lists.{all_begin, all_go_on, all_shown, all_take}
 
 module _ (device : Known) (Seen : List ℕ → Type 0) where
   got_each : (asked vs : List Variable) → AreAnswered device Seen (requests_of Get asked) vs → AreGot device Seen (map (λ (v : Variable). v.name) asked) vs
@@ -39,7 +40,7 @@ module _ (device : Known) (Seen : List ℕ → Type 0) where
   plain_run told (step ∷ steps) first last run = (run.1, run.2, plain_run told steps run.1 last run.3)
 
   module _ (is : IsDevice device) where
-    tracks_after : (old new : Dialogue) (answer : Pdu) (becomes : Answered) → IsTrueAnswer device (asks_of old.columns.items) answer → IsAnswered Seen answer old new becomes
+    pub tracks_after : (old new : Dialogue) (answer : Pdu) (becomes : Answered) → IsTrueAnswer device (asks_of old.columns.items) answer → IsAnswered Seen answer old new becomes
         → AllTrack device Seen old.columns.items → AllTrack device Seen new.columns.items
     tracks_after old new answer answered.Taken truly step tracks = all_take device Seen is old.columns.items (variables_of answer.list.now) new.columns.items truly.answered step.2 tracks
     tracks_after old new answer (answered.Unfit fault) truly step tracks = subst (λ (d : Dialogue). AllTrack device Seen d.columns.items) (sym step.2) tracks

@@ -1,4 +1,5 @@
 pub mod Device
+pub mod Tracks
 pub mod Dialogues
 pub mod Bulk
 pub mod Alike

@@ -20,6 +20,7 @@ use Rattle.snmp_walk.specs.declared.operation.ReadOperation.TheVariants.{GetNext
 use Rattle.snmp_msg.specs.declared.pdu_type.PduType.TheVariants.{GetBulkRequest, GetNextRequest}
 use Rattle.snmp_walk.specs.declared.bulk_ask.BulkAsk.{BulkAsk}
 use Rattle.snmp_walk.specs.declared.bulk_ask.BulkAsk.TheVariants as by
+use Rattle.snmp_gate.specs.Said.{Said}
 use Rattle.snmp_gate.specs.History.{MayAskName}
 use Rattle.snmp_gate.specs.Messages.{seen_in}
 use Rattle.snmp_gate.specs.Question.{Question}
@@ -38,7 +39,7 @@ one_asked Q (Given given) may = All-nil Q
 one_asked Q Hidden may = All-nil Q
 one_asked Q Ended may = All-nil Q
 
-pub columns_ask : (tables : Tables) (q : Question) (told : List Variable) (o : ReadOperation) (cs : List Column) → map request cs ≡ requests_of o (variables_of q.list) → All (AsksWell (seen_in tables q) told) cs
+pub columns_ask : (tables : Tables) (q : Question) (told : Said) (o : ReadOperation) (cs : List Column) → map request cs ≡ requests_of o (variables_of q.list) → All (AsksWell (seen_in tables q) told.variables) cs
     → All (MayAskName q tables told o) (variables_asked cs)
 columns_ask tables q told o cs same all =
     all_flat (λ (c : Column). variables_in c.progress) (MayAskName q tables told o) cs
@@ -48,10 +49,10 @@ columns_ask tables q told o cs same all =
     one_asked (MayAskName q tables told o) c.progress (λ name asks. record {
       request = named.0;
       is_request = named.1;
-      may = subst (λ (r : ReadOperation × List ℕ). MayAsk (seen_in tables q) told r.0 r.1 name) (sym named.2) (all k d within name asks);
+      may = subst (λ (r : ReadOperation × List ℕ). MayAsk (seen_in tables q) told.variables r.0 r.1 name) (sym named.2) (all k d within name asks);
     }))
 
-pub bulk_columns_ask : (tables : Tables) (q : Question) (told : List Variable) (n m : ℕ) (cs : List BulkColumn) → map bulk_request cs ≡ bulk_requests_of n m (variables_of q.list) → All (BulkAsksWell (seen_in tables q) told) cs
+pub bulk_columns_ask : (tables : Tables) (q : Question) (told : Said) (n m : ℕ) (cs : List BulkColumn) → map bulk_request cs ≡ bulk_requests_of n m (variables_of q.list) → All (BulkAsksWell (seen_in tables q) told.variables) cs
     → All (MayAskName q tables told GetNext) (bulk_variables_asked cs)
 bulk_columns_ask tables q told n m cs same all =
     all_flat (λ (c : BulkColumn). variables_in c.progress) (MayAskName q tables told GetNext) cs
@@ -61,7 +62,7 @@ bulk_columns_ask tables q told n m cs same all =
     one_asked (MayAskName q tables told GetNext) c.progress (λ name asks. record {
       request = named.0;
       is_request = named.1;
-      may = subst (λ (first : List ℕ). MayAsk (seen_in tables q) told GetNext first name) (sym named.2) (all k d within name asks);
+      may = subst (λ (first : List ℕ). MayAsk (seen_in tables q) told.variables GetNext first name) (sym named.2) (all k d within name asks);
     }))
 
 pub type_asked : (by : BulkAsk) → (bulk_type by ≡ GetNextRequest) ⊎ (bulk_type by ≡ GetBulkRequest)

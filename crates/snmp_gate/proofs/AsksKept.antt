@@ -122,6 +122,18 @@ module _ (before : List Happening) (n device id from : ℕ) (vs : List Variable)
     again_own old opened,
   )
 
+beyond : {X : Type 0} (xs : List X) (i : ℕ) (d : X) → length xs ≤ i → slice_index_or xs i d ≡ d
+beyond [] i d from = refl
+beyond (x ∷ xs) zero d from = absurd (omega (arith, from))
+beyond (x ∷ xs) (suc i) d from = beyond xs i d (omega (arith, from))
+
+-- a device that is asked something is one of the devices
+asked_within : (asks : List (List DeviceAsk)) (device place : ℕ) → place < length (slice_index_or asks device []) → device < length asks
+asked_within asks device place there = elim (leb_tells (length asks) device) [
+  | inl (test, from) ↦ let none = ap (λ (xs : List DeviceAsk). length xs) (beyond asks device [] from) in absurd (omega (arith, there, none))
+  | inr (test, within) ↦ within
+]
+
 -- what the device is asked for a request is answered, or given up
 module _ (e : Happening) (before : List Happening) (n device : ℕ) (closed : open_ask n (e ∷ before) ≡ None) (others : (k : ℕ) → k ≢ n → open_ask k (e ∷ before) ≡ open_ask k before) where
   left_there : (asks : List (List DeviceAsk)) → AsksStand before asks → (k : ℕ) (ask : OpenAsk) → open_ask k (e ∷ before) ≡ Some ask → (k ≢ n) × Contains (slice_index_or asks ask.device []) (ask_of ask.id k)
@@ -133,12 +145,13 @@ module _ (e : Happening) (before : List Happening) (n device : ℕ) (closed : op
   unchanged : (asks new : List (List DeviceAsk)) → new ≡ asks → AsksStand before asks → AsksStand (e ∷ before) new
   unchanged asks new same stands = subst (AsksStand (e ∷ before)) (sym same) (record { own = stands.own; there = λ k ask is. (left_there asks stands k ask is).1 })
 
-  pub asks_ended : (id : Option ℕ) (asks new : List (List DeviceAsk)) → device < length asks → EndsAsk device id asks new
+  pub asks_ended : (id : Option ℕ) (asks new : List (List DeviceAsk)) → EndsAsk device id asks new
       → ((i : ℕ) → id ≡ Some i → (vs : List Variable) × (open_ask n before ≡ Some (record { device = device; id = i; variables = vs }))) → AsksStand before asks → AsksStand (e ∷ before) new
-  asks_ended id asks new within (EndsAsk.none none same) opened stands = unchanged asks new same stands
-  asks_ended id asks new within (EndsAsk.idle i is not same) opened stands = unchanged asks new same stands
-  asks_ended id asks new within (EndsAsk.ends i request left is ended new_is) opened stands =
+  asks_ended id asks new (EndsAsk.none none same) opened stands = unchanged asks new same stands
+  asks_ended id asks new (EndsAsk.idle i is not same) opened stands = unchanged asks new same stands
+  asks_ended id asks new (EndsAsk.ends i request left is ended new_is) opened stands =
       let xs = slice_index_or asks device [] in
+      let within = asked_within asks device ended.place ended.within in
       let own = All-get_or HaveOwnIds asks device [] within stands.own in
       let ours = opened i is in
       let here = stands.there n (record { device = device; id = i; variables = ours.0 }) ours.1 in
@@ -170,11 +183,6 @@ ended_one asks device id a new None asked_is within is some ends =
 ended_one asks device id a new (Some request) asked_is within is some ends =
     EndsAsk.ends id request new.asks.items some (subst (λ (xs : List DeviceAsk). Ends xs (ask_of id request) new.asks.items) (sym (read_list asks device a within is)) ends)
     (map-set (λ (x : DeviceAsks). x.asks.items) asks device new)
-
-beyond : {X : Type 0} (xs : List X) (i : ℕ) (d : X) → length xs ≤ i → slice_index_or xs i d ≡ d
-beyond [] i d from = refl
-beyond (x ∷ xs) zero d from = absurd (omega (arith, from))
-beyond (x ∷ xs) (suc i) d from = beyond xs i d (omega (arith, from))
 
 pub idle_beyond : (asks : List DeviceAsks) (device id : ℕ) (asked_is : Option ℕ) → length asks ≤ device → asked_is ≡ Some id → EndsAsk device asked_is (asks_in asks) (asks_in asks)
 idle_beyond asks device id asked_is from some =
@@ -211,7 +219,7 @@ pub answered_asks : (e : Happening) (before : List Happening) (n device id : ℕ
     → device < length asks → a ≡ slice_index_or asks device a → MatchOption ended ((¬ Waits a.asks.items id) × (new.asks.items ≡ a.asks.items)) (λ request. Ends a.asks.items (ask_of id request) new.asks.items)
     → (ask : OpenAsk) → open_ask n before ≡ Some ask → ask.device ≡ device → ask.id ≡ id → AsksStand before (asks_in asks) → AsksStand (e ∷ before) (asks_in (slice_set asks device new))
 answered_asks e before n device id asks a new ended closed others within is ends ask opened at same stands =
-    asks_ended e before n device closed others (Some id) (asks_in asks) (asks_in (slice_set asks device new)) (omega (arith, within, long_lists asks)) (ended_one asks device id a new ended (Some id) within is refl ends)
+    asks_ended e before n device closed others (Some id) (asks_in asks) (asks_in (slice_set asks device new)) (ended_one asks device id a new ended (Some id) within is refl ends)
     (λ i some. (ask.variables, opened ∙ (λ j. Some (record { device = at j; id = (same ∙ open_number id i some) j; variables = ask.variables })))) stands
 
 -- a request-id that is free is the next one that is

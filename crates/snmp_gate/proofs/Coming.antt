@@ -25,6 +25,7 @@ module _ (old new : Gate) (now : ℕ) (from datagram : List ℕ) (m : WaitingMes
       → Happens old now before (accepted n now datagram m) new
   accepts_for before n accepts takes = record {
     lawful = record { mediated = accepts; in_turn = takes.0; own_id = tt; once = tt };
+    tried = tt;
     stands = takes.1;
   }
 

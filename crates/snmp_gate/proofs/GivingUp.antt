@@ -19,7 +19,7 @@ use Rattle.snmp_gate.specs.declared.work.RequestEnd.{RequestEnd}
 use Rattle.snmp_gate.specs.declared.work.Work.{Work}
 use Rattle.snmp_gate.specs.declared.work.Work.TheVariants.{Open, Ends}
 use Rattle.snmp_gate.proofs.Asked.{none_is_some}
-use Rattle.snmp_gate.proofs.AsksKept.{asks_ended, long_lists}
+use Rattle.snmp_gate.proofs.AsksKept.{asks_ended}
 use Rattle.snmp_gate.proofs.Endings.{one_open}
 use Rattle.snmp_gate.proofs.GroupSteps.{group_at}
 use Rattle.snmp_gate.proofs.Histories.{asked_by, given_up_all, given_up_ends, group_in, moved}
@@ -70,13 +70,13 @@ asked_open old before place number device known (Some id) asks i is =
     )
 
 -- what stands at a place
-pick : {X : Type 0} (xs : List X) (i : ℕ) → i < length xs → (x : X) × (x ≡ slice_index_or xs i x)
+pub pick : {X : Type 0} (xs : List X) (i : ℕ) → i < length xs → (x : X) × (x ≡ slice_index_or xs i x)
 pick [] i within = absurd (omega (arith, within))
 pick (x ∷ xs) zero within = (x, refl)
 pick (x ∷ xs) (suc i) within = pick xs i (omega (arith, within))
 
 pub gives_up : (old new : Gate) (since now : ℕ) (before : List Happening) (place number device : ℕ) (asked : Option ℕ) (was : Work) (e : RequestEnd) → since ≤ now
-    → place < length old.requests.list.items → IsOpenAt old.requests.list.items place device number × (device < length old.asks.items) × (device < length old.devices.list.items)
+    → place < length old.requests.list.items → IsOpenAt old.requests.list.items place device number
     → IfSome asked (λ id. (id < REQUEST_IDS) × IsAskedAt old.requests.list.items place id) → IsGivenUp e → new.agent.tables ≡ old.agent.tables → new.devices ≡ old.devices → new.requests.next ≡ old.requests.next → new.sets ≡ old.sets
     → IsWorked (groups_of old.requests.list.items) place was (Ends e) (groups_of new.requests.list.items) → EndsAsk device asked (asks_in old.asks.items) (asks_in new.asks.items) → GateStands since before old → Happens old now before (given_up number device) new
 gives_up old new since now before place number device asked was e later within opened asks ends tables devices next sets worked ended stands =
@@ -86,7 +86,7 @@ gives_up old new since now before place number device asked was e later within o
     let is = one.1 in
     let gs = groups_of rs in
     let news = groups_of new.requests.list.items in
-    let known = known_at old since before place number device r is within opened.0 stands in
+    let known = known_at old since before place number device r is within opened stands in
     let at = group_at rs place r within is in
     let same : group_of known.request ≡ worked.group = (group_at rs place known.request within known.is).group_is ∙ get_or_default gs place (group_of known.request) worked.group at.within ∙ sym worked.at.group_is in
     let by = asked_by old.agent.tables old.devices.list.items before known.request known.group in
@@ -97,11 +97,12 @@ gives_up old new since now before place number device asked was e later within o
         own_id = tt;
         once = tt;
       };
+      tried = tt;
       stands = record {
         requests = moved old.agent.tables new.agent.tables old.devices.list.items new.devices.list.items (now_up ∷ before) old.requests.next new.requests.next news news tables (ap (λ (d : Devices). d.list.items) devices) next refl
             (given_up_all old.agent.tables old.devices.list.items before old.requests.next gs news place number device was e (given_up_ends old.agent.tables e ends) worked (sym (ap (λ (g : Group WaitingMessage Work). g.number) same) ∙ known.number_is) stands.requests);
         asks = asks_ended now_up before number device (chosen number None (open_ask number before)) (λ k other. open_other now_up before k other) asked (asks_in old.asks.items) (asks_in new.asks.items)
-            (omega (arith, opened.1, long_lists old.asks.items)) ended (asked_open old before place number device known asked asks) stands.asks;
+            ended (asked_open old before place number device known asked asks) stands.asks;
         sets = subst (λ (s : RememberedSets). SetsStand now (now_up ∷ before) news s.sets.items) (sym sets) (given_up_sets since now number device before gs news place was e old.sets.sets.items later worked stands.sets);
       };
     }

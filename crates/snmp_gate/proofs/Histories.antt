@@ -1,14 +1,15 @@
 -- What is known of the requests that wait, as more happens.
-use Rattle.std.specs.Prelude.{◌≡◌, ◌≢◌, ◌⊎◌, ◌∷◌, ◌++◌, ◌+◌, ◌<◌, ℕ, pos, Bool, cond, drop, remove, List, [], All, AllPairs, Contains, Option, Some, None, length, map, slice_index_or, slice_set}
+use Rattle.std.specs.Prelude.{min, ◌≡◌, ◌≢◌, ◌⊎◌, ◌∷◌, ◌++◌, ◌+◌, ◌-◌, ◌^◌, ◌<◌, ◌≤◌, ⊤, ℕ, pos, Bool, cond, drop, remove, List, [], All, AllPairs, Contains, Option, Some, None, length, map, slice_index_or, slice_set}
 use Rattle.std.proofs.Common.{refl, sym, ap, subst, ◌∙◌, inl, inr, arith}
 use Rattle.std.proofs.lemmas.Bool.Decides.{Decides-int_eq, eqb_tells, leb_tells}
 use Rattle.std.proofs.lemmas.List.{get_or_default, get_or-set_other, get_or-set_same, length-set}
 use Rattle.std.proofs.lemmas.List.Edits.{get_or-remove_above, get_or-remove_below, length-remove}
-use Rattle.std.proofs.lemmas.List.Elements.{All-cons, All-contains_itself, All-head, All-tail, All-weaker, Contains-append_left, Contains-append_right}
+use Rattle.std.proofs.lemmas.List.Elements.{All-cons, All-contains_itself, All-head, All-tail, All-weaker, Contains-append_left, Contains-append_right, Contains-push, at_read}
 use Rattle.snmp_msg.specs.Pdu.{PduParts, pdu_of}
 use Rattle.snmp_msg.specs.Variables.{Variable, variables_of}
 use Rattle.snmp_msg.specs.declared.pdu.Pdu.{Pdu}
 use Rattle.vacm_core.specs.Tables.{Tables}
+use Rattle.snmp_gate.specs.Said.{Exchange, Said}
 use Rattle.snmp_gate.specs.Devices.{IsDeviceOf}
 use Rattle.snmp_gate.specs.DeviceMessages.{IsDeviceAnswer}
 use Rattle.std.specs.Global.{Vec}
@@ -35,10 +36,12 @@ use Rattle.snmp_gate.specs.declared.work.RequestEnd.TheVariants as ending
 use Rattle.std.proofs.lemmas.Bool.{false≢true}
 use Rattle.snmp_gate.specs.declared.requests.WaitingRequest.{WaitingRequest}
 use Rattle.snmp_gate.proofs.GroupSteps.{group_at, groups_set}
-use Rattle.snmp_gate.specs.History.{AskedBy, Happening, IsAccepted, IsAnswerOf, IsCommunityFor, IsMediated, MayAskFor, OpenAsk, accepted, answered, asked, ends_in, given_up, number_of, open_ask, said_by, sent, told_in, unanswered, waiting_in}
+use Rattle.snmp_gate.specs.History.{AskedBy, Happening, IsAccepted, IsAnswerOf, IsCommunityFor, IsMediated, MayAskFor, OpenAsk, accepted, answered, asked, ends_in, exchange_in, given_up, more_said, number_of, open_ask, said_by, sent, told_in, unanswered, waiting_in}
 use Rattle.snmp_gate.specs.Lawful.{IsInTurn, IsNext, WasAsked}
+use Rattle.snmp_gate.specs.Limits.{asks_since}
 use Rattle.snmp_gate.specs.Question.{Question}
-use Rattle.snmp_gate.specs.Waiting.{AreNumbered, GroupStands, GroupsStand, OpenStands, RequestsStand, WorkStands}
+use Rattle.snmp_gate.specs.Time.{times_asked}
+use Rattle.snmp_gate.specs.Waiting.{AllCameFrom, AreNumbered, GroupStands, GroupsStand, OpenStands, RequestsStand, WorkStands}
 use Rattle.snmp_gate.specs.Work.{EndingStands, SaysAll, TaskStands, end_of, variables_of_task}
 use Rattle.snmp_gate.specs.declared.devices.Device.{Device}
 use Rattle.snmp_gate.specs.declared.waiting_message.WaitingMessage.{WaitingMessage}
@@ -46,7 +49,7 @@ use Rattle.snmp_gate.specs.declared.work.OpenRequest.{OpenRequest}
 use Rattle.snmp_gate.specs.declared.work.Work.{Work}
 use Rattle.snmp_gate.specs.declared.work.Work.TheVariants.{Open, Ends}
 use Rattle.snmp_gate.proofs.Asked.{none_is_some}
-use Rattle.snmp_gate.proofs.Others.{ask_later, ask_other, chosen, open_other, same_number, told_other, wait_other, was_before, was_other}
+use Rattle.snmp_gate.proofs.Others.{ask_later, ask_other, chosen, contains_cons, open_other, same_number, since_other, told_other, wait_other, was_before, was_other}
 use Rattle.snmp_gate.proofs.More.{HasAll, task_more}
 use Rattle.snmp_gate.proofs.Pairs.{pairs_set}
 use Rattle.snmp_gate.proofs.Questions.{all_worked, numbered_left}
@@ -60,16 +63,27 @@ Waiting = Group WaitingMessage Work
 pub later : (e : Happening) (before : List Happening) (n : ℕ) (m : WaitingMessage) → IsAccepted before n m → IsAccepted (e ∷ before) n m
 later e before n m is = record { now = is.now; datagram = is.datagram; there = Contains-append_right (e ∷ []) before _ is.there }
 
+-- the request came by this moment
+abbrev pub CameBy : ℕ → Work → Type 0
+CameBy at (Open o) = o.timer.began ≤ at
+CameBy at (Ends e) = ⊤
+
+pub came_later : (e : Happening) (before : List Happening) (n began : ℕ) → ((at : ℕ) (v : List ℕ) (m : WaitingMessage) → e ≡ accepted n at v m → began ≤ at) → AllCameFrom before n began → AllCameFrom (e ∷ before) n began
+came_later e before n began now came at v m there = elim (contains_cons e before (accepted n at v m) there) [ inl is ↦ now at v m is | inr old ↦ came at v m old ]
+
 -- the same is known of the work, if as much was told and asked
 pub work_later : (tables : Tables) (devices : List Device) (e : Happening) (before : List Happening) (n : ℕ) (q : Question) (w : Work) → told_in n (e ∷ before) ≡ told_in n before → open_ask n (e ∷ before) ≡ open_ask n before
-    → (WasAsked (e ∷ before) n → WasAsked before n) → WorkStands tables devices before n q w → WorkStands tables devices (e ∷ before) n q w
-work_later tables devices e before n q (Open o) told ask was stands = record {
-  task = subst (λ (vs : List Variable). TaskStands tables q vs o.task.task) (sym told) stands.task;
+    → asks_since n (e ∷ before) ≡ asks_since n before → (WasAsked (e ∷ before) n → WasAsked before n) → ((at : ℕ) (v : List ℕ) (m : WaitingMessage) → e ≡ accepted n at v m → CameBy at w) → WorkStands tables devices before n q w → WorkStands tables devices (e ∷ before) n q w
+work_later tables devices e before n q (Open o) told ask since was came stands = record {
+  task = subst (λ (vs : Said). TaskStands tables q vs o.task.task) (sym told) stands.task;
   device = stands.device;
   asked = λ id is. ask ∙ stands.asked id is;
   set_once = λ set none asked. stands.set_once set none (was asked);
+  came = came_later e before n o.timer.began came stands.came;
+  unasked = λ none. since ∙ stands.unasked none;
+  tried = omega (arith, since, stands.tried);
 }
-work_later tables devices e before n q (Ends x) told ask was stands = subst (λ (vs : List Variable). EndingStands tables q vs x) (sym told) stands
+work_later tables devices e before n q (Ends x) told ask since was came stands = subst (λ (vs : Said). EndingStands tables q vs x) (sym told) stands
 
 -- the same is known of another request
 pub others_later : (tables : Tables) (devices : List Device) (e : Happening) (before : List Happening) (g : Waiting) → g.number ≢ number_of e → GroupStands tables devices before g → GroupStands tables devices (e ∷ before) g
@@ -79,7 +93,8 @@ others_later tables devices e before g other stands = record {
   are_accepted = All-weaker (IsAccepted before g.number) (IsAccepted (e ∷ before) g.number) (later e before g.number) g.messages stands.are_accepted;
   wait = wait_other e before g.number other ∙ stands.wait;
   one = ask_other e before g.number stands.question other stands.one;
-  work = work_later tables devices e before g.number stands.question g.work (told_other e before g.number other) (open_other e before g.number other) (was_other e before g.number other) stands.work;
+  work = work_later tables devices e before g.number stands.question g.work (told_other e before g.number other) (open_other e before g.number other) (since_other e before g.number other) (was_other e before g.number other)
+      (λ at v m is. absurd (other (sym (ap number_of is)))) stands.work;
 }
 
 pub past_later : (e : Happening) (before : List Happening) (next : ℕ) → number_of e < next → All (λ (x : Happening). number_of x < next) before → All (λ (x : Happening). number_of x < next) (e ∷ before)
@@ -132,6 +147,33 @@ all_out P Q gs place g rise at all others k d within =
           subst Q (sym (get_or-remove_below gs place d k below at.within)) (others (slice_index_or gs k d) (numbers_differ gs place g rise at k d short isnt) (all k d short))
     ]
 
+-- the numbers before one of the requests changed, and keeps its own
+pub numbers_back : (n : ℕ) (gs : List Waiting) (place : ℕ) (g h : Waiting) → IsAt gs place g → h.number ≡ g.number → All (λ (x : Waiting). x.number ≢ n) (slice_set gs place h) → All (λ (x : Waiting). x.number ≢ n) gs × (n ≢ g.number)
+numbers_back n gs place g h at same all =
+    let long = length-set gs place h in
+    let own : n ≢ g.number = λ is. all place h (omega (arith, at.within, long)) (ap (λ (x : Waiting). x.number) (get_or-set_same gs place h h at.within) ∙ same ∙ sym is) in (
+      (λ k d within. elim (eqb_tells k place) [
+        | inl (test, here) ↦ λ is. own (sym is ∙ ap (λ (i : ℕ). (slice_index_or gs i d).number) here ∙ ap (λ (x : Waiting). x.number) (get_or_default gs place d g at.within ∙ sym at.group_is))
+        | inr (test, other) ↦ λ is. all k d (omega (arith, within, long)) (ap (λ (x : Waiting). x.number) (get_or-set_other gs place k h d other) ∙ is)
+      ]),
+      own,
+    )
+
+-- the numbers of all, by those that are left
+numbers_out : (n : ℕ) (gs : List Waiting) (place : ℕ) (g : Waiting) → IsAt gs place g → n ≢ g.number → All (λ (x : Waiting). x.number ≢ n) (remove gs place) → All (λ (x : Waiting). x.number ≢ n) gs
+numbers_out n gs place g at own all k d within =
+    let long = length-remove gs place at.within in
+    elim (eqb_tells k place) [
+      | inl (test, here) ↦ λ is. own (sym is ∙ ap (λ (i : ℕ). (slice_index_or gs i d).number) here ∙ ap (λ (x : Waiting). x.number) (get_or_default gs place d g at.within ∙ sym at.group_is))
+      | inr (test, other) ↦ elim (leb_tells place k) [
+        | inl (t, from) ↦
+            let above : place ≤ k - 1 = omega (arith, from, other) in
+            let back : k - 1 + 1 ≡ k = omega (arith, from, other) in
+            λ is. all (k - 1) d (omega (arith, within, long, from, other)) (ap (λ (x : Waiting). x.number) (get_or-remove_above gs place d (k - 1) above at.within) ∙ ap (λ (i : ℕ). (slice_index_or gs i d).number) back ∙ is)
+        | inr (t, below) ↦ λ is. all k d (omega (arith, below, at.within, long)) (ap (λ (x : Waiting). x.number) (get_or-remove_below gs place d k below at.within) ∙ is)
+      ]
+    ]
+
 pub below_next : (next : ℕ) (gs : List Waiting) (place : ℕ) (g : Waiting) → IsAt gs place g → AreNumbered next gs → g.number < next
 below_next next gs place g at numbered = subst (λ (x : Waiting). x.number < next) (sym at.group_is) (numbered.less place g at.within)
 
@@ -152,7 +194,7 @@ asked_not_accepted : (n device id : ℕ) (vs : List Variable) (w : List ℕ) (k 
 asked_not_accepted n device id vs w k at v m is = cc
 
 -- the community by which the request's device is asked
-pub community_for : (tables : Tables) (q : Question) (told : List Variable) (t : Task) (d : Device) (community : List ℕ) → TaskStands tables q told t → IsCommunityOfTask d community t → IsCommunityFor d q.tag community
+pub community_for : (tables : Tables) (q : Question) (told : Said) (t : Task) (d : Device) (community : List ℕ) → TaskStands tables q told t → IsCommunityOfTask d community t → IsCommunityFor d q.tag community
 community_for tables q told (task.Read Get d) device community stands is = inl ((λ (same : q.tag ≡ pdu_tag SetRequest). let tag : q.tag ≡ pdu_tag GetRequest = stands.tag in omega (arith, same, tag)), is)
 community_for tables q told (task.Read GetNext d) device community stands is = inl ((λ (same : q.tag ≡ pdu_tag SetRequest). let tag : q.tag ≡ pdu_tag GetNextRequest = stands.tag in omega (arith, same, tag)), is)
 community_for tables q told (task.Bulk by d) device community stands is = inl ((λ (same : q.tag ≡ pdu_tag SetRequest). omega (arith, same, stands.tag)), is)
@@ -169,33 +211,44 @@ says_all n device id vs answer datagram before is =
     let own = variables_of answer.list.now in
     let ask : OpenAsk = record { device = device; id = id; variables = vs } in
     let told = told_in n before in
-    let full : said_by (Some ask) (pdu_of answer) ++ told ≡ told_in n (answered n device (pdu_of answer) datagram ∷ before) =
-    ap (λ (a : Option OpenAsk). said_by a (pdu_of answer) ++ told) (sym is)
-    ∙ sym (ap (λ (b : Bool). cond b (said_by (open_ask n before) (pdu_of answer) ++ told) told) (same_number n)) in
+    let full : more_said (Some ask) (pdu_of answer) told ≡ told_in n (answered n device (pdu_of answer) datagram ∷ before) =
+    ap (λ (a : Option OpenAsk). more_said a (pdu_of answer) told) (sym is)
+    ∙ sym (ap (λ (b : Bool). cond b (more_said (open_ask n before) (pdu_of answer) told) told) (same_number n)) in
+    let exchange : Exchange = record { asked = vs; answer = pdu_of answer } in
     record {
-      bindings = subst (λ (all : List Variable). All (Contains all) own) full
-          (All-weaker (Contains own) (Contains (said_by (Some ask) (pdu_of answer) ++ told))
-          (λ v there. Contains-append_left (said_by (Some ask) (pdu_of answer)) told v (Contains-append_left own (ends_in (Some ask) (pdu_of answer)) v there)) own (All-contains_itself own));
-      ends = λ no_such_name. subst (λ (all : List Variable). All (λ (v : Variable). Contains all (end_of v)) vs) full
-          (All-weaker (Contains vs) (λ (v : Variable). Contains (said_by (Some ask) (pdu_of answer) ++ told) (end_of v))
-          (λ v there. Contains-append_left (said_by (Some ask) (pdu_of answer)) told (end_of v) (Contains-append_right own (ends_in (Some ask) (pdu_of answer)) (end_of v)
+      bindings = subst (λ (all : Said). All (Contains all.variables) own) full
+          (All-weaker (Contains own) (Contains (said_by (Some ask) (pdu_of answer) ++ told.variables))
+          (λ v there. Contains-append_left (said_by (Some ask) (pdu_of answer)) told.variables v (Contains-append_left own (ends_in (Some ask) (pdu_of answer)) v there)) own (All-contains_itself own));
+      ends = λ no_such_name. subst (λ (all : Said). All (λ (v : Variable). Contains all.variables (end_of v)) vs) full
+          (All-weaker (Contains vs) (λ (v : Variable). Contains (said_by (Some ask) (pdu_of answer) ++ told.variables) (end_of v))
+          (λ v there. Contains-append_left (said_by (Some ask) (pdu_of answer)) told.variables (end_of v) (Contains-append_right own (ends_in (Some ask) (pdu_of answer)) (end_of v)
           (subst (λ (b : Bool). Contains (cond b (map end_of vs) []) (end_of v)) (sym no_such_name) (contains_map end_of vs v there)))) vs (All-contains_itself vs));
+      exchange = subst (λ (all : Said). Contains all.exchanges exchange) full (Contains-append_left (exchange ∷ []) told.exchanges exchange (Contains-push [] exchange));
     }
 
 -- as much is told as before
 told_more : (n device : ℕ) (p : PduParts) (datagram : List ℕ) (before : List Happening) → HasAll (told_in n before) (told_in n (answered n device p datagram ∷ before))
-told_more n device p datagram before v there =
-    subst (λ (b : Bool). Contains (cond b (said_by (open_ask n before) p ++ told_in n before) (told_in n before)) v) (sym (same_number n))
-    (Contains-append_right (said_by (open_ask n before) p) (told_in n before) v there)
+told_more n device p datagram before =
+    let told = told_in n before in
+    record {
+      variables = λ v there. subst (λ (b : Bool). Contains (cond b (more_said (open_ask n before) p told) told).variables v) (sym (same_number n))
+          (Contains-append_right (said_by (open_ask n before) p) told.variables v there);
+      exchanges = λ e there. subst (λ (b : Bool). Contains (cond b (more_said (open_ask n before) p told) told).exchanges e) (sym (same_number n))
+          (Contains-append_right (exchange_in (open_ask n before) p) told.exchanges e there);
+    }
 
-after_stands : (tables : Tables) (devices : List Device) (before : List Happening) (n : ℕ) (q : Question) (o : OpenRequest) (w : Work) → IsDeviceOf devices q.context o.device → WorkAfter tables q (told_in n before) o w → WorkStands tables devices before n q w
-after_stands tables devices before n q o (Open new) device after = record {
+after_stands : (tables : Tables) (devices : List Device) (before : List Happening) (n : ℕ) (q : Question) (o : OpenRequest) (w : Work) → IsDeviceOf devices q.context o.device → AllCameFrom before n o.timer.began → asks_since n before ≡ 0 → WorkAfter tables q (told_in n before) o w
+    → WorkStands tables devices before n q w
+after_stands tables devices before n q o (Open new) device came since after = record {
   task = after.0;
   device = subst (IsDeviceOf devices q.context) (sym after.1) device;
   asked = λ id is. absurd (let none : None ≡ Some id = sym after.2 ∙ is in cc);
   set_once = λ set none was. after.3 set;
+  came = subst (AllCameFrom before n) (sym after.4) came;
+  unasked = λ none. since;
+  tried = omega (arith, since);
 }
-after_stands tables devices before n q o (Ends e) device after = after
+after_stands tables devices before n q o (Ends e) device came since after = after
 
 pub group_in : (tables : Tables) (devices : List Device) (before : List Happening) (next : ℕ) (gs : List Waiting) (place : ℕ) (g : Waiting) → IsAt gs place g → GroupsStand tables devices before next gs → GroupStands tables devices before g
 group_in tables devices before next gs place g at stands = subst (GroupStands tables devices before) (sym at.group_is) (stands.all place g at.within)
@@ -203,7 +256,7 @@ group_in tables devices before next gs place g at stands = subst (GroupStands ta
 pub answered_all : (tables : Tables) (devices : List Device) (before : List Happening) (next : ℕ) (rs : List (WaitingRequest WaitingMessage Work)) (place : ℕ) (r : WaitingRequest WaitingMessage Work) (w : Work)
     (device id : ℕ) (answer : Pdu) (datagram community : List ℕ) → place < length rs → r ≡ slice_index_or rs place r → WaitsFor device id r.work → answer.id ≡ pos id → IsDeviceAnswer datagram community (pdu_of answer)
     → HoldsAt (λ (d : Device). IsCommunityOfWork d community r.work) devices device
-    → ((o : OpenRequest) (q : Question) (told : List Variable) → question_in r.first ≡ Some q → r.work ≡ Open o → SaysAll (variables_of_task q o.task.task) answer told → TaskStands tables q told o.task.task → WorkAfter tables q told o w)
+    → ((o : OpenRequest) (q : Question) (told : Said) → question_in r.first ≡ Some q → r.work ≡ Open o → SaysAll (variables_of_task q o.task.task) answer told → TaskStands tables q told o.task.task → WorkAfter tables q told o w)
     → GroupsStand tables devices before next (groups_of rs)
     → IsAnswerOf devices before r.number device (pdu_of answer) datagram
     × GroupsStand tables devices (answered r.number device (pdu_of answer) datagram ∷ before) next (groups_of (slice_set rs place (record { number = r.number; first = r.first; others = r.others; work = w })))
@@ -228,7 +281,9 @@ answered_all tables devices before next rs place r w device id answer datagram c
       are_accepted = All-weaker (IsAccepted before n) (IsAccepted (now ∷ before) n) (later now before n) (group_of r).messages group.are_accepted;
       wait = group.wait;
       one = ask_later now before n q (λ at w m same. absurd (answered_not_accepted n device (pdu_of answer) datagram n at w m same)) group.one;
-      work = after_stands tables devices (now ∷ before) n q o w open_stands.device after_now;
+      work = after_stands tables devices (now ∷ before) n q o w open_stands.device
+          (came_later now before n o.timer.began (λ at v m same. absurd (answered_not_accepted n device (pdu_of answer) datagram n at v m same)) open_stands.came)
+          (chosen n 0 (asks_since n before)) after_now;
     } in (
       record {
         ask = record { device = o.device; id = id; variables = variables_of_task q o.task.task };
@@ -248,6 +303,7 @@ answered_all tables devices before next rs place r w device id answer datagram c
             (λ x other known. others_later tables devices now before x other known));
         numbered = subst (λ (gs : List Waiting). AreNumbered next gs) (sym (groups_set rs place new)) (numbered_set next (groups_of rs) place (group_of r) (group_of new) at refl stands.numbered);
         past = past_later now before next (below_next next (groups_of rs) place (group_of r) at stands.numbered) stands.past;
+        gone = λ k none. stands.gone k (numbers_back k (groups_of rs) place (group_of r) (group_of new) at refl (subst (All (λ (x : Waiting). x.number ≢ k)) (groups_set rs place new) none)).0;
       },
     )
 
@@ -263,6 +319,27 @@ pub record AsksAll (agent : AgentState) (devices : List Device) (before : List H
   pub variables : List Variable
   pub mediated : IsMediated agent devices before (asked number device id variables datagram)
   pub stands : GroupsStand agent.tables devices (asked number device id variables datagram ∷ before) next gs
+
+-- what is known of a request that may be asked
+pub record AskedSoFar (before : List Happening) (number place : ℕ) (rs : Requests) : Type 0 where
+  pub waits : OpenRequest
+  pub is_there : HoldsAt (λ (x : WaitingRequest WaitingMessage Work). x.work ≡ Open waits) rs place
+  pub unasked : waits.asked ≡ None → asks_since number before ≡ 0
+  pub tried : min (asks_since number before) (2 ^ 32 - 1) ≤ times_asked waits.timer.turn
+
+pub asked_so_far : (tables : Tables) (devices : List Device) (before : List Happening) (next : ℕ) (rs : Requests) (place device number : ℕ) (r : WaitingRequest WaitingMessage Work) → place < length rs → r ≡ slice_index_or rs place r
+    → IsOpenAt rs place device number → GroupsStand tables devices before next (groups_of rs) → AskedSoFar before number place rs
+asked_so_far tables devices before next rs place device number r within is opened stands =
+    let group = group_in tables devices before next (groups_of rs) place (group_of r) (group_at rs place r within is) stands in
+    let is_open = subst (λ (x : WaitingRequest WaitingMessage Work). (x.number ≡ number) × ((o : OpenRequest) × (x.work ≡ Open o) × (o.device ≡ device))) (sym is) (opened r) in
+    let o = is_open.1.0 in
+    let open_stands : OpenStands tables devices before r.number group.question o = subst (λ (x : Work). WorkStands tables devices before r.number group.question x) is_open.1.1 group.work in
+    subst (λ (n : ℕ). AskedSoFar before n place rs) is_open.0 (record {
+      waits = o;
+      is_there = at_read rs (λ (x : WaitingRequest WaitingMessage Work). x.work ≡ Open o) place r within is is_open.1.1;
+      unasked = open_stands.unasked;
+      tried = open_stands.tried;
+    })
 
 pub asked_all : (agent : AgentState) (devices : List Device) (before : List Happening) (next : ℕ) (rs new : Requests) (place device number id : ℕ) (datagram : Vec ℕ) → place < length rs → IsOpenAt rs place device number
     → MayAskAt agent.tables devices rs place device id datagram → SetsAsked rs place id new → GroupsStand agent.tables devices before next (groups_of rs) → AsksAll agent devices before next number device id datagram.items (groups_of new)
@@ -280,7 +357,7 @@ asked_all agent devices before next rs new place device number id datagram withi
     let open_stands : OpenStands tables devices before r.number q o = subst (λ (x : Work). WorkStands tables devices before r.number q x) work_is group.work in
     let by = asked_by tables devices before r group in
     let vs = variables_of_task q o.task.task in
-    let may_ask = subst (λ (x : WaitingRequest WaitingMessage Work). (p : OpenRequest) (c : Question) (told : List Variable) → x.work ≡ Open p → question_in x.first ≡ Some c → TaskStands tables c told p.task.task
+    let may_ask = subst (λ (x : WaitingRequest WaitingMessage Work). (p : OpenRequest) (c : Question) (told : Said) → x.work ≡ Open p → question_in x.first ≡ Some c → TaskStands tables c told p.task.task
     → HoldsAt (λ (d : Device). MayAskFor tables d c told id (variables_of_task c p.task.task) datagram.items) devices device) (sym sets.is) (may r) in
     let now = asked r.number device id vs datagram.items in
     let a = sets.asked o work_is in
@@ -294,6 +371,12 @@ asked_all agent devices before next rs new place device number id datagram withi
           ap (λ (b : Bool). cond b (Some (record { device = device; id = id; variables = vs })) (open_ask r.number before)) (same_number r.number) in
           first ∙ (λ i. Some (record { device = sym (a.3 ∙ on) i; id = one i; variables = sym task i }));
       set_once = λ set none was. absurd (none_is_some id (sym none ∙ a.4));
+      came = came_later now before r.number a.0.timer.began (λ at w m same. absurd (asked_not_accepted r.number device id vs datagram.items r.number at w m same))
+          (subst (AllCameFrom before r.number) (sym a.5) open_stands.came);
+      unasked = λ none. absurd (none_is_some id (sym none ∙ a.4));
+      tried =
+          let one_more = chosen r.number (1 + asks_since r.number before) (asks_since r.number before) in
+          omega (arith, one_more, a.6, open_stands.tried);
     } in
     let h : WaitingRequest WaitingMessage Work = record { number = r.number; first = r.first; others = r.others; work = sets.work } in
     let h_stands : GroupStands tables devices (now ∷ before) (group_of h) = record {
@@ -314,12 +397,13 @@ asked_all agent devices before next rs new place device number id datagram withi
             (λ x other known. others_later tables devices now before x other known));
         numbered = subst (λ (gs : List Waiting). AreNumbered next gs) (sym groups_are) (numbered_set next (groups_of rs) place (group_of r) (group_of h) at refl stands.numbered);
         past = past_later now before next (below_next next (groups_of rs) place (group_of r) at stands.numbered) stands.past;
+        gone = λ k none. stands.gone k (numbers_back k (groups_of rs) place (group_of r) (group_of h) at refl (subst (All (λ (x : Waiting). x.number ≢ k)) groups_are none)).0;
       };
     })
 
 -- ---- an end, and a message that is answered
 
-pub ended_all : (tables : Tables) (devices : List Device) (before : List Happening) (next : ℕ) (gs new : List Waiting) (place : ℕ) (was : Work) (e : RequestEnd) → ((q : Question) (told : List Variable) → EndingStands tables q told e)
+pub ended_all : (tables : Tables) (devices : List Device) (before : List Happening) (next : ℕ) (gs new : List Waiting) (place : ℕ) (was : Work) (e : RequestEnd) → ((q : Question) (told : Said) → EndingStands tables q told e)
     → IsWorked gs place was (Ends e) new → GroupsStand tables devices before next gs → GroupsStand tables devices before next new
 ended_all tables devices before next gs new place was e ends worked stands = record {
   all = all_worked (GroupStands tables devices before) gs new place was (Ends e) worked (λ g known. record {
@@ -332,13 +416,14 @@ ended_all tables devices before next gs new place was e ends worked stands = rec
   }) stands.all;
   numbered = subst (λ (xs : List Waiting). AreNumbered next xs) (sym worked.new_is) (numbered_set next gs place worked.group (with_work worked.group (Ends e)) worked.at refl stands.numbered);
   past = stands.past;
+  gone = λ n none. stands.gone n (numbers_back n gs place worked.group (with_work worked.group (Ends e)) worked.at refl (subst (All (λ (x : Waiting). x.number ≢ n)) worked.new_is none)).0;
 }
 
 given_up_not_accepted : (n device : ℕ) (k at : ℕ) (v : List ℕ) (m : WaitingMessage) → given_up n device ≡ accepted k at v m → ⊥
 given_up_not_accepted n device k at v m is = cc
 
 -- the request at the place is given up
-pub given_up_all : (tables : Tables) (devices : List Device) (before : List Happening) (next : ℕ) (gs new : List Waiting) (place number device : ℕ) (was : Work) (e : RequestEnd) → ((q : Question) (told : List Variable) → EndingStands tables q told e)
+pub given_up_all : (tables : Tables) (devices : List Device) (before : List Happening) (next : ℕ) (gs new : List Waiting) (place number device : ℕ) (was : Work) (e : RequestEnd) → ((q : Question) (told : Said) → EndingStands tables q told e)
     → (worked : IsWorked gs place was (Ends e) new) → worked.group.number ≡ number → GroupsStand tables devices before next gs → GroupsStand tables devices (given_up number device ∷ before) next new
 given_up_all tables devices before next gs new place number device was e ends worked same stands =
     let now = given_up number device in
@@ -358,6 +443,7 @@ given_up_all tables devices before next gs new place number device was e ends wo
           (λ x other it. others_later tables devices now before x (λ is. other (is ∙ sym same)) it));
       numbered = subst (λ (xs : List Waiting). AreNumbered next xs) (sym worked.new_is) (numbered_set next gs place g h worked.at refl stands.numbered);
       past = past_later now before next (subst (λ (n : ℕ). n < next) same (below_next next gs place g worked.at stands.numbered)) stands.past;
+      gone = λ n none. stands.gone n (numbers_back n gs place g h worked.at refl (subst (All (λ (x : Waiting). x.number ≢ n)) worked.new_is none)).0;
     }
 
 numbered_answered : (next : ℕ) (gs new : List Waiting) (place : ℕ) (m : WaitingMessage) → IsAnswered gs place m new → AreNumbered next gs → AreNumbered next new
@@ -371,6 +457,7 @@ pub record TakesOne (e : Happening) (before : List Happening) (n : ℕ) : Type 0
   pub wait : waiting_in n (e ∷ before) ≡ drop 1 (waiting_in n before)
   pub told : told_in n (e ∷ before) ≡ told_in n before
   pub ask : open_ask n (e ∷ before) ≡ open_ask n before
+  pub since : asks_since n (e ∷ before) ≡ asks_since n before
   pub was : WasAsked (e ∷ before) n → WasAsked before n
   pub none : (k at : ℕ) (v : List ℕ) (m : WaitingMessage) → e ≡ accepted k at v m → ⊥
 
@@ -383,7 +470,7 @@ fewer tables devices e before m g next rest takes were known = record {
       (All-tail (IsAccepted before g.number) m (next ∷ rest) (subst (All (IsAccepted before g.number)) were known.are_accepted));
   wait = takes.wait ∙ ap (λ (ms : List WaitingMessage). drop 1 ms) (known.wait ∙ were);
   one = ask_later e before g.number known.question (λ at v x is. absurd (takes.none g.number at v x is)) known.one;
-  work = work_later tables devices e before g.number known.question g.work takes.told takes.ask takes.was known.work;
+  work = work_later tables devices e before g.number known.question g.work takes.told takes.ask takes.since takes.was (λ at v x is. absurd (takes.none g.number at v x is)) known.work;
 }
 
 all_gone : (tables : Tables) (devices : List Device) (e : Happening) (before : List Happening) (next : ℕ) (gs new : List Waiting) (place : ℕ) (m : WaitingMessage) (g : Waiting) (others : List WaitingMessage) → TakesOne e before g.number
@@ -396,12 +483,28 @@ all_gone tables devices e before next gs new place m g (x ∷ rest) takes at wer
     (fewer tables devices e before m g x rest takes were (group_in tables devices before next gs place g at stands))
     (λ y other it. others_later tables devices e before y (λ is. other (is ∙ sym takes.number)) it))
 
+-- no message waits for a request that isn't left
+none_waits_out : (tables : Tables) (devices : List Device) (e : Happening) (before : List Happening) (next : ℕ) (gs new : List Waiting) (place : ℕ) (m : WaitingMessage) (g : Waiting) (others : List WaitingMessage) → TakesOne e before g.number
+    → IsAt gs place g → g.messages ≡ m ∷ others → IsLeft gs place g others new → GroupsStand tables devices before next gs → (n : ℕ) → All (λ (x : Waiting). x.number ≢ n) new → waiting_in n (e ∷ before) ≡ []
+none_waits_out tables devices e before next gs new place m g [] takes at were left stands n none = elim (eqb_tells n g.number) [
+  | inl (test, own) ↦
+      let known = group_in tables devices before next gs place g at stands in
+      ap (λ (i : ℕ). waiting_in i (e ∷ before)) own ∙ takes.wait ∙ ap (λ (ms : List WaitingMessage). drop 1 ms) (known.wait ∙ were)
+  | inr (test, other) ↦
+      wait_other e before n (λ is. other (is ∙ sym takes.number))
+      ∙ stands.gone n (numbers_out n gs place g at other (subst (All (λ (x : Waiting). x.number ≢ n)) left none))
+]
+none_waits_out tables devices e before next gs new place m g (x ∷ rest) takes at were left stands n none =
+    let back = numbers_back n gs place g (with_messages g (x ∷ rest)) at refl (subst (All (λ (y : Waiting). y.number ≢ n)) left none) in
+    wait_other e before n (λ is. back.1 (is ∙ sym takes.number)) ∙ stands.gone n back.0
+
 pub message_gone : (tables : Tables) (devices : List Device) (e : Happening) (before : List Happening) (next : ℕ) (gs new : List Waiting) (place : ℕ) (m : WaitingMessage) → (answer : IsAnswered gs place m new) → TakesOne e before answer.group.number
     → GroupsStand tables devices before next gs → GroupsStand tables devices (e ∷ before) next new
 message_gone tables devices e before next gs new place m answer takes stands = record {
   all = all_gone tables devices e before next gs new place m answer.group answer.others takes answer.at answer.messages_are answer.left stands;
   numbered = numbered_answered next gs new place m answer stands.numbered;
   past = past_later e before next (subst (λ (n : ℕ). n < next) takes.number (below_next next gs place answer.group answer.at stands.numbered)) stands.past;
+  gone = none_waits_out tables devices e before next gs new place m answer.group answer.others takes answer.at answer.messages_are answer.left stands;
 }
 
 sent_takes : (n : ℕ) (m : WaitingMessage) (by : Answering) (w : List ℕ) (before : List Happening) → TakesOne (sent n m by w) before n
@@ -410,6 +513,7 @@ sent_takes n m by w before = record {
   wait = chosen n (drop 1 (waiting_in n before)) (waiting_in n before);
   told = refl;
   ask = refl;
+  since = refl;
   was = was_before (sent n m by w) before n (λ d id vs v is. let same : sent n m by w ≡ asked n d id vs v = is in cc);
   none = λ k at v x is. let same : sent n m by w ≡ accepted k at v x = is in cc;
 }
@@ -420,6 +524,7 @@ unanswered_takes n m before = record {
   wait = chosen n (drop 1 (waiting_in n before)) (waiting_in n before);
   told = refl;
   ask = refl;
+  since = refl;
   was = was_before (unanswered n m) before n (λ d id vs v is. let same : unanswered n m ≡ asked n d id vs v = is in cc);
   none = λ k at v x is. let same : unanswered n m ≡ accepted k at v x = is in cc;
 }
@@ -482,7 +587,7 @@ first_at old new before place r m within is left stands =
 
 pub sent_all : (old new : Gate) (before : List Happening) (place seconds : ℕ) (salt : List ℕ) (r : WaitingRequest WaitingMessage Work) (m : WaitingMessage) (datagram : Vec ℕ) → place < length old.requests.list.items
     → r ≡ slice_index_or old.requests.list.items place r → IsLeftAfter old place m new
-    → ((q : Question) (said : List Variable) → question_in r.first ≡ Some q → RepliesTo old.agent seconds salt q said r.first.kept r.work (reply.Sends datagram))
+    → ((q : Question) (said : Said) → question_in r.first ≡ Some q → RepliesTo old.agent seconds salt q said r.first.kept r.work (reply.Sends datagram))
     → RequestsStand before old → IsEnd old before (sent r.number m (record { agent = old.agent; now = seconds; salt = salt }) datagram.items) new
 sent_all old new before place seconds salt r m datagram within is left replies stands =
     let by : Answering = record { agent = old.agent; now = seconds; salt = salt } in
@@ -512,11 +617,11 @@ unanswered_all old new before place r m within is left stands =
       requests = left_stands old new (unanswered r.number m) before place m left (subst (TakesOne (unanswered r.number m) before) at.number_is (unanswered_takes r.number m before)) stands;
     }
 
-pub given_up_ends : (tables : Tables) (e : RequestEnd) → IsGivenUp e → (q : Question) (told : List Variable) → EndingStands tables q told e
+pub given_up_ends : (tables : Tables) (e : RequestEnd) → IsGivenUp e → (q : Question) (told : Said) → EndingStands tables q told e
 given_up_ends tables ending.Silent is q told = tt
 given_up_ends tables (ending.Unhandled why) is q told = tt
 given_up_ends tables _ is q told = absurd is
 
 -- tooBig may be told of any request
-pub too_long : (tables : Tables) (q : Question) (told : List Variable) → EndingStands tables q told (ending.Own (record { status = TOO_BIG; index = pos 0 }))
+pub too_long : (tables : Tables) (q : Question) (told : Said) → EndingStands tables q told (ending.Own (record { status = TOO_BIG; index = pos 0 }))
 too_long tables q told is = absurd (false≢true ((Decides-int_eq TOO_BIG NO_ERROR).1 is))

@@ -1,12 +1,14 @@
 -- What is known of the requests that wait, when a message comes.
-use Rattle.std.specs.Prelude.{◌≡◌, ◌<◌, ℕ, suc, List, [], ◌∷◌, ◌++◌, All, Contains, Some}
-use Rattle.std.proofs.Common.{refl, sym, ap, subst, ◌∙◌, length, slice_index_or, arith}
-use Rattle.std.proofs.lemmas.List.Elements.{All-cons, All-contains_itself, All-head, All-nil, All-push, All-weaker}
+use Rattle.std.specs.Prelude.{◌≡◌, ◌≢◌, ◌<◌, ◌≤◌, ℕ, suc, List, [], ◌∷◌, ◌++◌, All, Contains, Some}
+use Rattle.std.proofs.Common.{refl, sym, ap, subst, inl, inr, ◌∙◌, length, slice_index_or, arith}
+use Rattle.std.proofs.lemmas.List.Elements.{All-cons, All-contains_itself, All-head, All-nil, All-push, All-tail, All-weaker}
 use Rattle.vacm_core.specs.Tables.{Tables}
 use Rattle.snmp_gate.specs.Beginning.{BeginsWell}
+use Rattle.snmp_gate.specs.Bounds.{IsNew}
 use Rattle.snmp_gate.specs.Groups.{IsJoined, begun, group_of, groups_of, with_messages}
 use Rattle.snmp_gate.specs.History.{Happening, IsAccepted, accepted, asked, number_of, told_in, waiting_in}
 use Rattle.snmp_gate.specs.Lawful.{IsInTurn, WasAsked}
+use Rattle.snmp_gate.specs.Limits.{asks_since}
 use Rattle.snmp_gate.specs.Messages.{question_in}
 use Rattle.snmp_gate.specs.Question.{Question}
 use Rattle.snmp_gate.specs.Sending.{Requests}
@@ -18,11 +20,19 @@ use Rattle.snmp_gate.specs.declared.waiting_message.WaitingMessage.{WaitingMessa
 use Rattle.snmp_gate.specs.declared.work.Work.{Work}
 use Rattle.snmp_gate.specs.declared.work.Work.TheVariants.{Open, Ends}
 use Rattle.snmp_gate.proofs.GroupSteps.{group_at}
-use Rattle.snmp_gate.proofs.Histories.{Waiting, all_set, below_next, group_in, later, numbered_set, others_later, past_later, work_later}
-use Rattle.snmp_gate.proofs.Others.{ask_later, chosen, none_happened, none_waits, was_before}
+use Rattle.snmp_gate.proofs.Histories.{CameBy, Waiting, all_set, below_next, group_in, later, numbered_set, numbers_back, others_later, past_later, work_later}
+use Rattle.snmp_gate.proofs.Others.{ask_later, chosen, contains_cons, none_asked, none_happened, none_waits, wait_other, was_before}
 use Rattle.snmp_gate.proofs.Questions.{numbered_begun}
 use Rattle.std.proofs.lemmas.List.{get_or_default}
 use Rattle.snmp_gate.proofs.Asked.{none_is_some}
+
+front_all : {X : Type 0} (P : X → Type 0) (xs ys : List X) → All P (xs ++ ys) → All P xs
+front_all P [] ys all = All-nil P
+front_all P (x ∷ xs) ys all = All-cons P x xs (All-head P x (xs ++ ys) all) (front_all P xs ys (All-tail P x (xs ++ ys) all))
+
+last_all : {X : Type 0} (P : X → Type 0) (xs : List X) (y : X) → All P (xs ++ y ∷ []) → P y
+last_all P [] y all = All-head P y [] all
+last_all P (x ∷ xs) y all = last_all P xs y (All-tail P x (xs ++ y ∷ []) all)
 
 is_accepted : (n at : ℕ) (datagram : List ℕ) (m : WaitingMessage) (before : List Happening) → IsAccepted (accepted n at datagram m ∷ before) n m
 is_accepted n at datagram m before = record {
@@ -34,10 +44,21 @@ is_accepted n at datagram m before = record {
 pub same_message : (n at : ℕ) (v : List ℕ) (m : WaitingMessage) (k then : ℕ) (w : List ℕ) (x : WaitingMessage) → accepted n at v m ≡ accepted k then w x → m ≡ x
 same_message n at v m k then w x is = cc
 
+same_moment : (n at : ℕ) (v : List ℕ) (m : WaitingMessage) (k then : ℕ) (w : List ℕ) (x : WaitingMessage) → accepted n at v m ≡ accepted k then w x → at ≡ then
+same_moment n at v m k then w x is = cc
+
+-- the request came by now, since one of its messages did
+came_by : (tables : Tables) (devices : List Device) (before : List Happening) (n : ℕ) (q : Question) (at : ℕ) (w : Work) (m : WaitingMessage) → IsAccepted before n m
+    → ((k then : ℕ) (v : List ℕ) (x : WaitingMessage) → Contains before (accepted k then v x) → then ≤ at) → WorkStands tables devices before n q w → CameBy at w
+came_by tables devices before n q at (Open o) m taken past stands =
+    let from = stands.came taken.now taken.datagram m taken.there in
+    let by = past n taken.now taken.datagram m taken.there in omega (arith, from, by)
+came_by tables devices before n q at (Ends e) m taken past stands = tt
+
 pub joined_all : (tables : Tables) (devices : List Device) (before : List Happening) (next most : ℕ) (rs : Requests) (place : ℕ) (r : WaitingRequest WaitingMessage Work) (m : WaitingMessage) (new : List Waiting) (at : ℕ) (datagram : List ℕ)
     → place < length rs → r ≡ slice_index_or rs place r → question_in r.first ≡ question_in m → IsJoined most (groups_of rs) place m new Joined
-    → GroupsStand tables devices before next (groups_of rs) → GroupsStand tables devices (accepted r.number at datagram m ∷ before) next new
-joined_all tables devices before next most rs place r m new at datagram within is asks joins stands =
+    → ((k then : ℕ) (v : List ℕ) (x : WaitingMessage) → Contains before (accepted k then v x) → then ≤ at) → GroupsStand tables devices before next (groups_of rs) → GroupsStand tables devices (accepted r.number at datagram m ∷ before) next new
+joined_all tables devices before next most rs place r m new at datagram within is asks joins past stands =
     let there = group_at rs place r within is in
     let g = joins.0 in
     let same : g ≡ group_of r = joins.1.group_is ∙ get_or_default (groups_of rs) place g (group_of r) there.within ∙ sym there.group_is in
@@ -56,13 +77,19 @@ joined_all tables devices before next most rs place r m new at datagram within i
       wait = subst (λ (n : ℕ). waiting_in g.number (accepted n at datagram m ∷ before) ≡ g.messages ++ m ∷ []) number
           (chosen g.number (waiting_in g.number before ++ m ∷ []) (waiting_in g.number before) ∙ ap (λ (ms : List WaitingMessage). ms ++ m ∷ []) known.wait);
       one = ask_later now before g.number known.question (λ then w x is. subst P (same_message r.number at datagram m g.number then w x is) told) known.one;
-      work = work_later tables devices now before g.number known.question g.work refl refl (was_before now before g.number (λ d id vs w is. let wrong : accepted r.number at datagram m ≡ asked g.number d id vs w = is in cc)) known.work;
+      work = work_later tables devices now before g.number known.question g.work refl refl refl (was_before now before g.number (λ d id vs w is. let wrong : accepted r.number at datagram m ≡ asked g.number d id vs w = is in cc))
+          (λ then v x is. subst (λ (t : ℕ). CameBy t g.work) (same_moment r.number at datagram m g.number then v x is)
+          (came_by tables devices before g.number known.question at g.work r.first
+          (subst (λ (k : ℕ). IsAccepted before k r.first) (sym number) (All-head (IsAccepted before r.number) r.first r.others.items (subst (λ (x : Waiting). All (IsAccepted before x.number) x.messages) same known.are_accepted))) past known.work)) known.work;
     } in
     subst (GroupsStand tables devices (now ∷ before) next) (sym joins.3) (record {
       all = all_set (GroupStands tables devices before) (GroupStands tables devices (now ∷ before)) (groups_of rs) place g (with_messages g (g.messages ++ m ∷ [])) stands.numbered.rise joins.1 stands.all new_stands
           (λ x other it. others_later tables devices now before x (λ is. other (is ∙ sym number)) it);
       numbered = numbered_set next (groups_of rs) place g (with_messages g (g.messages ++ m ∷ [])) joins.1 refl stands.numbered;
       past = past_later now before next (subst (λ (n : ℕ). n < next) number (below_next next (groups_of rs) place g joins.1 stands.numbered)) stands.past;
+      gone = λ n none.
+          let back = numbers_back n (groups_of rs) place g (with_messages g (g.messages ++ m ∷ [])) joins.1 refl none in
+          wait_other now before n (λ is. back.1 (is ∙ sym number)) ∙ stands.gone n back.0;
     })
 
 -- the message that joins asks what all ask that wait
@@ -80,14 +107,21 @@ pub request_asks : (tables : Tables) (devices : List Device) (before : List Happ
     → GroupsStand tables devices before next (groups_of rs) → GroupStands tables devices before (group_of r)
 request_asks tables devices before next rs place r within is stands = group_in tables devices before next (groups_of rs) place (group_of r) (group_at rs place r within is) stands
 
-begins_well : (tables : Tables) (devices : List Device) (before : List Happening) (n : ℕ) (q : Question) (w : Work) → ¬ WasAsked before n → BeginsWell tables devices q w → WorkStands tables devices before n q w
-begins_well tables devices before n q (Open o) never well = record {
+begins_well : (tables : Tables) (devices : List Device) (before : List Happening) (n : ℕ) (q : Question) (w : Work) → ¬ WasAsked before n → ((at : ℕ) (v : List ℕ) (m : WaitingMessage) → Contains before (accepted n at v m) → CameBy at w) → asks_since n before ≡ 0 → BeginsWell tables devices q w → WorkStands tables devices before n q w
+begins_well tables devices before n q (Open o) never came since well = record {
   task = well.0 (told_in n before);
   device = well.1;
   asked = λ id is. absurd (none_is_some id (sym well.2 ∙ is));
   set_once = λ set none. never;
+  came = came;
+  unasked = λ none. since;
+  tried = omega (arith, since);
 }
-begins_well tables devices before n q (Ends e) never well = well (told_in n before)
+begins_well tables devices before n q (Ends e) never came since well = well (told_in n before)
+
+new_by : (at : ℕ) (w : Work) → IsNew at w → CameBy at w
+new_by at (Open o) is = omega (arith, is.2)
+new_by at (Ends e) is = tt
 
 never_asked : (next at : ℕ) (datagram : List ℕ) (m : WaitingMessage) (before : List Happening) → All (λ (e : Happening). number_of e < next) before → ¬ WasAsked (accepted next at datagram m ∷ before) next
 never_asked next at datagram m before past was =
@@ -95,8 +129,8 @@ never_asked next at datagram m before past was =
     none_happened before next (asked next old.device old.id old.variables old.datagram) past old.there refl
 
 pub begun_all : (tables : Tables) (devices : List Device) (before : List Happening) (next after : ℕ) (gs new : List Waiting) (m : WaitingMessage) (q : Question) (w : Work) (at : ℕ) (datagram : List ℕ) → question_in m ≡ Some q
-    → BeginsWell tables devices q w → new ≡ gs ++ begun next m w ∷ [] → after ≡ suc next → GroupsStand tables devices before next gs → GroupsStand tables devices (accepted next at datagram m ∷ before) after new
-begun_all tables devices before next after gs new m q w at datagram asks well new_is after_is stands =
+    → BeginsWell tables devices q w → IsNew at w → new ≡ gs ++ begun next m w ∷ [] → after ≡ suc next → GroupsStand tables devices before next gs → GroupsStand tables devices (accepted next at datagram m ∷ before) after new
+begun_all tables devices before next after gs new m q w at datagram asks well is_new new_is after_is stands =
     let now = accepted next at datagram m in
     let numbered = numbered_begun (λ (x : WaitingMessage). x) 0 0 next gs m w (record { below = stands.numbered.less; rise = stands.numbered.rise }) in
     subst (λ (xs : List Waiting). GroupsStand tables devices (now ∷ before) after xs) (sym new_is)
@@ -111,10 +145,17 @@ begun_all tables devices before next after gs new m q w at datagram asks well ne
             wait = chosen next (waiting_in next before ++ m ∷ []) (waiting_in next before) ∙ ap (λ (ms : List WaitingMessage). ms ++ m ∷ []) (none_waits before next stands.past);
             one = ask_later now before next q (λ then v x is. subst (λ (y : WaitingMessage). question_in y ≡ Some q) (same_message next at datagram m next then v x is) asks)
                 (λ then v x there. absurd (none_happened before next (accepted next then v x) stands.past there refl));
-            work = begins_well tables devices (now ∷ before) next q w (never_asked next at datagram m before stands.past) well;
+            work = begins_well tables devices (now ∷ before) next q w (never_asked next at datagram m before stands.past)
+                (λ then v x there. elim (contains_cons now before (accepted next then v x) there) [
+                  | inl is ↦ subst (λ (t : ℕ). CameBy t w) (same_moment next at datagram m next then v x is) (new_by at w is_new)
+                  | inr old ↦ absurd (none_happened before next (accepted next then v x) stands.past old refl)
+                ]) (none_asked before next stands.past) well;
           });
       numbered = record { rise = numbered.rise; less = numbered.below };
       past = past_later now before (suc next) (omega arith) (All-weaker (λ (e : Happening). number_of e < next) (λ (e : Happening). number_of e < suc next) (λ e lt. omega (arith, lt)) before stands.past);
+      gone = λ n none.
+          let other : n ≢ next = λ is. last_all (λ (x : Waiting). x.number ≢ n) gs (begun next m w) none (sym is) in
+          wait_other now before n other ∙ stands.gone n (front_all (λ (x : Waiting). x.number ≢ n) gs (begun next m w ∷ []) none);
     }))
 
 -- a message that begins a request joins none

@@ -12,6 +12,7 @@ use Rattle.snmp_gate.specs.declared.asks.DeviceAsks.{DeviceAsks}
 use Rattle.snmp_gate.specs.declared.devices.Devices.{Devices}
 use Rattle.snmp_gate.specs.declared.gate.Gate.{Gate}
 use Rattle.snmp_gate.specs.declared.requests.WaitingRequests.{WaitingRequests}
+use Rattle.snmp_gate.specs.declared.set_answer.ResponseStatus.{ResponseStatus}
 use Rattle.snmp_gate.specs.declared.sets.RememberedSet.{RememberedSet}
 use Rattle.snmp_gate.specs.declared.sets.RememberedSets.{RememberedSets}
 use Rattle.snmp_gate.specs.declared.take_client.Noted.{Noted}
@@ -21,7 +22,7 @@ use Rattle.snmp_gate.specs.declared.work.Work.{Work}
 use Rattle.snmp_gate.proofs.Coming.{same_stands}
 use Rattle.snmp_gate.proofs.Histories.{moved}
 use Rattle.snmp_gate.proofs.SetsKept.{KeepsKnown, keeps_kept, keeps_same, sets_step}
-use Rattle.snmp_gate.specs.declared.sets.SetNote.TheVariants.{New}
+use Rattle.snmp_gate.specs.declared.sets.SetNote.TheVariants.{New, NoRoom, Repeated}
 use Rattle.std.proofs.lemmas.List.{length_push}
 use Rattle.std.proofs.lemmas.List.Elements.{All-head, All-tail, filter_passes}
 use Rattle.std.proofs.Math.Seq.{take-append_seam}
@@ -82,6 +83,15 @@ unnoted_again now None a b c n is kind un = inl (subst (λ (k : Noted). IsUnnote
 unnoted_again now (Some d) a b c n is kind un =
     inr (subst (λ (k : Noted). IsUnnoted k b c) kind un ∙ ap (λ (x : List RememberedSet). take (length x - 1) x) is.2 ∙ pushed_off (lasting now a) (new_set now d))
 
+-- a Set that is repeated, or for which there is no room, isn't remembered
+pub keeps_repeated : (now : ℕ) (digest : Option (List ℕ)) (a b : List RememberedSet) (outcome : Option ResponseStatus) → IsNotedAgain now digest a b (Repeated outcome) → KeepsSets now a b
+keeps_repeated now None a b outcome is = inl is.1
+keeps_repeated now (Some d) a b outcome is = inr is.1
+
+pub keeps_no_room : (now : ℕ) (digest : Option (List ℕ)) (a b : List RememberedSet) → IsNotedAgain now digest a b NoRoom → KeepsSets now a b
+keeps_no_room now None a b is = inl is.1
+keeps_no_room now (Some d) a b is = inr is.2
+
 pub as_before : (now : ℕ) (old new : Gate) → new.agent ≡ old.agent → new.devices ≡ old.devices → new.limits ≡ old.limits → new.asks ≡ old.asks
     → groups_of new.requests.list.items ≡ groups_of old.requests.list.items → new.requests.next ≡ old.requests.next → KeepsSets now old.sets.sets.items new.sets.sets.items → IsAsBefore now old new
 as_before now old new agent devices limits asks groups next sets = record {
@@ -102,6 +112,16 @@ stays_as_before now g = as_before now g g refl refl refl refl refl refl (inl ref
 pub same_before : (now : ℕ) (old new : Gate) → SameButSets old new → KeepsSets now old.sets.sets.items new.sets.sets.items → IsAsBefore now old new
 same_before now old new same sets =
     as_before now old new same.agent same.devices same.limits same.asks (ap (λ (rs : WaitingRequests WaitingMessage Work). groups_of rs.list.items) same.requests) (ap (λ (rs : WaitingRequests WaitingMessage Work). rs.next) same.requests) sets
+
+-- a Set was remembered, and is forgotten again, since its message isn't taken
+pub forgotten : (now : ℕ) (old mid : Gate) (requests : WaitingRequests WaitingMessage Work) (new : Gate) (digest : Option (List ℕ)) (n : Noted) → SameButSets old mid → SameButSets (record mid { requests = requests }) new
+    → groups_of requests.list.items ≡ groups_of mid.requests.list.items → requests.next ≡ mid.requests.next → IsNotedAgain now digest old.sets.sets.items mid.sets.sets.items New
+    → MatchOption digest (n ≡ noted.NoSet) (λ d. n ≡ noted.Now) → IsUnnoted n mid.sets.sets.items new.sets.sets.items → IsAsBefore now old new
+forgotten now old mid requests new digest n note last groups next is kind un =
+    as_before now old new (last.agent ∙ note.agent) (last.devices ∙ note.devices) (last.limits ∙ note.limits) (last.asks ∙ note.asks)
+    (ap (λ (x : WaitingRequests WaitingMessage Work). groups_of x.list.items) last.requests ∙ groups ∙ ap (λ (x : WaitingRequests WaitingMessage Work). groups_of x.list.items) note.requests)
+    (ap (λ (x : WaitingRequests WaitingMessage Work). x.next) last.requests ∙ next ∙ ap (λ (x : WaitingRequests WaitingMessage Work). x.next) note.requests)
+    (unnoted_again now digest old.sets.sets.items mid.sets.sets.items new.sets.sets.items n is kind un)
 
 -- the same, where another gateway was the same at first
 pub as_before_same : (now : ℕ) (old mid new : Gate) → mid.agent ≡ old.agent → mid.devices ≡ old.devices → mid.limits ≡ old.limits → mid.asks ≡ old.asks → mid.requests ≡ old.requests → mid.sets ≡ old.sets

@@ -31,3 +31,6 @@ pub mod Same
 pub mod Keeping
 pub mod Running
 pub mod Dues
+pub mod Bounded
+pub mod Todos
+pub mod AtOnce

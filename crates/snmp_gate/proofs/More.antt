@@ -1,9 +1,10 @@
 -- What is known of a dialogue stays known as the device tells more.
-use Rattle.std.specs.Prelude.{ℕ, List, All, Contains}
+use Rattle.std.specs.Prelude.{ℕ, List, All, Contains, slice_index_or}
 use Rattle.std.proofs.Common.{inl, inr}
-use Rattle.std.proofs.lemmas.List.Elements.{All-weaker}
+use Rattle.std.proofs.lemmas.List.Elements.{All-contains, All-weaker, Contains-get_or}
 use Rattle.snmp_msg.specs.Variables.{Variable}
 use Rattle.vacm_core.specs.Tables.{Tables}
+use Rattle.snmp_responder.specs.Instrumentation.{Known}
 use Rattle.snmp_walk.specs.BulkColumn.{BulkStands, IsGiven, given_in, last_name}
 use Rattle.snmp_walk.specs.Column.{IsAtEnd, Stands, StandsAt, StandsIn, StandsInGet, StandsInWalk}
 use Rattle.snmp_walk.specs.declared.bulk_column.BulkColumn.{BulkColumn}
@@ -14,15 +15,25 @@ use Rattle.snmp_walk.specs.declared.operation.ReadOperation.{ReadOperation}
 use Rattle.snmp_walk.specs.declared.operation.ReadOperation.TheVariants.{Get, GetNext}
 use Rattle.snmp_gate.specs.Messages.{seen_in}
 use Rattle.snmp_gate.specs.Question.{Question}
+use Rattle.snmp_gate.specs.Said.{AreTrue, Exchange, IsTrueExchange, Said}
 use Rattle.snmp_gate.specs.Work.{TaskStands}
 use Rattle.snmp_gate.specs.declared.task.Task.{Task}
 use Rattle.snmp_gate.specs.declared.task.Task.TheVariants as task
 
 -- one list has all that the other has
-abbrev pub HasAll : List Variable → List Variable → Type 0
-HasAll told more = (v : Variable) → Contains told v → Contains more v
+abbrev HasVariables : List Variable → List Variable → Type 0
+HasVariables told more = (v : Variable) → Contains told v → Contains more v
 
-module _ (Seen : List ℕ → Type 0) (told more : List Variable) (has : HasAll told more) where
+pub record HasAll (told more : Said) : Type 0 where
+  pub variables : HasVariables told.variables more.variables
+  pub exchanges : (e : Exchange) → Contains told.exchanges e → Contains more.exchanges e
+
+-- what is true of all is true of these
+fewer_true : (device : Known) (o : ReadOperation) (told more : Said) → HasAll told more → AreTrue device o more → AreTrue device o told
+fewer_true device o told more has truly k d within =
+    All-contains (IsTrueExchange device o) more.exchanges (slice_index_or told.exchanges k d) truly (has.exchanges (slice_index_or told.exchanges k d) (Contains-get_or told.exchanges k d within))
+
+module _ (Seen : List ℕ → Type 0) (told more : List Variable) (has : HasVariables told more) where
   at_more : (first name : List ℕ) → StandsAt first told name → StandsAt first more name
   at_more first name at = record {
     place = elim at.place [ inl same ↦ inl same | inr (v, there, is) ↦ inr (v, has v there, is) ];
@@ -64,11 +75,12 @@ module _ (Seen : List ℕ → Type 0) (told more : List Variable) (has : HasAll 
     walk = walk_more (last_name c.first (given_in c)) c.progress is.walk;
   }) cs all
 
-pub task_more : (tables : Tables) (q : Question) (told more : List Variable) (t : Task) → HasAll told more → TaskStands tables q told t → TaskStands tables q more t
+pub task_more : (tables : Tables) (q : Question) (told more : Said) (t : Task) → HasAll told more → TaskStands tables q told t → TaskStands tables q more t
 task_more tables q told more (task.Read operation d) has stands = record {
   tag = stands.tag;
   requests_are = stands.requests_are;
-  stand = columns_more (seen_in tables q) told more has d.columns.items stands.stand;
+  stand = columns_more (seen_in tables q) told.variables more.variables has.variables d.columns.items stands.stand;
+  tracks = λ device plain truly. stands.tracks device plain (fewer_true device operation told more has truly);
 }
 task_more tables q told more (task.Bulk by d) has stands = record {
   tag = stands.tag;
@@ -77,6 +89,6 @@ task_more tables q told more (task.Bulk by d) has stands = record {
   max_repetitions = stands.max_repetitions;
   most = stands.most;
   requests_are = stands.requests_are;
-  stand = bulk_more (seen_in tables q) told more has d.columns.items stands.stand;
+  stand = bulk_more (seen_in tables q) told.variables more.variables has.variables d.columns.items stands.stand;
 }
 task_more tables q told more task.Set has stands = stands

@@ -1,11 +1,12 @@
 -- What happens for one request tells nothing of another.
-use Rattle.std.specs.Prelude.{◌≡◌, ◌≢◌, ◌⊎◌, ◌∷◌, ◌++◌, ◌<◌, ℕ, Bool, true, false, cond, nat_eq, List, [], All, Contains, Some, None, drop}
+use Rattle.std.specs.Prelude.{◌≡◌, ◌≢◌, ◌⊎◌, ◌∷◌, ◌++◌, ◌+◌, ◌<◌, ℕ, Bool, true, false, cond, nat_eq, List, [], All, Contains, Some, None, drop}
 use Rattle.std.proofs.Common.{refl, sym, ap, ◌∙◌, inl, inr, arith}
 use Rattle.std.proofs.lemmas.Bool.Decides.{eqb_tells}
 use Rattle.std.proofs.lemmas.List.Elements.{All-contains, All-head, All-tail, Contains-append_cases, Contains-append_right, Contains-push_cases}
 use Rattle.snmp_msg.specs.Variables.{Variable}
-use Rattle.snmp_gate.specs.History.{Happening, accepted, answered, asked, given_up, number_of, open_ask, said_by, sent, told_in, unanswered, waiting_in}
+use Rattle.snmp_gate.specs.History.{Happening, accepted, answered, asked, given_up, more_said, number_of, open_ask, sent, told_in, unanswered, waiting_in}
 use Rattle.snmp_gate.specs.Lawful.{WasAsked}
+use Rattle.snmp_gate.specs.Limits.{asks_since}
 use Rattle.snmp_gate.specs.Messages.{question_in}
 use Rattle.snmp_gate.specs.Question.{Question}
 use Rattle.snmp_gate.specs.Waiting.{AllAsk}
@@ -33,7 +34,7 @@ chosen a x y = ap (λ (t : Bool). cond t x y) (same_number a)
 pub told_other : (e : Happening) (before : List Happening) (n : ℕ) → n ≢ number_of e → told_in n (e ∷ before) ≡ told_in n before
 told_other (accepted k now w m) before n other = refl
 told_other (asked k d id vs w) before n other = refl
-told_other (answered k d p w) before n other = chosen_not n k (said_by (open_ask n before) p ++ told_in n before) (told_in n before) other
+told_other (answered k d p w) before n other = chosen_not n k (more_said (open_ask n before) p (told_in n before)) (told_in n before) other
 told_other (sent k m by w) before n other = refl
 told_other (unanswered k m) before n other = refl
 told_other (given_up k d) before n other = refl
@@ -87,3 +88,17 @@ none_waits [] next past = refl
 none_waits (e ∷ before) next past =
     let first : number_of e < next = All-head (λ (x : Happening). number_of x < next) e before past in
     wait_other e before next (λ same. omega (arith, first, same)) ∙ none_waits before next (All-tail (λ (x : Happening). number_of x < next) e before past)
+
+pub since_other : (e : Happening) (before : List Happening) (n : ℕ) → n ≢ number_of e → asks_since n (e ∷ before) ≡ asks_since n before
+since_other (accepted k now w m) before n other = refl
+since_other (asked k d id vs w) before n other = chosen_not n k (1 + asks_since n before) (asks_since n before) other
+since_other (answered k d p w) before n other = chosen_not n k 0 (asks_since n before) other
+since_other (sent k m by w) before n other = refl
+since_other (unanswered k m) before n other = refl
+since_other (given_up k d) before n other = refl
+
+pub none_asked : (before : List Happening) (next : ℕ) → All (λ (x : Happening). number_of x < next) before → asks_since next before ≡ 0
+none_asked [] next past = refl
+none_asked (e ∷ before) next past =
+    let first : number_of e < next = All-head (λ (x : Happening). number_of x < next) e before past in
+    since_other e before next (λ same. omega (arith, first, same)) ∙ none_asked before next (All-tail (λ (x : Happening). number_of x < next) e before past)

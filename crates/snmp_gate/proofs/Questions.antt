@@ -39,11 +39,11 @@ module _ {M W : Type 0} where
       all_left P old new place a.group message a.others a.messages_are a.left (λ next rest were. keeps a.group next rest were (at_place P old place a.group a.at all)) all
 
   -- how many requests there are
-  long_joined : (most : ℕ) (old new : List (Group M W)) (place : ℕ) (message : M) (becomes : Joined) → IsJoined most old place message new becomes → length new ≡ length old
+  pub long_joined : (most : ℕ) (old new : List (Group M W)) (place : ℕ) (message : M) (becomes : Joined) → IsJoined most old place message new becomes → length new ≡ length old
   long_joined most old new place message joined.Joined j = ap (λ (gs : List (Group M W)). length gs) j.3 ∙ length-set old place (with_messages j.0 (j.0.messages ++ message ∷ []))
   long_joined most old new place message joined.NoRoom j = ap (λ (gs : List (Group M W)). length gs) j.3
 
-  long_left : (old new : List (Group M W)) (place : ℕ) (g : Group M W) (others : List M) → place < length old → IsLeft old place g others new → length new ≤ length old
+  pub long_left : (old new : List (Group M W)) (place : ℕ) (g : Group M W) (others : List M) → place < length old → IsLeft old place g others new → length new ≤ length old
   long_left old new place g [] within left = omega (arith, ap (λ (gs : List (Group M W)). length gs) left, length-remove old place within)
   long_left old new place g (next ∷ rest) within left = omega (arith, ap (λ (gs : List (Group M W)). length gs) left, length-set old place (with_messages g (next ∷ rest)))
 
@@ -58,24 +58,24 @@ module _ {M W Q : Type 0} (question : M → Q) (most most_messages : ℕ) where
       run_few next run.0 steps last (omega (arith, long_left first run.0 place run.1.group run.1.others run.1.at.within run.1.left)) run.2
 
   -- a group with few messages
-  few_begun : (next : ℕ) (message : M) (work : W) → IsFew most_messages (begun next message work)
+  pub few_begun : (next : ℕ) (message : M) (work : W) → IsFew most_messages (begun next message work)
   few_begun next message work = record { some = omega arith; few = λ more. absurd (omega (arith, more)) }
 
-  few_more : (message : M) (g : Group M W) → length g.messages < most_messages → IsFew most_messages g → IsFew most_messages (with_messages g (g.messages ++ message ∷ []))
+  pub few_more : (message : M) (g : Group M W) → length g.messages < most_messages → IsFew most_messages g → IsFew most_messages (with_messages g (g.messages ++ message ∷ []))
   few_more message g room few =
       let long = length_push g.messages message in record {
         some = omega (arith, long);
         few = λ more. omega (arith, long, room);
       }
 
-  few_less : (message : M) (g : Group M W) (next : M) (rest : List M) → g.messages ≡ message ∷ next ∷ rest → IsFew most_messages g → IsFew most_messages (with_messages g (next ∷ rest))
+  pub few_less : (message : M) (g : Group M W) (next : M) (rest : List M) → g.messages ≡ message ∷ next ∷ rest → IsFew most_messages g → IsFew most_messages (with_messages g (next ∷ rest))
   few_less message g next rest were few =
       let long = ap (λ (ms : List M). length ms) were in record {
         some = omega arith;
         few = λ more. omega (arith, long, few.few (omega (arith, long)));
       }
 
-  few_worked : (after : W) (g : Group M W) → IsFew most_messages g → IsFew most_messages (with_work g after)
+  pub few_worked : (after : W) (g : Group M W) → IsFew most_messages g → IsFew most_messages (with_work g after)
   few_worked after g few = record { some = few.some; few = few.few }
 
   pub run_few_messages : (next : ℕ) (first : List (Group M W)) (steps : List (GroupStep M W)) (last : List (Group M W)) → All (IsFew most_messages) first → IsGroupRun question most most_messages next first steps last

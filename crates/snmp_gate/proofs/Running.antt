@@ -6,6 +6,8 @@ use Rattle.std.proofs.lemmas.Bool.Decides.{eqb_tells}
 use Rattle.vacm_core.specs.Tables.{Tables}
 use Rattle.snmp_incoming.specs.Outcome.{Outcome}
 use Rattle.snmp_agent.specs.Agent.{AgentState, taker_of}
+use Rattle.snmp_gate.specs.Bounds.{AreBounded, AsksBounded, IsBounded}
+use Rattle.snmp_gate.specs.Limits.{AlwaysKeepsTo, IsTriedFew, KeepsTo, WaitInTime}
 use Rattle.snmp_gate.specs.History.{Happening, IsMediated, MayAskFor, accepted, answered, asked, given_up, sent, told_in, unanswered, waiting_in}
 use Rattle.snmp_gate.specs.Lawful.{AreLawful, IsLawful}
 use Rattle.snmp_gate.specs.Replies.{IsAnswerTo, SameAgent}
@@ -20,7 +22,10 @@ use Rattle.snmp_gate.specs.declared.gate.DeviceTaken.TheVariants as device
 use Rattle.snmp_gate.specs.declared.gate.Gate.{Gate}
 use Rattle.snmp_gate.specs.declared.gate.Sent.{Sent}
 use Rattle.snmp_gate.specs.declared.gate.Sent.TheVariants as out
+use Rattle.snmp_gate.specs.declared.limits.GateLimits.{GateLimits}
 use Rattle.snmp_gate.specs.declared.waiting_message.WaitingMessage.{WaitingMessage}
+use Rattle.snmp_gate.proofs.AtOnce.{keeps_to, wait_in_time}
+use Rattle.snmp_gate.proofs.Bounded.{stays_on, stays_same}
 
 -- ---- the same law, by an agent that is the same but for its counters
 
@@ -47,18 +52,6 @@ lawful_same first old before e stays is = record {
   once = is.once;
 }
 
-stays_on : (a b c : Gate) → Stays a b → Stays b c → Stays a c
-stays_on a b c first second = record {
-  agent = record {
-    engine = second.agent.engine ∙ first.agent.engine;
-    boots = second.agent.boots ∙ first.agent.boots;
-    started = second.agent.started ∙ first.agent.started;
-    users = second.agent.users ∙ first.agent.users;
-    tables = second.agent.tables ∙ first.agent.tables;
-  };
-  devices = second.devices ∙ first.devices;
-}
-
 -- ---- a run
 
 -- a run has a history
@@ -67,6 +60,18 @@ pub record RunStands (first : Gate) (events : List Event) (last : Gate) : Type 0
   pub is : IsHistoryOf first events history
   pub stands : GateStands (moment_of events) history last
   pub stays : Stays first last
+  pub keeps : IsBounded first → AlwaysKeepsTo first.limits first.devices.list.items history
+
+-- the history keeps to the gateway's limits, with what happens now
+keeps_more : (first last : Gate) (now : ℕ) (history : List Happening) → Stays first last → GateStands now history last → IsBounded first → KeepsTo first.limits first.devices.list.items history
+keeps_more first last now history stays stands b =
+    let bounded = stays.bounded b in
+    keeps_to last.agent.tables first.limits history first.devices.list.items last.devices.list.items last.requests last.asks.items stands.requests stands.asks
+    (subst (λ (l : GateLimits). AreBounded l last.requests) stays.limits bounded.requests) (subst (λ (d : Devices). AsksBounded d.list.items last.asks.items) stays.devices bounded.asks)
+
+-- the limits are the same
+tried_few : (first middle : Gate) (before : List Happening) (e : Happening) → Stays first middle → IsTriedFew middle.limits before e → IsTriedFew first.limits before e
+tried_few first middle before e stays tried = subst (λ (l : GateLimits). IsTriedFew l before e) stays.limits tried
 
 -- a history with what happens now
 happened : (first middle last : Gate) (now : ℕ) (e : Happening) (history : List Happening) (events : List Event) (event : Event) → Stays first middle → IsHistoryOf first events history → Happens middle now history e last
@@ -84,16 +89,18 @@ client_stands first middle last now from w (client.Begins n) events known stays 
   is = happened first middle last now (accepted n now w happens.0) known.history events (client_comes now from w (client.Begins n)) known.stays known.is happens.2 known.is.devices known.is.clients;
   stands = happens.2.stands;
   stays = stays_on first middle last known.stays stays;
+  keeps = λ b. (keeps_more first last now (accepted n now w happens.0 ∷ known.history) (stays_on first middle last known.stays stays) happens.2.stands b, tried_few first middle known.history (accepted n now w happens.0) known.stays happens.2.tried, known.keeps b);
 }
 client_stands first middle last now from w (client.Joins n) events known stays happens = record {
   history = accepted n now w happens.0 ∷ known.history;
   is = happened first middle last now (accepted n now w happens.0) known.history events (client_comes now from w (client.Joins n)) known.stays known.is happens.2 known.is.devices known.is.clients;
   stands = happens.2.stands;
   stays = stays_on first middle last known.stays stays;
+  keeps = λ b. (keeps_more first last now (accepted n now w happens.0 ∷ known.history) (stays_on first middle last known.stays stays) happens.2.stands b, tried_few first middle known.history (accepted n now w happens.0) known.stays happens.2.tried, known.keeps b);
 }
-client_stands first middle last now from w (client.Refused why) events known stays happens = record { history = known.history; is = record { lawful = known.is.lawful; devices = known.is.devices; clients = known.is.clients }; stands = happens; stays = stays_on first middle last known.stays stays }
-client_stands first middle last now from w client.NoRoom events known stays happens = record { history = known.history; is = record { lawful = known.is.lawful; devices = known.is.devices; clients = known.is.clients }; stands = happens; stays = stays_on first middle last known.stays stays }
-client_stands first middle last now from w client.SetOfBefore events known stays happens = record { history = known.history; is = record { lawful = known.is.lawful; devices = known.is.devices; clients = known.is.clients }; stands = happens; stays = stays_on first middle last known.stays stays }
+client_stands first middle last now from w (client.Refused why) events known stays happens = record { history = known.history; is = record { lawful = known.is.lawful; devices = known.is.devices; clients = known.is.clients }; stands = happens; stays = stays_on first middle last known.stays stays; keeps = known.keeps }
+client_stands first middle last now from w client.NoRoom events known stays happens = record { history = known.history; is = record { lawful = known.is.lawful; devices = known.is.devices; clients = known.is.clients }; stands = happens; stays = stays_on first middle last known.stays stays; keeps = known.keeps }
+client_stands first middle last now from w client.SetOfBefore events known stays happens = record { history = known.history; is = record { lawful = known.is.lawful; devices = known.is.devices; clients = known.is.clients }; stands = happens; stays = stays_on first middle last known.stays stays; keeps = known.keeps }
 
 device_stands : (first middle last : Gate) (now number : ℕ) (w : List ℕ) (taken : DeviceTaken) (events : List Event) (known : RunStands first events middle) → Stays middle last → DeviceHappens middle now known.history number w taken last
     → RunStands first (device_comes now number w taken ∷ events) last
@@ -102,9 +109,10 @@ device_stands first middle last now number w (device.Answers n) events known sta
   is = happened first middle last now (answered n number happens.0 w) known.history events (device_comes now number w (device.Answers n)) known.stays known.is happens.1 known.is.devices known.is.clients;
   stands = happens.1.stands;
   stays = stays_on first middle last known.stays stays;
+  keeps = λ b. (keeps_more first last now (answered n number happens.0 w ∷ known.history) (stays_on first middle last known.stays stays) happens.1.stands b, tried_few first middle known.history (answered n number happens.0 w) known.stays happens.1.tried, known.keeps b);
 }
-device_stands first middle last now number w device.Unreadable events known stays happens = record { history = known.history; is = record { lawful = known.is.lawful; devices = known.is.devices; clients = known.is.clients }; stands = happens; stays = stays_on first middle last known.stays stays }
-device_stands first middle last now number w device.NotWaitedFor events known stays happens = record { history = known.history; is = record { lawful = known.is.lawful; devices = known.is.devices; clients = known.is.clients }; stands = happens; stays = stays_on first middle last known.stays stays }
+device_stands first middle last now number w device.Unreadable events known stays happens = record { history = known.history; is = record { lawful = known.is.lawful; devices = known.is.devices; clients = known.is.clients }; stands = happens; stays = stays_on first middle last known.stays stays; keeps = known.keeps }
+device_stands first middle last now number w device.NotWaitedFor events known stays happens = record { history = known.history; is = record { lawful = known.is.lawful; devices = known.is.devices; clients = known.is.clients }; stands = happens; stays = stays_on first middle last known.stays stays; keeps = known.keeps }
 
 send_stands : (first middle last : Gate) (now : ℕ) (salt : List ℕ) (what : Sent) (events : List Event) (known : RunStands first events middle) → Stays middle last → SendHappens middle now known.history salt what last → RunStands first (goes_out now salt what ∷ events) last
 send_stands first middle last now salt (out.ToClient n to w) events known stays happens =
@@ -114,6 +122,7 @@ send_stands first middle last now salt (out.ToClient n to w) events known stays 
           (λ i. ((happens.1 i).items, w.items) ∷ known.is.clients i);
       stands = happens.2.stands;
       stays = stays_on first middle last known.stays stays;
+      keeps = λ b. (keeps_more first last now (e ∷ known.history) (stays_on first middle last known.stays stays) happens.2.stands b, tried_few first middle known.history e known.stays happens.2.tried, known.keeps b);
     }
 send_stands first middle last now salt (out.ToDevice n to w) events known stays happens =
     let e = asked n to happens.0 happens.1 w.items in record {
@@ -121,6 +130,7 @@ send_stands first middle last now salt (out.ToDevice n to w) events known stays 
       is = happened first middle last now e known.history events (goes_out now salt (out.ToDevice n to w)) known.stays known.is happens.2 (λ i. (to, w.items) ∷ known.is.devices i) known.is.clients;
       stands = happens.2.stands;
       stays = stays_on first middle last known.stays stays;
+      keeps = λ b. (keeps_more first last now (e ∷ known.history) (stays_on first middle last known.stays stays) happens.2.stands b, tried_few first middle known.history e known.stays happens.2.tried, known.keeps b);
     }
 send_stands first middle last now salt (out.Unanswered n why) events known stays happens =
     let e = unanswered n happens.0 in record {
@@ -128,6 +138,7 @@ send_stands first middle last now salt (out.Unanswered n why) events known stays
       is = happened first middle last now e known.history events (goes_out now salt (out.Unanswered n why)) known.stays known.is happens.1 known.is.devices known.is.clients;
       stands = happens.1.stands;
       stays = stays_on first middle last known.stays stays;
+      keeps = λ b. (keeps_more first last now (e ∷ known.history) (stays_on first middle last known.stays stays) happens.1.stands b, tried_few first middle known.history e known.stays happens.1.tried, known.keeps b);
     }
 send_stands first middle last now salt (out.GivenUp n to) events known stays happens =
     let e = given_up n to in record {
@@ -135,27 +146,17 @@ send_stands first middle last now salt (out.GivenUp n to) events known stays hap
       is = happened first middle last now e known.history events (goes_out now salt (out.GivenUp n to)) known.stays known.is happens known.is.devices known.is.clients;
       stands = happens.stands;
       stays = stays_on first middle last known.stays stays;
+      keeps = λ b. (keeps_more first last now (e ∷ known.history) (stays_on first middle last known.stays stays) happens.stands b, tried_few first middle known.history e known.stays happens.tried, known.keeps b);
     }
-send_stands first middle last now salt out.Nothing events known stays happens = record { history = known.history; is = record { lawful = known.is.lawful; devices = known.is.devices; clients = known.is.clients }; stands = happens; stays = stays_on first middle last known.stays stays }
-
-stays_same : (a b : Gate) → b.agent ≡ a.agent → b.devices ≡ a.devices → Stays a b
-stays_same a b agent devices = record {
-  agent = record {
-    engine = ap (λ (x : AgentState). x.engine) agent;
-    boots = ap (λ (x : AgentState). x.boots) agent;
-    started = ap (λ (x : AgentState). x.started) agent;
-    users = ap (λ (x : AgentState). x.users) agent;
-    tables = ap (λ (x : AgentState). x.tables) agent;
-  };
-  devices = devices;
-}
+send_stands first middle last now salt out.Nothing events known stays happens = record { history = known.history; is = record { lawful = known.is.lawful; devices = known.is.devices; clients = known.is.clients }; stands = happens; stays = stays_on first middle last known.stays stays; keeps = known.keeps }
 
 pub run_stands : (first : Gate) (events : List Event) (last : Gate) → GateStands 0 [] first → IsRun first events last → RunStands first events last
 run_stands first [] last stands run = subst (RunStands first []) (sym run) (record {
   history = [];
   is = record { lawful = tt; devices = refl; clients = refl };
   stands = stands;
-  stays = stays_same first first refl refl;
+  stays = stays_same first;
+  keeps = λ b. tt;
 })
 run_stands first (client_comes now from w taken ∷ events) last stands run =
     let known = run_stands first events run.1.0 stands run.1.1 in
@@ -165,14 +166,32 @@ run_stands first (device_comes now number w taken ∷ events) last stands run =
     device_stands first run.1.0 last now number w taken events known run.1.2.0 (run.1.2.1 (moment_of events) known.history run.0 known.stands)
 run_stands first (goes_out now salt what ∷ events) last stands run =
     let known = run_stands first events run.1.0 stands run.1.1 in
-    send_stands first run.1.0 last now salt what events known run.1.2.0 (run.1.2.1 (moment_of events) known.history run.0 known.stands)
+    send_stands first run.1.0 last now salt what events known run.1.2.0 (run.1.2.2 (moment_of events) known.history run.0 known.stands)
 run_stands first (finds_no_memory now ∷ events) last stands run =
     let known = run_stands first events run.1.0 stands run.1.1 in record {
       history = known.history;
       is = record { lawful = known.is.lawful; devices = known.is.devices; clients = known.is.clients };
-      stands = run.1.2.stands (moment_of events) known.history run.0 known.stands;
-      stays = stays_on first run.1.0 last known.stays (stays_same run.1.0 last run.1.2.agent run.1.2.devices);
+      stands = run.1.3.stands (moment_of events) known.history run.0 known.stands;
+      stays = stays_on first run.1.0 last known.stays run.1.2;
+      keeps = known.keeps;
     }
+
+-- what stays the same over a run
+pub run_keeps : (first : Gate) (events : List Event) (last : Gate) → IsRun first events last → Stays first last
+run_keeps first [] last run = subst (Stays first) (sym run) (stays_same first)
+run_keeps first (client_comes now from w taken ∷ events) last run = stays_on first run.1.0 last (run_keeps first events run.1.0 run.1.1) run.1.2.0
+run_keeps first (device_comes now number w taken ∷ events) last run = stays_on first run.1.0 last (run_keeps first events run.1.0 run.1.1) run.1.2.0
+run_keeps first (goes_out now salt what ∷ events) last run = stays_on first run.1.0 last (run_keeps first events run.1.0 run.1.1) run.1.2.0
+run_keeps first (finds_no_memory now ∷ events) last run = stays_on first run.1.0 last (run_keeps first events run.1.0 run.1.1) run.1.2
+
+-- after `next` returned nothing, no message waits for long
+pub run_in_time : (first last : Gate) (now : ℕ) (salt : List ℕ) (events : List Event) (stands : GateStands 0 [] first) (bounded : IsBounded first) (run : IsRun first (goes_out now salt out.Nothing ∷ events) last)
+    → WaitInTime first.limits now (run_stands first (goes_out now salt out.Nothing ∷ events) last stands run).history
+run_in_time first last now salt events stands bounded run =
+    let known = run_stands first (goes_out now salt out.Nothing ∷ events) last stands run in
+    let own = known.stays.bounded bounded in
+    subst (λ (l : GateLimits). WaitInTime l now known.history) known.stays.limits
+    (wait_in_time last.agent.tables last.limits now known.history last.devices.list.items last.requests known.stands.requests own.requests (run.1.2.1 refl))
 
 -- ---- each message is answered once at most
 

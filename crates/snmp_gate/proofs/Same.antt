@@ -1,5 +1,5 @@
 -- Requests that stay what they were, where memory runs out.
-use Rattle.std.specs.Prelude.{◌≡◌, ◌<◌, ◌∷◌, ◌++◌, ℕ, List, [], All, Some, length, map, slice_index_or, slice_set}
+use Rattle.std.specs.Prelude.{◌≤◌, ◌-◌, ◌^◌, min, ◌≡◌, ◌<◌, ◌∷◌, ◌++◌, ℕ, List, [], All, Some, length, map, slice_index_or, slice_set}
 use Rattle.std.proofs.Common.{refl, sym, ap, subst, ◌∙◌}
 use Rattle.std.proofs.Math.Seq.{map-set_same}
 use Rattle.snmp_msg.specs.Variables.{Variable}
@@ -13,6 +13,7 @@ use Rattle.snmp_walk.specs.BulkColumn.{StandsInBulk, given_in}
 use Rattle.snmp_walk.specs.BulkSteps.{SaysSame}
 use Rattle.snmp_walk.specs.declared.column.Progress.{Progress}
 use Rattle.snmp_walk.specs.declared.given.GivenVariable.{GivenVariable}
+use Rattle.snmp_gate.specs.Said.{Said}
 use Rattle.snmp_gate.specs.Devices.{IsDeviceOf}
 use Rattle.snmp_gate.specs.Groups.{Group, group_of, groups_of}
 use Rattle.snmp_gate.specs.History.{Happening, told_in}
@@ -22,7 +23,7 @@ use Rattle.snmp_gate.specs.Question.{Question}
 use Rattle.snmp_gate.specs.ReadAsks.{bulk_variables_asked, variables_in}
 use Rattle.snmp_gate.specs.Sending.{Requests}
 use Rattle.snmp_gate.specs.Taking.{BulkSaysSame, OpenSaysSame, TaskSaysSame, WorkSaysSame}
-use Rattle.snmp_gate.specs.Waiting.{GroupStands, GroupsStand, OpenStands, WorkStands, messages_in}
+use Rattle.snmp_gate.specs.Waiting.{AllCameFrom, GroupStands, GroupsStand, OpenStands, WorkStands, messages_in}
 use Rattle.snmp_gate.specs.Work.{BulkStandsFor, TaskStands, variables_of_task}
 use Rattle.snmp_gate.specs.declared.devices.Device.{Device}
 use Rattle.snmp_gate.specs.declared.requests.WaitingRequest.{WaitingRequest}
@@ -30,10 +31,13 @@ use Rattle.snmp_gate.specs.declared.task.Task.{Task}
 use Rattle.snmp_gate.specs.declared.task.Task.TheVariants as task
 use Rattle.snmp_gate.specs.declared.waiting_message.WaitingMessage.{WaitingMessage}
 use Rattle.snmp_gate.specs.declared.work.OpenRequest.{OpenRequest}
+use Rattle.snmp_gate.specs.Limits.{asks_since}
+use Rattle.snmp_gate.specs.Time.{times_asked}
+use Rattle.snmp_gate.specs.declared.timer.Timer.{Timer}
 use Rattle.snmp_gate.specs.declared.work.Work.{Work}
 use Rattle.snmp_gate.specs.declared.work.Work.TheVariants.{Open, Ends}
 use Rattle.snmp_gate.proofs.GroupSteps.{group_at, groups_set}
-use Rattle.snmp_gate.proofs.Histories.{all_set, group_in, numbered_set}
+use Rattle.snmp_gate.proofs.Histories.{all_set, group_in, numbered_set, numbers_back}
 use Rattle.std.proofs.lemmas.List.Elements.{All-cons, All-head, All-nil, All-tail}
 
 column_stands : (Seen : List ℕ → Type 0) (told : List Variable) (old new : BulkColumn) → SaysSame old new → BulkStands Seen told old → BulkStands Seen told new
@@ -54,7 +58,7 @@ columns_ask [] (n ∷ ns) zip = absurd zip
 columns_ask (o ∷ os) [] zip = absurd zip
 columns_ask (o ∷ os) (n ∷ ns) zip = λ i. variables_in (zip.0.progress i) ++ columns_ask os ns zip.1 i
 
-bulk_stands_same : (tables : Tables) (q : Question) (told : List Variable) (old new : BulkDialogue) → BulkSaysSame old new → BulkStandsFor tables q told old → BulkStandsFor tables q told new
+bulk_stands_same : (tables : Tables) (q : Question) (told : Said) (old new : BulkDialogue) → BulkSaysSame old new → BulkStandsFor tables q told old → BulkStandsFor tables q told new
 bulk_stands_same tables q told old new same stands = record {
   tag = stands.tag;
   non_repeaters = stands.non_repeaters;
@@ -62,10 +66,10 @@ bulk_stands_same tables q told old new same stands = record {
   max_repetitions = stands.max_repetitions;
   most = stands.most;
   requests_are = same.requests ∙ stands.requests_are;
-  stand = columns_stand (seen_in tables q) told old.columns.items new.columns.items same.says.columns stands.stand;
+  stand = columns_stand (seen_in tables q) told.variables old.columns.items new.columns.items same.says.columns stands.stand;
 }
 
-task_stands_same : (tables : Tables) (q : Question) (told : List Variable) (old new : Task) → TaskSaysSame old new → TaskStands tables q told old → TaskStands tables q told new
+task_stands_same : (tables : Tables) (q : Question) (told : Said) (old new : Task) → TaskSaysSame old new → TaskStands tables q told old → TaskStands tables q told new
 task_stands_same tables q told (task.Read o d) new same stands = subst (TaskStands tables q told) (sym same) stands
 task_stands_same tables q told task.Set new same stands = subst (TaskStands tables q told) (sym same) stands
 task_stands_same tables q told (task.Bulk by old) (task.Bulk other new) same stands = bulk_stands_same tables q told old new same.1 stands
@@ -98,6 +102,9 @@ open_stands_same tables devices before n q old new same stands = record {
   device = subst (IsDeviceOf devices q.context) (sym same.device) stands.device;
   asked = λ id is. stands.asked id (sym same.asked ∙ is) ∙ (λ i. Some (record { device = sym same.device i; id = id; variables = sym (task_asks_same q old.task.task new.task.task same.task) i }));
   set_once = λ set none. stands.set_once (task_set_same old.task.task new.task.task same.task set) (sym same.asked ∙ none);
+  came = subst (λ (t : Timer). AllCameFrom before n t.began) (sym same.timer) stands.came;
+  unasked = λ none. stands.unasked (sym same.asked ∙ none);
+  tried = subst (λ (t : Timer). min (asks_since n before) (2 ^ 32 - 1) ≤ times_asked t.turn) (sym same.timer) stands.tried;
 }
 
 pub work_stands_same : (tables : Tables) (devices : List Device) (before : List Happening) (n : ℕ) (q : Question) (old new : Work) → WorkSaysSame old new → WorkStands tables devices before n q old → WorkStands tables devices before n q new
@@ -125,6 +132,7 @@ all_stand_same tables devices before next rs place r w within is same stands =
       all = all_set (GroupStands tables devices before) (GroupStands tables devices before) (groups_of rs) place (group_of r) (group_of new) stands.numbered.rise at stands.all new_stands (λ x other it. it);
       numbered = numbered_set next (groups_of rs) place (group_of r) (group_of new) at refl stands.numbered;
       past = stands.past;
+      gone = λ n none. stands.gone n (numbers_back n (groups_of rs) place (group_of r) (group_of new) at refl none).0;
     })
 
 -- the same messages ask the same requests

@@ -13,6 +13,7 @@ use Rattle.snmp_msg.specs.declared.pdu_type.PduType.TheVariants.{GetRequest, Get
 use Rattle.vacm_core.specs.Tables.{Tables}
 use Rattle.snmp_agent.specs.Agent.{AgentState}
 use Rattle.snmp_walk.specs.declared.operation.ReadOperation.TheVariants.{Get, GetNext}
+use Rattle.snmp_gate.specs.Said.{Said}
 use Rattle.snmp_gate.specs.Groups.{Group, IsAnswered, IsAt, IsWorked, group_of, groups_of}
 use Rattle.snmp_gate.specs.History.{Happening, accepted, answered, asked, given_up, open_ask, sent, told_in, unanswered}
 use Rattle.snmp_gate.specs.Lawful.{IsOnce, IsSetRequest, WasAsked}
@@ -138,13 +139,14 @@ unanswered_happens old new since now before place salt r m said why later within
       m,
       record {
         lawful = record { mediated = ends.mediated; in_turn = ends.in_turn; own_id = tt; once = tt };
+        tried = tt;
         stands = record { requests = ends.requests; asks = rest.asks; sets = rest.sets };
       },
     )
 
 pub reply_happens : (old new : Gate) (since now : ℕ) (before : List Happening) (place : ℕ) (salt : List ℕ) (r : WaitingRequest WaitingMessage Work) (m : WaitingMessage) (said : Option ResponseStatus) (client : Vec ℕ) (replied : Reply) (output : Sent) → since ≤ now
     → place < length old.requests.list.items → r ≡ slice_index_or old.requests.list.items place r → IsLeftAfter old place m new → client ≡ m.client
-    → ((q : Question) (told : List Variable) → question_in r.first ≡ Some q → RepliesTo old.agent (now / 1000) salt q told r.first.kept r.work replied)
+    → ((q : Question) (told : Said) → question_in r.first ≡ Some q → RepliesTo old.agent (now / 1000) salt q told r.first.kept r.work replied)
     → IsSentBy r.number client replied output → new.asks ≡ old.asks → IsToldOf m said old.sets.sets.items new.sets.sets.items → GateStands since before old → SendHappens old now before salt output new
 reply_happens old new since now before place salt r m said client (reply.Sends datagram) output later within is left from replies sends asks told stands =
     let by = answering_at old now salt in
@@ -157,6 +159,7 @@ reply_happens old new since now before place salt r m said client (reply.Sends d
       from,
       record {
         lawful = record { mediated = ends.mediated; in_turn = ends.in_turn; own_id = tt; once = tt };
+        tried = tt;
         stands = record { requests = ends.requests; asks = rest.asks; sets = rest.sets };
       },
     ) in
@@ -185,7 +188,7 @@ given_up_sets since now number device before gs new place was e sets later worke
 
 -- ---- an ask
 
-task_is_set : (tables : Tables) (q : Question) (told : List Variable) (t : Task) → TaskStands tables q told t → q.tag ≡ pdu_tag SetRequest → t ≡ task.Set
+task_is_set : (tables : Tables) (q : Question) (told : Said) (t : Task) → TaskStands tables q told t → q.tag ≡ pdu_tag SetRequest → t ≡ task.Set
 task_is_set tables q told (task.Read Get d) stands set = absurd (let tag : q.tag ≡ pdu_tag GetRequest = stands.tag in omega (arith, set, tag))
 task_is_set tables q told (task.Read GetNext d) stands set = absurd (let tag : q.tag ≡ pdu_tag GetNextRequest = stands.tag in omega (arith, set, tag))
 task_is_set tables q told (task.Bulk by d) stands set = absurd (omega (arith, set, stands.tag))

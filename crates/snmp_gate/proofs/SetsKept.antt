@@ -201,4 +201,5 @@ nothing_stands tables devices next rs none = subst (λ (xs : Requests). GroupsSt
   all = All-nil (GroupStands tables devices []);
   numbered = record { rise = λ i j d below within. absurd (omega arith); less = All-nil (λ (g : Group WaitingMessage Work). g.number < next) };
   past = All-nil (λ (e : Happening). number_of e < next);
+  gone = λ n none. refl;
 })

@@ -1,9 +1,10 @@
 -- What is known of a request, as its dialogue with the device goes on.
-use Rattle.std.specs.Prelude.{◌≡◌, ◌<◌, ◌∷◌, ℕ, ℤ, zero, suc, List, [], All, Contains, length, slice_index_or, true}
+use Rattle.std.specs.Prelude.{◌≡◌, ◌<◌, ◌∷◌, ◌++◌, ℕ, ℤ, zero, suc, List, [], All, Contains, length, map, slice_index_or, true}
 use Rattle.std.specs.List.{HoldsAt, flat_map}
 use Rattle.std.proofs.Common.{refl, sym, ap, subst, ◌∙◌, arith}
 use Rattle.std.proofs.lemmas.List.{get_or_default}
 use Rattle.std.proofs.lemmas.List.Elements.{All-contains, Contains-append_left, Contains-append_right, Contains-push}
+use Rattle.snmp_msg.specs.Pdu.{pdu_of}
 use Rattle.snmp_msg.specs.PduTypes.{pdu_tag}
 use Rattle.snmp_msg.specs.Variables.{Variable, variables_of}
 use Rattle.snmp_msg.specs.declared.pdu_type.PduType.TheVariants.{GetBulkRequest}
@@ -14,13 +15,13 @@ use Rattle.vacm_core.specs.Tables.{Tables}
 use Rattle.vacm_core.specs.declared.access.ViewType.TheVariants.{Read}
 use Rattle.vacm_next.specs.Next.{Sees}
 use Rattle.snmp_responder.specs.Code.{seen_by}
-use Rattle.snmp_responder.specs.Instrumentation.{IsException}
+use Rattle.snmp_responder.specs.Instrumentation.{IsException, Known}
 use Rattle.snmp_responder.specs.declared.viewer.Viewer.{Viewer}
 use Rattle.snmp_walk.specs.Answer.{IsAnswered, Tells}
 use Rattle.snmp_walk.specs.BulkAnswered.{BulkTells, IsBulkAnswered}
 use Rattle.snmp_walk.specs.BulkDialogue.{BulkAllStand, IsBulkFor, IsCountOf, bulk_requests, bulk_requests_of}
 use Rattle.snmp_walk.specs.Column.{Asks, IsAsked}
-use Rattle.snmp_walk.specs.Dialogue.{AllStand, requests, requests_of}
+use Rattle.snmp_walk.specs.Dialogue.{AllBegin, AllGoOn, AllStand, asked_in, asks_of, request, requests, requests_of}
 use Rattle.snmp_walk.specs.declared.bulk_column.BulkColumn.{BulkColumn}
 use Rattle.snmp_walk.specs.declared.bulk_dialogue.BulkAnswered.{BulkAnswered}
 use Rattle.snmp_walk.specs.declared.bulk_dialogue.BulkAnswered.TheVariants as bulk
@@ -28,14 +29,19 @@ use Rattle.snmp_walk.specs.declared.bulk_dialogue.BulkDialogue.{BulkDialogue}
 use Rattle.snmp_walk.specs.declared.bulk_dialogue.BulkLimits.{BulkLimits}
 use Rattle.snmp_walk.specs.declared.column.Column.{Column}
 use Rattle.snmp_walk.specs.declared.column.Progress.{Progress}
-use Rattle.snmp_walk.specs.declared.column.Progress.TheVariants.{Asked}
+use Rattle.snmp_walk.specs.declared.column.Progress.TheVariants.{Asked, Ended, Given, Hidden, Wanting}
 use Rattle.snmp_walk.specs.declared.dialogue.Answered.{Answered}
 use Rattle.snmp_walk.specs.declared.dialogue.Answered.TheVariants as answered
 use Rattle.snmp_walk.specs.declared.dialogue.Dialogue.{Dialogue}
 use Rattle.snmp_walk.specs.declared.operation.ReadOperation.{ReadOperation}
+use Rattle.gateway_laws.specs.Device.{AllSeen, AreAnswered, IsDevice}
+use Rattle.gateway_laws.specs.Tracks.{AllTrack}
+use Rattle.gateway_laws.proofs.Lists.{all_begin, all_go_on}
+use Rattle.gateway_laws.proofs.TrueRuns.{tracks_after}
 use Rattle.snmp_gate.specs.Messages.{IsPduOf, IsViewerOf, requester_in, seen_in}
 use Rattle.snmp_gate.specs.Question.{Question}
-use Rattle.snmp_gate.specs.ReadAsks.{asked_variables, bulk_asked_variables, read_type, unspecified, variables_in}
+use Rattle.snmp_gate.specs.ReadAsks.{asked_variables, bulk_asked_variables, read_type, unspecified, variables_asked, variables_in}
+use Rattle.snmp_gate.specs.Said.{AreTrue, Exchange, IsTrueExchange, Said}
 use Rattle.snmp_gate.specs.Work.{BulkStandsFor, ReadStands, SaysAll, end_of, says_no_such_name}
 use Rattle.snmp_gate.specs.declared.set_answer.TheConstants.{NO_SUCH_NAME}
 
@@ -61,16 +67,55 @@ from_seen P tables q viewer is p =
 
 -- ---- a dialogue that goes on, or is answered
 
-pub read_stands : (tables : Tables) (q : Question) (told : List Variable) (viewer : Viewer) (operation : ReadOperation) (old new : Dialogue) → IsViewerOf tables q viewer
-    → (AllStand (seen_by viewer) told old → AllStand (seen_by viewer) told new) → requests new ≡ requests old → ReadStands tables q told operation old → ReadStands tables q told operation new
-read_stands tables q told viewer operation old new is goes same stands = record {
+-- where each answer so far is that of a device with some variables, the columns go on as far over these
+abbrev pub TracksOn : Viewer → ReadOperation → Said → Dialogue → Dialogue → Type 0
+TracksOn viewer operation told old new = (device : Known) → IsDevice device → AreTrue device operation told → AllTrack device (seen_by viewer) old.columns.items → AllTrack device (seen_by viewer) new.columns.items
+
+pub read_stands : (tables : Tables) (q : Question) (told : Said) (viewer : Viewer) (operation : ReadOperation) (old new : Dialogue) → IsViewerOf tables q viewer
+    → (AllStand (seen_by viewer) told.variables old → AllStand (seen_by viewer) told.variables new) → TracksOn viewer operation told old new → requests new ≡ requests old → ReadStands tables q told operation old
+    → ReadStands tables q told operation new
+read_stands tables q told viewer operation old new is goes on same stands = record {
   tag = stands.tag;
   requests_are = same ∙ stands.requests_are;
-  stand = to_seen (λ (Seen : List ℕ → Type 0). AllStand Seen told new) tables q viewer is (goes (from_seen (λ (Seen : List ℕ → Type 0). AllStand Seen told old) tables q viewer is stands.stand));
+  stand = to_seen (λ (Seen : List ℕ → Type 0). AllStand Seen told.variables new) tables q viewer is (goes (from_seen (λ (Seen : List ℕ → Type 0). AllStand Seen told.variables old) tables q viewer is stands.stand));
+  tracks = λ device plain truly. to_seen (λ (Seen : List ℕ → Type 0). AllTrack device Seen new.columns.items) tables q viewer is
+      (on device plain truly (from_seen (λ (Seen : List ℕ → Type 0). AllTrack device Seen old.columns.items) tables q viewer is (stands.tracks device plain truly)));
 }
 
-pub bulk_stands : (tables : Tables) (q : Question) (told : List Variable) (viewer : Viewer) (old new : BulkDialogue) → IsViewerOf tables q viewer
-    → (BulkAllStand (seen_by viewer) told old → BulkAllStand (seen_by viewer) told new) → bulk_requests new ≡ bulk_requests old → BulkStandsFor tables q told old → BulkStandsFor tables q told new
+-- a dialogue goes on
+pub goes_tracking : (viewer : Viewer) (operation : ReadOperation) (told : Said) (old new : Dialogue) → AllGoOn (seen_by viewer) old.columns.items new.columns.items → TracksOn viewer operation told old new
+goes_tracking viewer operation told old new goes device plain truly tracks = all_go_on device (seen_by viewer) plain old.columns.items new.columns.items goes tracks
+
+-- what the columns ask is what the device is asked
+asks_one : (o : ReadOperation) (c : Column) (rest : List Variable) (asks : List (ReadOperation × List ℕ)) (p : Progress) → c.operation ≡ o → requests_of o rest ≡ asks → requests_of o (variables_in p ++ rest) ≡ asked_in c.operation p ++ asks
+asks_one o c rest asks (Wanting from) same is = is
+asks_one o c rest asks (Asked ask) same is = λ i. (sym same i, ask.name) ∷ is i
+asks_one o c rest asks (Given g) same is = is
+asks_one o c rest asks Hidden same is = is
+asks_one o c rest asks Ended same is = is
+
+asks_all : (o : ReadOperation) (cs : List Column) (vs : List Variable) → map request cs ≡ requests_of o vs → requests_of o (variables_asked cs) ≡ asks_of cs
+asks_all o [] vs same = refl
+asks_all o (c ∷ cs) [] same = absurd (let none : request c ∷ map request cs ≡ [] = same in cc)
+asks_all o (c ∷ cs) (v ∷ vs) same =
+    let both : request c ∷ map request cs ≡ (o, v.name) ∷ requests_of o vs = same in
+    let head : request c ≡ (o, v.name) = cc in
+    let tail : map request cs ≡ requests_of o vs = cc in
+    asks_one o c (variables_asked cs) (asks_of cs) c.progress (ap (λ (r : ReadOperation × List ℕ). r.0) head) (asks_all o cs vs tail)
+
+-- the device answers
+pub takes_tracking : (viewer : Viewer) (operation : ReadOperation) (told : Said) (vs : List Variable) (answer : Pdu) (old new : Dialogue) (becomes : Answered) → requests old ≡ requests_of operation vs → SaysAll (asked_variables old) answer told
+    → IsAnswered (seen_by viewer) answer old new becomes → TracksOn viewer operation told old new
+takes_tracking viewer operation told vs answer old new becomes same says step device plain truly tracks =
+    let exchange : Exchange = record { asked = asked_variables old; answer = pdu_of answer } in
+    let is = All-contains (IsTrueExchange device operation) told.exchanges exchange truly says.exchange in
+    tracks_after device (seen_by viewer) plain old new answer becomes (record {
+      no_error = is.no_error;
+      answered = subst (λ (asks : List (ReadOperation × List ℕ)). AreAnswered device AllSeen asks (variables_of answer.list.now)) (asks_all operation old.columns.items vs same) is.answered;
+    }) step tracks
+
+pub bulk_stands : (tables : Tables) (q : Question) (told : Said) (viewer : Viewer) (old new : BulkDialogue) → IsViewerOf tables q viewer
+    → (BulkAllStand (seen_by viewer) told.variables old → BulkAllStand (seen_by viewer) told.variables new) → bulk_requests new ≡ bulk_requests old → BulkStandsFor tables q told old → BulkStandsFor tables q told new
 bulk_stands tables q told viewer old new is goes same stands = record {
   tag = stands.tag;
   non_repeaters = stands.non_repeaters;
@@ -78,7 +123,7 @@ bulk_stands tables q told viewer old new is goes same stands = record {
   max_repetitions = stands.max_repetitions;
   most = stands.most;
   requests_are = same ∙ stands.requests_are;
-  stand = to_seen (λ (Seen : List ℕ → Type 0). BulkAllStand Seen told new) tables q viewer is (goes (from_seen (λ (Seen : List ℕ → Type 0). BulkAllStand Seen told old) tables q viewer is stands.stand));
+  stand = to_seen (λ (Seen : List ℕ → Type 0). BulkAllStand Seen told.variables new) tables q viewer is (goes (from_seen (λ (Seen : List ℕ → Type 0). BulkAllStand Seen told.variables old) tables q viewer is stands.stand));
 }
 
 -- ---- noSuchName, of what was asked
@@ -118,7 +163,7 @@ ends_at {X} progress xs number d told within all name asks = (
   (λ e n also. is_end name n (asks_one_name (progress (slice_index_or xs number d)) name n asks (subst (λ (x : X). Asks (progress x) n) (get_or_default xs number e d within) also))),
 )
 
-pub tells : (Seen : List ℕ → Type 0) (told : List Variable) (answer : Pdu) (old new : Dialogue) (becomes : Answered) → SaysAll (asked_variables old) answer told → IsAnswered Seen answer old new becomes → Tells old answer becomes told
+pub tells : (Seen : List ℕ → Type 0) (told : Said) (answer : Pdu) (old new : Dialogue) (becomes : Answered) → SaysAll (asked_variables old) answer told → IsAnswered Seen answer old new becomes → Tells old answer becomes told.variables
 tells Seen told answer old new answered.Taken says is = says.bindings
 tells Seen told answer old new (answered.Unfit fault) says is = says.bindings
 tells Seen told answer old new (answered.Failed failure) says is = says.bindings
@@ -126,9 +171,9 @@ tells Seen told answer old new (answered.Ended number) says is =
     let failure = is.1 in
     let d = is.3.new in
     let name = name_asked (slice_index_or old.columns.items number d).progress (is.3.asked d) in
-    ends_at (λ (c : Column). c.progress) old.columns.items number d told failure.column.within (says.ends (says_it answer failure.status.0)) name.0 name.1
+    ends_at (λ (c : Column). c.progress) old.columns.items number d told.variables failure.column.within (says.ends (says_it answer failure.status.0)) name.0 name.1
 
-pub bulk_tells : (Seen : List ℕ → Type 0) (told : List Variable) (answer : Pdu) (old new : BulkDialogue) (becomes : BulkAnswered) → SaysAll (bulk_asked_variables old) answer told → IsBulkAnswered Seen answer old new becomes → BulkTells old answer becomes told
+pub bulk_tells : (Seen : List ℕ → Type 0) (told : Said) (answer : Pdu) (old new : BulkDialogue) (becomes : BulkAnswered) → SaysAll (bulk_asked_variables old) answer told → IsBulkAnswered Seen answer old new becomes → BulkTells old answer becomes told.variables
 bulk_tells Seen told answer old new bulk.Taken says is = says.bindings
 bulk_tells Seen told answer old new (bulk.Unfit fault) says is = says.bindings
 bulk_tells Seen told answer old new bulk.Less says is = says.bindings
@@ -138,20 +183,21 @@ bulk_tells Seen told answer old new (bulk.Failed column) says is = says.bindings
 bulk_tells Seen told answer old new (bulk.Ended number) says is =
     let d = is.2.ended in
     let name = name_asked (slice_index_or old.columns.items number d).progress (is.1.asked d) in
-    ends_at (λ (c : BulkColumn). c.progress) old.columns.items number d told is.1.within (says.ends (says_it answer is.0)) name.0 name.1
+    ends_at (λ (c : BulkColumn). c.progress) old.columns.items number d told.variables is.1.within (says.ends (says_it answer is.0)) name.0 name.1
 
 -- ---- how it begins
 
-pub read_begins : (tables : Tables) (q : Question) (told : List Variable) (viewer : Viewer) (operation : ReadOperation) (pdu : Pdu) (d : Dialogue) → IsViewerOf tables q viewer → IsPduOf q pdu → q.tag ≡ pdu_tag (read_type operation)
-    → requests d ≡ requests_of operation (variables_of pdu.list.now) → AllStand (seen_by viewer) told d → ReadStands tables q told operation d
-read_begins tables q told viewer operation pdu d is of tag same stand = record {
+pub read_begins : (tables : Tables) (q : Question) (told : Said) (viewer : Viewer) (operation : ReadOperation) (pdu : Pdu) (d : Dialogue) → IsViewerOf tables q viewer → IsPduOf q pdu → q.tag ≡ pdu_tag (read_type operation)
+    → requests d ≡ requests_of operation (variables_of pdu.list.now) → AllBegin (seen_by viewer) d → AllStand (seen_by viewer) told.variables d → ReadStands tables q told operation d
+read_begins tables q told viewer operation pdu d is of tag same begin stand = record {
   tag = tag;
   requests_are = same ∙ ap (λ (list : List ℕ). requests_of operation (variables_of list)) of.list;
-  stand = to_seen (λ (Seen : List ℕ → Type 0). AllStand Seen told d) tables q viewer is stand;
+  stand = to_seen (λ (Seen : List ℕ → Type 0). AllStand Seen told.variables d) tables q viewer is stand;
+  tracks = λ device plain truly. to_seen (λ (Seen : List ℕ → Type 0). AllTrack device Seen d.columns.items) tables q viewer is (all_begin device (seen_by viewer) d.columns.items begin);
 }
 
-pub bulk_begins : (tables : Tables) (q : Question) (told : List Variable) (viewer : Viewer) (pdu : Pdu) (limits : BulkLimits) (d : BulkDialogue) → IsViewerOf tables q viewer → IsPduOf q pdu → q.tag ≡ pdu_tag GetBulkRequest
-    → IsBulkFor pdu.second pdu.third (variables_of pdu.list.now) limits d → BulkAllStand (seen_by viewer) told d → BulkStandsFor tables q told d
+pub bulk_begins : (tables : Tables) (q : Question) (told : Said) (viewer : Viewer) (pdu : Pdu) (limits : BulkLimits) (d : BulkDialogue) → IsViewerOf tables q viewer → IsPduOf q pdu → q.tag ≡ pdu_tag GetBulkRequest
+    → IsBulkFor pdu.second pdu.third (variables_of pdu.list.now) limits d → BulkAllStand (seen_by viewer) told.variables d → BulkStandsFor tables q told d
 bulk_begins tables q told viewer pdu limits d is of tag for stand = record {
   tag = tag;
   non_repeaters = d.non_repeaters;
@@ -159,7 +205,7 @@ bulk_begins tables q told viewer pdu limits d is of tag for stand = record {
   max_repetitions = d.max_repetitions;
   most = subst (λ (n : ℤ). IsCountOf n d.max_repetitions) of.third for.most;
   requests_are = for.requests ∙ ap (λ (list : List ℕ). bulk_requests_of d.non_repeaters d.max_repetitions (variables_of list)) of.list;
-  stand = to_seen (λ (Seen : List ℕ → Type 0). BulkAllStand Seen told d) tables q viewer is stand;
+  stand = to_seen (λ (Seen : List ℕ → Type 0). BulkAllStand Seen told.variables d) tables q viewer is stand;
 }
 
 -- someone who asks this, with these tables

@@ -13,20 +13,25 @@ use Rattle.snmp_msg.specs.declared.binding.Binding.{Binding}
 use Rattle.snmp_msg.specs.declared.pdu_type.PduType.TheVariants.{SetRequest}
 use Rattle.vacm_core.specs.Tables.{Tables}
 use Rattle.snmp_incoming.specs.Outcome.{Given}
+use Rattle.snmp_responder.specs.Instrumentation.{Known}
 use Rattle.snmp_walk.specs.BulkColumn.{Ascends, BulkStands, IsGiven, bulk_request, given_in, last_name}
 use Rattle.snmp_walk.specs.BulkDialogue.{bulk_requests_of}
 use Rattle.snmp_walk.specs.Column.{MayShow}
-use Rattle.snmp_walk.specs.Dialogue.{Shows, request, requests_of}
+use Rattle.snmp_walk.specs.Dialogue.{IsShown, Shows, request, requests_of}
 use Rattle.snmp_walk.specs.Front.{IsShownOf}
 use Rattle.snmp_walk.specs.declared.bulk_column.BulkColumn.{BulkColumn}
 use Rattle.snmp_walk.specs.declared.bulk_dialogue.BulkDialogue.{BulkDialogue}
 use Rattle.snmp_walk.specs.declared.column.Column.{Column}
 use Rattle.snmp_walk.specs.declared.operation.ReadOperation.{ReadOperation}
 use Rattle.snmp_walk.specs.declared.operation.ReadOperation.TheVariants.{GetNext}
+use Rattle.gateway_laws.specs.Device.{AreAnswered, IsDevice}
+use Rattle.gateway_laws.specs.Tracks.{AllTrack}
+use Rattle.gateway_laws.proofs.Lists.{all_shown}
 use Rattle.snmp_gate.specs.Messages.{question_given, seen_in}
 use Rattle.snmp_gate.specs.Question.{Question}
 use Rattle.snmp_gate.specs.ReadAsks.{read_type}
 use Rattle.snmp_gate.specs.Replies.{Answering, IsFrontSentOr, IsOwnList, IsReportedOr, IsReplyTo, IsSentOr, MayTell, MayTellBulk, columns, front, set, told_with, too_big}
+use Rattle.snmp_gate.specs.Said.{AreTrue, Said}
 use Rattle.snmp_gate.specs.Work.{BulkStandsFor, IsOwnStatus}
 use Rattle.snmp_gate.specs.declared.reply.Reply.{Reply}
 use Rattle.snmp_gate.specs.declared.reply.Reply.TheVariants as reply
@@ -45,10 +50,10 @@ signed_tells a b = elim (true_or_false (int_eq a b)) [
 
 -- ---- the request's own bindings
 
-may_tell_too_big : (tables : Tables) (q : Question) (said : List Variable) → MayTell tables q said too_big
+may_tell_too_big : (tables : Tables) (q : Question) (said : Said) → MayTell tables q said too_big
 may_tell_too_big tables q said = inr (inr (refl, refl))
 
-may_tell_own : (tables : Tables) (q : Question) (said : List Variable) (status index : ℤ) (vs : List Variable) → (status ≡ NO_ERROR → q.tag ≡ pdu_tag SetRequest) → IsOwnList q status vs → MayTell tables q said (told_with status index vs)
+may_tell_own : (tables : Tables) (q : Question) (said : Said) (status index : ℤ) (vs : List Variable) → (status ≡ NO_ERROR → q.tag ≡ pdu_tag SetRequest) → IsOwnList q status vs → MayTell tables q said (told_with status index vs)
 may_tell_own tables q said status index vs own (inl (is, none)) = inr (inr (is, none))
 may_tell_own tables q said status index vs own (inr (is, all)) =
     elim (signed_tells status NO_ERROR) [
@@ -57,7 +62,7 @@ may_tell_own tables q said status index vs own (inr (is, all)) =
     ]
 
 -- what is sent is what may be told, or tooBig
-pub sent_reply : (a : Answering) (tables : Tables) (q : Question) (said : List Variable) (g : Given) (status index : ℤ) (vs : List Variable) (r : Reply) → MayTell tables q said (told_with status index vs)
+pub sent_reply : (a : Answering) (tables : Tables) (q : Question) (said : Said) (g : Given) (status index : ℤ) (vs : List Variable) (r : Reply) → MayTell tables q said (told_with status index vs)
     → IsSentOr a g (told_with status index vs) r → IsReplyTo a tables q said g r
 sent_reply a tables q said g status index vs (reply.Sends datagram) may (inl sent) = inl (told_with status index vs, sent, may)
 sent_reply a tables q said g status index vs (reply.Sends datagram) may (inr sent) = inl (too_big, sent, may_tell_too_big tables q said)
@@ -65,7 +70,7 @@ sent_reply a tables q said g status index vs reply.Nothing may sent = tt
 sent_reply a tables q said g status index vs reply.SilentDrop may sent = tt
 sent_reply a tables q said g status index vs (reply.Refused why) may sent = tt
 
-pub own_reply : (a : Answering) (tables : Tables) (q : Question) (said : List Variable) (g : Given) (says : ResponseStatus) (vs : List Variable) (r : Reply) → IsOwnStatus q says → IsOwnList q says.status vs
+pub own_reply : (a : Answering) (tables : Tables) (q : Question) (said : Said) (g : Given) (says : ResponseStatus) (vs : List Variable) (r : Reply) → IsOwnStatus q says → IsOwnList q says.status vs
     → IsSentOr a g (told_with says.status says.index vs) r → IsReplyTo a tables q said g r
 own_reply a tables q said g says vs r own list sent = sent_reply a tables q said g says.status says.index vs r (may_tell_own tables q said says.status says.index vs own list) sent
 
@@ -86,12 +91,17 @@ zip_shows Seen said o (c ∷ cs) (v ∷ vs) (b ∷ bs) same zip =
       zip_shows Seen said o cs vs bs tail zip.1,
     )
 
-pub columns_reply : (a : Answering) (tables : Tables) (q : Question) (said : List Variable) (g : Given) (o : ReadOperation) (cs : List Column) (bs : List Binding) (r : Reply) → q.tag ≡ pdu_tag (read_type o)
-    → map request cs ≡ requests_of o (variables_of q.list) → AllZip (Shows (seen_in tables q) said) cs bs
-    → IsSentOr a g (told_with NO_ERROR (pos 0) (map variable_of bs)) r → IsReplyTo a tables q said g r
-columns_reply a tables q said g o cs bs r tag same zip sent =
+pub columns_reply : (a : Answering) (tables : Tables) (q : Question) (said : Said) (g : Given) (o : ReadOperation) (cs : List Column) (bs : List Binding) (r : Reply) → q.tag ≡ pdu_tag (read_type o)
+    → map request cs ≡ requests_of o (variables_of q.list) → AllZip (Shows (seen_in tables q) said.variables) cs bs → AllZip IsShown cs bs
+    → ((device : Known) → IsDevice device → AreTrue device o said → AllTrack device (seen_in tables q) cs) → IsSentOr a g (told_with NO_ERROR (pos 0) (map variable_of bs)) r → IsReplyTo a tables q said g r
+columns_reply a tables q said g o cs bs r tag same zip shown tracks sent =
     sent_reply a tables q said g NO_ERROR (pos 0) (map variable_of bs) r
-    (inl (refl, columns o tag (zip_shows (seen_in tables q) said o cs (variables_of q.list) bs same zip))) sent
+    (inl (
+      refl,
+      columns o tag (zip_shows (seen_in tables q) said.variables o cs (variables_of q.list) bs same zip)
+          (λ device plain truly. subst (λ (asks : List (ReadOperation × List ℕ)). AreAnswered device (seen_in tables q) asks (map variable_of bs)) same
+          (all_shown device (seen_in tables q) cs bs (tracks device plain truly) shown)),
+    )) sent
 
 -- ---- a front
 
@@ -136,21 +146,21 @@ tells_bulk Seen said vs n m cs v same stand shown =
       shows = subst (λ (name : List ℕ). MayShow Seen said GetNext (last_name name (take k (given_in c))) v) (sym named.2) shown.shows;
     }
 
-pub front_reply : (a : Answering) (tables : Tables) (q : Question) (said : List Variable) (g : Given) (d : BulkDialogue) (bs : List Binding) (r : Reply) → BulkStandsFor tables q said d
-    → All (IsShownOf (seen_in tables q) said d.columns.items) (map variable_of bs) → IsFrontSentOr a g (map variable_of bs) r → IsReplyTo a tables q said g r
+pub front_reply : (a : Answering) (tables : Tables) (q : Question) (said : Said) (g : Given) (d : BulkDialogue) (bs : List Binding) (r : Reply) → BulkStandsFor tables q said d
+    → All (IsShownOf (seen_in tables q) said.variables d.columns.items) (map variable_of bs) → IsFrontSentOr a g (map variable_of bs) r → IsReplyTo a tables q said g r
 front_reply a tables q said g d bs (reply.Sends datagram) stands all (inl (n, sent)) =
-    let may = λ (v : Variable) (is : IsShownOf (seen_in tables q) said d.columns.items v). tells_bulk (seen_in tables q) said (variables_of q.list) stands.non_repeaters stands.max_repetitions d.columns.items v stands.requests_are stands.stand is in
+    let may = λ (v : Variable) (is : IsShownOf (seen_in tables q) said.variables d.columns.items v). tells_bulk (seen_in tables q) said.variables (variables_of q.list) stands.non_repeaters stands.max_repetitions d.columns.items v stands.requests_are stands.stand is in
     inl (
       told_with NO_ERROR (pos 0) (take n (map variable_of bs)),
       sent,
-      inl (refl, front stands.tag (All-take (MayTellBulk (seen_in tables q) said (variables_of q.list)) n (map variable_of bs) (All-weaker (IsShownOf (seen_in tables q) said d.columns.items) (MayTellBulk (seen_in tables q) said (variables_of q.list)) may (map variable_of bs) all))),
+      inl (refl, front stands.tag (All-take (MayTellBulk (seen_in tables q) said.variables (variables_of q.list)) n (map variable_of bs) (All-weaker (IsShownOf (seen_in tables q) said.variables d.columns.items) (MayTellBulk (seen_in tables q) said.variables (variables_of q.list)) may (map variable_of bs) all))),
     )
 front_reply a tables q said g d bs (reply.Sends datagram) stands all (inr sent) = inl (too_big, sent, may_tell_too_big tables q said)
 front_reply a tables q said g d bs reply.Nothing stands all sent = tt
 front_reply a tables q said g d bs reply.SilentDrop stands all sent = tt
 front_reply a tables q said g d bs (reply.Refused why) stands all sent = tt
 
-pub report_reply : (a : Answering) (tables : Tables) (q : Question) (said : List Variable) (g : Given) (r : Reply) → IsReportedOr a g r → IsReplyTo a tables q said g r
+pub report_reply : (a : Answering) (tables : Tables) (q : Question) (said : Said) (g : Given) (r : Reply) → IsReportedOr a g r → IsReplyTo a tables q said g r
 report_reply a tables q said g (reply.Sends datagram) is = inr is
 report_reply a tables q said g reply.Nothing is = tt
 report_reply a tables q said g reply.SilentDrop is = tt
@@ -160,7 +170,7 @@ report_reply a tables q said g (reply.Refused why) is = tt
 pub unwritten : (q : Question) → IsOwnStatus q (record { status = pos 5; index = pos 0 })
 unwritten q is = absurd (false≢true ((Decides-int_eq (pos 5) (pos 0)).1 is))
 
-pub of_message : (a : Answering) (tables : Tables) (q : Question) (said : List Variable) (g kept : Given) (client : List ℕ) (r : Reply) → g ≡ kept → (question_given client g ≡ Some q → IsReplyTo a tables q said g r)
+pub of_message : (a : Answering) (tables : Tables) (q : Question) (said : Said) (g kept : Given) (client : List ℕ) (r : Reply) → g ≡ kept → (question_given client g ≡ Some q → IsReplyTo a tables q said g r)
     → question_given client kept ≡ Some q → IsReplyTo a tables q said kept r
 of_message a tables q said g kept client r same replies asked =
     subst (λ (x : Given). IsReplyTo a tables q said x r) same (replies (ap (question_given client) same ∙ asked))

@@ -25,6 +25,7 @@ use Rattle.snmp_gate.specs.Messages.{question_in, seen_in, set_in}
 use Rattle.snmp_gate.specs.Question.{Question}
 use Rattle.snmp_gate.specs.ReadAsks.{read_type}
 use Rattle.snmp_gate.specs.Replies.{Answering, IsAnswerTo}
+use Rattle.snmp_gate.specs.Said.{Exchange, Said, said_nothing}
 use Rattle.snmp_gate.specs.Work.{end_of, says_no_such_name}
 use Rattle.snmp_gate.specs.declared.devices.Device.{Device}
 use Rattle.snmp_gate.specs.declared.waiting_message.WaitingMessage.{WaitingMessage}
@@ -91,13 +92,25 @@ ends_in (Some ask) p = cond (says_no_such_name p.second) (map end_of ask.variabl
 abbrev pub said_by : Option OpenAsk → PduParts → List Variable
 said_by ask p = variables_of p.list ++ ends_in ask p
 
+-- the answer with what was asked
+abbrev pub exchange_in : Option OpenAsk → PduParts → List Exchange
+exchange_in None p = []
+exchange_in (Some ask) p = record { asked = ask.variables; answer = p } ∷ []
+
+-- what was said before, and the answer
+abbrev pub more_said : Option OpenAsk → PduParts → Said → Said
+more_said ask p said = record {
+  variables = said_by ask p ++ said.variables;
+  exchanges = exchange_in ask p ++ said.exchanges;
+}
+
 -- what devices told for the request of this number
-abbrev pub told_in : ℕ → List Happening → List Variable
-told_in n [] = []
+abbrev pub told_in : ℕ → List Happening → Said
+told_in n [] = said_nothing
 told_in n (accepted number now datagram message ∷ before) = told_in n before
 told_in n (asked number device id vs datagram ∷ before) = told_in n before
 told_in n (answered number device answer datagram ∷ before) =
-    cond (nat_eq n number) (said_by (open_ask n before) answer ++ told_in n before) (told_in n before)
+    cond (nat_eq n number) (more_said (open_ask n before) answer (told_in n before)) (told_in n before)
 told_in n (sent number message by datagram ∷ before) = told_in n before
 told_in n (unanswered number message ∷ before) = told_in n before
 told_in n (given_up number device ∷ before) = told_in n before
@@ -118,14 +131,14 @@ pub record AskedBy (before : List Happening) (number : ℕ) (q : Question) : Typ
 
 -- one of the names of a request for values, or of its answers so far, leads to the name that is asked: the message may
 -- see it, or in a walk it passes over nothing that the message may see
-pub record MayAskName (q : Question) (tables : Tables) (told : List Variable) (operation : ReadOperation)
+pub record MayAskName (q : Question) (tables : Tables) (told : Said) (operation : ReadOperation)
     (v : Variable) : Type 0 where
   pub request : Variable
   pub is_request : Contains (variables_of q.list) request
-  pub may : MayAsk (seen_in tables q) told operation request.name v.name
+  pub may : MayAsk (seen_in tables q) told.variables operation request.name v.name
 
 -- the law inwards: for values a device is asked with its community, and for a Set with the community for it
-pub data MayAskFor (tables : Tables) (d : Device) (q : Question) (told : List Variable) (id : ℕ)
+pub data MayAskFor (tables : Tables) (d : Device) (q : Question) (told : Said) (id : ℕ)
     (vs : List Variable) (datagram : List ℕ) : Type 0 where
   reads : (operation : ReadOperation) → q.tag ≡ pdu_tag (read_type operation)
       → All (MayAskName q tables told operation) vs

@@ -13,6 +13,7 @@ pub mod ReadAsks
 pub mod Devices
 pub mod Messages
 pub mod Named
+pub mod Said
 pub mod Work
 pub mod Ends
 pub mod Replies
@@ -26,3 +27,5 @@ pub mod SetBegins
 pub mod Noting
 pub mod Runs
 pub mod Due
+pub mod Bounds
+pub mod Limits

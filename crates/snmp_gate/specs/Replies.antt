@@ -17,13 +17,17 @@ use Rattle.snmp_agent.specs.Dispatch.{Refuses}
 use Rattle.snmp_agent.specs.Responses.{responding}
 use Rattle.snmp_agent.specs.Sent.{Sends}
 use Rattle.snmp_agent.specs.declared.unhandled.Unhandled.{Unhandled}
+use Rattle.snmp_responder.specs.Instrumentation.{Known}
 use Rattle.snmp_walk.specs.BulkColumn.{Ascends, IsGiven, last_name}
 use Rattle.snmp_walk.specs.Column.{MayShow}
+use Rattle.snmp_walk.specs.Dialogue.{requests_of}
 use Rattle.snmp_walk.specs.declared.operation.ReadOperation.{ReadOperation}
 use Rattle.snmp_walk.specs.declared.operation.ReadOperation.TheVariants.{GetNext}
+use Rattle.gateway_laws.specs.Device.{AreAnswered, IsDevice}
 use Rattle.snmp_gate.specs.Messages.{seen_in}
 use Rattle.snmp_gate.specs.Question.{Question}
 use Rattle.snmp_gate.specs.ReadAsks.{read_type}
+use Rattle.snmp_gate.specs.Said.{AreTrue, Said}
 use Rattle.snmp_gate.specs.declared.reply.Reply.{Reply}
 use Rattle.snmp_gate.specs.declared.reply.Reply.TheVariants as reply
 use Rattle.snmp_gate.specs.declared.reply.Sealing.{Sealing}
@@ -69,25 +73,30 @@ pub record MayTellBulk (Seen : List ℕ → Type 0) (said vs : List Variable) (v
   pub shows : MayShow Seen said GetNext (last_name request.name shown) v
 
 -- without an error
-pub data MayTellValues (tables : Tables) (q : Question) (said : List Variable) (vs : List Variable) : Type 0 where
-  -- to a GetRequest or a GetNextRequest: for each of its names what it may show
+pub data MayTellValues (tables : Tables) (q : Question) (said : Said) (vs : List Variable) : Type 0 where
+  -- to a GetRequest or a GetNextRequest: for each of its names what it may show; and where each answer is that of a
+  -- device with some variables, what this device has that is restricted to the view
   columns : (operation : ReadOperation) → q.tag ≡ pdu_tag (read_type operation)
-      → AllZip (λ (asked v : Variable). MayShow (seen_in tables q) said operation asked.name v) (variables_of q.list) vs
+      → AllZip (λ (asked v : Variable). MayShow (seen_in tables q) said.variables operation asked.name v)
+      (variables_of q.list) vs
+      → ((device : Known) → IsDevice device → AreTrue device operation said
+      → AreAnswered device (seen_in tables q) (requests_of operation (variables_of q.list)) vs)
       → MayTellValues tables q said vs
-  front : q.tag ≡ pdu_tag GetBulkRequest → All (MayTellBulk (seen_in tables q) said (variables_of q.list)) vs
+  front : q.tag ≡ pdu_tag GetBulkRequest
+      → All (MayTellBulk (seen_in tables q) said.variables (variables_of q.list)) vs
       → MayTellValues tables q said vs
   -- to a SetRequest: its own
   set : q.tag ≡ pdu_tag SetRequest → vs ≡ variables_of q.list → MayTellValues tables q said vs
 
 -- with an error: the request's own bindings, or none with tooBig
-abbrev pub MayTell : Tables → Question → List Variable → Told → Type 0
+abbrev pub MayTell : Tables → Question → Said → Told → Type 0
 MayTell tables q said told =
     ((told.status ≡ NO_ERROR) × MayTellValues tables q said told.variables)
     ⊎ (((told.status ≢ NO_ERROR) × (told.variables ≡ variables_of q.list))
     ⊎ ((told.status ≡ TOO_BIG) × (told.variables ≡ [])))
 
 -- the datagram is a Response that may be sent, or a report
-abbrev pub IsAnswerTo : Answering → Tables → Question → List Variable → Given → List ℕ → Type 0
+abbrev pub IsAnswerTo : Answering → Tables → Question → Said → Given → List ℕ → Type 0
 IsAnswerTo a tables q said g datagram =
     ((told : Told) × IsSent a g told datagram × MayTell tables q said told)
     ⊎ IsReported a g datagram
@@ -123,7 +132,7 @@ IsReportedOr a g (reply.Sends datagram) = IsReported a g datagram.items
 IsReportedOr a g _ = ⊤
 
 -- what becomes of the message
-abbrev pub IsReplyTo : Answering → Tables → Question → List Variable → Given → Reply → Type 0
+abbrev pub IsReplyTo : Answering → Tables → Question → Said → Given → Reply → Type 0
 IsReplyTo a tables q said g (reply.Sends datagram) = IsAnswerTo a tables q said g datagram.items
 IsReplyTo a tables q said g _ = ⊤
 

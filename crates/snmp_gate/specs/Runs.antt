@@ -4,6 +4,7 @@
 -- `to_devices`, `to_clients`: the datagrams that went out. `asked_in`, `sent_in`: those of a history. `IsHistoryOf`: a
 -- history of these events that is lawful. `accepted_for`, `ended_for`: the messages of a request.
 use Rattle.std.specs.Prelude.{◌≡◌, ◌≤◌, cond, nat_eq, ℕ, List, [], ◌∷◌, ◌++◌}
+use Rattle.snmp_gate.specs.Due.{AreIdle}
 use Rattle.snmp_gate.specs.History.{Happening, accepted, answered, asked, given_up, sent, unanswered}
 use Rattle.snmp_gate.specs.Lawful.{AreLawful}
 use Rattle.snmp_gate.specs.Waiting.{ClientHappens, DeviceHappens, GateStands, IsAsBefore, SendHappens, Stays}
@@ -11,7 +12,7 @@ use Rattle.snmp_gate.specs.declared.gate.ClientTaken.{ClientTaken}
 use Rattle.snmp_gate.specs.declared.gate.DeviceTaken.{DeviceTaken}
 use Rattle.snmp_gate.specs.declared.gate.Gate.{Gate}
 use Rattle.snmp_gate.specs.declared.gate.Sent.{Sent}
-use Rattle.snmp_gate.specs.declared.gate.Sent.TheVariants.{ToClient, ToDevice}
+use Rattle.snmp_gate.specs.declared.gate.Sent.TheVariants.{Nothing, ToClient, ToDevice}
 use Rattle.snmp_gate.specs.declared.waiting_message.WaitingMessage.{WaitingMessage}
 
 -- moments are milliseconds
@@ -38,6 +39,7 @@ TakesDevice old now device datagram taken new = Stays old new
 
 abbrev pub SendsNext : Gate → ℕ → List ℕ → Sent → Gate → Type 0
 SendsNext old now salt what new = Stays old new
+    × (what ≡ Nothing → AreIdle new.limits now new.requests.list.items)
     × ((since : ℕ) (before : List Happening) → since ≤ now → GateStands since before old
     → SendHappens old now before salt what new)
 
@@ -59,7 +61,7 @@ IsRun first (device_comes now device datagram taken ∷ before) last = (moment_o
 IsRun first (goes_out now salt what ∷ before) last = (moment_of before ≤ now)
     × ((middle : Gate) × IsRun first before middle × SendsNext middle now salt what last)
 IsRun first (finds_no_memory now ∷ before) last = (moment_of before ≤ now)
-    × ((middle : Gate) × IsRun first before middle × IsAsBefore now middle last)
+    × ((middle : Gate) × IsRun first before middle × Stays middle last × IsAsBefore now middle last)
 
 -- ---- what went out
 

@@ -5,7 +5,6 @@
 -- asked.
 use Rattle.std.specs.Prelude.{◌≡◌, ⊤, ℕ, List, Some, None, slice_index_or, slice_set}
 use Rattle.std.specs.Global.{Vec}
-use Rattle.snmp_msg.specs.Variables.{Variable}
 use Rattle.snmp_agent.specs.Agent.{AgentState}
 use Rattle.snmp_incoming.specs.Outcome.{Given}
 use Rattle.std.specs.List.{HoldsAt}
@@ -14,6 +13,8 @@ use Rattle.snmp_gate.specs.History.{MayAskFor}
 use Rattle.snmp_gate.specs.Messages.{question_in}
 use Rattle.snmp_gate.specs.Question.{Question}
 use Rattle.snmp_gate.specs.Replies.{IsReplyTo}
+use Rattle.snmp_gate.specs.Said.{Said}
+use Rattle.snmp_gate.specs.Time.{once_more, times_asked}
 use Rattle.snmp_gate.specs.Work.{EndingStands, TaskStands, variables_of_task}
 use Rattle.snmp_gate.specs.declared.gate.Sent.{Sent}
 use Rattle.snmp_gate.specs.declared.gate.Sent.TheVariants.{ToClient, Unanswered}
@@ -28,7 +29,7 @@ use Rattle.snmp_gate.specs.declared.work.OpenRequest.{OpenRequest}
 use Rattle.snmp_gate.specs.declared.work.Work.{Work}
 use Rattle.snmp_gate.specs.declared.work.Work.TheVariants.{Open, Ends}
 
-abbrev pub RepliesTo : AgentState → ℕ → List ℕ → Question → List Variable → Given → Work → Reply → Type 0
+abbrev pub RepliesTo : AgentState → ℕ → List ℕ → Question → Said → Given → Work → Reply → Type 0
 RepliesTo agent seconds salt q said g (Ends e) r = EndingStands agent.tables q said e
     → IsReplyTo (record { agent = agent; now = seconds; salt = salt }) agent.tables q said g r
 RepliesTo agent seconds salt q said g (Open o) r = ⊥
@@ -59,7 +60,7 @@ IsUnasked (Ends e) = ⊥
 
 -- by the datagram it may be asked with this request-id
 abbrev pub MayAskOf : Tables → List Device → ℕ → ℕ → Vec ℕ → WaitingRequest WaitingMessage Work → Type 0
-MayAskOf tables devices device id datagram r = (o : OpenRequest) (q : Question) (told : List Variable)
+MayAskOf tables devices device id datagram r = (o : OpenRequest) (q : Question) (told : Said)
     → r.work ≡ Open o → question_in r.first ≡ Some q → TaskStands tables q told o.task.task
     → HoldsAt (λ (d : Device). MayAskFor tables d q told id (variables_of_task q o.task.task) datagram.items) devices
     device
@@ -74,6 +75,8 @@ pub record SetsAsked (old : Requests) (place id : ℕ) (new : Requests) : Type 0
   pub work : Work
   pub asked : (o : OpenRequest) → request.work ≡ Open o
       → (a : OpenRequest) × (work ≡ Open a) × (a.task ≡ o.task) × (a.device ≡ o.device) × (a.asked ≡ Some id)
+      × (a.timer.began ≡ o.timer.began)
+      × (times_asked a.timer.turn ≡ once_more (times_asked o.timer.turn))
   pub new_is : new ≡ slice_set old place (record {
     number = request.number;
     first = request.first;

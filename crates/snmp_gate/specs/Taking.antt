@@ -6,7 +6,6 @@
 use Rattle.std.specs.Prelude.{◌≡◌, ◌≢◌, ◌<◌, ℕ, pos, List, Some, None, length}
 use Rattle.std.specs.Global.{Vec}
 use Rattle.std.specs.List.{HoldsAt}
-use Rattle.snmp_msg.specs.Variables.{Variable}
 use Rattle.snmp_msg.specs.declared.pdu.Pdu.{Pdu}
 use Rattle.vacm_core.specs.Tables.{Tables}
 use Rattle.snmp_walk.specs.BulkAnswered.{DialogueSaysSame}
@@ -14,6 +13,7 @@ use Rattle.snmp_walk.specs.BulkDialogue.{bulk_requests}
 use Rattle.snmp_walk.specs.declared.bulk_dialogue.BulkDialogue.{BulkDialogue}
 use Rattle.snmp_gate.specs.Ends.{IsOutcomeOf}
 use Rattle.snmp_gate.specs.Question.{Question}
+use Rattle.snmp_gate.specs.Said.{Said}
 use Rattle.snmp_gate.specs.Work.{EndingStands, TaskStands}
 use Rattle.snmp_gate.specs.declared.devices.Device.{Device}
 use Rattle.snmp_gate.specs.declared.requests.WaitingRequest.{WaitingRequest}
@@ -30,9 +30,9 @@ WaitsFor device id (Open o) = (o.device ≡ device) × (o.asked ≡ Some id)
 WaitsFor device id (Ends e) = ⊥
 
 -- the request of the same device is to be asked more, or it ends
-abbrev pub WorkAfter : Tables → Question → List Variable → OpenRequest → Work → Type 0
+abbrev pub WorkAfter : Tables → Question → Said → OpenRequest → Work → Type 0
 WorkAfter tables q told old (Open new) = TaskStands tables q told new.task.task × (new.device ≡ old.device)
-    × (new.asked ≡ None) × (new.task.task ≢ task.Set)
+    × (new.asked ≡ None) × (new.task.task ≢ task.Set) × (new.timer.began ≡ old.timer.began)
 WorkAfter tables q told old (Ends e) = EndingStands tables q told e
 
 -- the community by which a device is asked this

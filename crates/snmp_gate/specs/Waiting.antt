@@ -4,6 +4,7 @@
 -- `GateStands`: all of a gateway. `ClientHappens`, `DeviceHappens`, `SendHappens`: what happens by a call, and that it
 -- is lawful after what happened before. `SameButSets`, `IsAsBefore`: what stays the same.
 use Rattle.std.specs.Prelude.{◌≡◌, ◌≢◌, ◌⊎◌, ◌+◌, ◌/◌, ◌<◌, ◌≤◌, ⊤, ℕ, List, [], ◌∷◌, All, AllPairs, Contains, Some}
+use Rattle.std.specs.Prelude.{◌-◌, ◌^◌, min}
 use Rattle.std.specs.Prelude.{None, Option, map, slice_index_or, slice_set}
 use Rattle.sha2.specs.Sha256.{sha256}
 use Rattle.snmp_msg.specs.Pdu.{PduParts}
@@ -15,16 +16,19 @@ use Rattle.snmp_agent.specs.Agent.{AgentTakes}
 use Rattle.snmp_agent.specs.Report.{AgentReports, report_of}
 use Rattle.snmp_gate.specs.AskRuns.{HaveOwnIds}
 use Rattle.snmp_gate.specs.Asks.{Ends, Waits, ask_of}
+use Rattle.snmp_gate.specs.Bounds.{IsBounded}
 use Rattle.snmp_gate.specs.Devices.{IsDeviceOf}
 use Rattle.snmp_gate.specs.Groups.{Group, groups_of}
 use Rattle.snmp_gate.specs.History.{Happening, IsAccepted, OpenAsk, accepted, answered, asked, given_up, number_of}
 use Rattle.snmp_gate.specs.History.{open_ask, sent, told_in, unanswered, waiting_in}
 use Rattle.snmp_gate.specs.Lawful.{IsLawful, IsSetRequest, ShareNoDatagram, WasAsked}
+use Rattle.snmp_gate.specs.Limits.{IsTriedFew, asks_since}
 use Rattle.snmp_gate.specs.Messages.{question_in}
 use Rattle.snmp_gate.specs.Noting.{AsksSet}
 use Rattle.snmp_gate.specs.Question.{Question}
 use Rattle.snmp_gate.specs.Replies.{Answering, SameAgent}
 use Rattle.snmp_gate.specs.Sets.{IsKept, KeepsSets}
+use Rattle.snmp_gate.specs.Time.{times_asked}
 use Rattle.snmp_gate.specs.Work.{EndingStands, TaskStands, variables_of_task}
 use Rattle.snmp_gate.specs.declared.asks.DeviceAsk.{DeviceAsk}
 use Rattle.snmp_gate.specs.declared.asks.DeviceAsks.{DeviceAsks}
@@ -45,6 +49,11 @@ use Rattle.snmp_gate.specs.declared.work.Work.{Work}
 use Rattle.snmp_gate.specs.declared.work.Work.TheVariants as work
 use Rattle.snmp_gate.specs.declared.work.Work.TheVariants.{Open}
 
+-- each message that was accepted for the request of this number came at this moment or later
+abbrev pub AllCameFrom : List Happening → ℕ → ℕ → Type 0
+AllCameFrom before n began = (now : ℕ) (datagram : List ℕ) (m : WaitingMessage)
+    → Contains before (accepted n now datagram m) → began ≤ now
+
 -- the device is that of the context, its answers are those of this request, and it is asked what the task asks
 pub record OpenStands (tables : Tables) (devices : List Device) (before : List Happening) (n : ℕ) (q : Question)
     (o : OpenRequest) : Type 0 where
@@ -54,6 +63,10 @@ pub record OpenStands (tables : Tables) (devices : List Device) (before : List H
       ≡ Some (record { device = o.device; id = id; variables = variables_of_task q o.task.task })
   -- a Set that isn't asked now never was
   pub set_once : o.task.task ≡ Set → o.asked ≡ None → ¬ WasAsked before n
+  pub came : AllCameFrom before n o.timer.began
+  -- its timer counts how often its device was asked and didn't answer
+  pub unasked : o.asked ≡ None → asks_since n before ≡ 0
+  pub tried : min (asks_since n before) (2 ^ 32 - 1) ≤ times_asked o.timer.turn
 
 abbrev pub WorkStands : Tables → List Device → List Happening → ℕ → Question → Work → Type 0
 WorkStands tables devices before n q (Open o) = OpenStands tables devices before n q o
@@ -85,6 +98,8 @@ pub record GroupsStand (tables : Tables) (devices : List Device) (before : List 
   pub numbered : AreNumbered next groups
   -- of no later request anything happened
   pub past : All (λ (e : Happening). number_of e < next) before
+  -- no message waits for another request
+  pub gone : (n : ℕ) → All (λ (g : Group WaitingMessage Work). g.number ≢ n) groups → waiting_in n before ≡ []
 
 abbrev pub RequestsStand : List Happening → Gate → Type 0
 RequestsStand before g = GroupsStand g.agent.tables g.devices.list.items before g.requests.next
@@ -165,6 +180,7 @@ pub record IsAsBefore (now : ℕ) (old new : Gate) : Type 0 where
 -- what happens is lawful, and the gateway stands after it
 pub record Happens (old : Gate) (now : ℕ) (before : List Happening) (happening : Happening) (new : Gate) : Type 0 where
   pub lawful : IsLawful old.agent old.devices.list.items before happening
+  pub tried : IsTriedFew old.limits before happening
   pub stands : GateStands now (happening ∷ before) new
 
 -- a message of this client is accepted
@@ -200,13 +216,6 @@ SendHappens old now before salt out.Nothing new = GateStands now before new
 abbrev pub AsksNothing : DeviceAsks → Type 0
 AsksNothing asks = asks.asks.items ≡ []
 
--- how much a device may be asked at once
-abbrev pub at_once_of : Device → ℕ
-at_once_of d = d.at_once
-
-abbrev pub at_once_in : DeviceAsks → ℕ
-at_once_in asks = asks.at_once
-
 -- if a client's datagram is refused, the agent refuses it so, counts it and writes the report (RFC 3412, section 7.2)
 abbrev pub IsRefusedBy : Gate → ℕ → List ℕ → Gate → ClientTaken → Type 0
 IsRefusedBy old seconds datagram new (client.Refused r) =
@@ -214,7 +223,9 @@ IsRefusedBy old seconds datagram new (client.Refused r) =
     × AgentReports new.agent seconds datagram (in_table r.why.refusal) (report_of r.report)
 IsRefusedBy old seconds datagram new _ = ⊤
 
--- the same engine, boots, users, tables and devices
+-- the same engine, boots, users, tables, devices and limits, and it keeps to them
 pub record Stays (old new : Gate) : Type 0 where
   pub agent : SameAgent old.agent new.agent
   pub devices : new.devices ≡ old.devices
+  pub limits : new.limits ≡ old.limits
+  pub bounded : IsBounded old → IsBounded new

@@ -1,23 +1,28 @@
 -- What is known of a request while it waits, and of how it ends.
 --
--- `told`: a list with all that the device's answers for the request say. `SaysAll`: it has all that one of them says.
+-- `told`: all that the device's answers for the request say. `SaysAll`: it has all that one of them says.
 -- `TaskStands`: what a device is asked for a request, and what is known of it. `EndingStands`: how it ends.
 -- `OnwardStands`: how it goes on.
 use Rattle.std.specs.Prelude.{◌≡◌, ◌≢◌, ⊤, ℕ, ℤ, Bool, List, [], All, Contains, true}
 use Rattle.std.specs.Ordering.{int_eq}
+use Rattle.snmp_msg.specs.Pdu.{pdu_of}
 use Rattle.snmp_msg.specs.PduTypes.{pdu_tag}
 use Rattle.snmp_msg.specs.Variables.{Variable, variables_of}
 use Rattle.snmp_msg.specs.declared.pdu.Pdu.{Pdu}
 use Rattle.snmp_msg.specs.declared.pdu_type.PduType.TheVariants.{GetBulkRequest, SetRequest}
 use Rattle.vacm_core.specs.Tables.{Tables}
+use Rattle.snmp_responder.specs.Instrumentation.{Known}
 use Rattle.snmp_walk.specs.BulkDialogue.{BulkAllStand, IsCountOf, bulk_requests, bulk_requests_of}
 use Rattle.snmp_walk.specs.Dialogue.{AllStand, requests, requests_of}
 use Rattle.snmp_walk.specs.declared.bulk_dialogue.BulkDialogue.{BulkDialogue}
 use Rattle.snmp_walk.specs.declared.dialogue.Dialogue.{Dialogue}
 use Rattle.snmp_walk.specs.declared.operation.ReadOperation.{ReadOperation}
+use Rattle.gateway_laws.specs.Device.{IsDevice}
+use Rattle.gateway_laws.specs.Tracks.{AllTrack}
 use Rattle.snmp_gate.specs.Messages.{seen_in, set_in}
 use Rattle.snmp_gate.specs.Question.{Question}
 use Rattle.snmp_gate.specs.ReadAsks.{asked_variables, bulk_asked_variables, read_type}
+use Rattle.snmp_gate.specs.Said.{AreTrue, Said}
 use Rattle.snmp_gate.specs.declared.onward.Onward.{Onward}
 use Rattle.snmp_gate.specs.declared.onward.Onward.TheVariants.{Asks, Ends}
 use Rattle.snmp_gate.specs.declared.set_answer.ResponseStatus.{ResponseStatus}
@@ -38,26 +43,30 @@ says_no_such_name status = int_eq status NO_SUCH_NAME
 
 -- the list has all that the answer to a request for these variables says: its bindings; and where it says noSuchName,
 -- of each name that it was asked that there is none after it
-pub record SaysAll (asked : List Variable) (answer : Pdu) (told : List Variable) : Type 0 where
-  pub bindings : All (Contains told) (variables_of answer.list.now)
-  pub ends : says_no_such_name answer.second ≡ true → All (λ (v : Variable). Contains told (end_of v)) asked
+pub record SaysAll (asked : List Variable) (answer : Pdu) (told : Said) : Type 0 where
+  pub bindings : All (Contains told.variables) (variables_of answer.list.now)
+  pub ends : says_no_such_name answer.second ≡ true → All (λ (v : Variable). Contains told.variables (end_of v)) asked
+  pub exchange : Contains told.exchanges (record { asked = asked; answer = pdu_of answer })
 
--- the dialogue is one for a GetRequest or a GetNextRequest that asks this
-pub record ReadStands (tables : Tables) (q : Question) (told : List Variable) (operation : ReadOperation)
-    (d : Dialogue) : Type 0 where
+-- the dialogue is one for a GetRequest or a GetNextRequest that asks this; and where each answer is that of a device
+-- with some variables, it has come so far over these
+pub record ReadStands (tables : Tables) (q : Question) (told : Said) (operation : ReadOperation) (d : Dialogue)
+    : Type 0 where
   pub tag : q.tag ≡ pdu_tag (read_type operation)
   pub requests_are : requests d ≡ requests_of operation (variables_of q.list)
-  pub stand : AllStand (seen_in tables q) told d
+  pub stand : AllStand (seen_in tables q) told.variables d
+  pub tracks : (device : Known) → IsDevice device → AreTrue device operation told
+      → AllTrack device (seen_in tables q) d.columns.items
 
 -- the dialogue is one for a GetBulkRequest that asks this
-pub record BulkStandsFor (tables : Tables) (q : Question) (told : List Variable) (d : BulkDialogue) : Type 0 where
+pub record BulkStandsFor (tables : Tables) (q : Question) (told : Said) (d : BulkDialogue) : Type 0 where
   pub tag : q.tag ≡ pdu_tag GetBulkRequest
   pub non_repeaters : ℕ
   pub first : IsCountOf q.second non_repeaters
   pub max_repetitions : ℕ
   pub most : IsCountOf q.third max_repetitions
   pub requests_are : bulk_requests d ≡ bulk_requests_of non_repeaters max_repetitions (variables_of q.list)
-  pub stand : BulkAllStand (seen_in tables q) told d
+  pub stand : BulkAllStand (seen_in tables q) told.variables d
 
 -- a SetRequest asks this, and each of its variables may be set
 pub record SetStands (tables : Tables) (q : Question) : Type 0 where
@@ -65,7 +74,7 @@ pub record SetStands (tables : Tables) (q : Question) : Type 0 where
   pub may : All (λ (v : Variable). set_in tables q v.name) (variables_of q.list)
 
 -- what a device is asked, and what is known of it
-abbrev pub TaskStands : Tables → Question → List Variable → Task → Type 0
+abbrev pub TaskStands : Tables → Question → Said → Task → Type 0
 TaskStands tables q told (task.Read operation d) = ReadStands tables q told operation d
 TaskStands tables q told (task.Bulk by d) = BulkStandsFor tables q told d
 TaskStands tables q told task.Set = SetStands tables q
@@ -81,7 +90,7 @@ abbrev pub IsOwnStatus : Question → ResponseStatus → Type 0
 IsOwnStatus q says = says.status ≡ NO_ERROR → q.tag ≡ pdu_tag SetRequest
 
 -- how a request ends
-abbrev pub EndingStands : Tables → Question → List Variable → RequestEnd → Type 0
+abbrev pub EndingStands : Tables → Question → Said → RequestEnd → Type 0
 EndingStands tables q told (ending.Columns whole) =
     (operation : ReadOperation) × ReadStands tables q told operation whole.dialogue
 EndingStands tables q told (ending.Front d) = BulkStandsFor tables q told d
@@ -90,7 +99,7 @@ EndingStands tables q told (ending.Unhandled why) = ⊤
 EndingStands tables q told ending.Silent = ⊤
 
 -- how a request goes on
-abbrev pub OnwardStands : Tables → Question → List Variable → Onward → Type 0
+abbrev pub OnwardStands : Tables → Question → Said → Onward → Type 0
 OnwardStands tables q told (Asks named) = TaskStands tables q told named.task
 OnwardStands tables q told (Ends e) = EndingStands tables q told e
 

@@ -9,6 +9,7 @@ ghost use Rattle.snmp_gate.specs.Messages.{question_in};
 ghost use Rattle.snmp_gate.specs.History.{MayAskFor};
 ghost use Rattle.snmp_gate.specs.ReadAsks.{asked_variables, bulk_asked_variables};
 ghost use Rattle.snmp_gate.specs.Work.{BulkStandsFor, ReadStands, SetStands, TaskStands, variables_of_task};
+ghost use Rattle.snmp_gate.specs.Said.{Said};
 
 use crate::asks::REQUEST_IDS;
 use crate::bulk_request::write_bulk_ask;
@@ -31,7 +32,7 @@ fn set_ask(
     id: u32,
 ) -> Result<Option<Vec<u8>>, RefusedAt>
     requires { id < REQUEST_IDS }
-    ensures { IfOk result (λ asked. IfSome asked (λ v. (tables : Tables) (q : Question) (told : List Variable)
+    ensures { IfOk result (λ asked. IfSome asked (λ v. (tables : Tables) (q : Question) (told : Said)
         → question_in message.now ≡ Some q → SetStands tables q
         → MayAskFor tables device.now q told id (variables_of q.list) v.items)) }
 {
@@ -53,7 +54,7 @@ fn read_ask(
 ) -> Result<Vec<u8>, RefusedAt>
     requires id { id < REQUEST_IDS }
     requires named { AllNamed dialogue.now }
-    ensures { IfOk result (λ v. (tables : Tables) (q : Question) (told : List Variable)
+    ensures { IfOk result (λ v. (tables : Tables) (q : Question) (told : Said)
         → ReadStands tables q told operation dialogue.now
         → MayAskFor tables device.now q told id (asked_variables dialogue.now) v.items) }
 {
@@ -72,7 +73,7 @@ fn bulk_ask(
 ) -> Result<Vec<u8>, RefusedAt>
     requires id { id < REQUEST_IDS }
     requires named { BulkAllNamed dialogue.now }
-    ensures { IfOk result (λ v. (tables : Tables) (q : Question) (told : List Variable)
+    ensures { IfOk result (λ v. (tables : Tables) (q : Question) (told : Said)
         → BulkStandsFor tables q told dialogue.now
         → MayAskFor tables device.now q told id (bulk_asked_variables dialogue.now) v.items) }
 {
@@ -90,7 +91,7 @@ fn datagram_of(
     id: u32,
 ) -> Result<Option<Vec<u8>>, RefusedAt>
     requires { id < REQUEST_IDS }
-    ensures { IfOk result (λ asked. IfSome asked (λ v. (tables : Tables) (q : Question) (told : List Variable)
+    ensures { IfOk result (λ asked. IfSome asked (λ v. (tables : Tables) (q : Question) (told : Said)
         → question_in message.now ≡ Some q → TaskStands tables q told named.now.task
         → MayAskFor tables device.now q told id (variables_of_task q named.now.task) v.items)) }
 {
@@ -117,7 +118,7 @@ pub(crate) fn ask_of(
     id: u32,
 ) -> Result<Option<Vec<u8>>, AllocError>
     requires { id < REQUEST_IDS }
-    ensures { IfOk result (λ asked. IfSome asked (λ v. (tables : Tables) (q : Question) (told : List Variable)
+    ensures { IfOk result (λ asked. IfSome asked (λ v. (tables : Tables) (q : Question) (told : Said)
         → question_in message.now ≡ Some q → TaskStands tables q told named.now.task
         → MayAskFor tables device.now q told id (variables_of_task q named.now.task) v.items)) }
 {

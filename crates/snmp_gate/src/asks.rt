@@ -92,10 +92,11 @@ impl DeviceAsks {
     /// Returns the first request-id with which the device isn't asked: this one, or one after it.
     pub(crate) fn free_id(&self, id: u32) -> u32
         requires id { id < REQUEST_IDS }
-        requires few { length self.now.asks.items < REQUEST_IDS }
+        requires room { length self.now.asks.items < self.now.at_once }
         ensures free { IsNextFree self.now.asks.items id result }
         ensures small { result < REQUEST_IDS }
     {
+        let _at_once = self.at_once;
         free_id(&self.asks, id)
     }
 

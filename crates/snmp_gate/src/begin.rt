@@ -9,6 +9,7 @@ ghost use Rattle.snmp_gate.specs.Question.{Question};
 ghost use Rattle.snmp_gate.specs.Messages.{IsPduOf, IsViewerOf};
 ghost use Rattle.snmp_gate.specs.ReadAsks.{read_type};
 ghost use Rattle.snmp_gate.specs.Work.{EndingStands, OnwardStands};
+ghost use Rattle.snmp_gate.specs.Said.{Said};
 
 use crate::limits::GateLimits;
 use crate::onward::{Onward, bulk_on, read_on};
@@ -25,7 +26,7 @@ use vacm_core::ViewType;
 
 /// Returns how a request ends that isn't asked of its device.
 pub(crate) fn ending_of(refusal: AccessRefusal) -> RequestEnd
-    ensures { (tables : Tables) (q : Question) (told : List Variable) → EndingStands tables q told result }
+    ensures { (tables : Tables) (q : Question) (told : Said) → EndingStands tables q told result }
 {
     match refusal {
         AccessRefusal::AuthorizationError => RequestEnd::Own(ResponseStatus {
@@ -45,7 +46,7 @@ const MOST_VARIABLES: usize = 128;
 
 /// Returns how a request ends that asks for more variables: by tooBig (RFC 3416, section 4.2.1).
 fn asks_too_much() -> RequestEnd
-    ensures { (tables : Tables) (q : Question) (told : List Variable) → EndingStands tables q told result }
+    ensures { (tables : Tables) (q : Question) (told : Said) → EndingStands tables q told result }
 {
     RequestEnd::Own(ResponseStatus {
         status: TOO_BIG,
@@ -61,7 +62,7 @@ fn begin_read(
     pdu: &Pdu<'_>,
     limits: &GateLimits,
 ) -> Result<Onward, AllocError>
-    ensures { IfOk result (λ onward. (tables : Tables) (q : Question) (told : List Variable)
+    ensures { IfOk result (λ onward. (tables : Tables) (q : Question) (told : Said)
         → IsViewerOf tables q viewer.now → IsPduOf q pdu.now → q.tag ≡ pdu_tag (read_type operation)
         → OnwardStands tables q told onward) }
 {
@@ -76,7 +77,7 @@ fn begin_bulk(
     pdu: &Pdu<'_>,
     limits: &BulkLimits,
 ) -> Result<Onward, AllocError>
-    ensures { IfOk result (λ onward. (tables : Tables) (q : Question) (told : List Variable)
+    ensures { IfOk result (λ onward. (tables : Tables) (q : Question) (told : Said)
         → IsViewerOf tables q viewer.now → IsPduOf q pdu.now → q.tag ≡ pdu_tag GetBulkRequest
         → OnwardStands tables q told onward) }
 {
@@ -93,7 +94,7 @@ pub(crate) fn begin(
     limits: &GateLimits,
     bulk: &BulkLimits,
 ) -> Result<Onward, AllocError>
-    ensures { IfOk result (λ onward. (tables : Tables) (q : Question) (told : List Variable)
+    ensures { IfOk result (λ onward. (tables : Tables) (q : Question) (told : Said)
         → IsViewerOf tables q viewer.now → IsPduOf q pdu.now
         → OnwardStands tables q told onward) }
 {

@@ -1,7 +1,8 @@
 //! The gateway: what comes in, and what goes out.
 
 ghost use Rattle.std.specs.Prelude.{◌≡◌, [], All, length, map, IfOk};
-ghost use Rattle.snmp_gate.specs.Waiting.{AsksNothing, GateStands, at_once_in, at_once_of};
+ghost use Rattle.snmp_gate.specs.Bounds.{IsBounded, at_once_in, at_once_of};
+ghost use Rattle.snmp_gate.specs.Waiting.{AsksNothing, GateStands};
 
 use crate::asks::DeviceAsks;
 use crate::devices::{Device, Devices};
@@ -113,6 +114,7 @@ impl Gate {
         limits: GateLimits,
     ) -> Result<Gate, AllocError>
         ensures stands { IfOk result (GateStands 0 []) }
+        ensures bounded { IfOk result IsBounded }
         ensures agent { IfOk result (λ gate. gate.agent ≡ agent) }
         ensures devices { IfOk result (λ gate. gate.devices ≡ devices) }
         ensures limits { IfOk result (λ gate. gate.limits ≡ limits) }

@@ -1,7 +1,7 @@
 //! Laws of the gateway's pieces, over any run of steps. Each function does nothing: its contract is the law.
 
 ghost use Rattle.std.specs.Prelude.{◌≡◌, ◌⊎◌, ℕ, ◌+◌, ◌*◌, ◌^◌, ◌<◌, ◌≤◌, max, List, [], length, All, Bool, count_by};
-ghost use Rattle.std.specs.Prelude.{◌++◌};
+ghost use Rattle.std.specs.Prelude.{◌++◌, ◌∷◌};
 ghost use Rattle.snmp_agent.specs.Agent.{AgentState};
 ghost use Rattle.snmp_gate.specs.AskRuns.{AskStep, HaveOwnIds, IsAskRun, times_asked, times_ended, times_waiting};
 ghost use Rattle.snmp_gate.specs.declared.asks.DeviceAsk.{DeviceAsk};
@@ -10,18 +10,25 @@ ghost use Rattle.snmp_gate.specs.GroupRuns.{AskOwn, AsksOneThing, GroupStep, Hav
 ghost use Rattle.snmp_gate.specs.GroupRuns.{answered_by, taken_by, times_held};
 ghost use Rattle.snmp_gate.specs.History.{Happening, waiting_in};
 ghost use Rattle.snmp_gate.specs.Lawful.{AreLawful};
-ghost use Rattle.snmp_gate.specs.Runs.{Event, IsHistoryOf, IsRun, accepted_for, ended_for};
+ghost use Rattle.snmp_gate.specs.Runs.{Event, IsHistoryOf, IsRun, accepted_for, ended_for, goes_out};
 ghost use Rattle.snmp_gate.specs.Time.{AreAsks, IsDue, IsTimed, TimerStep};
 ghost use Rattle.snmp_gate.specs.SetRuns.{AreAsTold, ComesWithin, IsSetRun, SetStep, times_new};
 ghost use Rattle.snmp_gate.specs.Waiting.{GateStands};
+ghost use Rattle.snmp_gate.specs.Bounds.{IsBounded, IsTimely};
+ghost use Rattle.snmp_gate.specs.Due.{IsIdle, retries_in};
+ghost use Rattle.snmp_gate.specs.Limits.{AlwaysKeepsTo, WaitInTime};
 ghost use Rattle.snmp_gate.specs.declared.devices.Device.{Device};
 ghost use Rattle.snmp_gate.specs.declared.gate.Gate.{Gate};
+ghost use Rattle.snmp_gate.specs.declared.gate.Sent.TheVariants as Sent;
+ghost use Rattle.snmp_gate.specs.declared.limits.GateLimits.{GateLimits};
 ghost use Rattle.snmp_gate.specs.declared.retries.Retries.{Retries};
 ghost use Rattle.snmp_gate.specs.declared.sets.RememberedSet.{RememberedSet};
 ghost use Rattle.snmp_gate.specs.declared.sets.TheConstants.{SETS_LIMIT};
 ghost use Rattle.snmp_gate.specs.declared.timer.Due.TheVariants.{GiveUp};
 ghost use Rattle.snmp_gate.specs.declared.timer.Timer.{Timer};
 ghost use Rattle.snmp_gate.specs.declared.timer.Turn.TheVariants.{ToAsk};
+ghost use Rattle.snmp_gate.specs.declared.work.OpenRequest.{OpenRequest};
+ghost use Rattle.snmp_gate.specs.declared.work.Work.TheVariants.{Open};
 
 /// However often its device is asked, and whatever it answers: a request that came at a moment is to be given up at the
 /// latest `last` and once `again` after it (`in_time`), and never earlier than `last` after it, or than `again` for
@@ -109,4 +116,26 @@ pub fn a_gateway_mediates()
 pub fn messages_end_in_turn()
     ensures { (agent : AgentState) (devices : List Device) (n : ℕ) (history : List Happening)
         → AreLawful agent devices history → ended_for n history ++ waiting_in n history ≡ accepted_for n history }
+{}
+
+/// Whatever clients and devices send to a gateway that begins with nothing: it keeps to its limits. For each request
+/// its device is asked the same as often as it may be, and never `last` after it came or later (`bounded`). At any time
+/// of its history at most as many requests wait as may, and for each as many messages as may, or one; no device is
+/// asked for more requests at once than it may be; and none is asked for a request more often than it may be, or once,
+/// if it doesn't answer (`history`). A request for which nothing is due by time came less than `last` and once `again`
+/// before (`in_time`); a Set has `Retries::for_set`. So when `next` returns `Nothing`, each message that waits came
+/// less than `last`, and `again` for each of the tries, before (`ends`).
+pub fn a_gateway_keeps_to_its_limits()
+    ensures bounded { (first last : Gate) (events : List Event) → IsBounded first → IsRun first events last
+        → (last.limits ≡ first.limits) × (last.devices ≡ first.devices) × IsBounded last }
+    ensures history { (first last : Gate) (events : List Event) → GateStands 0 [] first → IsBounded first
+        → IsRun first events last → (history : List Happening) × IsHistoryOf first events history
+        × AlwaysKeepsTo first.limits first.devices.list.items history }
+    ensures in_time { (limits : GateLimits) (now : ℕ) (o : OpenRequest) → IsTimely limits (Open o)
+        → IsIdle limits now (Open o)
+        → now < o.timer.began + (retries_in limits o.task.task).last + (retries_in limits o.task.task).again }
+    ensures ends { (first last : Gate) (now : ℕ) (salt : List ℕ) (events : List Event) → GateStands 0 [] first
+        → IsBounded first → IsRun first (goes_out now salt Sent.Nothing ∷ events) last
+        → (history : List Happening) × IsHistoryOf first (goes_out now salt Sent.Nothing ∷ events) history
+        × WaitInTime first.limits now history }
 {}

@@ -1,19 +1,24 @@
 //! What goes out.
 
-ghost use Rattle.std.specs.Prelude.{◌≡◌, ◌↔◌, ◌<◌, ◌≤◌, [], ℕ, min, MatchOption, List, Some, length, IfOk, IfSome};
-ghost use Rattle.std.specs.Prelude.{IsTrue, None, OnErr};
+ghost use Rattle.std.specs.Prelude.{◌≡◌, ◌≢◌, ◌↔◌, ◌<◌, ◌≤◌, [], ℕ, min, MatchOption, List, Some, length, IfOk};
+ghost use Rattle.std.specs.Prelude.{IfSome, IsTrue, OnErr};
 ghost use Rattle.snmp_msg.specs.Variables.{Variable};
 ghost use Rattle.snmp_gate.specs.Question.{Question};
 ghost use Rattle.snmp_gate.specs.Messages.{question_in};
 ghost use Rattle.snmp_gate.specs.History.{Happening};
 ghost use Rattle.snmp_gate.specs.Replies.{SameAgent};
-ghost use Rattle.snmp_gate.specs.Sending.{IsAskedAt, IsGivenUp, IsOpenAt, IsSentBy, IsUnasked, MayAskAt, RepliesTo};
+ghost use Rattle.snmp_gate.specs.Sending.{IsAskedAt, IsGivenUp, IsOpenAt, IsSentBy, MayAskAt, RepliesTo};
 ghost use Rattle.snmp_gate.specs.Sending.{SetsAsked};
 ghost use Rattle.std.specs.List.{HoldsAt};
-ghost use Rattle.snmp_gate.specs.Due.{IsFirstDue, due_in, retries_in};
+ghost use Rattle.snmp_gate.specs.Bounds.{AreTimely, AsksBounded, MayBeAsked};
+ghost use Rattle.snmp_gate.specs.Due.{AreIdle, HasEnded, HasRoom, IsFirstDue, IsTodo, IsTodoAt, IsTodoOpen, due_in};
+ghost use Rattle.snmp_gate.specs.Due.{retries_in};
+ghost use Rattle.snmp_gate.specs.declared.limits.GateLimits.{GateLimits as LimitsAre};
+ghost use Rattle.snmp_gate.specs.Groups.{groups_of};
 ghost use Rattle.snmp_gate.specs.Noting.{AsksSet, IsToldOf};
 ghost use Rattle.snmp_gate.specs.Waiting.{EndsAsk, GateStands, IsAsBefore, SameButAsks, SameButSets, SendHappens};
 ghost use Rattle.snmp_gate.specs.Waiting.{Stays, asks_in};
+ghost use Rattle.snmp_gate.specs.Said.{Said};
 
 use crate::ask::ask_of;
 use crate::asks::{DeviceAsks, REQUEST_IDS};
@@ -40,31 +45,53 @@ fn retries_of(task: &Task, limits: &GateLimits) -> Retries
     }
 }
 
-/// Returns what is to be done now for a request whose device is to be asked, or to answer.
-fn todo_open(open: &OpenRequest, is_full: bool, limits: &GateLimits, now: u64) -> Todo
-    ensures { result ≡ Todo.Ask → open.now.asked ≡ None }
+/// Returns what is to be done now for a request whose device is to be asked, or to answer. `has_room`: the device may
+/// be asked more at once.
+fn todo_open(open: &OpenRequest, has_room: bool, limits: &GateLimits, now: u64) -> Option<Todo>
+    ensures { IsTodoOpen limits.now has_room now open.now result }
 {
     let retries = retries_of(&open.task.task, limits);
     match open.timer.due(&retries, now) {
-        Due::GiveUp => Todo::GiveUp,
-        Due::AskAgain => match open.asked {
-            Some(_) => Todo::AskAgain,
-            None => Todo::Nothing,
-        },
-        Due::Nothing => match open.asked {
-            Some(_) => Todo::Nothing,
-            None if is_full => Todo::Nothing,
-            None => Todo::Ask,
-        },
+        Due::GiveUp => Some(Todo::GiveUp),
+        Due::AskAgain => Some(Todo::AskAgain),
+        Due::Nothing if has_room && open.asked.is_none() => Some(Todo::Ask),
+        Due::Nothing => None,
     }
 }
 
-/// Returns true if nothing more can be asked of this device.
-fn is_full(asks: &[DeviceAsks], device: usize) -> bool {
-    match asks.get(device) {
-        Some(asks) => asks.is_full(),
-        None => true,
+/// Returns true if more can be asked of this device at once.
+fn has_room(asks: &[DeviceAsks], device: usize) -> bool
+    ensures { IsTrue result → HasRoom asks.now device }
+{
+    device < asks.len() && !asks[device].is_full()
+}
+
+/// Returns what is to be done now for a request. None: nothing is due.
+fn todo_of(work: &Work, asks: &[DeviceAsks], limits: &GateLimits, now: u64) -> Option<Todo>
+    ensures { IsTodo limits.now asks.now now work.now result }
+{
+    match work {
+        Work::Ends(_) => Some(Todo::Answer),
+        Work::Open(open) => todo_open(open, has_room(asks, open.device), limits, now),
     }
+}
+
+/// Returns the place of the first request for which something is to be done now, and what.
+fn first_todo(
+    requests: &[WaitingRequest<WaitingMessage, Work>],
+    asks: &[DeviceAsks],
+    limits: &GateLimits,
+    now: u64,
+) -> Option<(usize, Todo)>
+    ensures { MatchOption result (AreIdle limits.now now requests.now)
+        (λ due. IsTodoAt limits.now asks.now now requests.now due.0 due.1) }
+{
+    for (place, request) in requests.iter().enumerate() {
+        if let Some(todo) = todo_of(&request.work, asks, limits, now) {
+            return Some((place, todo));
+        }
+    }
+    None
 }
 
 /// Returns the moment from which on something is due for a request by time alone.
@@ -88,7 +115,7 @@ fn earlier(due: Option<u64>, at: u64) -> u64
     }
 }
 
-/// Returns what becomes of the first message of a request that ends. None: the request doesn't end.
+/// Returns what becomes of the first message of a request that ends.
 fn reply_now(
     alloc: Global,
     agent: &mut Agent,
@@ -96,15 +123,16 @@ fn reply_now(
     limits: &GateLimits,
     seconds: u64,
     salt: [u8; 8],
-) -> Result<Option<Reply>, AllocError>
-    ensures sent { IfOk result (λ replied. IfSome replied (λ reply. (q : Question) (said : List Variable)
+) -> Result<Reply, AllocError>
+    requires { HasEnded request.now.work }
+    ensures sent { IfOk result (λ reply. (q : Question) (said : Said)
         → question_in request.now.first ≡ Some q
-        → RepliesTo agent.old seconds salt q said request.now.first.kept request.now.work reply)) }
+        → RepliesTo agent.old seconds salt q said request.now.first.kept request.now.work reply) }
     ensures same { SameAgent agent.old agent.new }
     ensures err { OnErr result (agent.new ≡ agent.old) }
 {
     let Work::Ends(ending) = &request.work else {
-        return Ok(None);
+        unreachable!();
     };
     let message = &request.first;
     let taken = message.kept.taken();
@@ -114,7 +142,7 @@ fn reply_now(
         limit: limit_of(taken.level, taken.max_size, message.size, limits),
     };
     let reply = reply_to(alloc, agent, message, ending, &sealing)?;
-    Ok(Some(reply))
+    Ok(reply)
 }
 
 /// Returns what the Response says of a request as a whole, if it has the request's own bindings.
@@ -145,7 +173,12 @@ fn is_set_at(work: &Work) -> bool
 fn set_asked(requests: &mut WaitingRequests<WaitingMessage, Work>, place: usize, now: u64, id: u32)
     requires { place < length requests.old.list.items }
     ensures asked { SetsAsked requests.old.list.items place id requests.new.list.items }
+    ensures timely { (limits : LimitsAre) → HoldsAt (λ r. MayBeAsked limits now r.work) requests.old.list.items place
+        → AreTimely limits (groups_of requests.old.list.items)
+        → AreTimely limits (groups_of requests.new.list.items) }
     ensures next { requests.new.next ≡ requests.old.next }
+    ensures most { requests.new.most ≡ requests.old.most }
+    ensures most_messages { requests.new.most_messages ≡ requests.old.most_messages }
 {
     let request = &mut requests.list[place];
     match &mut request.work {
@@ -159,7 +192,8 @@ fn set_asked(requests: &mut WaitingRequests<WaitingMessage, Work>, place: usize,
 
 /// Returns what goes out, of what becomes of a message.
 fn sent_by(number: u64, client: Vec<u8>, reply: Reply) -> Sent
-    ensures { IsSentBy number client reply result }
+    ensures is { IsSentBy number client reply result }
+    ensures something { result ≢ Sent.Nothing }
 {
     match reply {
         Reply::Sends(datagram) => Sent::ToClient {
@@ -197,20 +231,25 @@ impl Gate {
     /// No salt may come twice (RFC 3826, section 3.1.2.1). `ask_id` is a number that didn't come before: the device is
     /// asked with this request-id, or with the next one with which it isn't asked.
     ///
+    /// It returns `Nothing` only if no request has ended, and by time alone nothing is due for any (`idle`). Of each
+    /// request it does what is due, however often it is called.
+    ///
     /// The error is out of memory. Then all is as before, and the call may be made again.
     pub fn next(&mut self, now: u64, salt: [u8; 8], ask_id: u32) -> Result<Sent, AllocError>
         ensures happens { IfOk result (λ sent. (since : ℕ) (before : List Happening) → since ≤ now
             → GateStands since before self.old → SendHappens self.old now before salt sent self.new) }
+        ensures idle { IfOk result (λ sent. sent ≡ Sent.Nothing
+            → AreIdle self.new.limits now self.new.requests.list.items) }
         ensures stays { Stays self.old self.new }
         ensures err { OnErr result (IsAsBefore now self.old self.new) }
     {
-        let Some((place, todo)) = self.first_due(now) else {
+        let requests = self.requests.requests();
+        let Some((place, todo)) = first_todo(requests, &self.asks, &self.limits, now) else {
             return Ok(Sent::Nothing);
         };
         match todo {
-            Todo::Nothing => Ok(Sent::Nothing),
             Todo::Answer => self.answer_at(place, now, salt),
-            Todo::Ask => self.ask_at(place, now, ask_id % REQUEST_IDS),
+            Todo::Ask => self.ask_at(place, now, salt, ask_id % REQUEST_IDS),
             Todo::AskAgain => self.ask_again_at(place, now),
             Todo::GiveUp => Ok(self.give_up_at(place)),
         }
@@ -225,32 +264,13 @@ impl Gate {
         first_due_of(self.requests.requests(), &self.limits)
     }
 
-    /// Returns the place of the first request for which something is to be done now, and what.
-    fn first_due(&self, now: u64) -> Option<(usize, Todo)>
-        ensures within { IfSome result (λ due. due.0 < length self.now.requests.list.items) }
-        ensures asks { IfSome result (λ due. due.1 ≡ Todo.Ask
-            → HoldsAt (λ r. IsUnasked r.work) self.now.requests.list.items due.0) }
-    {
-        for (place, request) in self.requests.requests().iter().enumerate() {
-            let todo = match &request.work {
-                Work::Ends(_) => Todo::Answer,
-                Work::Open(open) => {
-                    let is_full = is_full(&self.asks, open.device);
-                    todo_open(open, is_full, &self.limits, now)
-                }
-            };
-            if todo != Todo::Nothing {
-                return Some((place, todo));
-            }
-        }
-        None
-    }
-
     /// Answers the first message of the request at this place.
     fn answer_at(&mut self, place: usize, now: u64, salt: [u8; 8]) -> Result<Sent, AllocError>
-        requires { place < length self.old.requests.list.items }
+        requires place { place < length self.old.requests.list.items }
+        requires ended { HoldsAt (λ r. HasEnded r.work) self.old.requests.list.items place }
         ensures happens { IfOk result (λ sent. (since : ℕ) (before : List Happening) → since ≤ now
             → GateStands since before self.old → SendHappens self.old now before salt sent self.new) }
+        ensures something { IfOk result (λ sent. sent ≢ Sent.Nothing) }
         ensures stays { Stays self.old self.new }
         ensures err { OnErr result (IsAsBefore now self.old self.new) }
     {
@@ -266,9 +286,6 @@ impl Gate {
             seconds,
             salt,
         )?;
-        let Some(reply) = reply else {
-            return Ok(Sent::Nothing);
-        };
         let message = self.requests.answer(place);
         self.tell_set(&message, said);
         Ok(sent_by(number, message.client, reply))
@@ -286,21 +303,17 @@ impl Gate {
         }
     }
 
-    /// Returns the device of the request at this place, and the request's number, if its device is to be asked.
-    fn device_at(&self, place: usize) -> Option<(usize, u64)>
-        requires { place < length self.now.requests.list.items }
-        ensures { IfSome result (λ found. IsOpenAt self.now.requests.list.items place found.0 found.1
-            × (found.0 < length self.now.asks.items) × (found.0 < length self.now.devices.list.items)) }
+    /// Returns the device of the request at this place, which hasn't ended, and the request's number.
+    fn device_at(&self, place: usize) -> (usize, u64)
+        requires place { place < length self.now.requests.list.items }
+        requires goes_on { HoldsAt (λ r. ¬ HasEnded r.work) self.now.requests.list.items place }
+        ensures { IsOpenAt self.now.requests.list.items place result.0 result.1 }
     {
         let request = &self.requests.list[place];
         let Work::Open(waiting) = &request.work else {
-            return None;
+            unreachable!();
         };
-        let device = waiting.device;
-        if device >= self.asks.len() || device >= self.devices.list.len() {
-            return None;
-        }
-        Some((device, request.number))
+        (waiting.device, request.number)
     }
 
     /// Returns the request-id with which the device is asked for the request at this place.
@@ -343,26 +356,33 @@ impl Gate {
         Ok(datagram)
     }
 
-    /// Asks the device for the request at this place, with this request-id or the next free one.
-    fn ask_at(&mut self, place: usize, now: u64, ask_id: u32) -> Result<Sent, AllocError>
+    /// Asks the device for the request at this place, with this request-id or the next free one. If that takes a longer
+    /// datagram than the device does, the request ends, and its first message is answered.
+    fn ask_at(
+        &mut self,
+        place: usize,
+        now: u64,
+        salt: [u8; 8],
+        ask_id: u32,
+    ) -> Result<Sent, AllocError>
         requires place { place < length self.old.requests.list.items }
         requires id { ask_id < REQUEST_IDS }
-        requires unasked { HoldsAt (λ r. IsUnasked r.work) self.old.requests.list.items place }
-        ensures happens { IfOk result (λ sent. (since : ℕ) (before : List Happening) (salt : List ℕ) → since ≤ now
+        requires due { HoldsAt (λ r. IsTodo self.old.limits self.old.asks.items now r.work (Some Todo.Ask))
+            self.old.requests.list.items place }
+        ensures happens { IfOk result (λ sent. (since : ℕ) (before : List Happening) → since ≤ now
             → GateStands since before self.old → SendHappens self.old now before salt sent self.new) }
+        ensures something { IfOk result (λ sent. sent ≢ Sent.Nothing) }
         ensures stays { Stays self.old self.new }
         ensures err { OnErr result (IsAsBefore now self.old self.new) }
     {
-        let Some((device, number)) = self.device_at(place) else {
-            return Ok(Sent::Nothing);
-        };
-        if self.asks[device].is_full() {
-            return Ok(Sent::Nothing);
+        let (device, number) = self.device_at(place);
+        if device >= self.devices.list.len() {
+            return Ok(self.give_up_at(place));
         }
         let id = self.asks[device].free_id(ask_id);
         let Some(datagram) = self.datagram_at(place, device, id)? else {
             self.requests.work(place, Work::Ends(TOO_LONG));
-            return Ok(Sent::Nothing);
+            return self.answer_at(place, now, salt);
         };
         self.asks[device].ask(id, number)?;
         set_asked(&mut self.requests, place, now, id);
@@ -373,25 +393,39 @@ impl Gate {
         })
     }
 
-    /// Asks the device the same again for the request at this place. A Set is never asked again.
+    /// Returns how often a device is asked the same at most, which is a number of 32 bits.
+    fn tries(&self) -> u32
+        ensures { result ≡ self.now.limits.retries.tries }
+    {
+        self.limits.retries.tries
+    }
+
+    /// Asks the device the same again for the request at this place. A Set is never asked again: it is given up, and so
+    /// is what can't be asked.
     fn ask_again_at(&mut self, place: usize, now: u64) -> Result<Sent, AllocError>
-        requires { place < length self.old.requests.list.items }
+        requires place { place < length self.old.requests.list.items }
+        requires due { HoldsAt (λ r. IsTodo self.old.limits self.old.asks.items now r.work (Some Todo.AskAgain))
+            self.old.requests.list.items place }
         ensures happens { IfOk result (λ sent. (since : ℕ) (before : List Happening) (salt : List ℕ) → since ≤ now
             → GateStands since before self.old → SendHappens self.old now before salt sent self.new) }
+        ensures something { IfOk result (λ sent. sent ≢ Sent.Nothing) }
         ensures stays { Stays self.old self.new }
         ensures err { OnErr result (IsAsBefore now self.old self.new) }
     {
+        // so that the prover knows how large it is
+        let _tries = self.tries();
         if is_set_at(&self.requests.list[place].work) {
             return Ok(self.give_up_at(place));
         }
-        let Some((device, number)) = self.device_at(place) else {
-            return Ok(Sent::Nothing);
-        };
+        let (device, number) = self.device_at(place);
         let Some(id) = self.asked_at(place) else {
-            return Ok(Sent::Nothing);
+            return Ok(self.give_up_at(place));
         };
+        if device >= self.asks.len() || device >= self.devices.list.len() {
+            return Ok(self.give_up_at(place));
+        }
         let Some(datagram) = self.datagram_at(place, device, id)? else {
-            return Ok(Sent::Nothing);
+            return Ok(self.give_up_at(place));
         };
         set_asked(&mut self.requests, place, now, id);
         Ok(Sent::ToDevice {
@@ -415,14 +449,14 @@ impl Gate {
 
     /// Gives up the request at this place.
     fn give_up_at(&mut self, place: usize) -> Sent
-        requires { place < length self.old.requests.list.items }
+        requires place { place < length self.old.requests.list.items }
+        requires goes_on { HoldsAt (λ r. ¬ HasEnded r.work) self.old.requests.list.items place }
         ensures happens { (since now : ℕ) (before : List Happening) (salt : List ℕ) → since ≤ now
             → GateStands since before self.old → SendHappens self.old now before salt result self.new }
+        ensures something { result ≢ Sent.Nothing }
         ensures stays { Stays self.old self.new }
     {
-        let Some((device, number)) = self.device_at(place) else {
-            return Sent::Nothing;
-        };
+        let (device, number) = self.device_at(place);
         let asked = self.asked_at(place);
         let ending = self.given_up_at(place);
         self.requests.work(place, Work::Ends(ending));
@@ -434,6 +468,8 @@ impl Gate {
     fn end_ask(&mut self, device: usize, asked: Option<u32>)
         ensures same { SameButAsks self.old self.new }
         ensures ends { EndsAsk device asked (asks_in self.old.asks.items) (asks_in self.new.asks.items) }
+        ensures bounded { AsksBounded self.old.devices.list.items self.old.asks.items
+            → AsksBounded self.old.devices.list.items self.new.asks.items }
     {
         if let Some(id) = asked {
             if device < self.asks.len() {

@@ -11,6 +11,7 @@ ghost use Rattle.snmp_gate.specs.Work.{AsksNoSet, BulkStandsFor, OnwardStands, R
 ghost use Rattle.snmp_gate.specs.declared.set_answer.ResponseStatus.{ResponseStatus as Says};
 ghost use Rattle.snmp_gate.specs.Ends.{IsEndFor, IsFailing, FailsOrGoesOn};
 ghost use Rattle.snmp_gate.specs.Taking.{BulkSaysSame};
+ghost use Rattle.snmp_gate.specs.Said.{Said};
 
 use crate::named_task::NamedTask;
 use crate::set_answer::{GEN_ERR, NO_SUCH_NAME, ResponseStatus, TOO_BIG};
@@ -93,7 +94,7 @@ pub(crate) fn read_on(
     viewer: &Viewer<'_>,
 ) -> Onward
     requires { AllNamed dialogue }
-    ensures stands { (tables : Tables) (q : Question) (told : List Variable) → IsViewerOf tables q viewer.now
+    ensures stands { (tables : Tables) (q : Question) (told : Said) → IsViewerOf tables q viewer.now
         → ReadStands tables q told operation dialogue → OnwardStands tables q told result }
     ensures no_set { AsksNoSet result }
 {
@@ -109,7 +110,7 @@ pub(crate) fn read_on(
 /// Returns how a GetBulkRequest goes on.
 pub(crate) fn bulk_on(mut dialogue: BulkDialogue, viewer: &Viewer<'_>) -> Onward
     requires { BulkAllNamed dialogue }
-    ensures stands { (tables : Tables) (q : Question) (told : List Variable) → IsViewerOf tables q viewer.now
+    ensures stands { (tables : Tables) (q : Question) (told : Said) → IsViewerOf tables q viewer.now
         → BulkStandsFor tables q told dialogue → OnwardStands tables q told result }
     ensures no_set { AsksNoSet result }
 {
@@ -130,7 +131,7 @@ pub(crate) fn take_read(
     answer: &Pdu<'_>,
 ) -> Result<AnswerTaken, AllocError>
     ensures named { AllNamed dialogue.old → AllNamed dialogue.new }
-    ensures stands { IfOk result (λ _. (tables : Tables) (q : Question) (told : List Variable)
+    ensures stands { IfOk result (λ _. (tables : Tables) (q : Question) (told : Said)
         → (operation : ReadOperation) → IsViewerOf tables q viewer.now
         → SaysAll (asked_variables dialogue.old) answer.now told
         → ReadStands tables q told operation dialogue.old → ReadStands tables q told operation dialogue.new) }
@@ -152,7 +153,7 @@ pub(crate) fn take_bulk(
     answer: &Pdu<'_>,
 ) -> Result<AnswerTaken, AllocError>
     ensures named { BulkAllNamed dialogue.old → BulkAllNamed dialogue.new }
-    ensures stands { IfOk result (λ _. (tables : Tables) (q : Question) (told : List Variable)
+    ensures stands { IfOk result (λ _. (tables : Tables) (q : Question) (told : Said)
         → IsViewerOf tables q viewer.now
         → SaysAll (bulk_asked_variables dialogue.old) answer.now told
         → BulkStandsFor tables q told dialogue.old → BulkStandsFor tables q told dialogue.new) }
@@ -176,7 +177,7 @@ pub(crate) fn take_bulk(
 /// Returns how a request goes on after its device's answer, which isn't the end of it. A GetBulkRequest that is `late`
 /// ends with its front if that has a whole repetition.
 fn after_task(named: NamedTask, is_front: bool, viewer: &Viewer<'_>, late: bool) -> Onward
-    ensures stands { (tables : Tables) (q : Question) (told : List Variable) → IsViewerOf tables q viewer.now
+    ensures stands { (tables : Tables) (q : Question) (told : Said) → IsViewerOf tables q viewer.now
         → TaskStands tables q told named.task → OnwardStands tables q told result }
     ensures no_set { AsksNoSet result }
 {
@@ -195,7 +196,7 @@ fn after_task(named: NamedTask, is_front: bool, viewer: &Viewer<'_>, late: bool)
 
 /// Returns how a request goes on after its device's answer.
 pub(crate) fn after(named: NamedTask, taken: AnswerTaken, viewer: &Viewer<'_>, late: bool) -> Onward
-    ensures stands { (tables : Tables) (q : Question) (told : List Variable) → IsViewerOf tables q viewer.now
+    ensures stands { (tables : Tables) (q : Question) (told : Said) → IsViewerOf tables q viewer.now
         → IsEndFor q taken
         → TaskStands tables q told named.task → OnwardStands tables q told result }
     ensures no_set { AsksNoSet result }

@@ -11,6 +11,7 @@ ghost use Rattle.snmp_gate.specs.Replies.{IsFrontSentOr, IsOwnList, IsReplyTo, I
 ghost use Rattle.snmp_gate.specs.Replies.{IsTooBigOr, SameAgent};
 ghost use Rattle.snmp_gate.specs.Replies.{answering, told_with};
 ghost use Rattle.snmp_gate.specs.Work.{BulkStandsFor, EndingStands, IsOwnStatus, ReadStands};
+ghost use Rattle.snmp_gate.specs.Said.{Said};
 ghost use Rattle.snmp_walk.specs.declared.operation.ReadOperation.{ReadOperation};
 
 use crate::limits::GateLimits;
@@ -167,7 +168,7 @@ fn reply_own(
     says: ResponseStatus,
     sealing: &Sealing,
 ) -> Result<Reply, AllocError>
-    ensures sent { IfOk result (λ reply. (client : List ℕ) (q : Question) (said : List Variable)
+    ensures sent { IfOk result (λ reply. (client : List ℕ) (q : Question) (said : Said)
         → question_given client (given_of taken.now) ≡ Some q → IsOwnStatus q says
         → IsReplyTo (answering agent.old sealing.now) agent.old.tables q said (given_of taken.now) reply) }
     ensures same { SameAgent agent.old agent.new }
@@ -226,7 +227,7 @@ fn reply_columns(
     whole: &WholeDialogue,
     sealing: &Sealing,
 ) -> Result<Reply, AllocError>
-    ensures sent { IfOk result (λ reply. (client : List ℕ) (q : Question) (said : List Variable)
+    ensures sent { IfOk result (λ reply. (client : List ℕ) (q : Question) (said : Said)
         (operation : ReadOperation)
         → question_given client (given_of taken.now) ≡ Some q
         → ReadStands agent.old.tables q said operation whole.now.dialogue
@@ -249,7 +250,7 @@ fn reply_bulk(
     dialogue: &BulkDialogue,
     sealing: &Sealing,
 ) -> Result<Reply, AllocError>
-    ensures sent { IfOk result (λ reply. (client : List ℕ) (q : Question) (said : List Variable)
+    ensures sent { IfOk result (λ reply. (client : List ℕ) (q : Question) (said : Said)
         → question_given client (given_of taken.now) ≡ Some q
         → BulkStandsFor agent.old.tables q said dialogue.now
         → IsReplyTo (answering agent.old sealing.now) agent.old.tables q said (given_of taken.now) reply) }
@@ -271,7 +272,7 @@ pub(crate) fn reply_to(
     ending: &RequestEnd,
     sealing: &Sealing,
 ) -> Result<Reply, AllocError>
-    ensures sent { IfOk result (λ reply. (q : Question) (said : List Variable)
+    ensures sent { IfOk result (λ reply. (q : Question) (said : Said)
         → question_in message.now ≡ Some q
         → EndingStands agent.old.tables q said ending.now
         → IsReplyTo (answering agent.old sealing.now) agent.old.tables q said message.now.kept reply) }

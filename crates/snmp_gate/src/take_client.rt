@@ -7,7 +7,8 @@ ghost use Rattle.snmp_msg.specs.Variables.{Variable};
 ghost use Rattle.snmp_incoming.specs.Answers.{given_of};
 ghost use Rattle.snmp_gate.specs.Question.{Question};
 ghost use Rattle.snmp_gate.specs.Messages.{question_given, question_in};
-ghost use Rattle.snmp_gate.specs.Beginning.{BeginsWell, IsDigestOf, IsNoRefusal, IsSet, MaySetAll, TakenIn};
+ghost use Rattle.snmp_gate.specs.Beginning.{BeginsWell, IsDigestOf, IsNoRefusal, IsSet, IsUntaken, MaySetAll, TakenIn};
+ghost use Rattle.snmp_gate.specs.Bounds.{IsNew};
 ghost use Rattle.snmp_gate.specs.Devices.{IsDeviceOf};
 ghost use Rattle.snmp_gate.specs.History.{Happening};
 ghost use Rattle.snmp_gate.specs.Noting.{AsksSet, IsNotedAgain, IsNotedFor, IsUnnoted};
@@ -15,6 +16,7 @@ ghost use Rattle.snmp_gate.specs.SetBegins.{SetStandsSo};
 ghost use Rattle.snmp_gate.specs.Sets.{KeepsSets};
 ghost use Rattle.snmp_gate.specs.Waiting.{ClientHappens, GateStands, IsAsBefore, IsRefusedBy, SameButSets, Stays};
 ghost use Rattle.snmp_gate.specs.Work.{EndingStands, OnwardStands};
+ghost use Rattle.snmp_gate.specs.Said.{Said};
 ghost use Rattle.snmp_gate.specs.declared.devices.Device.{Device as DeviceIs};
 ghost use Rattle.vacm_core.specs.Tables.{Tables};
 
@@ -58,16 +60,17 @@ fn place_of(
 
 /// Returns the end of a request by a Response with this status, and the request's own bindings.
 fn own(status: i32, index: i32) -> RequestEnd
-    ensures { (tables : Tables) (q : Question) (told : List Variable) → IsSet q → EndingStands tables q told result }
+    ensures { (tables : Tables) (q : Question) (told : Said) → IsSet q → EndingStands tables q told result }
 {
     RequestEnd::Own(ResponseStatus { status, index })
 }
 
 /// Returns what becomes of a request that goes on so, and which came now.
 fn work_of(device: usize, now: u64, onward: Onward) -> Work
-    ensures { (tables : Tables) (devices : List DeviceIs) (q : Question)
-        → ((told : List Variable) → OnwardStands tables q told onward) → IsDeviceOf devices q.context device
+    ensures begins { (tables : Tables) (devices : List DeviceIs) (q : Question)
+        → ((told : Said) → OnwardStands tables q told onward) → IsDeviceOf devices q.context device
         → BeginsWell tables devices q result }
+    ensures fresh { IsNew now result }
 {
     match onward {
         Onward::Asks(task) => Work::Open(OpenRequest {
@@ -105,7 +108,7 @@ fn set_access(
     tables: &Vacm,
     message: &WaitingMessage,
 ) -> Result<SetAccess, AllocError>
-    ensures ends { IfOk result (λ access. IfSome access.refused (λ ending. (q : Question) (told : List Variable)
+    ensures ends { IfOk result (λ access. IfSome access.refused (λ ending. (q : Question) (told : Said)
         → EndingStands tables.now q told ending)) }
     ensures may { IfOk result (λ access. (access.refused ≡ None) → (q : Question)
         → question_in message.now ≡ Some q → IsSet q → MaySetAll tables.now q) }
@@ -157,7 +160,9 @@ enum SetBegins {
 }
 
 impl Gate {
-    /// Takes a datagram from a client at this moment, in milliseconds. The address of the client is of any octets.
+    /// Takes a datagram from a client at this moment, in milliseconds. The address of the client is of any octets. If
+    /// there is no room for it (`NoRoom`), or it is a Set that came before (`SetOfBefore`), all is as before, and a
+    /// datagram for which there was no room is taken as if it were new when it comes again.
     ///
     /// The error is out of memory. Then the datagram isn't taken, and may be taken again.
     pub fn take_client(
@@ -170,6 +175,7 @@ impl Gate {
             → GateStands since before self.old
             → ClientHappens self.old now before client.now datagram.now taken self.new) }
         ensures refused { IfOk result (IsRefusedBy self.old (now / 1000) datagram.now self.new) }
+        ensures untaken { IfOk result (λ taken. IsUntaken taken → IsAsBefore now self.old self.new) }
         ensures stays { Stays self.old self.new }
         ensures err { OnErr result (IsAsBefore now self.old self.new) }
     {
@@ -224,6 +230,7 @@ impl Gate {
             → IsDigestOf message datagram → GateStands since before self.old
             → TakenIn before now datagram message taken self.new) }
         ensures accepts { IfOk result IsNoRefusal }
+        ensures untaken { IfOk result (λ taken. IsUntaken taken → IsAsBefore now self.old self.new) }
         ensures stays { Stays self.old self.new }
         ensures err { OnErr result (IsAsBefore now self.old self.new) }
     {
@@ -236,7 +243,10 @@ impl Gate {
         let number = self.requests.list[place].number;
         match self.requests.join(place, message) {
             Ok(Joined::Joined) => Ok(ClientTaken::Joins(number)),
-            Ok(Joined::NoRoom) => Ok(ClientTaken::NoRoom),
+            Ok(Joined::NoRoom) => {
+                self.unnote(noted_again(digest));
+                Ok(ClientTaken::NoRoom)
+            }
             Err(none) => {
                 self.unnote(noted_again(digest));
                 Err(none)
@@ -279,6 +289,7 @@ impl Gate {
             → IsDigestOf message datagram → GateStands since before self.old
             → TakenIn before now datagram message taken self.new) }
         ensures accepts { IfOk result IsNoRefusal }
+        ensures untaken { IfOk result (λ taken. IsUntaken taken → IsAsBefore now self.old self.new) }
         ensures stays { Stays self.old self.new }
         ensures err { OnErr result (IsAsBefore now self.old self.new) }
     {
@@ -335,6 +346,7 @@ impl Gate {
         ensures begins { IfOk result (λ begins. IfSome begins (λ work. (q : Question)
             → question_in message.now ≡ Some q
             → BeginsWell self.old.agent.tables self.old.devices.list.items q work)) }
+        ensures fresh { IfOk result (λ begins. IfSome begins (IsNew now)) }
         ensures same { SameButSets self.old self.new }
         ensures sets { KeepsSets now self.old.sets.sets.items self.new.sets.sets.items }
     {
@@ -354,6 +366,7 @@ impl Gate {
         ensures begins { IfOk result (λ begins. IfSome begins (λ work. (q : Question)
             → question_in message.now ≡ Some q
             → BeginsWell self.old.agent.tables self.old.devices.list.items q work)) }
+        ensures fresh { IfOk result (λ begins. IfSome begins (IsNew now)) }
         ensures same { SameButSets self.old self.new }
         ensures sets { KeepsSets now self.old.sets.sets.items self.new.sets.sets.items }
     {
@@ -375,7 +388,7 @@ impl Gate {
     /// Returns how a request for values begins.
     fn begin_read(&self, device: usize, taken: &Taken<'_>) -> Result<Onward, AllocError>
         requires { device < length self.now.devices.list.items }
-        ensures { IfOk result (λ onward. (client : List ℕ) (q : Question) (told : List Variable)
+        ensures { IfOk result (λ onward. (client : List ℕ) (q : Question) (told : Said)
             → question_given client (given_of taken.now) ≡ Some q
             → OnwardStands self.now.agent.tables q told onward) }
     {
@@ -448,7 +461,7 @@ impl Gate {
         message: &WaitingMessage,
     ) -> Result<Option<RequestEnd>, AllocError>
         requires { device < length self.old.devices.list.items }
-        ensures ends { IfOk result (λ refused. IfSome refused (λ ending. (q : Question) (told : List Variable)
+        ensures ends { IfOk result (λ refused. IfSome refused (λ ending. (q : Question) (told : Said)
             → IsSet q → EndingStands self.old.agent.tables q told ending)) }
         ensures may { IfOk result (λ refused. (refused ≡ None) → (q : Question)
             → question_in message.now ≡ Some q → IsSet q → MaySetAll self.old.agent.tables q) }

@@ -12,12 +12,14 @@ ghost use Rattle.snmp_gate.specs.Messages.{IsViewerOf, question_in};
 ghost use Rattle.snmp_gate.specs.Ends.{EndsSet, IsEndFor};
 ghost use Rattle.snmp_gate.specs.declared.set_answer.ResponseStatus.{ResponseStatus as Says};
 ghost use Rattle.snmp_gate.specs.declared.task.Task.TheVariants as TaskIs;
+ghost use Rattle.snmp_gate.specs.Bounds.{IsFresh};
 ghost use Rattle.snmp_gate.specs.History.{Happening};
 ghost use Rattle.snmp_gate.specs.Noting.{AsksSet};
 ghost use Rattle.snmp_gate.specs.Taking.{AnswerPlace, IsCommunityOfWork, OpenSaysSame, TaskSaysSame, WaitsFor};
 ghost use Rattle.snmp_gate.specs.Taking.{EndsAsSaid, WorkAfter, WorkSaysSame};
 ghost use Rattle.snmp_gate.specs.Waiting.{DeviceHappens, GateStands, IsAsBefore, Stays};
 ghost use Rattle.snmp_gate.specs.Work.{SaysAll, TaskStands, variables_of_task};
+ghost use Rattle.snmp_gate.specs.Said.{Said};
 ghost use Rattle.snmp_gate.specs.declared.work.OpenRequest.{OpenRequest as OpenIs};
 ghost use Rattle.snmp_gate.specs.declared.work.Work.TheVariants.{Open};
 
@@ -46,7 +48,7 @@ fn take_task(
     bindings: usize,
     answer: &Pdu<'_>,
 ) -> Result<AnswerTaken, AllocError>
-    ensures stands { IfOk result (λ taken. (tables : Tables) (q : Question) (told : List Variable)
+    ensures stands { IfOk result (λ taken. (tables : Tables) (q : Question) (told : Said)
         → IsViewerOf tables q viewer.now
         → SaysAll (variables_of_task q named.old.task) answer.now told
         → TaskStands tables q told named.old.task
@@ -63,9 +65,10 @@ fn take_task(
 
 /// Returns what becomes of a request whose device answered so.
 fn work_after(asked: OpenRequest, taken: AnswerTaken, viewer: &Viewer<'_>, late: bool) -> Work
-    ensures after { (tables : Tables) (q : Question) (told : List Variable) → IsViewerOf tables q viewer.now
+    ensures after { (tables : Tables) (q : Question) (told : Said) → IsViewerOf tables q viewer.now
         → IsEndFor q taken → TaskStands tables q told asked.task.task → WorkAfter tables q told asked result }
     ensures no_set { ¬ AsksSet result }
+    ensures fresh { IsFresh result }
     ensures ends { (says : Says) → taken ≡ AnswerTaken.Ends says → result ≡ Work.Ends (RequestEnd.Own says) }
 {
     let OpenRequest {
@@ -120,12 +123,13 @@ fn take_open(
     tables: &Vacm,
     answer: &Pdu<'_>,
 ) -> Result<AnswerTaken, AllocError>
-    ensures stands { IfOk result (λ taken. (q : Question) (told : List Variable)
+    ensures stands { IfOk result (λ taken. (q : Question) (told : Said)
         → question_in message.now ≡ Some q
         → SaysAll (variables_of_task q waiting.old.task.task) answer.now told
         → TaskStands tables.now q told waiting.old.task.task
         → TaskStands tables.now q told waiting.new.task.task × IsEndFor q taken) }
     ensures device { waiting.new.device ≡ waiting.old.device }
+    ensures timer { waiting.new.timer ≡ waiting.old.timer }
     ensures set { IfOk result (λ taken. waiting.old.task.task ≡ TaskIs.Set → EndsSet answer.now taken) }
     ensures err { OnErr result (OpenSaysSame waiting.old waiting.new) }
 {
@@ -144,10 +148,11 @@ fn after_answer(
     tables: &Vacm,
     lateness: Lateness,
 ) -> Work
-    ensures after { (o : OpenIs) (q : Question) (told : List Variable)
+    ensures after { (o : OpenIs) (q : Question) (told : Said)
         → question_in message.now ≡ Some q → old ≡ Open o → IsEndFor q became
         → TaskStands tables.now q told o.task.task → WorkAfter tables.now q told o result }
     ensures no_set { ¬ AsksSet result }
+    ensures fresh { IsFresh result }
     ensures ends { (o : OpenIs) (says : Says) → old ≡ Open o → became ≡ AnswerTaken.Ends says
         → result ≡ Work.Ends (RequestEnd.Own says) }
 {
@@ -171,11 +176,12 @@ fn take_answer(
     answer: &Pdu<'_>,
     lateness: Lateness,
 ) -> Result<(), AllocError>
-    ensures after { IfOk result (λ _. (o : OpenIs) (q : Question) (told : List Variable)
+    ensures after { IfOk result (λ _. (o : OpenIs) (q : Question) (told : Said)
         → question_in message.now ≡ Some q → work.old ≡ Open o
         → SaysAll (variables_of_task q o.task.task) answer.now told
         → TaskStands tables.now q told o.task.task → WorkAfter tables.now q told o work.new) }
     ensures no_set { IfOk result (λ _. ¬ AsksSet work.new) }
+    ensures fresh { IfOk result (λ _. IsFresh work.new) }
     ensures set { IfOk result (λ _. AsksSet work.old → EndsAsSaid answer.now work.new) }
     ensures err { OnErr result (WorkSaysSame work.old work.new) }
 {

@@ -45,8 +45,6 @@ pub enum Work {
 /// What is to be done for a request now.
 #[derive(Clone, Copy, Debug, PartialEq, Eq)]
 pub enum Todo {
-    /// Nothing.
-    Nothing,
     /// Its first message is to be answered.
     Answer,
     /// Its device is to be asked, with a new request-id.

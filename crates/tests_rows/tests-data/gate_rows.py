@@ -24,10 +24,11 @@ ENGINE = b"\x80\x00\x1f\x88\x04gate"
 USER = plain.User(b"guest", None, b"", False, ENGINE)
 TABLE = (1, 3, 6, 1, 4, 1, 9)
 TABLES = (
-    "[[context]]|name='odd'|[[context]]|name='even'|[[group]]|model=3|name='guest'|group='g'|"
+    "[[context]]|name='odd'|[[context]]|name='even'|[[context]]|name='small'|[[group]]|model=3|name='guest'|group='g'|"
     "[[access]]|group='g'|prefix=''|match='prefix'|model=3|level='noAuthNoPriv'|read='v'|write='v'|"
     "[[family]]|view='v'|subtree='1.3.6.1'|include=true|[[family]]|view='v'|subtree='1.3.6.1.4.1.9.2'|include=false|"
 )
+DEVICES = (b"odd", 65507), (b"even", 65507), (b"small", 60)
 VIEW = plain.View([((1, 3, 6, 1), b"", True), ((*TABLE, 2), b"", False)])
 LIMITS = dict(waiting=1024, joined=16, rounds=64, again=1000, tries=3, last=5000, gather=500, gathered=262028, long_answers=0, report_unreachable=0)
 VARIABLES = Variables({(*TABLE, column, row): (2, bytes([column * 16 + row])) for column in (1, 2, 3) for row in (1, 2, 3)})
@@ -39,8 +40,8 @@ class Odd:
     """One gateway, whose rows are printed as they come."""
 
     def __init__(self):
-        tables = plain.Tables([b"odd", b"even"], {b"guest": "g"}, [("g", b"", False, 0, "v", "v")], {"v": VIEW})
-        devices = [plain.Device(name, b"public", b"write", 65507, 32, 100, 32) for name in (b"odd", b"even")]
+        tables = plain.Tables([name for name, _ in DEVICES], {b"guest": "g"}, [("g", b"", False, 0, "v", "v")], {"v": VIEW})
+        devices = [plain.Device(name, b"public", b"write", most, 32, 100, 32) for name, most in DEVICES]
         self.gate, self.now, self.number, self.asked = plain.Gateway(ENGINE, 1, 0, tables, devices, LIMITS), 1000, 0, []
 
     def row(self, words, answer):
@@ -53,8 +54,13 @@ class Odd:
         octets = spelled([(name, (2, b"\x05") if tag == SET else (5, b"")) for name in names])
         pdu, numbers = (tag, self.number, second, third, octets), (self.number, 65507, 4, 1, 0)
         datagram = plain.level_message(USER, 0, ENGINE, numbers, plain.scoped_of(ENGINE, context, plain.pdu_of(*pdu)), b"")
-        message = plain.Message("c", USER, 0, ENGINE, context, pdu, (self.number, 65507, 1, 0), datagram)
-        self.row(f"take_client {self.now} 'c {datagram.hex()}", self.gate.take_client(self.now, message))
+        self.message = plain.Message("c", USER, 0, ENGINE, context, pdu, (self.number, 65507, 1, 0), datagram)
+        self.take()
+
+    def take(self):
+        """Sends the last request, or sends it again, and asks the device."""
+        words = f"take_client {self.now} 'c {self.message.datagram.hex()}"
+        self.row(words, self.gate.take_client(self.now, self.message))
         self.send()
 
     def send(self):
@@ -281,14 +287,31 @@ def names_too_many(it):
     it.answer()
 
 
+def asks_too_long(it):
+    it.request(GET, [ONE] * 3, context=b"small")
+    it.request(GET_BULK, [ONE] * 3, 0, 2, context=b"small")
+    it.request(SET, [ONE] * 3, context=b"small")
+    it.take()
+
+
+def a_set_without_room(it):
+    for _ in range(LIMITS["joined"] + 1):
+        it.request(SET, [ONE])
+    it.answer()
+    it.take()
+    it.answer()
+    it.take()
+
+
 WAYS = (silent, late, too_late, twice, in_turn, other_number, number_of_other, other_device, other_community, version_1, a_report, cut, other_names, swapped,
         a_hidden_name, same, back, hidden_end, no_such_object, no_value, fewer, more, none, no_such_name, gen_err, no_access, other_error, too_big, silent_bulk,
-        behind_the_end, names_too_many)
+        behind_the_end, names_too_many, asks_too_long, a_set_without_room)
 
 print(HEAD)
 print("user guest - -\nusers -> loaded")
 print(f"tables '{TABLES}\nlimits " + " ".join(map(str, LIMITS.values())))
-print("device 'odd 'public 'write 65507 32 100 32\ndevice 'even 'public 'write 65507 32 100 32")
+for name, most in DEVICES:
+    print(f"device '{name.decode()} 'public 'write {most} 32 100 32")
 print(f"gate {ENGINE.hex()} 1 0")
 odd = Odd()
 for way in WAYS:

@@ -1,5 +1,6 @@
 use Rattle.std.proofs.Common.{◌≡◌, ◌++◌, All, drop, map}
-use Rattle.snmp_gate.specs.Waiting.{AsksNothing, at_once_in, at_once_of}
+use Rattle.snmp_gate.specs.Bounds.{at_once_in, at_once_of}
+use Rattle.snmp_gate.specs.Waiting.{AsksNothing}
 use Rattle.snmp_gate.proofs.gate.asks_of.Given as goal
 
 abbrev pub invariant-loop-device : goal.invariant-loop-device

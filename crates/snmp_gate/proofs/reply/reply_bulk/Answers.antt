@@ -33,9 +33,9 @@ returns-clause-sent c =
       context = record { ref_ptr = c.args.taken.now.user.ref_ptr; now = q.context };
     } in
     let is : IsViewerOf tables q viewer = record { tables_are = refl; model = refl; name = refl; level = refl; context = refl } in
-    let all = c.in_ok-bindings.ensures.outwards viewer said (from_seen (λ (Seen : List ℕ → Type 0). BulkAllStand Seen said d) tables q viewer is stands.stand) in
+    let all = c.in_ok-bindings.ensures.outwards viewer said.variables (from_seen (λ (Seen : List ℕ → Type 0). BulkAllStand Seen said.variables d) tables q viewer is stands.stand) in
     front_reply a tables q said g d bs r stands
-    (subst (λ (ws : List Binding). All (IsShownOf (seen_in tables q) said d.columns.items) (map variable_of ws)) (sym c.deref-2.ensures.value)
-    (to_seen (λ (Seen : List ℕ → Type 0). All (IsShownOf Seen said d.columns.items) (map variable_of c.in_ok-bindings.bindings.items)) tables q viewer is all))
+    (subst (λ (ws : List Binding). All (IsShownOf (seen_in tables q) said.variables d.columns.items) (map variable_of ws)) (sym c.deref-2.ensures.value)
+    (to_seen (λ (Seen : List ℕ → Type 0). All (IsShownOf Seen said.variables d.columns.items) (map variable_of c.in_ok-bindings.bindings.items)) tables q viewer is all))
     sent)
     c.reply_front.ensures.sent

@@ -4,7 +4,7 @@ use Rattle.snmp_msg.specs.Variables.{variable_of}
 use Rattle.snmp_msg.specs.declared.binding.Binding.{Binding}
 use Rattle.snmp_incoming.specs.Answers.{given_of}
 use Rattle.snmp_responder.specs.declared.viewer.Viewer.{Viewer}
-use Rattle.snmp_walk.specs.Dialogue.{AllStand, Shows}
+use Rattle.snmp_walk.specs.Dialogue.{AllStand, IsShown, Shows}
 use Rattle.snmp_gate.specs.Messages.{IsViewerOf, seen_in}
 use Rattle.snmp_gate.specs.Replies.{IsSentOr, answering, told_with}
 use Rattle.snmp_gate.proofs.Sending.{on_ok}
@@ -33,9 +33,11 @@ returns-clause-sent c =
       context = record { ref_ptr = c.args.taken.now.user.ref_ptr; now = q.context };
     } in
     let is : IsViewerOf tables q viewer = record { tables_are = refl; model = refl; name = refl; level = refl; context = refl } in
-    let zip = c.in_ok-bindings.ensures.outwards viewer said (from_seen (λ (Seen : List ℕ → Type 0). AllStand Seen said d) tables q viewer is stands.stand) in
+    let zip = c.in_ok-bindings.ensures.outwards viewer said.variables (from_seen (λ (Seen : List ℕ → Type 0). AllStand Seen said.variables d) tables q viewer is stands.stand) in
     columns_reply a tables q said g operation d.columns.items bs r stands.tag stands.requests_are
-    (subst (λ (ws : List Binding). AllZip (Shows (seen_in tables q) said) d.columns.items ws) (sym c.deref-2.ensures.value)
-    (to_seen (λ (Seen : List ℕ → Type 0). AllZip (Shows Seen said) d.columns.items c.in_ok-bindings.bindings.items) tables q viewer is zip))
+    (subst (λ (ws : List Binding). AllZip (Shows (seen_in tables q) said.variables) d.columns.items ws) (sym c.deref-2.ensures.value)
+    (to_seen (λ (Seen : List ℕ → Type 0). AllZip (Shows Seen said.variables) d.columns.items c.in_ok-bindings.bindings.items) tables q viewer is zip))
+    (subst (λ (ws : List Binding). AllZip IsShown d.columns.items ws) (sym c.deref-2.ensures.value) c.in_ok-bindings.ensures.shown)
+    stands.tracks
     sent)
     c.reply_with.ensures.sent

@@ -2,8 +2,8 @@ use Rattle.std.proofs.Common.{refl, subst}
 use Rattle.snmp_gate.specs.Work.{OnwardStands}
 use Rattle.snmp_gate.proofs.take_client.work_of.Goals as goal
 
-pub returns-in-Asks : goal.returns-in-Asks
-returns-in-Asks c tables devices q stands device = ((λ told. subst (OnwardStands tables q told) c.in-Asks.is (stands told)), device, refl)
+pub returns-in-Asks-clause-begins : goal.returns-in-Asks-clause-begins
+returns-in-Asks-clause-begins c tables devices q stands device = ((λ told. subst (OnwardStands tables q told) c.in-Asks.is (stands told)), device, refl)
 
-pub returns-in-Ends : goal.returns-in-Ends
-returns-in-Ends c tables devices q stands device told = subst (OnwardStands tables q told) c.in-Ends.is (stands told)
+pub returns-in-Ends-clause-begins : goal.returns-in-Ends-clause-begins
+returns-in-Ends-clause-begins c tables devices q stands device told = subst (OnwardStands tables q told) c.in-Ends.is (stands told)

@@ -13,4 +13,5 @@ returns-clause-after c o q told asked is says stands =
     (subst (λ (x : OpenRequest). TaskStands tables q told x.task.task) (sym same) stands) in
     let new : OpenRequest = c.take_open.new.waiting in
     after_same tables q told new o c.after_answer.result (c.in_ok-became.ensures.device ∙ ap (λ (x : OpenRequest). x.device) same)
+    (c.in_ok-became.ensures.timer ∙ ap (λ (x : OpenRequest). x.timer) same)
     (c.after_answer.ensures.after new q told asked c.replace-old.ensures.value took.1 took.0)

@@ -1,15 +1,20 @@
 use Rattle.std.proofs.Common.{ap, inl, refl, subst, sym, ◌∙◌}
 use Rattle.snmp_agent.specs.Agent.{AgentState}
+use Rattle.snmp_gate.specs.Due.{HasEnded}
 use Rattle.snmp_gate.specs.Groups.{IsAnswered, groups_of}
+use Rattle.snmp_gate.specs.declared.requests.WaitingRequest.{WaitingRequest}
 use Rattle.snmp_gate.specs.declared.requests.WaitingRequests.{WaitingRequests}
 use Rattle.snmp_gate.specs.declared.waiting_message.WaitingMessage.{WaitingMessage}
 use Rattle.snmp_gate.specs.declared.work.Work.{Work}
+use Rattle.snmp_gate.proofs.Bounded.{stays_answered, stays_counted}
 use Rattle.snmp_gate.proofs.GroupSteps.{on_err}
 use Rattle.snmp_gate.proofs.Histories.{IsLeftAfter}
-use Rattle.snmp_gate.proofs.Keeping.{as_before, stands_kept}
-use Rattle.snmp_gate.proofs.SetsKept.{keeps_same}
+use Rattle.snmp_gate.proofs.Keeping.{as_before}
 use Rattle.snmp_gate.proofs.SetsGoing.{reply_happens}
 use Rattle.snmp_gate.proofs.gate.Gate.answer_at.Goals as goal
+
+pub reply_now-requires : goal.reply_now-requires
+reply_now-requires c = subst (λ (r : WaitingRequest WaitingMessage Work). HasEnded r.work) (sym c.index-request.ensures) (c.requires.ended c.index-request.result.now)
 
 pub returns-clause-happens : goal.returns-clause-happens
 returns-clause-happens c since before later stands =
@@ -22,15 +27,21 @@ returns-clause-happens c since before later stands =
       next = ap (λ (rs : WaitingRequests WaitingMessage Work). rs.next) c.tell_set.ensures.same.requests ∙ c.answer-message.ensures.next;
       answer = subst (λ (rs : WaitingRequests WaitingMessage Work). IsAnswered (groups_of g.requests.list.items) c.args.place m (groups_of rs.list.items)) (sym c.tell_set.ensures.same.requests) c.answer-message.ensures.answered;
     } in
-    reply_happens g c.tell_set.new.self since c.args.now before c.args.place c.args.salt r m c.said_of-said.result m.client c.in-Some.reply c.sent_by.result later c.requires c.index-request.ensures
-    left refl (rw c.in-Some.is at c.in_ok-reply.ensures.sent) c.sent_by.ensures c.tell_set.ensures.same.asks c.tell_set.ensures.told stands
+    reply_happens g c.tell_set.new.self since c.args.now before c.args.place c.args.salt r m c.said_of-said.result m.client c.in_ok-reply.reply c.sent_by.result later c.requires.place c.index-request.ensures
+    left refl c.in_ok-reply.ensures.sent c.sent_by.ensures.is c.tell_set.ensures.same.asks c.tell_set.ensures.told stands
+
+pub returns-clause-stays : goal.returns-clause-stays
+returns-clause-stays c =
+    let g = c.args.self.now in
+    stays_answered g (record g { agent = c.reply_now.new.agent; requests = c.answer-message.new.self }) c.tell_set.new.self c.args.place c.answer-message.result c.in_ok-reply.ensures.same refl refl refl c.answer-message.ensures.answered
+    c.answer-message.ensures.most c.answer-message.ensures.most_messages c.tell_set.ensures.same
 
 pub returns-in_err-reply-clause-err : goal.returns-in_err-reply-clause-err
 returns-in_err-reply-clause-err c =
     let g = c.args.self.now in
     on_err c.from_residual.result _ (as_before c.args.now g (record g { agent = c.reply_now.new.agent }) c.in_err-reply.ensures.err refl refl refl refl refl (inl refl))
 
-pub returns-in_default-clause-happens : goal.returns-in_default-clause-happens
-returns-in_default-clause-happens c =
+pub returns-in_err-reply-clause-stays : goal.returns-in_err-reply-clause-stays
+returns-in_err-reply-clause-stays c =
     let g = c.args.self.now in
-    stands_kept c.args.now g (record g { agent = c.reply_now.new.agent }) c.in_ok-reply.ensures.same.tables refl refl refl refl (keeps_same c.args.now g.sets.sets.items g.sets.sets.items refl)
+    stays_counted g (record g { agent = c.reply_now.new.agent }) c.in_err-reply.ensures.same refl refl refl refl

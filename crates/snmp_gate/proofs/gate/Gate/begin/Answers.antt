@@ -1,5 +1,7 @@
-use Rattle.std.proofs.Common.{◌∙◌, refl, ap, arith, subst, sym}
-use Rattle.std.specs.Prelude.{ℕ, ◌∷◌, ◌≡◌, ◌≢◌, ◌≤◌, ◌+◌, ◌-◌, ◌^◌, min, suc}
+use Rattle.std.proofs.Common.{◌∙◌, refl, ap, arith, inl, inr, subst, sym}
+use Rattle.std.proofs.lemmas.Bool.{false≢true}
+use Rattle.std.proofs.lemmas.Bool.Decides.{leb_tells}
+use Rattle.std.specs.Prelude.{ℕ, ◌∷◌, ◌≡◌, ◌≢◌, ◌<◌, ◌≤◌, ◌+◌, ◌-◌, ◌^◌, length, min, suc}
 use Rattle.snmp_agent.specs.Agent.{AgentState}
 use Rattle.snmp_gate.specs.Beginning.{BeginsWell}
 use Rattle.snmp_gate.specs.Groups.{groups_of}
@@ -17,7 +19,9 @@ use Rattle.snmp_gate.specs.Lawful.{IsInTurn}
 use Rattle.snmp_gate.specs.Waiting.{AsksStand, GateStands, SetsStand, asks_in}
 use Rattle.snmp_gate.specs.declared.asks.DeviceAsks.{DeviceAsks}
 use Rattle.snmp_gate.proofs.AsksKept.{asks_same}
-use Rattle.snmp_gate.proofs.Keeping.{as_before, keeps_again, same_before, stands_later, stands_noted, unnoted}
+use Rattle.snmp_gate.specs.declared.gate.Gate.{Gate}
+use Rattle.snmp_gate.proofs.Bounded.{agent_same, bounded_begun, new_fresh, stays_forgotten, stays_noted, stays_on, stays_requests, stays_same, stays_twice}
+use Rattle.snmp_gate.proofs.Keeping.{as_before, keeps_again, same_before, stands_later, stands_noted, stays_as_before, unnoted}
 use Rattle.snmp_gate.proofs.SetsComing.{begun_sets, keeps_noted_for}
 use Rattle.snmp_gate.proofs.SetsKept.{keeps_kept}
 use Rattle.snmp_gate.proofs.Joining.{begins_in_turn, begun_all}
@@ -25,6 +29,9 @@ use Rattle.snmp_gate.proofs.gate.Gate.begin.Goals as goal
 
 next_is : (n : ℕ) → n ≤ 2 ^ 64 - 1 → n ≢ 2 ^ 64 - 1 → min (n + 1) (2 ^ 64 - 1) ≡ suc n
 next_is n fits isnt = omega (arith, fits, isnt)
+
+below : (n m : ℕ) → (m ≤ n → ⊥) → n < m
+below n m not = elim (leb_tells m n) [ inl (test, le) ↦ absurd (not le) | inr (test, lt) ↦ lt ]
 
 pub returns-in-Ok-clause-takes : goal.returns-in-Ok-clause-takes
 returns-in-Ok-clause-takes c since before datagram later digest stands =
@@ -51,7 +58,7 @@ returns-in-Ok-clause-takes c since before datagram later digest stands =
     (subst (λ (x : Devices). BeginsWell g.agent.tables x.list.items q w) (sym devices) well) in
     let next_one = c.in-Ok.ensures.next ∙ next_is n.requests.next (subst (λ (x : ℕ). x ≤ 2 ^ 64 - 1) (c.next_number.ensures ∙ sym same_next) fits) (λ is. c.if-next_number.false (c.next_number.ensures ∙ sym same_next ∙ is)) in
     let all = begun_all n.agent.tables n.devices.list.items before n.requests.next c.begin.new.self.next (groups_of n.requests.list.items) new m q w c.args.now datagram
-    c.requires.1 well_now c.in-Ok.ensures.ok next_one requests in
+    c.requires.1 well_now (rw c.in-Some.is at c.in_ok-work.ensures.fresh) c.in-Ok.ensures.ok next_one requests in
     let known = subst (λ (x : WaitingRequests WaitingMessage Work). SetsStand since before (groups_of x.list.items) g.sets.sets.items) (sym rs) stands.sets in
     let sets = begun_sets n.agent.tables n.devices.list.items before n.requests.next (groups_of n.requests.list.items) new m q w since c.args.now datagram g.sets.sets.items c.first_work.new.self.sets.sets.items n.sets.sets.items c.in_ok-noted.noted
     c.requires.1 well_now digest later c.in_default-noted.not-Before c.first_work.ensures.sets c.in_ok-noted.ensures.noted c.in-Ok.ensures.ok requests known in
@@ -106,3 +113,56 @@ returns-in-Err-clause-err c =
     (ap (λ (x : WaitingRequests WaitingMessage Work). x.next) last.requests ∙ c.in-Err.ensures.err.1 ∙ ap (λ (x : WaitingRequests WaitingMessage Work). x.next) requests)
     (keeps_again c.args.now g.sets.sets.items c.first_work.new.self.sets.sets.items u.sets.sets.items c.first_work.ensures.sets
     (unnoted c.args.now c.args.message.digest c.in-Some.work c.first_work.new.self.sets.sets.items n.sets.sets.items u.sets.sets.items c.in_ok-noted.noted c.in_ok-noted.ensures.noted c.unnote.ensures.sets))
+
+pub returns-then-is_full-clause-untaken : goal.returns-then-is_full-clause-untaken
+returns-then-is_full-clause-untaken c untaken = stays_as_before c.args.now c.args.self.now
+
+pub returns-in_default-clause-untaken : goal.returns-in_default-clause-untaken
+returns-in_default-clause-untaken c untaken = same_before c.args.now c.args.self.now c.first_work.new.self c.first_work.ensures.same c.first_work.ensures.sets
+
+pub returns-in-Before-clause-untaken : goal.returns-in-Before-clause-untaken
+returns-in-Before-clause-untaken c untaken =
+    let g = c.args.self.now in
+    let n = c.note_asked.new.self in
+    let first = c.first_work.ensures.same in
+    let same = c.note_asked.ensures.same in
+    let requests = same.requests ∙ first.requests in
+    as_before c.args.now g n (same.agent ∙ first.agent) (same.devices ∙ first.devices) (same.limits ∙ first.limits) (same.asks ∙ first.asks)
+    (ap (λ (x : WaitingRequests WaitingMessage Work). groups_of x.list.items) requests)
+    (ap (λ (x : WaitingRequests WaitingMessage Work). x.next) requests)
+    (keeps_again c.args.now g.sets.sets.items c.first_work.new.self.sets.sets.items n.sets.sets.items c.first_work.ensures.sets (rw c.in-Before.is at c.in_ok-noted.ensures.noted))
+
+pub returns-in-Ok-clause-untaken : goal.returns-in-Ok-clause-untaken
+returns-in-Ok-clause-untaken c untaken = absurd untaken
+
+pub returns-then-is_full-clause-stays : goal.returns-then-is_full-clause-stays
+returns-then-is_full-clause-stays c = stays_same c.args.self.now
+
+pub returns-in_err-work-clause-stays : goal.returns-in_err-work-clause-stays
+returns-in_err-work-clause-stays c = stays_noted c.args.self.now c.first_work.new.self c.first_work.ensures.same
+
+pub returns-in_default-clause-stays : goal.returns-in_default-clause-stays
+returns-in_default-clause-stays c = stays_noted c.args.self.now c.first_work.new.self c.first_work.ensures.same
+
+pub returns-in-Before-clause-stays : goal.returns-in-Before-clause-stays
+returns-in-Before-clause-stays c = stays_twice c.args.self.now c.first_work.new.self c.note_asked.new.self c.first_work.ensures.same c.note_asked.ensures.same
+
+pub returns-in_err-noted-clause-stays : goal.returns-in_err-noted-clause-stays
+returns-in_err-noted-clause-stays c = stays_twice c.args.self.now c.first_work.new.self c.note_asked.new.self c.first_work.ensures.same c.note_asked.ensures.same
+
+pub returns-in-Ok-clause-stays : goal.returns-in-Ok-clause-stays
+returns-in-Ok-clause-stays c =
+    let g = c.args.self.now in
+    let n = c.note_asked.new.self in
+    let new : Gate = record n { requests = c.begin.new.self } in
+    stays_on g n new (stays_twice g c.first_work.new.self n c.first_work.ensures.same c.note_asked.ensures.same)
+    (stays_requests n new (agent_same n.agent n.agent refl) refl refl refl (bounded_begun n.limits n.requests c.begin.new.self c.begin.ensures.most c.begin.ensures.most_messages n.requests.next c.args.message c.in-Some.work
+    (subst (λ (rs : WaitingRequests WaitingMessage Work). length rs.list.items < rs.most) (sym (c.note_asked.ensures.same.requests ∙ c.first_work.ensures.same.requests))
+    (below (length g.requests.list.items) g.requests.most (λ le. false≢true (c.if-is_full.ensures.1 le)))) c.in-Ok.ensures.ok (new_fresh c.args.now c.in-Some.work (rw c.in-Some.is at c.in_ok-work.ensures.fresh))))
+
+pub returns-in-Err-clause-stays : goal.returns-in-Err-clause-stays
+returns-in-Err-clause-stays c =
+    let g = c.args.self.now in
+    let n = c.note_asked.new.self in
+    stays_on g c.first_work.new.self c.unnote.new.self (stays_noted g c.first_work.new.self c.first_work.ensures.same)
+    (stays_forgotten c.first_work.new.self n c.begin.new.self c.unnote.new.self c.note_asked.ensures.same c.unnote.ensures.same (ap (λ (x : Requests). groups_of x) c.in-Err.ensures.err.0) c.in-Err.ensures.most c.in-Err.ensures.most_messages)

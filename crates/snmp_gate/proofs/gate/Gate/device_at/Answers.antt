@@ -1,4 +1,4 @@
-use Rattle.std.proofs.Common.{◌≡◌, refl, arith}
+use Rattle.std.proofs.Common.{◌≡◌, refl}
 use Rattle.std.proofs.lemmas.List.Elements.{at_read}
 use Rattle.snmp_gate.specs.declared.requests.WaitingRequest.{WaitingRequest}
 use Rattle.snmp_gate.specs.declared.waiting_message.WaitingMessage.{WaitingMessage}
@@ -10,9 +10,6 @@ use Rattle.snmp_gate.proofs.gate.Gate.device_at.Goals as goal
 pub returns : goal.returns
 returns c =
     let r = c.index-request.result.now in
-    let device = c.in-Open.waiting.device in (
-      at_read c.args.self.now.requests.list.items (λ (x : WaitingRequest WaitingMessage Work). (x.number ≡ r.number) × ((o : OpenRequest) × (x.work ≡ Open o) × (o.device ≡ device))) c.args.place r c.requires c.index-request.ensures
-          (refl, (c.in-Open.waiting, c.in-Open.is, refl)),
-      omega (arith, c.if-device-len.false, c.len.ensures),
-      omega (arith, c.if-device-len-2.false, c.len-else-device-len.ensures),
-    )
+    let device = c.in-Open.waiting.device in
+    at_read c.args.self.now.requests.list.items (λ (x : WaitingRequest WaitingMessage Work). (x.number ≡ r.number) × ((o : OpenRequest) × (x.work ≡ Open o) × (o.device ≡ device))) c.args.place r c.requires.place c.index-request.ensures
+    (refl, (c.in-Open.waiting, c.in-Open.is, refl))

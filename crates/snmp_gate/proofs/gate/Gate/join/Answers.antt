@@ -1,4 +1,4 @@
-use Rattle.std.proofs.Common.{ap, HoldsAt, refl, subst, sym, ◌∙◌}
+use Rattle.std.proofs.Common.{arith, ap, HoldsAt, refl, subst, sym}
 use Rattle.std.specs.Prelude.{List, ◌∷◌, ◌≡◌, ◌<◌, length}
 use Rattle.snmp_gate.specs.Groups.{groups_of}
 use Rattle.snmp_gate.specs.History.{accepted}
@@ -15,7 +15,10 @@ use Rattle.snmp_gate.specs.declared.asks.DeviceAsks.{DeviceAsks}
 use Rattle.snmp_gate.proofs.AsksKept.{asks_same}
 use Rattle.snmp_gate.proofs.GroupSteps.{on_err}
 use Rattle.snmp_gate.proofs.Histories.{moved}
-use Rattle.snmp_gate.proofs.Keeping.{as_before, same_before, stands_kept, stands_noted, unnoted_again}
+use Rattle.snmp_gate.specs.declared.gate.Gate.{Gate}
+use Rattle.snmp_gate.specs.declared.requests.Joined.TheVariants.{Joined}
+use Rattle.snmp_gate.proofs.Bounded.{agent_same, bounded_joined, stays_forgotten, stays_noted, stays_on, stays_requests}
+use Rattle.snmp_gate.proofs.Keeping.{forgotten, keeps_no_room, keeps_repeated, same_before, stands_noted}
 use Rattle.snmp_gate.proofs.SetsComing.{joined_sets}
 use Rattle.snmp_gate.proofs.SetsKept.{keeps_noted_again}
 use Rattle.snmp_gate.proofs.Joining.{joined_all, joins_in_turn, request_asks}
@@ -42,7 +45,7 @@ returns-in-Ok-Joined-clause-takes c since before datagram later digest stands =
     (ap (λ (x : WaitingRequests WaitingMessage Work). groups_of x.list.items) note.requests)
     stands.requests in
     let joins = rw c.in-Ok-Joined.field-0-is at c.in-Ok-Joined.ensures.joined in
-    let all = joined_all n.agent.tables n.devices.list.items before n.requests.next n.requests.most_messages rs place r m new c.args.now datagram within c.index.ensures asks joins requests in
+    let all = joined_all n.agent.tables n.devices.list.items before n.requests.next n.requests.most_messages rs place r m new c.args.now datagram within c.index.ensures asks joins (λ k then v x there. let by = stands.sets.past k then v x there in omega (arith, by, later)) requests in
     let known = subst (λ (x : WaitingRequests WaitingMessage Work). SetsStand since before (groups_of x.list.items) g.sets.sets.items) (sym note.requests) stands.sets in (
       joins_in_turn n.agent.tables n.devices.list.items before n.requests.next rs place r m c.args.now datagram within c.index.ensures asks requests,
       record {
@@ -71,21 +74,59 @@ pub returns-in-Ok-NoRoom-clause-takes : goal.returns-in-Ok-NoRoom-clause-takes
 returns-in-Ok-NoRoom-clause-takes c since before datagram later digest stands =
     let g = c.args.self.now in
     let n = c.note_again.new.self in
-    let note = c.note_again.ensures.same in
+    let u = c.unnote.new.self in
     let joins = rw c.in-Ok-NoRoom.field-0-is at c.in-Ok-NoRoom.ensures.joined in
-    stands_kept c.args.now g _ (ap (λ (x : AgentState). x.tables) note.agent) note.devices (ap (λ (v : Vec DeviceAsks). asks_in v.items) note.asks)
-    (joins.3 ∙ ap (λ (x : WaitingRequests WaitingMessage Work). groups_of x.list.items) note.requests)
-    (c.join.ensures.next ∙ ap (λ (x : WaitingRequests WaitingMessage Work). x.next) note.requests)
-    (keeps_noted_again c.args.now c.args.message.digest g.sets.sets.items n.sets.sets.items _ c.in_ok-note_again.ensures.noted) since before later stands
+    (forgotten c.args.now g n c.join.new.self u c.args.message.digest c.noted_again.result c.note_again.ensures.same c.unnote.ensures.same joins.3 c.join.ensures.next
+    (rw c.in-New.is at c.in_ok-note_again.ensures.noted) c.noted_again.ensures c.unnote.ensures.sets).stands since before later stands
+
+pub returns-in-Ok-NoRoom-clause-untaken : goal.returns-in-Ok-NoRoom-clause-untaken
+returns-in-Ok-NoRoom-clause-untaken c untaken =
+    let joins = rw c.in-Ok-NoRoom.field-0-is at c.in-Ok-NoRoom.ensures.joined in
+    forgotten c.args.now c.args.self.now c.note_again.new.self c.join.new.self c.unnote.new.self c.args.message.digest c.noted_again.result c.note_again.ensures.same c.unnote.ensures.same joins.3 c.join.ensures.next
+    (rw c.in-New.is at c.in_ok-note_again.ensures.noted) c.noted_again.ensures c.unnote.ensures.sets
+
+pub returns-in-Ok-Joined-clause-untaken : goal.returns-in-Ok-Joined-clause-untaken
+returns-in-Ok-Joined-clause-untaken c untaken = absurd untaken
+
+pub returns-in-Repeated-clause-untaken : goal.returns-in-Repeated-clause-untaken
+returns-in-Repeated-clause-untaken c untaken =
+    let g = c.args.self.now in
+    same_before c.args.now g c.note_again.new.self c.note_again.ensures.same
+    (keeps_repeated c.args.now c.args.message.digest g.sets.sets.items c.note_again.new.self.sets.sets.items _ (rw c.in-Repeated.is at c.in_ok-note_again.ensures.noted))
+
+pub returns-in-NoRoom-clause-untaken : goal.returns-in-NoRoom-clause-untaken
+returns-in-NoRoom-clause-untaken c untaken =
+    let g = c.args.self.now in
+    same_before c.args.now g c.note_again.new.self c.note_again.ensures.same
+    (keeps_no_room c.args.now c.args.message.digest g.sets.sets.items c.note_again.new.self.sets.sets.items (rw c.in-NoRoom.is at c.in_ok-note_again.ensures.noted))
 
 pub returns-in-Err-clause-err : goal.returns-in-Err-clause-err
 returns-in-Err-clause-err c =
-    let g = c.args.self.now in
+    forgotten c.args.now c.args.self.now c.note_again.new.self c.join.new.self c.unnote-in-Err.new.self c.args.message.digest c.noted_again-in-Err.result c.note_again.ensures.same c.unnote-in-Err.ensures.same c.in-Err.ensures.err c.in-Err.ensures.next
+    (rw c.in-New.is at c.in_ok-note_again.ensures.noted) c.noted_again-in-Err.ensures c.unnote-in-Err.ensures.sets
+
+pub returns-in-Ok-Joined-clause-stays : goal.returns-in-Ok-Joined-clause-stays
+returns-in-Ok-Joined-clause-stays c =
     let n = c.note_again.new.self in
-    let u = c.unnote.new.self in
-    let note = c.note_again.ensures.same in
-    let last = c.unnote.ensures.same in
-    as_before c.args.now g u (last.agent ∙ note.agent) (last.devices ∙ note.devices) (last.limits ∙ note.limits) (last.asks ∙ note.asks)
-    (ap (λ (x : WaitingRequests WaitingMessage Work). groups_of x.list.items) last.requests ∙ c.in-Err.ensures.err ∙ ap (λ (x : WaitingRequests WaitingMessage Work). groups_of x.list.items) note.requests)
-    (ap (λ (x : WaitingRequests WaitingMessage Work). x.next) last.requests ∙ c.in-Err.ensures.next ∙ ap (λ (x : WaitingRequests WaitingMessage Work). x.next) note.requests)
-    (unnoted_again c.args.now c.args.message.digest g.sets.sets.items n.sets.sets.items u.sets.sets.items c.noted_again.result (rw c.in-New.is at c.in_ok-note_again.ensures.noted) c.noted_again.ensures c.unnote.ensures.sets)
+    let joins = rw c.in-Ok-Joined.field-0-is at c.in-Ok-Joined.ensures.joined in
+    let new : Gate = record n { requests = c.join.new.self } in
+    stays_on c.args.self.now n new (stays_noted c.args.self.now n c.note_again.ensures.same)
+    (stays_requests n new (agent_same n.agent n.agent refl) refl refl refl (bounded_joined n.limits n.requests c.join.new.self c.join.ensures.most c.join.ensures.most_messages c.args.place c.args.message Joined joins))
+
+pub returns-in-Ok-NoRoom-clause-stays : goal.returns-in-Ok-NoRoom-clause-stays
+returns-in-Ok-NoRoom-clause-stays c =
+    let joins = rw c.in-Ok-NoRoom.field-0-is at c.in-Ok-NoRoom.ensures.joined in
+    stays_forgotten c.args.self.now c.note_again.new.self c.join.new.self c.unnote.new.self c.note_again.ensures.same c.unnote.ensures.same joins.3 c.join.ensures.most c.join.ensures.most_messages
+
+pub returns-in-Err-clause-stays : goal.returns-in-Err-clause-stays
+returns-in-Err-clause-stays c =
+    stays_forgotten c.args.self.now c.note_again.new.self c.join.new.self c.unnote-in-Err.new.self c.note_again.ensures.same c.unnote-in-Err.ensures.same c.in-Err.ensures.err c.in-Err.ensures.most c.in-Err.ensures.most_messages
+
+pub returns-in_err-note_again-clause-stays : goal.returns-in_err-note_again-clause-stays
+returns-in_err-note_again-clause-stays c = stays_noted c.args.self.now c.note_again.new.self c.note_again.ensures.same
+
+pub returns-in-Repeated-clause-stays : goal.returns-in-Repeated-clause-stays
+returns-in-Repeated-clause-stays c = stays_noted c.args.self.now c.note_again.new.self c.note_again.ensures.same
+
+pub returns-in-NoRoom-clause-stays : goal.returns-in-NoRoom-clause-stays
+returns-in-NoRoom-clause-stays c = stays_noted c.args.self.now c.note_again.new.self c.note_again.ensures.same

@@ -7,9 +7,11 @@ use Rattle.snmp_agent.specs.Agent.{AgentState, AgentTakes, taker_of}
 use Rattle.snmp_incoming.specs.Outcome.{Given, Outcome}
 use Rattle.snmp_gate.specs.Waiting.{IsAsBefore}
 use Rattle.snmp_gate.specs.declared.gate.Gate.{Gate}
+use Rattle.snmp_gate.proofs.Bounded.{agent_same, stays_counted, stays_on}
 use Rattle.snmp_gate.proofs.Coming.{message_happens, no_refusal, same_stands}
 use Rattle.snmp_gate.proofs.GroupSteps.{on_err}
 use Rattle.snmp_gate.proofs.Keeping.{as_before, as_before_same, if_err, stands_kept}
+use Rattle.snmp_gate.proofs.Sending.{on_ok}
 use Rattle.snmp_gate.proofs.SetsKept.{keeps_same}
 use Rattle.snmp_gate.proofs.gate.Gate.take_client.Goals as goal
 
@@ -79,3 +81,30 @@ returns-in-Some-clause-refused c = no_refusal c.args.self.now c.join.new.self (c
 
 pub returns-in-None-clause-refused : goal.returns-in-None-clause-refused
 returns-in-None-clause-refused c = no_refusal c.args.self.now c.begin.new.self (c.args.now / 1000) c.args.datagram.now c.begin.result c.begin.ensures.accepts
+
+pub returns-in-Some-clause-untaken : goal.returns-in-Some-clause-untaken
+returns-in-Some-clause-untaken c =
+    let g = c.args.self.now in
+    let mid : Gate = record g { agent = c.take.new.self } in
+    on_ok c.join.result _ _ (λ taken is untaken. as_before_same c.args.now g mid c.join.new.self c.in-Ok.ensures.takes.1 refl refl refl refl refl (is untaken)) c.join.ensures.untaken
+
+pub returns-in-None-clause-untaken : goal.returns-in-None-clause-untaken
+returns-in-None-clause-untaken c =
+    let g = c.args.self.now in
+    let mid : Gate = record g { agent = c.take.new.self } in
+    on_ok c.begin.result _ _ (λ taken is untaken. as_before_same c.args.now g mid c.begin.new.self c.in-Ok.ensures.takes.1 refl refl refl refl refl (is untaken)) c.begin.ensures.untaken
+
+pub returns-in-Err-2-clause-untaken : goal.returns-in-Err-2-clause-untaken
+returns-in-Err-2-clause-untaken c untaken = absurd untaken
+
+pub returns-in-Some-clause-stays : goal.returns-in-Some-clause-stays
+returns-in-Some-clause-stays c =
+    let g = c.args.self.now in
+    let mid : Gate = record g { agent = c.take.new.self } in
+    stays_on g mid c.join.new.self (stays_counted g mid (agent_same g.agent mid.agent c.in-Ok.ensures.takes.1) refl refl refl refl) c.join.ensures.stays
+
+pub returns-in-None-clause-stays : goal.returns-in-None-clause-stays
+returns-in-None-clause-stays c =
+    let g = c.args.self.now in
+    let mid : Gate = record g { agent = c.take.new.self } in
+    stays_on g mid c.begin.new.self (stays_counted g mid (agent_same g.agent mid.agent c.in-Ok.ensures.takes.1) refl refl refl refl) c.begin.ensures.stays

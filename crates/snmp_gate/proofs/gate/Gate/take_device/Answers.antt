@@ -9,6 +9,7 @@ use Rattle.snmp_gate.specs.Work.{TaskStands}
 use Rattle.snmp_gate.specs.declared.requests.WaitingRequest.{WaitingRequest}
 use Rattle.snmp_gate.specs.declared.waiting_message.WaitingMessage.{WaitingMessage}
 use Rattle.snmp_gate.specs.declared.work.Work.{Work}
+use Rattle.snmp_gate.proofs.Bounded.{agent_same, asks_set, bounded_set, ended_few, fresh_timely, same_timely, stays_of, stays_requests}
 use Rattle.snmp_gate.proofs.GroupSteps.{on_err}
 use Rattle.snmp_gate.proofs.Histories.{answered_all}
 use Rattle.snmp_gate.proofs.AsksKept.{answered_asks, same_id}
@@ -16,6 +17,7 @@ use Rattle.snmp_gate.proofs.Keeping.{stands_later}
 use Rattle.snmp_gate.proofs.Others.{chosen, open_other}
 use Rattle.snmp_gate.proofs.SetsGoing.{answered_sets, kept_stands}
 use Rattle.snmp_gate.proofs.Same.{same_messages}
+use Rattle.snmp_gate.proofs.Todos.{timely_set}
 use Rattle.snmp_gate.proofs.gate.Gate.take_device.Goals as goal
 
 pub returns-clause-happens : goal.returns-clause-happens
@@ -40,6 +42,7 @@ returns-clause-happens c since before later stands =
       pdu_of c.in-Some.answer.pdu,
       record {
         lawful = record { mediated = both.0; in_turn = tt; own_id = tt; once = tt };
+        tried = tt;
         stands = record {
           requests = both.1;
           asks = answered_asks now before r.number c.args.device id g.asks.items c.index_mut.result.now c.end.new.self c.end.result
@@ -74,3 +77,31 @@ returns-in_err-take_answer-clause-err c =
       sets = inl refl;
       stands = kept_stands c.args.now g _ place r w refl refl refl refl refl refl c.in-Some-place_of.ensures.place.within c.index_mut-request.ensures.value c.in_err-take_answer.ensures.err;
     })
+
+pub returns-clause-stays : goal.returns-clause-stays
+returns-clause-stays c =
+    let g = c.args.self.now in
+    let rs = g.requests.list.items in
+    let place = c.in-Some-place_of.place in
+    let r = c.index_mut-request.result.now in
+    let w = c.take_answer.new.work in
+    let s : WaitingRequest WaitingMessage Work = record { number = r.number; first = r.first; others = r.others; work = w } in
+    let within = c.in-Some-place_of.ensures.place.within in
+    let a = c.index_mut.result.now in
+    stays_of g _ (agent_same g.agent g.agent refl) refl refl
+    (bounded_set g.limits g.requests _ refl refl place r s within c.index_mut-request.ensures.value refl refl
+    (timely_set g.limits rs place r s within c.index_mut-request.ensures.value (λ was. fresh_timely g.limits w c.in_ok-take_answer.ensures.fresh)))
+    (asks_set g.devices.list.items g.asks.items c.args.device a c.end.new.self c.in-Some-place_of.ensures.asks c.index_mut.ensures.value c.end.ensures.at_once (ended_few a c.end.new.self c.in-Some-place_of.id c.end.result c.end.ensures.ended c.end.ensures.at_once))
+
+pub returns-in_err-take_answer-clause-stays : goal.returns-in_err-take_answer-clause-stays
+returns-in_err-take_answer-clause-stays c =
+    let g = c.args.self.now in
+    let rs = g.requests.list.items in
+    let place = c.in-Some-place_of.place in
+    let r = c.index_mut-request.result.now in
+    let w = c.take_answer.new.work in
+    let s : WaitingRequest WaitingMessage Work = record { number = r.number; first = r.first; others = r.others; work = w } in
+    let within = c.in-Some-place_of.ensures.place.within in
+    stays_requests g _ (agent_same g.agent g.agent refl) refl refl refl
+    (bounded_set g.limits g.requests _ refl refl place r s within c.index_mut-request.ensures.value refl refl
+    (timely_set g.limits rs place r s within c.index_mut-request.ensures.value (same_timely g.limits r.work w c.in_err-take_answer.ensures.err)))
