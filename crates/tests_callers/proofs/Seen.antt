@@ -14,6 +14,7 @@ use Rattle.snmp_gate.specs.History.{Happening, MayAskFor, MayAskName, reads, bul
 use Rattle.snmp_gate.specs.Messages.{seen_in}
 use Rattle.snmp_gate.specs.Question.{Question}
 use Rattle.snmp_gate.specs.Replies.{Answering, IsAnswerTo, IsReported, IsSent, MayTellBulk, MayTellValues, Told, columns, front, set}
+use Rattle.snmp_gate.specs.Said.{Said}
 use Rattle.snmp_gate.specs.Waiting.{SendHappens, answering_at}
 use Rattle.snmp_gate.specs.declared.devices.Device.{Device as DeviceIs}
 use Rattle.snmp_gate.specs.declared.gate.Gate.{Gate}
@@ -34,16 +35,16 @@ of_own tables q said vs own =
     subst (All (IsOwnOrSeen (seen_in tables q) (variables_of q.list) said)) (sym own)
     (All-weaker (Contains (variables_of q.list)) (IsOwnOrSeen (seen_in tables q) (variables_of q.list) said) (λ v there. is_own there) (variables_of q.list) (All-contains_itself (variables_of q.list)))
 
-values : (tables : Tables) (q : Question) (said vs : List Variable) → MayTellValues tables q said vs → All (IsOwnOrSeen (seen_in tables q) (variables_of q.list) said) vs
-values tables q said vs (columns operation tag each) = λ k d lt.
-    shown (seen_in tables q) (variables_of q.list) said operation _ _
-    (AllZip-get_or (λ (asked v : Variable). MayShow (seen_in tables q) said operation asked.name v) (variables_of q.list) vs k d d each (subst (λ (n : ℕ). k < n) (sym (length_all_zip _ (variables_of q.list) vs each)) lt))
+values : (tables : Tables) (q : Question) (said : Said) (vs : List Variable) → MayTellValues tables q said vs → All (IsOwnOrSeen (seen_in tables q) (variables_of q.list) said.variables) vs
+values tables q said vs (columns operation tag each whole) = λ k d lt.
+    shown (seen_in tables q) (variables_of q.list) said.variables operation _ _
+    (AllZip-get_or (λ (asked v : Variable). MayShow (seen_in tables q) said.variables operation asked.name v) (variables_of q.list) vs k d d each (subst (λ (n : ℕ). k < n) (sym (length_all_zip _ (variables_of q.list) vs each)) lt))
 values tables q said vs (front tag each) =
-    All-weaker (MayTellBulk (seen_in tables q) said (variables_of q.list)) (IsOwnOrSeen (seen_in tables q) (variables_of q.list) said)
-    (λ v may. shown (seen_in tables q) (variables_of q.list) said GetNext _ v may.shows) vs each
-values tables q said vs (set tag own) = of_own tables q said vs own
+    All-weaker (MayTellBulk (seen_in tables q) said.variables (variables_of q.list)) (IsOwnOrSeen (seen_in tables q) (variables_of q.list) said.variables)
+    (λ v may. shown (seen_in tables q) (variables_of q.list) said.variables GetNext _ v may.shows) vs each
+values tables q said vs (set tag own) = of_own tables q said.variables vs own
 
-asks : (tables : Tables) (d : DeviceIs) (q : Question) (said : List Variable) (id : ℕ) (vs : List Variable) (datagram : List ℕ) → MayAskFor tables d q said id vs datagram → AsksSeen tables q said datagram d
+asks : (tables : Tables) (d : DeviceIs) (q : Question) (said : Said) (id : ℕ) (vs : List Variable) (datagram : List ℕ) → MayAskFor tables d q said id vs datagram → AsksSeen tables q said datagram d
 asks tables d q said id vs datagram (reads Get tag each ask) =
     gets id vs ask
     (All-weaker (MayAskName q tables said Get) (λ v. seen_in tables q v.name) (λ v may. subst (seen_in tables q) (sym may.may.0) may.may.1) vs each)
@@ -51,11 +52,11 @@ asks tables d q said id vs datagram (reads GetNext tag each ask) = walks GetNext
 asks tables d q said id vs datagram (bulk type second third which tag each ask) = walks type id (pos second) (pos third) vs ask each
 asks tables d q said id vs datagram (sets community write tag same each ask) = hidden.sets community id vs write ask each
 
-answers : (by : Answering) (tables : Tables) (q : Question) (said : List Variable) (g : Given) (datagram : List ℕ) → IsAnswerTo by tables q said g datagram → IsReported by g datagram ⊎ ((told : Told) × IsSent by g told datagram × All (IsOwnOrSeen (seen_in tables q) (variables_of q.list) said) told.variables)
+answers : (by : Answering) (tables : Tables) (q : Question) (said : Said) (g : Given) (datagram : List ℕ) → IsAnswerTo by tables q said g datagram → IsReported by g datagram ⊎ ((told : Told) × IsSent by g told datagram × All (IsOwnOrSeen (seen_in tables q) (variables_of q.list) said.variables) told.variables)
 answers by tables q said g datagram (inr report) = inl report
 answers by tables q said g datagram (inl (told, sent, inl (none, may))) = inr (told, sent, values tables q said told.variables may)
-answers by tables q said g datagram (inl (told, sent, inr (inl (some, own)))) = inr (told, sent, of_own tables q said told.variables own)
-answers by tables q said g datagram (inl (told, sent, inr (inr (big, none)))) = inr (told, sent, subst (All (IsOwnOrSeen (seen_in tables q) (variables_of q.list) said)) (sym none) (λ k d lt. absurd (omega (arith, lt))))
+answers by tables q said g datagram (inl (told, sent, inr (inl (some, own)))) = inr (told, sent, of_own tables q said.variables told.variables own)
+answers by tables q said g datagram (inl (told, sent, inr (inr (big, none)))) = inr (told, sent, subst (All (IsOwnOrSeen (seen_in tables q) (variables_of q.list) said.variables)) (sym none) (λ k d lt. absurd (omega (arith, lt))))
 
 client_shown : (old new : Gate) (now : ℕ) (before : List Happening) (salt : List ℕ) (number : ℕ) (to datagram : Vec ℕ) → SendHappens old now before salt (out.ToClient number to datagram) new → KeepsHidden old before (Client to datagram)
 client_shown old new now before salt number to datagram (m, same, happens) =

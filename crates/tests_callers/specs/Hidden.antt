@@ -16,6 +16,7 @@ use Rattle.snmp_gate.specs.Devices.{IsDeviceOf}
 use Rattle.snmp_gate.specs.History.{AskedBy, Happening, IsAccepted, MayAskName, told_in}
 use Rattle.snmp_gate.specs.Messages.{question_in, seen_in, set_in}
 use Rattle.snmp_gate.specs.Question.{Question}
+use Rattle.snmp_gate.specs.Said.{Said}
 use Rattle.snmp_gate.specs.Replies.{Answering, IsReported, IsSent, Told}
 use Rattle.snmp_gate.specs.declared.devices.Device.{Device as DeviceIs}
 use Rattle.snmp_gate.specs.declared.gate.Gate.{Gate}
@@ -34,10 +35,10 @@ abbrev pub ShowsSeen : Tables → List Happening → ℕ → WaitingMessage → 
 ShowsSeen tables before number m by datagram = (q : Question) → question_in m ≡ Some q
     → IsReported by m.kept datagram
     ⊎ ((told : Told) × IsSent by m.kept told datagram
-    × All (IsOwnOrSeen (seen_in tables q) (variables_of q.list) (told_in number before)) told.variables)
+    × All (IsOwnOrSeen (seen_in tables q) (variables_of q.list) (told_in number before).variables) told.variables)
 
 -- what a device is asked: values of variables that are seen, or what comes after them, or a Set of what may be set
-pub data AsksSeen (tables : Tables) (q : Question) (said : List Variable) (datagram : List ℕ) (d : DeviceIs)
+pub data AsksSeen (tables : Tables) (q : Question) (said : Said) (datagram : List ℕ) (d : DeviceIs)
     : Type 0 where
   gets : (id : ℕ) (vs : List Variable) → IsAsk datagram d.community.items GetRequest id vs
       → All (λ (v : Variable). seen_in tables q v.name) vs → AsksSeen tables q said datagram d
