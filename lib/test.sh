@@ -4,7 +4,7 @@
 # It wants a C compiler; README.md has the line that installs all else that it can use. What isn't installed is told by a line that begins
 # with `skipped:` and left out. The C is built twice, the second time with sanitizers, and those programs are run where they can be built. It
 # prints what differs from what is expected, and at the end how many checks passed; the status is 1 if any failed. Each part is a script in
-# tests/. Ports from PORT (16161) to PORT + 16 are used.
+# tests/. Ports from PORT (16161) to PORT + 17 are used.
 here=$(cd "$(dirname "$0")" && pwd)
 export OUT=${OUT:-$here/out}
 work=$(mktemp -d)
@@ -66,6 +66,15 @@ ask() {
     rm -rf "$SNMP_PERSISTENT_DIR"
     mkdir -p "$SNMP_PERSISTENT_DIR"
     "$tool" -v3 -r 0 -t 2 -On "$@" 2>&1 | grep -v '^Created directory'
+}
+
+export SNMPSEC_LIBRARY=$OUT/libsnmpsec.so.0
+
+# ours COMMAND ARGUMENTS..: a command of the package; the password of privacy is in $privacy
+ours() {
+    local program="import sys; from snmpsec import commands; sys.argv[0] = 'snmpsec'; sys.exit(commands.$1())"
+    shift
+    SNMPSEC_AUTH_PASSWORD=${password:-maplesyrup} SNMPSEC_PRIV_PASSWORD=${privacy:-syrupmaple} PYTHONPATH=$here/python/src python3 -c "$program" "$@" 2>&1
 }
 
 sh "$here/build.sh" || exit 1
@@ -222,6 +231,6 @@ test_traps() {
 test_c
 test_agent
 test_traps
-for part in gate poll client dispatch flood wrappers boots words memory secrets processors captures install packages; do . "$here/tests/$part.sh"; done
+for part in gate gate_lines gate_clients gate_files gate_memory poll client dispatch flood wrappers boots words memory secrets processors captures install packages; do . "$here/tests/$part.sh"; done
 echo "$passed passed, $failed failed"
 [ $failed = 0 ]

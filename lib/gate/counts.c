@@ -2,6 +2,7 @@
 #include "counts.h"
 #include "files.h"
 #include <inttypes.h>
+#include <stddef.h>
 #include <stdio.h>
 #include <stdlib.h>
 #include <string.h>
@@ -11,6 +12,12 @@ static const struct { int event; const char *name; } names[] = {
     {SNMPSEC_GATE_SET_OF_BEFORE, "set_of_before"}, {SNMPSEC_GATE_ANSWERS, "answers"}, {SNMPSEC_GATE_NOT_WAITED_FOR, "not_waited_for"},
     {SNMPSEC_GATE_UNREADABLE, "unreadable"}, {SNMPSEC_GATE_TO_CLIENT, "to_client"}, {SNMPSEC_GATE_TO_DEVICE, "to_device"},
     {SNMPSEC_GATE_GIVEN_UP, "given_up"}, {SNMPSEC_GATE_UNANSWERED, "unanswered"}};
+
+static const struct { const char *name; size_t at; } of_device[] = {
+    {"asked", offsetof(struct device_counts, asked)}, {"asked_again", offsetof(struct device_counts, asked_again)},
+    {"answered", offsetof(struct device_counts, answered)}, {"given_up", offsetof(struct device_counts, given_up)},
+    {"not_waited_for", offsetof(struct device_counts, not_waited_for)}, {"unreadable", offsetof(struct device_counts, unreadable)},
+    {"socket_errors", offsetof(struct device_counts, errors)}};
 
 static void write_name(FILE *to, const char *name, const char *kind) { fprintf(to, "# TYPE snmpsec_gate_%s %s\n", name, kind); }
 
@@ -34,7 +41,36 @@ static void write_agent(FILE *to, snmpsec_gate *gate) {
     for (size_t i = 0; i < sizeof all / sizeof *all; i++) fprintf(to, "snmpsec_gate_agent_total{counter=\"%s\"} %u\n", all[i].name, all[i].value);
 }
 
-static void write_all(FILE *to, const struct counts *counts, snmpsec_gate *gate) {
+/* A text between the quotes of a label. */
+static void write_label(FILE *to, const char *words) {
+    for (; *words; words++) {
+        if (*words == '"' || *words == '\\') fputc('\\', to);
+        fputc(*words, to);
+    }
+}
+
+/* What isn't 0 of each device: of a thousand most are. */
+static void write_devices(FILE *to, const struct device *devices, size_t len) {
+    write_name(to, "device_total", "counter");
+    for (size_t i = 0; i < len; i++)
+        for (size_t j = 0; j < sizeof of_device / sizeof *of_device; j++) {
+            uint64_t value;
+            memcpy(&value, (const char *)&devices[i].counts + of_device[j].at, sizeof value);
+            if (!value) continue;
+            fputs("snmpsec_gate_device_total{device=\"", to);
+            write_label(to, devices[i].words);
+            fprintf(to, "\",event=\"%s\"} %" PRIu64 "\n", of_device[j].name, value);
+        }
+}
+
+static void write_statuses(FILE *to, const struct counts *counts) {
+    write_name(to, "answers_total", "counter");
+    for (uint32_t i = 0; i <= STATUSES; i++)
+        fprintf(to, "snmpsec_gate_answers_total{error_status=\"%s\"} %" PRIu64 "\n", i < STATUSES ? status_name(i) : "other", counts->statuses[i]);
+}
+
+static void write_all(FILE *to, const struct told *told) {
+    const struct counts *counts = told->counts;
     snmpsec_gate_info info;
     write_name(to, "events_total", "counter");
     for (size_t i = 0; i < sizeof names / sizeof *names; i++)
@@ -45,17 +81,19 @@ static void write_all(FILE *to, const struct counts *counts, snmpsec_gate *gate)
             fprintf(to, "snmpsec_gate_refused_total{refusal=\"%s\"} %" PRIu64 "\n", snmpsec_error_name(i), counts->refused[i]);
     write_one(to, "reports_total", "counter", counts->reports);
     write_one(to, "unsent_total", "counter", counts->unsent);
-    write_one(to, "device_errors_total", "counter", counts->device_errors);
-    if (!snmpsec_gate_numbers(gate, &info)) write_one(to, "waiting", "gauge", info.waiting);
-    write_agent(to, gate);
+    write_one(to, "unlogged_total", "counter", counts->unlogged);
+    write_statuses(to, counts);
+    write_devices(to, told->devices, told->devices_len);
+    if (!snmpsec_gate_numbers(told->gate, &info)) write_one(to, "waiting", "gauge", info.waiting);
+    write_agent(to, told->gate);
 }
 
-int counts_write(const struct counts *counts, snmpsec_gate *gate, const char *path) {
+int counts_write(const struct told *told, const char *path) {
     char *text = NULL;
     size_t len = 0;
     FILE *to = open_memstream(&text, &len);
     if (!to) { perror("snmpsec-gate: counts"); return -1; }
-    write_all(to, counts, gate);
+    write_all(to, told);
     if (fclose(to)) { perror("snmpsec-gate: counts"); free(text); return -1; }
     int answer = 0;
     if (path) answer = file_replace(path, text, len);

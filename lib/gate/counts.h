@@ -2,18 +2,41 @@
 #ifndef COUNTS_H
 #define COUNTS_H
 
+#include "community.h"
 #include <snmpsec.h>
 #include <stdint.h>
+
+/* of a device: what it was asked and what came from it */
+struct device_counts { uint64_t asked, asked_again, answered, given_up, not_waited_for, unreadable, errors; };
 
 struct counts {
     /* by the event's number: what was taken from clients and devices, and what went out */
     uint64_t events[SNMPSEC_GATE_UNANSWERED + 1];
     /* by the refusal's number */
     uint64_t refused[19];
-    uint64_t reports, unsent, device_errors;
+    /* answers of devices by their error-status; the last is of those that have no name */
+    uint64_t statuses[STATUSES + 1];
+    uint64_t reports, unsent, unlogged;
+};
+
+/* A device of the configuration. */
+enum { CONTEXT_WORDS = 140 };
+struct device {
+    int socket;
+    /* its contextName */
+    char words[CONTEXT_WORDS];
+    struct device_counts counts;
+};
+
+/* What is written, of these devices. */
+struct told {
+    const struct counts *counts;
+    const struct device *devices;
+    size_t devices_len;
+    snmpsec_gate *gate;
 };
 
 /* Writes the counts to a file, whole and replaced, or to standard error where the path is NULL: 0, or -1 and says why. */
-int counts_write(const struct counts *counts, snmpsec_gate *gate, const char *path);
+int counts_write(const struct told *told, const char *path);
 
 #endif

@@ -53,10 +53,11 @@ int main(int argc, char **argv) {
     int status = read_words(argc, argv, &words);
     if (status != -1) return status;
     if (words.checks) return gateway_check(&words);
+    hold_signals();
     status = gateway_open(&gateway, &words);
     if (!status) {
         status = serve(&gateway, &words);
-        if (words.counts) (void)counts_write(&gateway.counts, gateway.gate, words.counts);
+        if (words.counts) gateway_counts(&gateway, &words);
     }
     gateway_close(&gateway);
     return status;

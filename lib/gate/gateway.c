@@ -4,10 +4,13 @@
 #include "files.h"
 #include "lines.h"
 #include "sockets.h"
+#include "waiting.h"
 #include <errno.h>
+#include <fcntl.h>
 #include <grp.h>
 #include <inttypes.h>
 #include <pwd.h>
+#include <stdio.h>
 #include <stdlib.h>
 #include <string.h>
 #include <sys/epoll.h>
@@ -51,15 +54,22 @@ static size_t count_of(snmpsec_gate *gate, snmpsec_gate_text text) {
     return n;
 }
 
+/* A device's contextName in words; of the default context "". */
+static void context_words(snmpsec_gate *gate, size_t device, char *words) {
+    size_t len;
+    char *context = setting_of(gate, SNMPSEC_GATE_CONTEXT, device, &len);
+    if (context && len) shown((const uint8_t *)context, len, words, CONTEXT_WORDS);
+    else snprintf(words, CONTEXT_WORDS, "%s", "\"\"");
+    free(context);
+}
+
 static void say_note(snmpsec_gate *gate, size_t device) {
     size_t len;
-    char words[200], *note = setting_of(gate, SNMPSEC_GATE_NOTE, device, &len), *context = setting_of(gate, SNMPSEC_GATE_CONTEXT, device, &len);
-    if (note && context) {
-        shown((const uint8_t *)context, len, words, sizeof words);
-        fprintf(stderr, "snmpsec-gate: device %s: %s\n", words, note);
-    }
+    char words[CONTEXT_WORDS], *note = setting_of(gate, SNMPSEC_GATE_NOTE, device, &len);
+    if (!note) return;
+    context_words(gate, device, words);
+    fprintf(stderr, "snmpsec-gate: device %s: %s\n", words, note);
     free(note);
-    free(context);
 }
 
 static void say_notes(snmpsec_gate *gate) {
@@ -102,25 +112,41 @@ static void close_all(int *files, size_t *len) {
     while (*len) close(files[--*len]);
 }
 
+static void close_devices(struct device *devices, size_t *len) {
+    while (*len) close(devices[--*len].socket);
+}
+
 /* Opens a socket connected to each device: 0, or 1 and none is open. */
-static int open_devices(snmpsec_gate *gate, int *files, size_t *files_len) {
+static int open_devices(snmpsec_gate *gate, struct device *devices, size_t *devices_len) {
     size_t n = count_of(gate, SNMPSEC_GATE_ADDRESS), len;
-    *files_len = 0;
+    *devices_len = 0;
     if (n > MOST_DEVICES) { fprintf(stderr, "snmpsec-gate: more than %d devices\n", MOST_DEVICES); return 1; }
     for (size_t i = 0; i < n; i++) {
         char *address = setting_of(gate, SNMPSEC_GATE_ADDRESS, i, &len);
-        int fault = !address || connect_to(address, &files[i]);
+        int fault = !address || connect_to(address, &devices[i].socket);
         free(address);
-        if (fault) { close_all(files, files_len); return 1; }
-        ++*files_len;
+        if (fault) { close_devices(devices, devices_len); return 1; }
+        context_words(gate, i, devices[i].words);
+        devices[i].counts = (struct device_counts){0};
+        ++*devices_len;
     }
     return 0;
 }
 
 static int watch_devices(struct gateway *gateway) {
     for (size_t i = 0; i < gateway->devices_len; i++)
-        if (watch(gateway, gateway->devices[i], FROM_DEVICE, i)) return 1;
+        if (watch(gateway, gateway->devices[i].socket, FROM_DEVICE, i)) return 1;
     return 0;
+}
+
+/* The counts of the device with this context go on: most stand where they stood. */
+static void take_counts(const struct gateway *gateway, struct device *device, size_t at) {
+    for (size_t i = 0; i < gateway->devices_len; i++) {
+        const struct device *old = &gateway->devices[(at + i) % gateway->devices_len];
+        if (strcmp(old->words, device->words)) continue;
+        device->counts = old->counts;
+        return;
+    }
 }
 
 static int become(const char *name) {
@@ -146,6 +172,7 @@ static int begin_boots(struct gateway *gateway, const struct words *words) {
 }
 
 int gateway_open(struct gateway *gateway, const struct words *words) {
+    gateway->log = -1;
     int status = make_gate(words->config, 0, &gateway->gate);
     if (status) return status;
     say_notes(gateway->gate);
@@ -153,7 +180,7 @@ int gateway_open(struct gateway *gateway, const struct words *words) {
     if (gateway->poll < 0) { perror("snmpsec-gate: epoll"); return 1; }
     if (open_listeners(gateway, words) || open_devices(gateway->gate, gateway->devices, &gateway->devices_len) || watch_devices(gateway)) return 1;
     if (words->user && become(words->user)) return 1;
-    if (words->log && !(gateway->log = fopen(words->log, "ae"))) {
+    if (words->log && (gateway->log = open(words->log, O_WRONLY | O_APPEND | O_CREAT | O_CLOEXEC | O_NOCTTY, 0600)) < 0) {
         fprintf(stderr, "snmpsec-gate: %s: %s\n", words->log, strerror(errno));
         return 1;
     }
@@ -170,33 +197,47 @@ static bool has_boots_path(const struct gateway *gateway, snmpsec_gate *gate) {
     return same;
 }
 
+/* Puts the new machine and its sockets in the place of the old ones. */
+static void replace_gate(struct gateway *gateway, snmpsec_gate *gate, uint32_t boots, struct device *devices, size_t len) {
+    for (size_t i = 0; i < len; i++) take_counts(gateway, &devices[i], i);
+    close_devices(gateway->devices, &gateway->devices_len);
+    memcpy(gateway->devices, devices, len * sizeof *devices);
+    gateway->devices_len = len;
+    gateway->boots = boots;
+    snmpsec_gate_free(gateway->gate);
+    gateway->gate = gate;
+    gateway->agent = (snmpsec_counts){0};
+    waiting_clear();
+    (void)watch_devices(gateway);
+}
+
 void gateway_reload(struct gateway *gateway, const struct words *words) {
-    static int devices[MOST_DEVICES];
+    static struct device devices[MOST_DEVICES];
     snmpsec_gate *gate = NULL;
     size_t len = 0;
     uint32_t boots = gateway->boots < BOOTS_LATCHED ? gateway->boots + 1 : BOOTS_LATCHED;
     if (!make_gate(words->config, boots, &gate) && has_boots_path(gateway, gate) && !open_devices(gate, devices, &len)
         && !boots_keep(gateway->boots_path, boots)) {
-        close_all(gateway->devices, &gateway->devices_len);
-        memcpy(gateway->devices, devices, len * sizeof *devices);
-        gateway->devices_len = len;
-        gateway->boots = boots;
-        snmpsec_gate_free(gateway->gate);
-        gateway->gate = gate;
-        (void)watch_devices(gateway);
+        replace_gate(gateway, gate, boots, devices, len);
         say_notes(gate);
         fprintf(stderr, "snmpsec-gate: %s is read anew\n", words->config);
         return;
     }
-    close_all(devices, &len);
+    close_devices(devices, &len);
     snmpsec_gate_free(gate);
     fprintf(stderr, "snmpsec-gate: %s isn't taken, all stays as it was\n", words->config);
+}
+
+void gateway_counts(const struct gateway *gateway, const struct words *words) {
+    struct told told = {&gateway->counts, gateway->devices, gateway->devices_len, gateway->gate};
+    (void)counts_write(&told, words->counts);
 }
 
 void gateway_close(struct gateway *gateway) {
     snmpsec_gate_free(gateway->gate);
     close_all(gateway->listeners, &gateway->listeners_len);
-    close_all(gateway->devices, &gateway->devices_len);
-    if (gateway->log) fclose(gateway->log);
+    close_devices(gateway->devices, &gateway->devices_len);
+    if (gateway->log >= 0) close(gateway->log);
     free(gateway->boots_path);
+    waiting_clear();
 }

@@ -7,7 +7,6 @@
 #include <stdbool.h>
 #include <stddef.h>
 #include <stdint.h>
-#include <stdio.h>
 
 /* the most listening sockets and devices */
 enum { MOST_LISTENERS = 64, MOST_DEVICES = 4096 };
@@ -27,13 +26,16 @@ struct gateway {
     uint32_t boots;
     int listeners[MOST_LISTENERS];
     size_t listeners_len;
-    int devices[MOST_DEVICES];
+    struct device devices[MOST_DEVICES];
     size_t devices_len;
     int poll;
-    FILE *log;
+    /* the file of --log-datagrams, or -1 */
+    int log;
     /* a call found no memory, and nothing is promised of the gateway any more */
     bool out_of_memory;
     struct counts counts;
+    /* the agent's counters when a message was last looked for in them */
+    snmpsec_counts agent;
 };
 
 /* What a socket of the poll is. */
@@ -50,6 +52,8 @@ int gateway_open(struct gateway *gateway, const struct words *words);
 /* Makes it anew of the file as it is now, with one more boot, so that no message of before is accepted again. Where that fails all stays. */
 void gateway_reload(struct gateway *gateway, const struct words *words);
 void gateway_close(struct gateway *gateway);
+/* Writes the counts where the command line says. */
+void gateway_counts(const struct gateway *gateway, const struct words *words);
 
 /* A text that the configuration says, in a block that the caller frees; NULL: it says nothing there. */
 char *setting_of(snmpsec_gate *gate, snmpsec_gate_text text, size_t position, size_t *len);

@@ -5,7 +5,7 @@
 #include <stdio.h>
 
 enum { MOST_A_SECOND = 10 };
-static const char *const kinds[LINE_KINDS] = {"refused", "set", "given up", "device", "dropped", "unanswered", "other"};
+static const char *const kinds[LINE_KINDS] = {"refused", "unhandled", "set", "given up", "device", "status", "dropped", "unanswered", "file"};
 static struct { uint64_t second, written, left_out; } of_kind[LINE_KINDS];
 
 static void begin_second(enum line_kind kind, uint64_t second) {
@@ -15,11 +15,15 @@ static void begin_second(enum line_kind kind, uint64_t second) {
     of_kind[kind].written = of_kind[kind].left_out = 0;
 }
 
-void line(enum line_kind kind, uint64_t now, const char *format, ...) {
-    va_list words;
+bool line_has_room(enum line_kind kind, uint64_t now) {
     begin_second(kind, now / 1000);
-    if (of_kind[kind].written == MOST_A_SECOND) { of_kind[kind].left_out++; return; }
+    if (of_kind[kind].written == MOST_A_SECOND) { of_kind[kind].left_out++; return false; }
     of_kind[kind].written++;
+    return true;
+}
+
+void line(const char *format, ...) {
+    va_list words;
     va_start(words, format);
     vfprintf(stderr, format, words);
     va_end(words);

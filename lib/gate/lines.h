@@ -2,13 +2,19 @@
 #ifndef LINES_H
 #define LINES_H
 
+#include <stdbool.h>
 #include <stddef.h>
 #include <stdint.h>
 
-enum line_kind { LINE_REFUSED, LINE_SET, LINE_GIVEN_UP, LINE_DEVICE, LINE_DROPPED, LINE_UNANSWERED, LINE_OTHER, LINE_KINDS };
+enum line_kind {
+    LINE_REFUSED, LINE_UNHANDLED, LINE_SET, LINE_GIVEN_UP, LINE_DEVICE, LINE_STATUS, LINE_DROPPED, LINE_UNANSWERED, LINE_FILE, LINE_KINDS
+};
 
-/* Writes a line, or counts it where 10 of its kind were written in this second. What was left out is said once the second is over. */
-void line(enum line_kind kind, uint64_t now, const char *format, ...) __attribute__((format(printf, 3, 4)));
+/* Whether a line of this kind may be written now. Where 10 were written in this second it is counted as left out, which is said once the second is
+ * over. So it is asked before the line's words are looked for. */
+bool line_has_room(enum line_kind kind, uint64_t now);
+/* Writes a line. */
+void line(const char *format, ...) __attribute__((format(printf, 1, 2)));
 /* Says what was left out, where its second is over. */
 void lines_left_out(uint64_t now);
 

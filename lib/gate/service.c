@@ -2,9 +2,11 @@
 #include "service.h"
 #include "lines.h"
 #include "sockets.h"
+#include "waiting.h"
 #include <errno.h>
 #include <inttypes.h>
 #include <signal.h>
+#include <stdio.h>
 #include <stdlib.h>
 #include <string.h>
 #include <sys/epoll.h>
@@ -16,7 +18,8 @@
 /* at a wake: of the poll's sockets, and of each socket's datagrams */
 enum { MOST_READY = 64, MOST_AT_ONCE = 64, MOST_PATIENCE = 60000 };
 
-static uint8_t datagram[65536];
+/* What came, and what goes out: both have communities. */
+static uint8_t datagram[65536], message[SNMPSEC_LARGEST];
 
 static void random_octets(void *octets, size_t len) {
     if (getrandom(octets, len, 0) != (ssize_t)len) abort();
@@ -36,99 +39,166 @@ static uint32_t new_ask_id(void) {
     return (id & ~0xfffu) | (count++ & 0xfffu);
 }
 
+/* Appends a line: false where it isn't written whole, and then no part of it is left. */
+static bool append(int file, const char *text, size_t len) {
+    ssize_t put = write(file, text, len);
+    if (put == (ssize_t)len) return true;
+    int why = put < 0 ? errno : ENOSPC;
+    off_t end = put > 0 ? lseek(file, 0, SEEK_END) : -1;
+    if (end >= put) (void)!ftruncate(file, end - put);
+    errno = why;
+    return false;
+}
+
 /* A line MOMENT HEX, as `snmpsec replay` reads them. */
-static void log_datagram(FILE *log, uint64_t now, const uint8_t *octets, size_t len) {
-    if (!log) return;
-    fprintf(log, "%" PRIu64 " ", now / 1000);
-    for (size_t i = 0; i < len; i++) fprintf(log, "%02x", octets[i]);
-    fputc('\n', log);
+static void log_datagram(struct gateway *gateway, const struct words *words, uint64_t now, size_t len) {
+    static char text[2 * sizeof datagram + 32];
+    static const char digits[] = "0123456789abcdef";
+    if (gateway->log < 0) return;
+    size_t at = (size_t)snprintf(text, sizeof text, "%" PRIu64 " ", now / 1000);
+    for (size_t i = 0; i < len; i++) {
+        text[at++] = digits[datagram[i] >> 4];
+        text[at++] = digits[datagram[i] & 15];
+    }
+    text[at++] = '\n';
+    if (append(gateway->log, text, at)) return;
+    gateway->counts.unlogged++;
+    if (line_has_room(LINE_FILE, now)) line("snmpsec-gate: %s: %s: a datagram isn't logged", words->log, strerror(errno));
 }
 
-/* The user whom the datagram names, in words. */
-static void user_words(const uint8_t *octets, size_t len, char *words, size_t most) {
-    uint8_t user[32];
+/* The user whom the datagram names: how many octets. Nobody has shown that it is the sender. */
+static size_t user_of(size_t len, uint8_t *user) {
     size_t user_len = 0;
-    if (snmpsec_datagram_user(octets, len, user, sizeof user, &user_len)) snprintf(words, most, "(none)");
-    else shown(user, user_len, words, most);
-}
-
-static void context_words(snmpsec_gate *gate, size_t device, char *words, size_t most) {
-    size_t len;
-    char *context = setting_of(gate, SNMPSEC_GATE_CONTEXT, device, &len);
-    shown((const uint8_t *)(context ? context : ""), context ? len : 0, words, most);
-    free(context);
+    return snmpsec_datagram_user(datagram, len, user, MOST_USER, &user_len) ? 0 : user_len;
 }
 
 /* Says what wasn't taken up. */
-static void say_client(uint64_t now, const struct client *client, size_t len, enum line_kind kind, const char *what, const char *behind) {
-    char from[ADDRESS_WORDS], user[140];
+static void say_client(const struct client *client, size_t len, const char *what, const char *behind) {
+    char from[ADDRESS_WORDS], words[4 * MOST_USER + 8] = "(none)";
+    uint8_t user[MOST_USER];
+    size_t user_len = user_of(len, user);
     address_words(&client->from, from);
-    user_words(datagram, len, user, sizeof user);
-    line(kind, now, "%s from %s user %s%s", what, from, user, behind);
+    if (user_len) shown(user, user_len, words, sizeof words);
+    line("%s from %s user %s%s", what, from, words, behind);
 }
 
 static void send_report(struct gateway *gateway, const struct client *client) {
-    static uint8_t report[SNMPSEC_LARGEST];
     size_t len = 0;
-    if (snmpsec_gate_message(gateway->gate, report, sizeof report, &len)) return;
+    if (snmpsec_gate_message(gateway->gate, message, sizeof message, &len)) return;
     gateway->counts.reports++;
-    if (!send_to(gateway->listeners[client->listener], client, report, len)) gateway->counts.unsent++;
+    if (!send_to(gateway->listeners[client->listener], client, message, len)) gateway->counts.unsent++;
 }
 
-static void say_refused(struct gateway *gateway, uint64_t now, const struct client *client, size_t len, int answer) {
+static void take_refused(struct gateway *gateway, uint64_t now, const struct client *client, size_t len, int answer) {
     char what[80];
     if (answer == SNMPSEC_OUT_OF_MEMORY || answer < 1 || answer > 18) { gateway->out_of_memory = true; return; }
     gateway->counts.refused[answer]++;
-    snprintf(what, sizeof what, "refused %d %s", answer, snmpsec_error_name(answer));
     /* (by an unknown engine ID each manager begins: RFC 3414, section 4) */
-    if (answer != SNMPSEC_UNKNOWN_ENGINE) say_client(now, client, len, LINE_REFUSED, what, " (not authenticated)");
+    if (answer != SNMPSEC_UNKNOWN_ENGINE && line_has_room(LINE_REFUSED, now)) {
+        snprintf(what, sizeof what, "refused %d %s", answer, snmpsec_error_name(answer));
+        say_client(client, len, what, " (not authenticated)");
+    }
     send_report(gateway, client);
 }
 
-static void take_client(struct gateway *gateway, const struct client *client, size_t len) {
-    snmpsec_gate_event event = SNMPSEC_GATE_NOTHING;
-    uint64_t now = now_in_milliseconds();
-    log_datagram(gateway->log, now, datagram, len);
-    int answer = snmpsec_gate_take_client(gateway->gate, now, (const uint8_t *)client, sizeof *client, datagram, len, &event);
-    if (answer) { say_refused(gateway, now, client, len, answer); return; }
-    gateway->counts.events[event]++;
-    if (event == SNMPSEC_GATE_NO_ROOM) say_client(now, client, len, LINE_DROPPED, "no room for a message", "");
-    if (event == SNMPSEC_GATE_SET_OF_BEFORE) say_client(now, client, len, LINE_SET, "a Set of before", ": it isn't done again");
+/* Keeps for lines whose message begins a request, or joins one. */
+static void note_client(struct gateway *gateway, snmpsec_gate_event event, const struct client *client, size_t len) {
+    snmpsec_gate_info info;
+    uint8_t user[MOST_USER];
+    if (snmpsec_gate_numbers(gateway->gate, &info)) return;
+    if (event == SNMPSEC_GATE_BEGINS) waiting_begins(info.request, client, user, user_of(len, user));
+    else waiting_joins(info.request);
 }
 
-static void take_device(struct gateway *gateway, size_t device, size_t len) {
+static void take_client(struct gateway *gateway, const struct words *words, const struct client *client, size_t len) {
     snmpsec_gate_event event = SNMPSEC_GATE_NOTHING;
-    char context[140];
     uint64_t now = now_in_milliseconds();
-    if (snmpsec_gate_take_device(gateway->gate, now, device, datagram, len, &event)) { gateway->out_of_memory = true; return; }
+    log_datagram(gateway, words, now, len);
+    int answer = snmpsec_gate_take_client(gateway->gate, now, (const uint8_t *)client, sizeof *client, datagram, len, &event);
+    if (answer) { take_refused(gateway, now, client, len, answer); return; }
     gateway->counts.events[event]++;
-    if (event == SNMPSEC_GATE_ANSWERS) return;
-    context_words(gateway->gate, device, context, sizeof context);
-    line(LINE_DEVICE, now, "device %s sends %s", context,
-         event == SNMPSEC_GATE_UNREADABLE ? "what is no Response of SNMPv2c" : "an answer for which nothing waits");
+    if (event == SNMPSEC_GATE_BEGINS || event == SNMPSEC_GATE_JOINS) note_client(gateway, event, client, len);
+    if (event == SNMPSEC_GATE_NO_ROOM && line_has_room(LINE_DROPPED, now)) say_client(client, len, "no room for a message", "");
+    if (event == SNMPSEC_GATE_SET_OF_BEFORE && line_has_room(LINE_SET, now))
+        say_client(client, len, "a Set of before", ": it isn't done again");
+}
+
+/* Says how a Set ended, of which the device is asked once. */
+static void say_set(const struct device *device, const struct waiting *request, const char *how) {
+    char asker[ASKER_WORDS], asked[ASKED_WORDS];
+    asker_words(request, asker);
+    asked_words(request, asked);
+    line("%s by %s at device %s: %s", asked, asker, device->words, how);
+}
+
+static bool is_set(const struct waiting *request) { return request && request->times && request->tag == SNMPSEC_SET_REQUEST; }
+
+static bool is_of_access(uint32_t status) { return status == SNMPSEC_NO_ACCESS || status == SNMPSEC_AUTHORIZATION_ERROR; }
+
+/* Says an error-status of a device. By tooBig a GetBulk is asked for less, as by any device; and a Set has its line. */
+static void say_status(uint64_t now, const struct device *device, const struct waiting *request, uint32_t status, const char *how) {
+    char asker[ASKER_WORDS], asked[ASKED_WORDS];
+    bool is_refused_set = is_set(request) && is_of_access(status);
+    if (status <= 1 || (is_set(request) && !is_refused_set) || !line_has_room(LINE_STATUS, now)) return;
+    asker_words(request, asker);
+    asked_words(request, asked);
+    if (is_refused_set) line("device %s refuses a Set, its write-community may not: %s of %s", device->words, asked, asker);
+    else line("device %s answers %s, to %s of %s", device->words, how, asked, asker);
+}
+
+static void say_answer(uint64_t now, const struct device *device, const struct waiting *request, const struct pdu *pdu) {
+    char how[80];
+    const char *name = status_name(pdu->status);
+    snprintf(how, sizeof how, "error-status %" PRIu32 " (%s), index %" PRIu32, pdu->status, name ? name : "no such one", pdu->index);
+    if (is_set(request) && line_has_room(LINE_SET, now)) say_set(device, request, how);
+    say_status(now, device, request, pdu->status, how);
+}
+
+/* What a device's answer says, for counts and lines. */
+static void note_answer(struct gateway *gateway, uint64_t now, const struct device *device, size_t len) {
+    snmpsec_gate_info info;
+    struct pdu pdu;
+    if (snmpsec_gate_numbers(gateway->gate, &info) || !pdu_of(datagram, len, &pdu)) return;
+    gateway->counts.statuses[pdu.status < STATUSES ? pdu.status : STATUSES]++;
+    const struct waiting *request = waiting_of(info.request);
+    if (pdu.status || is_set(request)) say_answer(now, device, request, &pdu);
+}
+
+static void take_device(struct gateway *gateway, size_t number, size_t len) {
+    snmpsec_gate_event event = SNMPSEC_GATE_NOTHING;
+    struct device *device = &gateway->devices[number];
+    uint64_t now = now_in_milliseconds();
+    if (snmpsec_gate_take_device(gateway->gate, now, number, datagram, len, &event)) { gateway->out_of_memory = true; return; }
+    gateway->counts.events[event]++;
+    if (event == SNMPSEC_GATE_ANSWERS) { device->counts.answered++; note_answer(gateway, now, device, len); return; }
+    bool is_unreadable = event == SNMPSEC_GATE_UNREADABLE;
+    *(is_unreadable ? &device->counts.unreadable : &device->counts.not_waited_for) += 1;
+    if (line_has_room(LINE_DEVICE, now))
+        line("device %s sends %s", device->words, is_unreadable ? "what is no Response of SNMPv2c" : "an answer for which nothing waits");
 }
 
 /* A device that is off answers by ICMP: that is an error of its socket, and the device is asked again as if nothing had come. */
-static void hear_device(struct gateway *gateway, size_t device) {
+static void hear_device(struct gateway *gateway, size_t number) {
+    struct device *device = &gateway->devices[number];
     for (int i = 0; i < MOST_AT_ONCE; i++) {
-        ssize_t len = recv(gateway->devices[device], datagram, sizeof datagram, 0);
-        if (len >= 0) take_device(gateway, device, (size_t)len);
-        else if (errno != EAGAIN && errno != EINTR) gateway->counts.device_errors++;
+        ssize_t len = recv(device->socket, datagram, sizeof datagram, 0);
+        if (len >= 0) take_device(gateway, number, (size_t)len);
+        else if (errno != EAGAIN && errno != EINTR) device->counts.errors++;
         else return;
     }
 }
 
-static void hear_clients(struct gateway *gateway, size_t listener) {
+static void hear_clients(struct gateway *gateway, const struct words *words, size_t listener) {
     struct client client;
     for (int i = 0; i < MOST_AT_ONCE; i++) {
         ssize_t len = receive_from(gateway->listeners[listener], &client, datagram, sizeof datagram);
         if (len < 0) return;
         client.listener = (uint32_t)listener;
-        take_client(gateway, &client, (size_t)len);
+        take_client(gateway, words, &client, (size_t)len);
     }
 }
 
-static void send_client(struct gateway *gateway, const uint8_t *message, size_t len) {
+static void send_client(struct gateway *gateway, size_t len) {
     struct client client;
     size_t client_len = 0;
     if (snmpsec_gate_client(gateway->gate, (uint8_t *)&client, sizeof client, &client_len) || client_len != sizeof client
@@ -136,36 +206,85 @@ static void send_client(struct gateway *gateway, const uint8_t *message, size_t 
         gateway->counts.unsent++;
 }
 
-static void send_device(struct gateway *gateway, const uint8_t *message, size_t len) {
-    snmpsec_gate_info info;
-    if (snmpsec_gate_numbers(gateway->gate, &info) || info.device >= gateway->devices_len
-        || send(gateway->devices[info.device], message, len, 0) != (ssize_t)len)
-        gateway->counts.unsent++;
+/* A send answers the error of a datagram of before, and then sends nothing: so it is tried twice. */
+static bool send_connected(int socket, size_t len) {
+    for (int i = 0; i < 2; i++)
+        if (send(socket, message, len, 0) == (ssize_t)len) return true;
+    return false;
 }
 
-static void say_given_up(struct gateway *gateway, uint64_t now) {
+static void send_device(struct gateway *gateway, const snmpsec_gate_info *info, size_t len) {
+    struct pdu pdu;
+    if (info->device >= gateway->devices_len) { gateway->counts.unsent++; return; }
+    struct device *device = &gateway->devices[info->device];
+    bool is_again = pdu_of(message, len, &pdu) && waiting_asks(info->request, &pdu);
+    *(is_again ? &device->counts.asked_again : &device->counts.asked) += 1;
+    if (!send_connected(device->socket, len)) gateway->counts.unsent++;
+}
+
+static void take_given_up(struct gateway *gateway, uint64_t now, const snmpsec_gate_info *info) {
+    char asker[ASKER_WORDS], asked[ASKED_WORDS];
+    if (info->device >= gateway->devices_len) return;
+    struct device *device = &gateway->devices[info->device];
+    struct waiting *request = waiting_of(info->request);
+    device->counts.given_up++;
+    if (is_set(request)) {
+        if (line_has_room(LINE_SET, now)) say_set(device, request, "no answer, so it may have been done");
+    } else if (line_has_room(LINE_GIVEN_UP, now)) {
+        asker_words(request, asker);
+        asked_words(request, asked);
+        line("device %s doesn't answer: %s, %s, asked %" PRIu32 " times", device->words, asker, asked, request ? request->times : 0);
+    }
+}
+
+/* The agent's counter that counted a message, by its name; NULL: none did. */
+static const char *counted(struct gateway *gateway) {
+    snmpsec_counts n, old = gateway->agent;
+    if (snmpsec_gate_counts(gateway->gate, &n)) return NULL;
+    gateway->agent = n;
+    if (n.unknown_contexts != old.unknown_contexts) return "snmpUnknownContexts";
+    if (n.unknown_pdu_handlers != old.unknown_pdu_handlers) return "snmpUnknownPDUHandlers";
+    if (n.unavailable_contexts != old.unavailable_contexts) return "snmpUnavailableContexts";
+    if (n.silent_drops != old.silent_drops) return "snmpSilentDrops: even an answer without bindings is too long";
+    return NULL;
+}
+
+/* One message of a request is answered, or isn't. */
+static void take_end(struct gateway *gateway, uint64_t now, const snmpsec_gate_info *info, int why) {
+    char asker[ASKER_WORDS];
+    const char *counter = counted(gateway);
+    struct waiting *request = waiting_of(info->request);
+    if (counter && line_has_room(LINE_UNHANDLED, now)) {
+        asker_words(request, asker);
+        line("unhandled, %s: %s", asker, counter);
+    }
+    if (why && line_has_room(LINE_UNANSWERED, now)) {
+        asker_words(request, asker);
+        line("a message of %s isn't answered: %s", asker, snmpsec_strerror(why));
+    }
+    waiting_ends(info->request);
+}
+
+static void take_event(struct gateway *gateway, uint64_t now, snmpsec_gate_event event, int why) {
     snmpsec_gate_info info;
-    char context[140];
+    size_t len = 0;
     if (snmpsec_gate_numbers(gateway->gate, &info)) return;
-    context_words(gateway->gate, info.device, context, sizeof context);
-    line(LINE_GIVEN_UP, now, "device %s doesn't answer", context);
+    gateway->counts.events[event]++;
+    if (event == SNMPSEC_GATE_GIVEN_UP) take_given_up(gateway, now, &info);
+    bool is_message = !snmpsec_gate_message(gateway->gate, message, sizeof message, &len);
+    if (is_message && event == SNMPSEC_GATE_TO_CLIENT) send_client(gateway, len);
+    if (is_message && event == SNMPSEC_GATE_TO_DEVICE) send_device(gateway, &info, len);
+    if (event == SNMPSEC_GATE_TO_CLIENT || event == SNMPSEC_GATE_UNANSWERED) take_end(gateway, now, &info, why);
 }
 
 /* Sends all that is due. */
 static void send_due(struct gateway *gateway) {
-    static uint8_t message[SNMPSEC_LARGEST];
     snmpsec_gate_event event = SNMPSEC_GATE_NOTHING;
-    size_t len;
-    int why;
+    int why = 0;
     for (uint64_t now = now_in_milliseconds();;) {
         if (snmpsec_gate_next(gateway->gate, now, new_salt(), new_ask_id(), &event, &why)) { gateway->out_of_memory = true; return; }
         if (event == SNMPSEC_GATE_NOTHING) return;
-        gateway->counts.events[event]++;
-        if (event == SNMPSEC_GATE_GIVEN_UP) say_given_up(gateway, now);
-        if (event == SNMPSEC_GATE_UNANSWERED && why) line(LINE_UNANSWERED, now, "a message isn't answered: %s", snmpsec_strerror(why));
-        if (snmpsec_gate_message(gateway->gate, message, sizeof message, &len)) continue;
-        if (event == SNMPSEC_GATE_TO_CLIENT) send_client(gateway, message, len);
-        if (event == SNMPSEC_GATE_TO_DEVICE) send_device(gateway, message, len);
+        take_event(gateway, now, event, why);
     }
 }
 
@@ -181,7 +300,7 @@ static int patience(struct gateway *gateway) {
 static bool hear_signal(struct gateway *gateway, const struct words *words, int signals) {
     struct signalfd_siginfo signal;
     if (read(signals, &signal, sizeof signal) != sizeof signal) return false;
-    if (signal.ssi_signo == SIGUSR1) (void)counts_write(&gateway->counts, gateway->gate, words->counts);
+    if (signal.ssi_signo == SIGUSR1) gateway_counts(gateway, words);
     else if (signal.ssi_signo == SIGHUP) gateway_reload(gateway, words);
     else return true;
     return false;
@@ -194,29 +313,40 @@ static bool take_ready(struct gateway *gateway, const struct words *words, const
             size_t number = ready[i].data.u64 & 0xffffffffu;
             if (ready[i].data.u64 >> 32 != (uint64_t)source) continue;
             if (source == FROM_DEVICE) hear_device(gateway, number);
-            else if (source == FROM_CLIENT) hear_clients(gateway, number);
+            else if (source == FROM_CLIENT) hear_clients(gateway, words, number);
             else if (hear_signal(gateway, words, signals)) return true;
         }
     return false;
 }
 
-static int begin_signals(struct gateway *gateway) {
+static sigset_t heard_signals(void) {
     static const int all[] = {SIGTERM, SIGINT, SIGHUP, SIGUSR1};
-    struct epoll_event event = {.events = EPOLLIN, .data.u64 = source_of(FROM_SIGNAL, 0)};
     sigset_t set;
     sigemptyset(&set);
     for (size_t i = 0; i < sizeof all / sizeof *all; i++) sigaddset(&set, all[i]);
+    return set;
+}
+
+void hold_signals(void) {
+    sigset_t set = heard_signals();
     sigprocmask(SIG_BLOCK, &set, NULL);
+    /* (nobody reads the lines, or a file may not be longer: that is an error of the write) */
+    signal(SIGPIPE, SIG_IGN);
+    signal(SIGXFSZ, SIG_IGN);
+}
+
+static int begin_signals(struct gateway *gateway) {
+    struct epoll_event event = {.events = EPOLLIN, .data.u64 = source_of(FROM_SIGNAL, 0)};
+    sigset_t set = heard_signals();
     int signals = signalfd(-1, &set, SFD_CLOEXEC | SFD_NONBLOCK);
     if (signals >= 0 && !epoll_ctl(gateway->poll, EPOLL_CTL_ADD, signals, &event)) return signals;
     perror("snmpsec-gate: signals");
     return -1;
 }
 
-int serve(struct gateway *gateway, const struct words *words) {
+/* What it does until it ends, and with which status. */
+static int serve_on(struct gateway *gateway, const struct words *words, int signals) {
     struct epoll_event ready[MOST_READY];
-    int signals = begin_signals(gateway);
-    if (signals < 0) return 1;
     for (bool ends = false; !ends;) {
         int len = epoll_wait(gateway->poll, ready, MOST_READY, patience(gateway));
         if (len < 0 && errno != EINTR) { perror("snmpsec-gate: epoll"); return 1; }
@@ -227,4 +357,11 @@ int serve(struct gateway *gateway, const struct words *words) {
         lines_left_out(now_in_milliseconds());
     }
     return 0;
+}
+
+int serve(struct gateway *gateway, const struct words *words) {
+    int signals = begin_signals(gateway), status = signals < 0 ? 1 : serve_on(gateway, words, signals);
+    snmpsec_wipe(datagram, sizeof datagram);
+    snmpsec_wipe(message, sizeof message);
+    return status;
 }

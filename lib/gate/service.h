@@ -4,6 +4,8 @@
 
 #include "gateway.h"
 
+/* Signals wait from here on until `serve` hears them: a SIGHUP at the start doesn't end it. */
+void hold_signals(void);
 /* 0, or the status to end with. */
 int serve(struct gateway *gateway, const struct words *words);
 

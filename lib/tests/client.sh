@@ -1,14 +1,5 @@
 # The commands of the Python package, against net-snmp's snmpd, snmptrapd, snmptrap and snmpinform. test.sh runs this.
 
-export SNMPSEC_LIBRARY=$OUT/libsnmpsec.so.0
-
-# ours COMMAND ARGUMENTS..: a command of the package; the password of privacy is in $privacy
-ours() {
-    local program="import sys; from snmpsec import commands; sys.argv[0] = 'snmpsec'; sys.exit(commands.$1())"
-    shift
-    SNMPSEC_AUTH_PASSWORD=${password:-maplesyrup} SNMPSEC_PRIV_PASSWORD=${privacy:-syrupmaple} PYTHONPATH=$here/python/src python3 -c "$program" "$@" 2>&1
-}
-
 # without what changes from one walk to the next: counters, times, the machine's sockets, memory, processes and load
 still() { grep -v -e 'Counter[36]' -e Timeticks -e Gauge32 -e '^\.1\.3\.6\.1\.2\.1\.\(6\|7\|25\)\.' -e '^\.1\.3\.6\.1\.4\.1\.2021\.' -e '^\.1\.3\.6\.1\.4\.1\.8072\.1\.5\.' \
     -e '^\.1\.3\.6\.1\.6\.3\.10\.2\.1\.3\.0' -e 'No more variables'; }

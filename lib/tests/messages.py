@@ -3,22 +3,23 @@
 
 With TIMES the message is sent so often, each time after its answer, and how many answers came is printed in its place.
 
-KIND is signed (an authNoPriv GetRequest of sysDescr.0), bulk (a GetBulkRequest of 92 octets without authentication, of columns that begin before all
+KIND is signed (an authNoPriv GetRequest of sysDescr.0), device (an authPriv one of sysName.0, in the context `pdu` of a gateway), bulk (a GetBulkRequest of 92 octets without authentication, of columns that begin before all
 rows), columns (one of some 50 KB), discovery, or forged (the signed one with a bit of its code turned). They are within the time window for 150
 seconds."""
 import sys
 
 import snmpsec
 from raw import Words, connected, exchanged, known
-from spell import AUTH, NO_AUTH, REPORTABLE, Security, scoped, spelled
+from spell import AUTH, NO_AUTH, PRIV, REPORTABLE, Security, scoped, spelled
 
-GET, BULK, DESCRIPTION = 0xA0, 0xA5, (1, 3, 6, 1, 2, 1, 1, 1, 0)
+GET, BULK, DESCRIPTION, NAME = 0xA0, 0xA5, (1, 3, 6, 1, 2, 1, 1, 1, 0), (1, 3, 6, 1, 2, 1, 1, 5, 0)
+FLAGS = {1: NO_AUTH, 2: AUTH, 3: AUTH | PRIV}
 
 
-def of_user(at, level, tag, third, bindings):
-    security = known(at, Words([f"user={'sha' if level == 2 else 'plain'}", f"level={level}"]))
-    text = scoped(security.engine, b"", tag, 77, 0, third, bindings)
-    return spelled(security, text, (AUTH if level == 2 else NO_AUTH) | REPORTABLE)
+def of_user(at, level, tag, third, bindings, context=b""):
+    security = known(at, Words([f"user={'plain' if level == 1 else 'sha'}", f"level={level}"]))
+    text = scoped(security.engine, context, tag, 77, 0, third, bindings)
+    return spelled(security, text, FLAGS[level] | REPORTABLE)
 
 
 def bulk(at, size):
@@ -36,6 +37,7 @@ def main():
     at, kind = connected(sys.argv[1]), sys.argv[2]
     kinds = {
         "signed": lambda: of_user(at, 2, GET, 0, snmpsec.binding(DESCRIPTION, 5)),
+        "device": lambda: of_user(at, 3, GET, 0, snmpsec.binding(NAME, 5), b"pdu"),
         "bulk": lambda: bulk(at, 92),
         "columns": lambda: bulk(at, 50000),
         "discovery": lambda: spelled(Security(), scoped(b"", b"", GET, 1, 0, 0, b""), REPORTABLE),

@@ -76,6 +76,77 @@ test_debian() {
     fi
 }
 
+# The unit of the gateway as systemd judges it: 2.0 of exposure at most.
+test_gate_unit() {
+    local unit=$work/unpacked/snmpsec-gate/usr/lib/systemd/system/snmpsec-gate.service told
+    if ! command -v systemd-analyze > /dev/null; then echo "skipped: the gateway's unit judged by systemd-analyze (apt-get install systemd)"; return; fi
+    for unit in "$unit" "${unit%.service}@.service"; do
+        told=$(systemd-analyze security --offline=true --threshold=20 --no-pager "$unit" 2>&1)
+        check "systemd-analyze security of $(basename "$unit")" 0 $?
+        echo "packages: $(basename "$unit"): $(grep -o 'exposure level.*: [0-9.]* [A-Z]*' <<< "$told")"
+    done
+}
+
+# The commands of the Python package in a folder: commands.sh FOLDER AGENT LISTENING-PORT OWN-FOLDER
+write_commands() {
+    cat > "$work/commands.sh" << 'COMMANDS'
+export SNMPSEC_AUTH_PASSWORD=maplesyrup SNMPSEC_PRIV_PASSWORD=a-third-one
+system=1.3.6.1.2.1.1
+echo "get: $("$1/snmpsec-get" -u sha256 "$2" $system.1.0 2>&1)"
+echo "next: $("$1/snmpsec-next" -u sha256 "$2" $system.1 2>&1)"
+echo "bulk: $("$1/snmpsec-bulk" -u sha256 -M 3 "$2" $system 2>&1 | wc -l)"
+echo "walk: $("$1/snmpsec-walk" -u sha256 "$2" $system 2>&1 | wc -l)"
+echo "set: $("$1/snmpsec-set" -u sha256 "$2" $system.4.0 s nobody 2>&1)"
+mkdir -p -m 700 "$4"
+rm -f "$4/boots" # (the file of a listener that is begun anew each time)
+"$1/snmpsec-listen" -u sha256 --engine 8000000005060708 --boots "$4/boots" --count 1 "127.0.0.1:$3" > "$4/listened" 2>&1 & listener=$!
+for _ in 1 2 3 4 5 6 7 8 9 10; do
+    sleep 0.3
+    "$1/snmpsec-trap" -u sha256 --inform -t 1 -r 2 "127.0.0.1:$3" 1.3.6.1.6.3.1.1.5.1 > "$4/trapped" 2>&1 && break
+done
+wait $listener
+echo "trap and listen: $(grep -o '^inform' "$4/listened")"
+COMMANDS
+}
+
+judge_commands() { # NAME FILE: what the commands printed
+    local line
+    for line in 'get: .1.3.6.1.2.1.1.1.0 = STRING: "a proved agent"' 'next: .1.3.6.1.2.1.1.1.0 = STRING: "a proved agent"' "bulk: 3" "walk: 6" \
+        'set: .1.3.6.1.2.1.1.4.0 = STRING: "nobody"' "trap and listen: inform"; do
+        has "$1: snmpsec-${line%%:*}" "$line" "$(cat "$2")"
+    done
+}
+
+# The gateway's package, by hand as its unit does it: its user, its sample, and what is left.
+write_gate_installed() {
+    cat > "$work/gate_installed.sh" << SCRIPT
+port=$((port + 15))
+install -d -m 755 /etc/snmpsec
+cp /usr/share/doc/snmpsec-gate/examples/gate.toml /etc/snmpsec
+user=root
+if id snmpsec-gate > /dev/null 2>&1; then
+    user=snmpsec-gate
+    chown root:snmpsec-gate /etc/snmpsec/gate.toml
+fi
+chmod 640 /etc/snmpsec/gate.toml
+install -d -m 700 -o \$user /var/lib/snmpsec-gate
+snmpsec-gate --user \$user --listen 127.0.0.1:\$port /etc/snmpsec/gate.toml 2> $work/gate_installed.err & gate=\$!
+for _ in 1 2 3 4 5 6 7 8 9 10; do [ -s /var/lib/snmpsec-gate/boots ] && break; sleep 0.3; done
+echo "gate runs as: \$(stat -c %U /var/lib/snmpsec-gate/boots) \$(stat -c %a /var/lib/snmpsec-gate/boots) \$(cat /var/lib/snmpsec-gate/boots)"
+echo "gate answers: \$(snmpsec-get -u nobody -l noAuthNoPriv -t 1 -r 2 127.0.0.1:\$port 1.3.6.1.2.1.1.1.0 2>&1)"
+kill -HUP \$gate
+for _ in 1 2 3 4 5 6 7 8 9 10; do grep -q 'is read anew' $work/gate_installed.err && break; sleep 0.3; done
+echo "gate reads anew: \$(grep -c 'is read anew' $work/gate_installed.err)"
+kill \$gate
+wait \$gate
+echo "gate ends: \$?"
+dpkg -P snmpsec-gate > /dev/null 2>&1
+echo "boots beside a configuration: \$(cat /var/lib/snmpsec-gate/boots)"
+dpkg -i $work/packages/snmpsec-gate_*.deb > /dev/null 2>&1
+rm -r /etc/snmpsec
+SCRIPT
+}
+
 test_debian_installed() {
     mkdir -p "$work/copy" "$work/user"
     if [ "$(id -u)" != 0 ] || ! in_copy true 2> /dev/null; then echo "skipped: the packages installed, since only root may mount a copy of the system"; return; fi
@@ -95,11 +166,26 @@ cp -r /usr/share/doc/libsnmpsec-dev/examples examples && make -s -C examples > e
 echo "program: \$(snmpsec show 3038020103300e020101020300ffe30401040201030410300e0400020100020100040004000400301104000400a00b0201010201000201003000 | head -1)"
 echo "pages: \$(man -w snmpsec snmpsec-agent snmpsec-poll snmpsec-gate 2> /dev/null | wc -l)"
 echo "gate: \$(snmpsec-gate --check /usr/share/doc/snmpsec-gate/examples/gate.toml)"
+sh $work/commands.sh /usr/bin $at $trap_port $work/user/listener
+sh $work/gate_installed.sh
+echo "completions: \$(ls /usr/share/bash-completion/completions/snmpsec* /usr/share/zsh/vendor-completions/_snmpsec* | wc -l)"
 dpkg -P snmpsec-gate snmpsec python3-snmpsec libsnmpsec-dev libsnmpsec0 >> $work/dpkg.log 2>&1 || exit 9
+ls -d /var/lib/snmpsec-gate 2> /dev/null
 $LISTED > $work/after
 SCRIPT
+    write_commands
+    write_gate_installed
+    begin_agent
     in_copy "bash $work/installed.sh" > "$work/installed.out" 2>&1
     check "the packages are installed and removed" 0 $?
+    end_agent
+    judge_commands "the packages" "$work/installed.out"
+    has "the gateway runs as its user, with its boots" "gate runs as: $(command -v systemd-sysusers > /dev/null && echo snmpsec-gate || echo root) 600 1" "$(cat "$work/installed.out")"
+    has "it answers" "usmStatsUnknownUserNames" "$(grep '^gate answers' "$work/installed.out")"
+    has "its user can read its file anew" "gate reads anew: 1" "$(cat "$work/installed.out")"
+    has "it ends" "gate ends: 0" "$(cat "$work/installed.out")"
+    has "its boots stay as long as a configuration does" "boots beside a configuration: 2" "$(cat "$work/installed.out")"
+    has "completions of both programs for both shells" "completions: 4" "$(cat "$work/installed.out")"
     local expected="discovered 80001f88046578616d706c65"
     for name in "C: $expected" "static: $expected" "Python: $expected" "agent: $("$OUT/agent" --version)" "examples: $("$OUT/agent" --version) $("$OUT/poll" --version)" \
         "program: id 1" "gate: 1 devices, 1 addresses"; do
@@ -107,6 +193,7 @@ SCRIPT
     done
     if command -v man > /dev/null; then has "the packages' manual pages" "pages: 4" "$(cat "$work/installed.out")"; fi
     check "without a rest" "" "$(diff "$work/before" "$work/after")"
+    check "and without the gateway's state" "" "$(grep '^/var/lib/snmpsec-gate' "$work/installed.out")"
 }
 
 test_wheel() {
@@ -121,6 +208,11 @@ test_wheel() {
     [ -x "$work/secrets_shared" ] && judge_secrets "the wheel's library" "$(dirname "$work/venv"/lib/python*/site-packages/snmpsec/libsnmpsec.so.0)"
     example python > "$work/main.py"
     check "and used" "discovered 80001f88046578616d706c65" "$(unset SNMPSEC_LIBRARY PYTHONPATH; cd "$work" && "$work/venv/bin/python" main.py 2>&1)"
+    write_commands
+    begin_agent
+    (unset SNMPSEC_LIBRARY PYTHONPATH; sh "$work/commands.sh" "$work/venv/bin" "$at" "$trap_port" "$work/wheel_listener") > "$work/wheel.out" 2>&1
+    end_agent
+    judge_commands "the wheel" "$work/wheel.out"
     "$work/venv/bin/pip" uninstall -q -y snmpsec > "$work/venv.log" 2>&1
     check "and removed without a rest" "" "$(find "$work/venv" -path '*snmpsec*')"
 }
@@ -145,6 +237,7 @@ test_packages() {
     NO_LIBRARY=1 bash "$here/packages.sh" "$work/packages" > "$work/packages.log" 2>&1
     check "the packages are built" 0 $?
     test_debian
+    test_gate_unit
     test_debian_installed
     test_wheel
     test_reproducible

@@ -15,16 +15,15 @@ import sys
 LIB = pathlib.Path(__file__).resolve().parents[1]
 sys.path.insert(0, str(LIB / "python/src"))
 import snmpsec  # noqa: E402
-from snmpsec import _library  # noqa: E402
+from snmpsec import _library, gate  # noqa: E402
 
 HEADER = (LIB / "include/snmpsec.h").read_text()
 DECLARED = set(re.findall(r"\bsnmpsec_(\w+)\(", HEADER))
 # what a wrapper builds from other calls, or has of its own
-GATEWAY = {it for it in DECLARED if it.startswith("gate_")} | {"datagram_user"}
-NOT_IN_PYTHON = {"agent_allows", "agent_user_allows", "wipe"} | GATEWAY
-NOT_IN_RUST = {"agent_allows", "agent_user_allows", "error_name"} | GATEWAY
+NOT_IN_PYTHON = {"agent_allows", "agent_user_allows", "wipe"}
+NOT_IN_RUST = {"agent_allows", "agent_user_allows", "error_name"}
 
-STRUCTS = {"Octets": "octets", "Info": "info", "Counters": "counters", "Counts": "counts", "Report": "report", "Reply": "reply", "Answered": "answered", "Heard": "answered", "Device": "device", "Clock": "clock", "ConfigPlace": "config_place", "Notice": "notice", "Request": "request",
+STRUCTS = {"Octets": "octets", "Info": "info", "Counters": "counters", "Counts": "counts", "Report": "report", "Reply": "reply", "Answered": "answered", "Heard": "answered", "Device": "device", "Clock": "clock", "ConfigPlace": "config_place", "GateInfo": "gate_info", "Notice": "notice", "Request": "request",
            "BindingRead": "binding"}
 READ = {"Octets", "Notice", "Request", "Heard"}  # structs that a call only reads
 
@@ -45,7 +44,7 @@ def handle_of(name):
 
 PYTHON_TYPES = {None: "void", ctypes.c_bool: "bool", ctypes.c_int: "int", ctypes.c_uint: "uint32_t", ctypes.c_uint8: "uint8_t", ctypes.c_uint64: "uint64_t",
                 ctypes.c_size_t: "size_t", ctypes.c_char_p: "const uint8_t *", ctypes.POINTER(ctypes.c_char): "uint8_t *",
-                ctypes.POINTER(ctypes.c_size_t): "size_t *", ctypes.POINTER(ctypes.c_uint64): "uint64_t *", ctypes.POINTER(ctypes.c_uint32): "const uint32_t *",
+                ctypes.POINTER(ctypes.c_size_t): "size_t *", ctypes.POINTER(ctypes.c_uint64): "uint64_t *", ctypes.POINTER(ctypes.c_int): "int *", ctypes.POINTER(ctypes.c_uint32): "const uint32_t *",
                 ctypes.POINTER(_library.Enumeration): "uint32_t *", ctypes.POINTER(_library.Written): "uint32_t *", _library.Octets: "snmpsec_octets"}
 for _name, _c in STRUCTS.items():
     PYTHON_TYPES[ctypes.POINTER(getattr(_library, _name))] = f"{'const ' * (_name in READ)}snmpsec_{_c} *"
@@ -68,11 +67,15 @@ def python_fields():
             yield f"offsetof(snmpsec_{c}, {name}) == {place.offset} && sizeof(((snmpsec_{c} *)0)->{name}) == {place.size}"
 
 
+PYTHON_PREFIXES = {snmpsec.Known: "KNOWN_", gate.GateEvent: "GATE_", gate._Text: "GATE_"}
+
+
 def python_numbers():
-    for kind in vars(snmpsec).values():
+    for kind in {**vars(gate), **vars(snmpsec)}.values():
         if isinstance(kind, type) and issubclass(kind, enum.IntEnum) and kind is not enum.IntEnum:
             for one in kind:
-                name = f"KNOWN_{one.name}" if kind is snmpsec.Known else PYTHON_NAMES.get(one.name, one.name)
+                prefix = PYTHON_PREFIXES.get(kind, "")
+                name = f"{prefix}{one.name}" if prefix else PYTHON_NAMES.get(one.name, one.name)
                 yield f"SNMPSEC_{name} == {int(one)}"
     for number, fault in snmpsec._FAULTS.items():
         yield f"SNMPSEC_{snake(fault.__name__)} == {number}"

@@ -1,4 +1,4 @@
-"""What net-snmp's tools sent each other, an agent and a manager that talk, keys, faults, files and threads: python3 test_snmpsec.py, with the
+"""What net-snmp's tools sent each other, an agent and a manager that talk, a gateway, keys, faults, files and threads: python3 test_snmpsec.py, with the
 library installed or named by SNMPSEC_LIBRARY, and the folder of examples/replay in SNMPSEC_REPLAY where it is elsewhere."""
 import hmac
 import os
@@ -301,6 +301,145 @@ KEY = bytes.fromhex("2b7e151628aed2a6abf7158809cf4f3c")
 SALT = bytes(range(8, 16))
 PLAIN = bytes.fromhex("6bc1bee22e409f96e93d7e117393172aae2d8a571e03ac9c9eb76fac45af8e51")
 SEALED = bytes.fromhex("3b3fd92eb72dad20333449f8e83cfb4ac8a64537a0b3a93fcde3cdad9f1ce58b")
+
+
+GATE = b"""
+[gate]
+engine = "80001f8804676174652d31"
+boots = "/var/lib/boots"
+listen = ["192.0.2.1:161", "[2001:db8::1]:161"]
+[[device]]
+context = "pdu"
+address = "10.1.0.7:161"
+community = "reads"
+[[user]]
+name = "ann"
+auth = "sha256"
+auth-password = "maplesyrup"
+priv-password = "syrupmaple"
+[[group]]
+model = 3
+name = "ann"
+group = "all"
+[[access]]
+group = "all"
+prefix = ""
+model = 3
+level = "noAuthNoPriv"
+match = "prefix"
+read = "all"
+write = "all"
+[[family]]
+view = "all"
+subtree = "1.3.6.1"
+include = true
+"""
+GATE_ENGINE, MOMENT = bytes.fromhex("80001f8804676174652d31"), 1000 * NOW
+
+
+def element(tag, *parts):
+    """An element with fewer than 128 octets."""
+    content = b"".join(parts)
+    return bytes([tag, len(content)]) + content
+
+
+def answered(asked, octets):
+    """The Response of a device to a datagram, of these bindings: its front, up to the PDU, and its request-id are copied."""
+    pdu = 7 + asked[6]
+    front, number = asked[2:pdu], asked[pdu + 2 : pdu + 4 + asked[pdu + 3]]
+    return element(0x30, front, element(0xA2, number, bytes.fromhex("020100020100"), element(0x30, octets)))
+
+
+class Gateway(unittest.TestCase):
+    """A manager asks a device that speaks SNMPv2c, through a gateway."""
+
+    def setUp(self):
+        self.gate, self.manager = snmpsec.Gate(GATE, BOOTS, NOW - TIME), Manager(ALLOWING)
+        self.addCleanup(self.gate.close)
+        self.addCleanup(self.manager.close)
+
+    def ask(self, number, level, context=b"pdu"):
+        return ask(self.manager, number, b"ann", level, engine=GATE_ENGINE, context_name=context)
+
+    def learn(self):
+        request = self.ask(1, Level.AUTH_NO_PRIV)
+        self.assertEqual(snmpsec.datagram_user(request), b"ann")
+        self.assertEqual(self.gate.take_client(MOMENT, b"client", request), Refusal.NOT_IN_WINDOW)
+        self.manager.take(NOW, self.gate.message())
+        self.assertEqual(self.manager.reply(), snmpsec.Reply(False, 2))
+        self.assertEqual(self.gate.counters().not_in_windows, 1)
+
+    def test_a_request_goes_to_its_device_and_back(self):
+        self.learn()
+        for number, level in (2, Level.NO_AUTH_NO_PRIV), (3, Level.AUTH_PRIV):
+            message = self.ask(number, level)
+            self.assertEqual(self.gate.take_client(MOMENT, b"client", message), snmpsec.GateEvent.BEGINS)
+            self.assertEqual(self.gate.take_client(MOMENT, bytearray(b"client"), message), snmpsec.GateEvent.JOINS)
+            self.assertEqual(self.gate.waiting(), 1)
+            sent = self.gate.next(MOMENT, 10 * number, number)
+            self.assertEqual((sent.event, sent.device, sent.client, sent.why), (snmpsec.GateEvent.TO_DEVICE, 0, None, None))
+            self.assertIn(b"reads", sent.datagram)
+            self.assertGreater(self.gate.due(), MOMENT)
+            answer = answered(sent.datagram, HELLO)
+            self.assertEqual(self.gate.take_device(MOMENT, 0, answer), snmpsec.GateEvent.ANSWERS)
+            self.assertEqual(self.gate.take_device(MOMENT, 0, answer), snmpsec.GateEvent.NOT_WAITED_FOR)
+            self.assertEqual(self.gate.take_device(MOMENT, 0, b"junk"), snmpsec.GateEvent.UNREADABLE)
+            for more in (1, 2):
+                sent = self.gate.next(MOMENT, 10 * number + more, 1)
+                self.assertEqual((sent.event, sent.client, sent.device), (snmpsec.GateEvent.TO_CLIENT, b"client", None))
+                self.assertIsNone(self.manager.take(NOW, sent.datagram))
+                self.assertEqual(self.manager.part(Part.BINDINGS), HELLO)
+            self.assertIsNone(self.gate.next(MOMENT, 10 * number + 3, 1))
+            self.assertIsNone(self.gate.due())
+
+    def test_a_device_is_given_up(self):
+        self.learn()
+        self.gate.take_client(MOMENT, b"client", self.ask(2, Level.AUTH_PRIV))
+        now, events = MOMENT, []
+        for number in range(100):
+            sent = self.gate.next(now, number, number)
+            if sent is not None:
+                events.append(sent.event)
+                continue
+            now = self.gate.due()
+            if now is None:
+                break
+        event = snmpsec.GateEvent
+        self.assertEqual(events, [event.TO_DEVICE] * 3 + [event.GIVEN_UP, event.UNANSWERED])
+
+    def test_another_context_is_reported(self):
+        self.learn()
+        self.gate.take_client(MOMENT, b"client", self.ask(2, Level.AUTH_PRIV, context=b"other"))
+        self.manager.take(NOW, self.gate.next(MOMENT, 1, 1).datagram)
+        self.assertEqual(self.manager.report().counter, snmpsec.Unhandled.UNKNOWN_CONTEXTS)
+        self.assertEqual(self.gate.counts().unknown_contexts, 1)
+
+    def test_what_a_configuration_says(self):
+        self.assertEqual(self.gate.boots_path(), "/var/lib/boots")
+        self.assertEqual(self.gate.listen(), ["192.0.2.1:161", "[2001:db8::1]:161"])
+        [device] = self.gate.devices()
+        self.assertEqual((device.context, device.address), (b"pdu", "10.1.0.7:161"))
+        self.assertEqual(device.note, "access 0 gives a write view, and it has no write-community")
+
+    def test_a_refused_configuration_has_its_cause(self):
+        text = GATE.replace(b"address", b"adress")
+        with self.assertRaisesRegex(snmpsec.BadConfiguration, "refused config device 0 BadKey\n"):
+            snmpsec.Gate(text, 1, 0)
+        self.assertIn("the nearest is address", snmpsec.gate_fault(text))
+        self.assertIsNone(snmpsec.gate_fault(GATE))
+        with self.assertRaises(snmpsec.BadArgument):
+            snmpsec.Gate(GATE, 1 << 31, 0)
+        with self.assertRaises(snmpsec.BadArgument):
+            self.gate.next(1 << 64, 1, 1)
+
+    def test_a_file(self):
+        with tempfile.TemporaryDirectory() as folder:
+            path = pathlib.Path(folder, "gate.toml")
+            path.write_bytes(GATE)
+            with snmpsec.Gate.from_file(path, 1, 0) as gate:
+                self.assertEqual(len(gate.devices()), 1)
+            with self.assertRaises(ValueError):
+                gate.due()
 
 
 class Keys(unittest.TestCase):

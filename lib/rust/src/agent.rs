@@ -64,6 +64,34 @@ pub struct Counts {
     pub silent_drops: u32,
 }
 
+impl From<calls::Counters> for Counters {
+    fn from(n: calls::Counters) -> Counters {
+        Counters {
+            unsupported_levels: n.unsupported_levels,
+            not_in_windows: n.not_in_windows,
+            unknown_users: n.unknown_users,
+            unknown_engines: n.unknown_engines,
+            wrong_digests: n.wrong_digests,
+            decryption_errors: n.decryption_errors,
+        }
+    }
+}
+
+impl From<calls::Counts> for Counts {
+    fn from(n: calls::Counts) -> Counts {
+        Counts {
+            unknown_pdu_handlers: n.unknown_pdu_handlers,
+            unavailable_contexts: n.unavailable_contexts,
+            unknown_contexts: n.unknown_contexts,
+            bad_versions: n.bad_versions,
+            asn_parse_errors: n.asn_parse_errors,
+            unknown_security_models: n.unknown_security_models,
+            invalid_messages: n.invalid_messages,
+            silent_drops: n.silent_drops,
+        }
+    }
+}
+
 /// What becomes of a variable, by the answer on access and the PDU that asks (RFC 3413, section 3.2).
 pub fn status_of(access: Access, pdu: Pdu) -> Result<Status, Error> {
     let mut status = 0;
@@ -280,16 +308,7 @@ impl Agent {
     pub fn counts(&self) -> Result<Counts, Error> {
         let mut n = calls::Counts::default();
         done(unsafe { snmpsec_agent_counts(self.held.at(), &mut n) })?;
-        Ok(Counts {
-            unknown_pdu_handlers: n.unknown_pdu_handlers,
-            unavailable_contexts: n.unavailable_contexts,
-            unknown_contexts: n.unknown_contexts,
-            bad_versions: n.bad_versions,
-            asn_parse_errors: n.asn_parse_errors,
-            unknown_security_models: n.unknown_security_models,
-            invalid_messages: n.invalid_messages,
-            silent_drops: n.silent_drops,
-        })
+        Ok(n.into())
     }
 
     /// Writes an SNMPv2-Trap.
@@ -311,13 +330,6 @@ impl Agent {
     pub fn counters(&self) -> Result<Counters, Error> {
         let mut n = calls::Counters::default();
         done(unsafe { snmpsec_agent_counters(self.held.at(), &mut n) })?;
-        Ok(Counters {
-            unsupported_levels: n.unsupported_levels,
-            not_in_windows: n.not_in_windows,
-            unknown_users: n.unknown_users,
-            unknown_engines: n.unknown_engines,
-            wrong_digests: n.wrong_digests,
-            decryption_errors: n.decryption_errors,
-        })
+        Ok(n.into())
     }
 }

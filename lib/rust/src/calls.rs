@@ -117,6 +117,14 @@ pub struct ConfigPlace {
 }
 
 #[repr(C)]
+#[derive(Default)]
+pub struct GateInfo {
+    pub request: u64,
+    pub device: u64,
+    pub waiting: u64,
+}
+
+#[repr(C)]
 pub struct Notice<'a> {
     pub message_id: u32,
     pub request_id: u32,
@@ -401,4 +409,75 @@ extern "C" {
         text_len: usize,
     ) -> i32;
     pub fn snmpsec_wipe(octets: *mut c_void, octets_len: usize);
+    pub fn snmpsec_gate_free(gate: *mut Opaque);
+    pub fn snmpsec_gate_fault(
+        config: *const u8,
+        config_len: usize,
+        out: *mut u8,
+        len: usize,
+        written: *mut usize,
+    ) -> i32;
+    pub fn snmpsec_gate_new(
+        config: *const u8,
+        config_len: usize,
+        boots: u32,
+        started: u64,
+        out: *mut *mut Opaque,
+    ) -> i32;
+    pub fn snmpsec_gate_setting(
+        gate: *mut Opaque,
+        text: u32,
+        position: usize,
+        out: *mut u8,
+        len: usize,
+        written: *mut usize,
+    ) -> i32;
+    pub fn snmpsec_gate_take_client(
+        gate: *mut Opaque,
+        now: u64,
+        client: *const u8,
+        client_len: usize,
+        datagram: *const u8,
+        len: usize,
+        event: *mut u32,
+    ) -> i32;
+    pub fn snmpsec_gate_take_device(
+        gate: *mut Opaque,
+        now: u64,
+        device: usize,
+        datagram: *const u8,
+        len: usize,
+        event: *mut u32,
+    ) -> i32;
+    pub fn snmpsec_gate_next(
+        gate: *mut Opaque,
+        now: u64,
+        salt: u64,
+        ask_id: u32,
+        event: *mut u32,
+        why: *mut i32,
+    ) -> i32;
+    pub fn snmpsec_gate_due(gate: *mut Opaque, at: *mut u64) -> i32;
+    pub fn snmpsec_gate_message(
+        gate: *mut Opaque,
+        out: *mut u8,
+        len: usize,
+        written: *mut usize,
+    ) -> i32;
+    pub fn snmpsec_gate_client(
+        gate: *mut Opaque,
+        out: *mut u8,
+        len: usize,
+        written: *mut usize,
+    ) -> i32;
+    pub fn snmpsec_gate_numbers(gate: *mut Opaque, out: *mut GateInfo) -> i32;
+    pub fn snmpsec_gate_counters(gate: *mut Opaque, out: *mut Counters) -> i32;
+    pub fn snmpsec_gate_counts(gate: *mut Opaque, out: *mut Counts) -> i32;
+    pub fn snmpsec_datagram_user(
+        datagram: *const u8,
+        datagram_len: usize,
+        out: *mut u8,
+        len: usize,
+        written: *mut usize,
+    ) -> i32;
 }

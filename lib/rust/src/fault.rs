@@ -121,6 +121,11 @@ impl std::error::Error for Refusal {}
 
 impl std::error::Error for Error {}
 
+/// The refusal of a number; None: it is of none.
+pub(crate) fn refusal_of(number: i32) -> Option<Refusal> {
+    Refusal::of(number)
+}
+
 /// What a call answers: 0 where it is done.
 pub(crate) fn done(answer: i32) -> Result<(), Error> {
     Err(match answer {

@@ -1,4 +1,4 @@
-//! SNMPv3 user security and view access: an agent and a manager, and keys, codes and sealed texts. The calls are safe; the library behind
+//! SNMPv3 user security and view access: an agent, a manager and a gateway, and keys, codes and sealed texts. The calls are safe; the library behind
 //! them is proved, and this crate isn't.
 //!
 //! A method does what the call of its name in `include/snmpsec.h` does. What a call writes is the message, which `message` copies. Here a
@@ -53,6 +53,33 @@
 //! # }
 //! ```
 //!
+//! A [`Gate`] stands between managers and devices that speak SNMPv2c. It takes what both send, and `next` says what goes out:
+//!
+//! ```
+//! use snmpsec::{Gate, Sent};
+//! # fn main() -> Result<(), snmpsec::Error> {
+//! let config = br#"
+//! [gate]
+//! engine = "80001f8804676174652d31"
+//! boots = "/var/lib/snmpsec-gate/boots"
+//! listen = ["192.0.2.1:161"]
+//! [[device]]
+//! context = "rack-1-pdu"
+//! address = "10.1.0.7:161"
+//! community = "read-only"
+//! "#;
+//! let mut gate = Gate::new(config, 1, 0)?;
+//! assert_eq!(gate.devices()?[0].address, "10.1.0.7:161");
+//! assert!(gate.take_client(1000, b"a client", b"no message").is_err()); // and the report, if there is one, is the message
+//! while let Some(sent) = gate.next(1000, 1, 1)? {
+//!     if let Sent::ToDevice { device, datagram, .. } = sent {
+//!         println!("{} octets to device {device}", datagram.len());
+//!     }
+//! }
+//! # Ok(())
+//! # }
+//! ```
+//!
 //! Handles go to other threads, and one thread uses each at a time:
 //!
 //! ```
@@ -74,6 +101,7 @@ mod calls;
 mod config;
 mod device;
 mod fault;
+mod gate;
 mod held;
 mod keys;
 mod manager;
@@ -84,6 +112,7 @@ pub use bindings::{binding, bindings, value_is, Binding};
 pub use config::{config_fault, ConfigFault, ConfigReason, ConfigTable};
 pub use device::{Device, Known, Step};
 pub use fault::{Error, Refusal};
+pub use gate::{datagram_user, gate_fault, ClientTaken, DeviceTaken, Gate, GateDevice, Sent};
 pub use keys::{localise, mac, open, password_key, seal, wipe, Protocol};
 pub use manager::{Answer, Clock, Manager, Reply, Report, Request};
 pub use words::{Access, Info, Level, Part, Pdu, Status, Unhandled, View};

@@ -1,4 +1,4 @@
-"""SNMPv3 user security and view access: an agent and a manager, and keys, codes and sealed texts, by libsnmpsec.so.0. Not proved.
+"""SNMPv3 user security and view access: an agent, a manager and a gateway, and keys, codes and sealed texts, by libsnmpsec.so.0. Not proved.
 
     with Agent.from_file("agent.toml", engine, boots, started) as agent:
         refusal = agent.take(now, datagram)     # None where it is accepted
@@ -11,7 +11,7 @@
         manager.take(now, datagram)
         manager.reply()                         # Reply(is_response, report_of)
 
-Five functions keep nothing: they are for programs that spell messages themselves. A message that came is checked by take.
+snmpsec.gate has the gateway. Five functions keep nothing: they are for programs that spell messages themselves. A message that came is checked by take.
 
     key = localise(AuthProtocol.SHA1, password_key(AuthProtocol.SHA1, b"maplesyrup"), engine)
     sealed = seal_text(key[:16], boots, time, salt, text)
@@ -41,10 +41,11 @@ from . import _library
 from ._library import CALLS, Octets as _Slice
 
 __version__ = "0.1.0"
-__all__ = ["Access", "Agent", "Answered", "AuthProtocol", "BadArgument", "BadBindings", "BadClocks", "BadConfiguration", "Binding", "Clock", "ConfigFault",
-           "ConfigKey", "ConfigReason", "ConfigTable", "Counters", "Counts", "Device", "Error", "Info", "Known", "LARGEST", "Level", "Manager", "NO_CLOCKS",
-           "NotAsked", "NothingTaken", "Part", "Pdu", "Refusal", "Refused", "Reply", "Report", "Status", "Step", "TooManyRequests", "Unhandled", "View", "binding",
-           "bindings", "config_fault", "localise", "mac", "open_text", "password_key", "seal_text", "status_of", "value_is", "version"]
+__all__ = ["Access", "Agent", "Answered", "AuthProtocol", "BadArgument", "BadBindings", "BadClocks", "BadConfiguration", "Binding", "Clock",
+           "ConfigFault", "ConfigKey", "ConfigReason", "ConfigTable", "Counters", "Counts", "Device", "Error", "Gate", "GateDevice", "GateEvent",
+           "GateSent", "Info", "Known", "LARGEST", "Level", "Manager", "NO_CLOCKS", "NotAsked", "NothingTaken", "Part", "Pdu", "Refusal", "Refused",
+           "Reply", "Report", "Status", "Step", "TooManyRequests", "Unhandled", "View", "binding", "bindings", "config_fault", "datagram_user",
+           "gate_fault", "localise", "mac", "open_text", "password_key", "seal_text", "status_of", "value_is", "version"]
 
 Buffer = Union[bytes, bytearray, memoryview]
 Path = Union[str, "os.PathLike[str]"]
@@ -508,11 +509,11 @@ def open_text(key: Buffer, boots: int, time: int, salt: Buffer, text: Buffer) ->
     return _changed(CALLS["open"], key, boots, time, salt, text)
 
 
-_Handle = TypeVar("_Handle", bound="_Held")
+_Handle = TypeVar("_Handle", bound="_Handled")
 
 
-class _Held:
-    """What an agent and a manager have in common."""
+class _Handled:
+    """What an agent, a manager and a gateway have in common."""
 
     _kind = ""
     _handle: Optional[ctypes.c_void_p] = None
@@ -523,9 +524,13 @@ class _Held:
         try:
             _done(CALLS[f"{self._kind}_new"](*_octets(config), *arguments, ctypes.byref(handle)))
         except BadConfiguration as refused:
-            fault = config_fault(config)
-            raise BadConfiguration(fault.text if fault else str(refused), fault) from None
+            raise self._refused(config, str(refused)) from None
         self._handle = handle
+
+    @staticmethod
+    def _refused(config: Buffer, words: str) -> BadConfiguration:
+        fault = config_fault(config)
+        return BadConfiguration(fault.text if fault else words, fault)
 
     def _call(self, name: str, *arguments: Any) -> Any:
         with self._lock:
@@ -551,6 +556,31 @@ class _Held:
     def __del__(self) -> None:
         self.close()
 
+    def message(self) -> Optional[bytes]:
+        """The message to be sent, or None."""
+        try:
+            return _copied(self._call, "message")
+        except NothingTaken:
+            return None
+
+
+class _Counting(_Handled):
+    """What an agent and a gateway count."""
+
+    def counters(self) -> Counters:
+        out = _library.Counters()
+        _done(self._call("counters", ctypes.byref(out)))
+        return Counters(*(getattr(out, name) for name, _ in out._fields_))
+
+    def counts(self) -> Counts:
+        out = _library.Counts()
+        _done(self._call("counts", ctypes.byref(out)))
+        return Counts(*(getattr(out, name) for name, _ in out._fields_))
+
+
+class _Held(_Handled):
+    """What an agent and a manager have in common."""
+
     def take(self, now: int, datagram: Buffer) -> Optional[Refusal]:
         """None where the datagram is accepted, and kept; else why it is refused."""
         return _refusal(self._call("take", _ranged(now, 64), *_octets(datagram)))
@@ -571,14 +601,6 @@ class _Held:
         except NothingTaken:
             return None
 
-    def message(self) -> Optional[bytes]:
-        """The message to be sent, or None."""
-        try:
-            return _copied(self._call, "message")
-        except NothingTaken:
-            return None
-
-
     def max_size(self) -> Optional[int]:
         """How many octets the sender of what is kept takes (msgMaxSize), or None."""
         out = _library.Written()
@@ -589,7 +611,7 @@ class _Held:
         return out.value
 
 
-class Agent(_Held):
+class Agent(_Held, _Counting):
     """An agent of a configuration in TOML, with its engine ID and boots, that started at a moment in seconds."""
 
     _kind = "agent"
@@ -656,22 +678,12 @@ class Agent(_Held):
         """Counts what is kept in snmpSilentDrops: even its answer without bindings is too long (RFC 3416, section 4.2.1)."""
         _done(self._call("silent_drop"))
 
-    def counts(self) -> Counts:
-        out = _library.Counts()
-        _done(self._call("counts", ctypes.byref(out)))
-        return Counts(*(getattr(out, name) for name, _ in out._fields_))
-
     def notify(self, now: int, *, user: Buffer, level: Level, octets: Buffer, salt: int, message_id: int, request_id: int,
                context_engine: Buffer, context_name: Buffer = b"") -> None:
         """Writes an SNMPv2-Trap, as the message."""
         notice = _library.Notice(_ranged(message_id), _ranged(request_id), level, _slice(user), _slice(context_engine), _slice(context_name),
                                  _slice(octets), _ranged(salt, 64))
         _done(self._call("notify", _ranged(now, 64), ctypes.byref(notice)))
-
-    def counters(self) -> Counters:
-        out = _library.Counters()
-        _done(self._call("counters", ctypes.byref(out)))
-        return Counters(*(getattr(out, name) for name, _ in out._fields_))
 
 
 class Device:
@@ -804,3 +816,6 @@ class Manager(_Held):
         except NothingTaken:
             return None
         return Clock(out.boots, out.time)
+
+
+from .gate import Gate, GateDevice, GateEvent, GateSent, datagram_user, gate_fault  # noqa: E402  (it needs what stands above)

@@ -69,6 +69,10 @@ class ConfigPlace(ctypes.Structure):
     _fields_ = [(name, c_size_t) for name in ("table", "position", "reason", "key")]
 
 
+class GateInfo(ctypes.Structure):
+    _fields_ = [(name, c_uint64) for name in ("request", "device", "waiting")]
+
+
 class Notice(ctypes.Structure):
     _fields_ = [("message_id", c_uint32), ("request_id", c_uint32), ("level", c_uint), ("user", Octets), ("context_engine", Octets),
                 ("context_name", Octets), ("list", Octets), ("salt", c_uint64)]
@@ -136,6 +140,20 @@ SIGNATURES = {
     "mac": (c_int, [c_uint] + _slice * 2 + [c_size_t] + _slice + _out),
     "seal": (c_int, _sealing),
     "open": (c_int, _sealing),
+    "gate_free": (None, [c_void_p]),
+    "gate_fault": (c_int, _slice + _out),
+    "gate_new": (c_int, _slice + [c_uint32, c_uint64, POINTER(c_void_p)]),
+    "gate_setting": (c_int, [c_void_p, c_uint, c_size_t] + _out),
+    "gate_take_client": (c_int, [c_void_p, c_uint64] + _slice * 2 + [POINTER(Enumeration)]),
+    "gate_take_device": (c_int, [c_void_p, c_uint64, c_size_t] + _slice + [POINTER(Enumeration)]),
+    "gate_next": (c_int, [c_void_p, c_uint64, c_uint64, c_uint32, POINTER(Enumeration), POINTER(c_int)]),
+    "gate_due": (c_int, [c_void_p, POINTER(c_uint64)]),
+    "gate_message": (c_int, [c_void_p] + _out),
+    "gate_client": (c_int, [c_void_p] + _out),
+    "gate_numbers": (c_int, [c_void_p, POINTER(GateInfo)]),
+    "gate_counters": (c_int, [c_void_p, POINTER(Counters)]),
+    "gate_counts": (c_int, [c_void_p, POINTER(Counts)]),
+    "datagram_user": (c_int, _slice + _out),
 } | {f"{kind}_{name}": signature for kind in ("agent", "manager") for name, signature in _kept.items()}
 
 # CDLL gives the interpreter's lock back while a call runs, so threads with handles of their own run side by side.

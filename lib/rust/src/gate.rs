@@ -1,0 +1,332 @@
+//! A gateway from managers that speak SNMPv3 to devices that speak SNMPv2c, without its sockets.
+
+use crate::agent::{Counters, Counts};
+use crate::calls::{
+    self, snmpsec_datagram_user, snmpsec_gate_client, snmpsec_gate_counters, snmpsec_gate_counts,
+    snmpsec_gate_due, snmpsec_gate_fault, snmpsec_gate_free, snmpsec_gate_message,
+    snmpsec_gate_new, snmpsec_gate_next, snmpsec_gate_numbers, snmpsec_gate_setting,
+    snmpsec_gate_take_client, snmpsec_gate_take_device, Opaque,
+};
+use crate::fault::{done, refusal_of, Error, Refusal};
+use crate::held::copied;
+use std::ptr::{null_mut, NonNull};
+
+/// The numbers of events.
+enum Event {
+    GateBegins = 20,
+    GateJoins = 21,
+    GateNoRoom = 22,
+    GateSetOfBefore = 23,
+    GateAnswers = 24,
+    GateNotWaitedFor = 25,
+    GateUnreadable = 26,
+    GateToClient = 27,
+    GateToDevice = 28,
+    GateGivenUp = 29,
+    GateUnanswered = 30,
+}
+
+/// What a configuration says.
+enum Text {
+    GateBoots = 0,
+    GateListen = 1,
+    GateContext = 2,
+    GateAddress = 3,
+    GateNote = 4,
+}
+
+/// What becomes of a client's datagram that isn't refused.
+#[derive(Clone, Copy, Debug, PartialEq, Eq)]
+pub enum ClientTaken {
+    /// It begins this request.
+    Begins(u64),
+    /// It asks again what waits: its request is this one.
+    Joins(u64),
+    /// As many requests wait as may.
+    NoRoom,
+    /// It is a Set of before whose outcome isn't known.
+    SetOfBefore,
+}
+
+/// What becomes of a device's datagram.
+#[derive(Clone, Copy, Debug, PartialEq, Eq)]
+pub enum DeviceTaken {
+    /// It is the answer to what the device was asked for this request.
+    Answers(u64),
+    /// Nothing waits for it.
+    NotWaitedFor,
+    /// It is no Response of SNMPv2c.
+    Unreadable,
+}
+
+/// What goes out for a request.
+#[derive(Clone, Debug, PartialEq, Eq)]
+pub enum Sent {
+    /// A datagram to a client, whose address is as it was given.
+    ToClient {
+        request: u64,
+        client: Vec<u8>,
+        datagram: Vec<u8>,
+    },
+    /// A datagram to the device at this position.
+    ToDevice {
+        request: u64,
+        device: usize,
+        datagram: Vec<u8>,
+    },
+    /// The device at this position doesn't answer.
+    GivenUp { request: u64, device: usize },
+    /// A message isn't answered; the reason is a refusal, if there is one.
+    Unanswered { request: u64, why: Option<Refusal> },
+}
+
+/// A device as the configuration says.
+#[derive(Clone, Debug, PartialEq, Eq)]
+pub struct GateDevice {
+    /// Its contextName.
+    pub context: Vec<u8>,
+    pub address: String,
+    /// What about it is probably a mistake.
+    pub note: Option<String>,
+}
+
+/// A gateway, which one thread uses at a time. Moments are milliseconds from one beginning. What has come is taken before `next` is called,
+/// devices' datagrams first.
+pub struct Gate {
+    at: NonNull<Opaque>,
+}
+
+// SAFETY: as of the handles of agents and managers: the library keeps nothing of the thread that made it.
+unsafe impl Send for Gate {}
+
+impl Drop for Gate {
+    fn drop(&mut self) {
+        unsafe { snmpsec_gate_free(self.at()) }
+    }
+}
+
+/// Why a text is refused as a gateway's configuration, in two lines: the refusal, and what is wrong; None where it isn't. The error is
+/// OutOfMemory.
+pub fn gate_fault(config: &[u8]) -> Result<Option<String>, Error> {
+    let mut text = vec![0; 4096];
+    let mut written = 0;
+    let mut tell = |text: &mut Vec<u8>| {
+        let (at, len) = (text.as_mut_ptr(), text.len());
+        let told = unsafe { snmpsec_gate_fault(config.as_ptr(), config.len(), at, len, &mut written) };
+        (done(told), written)
+    };
+    let (mut told, mut len) = tell(&mut text);
+    if told == Err(Error::ShortBuffer) {
+        text.resize(len, 0);
+        (told, len) = tell(&mut text);
+    }
+    match told {
+        Ok(()) => Ok(None),
+        Err(Error::BadConfiguration) => {
+            text.truncate(len);
+            Ok(Some(String::from_utf8_lossy(&text).trim_end().to_owned()))
+        }
+        Err(error) => Err(error),
+    }
+}
+
+/// The msgUserName of a datagram, for a log; None: it has none. Nobody has shown that it is the sender's.
+pub fn datagram_user(datagram: &[u8]) -> Option<Vec<u8>> {
+    copied(|out, len, written| unsafe {
+        snmpsec_datagram_user(datagram.as_ptr(), datagram.len(), out, len, written)
+    })
+    .ok()
+}
+
+impl Gate {
+    /// A gateway of a configuration, with its boots, whose agent started at this moment in seconds.
+    ///
+    /// The errors are BadArgument, where boots are above 2147483647; BadConfiguration, of which [`gate_fault`] says more; and OutOfMemory.
+    pub fn new(config: &[u8], boots: u32, started: u64) -> Result<Gate, Error> {
+        let mut at = null_mut();
+        done(unsafe {
+            snmpsec_gate_new(config.as_ptr(), config.len(), boots, started, &mut at)
+        })?;
+        let at = NonNull::new(at).ok_or(Error::Other(0))?;
+        Ok(Gate { at })
+    }
+
+    fn at(&self) -> *mut Opaque {
+        self.at.as_ptr()
+    }
+
+    fn numbers(&self) -> Result<calls::GateInfo, Error> {
+        let mut info = calls::GateInfo::default();
+        done(unsafe { snmpsec_gate_numbers(self.at(), &mut info) })?;
+        Ok(info)
+    }
+
+    /// Takes a client's datagram; its address is any octets that tell it from others. What is refused is an error, and its report is the
+    /// message, if there is one.
+    pub fn take_client(
+        &mut self,
+        now: u64,
+        client: &[u8],
+        datagram: &[u8],
+    ) -> Result<ClientTaken, Error> {
+        let mut event = 0;
+        done(unsafe {
+            snmpsec_gate_take_client(
+                self.at(),
+                now,
+                client.as_ptr(),
+                client.len(),
+                datagram.as_ptr(),
+                datagram.len(),
+                &mut event,
+            )
+        })?;
+        Ok(match event {
+            it if it == Event::GateBegins as u32 => ClientTaken::Begins(self.numbers()?.request),
+            it if it == Event::GateJoins as u32 => ClientTaken::Joins(self.numbers()?.request),
+            it if it == Event::GateNoRoom as u32 => ClientTaken::NoRoom,
+            it if it == Event::GateSetOfBefore as u32 => ClientTaken::SetOfBefore,
+            other => return Err(Error::Other(other as i32)),
+        })
+    }
+
+    /// Takes a datagram of the device at this position, from 0. The error is OutOfMemory.
+    pub fn take_device(
+        &mut self,
+        now: u64,
+        device: usize,
+        datagram: &[u8],
+    ) -> Result<DeviceTaken, Error> {
+        let mut event = 0;
+        done(unsafe {
+            snmpsec_gate_take_device(
+                self.at(),
+                now,
+                device,
+                datagram.as_ptr(),
+                datagram.len(),
+                &mut event,
+            )
+        })?;
+        Ok(match event {
+            it if it == Event::GateAnswers as u32 => DeviceTaken::Answers(self.numbers()?.request),
+            it if it == Event::GateNotWaitedFor as u32 => DeviceTaken::NotWaitedFor,
+            it if it == Event::GateUnreadable as u32 => DeviceTaken::Unreadable,
+            other => return Err(Error::Other(other as i32)),
+        })
+    }
+
+    /// Does the first thing that is due, or None. It is called until then, each time with another salt and ask_id, also after a restart.
+    pub fn next(&mut self, now: u64, salt: u64, ask_id: u32) -> Result<Option<Sent>, Error> {
+        let (mut event, mut why) = (0, 0);
+        done(unsafe { snmpsec_gate_next(self.at(), now, salt, ask_id, &mut event, &mut why) })?;
+        if event == 0 {
+            return Ok(None);
+        }
+        self.sent(event, why).map(Some)
+    }
+
+    fn sent(&self, event: u32, why: i32) -> Result<Sent, Error> {
+        let info = self.numbers()?;
+        let (request, device) = (info.request, info.device as usize);
+        Ok(match event {
+            it if it == Event::GateToClient as u32 => Sent::ToClient {
+                request,
+                client: self.client()?,
+                datagram: self.message()?,
+            },
+            it if it == Event::GateToDevice as u32 => Sent::ToDevice {
+                request,
+                device,
+                datagram: self.message()?,
+            },
+            it if it == Event::GateGivenUp as u32 => Sent::GivenUp { request, device },
+            it if it == Event::GateUnanswered as u32 => Sent::Unanswered {
+                request,
+                why: refusal_of(why),
+            },
+            other => return Err(Error::Other(other as i32)),
+        })
+    }
+
+    /// The moment from which on `next` has something to do by time alone.
+    pub fn due(&self) -> Option<u64> {
+        let mut at = 0;
+        done(unsafe { snmpsec_gate_due(self.at(), &mut at) }).ok()?;
+        Some(at)
+    }
+
+    /// The report on what was refused last, or the datagram of `next`.
+    pub fn message(&self) -> Result<Vec<u8>, Error> {
+        copied(|out, len, written| unsafe { snmpsec_gate_message(self.at(), out, len, written) })
+    }
+
+    fn client(&self) -> Result<Vec<u8>, Error> {
+        copied(|out, len, written| unsafe { snmpsec_gate_client(self.at(), out, len, written) })
+    }
+
+    /// How many requests wait.
+    pub fn waiting(&self) -> Result<u64, Error> {
+        Ok(self.numbers()?.waiting)
+    }
+
+    /// The agent's counters of refused messages.
+    pub fn counters(&self) -> Result<Counters, Error> {
+        let mut n = calls::Counters::default();
+        done(unsafe { snmpsec_gate_counters(self.at(), &mut n) })?;
+        Ok(n.into())
+    }
+
+    /// The agent's counters of messages that weren't answered, or were refused without a report.
+    pub fn counts(&self) -> Result<Counts, Error> {
+        let mut n = calls::Counts::default();
+        done(unsafe { snmpsec_gate_counts(self.at(), &mut n) })?;
+        Ok(n.into())
+    }
+
+    fn setting(&self, text: Text, position: usize) -> Result<Option<Vec<u8>>, Error> {
+        let number = text as u32;
+        let said = copied(|out, len, written| unsafe {
+            snmpsec_gate_setting(self.at(), number, position, out, len, written)
+        });
+        match said {
+            Err(Error::NothingTaken) => Ok(None),
+            other => other.map(Some),
+        }
+    }
+
+    fn words(&self, text: Text, position: usize) -> Result<Option<String>, Error> {
+        let octets = self.setting(text, position)?;
+        Ok(octets.map(|octets| String::from_utf8_lossy(&octets).into_owned()))
+    }
+
+    /// The path of the boots file.
+    pub fn boots_path(&self) -> Result<String, Error> {
+        let path = self.words(Text::GateBoots, 0)?;
+        path.ok_or(Error::NothingTaken)
+    }
+
+    /// The addresses at which it takes requests, each with its port.
+    pub fn listen(&self) -> Result<Vec<String>, Error> {
+        let mut found = Vec::new();
+        while let Some(address) = self.words(Text::GateListen, found.len())? {
+            found.push(address);
+        }
+        Ok(found)
+    }
+
+    /// The devices, at the positions by which the calls name them.
+    pub fn devices(&self) -> Result<Vec<GateDevice>, Error> {
+        let mut found = Vec::new();
+        while let Some(address) = self.words(Text::GateAddress, found.len())? {
+            found.push(GateDevice {
+                context: self
+                    .setting(Text::GateContext, found.len())?
+                    .unwrap_or_default(),
+                address,
+                note: self.words(Text::GateNote, found.len())?,
+            });
+        }
+        Ok(found)
+    }
+}
