@@ -70,11 +70,11 @@ ask() {
 
 export SNMPSEC_LIBRARY=$OUT/libsnmpsec.so.0
 
-# ours COMMAND ARGUMENTS..: a command of the package; the password of privacy is in $privacy
+# ours COMMAND ARGUMENTS..: a command of the Python package; the password of privacy is in $privacy, and another interpreter in $python
 ours() {
     local program="import sys; from snmpsec import commands; sys.argv[0] = 'snmpsec'; sys.exit(commands.$1())"
     shift
-    SNMPSEC_AUTH_PASSWORD=${password:-maplesyrup} SNMPSEC_PRIV_PASSWORD=${privacy:-syrupmaple} PYTHONPATH=$here/python/src python3 -c "$program" "$@" 2>&1
+    SNMPSEC_AUTH_PASSWORD=${password:-maplesyrup} SNMPSEC_PRIV_PASSWORD=${privacy:-syrupmaple} PYTHONPATH=$here/python/src "${python:-python3}" -c "$program" "$@" 2>&1
 }
 
 sh "$here/build.sh" || exit 1

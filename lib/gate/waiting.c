@@ -102,7 +102,7 @@ void asker_words(const struct waiting *request, char *words) {
 }
 
 void asked_words(const struct waiting *request, char *words) {
-    char name[ASKED_WORDS - 50], more[30] = "";
+    char name[ASKED_WORDS - 60], more[40] = "";
     if (!request || !request->times) { snprintf(words, ASKED_WORDS, "request"); return; }
     name_words(request->name, request->name_len, name, sizeof name);
     if (request->names > 1) snprintf(more, sizeof more, " and %zu more", request->names - 1);

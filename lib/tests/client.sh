@@ -57,6 +57,24 @@ test_client_notifications() {
     check "both are logged" "1.3.6.1.6.3.1.1.5.1 1.3.6.1.6.3.1.1.5.2" "$(grep -o '1\.3\.6\.1\.6\.3\.1\.1\.5\.[12]' "$work/trapd.log" | tr '\n' ' ' | sed 's/ $//')"
 }
 
+# Names of a MIB, by snmptranslate over a MIB of ours, and by pysnmp over its own.
+test_client_names() {
+    local options="-u sha256 127.0.0.1:$snmpd_port" privacy=a-third-one
+    mkdir -p "$work/mibs"
+    cat > "$work/mibs/LOOPBACK-MIB.txt" << 'MIB'
+LOOPBACK-MIB DEFINITIONS ::= BEGIN
+loopbackDescribed OBJECT IDENTIFIER ::= { iso 3 6 1 2 1 1 1 }
+END
+MIB
+    has "a name of a MIB" 'STRING: "loopback"' "$(MIBDIRS=$work/mibs MIBS=LOOPBACK-MIB ours get $options loopbackDescribed.0)"
+    has "with its module" 'STRING: "loopback"' "$(MIBDIRS=$work/mibs MIBS=LOOPBACK-MIB ours get $options LOOPBACK-MIB::loopbackDescribed.0)"
+    has "a name of no MIB" "knows no object of this name" "$(MIBDIRS=$work/mibs MIBS=LOOPBACK-MIB ours get $options loopbackNamed.0)"
+    local python=/usr/bin/python3
+    if ! "$python" -c 'import pysnmp.smi' 2> /dev/null; then echo "skipped: names by pysnmp's MIBs (apt-get install python3-pysnmp4)"; return; fi
+    has "a name of pysnmp's MIBs" 'STRING: "loopback"' "$(MIBS= ours get $options sysDescr.0)"
+    has "with its module, too" 'STRING: "loopback"' "$(MIBS= ours get $options SNMPv2-MIB::sysDescr.0)"
+}
+
 # the examples of the client's page, in a folder of their own
 test_client_page() {
     local page=$here/../docs/python-client.md number
@@ -92,6 +110,7 @@ else
     begin_snmpd
     test_client_levels
     test_client_refusals
+    if command -v snmptranslate > /dev/null; then test_client_names; else echo "skipped: names of MIBs: snmptranslate isn't installed (apt-get install snmp)"; fi
     test_client_rust
     end_snmpd
     test_client_notifications

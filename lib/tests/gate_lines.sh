@@ -15,7 +15,7 @@ test_lines_of_answers() {
     tells "with a line" "^device pdu answers error-status 5 (genErr), index 1, to get $system.1.0 and 1 more of $asker\$"
     echo status=77 > "$own/wrong"
     asks get_next $system.1 > /dev/null
-    tells "an error-status that there isn't" "^device pdu answers error-status 77 (no such one), index 1, to getnext $system.0 of $asker\$"
+    tells "an error-status that there isn't" "^device pdu answers error-status 77 (no such one), index 1, to getnext $system.1 of $asker\$"
     echo junk > "$own/wrong"
     has "junk before an answer" "value 3" "$(asks get $system.3.0)"
     tells "has a line" '^device pdu sends what is no Response of SNMPv2c$'

@@ -3,6 +3,7 @@
 
 test_gate_secrets() {
     local core=()
+    if [ "$(id -u)" != 0 ]; then echo "skipped: looks for the gateway's secrets, since only root may look into it"; return; fi
     cc -shared -fPIC -O1 "$here/tests/ended.c" -o "$own/ended.so"
     check "what stops the gateway at its end is built" 0 $?
     if ! command -v gcore > /dev/null; then

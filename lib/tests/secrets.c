@@ -1,6 +1,6 @@
 /* Under valgrind's memcheck, with passwords and keys marked as octets that were never written, so that it tells each branch and each address
  * that depends on them: secrets. The keys of handles are looked for on the heap and marked there, and all that is made of them follows. What was
- * sent is public, and so marked. secrets.py runs it, and knows which branches there may be in each of the functions below. Not proved. */
+ * sent is public, and so marked. judge_secrets.py runs it, and knows which branches there may be in each of the functions below. Not proved. */
 #define _GNU_SOURCE
 #include "snmpsec.h"
 #include <inttypes.h>

@@ -1,7 +1,7 @@
 # What depends on secrets, and what calls cost, as valgrind sees them. test.sh runs this, and packages.sh judge_secrets.
 # judge_secrets NAME FOLDER-OF-LIBRARY
 judge_secrets() {
-    LD_LIBRARY_PATH=$2 python3 "$here/tests/secrets.py" "$work/secrets_shared" > "$work/secrets.out" 2>&1
+    LD_LIBRARY_PATH=$2 python3 "$here/tests/judge_secrets.py" "$work/secrets_shared" > "$work/secrets.out" 2>&1
     check "$1: nothing depends on a secret that may not" 0 $?
     grep FAILED "$work/secrets.out"
     echo "$1: $(tail -1 "$work/secrets.out")"
@@ -14,7 +14,7 @@ test_secrets() {
         cc -std=c11 -O0 -g -I"$here/include" "$here/tests/secrets.c" -Wl,--whole-archive "$archive" -Wl,--no-whole-archive $objects -o "$work/secrets" &&
         cc -std=c11 -O1 -I"$here/include" "$here/tests/work.c" -Wl,--whole-archive "$archive" -Wl,--no-whole-archive $objects -o "$work/work"
     check "the programs for valgrind are built" 0 $?
-    python3 "$here/tests/secrets.py" "$work/secrets" > "$work/secrets.out" 2>&1
+    python3 "$here/tests/judge_secrets.py" "$work/secrets" > "$work/secrets.out" 2>&1
     check "the archive: nothing depends on a secret that may not" 0 $?
     grep FAILED "$work/secrets.out"
     echo "the archive: $(tail -1 "$work/secrets.out")"

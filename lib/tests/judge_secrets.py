@@ -1,5 +1,5 @@
 #!/usr/bin/env python3
-"""Runs tests/secrets.c under valgrind's memcheck, and judges each branch and each address that depends on a secret: secrets.py PROGRAM
+"""Runs tests/secrets.c under valgrind's memcheck, and judges each branch and each address that depends on a secret: judge_secrets.py PROGRAM
 
 It prints what isn't allowed, and how many functions there were; the status is 1 if anything isn't allowed, or if memcheck sees nothing at all."""
 import collections
