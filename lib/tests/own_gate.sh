@@ -57,7 +57,7 @@ CONF
 begin_own() {
     local program=$1
     shift
-    "$program" "$@" "$own/gate.toml" > "$own/out" 2>> "$own/err" &
+    "$program" "$@" "$own/gate.toml" > "$own/out" 2> "$own/err" &
     gate=$!
     pids+=("$gate")
     bound "$gate_port"
