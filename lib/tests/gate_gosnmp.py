@@ -16,7 +16,7 @@ import urllib.request
 GATE, DEVICE, COMMUNITY, CONTEXT, WEB = sys.argv[1:]
 USERS = {"md": ("MD5", "syrupmaple"), "sha": ("SHA", "another-one"), "sha256": ("SHA256", "a-third-one")}
 WALK = {
-    "walk": ["1.3.6.1.2.1.1.9", "1.3.6.1.2.1.2.2.1.4"], "get": ["1.3.6.1.2.1.1.7.0"], "max_repetitions": 5, "timeout": "3s", "retries": 1,
+    "walk": ["1.3.6.1.2.1.1.9", "1.3.6.1.2.1.2.2.1.4"], "get": ["1.3.6.1.2.1.1.7.0"], "max_repetitions": 5, "timeout": "4s", "retries": 3,
     "metrics": [
         {"name": "services", "oid": "1.3.6.1.2.1.1.7", "type": "gauge", "help": "x"},
         {"name": "described", "oid": "1.3.6.1.2.1.1.9.1.3", "type": "DisplayString", "help": "x", "indexes": [{"labelname": "row", "type": "gauge"}]},
@@ -56,7 +56,7 @@ def scraped(name, port, split):
         with urllib.request.urlopen(url, timeout=20) as it:
             text = it.read().decode()
     except OSError as fault:
-        return [f"{fault}: {getattr(fault, 'read', bytes)().decode()[:200]}"]
+        return [f"{fault}: {getattr(fault, 'read', bytes)().decode()[:600]}"]
     return sorted(line for line in text.splitlines() if line.startswith(("services", "described", "mtu")))
 
 
