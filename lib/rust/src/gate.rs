@@ -112,7 +112,8 @@ pub fn gate_fault(config: &[u8]) -> Result<Option<String>, Error> {
     let mut written = 0;
     let mut tell = |text: &mut Vec<u8>| {
         let (at, len) = (text.as_mut_ptr(), text.len());
-        let told = unsafe { snmpsec_gate_fault(config.as_ptr(), config.len(), at, len, &mut written) };
+        let told =
+            unsafe { snmpsec_gate_fault(config.as_ptr(), config.len(), at, len, &mut written) };
         (done(told), written)
     };
     let (mut told, mut len) = tell(&mut text);
@@ -144,9 +145,7 @@ impl Gate {
     /// The errors are BadArgument, where boots are above 2147483647; BadConfiguration, of which [`gate_fault`] says more; and OutOfMemory.
     pub fn new(config: &[u8], boots: u32, started: u64) -> Result<Gate, Error> {
         let mut at = null_mut();
-        done(unsafe {
-            snmpsec_gate_new(config.as_ptr(), config.len(), boots, started, &mut at)
-        })?;
+        done(unsafe { snmpsec_gate_new(config.as_ptr(), config.len(), boots, started, &mut at) })?;
         let at = NonNull::new(at).ok_or(Error::Other(0))?;
         Ok(Gate { at })
     }

@@ -188,7 +188,7 @@ fn another_context_is_reported() {
         panic!("it is reported");
     };
     both.manager.take(NOW / 1000, &datagram).unwrap();
-    assert_eq!(both.manager.report().unwrap().counter, 9);
+    assert_eq!(both.manager.report().unwrap().counter, Some(9));
     assert_eq!(both.gate.counts().unwrap().unknown_contexts, 1);
 }
 
