@@ -21,22 +21,21 @@ enum { MOST_READY = 64, MOST_AT_ONCE = 64, MOST_PATIENCE = 60000 };
 /* What came, and what goes out: both have communities. */
 static uint8_t datagram[65536], message[SNMPSEC_LARGEST];
 
-static void random_octets(void *octets, size_t len) {
-    if (getrandom(octets, len, 0) != (ssize_t)len) abort();
-}
-
-static uint64_t new_salt(void) {
-    uint64_t salt;
-    random_octets(&salt, sizeof salt);
-    return salt;
+/* Eight random octets, of as many as the system gives whole at a time. */
+static uint64_t new_random(void) {
+    static uint64_t pool[32];
+    static size_t left;
+    if (!left) {
+        if (getrandom(pool, sizeof pool, 0) != sizeof pool) abort();
+        left = sizeof pool / sizeof *pool;
+    }
+    return pool[--left];
 }
 
 /* A number that didn't come lately: random above, and a count in the low 12 bits. */
 static uint32_t new_ask_id(void) {
     static uint32_t count;
-    uint32_t id;
-    random_octets(&id, sizeof id);
-    return (id & ~0xfffu) | (count++ & 0xfffu);
+    return ((uint32_t)new_random() & ~0xfffu) | (count++ & 0xfffu);
 }
 
 /* Appends a line: false where it isn't written whole, and then no part of it is left. */
@@ -282,7 +281,7 @@ static void send_due(struct gateway *gateway) {
     snmpsec_gate_event event = SNMPSEC_GATE_NOTHING;
     int why = 0;
     for (uint64_t now = now_in_milliseconds();;) {
-        if (snmpsec_gate_next(gateway->gate, now, new_salt(), new_ask_id(), &event, &why)) { gateway->out_of_memory = true; return; }
+        if (snmpsec_gate_next(gateway->gate, now, new_random(), new_ask_id(), &event, &why)) { gateway->out_of_memory = true; return; }
         if (event == SNMPSEC_GATE_NOTHING) return;
         take_event(gateway, now, event, why);
     }
