@@ -53,6 +53,9 @@ for test in calls manager_calls gate_calls bindings keys exchange many hostile; 
     checks="$here/tests/checks.c $out/words_of.o"
     $cc "$@" -Wl,--wrap=malloc,--wrap=realloc "$here/tests/$test.c" $checks $library -o "$out/$test"
 done
+parts=
+for part in community lines sockets waiting; do parts="$parts $out/gate_$part.o"; done
+$cc -I"$here/gate" "$@" -Wl,--wrap=malloc,--wrap=realloc "$here/tests/gate_parts.c" $parts $checks $library -o "$out/gate_parts"
 $cc "$@" "$here/tests/fuzz.c" $library -o "$out/fuzz_inputs"
 $cc "$@" "$here/tests/hold.c" "$out/words_of.o" $library -o "$out/hold"
 $cc "$@" -pthread "$here/tests/threads.c" $library -o "$out/threads"

@@ -197,6 +197,24 @@ static bool has_boots_path(const struct gateway *gateway, snmpsec_gate *gate) {
     return same;
 }
 
+/* Whether two configurations say the same here. */
+static bool is_same_setting(snmpsec_gate *one, snmpsec_gate *other, snmpsec_gate_text text, size_t position) {
+    size_t len;
+    char *a = setting_of(one, text, position, &len), *b = setting_of(other, text, position, &len);
+    bool same = a && b && !strcmp(a, b);
+    free(a);
+    free(b);
+    return same;
+}
+
+/* Says that other addresses to listen at aren't taken now. */
+static void say_listeners(snmpsec_gate *old, snmpsec_gate *new) {
+    size_t n = count_of(new, SNMPSEC_GATE_LISTEN);
+    bool same = n == count_of(old, SNMPSEC_GATE_LISTEN);
+    for (size_t i = 0; same && i < n; i++) same = is_same_setting(old, new, SNMPSEC_GATE_LISTEN, i);
+    if (!same) fprintf(stderr, "snmpsec-gate: listen: other addresses are only taken at a start\n");
+}
+
 /* Puts the new machine and its sockets in the place of the old ones. */
 static void replace_gate(struct gateway *gateway, snmpsec_gate *gate, uint32_t boots, struct device *devices, size_t len) {
     for (size_t i = 0; i < len; i++) take_counts(gateway, &devices[i], i);
@@ -218,6 +236,7 @@ void gateway_reload(struct gateway *gateway, const struct words *words) {
     uint32_t boots = gateway->boots < BOOTS_LATCHED ? gateway->boots + 1 : BOOTS_LATCHED;
     if (!make_gate(words->config, boots, &gate) && has_boots_path(gateway, gate) && !open_devices(gate, devices, &len)
         && !boots_keep(gateway->boots_path, boots)) {
+        if (!words->listens) say_listeners(gateway->gate, gate);
         replace_gate(gateway, gate, boots, devices, len);
         say_notes(gate);
         fprintf(stderr, "snmpsec-gate: %s is read anew\n", words->config);

@@ -62,15 +62,26 @@ test_full_start() {
     check "the boots of before stay" 2 "$(cat "$full/boots")"
 }
 
+# Milliseconds from a start until its boots are kept.
+time_of_start() {
+    local begun tries
+    begun=$(date +%s%N)
+    "$programs/snmpsec-gate" "$own/gate.toml" > /dev/null 2>> "$own/killed.err" & gate=$!
+    for tries in {1..500}; do [ -s "$own/boots" ] && break; sleep 0.01; done
+    echo $((($(date +%s%N) - begun) / 1000000))
+    { kill -9 "$gate" && wait "$gate"; } 2> /dev/null
+}
+
 # Killed at random while clients ask: each start has boots of its own, and the last one answers.
 test_gate_killed() {
-    local i told=() clients=() last
+    local i told=() clients=() last most
     write_own_config
     rm -f "$own"/boots*
+    most=$((3 * $(time_of_start)))
     for i in 1 2 3; do (while :; do patience=0.2 asks set_variables $system.4.0 s "client $i"; done) > "$own/client$i" 2>&1 & clients+=($!); done
-    for i in {1..30}; do
+    for _ in {1..30}; do
         "$programs/snmpsec-gate" "$own/gate.toml" > /dev/null 2>> "$own/killed.err" & gate=$!
-        sleep "0.$((RANDOM % 4))$((RANDOM % 10))"
+        sleep "$(printf '%d.%03d' $((i = RANDOM % most, i / 1000)) $((i % 1000)))"
         { kill -9 "$gate" && wait "$gate"; } 2> /dev/null
         told+=("$(cat "$own/boots" 2> /dev/null)")
     done
@@ -87,6 +98,29 @@ test_gate_killed() {
     echo "gate: killed 30 times, $last starts kept their boots"
 }
 
+# Each system call that it makes, from its start to its end, is one that its unit allows.
+test_gate_calls_allowed() {
+    if ! command -v systemd-analyze > /dev/null || ! strace -qq -o /dev/null true 2> /dev/null; then
+        echo "skipped: the gateway's system calls beside its unit (apt-get install systemd strace)"
+        return
+    fi
+    write_own_config
+    begin_own strace -f -qq -o "$own/strace" "$OUT/snmpsec-gate" --counts "$own/counts" --log-datagrams "$own/logged"
+    asks set_variables $system.4.0 s ann > /dev/null
+    asks walk $system > /dev/null
+    echo silent > "$own/wrong"
+    patience=1 asks get $system.1.0 > /dev/null
+    : > "$own/wrong"
+    pkill -P "$gate" -HUP
+    tells "under strace it reads its file anew" 'gate.toml is read anew$'
+    pkill -P "$gate" -USR1
+    pkill -P "$gate" -TERM
+    wait "$gate"
+    check "under strace it ends" 0 $?
+    check "its unit allows each of its system calls" "0" "$(python3 "$here/tests/filtered_calls.py" "$here/gate/snmpsec-gate.service" "$own/strace" > "$own/filtered"; echo $?)"
+    echo "gate: $(paste -sd' ' "$own/filtered")"
+}
+
 if ! command -v python3 > /dev/null; then
     echo "skipped: the gateway's files: python3 isn't installed"
 else
@@ -94,5 +128,6 @@ else
     begin_own_device
     test_gate_full_disk
     test_gate_killed
+    test_gate_calls_allowed
     end_own_device
 fi

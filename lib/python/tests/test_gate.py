@@ -1,0 +1,149 @@
+"""A gateway between a manager of the library and a device that speaks SNMPv2c: python3 test_gate.py, with the library as test_snmpsec.py finds it."""
+import pathlib
+import tempfile
+import unittest
+
+import snmpsec
+from snmpsec import Gate, GateEvent, Level, Manager, Part, Refusal, datagram_user, gate_fault
+from test_snmpsec import ALLOWING, BOOTS, HELLO, NOW, TIME, ask
+
+GATE = b"""
+[gate]
+engine = "80001f8804676174652d31"
+boots = "/var/lib/boots"
+listen = ["192.0.2.1:161", "[2001:db8::1]:161"]
+[[device]]
+context = "pdu"
+address = "10.1.0.7:161"
+community = "reads"
+[[user]]
+name = "ann"
+auth = "sha256"
+auth-password = "maplesyrup"
+priv-password = "syrupmaple"
+[[group]]
+model = 3
+name = "ann"
+group = "all"
+[[access]]
+group = "all"
+prefix = ""
+model = 3
+level = "noAuthNoPriv"
+match = "prefix"
+read = "all"
+write = "all"
+[[family]]
+view = "all"
+subtree = "1.3.6.1"
+include = true
+"""
+GATE_ENGINE, MOMENT = bytes.fromhex("80001f8804676174652d31"), 1000 * NOW
+
+
+def element(tag, *parts):
+    """An element with fewer than 128 octets."""
+    content = b"".join(parts)
+    return bytes([tag, len(content)]) + content
+
+
+def answered(asked, octets):
+    """The Response of a device to a datagram, of these bindings: its front, up to the PDU, and its request-id are copied."""
+    pdu = 7 + asked[6]
+    front, number = asked[2:pdu], asked[pdu + 2 : pdu + 4 + asked[pdu + 3]]
+    return element(0x30, front, element(0xA2, number, bytes.fromhex("020100020100"), element(0x30, octets)))
+
+
+class Gateway(unittest.TestCase):
+    """A manager asks a device that speaks SNMPv2c, through a gateway."""
+
+    def setUp(self):
+        self.gate, self.manager = Gate(GATE, BOOTS, NOW - TIME), Manager(ALLOWING)
+        self.addCleanup(self.gate.close)
+        self.addCleanup(self.manager.close)
+
+    def ask(self, number, level, context=b"pdu"):
+        return ask(self.manager, number, b"ann", level, engine=GATE_ENGINE, context_name=context)
+
+    def learn(self):
+        request = self.ask(1, Level.AUTH_NO_PRIV)
+        self.assertEqual(datagram_user(request), b"ann")
+        self.assertEqual(self.gate.take_client(MOMENT, b"client", request), Refusal.NOT_IN_WINDOW)
+        self.manager.take(NOW, self.gate.message())
+        self.assertEqual(self.manager.reply(), snmpsec.Reply(False, 2))
+        self.assertEqual(self.gate.counters().not_in_windows, 1)
+
+    def test_a_request_goes_to_its_device_and_back(self):
+        self.learn()
+        for number, level in (2, Level.NO_AUTH_NO_PRIV), (3, Level.AUTH_PRIV):
+            message = self.ask(number, level)
+            self.assertEqual(self.gate.take_client(MOMENT, b"client", message), GateEvent.BEGINS)
+            self.assertEqual(self.gate.take_client(MOMENT, bytearray(b"client"), message), GateEvent.JOINS)
+            self.assertEqual(self.gate.waiting(), 1)
+            sent = self.gate.next(MOMENT, 10 * number, number)
+            self.assertEqual((sent.event, sent.device, sent.client, sent.why), (GateEvent.TO_DEVICE, 0, None, None))
+            self.assertIn(b"reads", sent.datagram)
+            self.assertGreater(self.gate.due(), MOMENT)
+            answer = answered(sent.datagram, HELLO)
+            self.assertEqual(self.gate.take_device(MOMENT, 0, answer), GateEvent.ANSWERS)
+            self.assertEqual(self.gate.take_device(MOMENT, 0, answer), GateEvent.NOT_WAITED_FOR)
+            self.assertEqual(self.gate.take_device(MOMENT, 0, b"junk"), GateEvent.UNREADABLE)
+            for more in (1, 2):
+                sent = self.gate.next(MOMENT, 10 * number + more, 1)
+                self.assertEqual((sent.event, sent.client, sent.device), (GateEvent.TO_CLIENT, b"client", None))
+                self.assertIsNone(self.manager.take(NOW, sent.datagram))
+                self.assertEqual(self.manager.part(Part.BINDINGS), HELLO)
+            self.assertIsNone(self.gate.next(MOMENT, 10 * number + 3, 1))
+            self.assertIsNone(self.gate.due())
+
+    def test_a_device_is_given_up(self):
+        self.learn()
+        self.gate.take_client(MOMENT, b"client", self.ask(2, Level.AUTH_PRIV))
+        now, events = MOMENT, []
+        for number in range(100):
+            sent = self.gate.next(now, number, number)
+            if sent is not None:
+                events.append(sent.event)
+                continue
+            now = self.gate.due()
+            if now is None:
+                break
+        self.assertEqual(events, [GateEvent.TO_DEVICE] * 3 + [GateEvent.GIVEN_UP, GateEvent.UNANSWERED])
+
+    def test_another_context_is_reported(self):
+        self.learn()
+        self.gate.take_client(MOMENT, b"client", self.ask(2, Level.AUTH_PRIV, context=b"other"))
+        self.manager.take(NOW, self.gate.next(MOMENT, 1, 1).datagram)
+        self.assertEqual(self.manager.report().counter, snmpsec.Unhandled.UNKNOWN_CONTEXTS)
+        self.assertEqual(self.gate.counts().unknown_contexts, 1)
+
+    def test_what_a_configuration_says(self):
+        self.assertEqual(self.gate.boots_path(), "/var/lib/boots")
+        self.assertEqual(self.gate.listen(), ["192.0.2.1:161", "[2001:db8::1]:161"])
+        [device] = self.gate.devices()
+        self.assertEqual((device.context, device.address), (b"pdu", "10.1.0.7:161"))
+        self.assertEqual(device.note, "access 0 gives a write view, and it has no write-community")
+
+    def test_a_refused_configuration_has_its_cause(self):
+        text = GATE.replace(b"address", b"adress")
+        with self.assertRaisesRegex(snmpsec.BadConfiguration, "refused config device 0 BadKey\n"):
+            Gate(text, 1, 0)
+        self.assertIn("the nearest is address", gate_fault(text))
+        self.assertIsNone(gate_fault(GATE))
+        with self.assertRaises(snmpsec.BadArgument):
+            Gate(GATE, 1 << 31, 0)
+        with self.assertRaises(snmpsec.BadArgument):
+            self.gate.next(1 << 64, 1, 1)
+
+    def test_a_file(self):
+        with tempfile.TemporaryDirectory() as folder:
+            path = pathlib.Path(folder, "gate.toml")
+            path.write_bytes(GATE)
+            with Gate.from_file(path, 1, 0) as gate:
+                self.assertEqual(len(gate.devices()), 1)
+            with self.assertRaises(ValueError):
+                gate.due()
+
+
+if __name__ == "__main__":
+    unittest.main()
