@@ -231,6 +231,6 @@ test_traps() {
 test_c
 test_agent
 test_traps
-for part in gate gate_lines gate_clients gate_files gate_memory poll client dispatch flood wrappers boots words memory secrets processors captures install packages; do . "$here/tests/$part.sh"; done
+for part in gate gate_lines gate_clients gate_files gate_memory poll client dispatch made_tables flood wrappers boots words memory secrets processors captures install packages; do . "$here/tests/$part.sh"; done
 echo "$passed passed, $failed failed"
 [ $failed = 0 ]
