@@ -303,6 +303,6 @@ pub use reply::SHORT_ANSWER;
 pub use requests::{Joined, WaitingRequest, WaitingRequests};
 pub use retries::Retries;
 pub use set_answer::{ResponseStatus, set_outcome};
-pub use set_ask::write_set_ask;
+pub use set_ask::{bindings_of, write_set_ask};
 pub use sets::{REMEMBERED, RememberedSet, RememberedSets, SETS_LIMIT, SetNote, set_digest};
 pub use timer::{Due, Timer, Turn};

@@ -6,6 +6,7 @@ mod of_snmp_agent_statuses;
 mod of_snmp_ber;
 mod of_snmp_community;
 mod of_snmp_engine;
+mod of_snmp_forward;
 mod of_snmp_gate;
 mod of_snmp_gate_access;
 mod of_snmp_gate_asks;

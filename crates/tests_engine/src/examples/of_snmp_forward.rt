@@ -1,0 +1,74 @@
+//! `snmp_forward`: a notification goes to a receiver that may be notified of it.
+use engine_clock::EngineId;
+use snmp_agent::Agent;
+use snmp_ber::Level;
+use snmp_forward::{Forwarded, Forwarder, NotNotification, Receiver, Receivers, TrapTaken};
+use snmp_gate::{Device, Devices};
+use snmpsec_config::Config;
+use std::alloc::{AllocError, Global};
+use std::test::Fail;
+use usm_core::Users;
+
+const TABLES: &[u8] = b"\
+[[context]]\nname = 'rack-1-pdu'\n\
+[[group]]\nmodel = 3\nname = 'ann'\ngroup = 'operators'\n\
+[[access]]\ngroup = 'operators'\nprefix = 'rack-1-pdu'\nmatch = 'exact'\nmodel = 3\nlevel = 'noAuthNoPriv'\nnotify = 'all'\n\
+[[family]]\nview = 'all'\nsubtree = '1.3.6'\ninclude = true\n";
+
+/// coldStart of a device with the community "public".
+static TRAP: &[u8] = b"\x30\x40\x02\x01\x01\x04\x06public\
+\xa7\x33\x02\x01\x07\x02\x01\x00\x02\x01\x00\x30\x28\
+\x30\x0d\x06\x08\x2b\x06\x01\x02\x01\x01\x03\x00\x43\x01\x05\
+\x30\x17\x06\x0a\x2b\x06\x01\x06\x03\x01\x01\x04\x01\x00\x06\x09\x2b\x06\x01\x06\x03\x01\x01\x05\x01";
+
+fn devices(alloc: Global) -> Result<Devices, AllocError> {
+    let mut list = Vec::new(alloc);
+    list.push(Device {
+        context: Vec::from_slice(alloc, b"rack-1-pdu")?,
+        community: Vec::from_slice(alloc, b"public")?,
+        write_community: None,
+        max_size: 1472,
+        repetitions: 32,
+        names: 100,
+        at_once: 32,
+    })?;
+    Devices::new(list).map_err(|_| AllocError)
+}
+
+fn receivers(alloc: Global, user: &[u8]) -> Result<Receivers, AllocError> {
+    let mut list = Vec::new(alloc);
+    list.push(Receiver {
+        user: Vec::from_slice(alloc, user)?,
+        level: Level::NoAuthNoPriv,
+    })?;
+    Receivers::new(list).map_err(|_| AllocError)
+}
+
+#[test]
+fn a_notification_goes_to_a_receiver_that_may_be_notified(rt: HostRuntime) -> Result<(), Fail> {
+    let engine = EngineId::of(b"\x80\x00\x1f\x88\x04gate").ok_or("an engine ID")?;
+    let config = Config::read(rt.alloc(), TABLES)?;
+    let users = Users::load(rt.alloc(), &[])?;
+    let own = engine.clone()?;
+    let agent = Agent::new(rt.alloc(), engine, 1, 0, users, config.access);
+    let to = receivers(rt.alloc(), b"ann")?;
+    let mut forwarder = Forwarder::new(rt.alloc(), agent, own, devices(rt.alloc())?, to, 1_024);
+    let nothing = TrapTaken::NotNotification(NotNotification::Unreadable);
+    assert_eq!(rt; forwarder.take_trap(0, b"no message")?, nothing);
+    assert_eq!(rt; forwarder.take_trap(1, TRAP)?, TrapTaken::OtherCommunity);
+    assert_eq!(rt; forwarder.take_trap(0, TRAP)?, TrapTaken::Waits(0));
+    assert_eq!(rt; forwarder.due(), Some(0));
+    let sent = forwarder.next(5_000, [0; 8], 7)?;
+    assert!(rt;
+        matches!(
+            &sent,
+            Forwarded::ToReceiver {
+                number: 0,
+                receiver: 0,
+                ..
+            }
+        )
+    );
+    assert_eq!(rt; (forwarder.due(), forwarder.waiting()), (None, 0));
+    Ok(())
+}
