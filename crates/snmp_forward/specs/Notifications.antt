@@ -1,7 +1,7 @@
 -- What is a notification of a device (RFC 1901, section 3; RFC 3416, section 4.2.6; RFC 3418, section 2).
 --
 -- `HasTrapOid`: the second of the variables is snmpTrapOID.0, which tells the notification. `IsNotification`: the
--- datagram is an SNMPv2-Trap in a message of SNMPv2c. `IsNoNotification`: why it is none.
+-- datagram is an SNMPv2-Trap in a message of SNMPv2c. `IsNoNotification`: why it isn't one.
 use Rattle.std.specs.Prelude.{◌≡◌, ◌≢◌, ℕ, List, [], ◌∷◌}
 use Rattle.snmp_ber.specs.Oid.{IsIdentifier}
 use Rattle.snmp_message.specs.declared.field.TheConstants.{OBJECT_IDENTIFIER}

@@ -214,7 +214,7 @@ impl Forwarder {
         let tables = self.agent.tables();
         let numbers = self
             .receivers
-            .notified(self.alloc, tables, &from.context, &notification)?;
+            .choose(self.alloc, tables, &from.context, &notification)?;
         Ok(Chosen::Receivers(numbers))
     }
 

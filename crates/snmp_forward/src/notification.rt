@@ -85,7 +85,7 @@ fn trap_oid_of<'a>(pdu: &Pdu<'a>) -> Option<ObjectName<'a>>
 }
 
 /// Returns the notification that this datagram of a device is (RFC 1901, section 3; RFC 3416, section 4.2.6). The error
-/// is the first reason why it is none. It takes no memory.
+/// is the first reason why it isn't one. It takes no memory.
 pub fn read_device_notification(datagram: &[u8]) -> Result<DeviceNotification<'_>, NotNotification>
     ensures { MatchResult result
         (λ n. IsNotification datagram.now n.community.now (pdu_of n.pdu) n.trap_oid)

@@ -6,6 +6,9 @@ ghost use Rattle.snmp_forward.specs.Queue.{IsFull, after_first, waiting, waiting
 
 use std::alloc::{AllocError, Global};
 
+/// How many notifications wait at most, if nothing else is chosen.
+pub const WAITING_LIMIT: usize = 1_024;
+
 /// A notification that waits to be sent to its receivers.
 #[derive(Drop)]
 pub struct WaitingNotification {

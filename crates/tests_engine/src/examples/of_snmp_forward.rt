@@ -2,7 +2,9 @@
 use engine_clock::EngineId;
 use snmp_agent::Agent;
 use snmp_ber::Level;
-use snmp_forward::{Forwarded, Forwarder, NotNotification, Receiver, Receivers, TrapTaken};
+use snmp_forward::{
+    Forwarded, Forwarder, NotNotification, Receiver, Receivers, TrapTaken, WAITING_LIMIT,
+};
 use snmp_gate::{Device, Devices};
 use snmpsec_config::Config;
 use std::alloc::{AllocError, Global};
@@ -17,6 +19,16 @@ const TABLES: &[u8] = b"\
 
 /// coldStart of a device with the community "public".
 static TRAP: &[u8] = b"\x30\x40\x02\x01\x01\x04\x06public\
+\xa7\x33\x02\x01\x07\x02\x01\x00\x02\x01\x00\x30\x28\
+\x30\x0d\x06\x08\x2b\x06\x01\x02\x01\x01\x03\x00\x43\x01\x05\
+\x30\x17\x06\x0a\x2b\x06\x01\x06\x03\x01\x01\x04\x01\x00\x06\x09\x2b\x06\x01\x06\x03\x01\x01\x05\x01";
+
+/// What the receiver is sent: the same in a message of SNMPv3 with msgID 9, from the gateway's engine with boots 1 and
+/// time 5, for user "ann", in the context "rack-1-pdu".
+static SENT: &[u8] =
+    b"\x30\x7f\x02\x01\x03\x30\x0e\x02\x01\x09\x02\x03\x00\xff\xe3\x04\x01\x00\x02\x01\x03\
+\x04\x1c\x30\x1a\x04\x09\x80\x00\x1f\x88\x04gate\x02\x01\x01\x02\x01\x05\x04\x03ann\x04\x00\x04\x00\
+\x30\x4c\x04\x09\x80\x00\x1f\x88\x04gate\x04\x0arack-1-pdu\
 \xa7\x33\x02\x01\x07\x02\x01\x00\x02\x01\x00\x30\x28\
 \x30\x0d\x06\x08\x2b\x06\x01\x02\x01\x01\x03\x00\x43\x01\x05\
 \x30\x17\x06\x0a\x2b\x06\x01\x06\x03\x01\x01\x04\x01\x00\x06\x09\x2b\x06\x01\x06\x03\x01\x01\x05\x01";
@@ -44,6 +56,13 @@ fn receivers(alloc: Global, user: &[u8]) -> Result<Receivers, AllocError> {
     Receivers::new(list).map_err(|_| AllocError)
 }
 
+fn datagram_of(sent: Forwarded) -> Option<Vec<u8>> {
+    match sent {
+        Forwarded::ToReceiver { datagram, .. } => Some(datagram),
+        _ => None,
+    }
+}
+
 #[test]
 fn a_notification_goes_to_a_receiver_that_may_be_notified(rt: HostRuntime) -> Result<(), Fail> {
     let engine = EngineId::of(b"\x80\x00\x1f\x88\x04gate").ok_or("an engine ID")?;
@@ -52,23 +71,21 @@ fn a_notification_goes_to_a_receiver_that_may_be_notified(rt: HostRuntime) -> Re
     let own = engine.clone()?;
     let agent = Agent::new(rt.alloc(), engine, 1, 0, users, config.access);
     let to = receivers(rt.alloc(), b"ann")?;
-    let mut forwarder = Forwarder::new(rt.alloc(), agent, own, devices(rt.alloc())?, to, 1_024);
+    let mut forwarder = Forwarder::new(
+        rt.alloc(),
+        agent,
+        own,
+        devices(rt.alloc())?,
+        to,
+        WAITING_LIMIT,
+    );
     let nothing = TrapTaken::NotNotification(NotNotification::Unreadable);
     assert_eq!(rt; forwarder.take_trap(0, b"no message")?, nothing);
     assert_eq!(rt; forwarder.take_trap(1, TRAP)?, TrapTaken::OtherCommunity);
     assert_eq!(rt; forwarder.take_trap(0, TRAP)?, TrapTaken::Waits(0));
     assert_eq!(rt; forwarder.due(), Some(0));
-    let sent = forwarder.next(5_000, [0; 8], 7)?;
-    assert!(rt;
-        matches!(
-            &sent,
-            Forwarded::ToReceiver {
-                number: 0,
-                receiver: 0,
-                ..
-            }
-        )
-    );
+    let sent = datagram_of(forwarder.next(5_000, [0; 8], 9)?).ok_or("a datagram")?;
+    assert_eq!(rt; sent.as_slice(), SENT);
     assert_eq!(rt; (forwarder.due(), forwarder.waiting()), (None, 0));
     Ok(())
 }

@@ -5,8 +5,8 @@ use Rattle.snmp_msg.specs.Variables.{variables_of}
 use Rattle.snmp_forward.specs.Receivers.{ArePlaces, MayBeNotified}
 use Rattle.snmp_forward.specs.declared.receivers.Receiver.{Receiver}
 use Rattle.snmp_forward.proofs.Places.{places_at, places_past}
-use Rattle.snmp_forward.proofs.receivers.Receivers.notified.Goals as goal
-use Rattle.snmp_forward.proofs.receivers.Receivers.notified.Goals.{then-may_be_notified+in_ok-push, else-may_be_notified}
+use Rattle.snmp_forward.proofs.receivers.Receivers.choose.Goals as goal
+use Rattle.snmp_forward.proofs.receivers.Receivers.choose.Goals.{then-may_be_notified+in_ok-push, else-may_be_notified}
 
 pub loop-number-preserved : goal.loop-number-preserved
 loop-number-preserved c =
