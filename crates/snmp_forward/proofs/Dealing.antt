@@ -44,9 +44,9 @@ few_of most len never = elim (cases_lt len most) [
 ]
 
 pub takes : (old new : Forwarder) (before : List Happening) (n device : ℕ) (datagram to : List ℕ) → Stays old new → n ≡ old.waiting.next
-    → waitings_of new.waiting.list.items ≡ waitings_of old.waiting.list.items ++ waiting old.waiting.next device datagram to ∷ [] → new.waiting.next ≡ old.waiting.next + 1 → new.waiting.most ≡ old.waiting.most
+    → waitings_of new.waiting.list.items ≡ waitings_of old.waiting.list.items ++ waiting old.waiting.next device datagram to ∷ [] → new.waiting.next ≡ old.waiting.next + 1
     → ¬ IsFull old.waiting → to ≢ [] → AreChosen old.agent.tables old.devices.list.items old.receivers.list.items device datagram to → ForwarderStands before old → Happens old before (taken n device datagram to) new
-takes old new before n device datagram to stays number list next most room some chosen stands =
+takes old new before n device datagram to stays number list next room some chosen stands =
     let may = All-weaker (Contains to) (MayBeSent old.agent.tables old.devices.list.items old.receivers.list.items device datagram) (λ m there. (chosen.each m).0 there) to (All-contains_itself to) in
     let taking = queue_takes old.agent.tables old.devices.list.items old.receivers.list.items before old.waiting.next device datagram to (waitings_of old.waiting.list.items) stands.queue may in
     let few : length old.waiting.list.items < old.waiting.most = few_of (old.waiting.most) (length old.waiting.list.items) (λ full. room (inl full)) in
@@ -60,7 +60,7 @@ takes old new before n device datagram to stays number list next most room some 
         few =
             let more : length new.waiting.list.items ≡ length old.waiting.list.items + 1 =
             sym (length_of new.waiting.list.items) ∙ ap length list ∙ length-append (waitings_of old.waiting.list.items) (waiting old.waiting.next device datagram to ∷ []) ∙ ap (λ (m : ℕ). m + 1) (length_of old.waiting.list.items) in
-            omega (arith, more, few, most);
+            omega (arith, more, few, stays.most);
       };
     })
 
@@ -108,9 +108,9 @@ as_told old new before w by (Refused why) out is happens = subst (λ (o : Forwar
 
 pub deals : (old new : Forwarder) (before : List Happening) (w : WaitingNotification) (by : Sealing) (written : Written) (out : Forwarded) → Stays old new → slice_get old.waiting.list.items 0 ≡ Some w
     → (old.engine ≡ old.agent.engine → (may : MayBeSent old.agent.tables old.devices.list.items old.receivers.list.items w.device w.datagram.items w.receiver) → IsWritten old.agent by may.to may.from.context.items may.pdu written)
-    → waitings_of new.waiting.list.items ≡ after_first (waitings_of old.waiting.list.items) → new.waiting.next ≡ old.waiting.next → new.waiting.most ≡ old.waiting.most
+    → waitings_of new.waiting.list.items ≡ after_first (waitings_of old.waiting.list.items) → new.waiting.next ≡ old.waiting.next
     → IsTold w.number w.receiver written out → ForwarderStands before old → SendHappens old before by out new
-deals old new before w by written out stays first seals list next most told stands =
+deals old new before w by written out stays first seals list next told stands =
     let split = split_first old.waiting.list.items w first in
     let rest = waitings_of split.0 in
     let e = happens_to w by written in
@@ -128,6 +128,6 @@ deals old new before w by written out stays first seals list next most told stan
         few =
             let news = sym (length_of new.waiting.list.items) ∙ ap length left in
             let olds = sym (length_of old.waiting.list.items) ∙ ap length is in
-            omega (arith, shorter (waiting_of w) w.others.items rest, news, olds, most, stands.few);
+            omega (arith, shorter (waiting_of w) w.others.items rest, news, olds, stays.most, stands.few);
       };
     })

@@ -35,6 +35,7 @@ stays_on a b c first second = record {
   devices = second.devices ∙ first.devices;
   receivers = second.receivers ∙ first.receivers;
   engine = second.engine ∙ first.engine;
+  most = second.most ∙ first.most;
 }
 
 -- ---- nothing changes
@@ -48,7 +49,7 @@ stands_as_before old new before same stands = record {
       (subst (λ (r : Receivers). QueueStands old.agent.tables old.devices.list.items r.list.items before new.waiting.next (waitings_of new.waiting.list.items)) (sym same.stays.receivers)
       (subst (λ (n : ℕ). QueueStands old.agent.tables old.devices.list.items old.receivers.list.items before n (waitings_of new.waiting.list.items)) (sym same.next)
       (subst (λ (ws : List WaitingNotification). QueueStands old.agent.tables old.devices.list.items old.receivers.list.items before old.waiting.next (waitings_of ws)) (sym same.list) stands.queue))));
-  few = subst (λ (m : ℕ). length new.waiting.list.items ≤ m) (sym same.most) (subst (λ (ws : List WaitingNotification). length ws ≤ old.waiting.most) (sym same.list) stands.few);
+  few = subst (λ (m : ℕ). length new.waiting.list.items ≤ m) (sym same.stays.most) (subst (λ (ws : List WaitingNotification). length ws ≤ old.waiting.most) (sym same.list) stands.few);
 }
 
 -- ---- a run
@@ -106,7 +107,7 @@ run_stands first [] last stands run = subst (RunStands first []) (sym run) (reco
   history = [];
   is = record { lawful = tt; inwards = refl; outwards = refl };
   stands = stands;
-  stays = record { agent = refl; devices = refl; receivers = refl; engine = refl };
+  stays = record { agent = refl; devices = refl; receivers = refl; engine = refl; most = refl };
 })
 run_stands first (trap_comes device w becomes ∷ events) last stands run =
     let known = run_stands first events run.0 stands run.1 in

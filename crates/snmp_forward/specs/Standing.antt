@@ -81,16 +81,16 @@ IsTrapTaken f device datagram trap.ForNobody = IsFromDevice f.devices.list.items
 IsTrapTaken f device datagram trap.NoRoom = IsForSomebody f device datagram × IsFull f.waiting
 IsTrapTaken f device datagram (trap.Waits n) = IsForSomebody f device datagram
 
--- the same engine, boots, users, tables, counters, devices and receivers
+-- the same engine, boots, users, tables, counters, devices and receivers, and as many notifications may wait
 pub record Stays (old new : Forwarder) : Type 0 where
   pub agent : new.agent ≡ old.agent
   pub devices : new.devices ≡ old.devices
   pub receivers : new.receivers ≡ old.receivers
   pub engine : new.engine ≡ old.engine
+  pub most : new.waiting.most ≡ old.waiting.most
 
 -- and what waits is the same
 pub record IsAsBefore (old new : Forwarder) : Type 0 where
   pub stays : Stays old new
   pub list : new.waiting.list.items ≡ old.waiting.list.items
   pub next : new.waiting.next ≡ old.waiting.next
-  pub most : new.waiting.most ≡ old.waiting.most

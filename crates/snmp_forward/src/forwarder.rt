@@ -254,6 +254,7 @@ impl Forwarder {
     pub fn next(&mut self, now: u64, salt: [u8; 8], ask_id: u32) -> Result<Forwarded, AllocError>
         ensures happens { IfOk result (λ sent. (before : List Happening) → ForwarderStands before self.old
             → SendHappens self.old before (sealing_at now salt ask_id) sent self.new) }
+        ensures nothing { IfOk result (λ sent. sent ≡ Forwarded.Nothing → self.old.waiting.list.items ≡ []) }
         ensures stays { Stays self.old self.new }
         ensures err { OnErr result (IsAsBefore self.old self.new) }
     {

@@ -1,6 +1,6 @@
 //! Laws of notifications, over any run of calls. Each function does nothing: its contract is the law.
 
-ghost use Rattle.std.specs.Prelude.{◌≡◌, ◌<◌, ◌++◌, ℕ, List, [], AllPairs};
+ghost use Rattle.std.specs.Prelude.{◌≡◌, ◌<◌, ◌≤◌, ◌++◌, ℕ, List, [], AllPairs, length};
 ghost use Rattle.snmp_agent.specs.Agent.{AgentState};
 ghost use Rattle.snmp_gate.specs.declared.devices.Device.{Device};
 ghost use Rattle.snmp_forward.specs.History.{AreLawful, Happening, chosen_for, dealt_with, left_in};
@@ -30,12 +30,15 @@ pub fn one_notification()
 /// Whatever devices send to a new forwarder: what goes out of it has a history that is lawful. So a receiver is sent a
 /// notification only if a device sent it, with its own community, and each of its variables is one of which the
 /// receiver may be notified in that device's context; and it is sent these very variables, sealed for its user at its
-/// level. A call that found no memory is no part of the history.
+/// level (`history`). At most as many notifications wait as may (`few`). A call that found no memory is no part of the
+/// history.
 ///
 /// The events are calls of `take_trap` and `next` with their answers, the latest first.
 pub fn notifications_are_mediated()
-    ensures { (first last : Forwarder) (events : List Event) → ForwarderStands [] first → IsRun first events last
-        → (history : List Happening) × IsHistoryOf first events history }
+    ensures history { (first last : Forwarder) (events : List Event) → ForwarderStands [] first
+        → IsRun first events last → (history : List Happening) × IsHistoryOf first events history }
+    ensures few { (first last : Forwarder) (events : List Event) → ForwarderStands [] first → IsRun first events last
+        → length last.waiting.list.items ≤ first.waiting.most }
 {}
 
 /// In a lawful history the receivers of each notification have their turns one after another: those to which it was

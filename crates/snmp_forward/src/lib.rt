@@ -16,7 +16,8 @@
 //! const TABLES: &[u8] = b"\
 //! [[context]]\nname = 'rack-1-pdu'\n\
 //! [[group]]\nmodel = 3\nname = 'ann'\ngroup = 'operators'\n\
-//! [[access]]\ngroup = 'operators'\nprefix = 'rack-1-pdu'\nmatch = 'exact'\nmodel = 3\nlevel = 'noAuthNoPriv'\nnotify = 'all'\n\
+//! [[access]]\ngroup = 'operators'\nprefix = 'rack-1-pdu'\nmatch = 'exact'\nmodel = 3\n\
+//! level = 'noAuthNoPriv'\nnotify = 'all'\n\
 //! [[family]]\nview = 'all'\nsubtree = '1.3.6'\ninclude = true\n";
 //!
 //! /// coldStart of a device with the community "public".

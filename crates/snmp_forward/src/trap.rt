@@ -26,7 +26,7 @@ pub enum Written {
     Refused(Refusal),
 }
 
-/// Returns what an SNMPv2-Trap has besides its bindings: the request-id of the device's, in this context of this engine.
+/// Returns what an SNMPv2-Trap has besides its bindings: the device's request-id, and this context of this engine.
 fn front_of<'a>(engine: &'a EngineId, context: &'a [u8], pdu: &Pdu<'_>) -> Front<'a>
     ensures engine { result.context_engine.now ≡ engine.now }
     ensures context { result.context_name.now ≡ context.now }
@@ -45,8 +45,8 @@ fn front_of<'a>(engine: &'a EngineId, context: &'a [u8], pdu: &Pdu<'_>) -> Front
     }
 }
 
-/// Writes an SNMPv2-Trap for a receiver (RFC 3416, section 4.2.6): with the request-id and the bindings of the device's,
-/// in this context of this engine. The error is out of memory. The agent stays as it is.
+/// Writes an SNMPv2-Trap for a receiver (RFC 3416, section 4.2.6): with the request-id and the bindings of the
+/// device's, in this context of this engine. The error is out of memory. The agent stays as it is.
 pub(crate) fn write_trap(
     alloc: Global,
     agent: &mut Agent,

@@ -33,8 +33,8 @@ returns-clause-happens c = λ before stands.
     let some : 0 < length rs.items = omega (arith, eqb-false (vec_len rs) 0 (sym c.is_empty.ensures ∙ c.if-is_empty.false)) in
     let list = c.in_ok-number.ensures.ok ∙ ap (λ (w : List ℕ). waitings_of f.waiting.list.items ++ waiting f.waiting.next c.args.device w rs.items ∷ []) c.in_ok-datagram.ensures.items in (
       rs.items,
-      takes f _ before c.in_ok-number.number c.args.device c.args.datagram.now rs.items (record { agent = refl; devices = refl; receivers = refl; engine = refl }) c.in_ok-number.ensures.number list
-          c.in_ok-number.ensures.next c.in_ok-number.ensures.most (λ full. cc (c.if-is_full.ensures.1 full)) (λ empty. absurd (omega (arith, some, ap length empty))) chosen.1 stands,
+      takes f _ before c.in_ok-number.number c.args.device c.args.datagram.now rs.items (record { agent = refl; devices = refl; receivers = refl; engine = refl; most = c.in_ok-number.ensures.most }) c.in_ok-number.ensures.number list
+          c.in_ok-number.ensures.next (λ full. cc (c.if-is_full.ensures.1 full)) (λ empty. absurd (omega (arith, some, ap length empty))) chosen.1 stands,
     )
 
 pub returns-clause-taken : goal.returns-clause-taken
