@@ -11,12 +11,17 @@ use std::alloc::{AllocError, Global};
 use std::test::Fail;
 use usm_core::Users;
 
+/// Ann may be notified of all, and Bob of the system group alone: not of snmpTrapOID.0, which each notification has.
 const TABLES: &[u8] = b"\
 [[context]]\nname = 'rack-1-pdu'\n\
 [[group]]\nmodel = 3\nname = 'ann'\ngroup = 'operators'\n\
+[[group]]\nmodel = 3\nname = 'bob'\ngroup = 'visitors'\n\
 [[access]]\ngroup = 'operators'\nprefix = 'rack-1-pdu'\nmatch = 'exact'\nmodel = 3\n\
 level = 'noAuthNoPriv'\nnotify = 'all'\n\
-[[family]]\nview = 'all'\nsubtree = '1.3.6'\ninclude = true\n";
+[[access]]\ngroup = 'visitors'\nprefix = 'rack-1-pdu'\nmatch = 'exact'\nmodel = 3\n\
+level = 'noAuthNoPriv'\nnotify = 'system'\n\
+[[family]]\nview = 'all'\nsubtree = '1.3.6'\ninclude = true\n\
+[[family]]\nview = 'system'\nsubtree = '1.3.6.1.2.1.1'\ninclude = true\n";
 
 /// coldStart of a device with the community "public".
 static TRAP: &[u8] = b"\x30\x40\x02\x01\x01\x04\x06public\
@@ -48,45 +53,56 @@ fn devices(alloc: Global) -> Result<Devices, AllocError> {
     Devices::new(list).map_err(|_| AllocError)
 }
 
-fn receivers(alloc: Global, user: &[u8]) -> Result<Receivers, AllocError> {
+fn receivers(alloc: Global) -> Result<Receivers, AllocError> {
     let mut list = Vec::new(alloc);
-    list.push(Receiver {
-        user: Vec::from_slice(alloc, user)?,
-        level: Level::NoAuthNoPriv,
-    })?;
+    for user in [b"bob", b"ann"] {
+        list.push(Receiver {
+            user: Vec::from_slice(alloc, user)?,
+            level: Level::NoAuthNoPriv,
+        })?;
+    }
     Receivers::new(list).map_err(|_| AllocError)
 }
 
-fn datagram_of(sent: Forwarded) -> Option<Vec<u8>> {
-    match sent {
-        Forwarded::ToReceiver { datagram, .. } => Some(datagram),
-        _ => None,
+fn forwarder(alloc: Global) -> Result<Forwarder, AllocError> {
+    let config = Config::read(alloc, TABLES).map_err(|_| AllocError)?;
+    let users = Users::load(alloc, &[]).map_err(|_| AllocError)?;
+    let devices = devices(alloc)?;
+    let receivers = receivers(alloc)?;
+    let engine = EngineId::of(b"\x80\x00\x1f\x88\x04gate").ok_or(AllocError)?;
+    let own = engine.clone()?;
+    let agent = Agent::new(alloc, engine, 1, 0, users, config.access);
+    Ok(Forwarder::new(alloc, agent, own, devices, receivers, WAITING_LIMIT))
+}
+
+fn took(forwarder: &mut Forwarder) -> Result<[TrapTaken; 3], AllocError> {
+    let nothing = forwarder.take_trap(0, b"no message")?;
+    let other = forwarder.take_trap(1, TRAP)?;
+    let waits = forwarder.take_trap(0, TRAP)?;
+    Ok([nothing, other, waits])
+}
+
+fn is_sent(forwarder: &mut Forwarder) -> Result<bool, AllocError> {
+    match forwarder.next(5_000, [0; 8], 9)? {
+        Forwarded::ToReceiver {
+            receiver,
+            datagram,
+            ..
+        } => Ok(receiver == 1 && datagram.as_slice() == SENT),
+        _ => Ok(false),
     }
 }
 
 #[test]
 fn a_notification_goes_to_a_receiver_that_may_be_notified(rt: HostRuntime) -> Result<(), Fail> {
-    let engine = EngineId::of(b"\x80\x00\x1f\x88\x04gate").ok_or("an engine ID")?;
-    let config = Config::read(rt.alloc(), TABLES)?;
-    let users = Users::load(rt.alloc(), &[])?;
-    let own = engine.clone()?;
-    let agent = Agent::new(rt.alloc(), engine, 1, 0, users, config.access);
-    let to = receivers(rt.alloc(), b"ann")?;
-    let mut forwarder = Forwarder::new(
-        rt.alloc(),
-        agent,
-        own,
-        devices(rt.alloc())?,
-        to,
-        WAITING_LIMIT,
-    );
-    let nothing = TrapTaken::NotNotification(NotNotification::Unreadable);
-    assert_eq!(rt; forwarder.take_trap(0, b"no message")?, nothing);
-    assert_eq!(rt; forwarder.take_trap(1, TRAP)?, TrapTaken::OtherCommunity);
-    assert_eq!(rt; forwarder.take_trap(0, TRAP)?, TrapTaken::Waits(0));
-    assert_eq!(rt; forwarder.due(), Some(0));
-    let sent = datagram_of(forwarder.next(5_000, [0; 8], 9)?).ok_or("a datagram")?;
-    assert_eq!(rt; sent.as_slice(), SENT);
+    let mut forwarder = forwarder(rt.alloc())?;
+    let became = [
+        TrapTaken::NotNotification(NotNotification::Unreadable),
+        TrapTaken::OtherCommunity,
+        TrapTaken::Waits(0),
+    ];
+    assert_eq!(rt; took(&mut forwarder)?, became);
+    assert!(rt; is_sent(&mut forwarder)?);
     assert_eq!(rt; (forwarder.due(), forwarder.waiting()), (None, 0));
     Ok(())
 }
