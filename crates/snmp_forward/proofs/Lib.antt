@@ -1,0 +1,6 @@
+pub mod Keeping
+pub mod Places
+pub mod Choices
+pub mod Written
+pub mod Dealing
+pub mod Running

@@ -1,0 +1,18 @@
+use Rattle.std.proofs.Common.{ℕ, List, subst, sym}
+use Rattle.vacm_core.specs.Allowed.{Allowed}
+use Rattle.vacm_core.specs.declared.access.Access.TheVariants.{AccessAllowed}
+use Rattle.vacm_core.specs.declared.access.ViewType.TheVariants.{Notify}
+use Rattle.vacm_next.proofs.Views.{same_rows}
+use Rattle.snmp_agent.specs.Decides.{question}
+use Rattle.snmp_forward.proofs.receivers.Receiver.is_notified_of.Goals as goal
+
+pub returns-in_default : goal.returns-in_default
+returns-in_default c =
+    let t = c.args.tables.now in
+    let level = c.args.self.now.level in
+    let q = question c.deref.result.now level c.args.context.now in (
+      (λ false. cc false),
+      (λ sees.
+          let asked = subst (λ (user : List ℕ). Allowed t (question user level c.args.context.now) Notify c.args.name.now AccessAllowed) (sym c.deref.ensures.value) sees in
+          absurd (c.in_default.not-AccessAllowed (c.order_is_free.ensures.one t t c.is_access_allowed-answer.ensures.one_row_each (same_rows t) q Notify c.args.name.now c.is_access_allowed-answer.result AccessAllowed c.is_access_allowed-answer.ensures.answer asked))),
+    )

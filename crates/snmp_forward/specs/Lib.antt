@@ -1,0 +1,9 @@
+pub mod Notifications
+pub mod Receivers
+pub mod Queue
+pub mod Sending
+pub mod Written
+pub mod Choosing
+pub mod History
+pub mod Standing
+pub mod Runs

@@ -1,0 +1,108 @@
+//! `snmp_forward`: a notification goes to a receiver that may be notified of it.
+use engine_clock::EngineId;
+use snmp_agent::Agent;
+use snmp_ber::Level;
+use snmp_forward::{
+    Forwarded, Forwarder, NotNotification, Receiver, Receivers, TrapTaken, WAITING_LIMIT,
+};
+use snmp_gate::{Device, Devices};
+use snmpsec_config::Config;
+use std::alloc::{AllocError, Global};
+use std::test::Fail;
+use usm_core::Users;
+
+/// Ann may be notified of all, and Bob of the system group alone: not of snmpTrapOID.0, which each notification has.
+const TABLES: &[u8] = b"\
+[[context]]\nname = 'rack-1-pdu'\n\
+[[group]]\nmodel = 3\nname = 'ann'\ngroup = 'operators'\n\
+[[group]]\nmodel = 3\nname = 'bob'\ngroup = 'visitors'\n\
+[[access]]\ngroup = 'operators'\nprefix = 'rack-1-pdu'\nmatch = 'exact'\nmodel = 3\n\
+level = 'noAuthNoPriv'\nnotify = 'all'\n\
+[[access]]\ngroup = 'visitors'\nprefix = 'rack-1-pdu'\nmatch = 'exact'\nmodel = 3\n\
+level = 'noAuthNoPriv'\nnotify = 'system'\n\
+[[family]]\nview = 'all'\nsubtree = '1.3.6'\ninclude = true\n\
+[[family]]\nview = 'system'\nsubtree = '1.3.6.1.2.1.1'\ninclude = true\n";
+
+/// coldStart of a device with the community "public".
+static TRAP: &[u8] = b"\x30\x40\x02\x01\x01\x04\x06public\
+\xa7\x33\x02\x01\x07\x02\x01\x00\x02\x01\x00\x30\x28\
+\x30\x0d\x06\x08\x2b\x06\x01\x02\x01\x01\x03\x00\x43\x01\x05\
+\x30\x17\x06\x0a\x2b\x06\x01\x06\x03\x01\x01\x04\x01\x00\x06\x09\x2b\x06\x01\x06\x03\x01\x01\x05\x01";
+
+/// What the receiver is sent: the same in a message of SNMPv3 with msgID 9, from the gateway's engine with boots 1 and
+/// time 5, for user "ann", in the context "rack-1-pdu".
+static SENT: &[u8] =
+    b"\x30\x7f\x02\x01\x03\x30\x0e\x02\x01\x09\x02\x03\x00\xff\xe3\x04\x01\x00\x02\x01\x03\
+\x04\x1c\x30\x1a\x04\x09\x80\x00\x1f\x88\x04gate\x02\x01\x01\x02\x01\x05\x04\x03ann\x04\x00\x04\x00\
+\x30\x4c\x04\x09\x80\x00\x1f\x88\x04gate\x04\x0arack-1-pdu\
+\xa7\x33\x02\x01\x07\x02\x01\x00\x02\x01\x00\x30\x28\
+\x30\x0d\x06\x08\x2b\x06\x01\x02\x01\x01\x03\x00\x43\x01\x05\
+\x30\x17\x06\x0a\x2b\x06\x01\x06\x03\x01\x01\x04\x01\x00\x06\x09\x2b\x06\x01\x06\x03\x01\x01\x05\x01";
+
+fn devices(alloc: Global) -> Result<Devices, AllocError> {
+    let mut list = Vec::new(alloc);
+    list.push(Device {
+        context: Vec::from_slice(alloc, b"rack-1-pdu")?,
+        community: Vec::from_slice(alloc, b"public")?,
+        write_community: None,
+        max_size: 1472,
+        repetitions: 32,
+        names: 100,
+        at_once: 32,
+    })?;
+    Devices::new(list).map_err(|_| AllocError)
+}
+
+fn receivers(alloc: Global) -> Result<Receivers, AllocError> {
+    let mut list = Vec::new(alloc);
+    for user in [b"bob", b"ann"] {
+        list.push(Receiver {
+            user: Vec::from_slice(alloc, user)?,
+            level: Level::NoAuthNoPriv,
+        })?;
+    }
+    Receivers::new(list).map_err(|_| AllocError)
+}
+
+fn forwarder(alloc: Global) -> Result<Forwarder, AllocError> {
+    let config = Config::read(alloc, TABLES).map_err(|_| AllocError)?;
+    let users = Users::load(alloc, &[]).map_err(|_| AllocError)?;
+    let devices = devices(alloc)?;
+    let receivers = receivers(alloc)?;
+    let engine = EngineId::of(b"\x80\x00\x1f\x88\x04gate").ok_or(AllocError)?;
+    let own = engine.clone()?;
+    let agent = Agent::new(alloc, engine, 1, 0, users, config.access);
+    Ok(Forwarder::new(alloc, agent, own, devices, receivers, WAITING_LIMIT))
+}
+
+fn took(forwarder: &mut Forwarder) -> Result<[TrapTaken; 3], AllocError> {
+    let nothing = forwarder.take_trap(0, b"no message")?;
+    let other = forwarder.take_trap(1, TRAP)?;
+    let waits = forwarder.take_trap(0, TRAP)?;
+    Ok([nothing, other, waits])
+}
+
+fn is_sent(forwarder: &mut Forwarder) -> Result<bool, AllocError> {
+    match forwarder.next(5_000, [0; 8], 9)? {
+        Forwarded::ToReceiver {
+            receiver,
+            datagram,
+            ..
+        } => Ok(receiver == 1 && datagram.as_slice() == SENT),
+        _ => Ok(false),
+    }
+}
+
+#[test]
+fn a_notification_goes_to_a_receiver_that_may_be_notified(rt: HostRuntime) -> Result<(), Fail> {
+    let mut forwarder = forwarder(rt.alloc())?;
+    let became = [
+        TrapTaken::NotNotification(NotNotification::Unreadable),
+        TrapTaken::OtherCommunity,
+        TrapTaken::Waits(0),
+    ];
+    assert_eq!(rt; took(&mut forwarder)?, became);
+    assert!(rt; is_sent(&mut forwarder)?);
+    assert_eq!(rt; (forwarder.due(), forwarder.waiting()), (None, 0));
+    Ok(())
+}
