@@ -248,7 +248,8 @@ impl Forwarder {
     /// Sends the notification that waits longest to the next of its receivers, at this moment, in milliseconds, and
     /// returns what goes out. It is called until it returns `Nothing`.
     ///
-    /// No salt may come twice (RFC 3826, section 3.1.2.1). `ask_id` is a number that didn't come before: it is msgID.
+    /// No salt may come twice (RFC 3826, section 3.1.2.1). `ask_id` is a number that didn't come before. msgID is its
+    /// remainder by 2147483648.
     ///
     /// The error is out of memory. Then all is as before, and the call may be made again.
     pub fn next(&mut self, now: u64, salt: [u8; 8], ask_id: u32) -> Result<Forwarded, AllocError>

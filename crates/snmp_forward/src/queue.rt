@@ -91,8 +91,8 @@ impl WaitingNotifications {
         Ok(number)
     }
 
-    /// The first notification is dealt with for the receiver to which it was to be sent next. It waits no longer if that
-    /// was the last one.
+    /// The first notification is dealt with for the receiver to which it was to be sent next. It waits no longer if
+    /// that was the last one.
     pub fn advance(&mut self)
         requires { 0 < length self.old.list.items }
         ensures list { waitings_of self.new.list.items ≡ after_first (waitings_of self.old.list.items) }

@@ -119,8 +119,8 @@ impl Receiver {
 }
 
 impl Receivers {
-    /// Returns the numbers of all receivers that may be notified of this, as `Receiver::may_be_notified` says, the least
-    /// first. The error is out of memory.
+    /// Returns the numbers of all receivers that may be notified of this, as `Receiver::may_be_notified` says, the
+    /// least first. The error is out of memory.
     pub fn choose(
         &self,
         alloc: Global,
