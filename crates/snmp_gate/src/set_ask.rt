@@ -14,7 +14,7 @@ use snmp_message::RefusedAt;
 use snmp_msg::{Pdu, PduType, VariableBinding, one_pdu};
 use std::alloc::{AllocError, Global};
 
-/// Returns the bindings of a PDU that was read, in their order, so that they can be written. The error is out of memory.
+/// Returns the bindings of a PDU that was read, in their order, as they can be written. The error is out of memory.
 pub fn bindings_of<'a>(
     alloc: Global,
     request: &Pdu<'a>,
