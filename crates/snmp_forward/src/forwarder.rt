@@ -218,8 +218,8 @@ impl Forwarder {
         Ok(Chosen::Receivers(numbers))
     }
 
-    /// Takes a datagram from the device of this number, counted from 0. A notification with the device's community waits
-    /// to be sent to each receiver that may be notified of it in the context of the device. Nothing is sent.
+    /// Takes a datagram from the device of this number, counted from 0. A notification with the device's community
+    /// waits to be sent to each receiver that may be notified of it in the context of the device. Nothing is sent.
     ///
     /// The error is out of memory. Then the datagram isn't taken, and may be taken again.
     pub fn take_trap(&mut self, device: usize, datagram: &[u8]) -> Result<TrapTaken, AllocError>

@@ -15,8 +15,8 @@ ghost use Rattle.snmp_forward.specs.declared.receivers.Receiver.{Receiver};
 use snmp_community::one_community_message;
 use snmp_msg::one_pdu;
 
-/// A datagram is one notification at most: it has one community, one PDU and one snmpTrapOID (`one`). There is no reason
-/// then why it isn't one (`none`).
+/// A datagram is one notification at most: it has one community, one PDU and one snmpTrapOID (`one`). There is no
+/// reason then why it isn't one (`none`).
 pub fn one_notification()
     ensures one { (w a b : List ℕ) (p q : PduParts) (x y : List ℕ) → IsNotification w a p x → IsNotification w b q y
         → (a ≡ b) × (p ≡ q) × (x ≡ y) }

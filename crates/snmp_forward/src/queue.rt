@@ -1,6 +1,6 @@
 //! Notifications that wait to be sent, in the order in which they came.
 
-ghost use Rattle.std.specs.Prelude.{◌≡◌, ◌≢◌, ◌↔◌, ◌+◌, ◌-◌, ◌^◌, ◌<◌, ◌++◌, ◌∷◌, [], length, IfOk, IsTrue, OnErr, OnOk};
+ghost use Rattle.std.specs.Prelude.{◌≡◌, ◌≢◌, ◌↔◌, ◌+◌, ◌<◌, ◌++◌, ◌∷◌, [], length, IfOk, IsTrue, OnErr, OnOk};
 ghost use Rattle.std.specs.Prelude.{option_copied, slice_get};
 ghost use Rattle.snmp_forward.specs.Queue.{IsFull, after_first, waiting, waitings_of};
 

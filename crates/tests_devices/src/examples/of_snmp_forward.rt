@@ -11,7 +11,8 @@ use std::alloc::{AllocError, Global};
 use std::test::Fail;
 use usm_core::Users;
 
-/// Ann may be notified of all, and Bob of the system group alone: not of snmpTrapOID.0, which each notification has.
+/// Ann may be notified of all, and Bob of the system group alone: not of snmpTrapOID.0, which each notification
+/// has.
 const TABLES: &[u8] = b"\
 [[context]]\nname = 'rack-1-pdu'\n\
 [[group]]\nmodel = 3\nname = 'ann'\ngroup = 'operators'\n\
@@ -29,7 +30,7 @@ static TRAP: &[u8] = b"\x30\x40\x02\x01\x01\x04\x06public\
 \x30\x0d\x06\x08\x2b\x06\x01\x02\x01\x01\x03\x00\x43\x01\x05\
 \x30\x17\x06\x0a\x2b\x06\x01\x06\x03\x01\x01\x04\x01\x00\x06\x09\x2b\x06\x01\x06\x03\x01\x01\x05\x01";
 
-/// What the receiver is sent: the same in a message of SNMPv3 with msgID 9, from the gateway's engine with boots 1 and
+/// What Ann is sent: the same in a message of SNMPv3 with msgID 9, from the gateway's engine with boots 1 and
 /// time 5, for user "ann", in the context "rack-1-pdu".
 static SENT: &[u8] =
     b"\x30\x7f\x02\x01\x03\x30\x0e\x02\x01\x09\x02\x03\x00\xff\xe3\x04\x01\x00\x02\x01\x03\
