@@ -7,3 +7,4 @@ mod BulkTracks
 mod BulkReads
 mod BulkFronts
 mod BulkTrueRuns
+mod InTurn

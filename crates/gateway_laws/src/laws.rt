@@ -1,6 +1,6 @@
 //! Laws of devices that are seen through a view.
 
-ghost use Rattle.std.specs.Prelude.{◌≡◌, ℕ, All, List, map};
+ghost use Rattle.std.specs.Prelude.{◌≡◌, ◌≢◌, ◌<◌, ◌++◌, ℕ, [], All, AllPairs, List, length, map, slice_index_or};
 ghost use Rattle.std.specs.List.{AllZip};
 ghost use Rattle.snmp_msg.specs.Variables.{Variable, variable_of};
 ghost use Rattle.snmp_msg.specs.declared.binding.Binding.{Binding};
@@ -9,6 +9,7 @@ ghost use Rattle.vacm_core.specs.Allowed.{Requester};
 ghost use Rattle.vacm_core.specs.Tables.{Tables};
 ghost use Rattle.vacm_core.specs.declared.access.ViewType.TheVariants.{Read};
 ghost use Rattle.vacm_next.specs.Next.{Sees};
+ghost use Rattle.snmp_responder.specs.Bulk.{IsBulk};
 ghost use Rattle.snmp_responder.specs.Code.{seen_by};
 ghost use Rattle.snmp_responder.specs.Distinct.{HasDistinctNames};
 ghost use Rattle.snmp_responder.specs.Instrumentation.{IsGot, Known};
@@ -27,8 +28,9 @@ ghost use Rattle.snmp_walk.specs.declared.dialogue.Answered.TheVariants.{Taken};
 ghost use Rattle.snmp_walk.specs.declared.dialogue.Dialogue.{Dialogue};
 ghost use Rattle.snmp_walk.specs.declared.operation.ReadOperation.TheVariants.{Get, GetNext};
 ghost use Rattle.gateway_laws.specs.Alike.{IsAlike, LookAlike};
-ghost use Rattle.gateway_laws.specs.Bulk.{IsFrontOfBulk, IsTrueBulkRun};
-ghost use Rattle.gateway_laws.specs.Device.{IsDevice, IsTrueAnswer};
+ghost use Rattle.snmp_walk.specs.Turns.{repeated};
+ghost use Rattle.gateway_laws.specs.Bulk.{IsFrontOfBulk, IsTrueBulkRun, IsTrueInTurn};
+ghost use Rattle.gateway_laws.specs.Device.{AllSeen, IsDevice, IsTrueAnswer};
 ghost use Rattle.gateway_laws.specs.Dialogues.{AreGot, IsTrueRun};
 
 /// A device that answers each time as RFC 3416 says (sections 4.2.1 and 4.2.2) is seen as it is, but for what the view
@@ -63,6 +65,17 @@ pub fn a_front_of_a_view()
         → IsFront last.non_repeaters last.max_repetitions last.columns.items response
         → IsFrontOfBulk device (seen_by viewer) (map (λ v. v.name) asked) first.non_repeaters first.max_repetitions
         response }
+{}
+
+/// An answer to a GetBulkRequest that is a front of what RFC 3416 says (section 4.2.3) has for each column what the
+/// device has next, after the name that was asked for it, and then after the name that it gave before. `single` are the
+/// columns of the non-repeaters, and `again` those of the repeaters, each with its name.
+pub fn a_bulk_answer_in_turn()
+    ensures { (device : Known) (names : List (List ℕ)) (single again : List ℕ) (most : ℕ)
+        (whole vs rest : List Variable) → All (λ column. column < length names) (single ++ again)
+        → AllPairs (λ a b. a ≢ b) (single ++ again)
+        → IsBulk device AllSeen (map (λ column. slice_index_or names column []) (single ++ again)) (length single) most
+        whole → whole ≡ vs ++ rest → IsTrueInTurn device names (single ++ repeated most again) vs }
 {}
 
 /// Two devices that have the same variables of those that a message may see can't be told apart by it. Their next
