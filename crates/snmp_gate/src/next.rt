@@ -234,8 +234,8 @@ impl Gate {
     /// It returns `Nothing` only if no request has ended, and by time alone nothing is due for any (`idle`). Of each
     /// request it does what is due, however often it is called.
     ///
-    /// The error is out of memory. Then all is as before, but that a request may have ended whose ask is longer than its
-    /// device takes. The call may be made again.
+    /// The error is out of memory. Then all is as before, but that a request may have ended whose ask is longer than
+    /// its device takes. The call may be made again.
     pub fn next(&mut self, now: u64, salt: [u8; 8], ask_id: u32) -> Result<Sent, AllocError>
         ensures happens { IfOk result (λ sent. (since : ℕ) (before : List Happening) → since ≤ now
             → GateStands since before self.old → SendHappens self.old now before salt sent self.new) }
