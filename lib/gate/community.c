@@ -20,7 +20,7 @@ static bool take_length(struct rest *rest, size_t *len) {
     return *len <= rest->len;
 }
 
-/* The next element, whose tag is told. */
+/* The next element, and its tag. */
 static bool take_any(struct rest *rest, uint8_t *tag, struct rest *content) {
     if (!rest->len) return false;
     *tag = *rest->at++;

@@ -14,7 +14,7 @@ pub record LookAlike (Seen : List ℕ → Type 0) (one other : Known) : Type 0 w
   pub there : ShowsNoMore Seen one other
   pub back : ShowsNoMore Seen other one
 
--- noSuchObject or noSuchInstance stands behind the name
+-- the name has noSuchObject or noSuchInstance
 abbrev pub IsMissing : List ℕ → Variable → Type 0
 IsMissing name v = IsException NoSuchObject name v ⊎ IsException NoSuchInstance name v
 
