@@ -234,8 +234,7 @@ impl Gate {
     /// It returns `Nothing` only if no request has ended, and by time alone nothing is due for any (`idle`). Of each
     /// request it does what is due, however often it is called.
     ///
-    /// The error is out of memory. Then all is as before, but that a request may have ended whose ask is longer than
-    /// its device takes. The call may be made again.
+    /// The error is out of memory. Then all is as before, and the call may be made again.
     pub fn next(&mut self, now: u64, salt: [u8; 8], ask_id: u32) -> Result<Sent, AllocError>
         ensures happens { IfOk result (λ sent. (since : ℕ) (before : List Happening) → since ≤ now
             → GateStands since before self.old → SendHappens self.old now before salt sent self.new) }
@@ -274,6 +273,7 @@ impl Gate {
         ensures something { IfOk result (λ sent. sent ≢ Sent.Nothing) }
         ensures stays { Stays self.old self.new }
         ensures err { OnErr result (IsAsBefore now self.old self.new) }
+        ensures same { OnErr result (self.new ≡ self.old) }
     {
         let request = &self.requests.list[place];
         let number = request.number;
@@ -357,6 +357,28 @@ impl Gate {
         Ok(datagram)
     }
 
+    /// Ends the request at this place, whose device can't be asked by a datagram that it takes, and answers its first
+    /// message with tooBig. The error is out of memory. Then the request is as before.
+    fn answer_too_long(&mut self, place: usize, now: u64, salt: [u8; 8]) -> Result<Sent, AllocError>
+        requires place { place < length self.old.requests.list.items }
+        ensures happens { IfOk result (λ sent. (since : ℕ) (before : List Happening) → since ≤ now
+            → GateStands since before self.old → SendHappens self.old now before salt sent self.new) }
+        ensures something { IfOk result (λ sent. sent ≢ Sent.Nothing) }
+        ensures stays { Stays self.old self.new }
+        ensures err { OnErr result (IsAsBefore now self.old self.new) }
+        ensures same { OnErr result (groups_of self.new.requests.list.items
+            ≡ groups_of self.old.requests.list.items) }
+    {
+        let before = self.requests.work(place, Work::Ends(TOO_LONG));
+        match self.answer_at(place, now, salt) {
+            Ok(sent) => Ok(sent),
+            Err(error) => {
+                self.requests.work(place, before);
+                Err(error)
+            }
+        }
+    }
+
     /// Asks the device for the request at this place, with this request-id or the next free one. If that takes a longer
     /// datagram than the device does, the request ends, and its first message is answered.
     fn ask_at(
@@ -382,8 +404,7 @@ impl Gate {
         }
         let id = self.asks[device].free_id(ask_id);
         let Some(datagram) = self.datagram_at(place, device, id)? else {
-            self.requests.work(place, Work::Ends(TOO_LONG));
-            return self.answer_at(place, now, salt);
+            return self.answer_too_long(place, now, salt);
         };
         self.asks[device].ask(id, number)?;
         set_asked(&mut self.requests, place, now, id);

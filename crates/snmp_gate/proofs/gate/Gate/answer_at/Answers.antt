@@ -45,3 +45,8 @@ pub returns-in_err-reply-clause-stays : goal.returns-in_err-reply-clause-stays
 returns-in_err-reply-clause-stays c =
     let g = c.args.self.now in
     stays_counted g (record g { agent = c.reply_now.new.agent }) c.in_err-reply.ensures.same refl refl refl refl
+
+pub returns-in_err-reply-clause-same : goal.returns-in_err-reply-clause-same
+returns-in_err-reply-clause-same c =
+    let g = c.args.self.now in
+    on_err c.from_residual.result _ (λ i. record g { agent = c.in_err-reply.ensures.err i })

@@ -1,38 +1,28 @@
-use Rattle.std.proofs.Common.{arith, [], ◌++◌, ◌≡◌, ◌<◌, ◌≤◌, ◌∷◌, ◌∙◌, ℕ, List, Some, length, slice_index_or, ap, inl, refl, subst, sym}
+use Rattle.std.proofs.Common.{arith, [], ◌++◌, ◌≡◌, ◌<◌, ◌∷◌, ◌∙◌, ℕ, List, Some, length, slice_index_or, ap, inl, refl, subst, sym}
 use Rattle.std.proofs.lemmas.List.{get_or_default, length_push}
 use Rattle.std.proofs.lemmas.List.Elements.{at_read}
-use Rattle.snmp_gate.specs.Said.{Said}
 use Rattle.snmp_gate.specs.Bounds.{IsTimely, MayBeAsked}
 use Rattle.snmp_gate.specs.Due.{IsTodo}
-use Rattle.snmp_gate.specs.Question.{Question}
-use Rattle.snmp_gate.specs.Work.{EndingStands}
 use Rattle.snmp_gate.specs.declared.asks.DeviceAsk.{DeviceAsk}
-use Rattle.snmp_gate.specs.declared.gate.Gate.{Gate}
-use Rattle.snmp_gate.specs.declared.gate.Sent.{Sent}
-use Rattle.snmp_gate.specs.declared.gate.Sent.TheVariants as out
 use Rattle.snmp_gate.specs.declared.requests.WaitingRequest.{WaitingRequest}
-use Rattle.snmp_gate.specs.declared.requests.WaitingRequests.{WaitingRequests}
 use Rattle.snmp_gate.specs.declared.waiting_message.WaitingMessage.{WaitingMessage}
-use Rattle.snmp_gate.specs.declared.work.RequestEnd.{RequestEnd}
 use Rattle.snmp_gate.specs.declared.work.Todo.TheVariants.{Ask}
 use Rattle.snmp_gate.specs.declared.work.Work.{Work}
-use Rattle.snmp_gate.specs.declared.work.Work.TheVariants.{Ends}
-use Rattle.snmp_gate.proofs.Bounded.{agent_same, asks_set, bounded_set, bounded_worked, stays_of, stays_on, stays_requests, stays_same}
+use Rattle.snmp_gate.proofs.Bounded.{agent_same, asks_set, bounded_set, stays_of, stays_same}
 use Rattle.snmp_gate.proofs.Questions.{at_place}
-use Rattle.snmp_gate.proofs.Sending.{on_ok}
-use Rattle.snmp_gate.proofs.Todos.{asked_none, may_ask, open_asked, room_at, unasked, worked_ended, worked_messages}
+use Rattle.snmp_gate.proofs.Todos.{asked_none, may_ask, open_asked, room_at, unasked}
 use Rattle.snmp_gate.specs.declared.asks.DeviceAsks.{DeviceAsks}
 use Rattle.snmp_gate.specs.Asks.{IsNextFree, ask_of}
-use Rattle.snmp_gate.specs.Groups.{Group, IsWorked, group_of, groups_of}
-use Rattle.snmp_gate.specs.History.{Happening, asked}
+use Rattle.snmp_gate.specs.Groups.{Group, group_of, groups_of}
+use Rattle.snmp_gate.specs.History.{asked}
 use Rattle.std.proofs.Math.Seq.{map-set_same}
 use Rattle.snmp_gate.proofs.GroupSteps.{group_at, on_err}
 use Rattle.snmp_gate.proofs.AsksKept.{asks_asked, asks_of_asked, free_again, free_own, is_free_in, long_lists}
-use Rattle.snmp_gate.proofs.Histories.{asked_all, asked_so_far, ended_all, moved, too_long}
-use Rattle.snmp_gate.proofs.Keeping.{if_err, stands_kept, stays_as_before}
-use Rattle.snmp_gate.proofs.SetsGoing.{asked_once, asked_sets, ended_sets, unasked_never}
+use Rattle.snmp_gate.proofs.Histories.{asked_all, asked_so_far, moved}
+use Rattle.snmp_gate.proofs.Keeping.{stands_kept, stays_as_before}
+use Rattle.snmp_gate.proofs.SetsGoing.{asked_once, asked_sets, unasked_never}
 use Rattle.snmp_gate.proofs.SetsKept.{keeps_same}
-use Rattle.snmp_gate.specs.Waiting.{AsksStand, GateStands, IsAsBefore, SendHappens, asks_in}
+use Rattle.snmp_gate.specs.Waiting.{AsksStand, asks_in}
 use Rattle.snmp_gate.proofs.gate.Gate.ask_at.Goals as goal
 
 -- what is read twice is the same
@@ -63,9 +53,6 @@ ask-requires-clause-room c =
 
 pub set_asked-requires : goal.set_asked-requires
 set_asked-requires c = c.requires.place
-
-pub answer_at-requires-clause-ended : goal.answer_at-requires-clause-ended
-answer_at-requires-clause-ended c r = worked_ended c.args.self.now.requests.list.items c.work.new.self.list.items c.args.place c.work.result _ c.work.ensures.worked r
 
 pub returns-clause-happens : goal.returns-clause-happens
 returns-clause-happens c since before later stands =
@@ -112,54 +99,8 @@ returns-clause-happens c since before later stands =
       },
     )
 
--- the gateway, where a request ends that can't be asked
-too_long_stands : (g : Gate) (requests : WaitingRequests WaitingMessage Work) (place : ℕ) (was : Work) (e : RequestEnd) → ((q : Question) (told : Said) → EndingStands g.agent.tables q told e) → requests.next ≡ g.requests.next
-    → IsWorked (groups_of g.requests.list.items) place was (Ends e) (groups_of requests.list.items) → (since now : ℕ) (before : List Happening) → since ≤ now → GateStands since before g → GateStands now before (record g { requests = requests })
-too_long_stands g requests place was e ends next worked since now before later stands = record {
-  requests = moved g.agent.tables g.agent.tables g.devices.list.items g.devices.list.items before g.requests.next requests.next (groups_of requests.list.items) (groups_of requests.list.items) refl refl next refl
-      (ended_all g.agent.tables g.devices.list.items before g.requests.next (groups_of g.requests.list.items) (groups_of requests.list.items) place was e ends worked stands.requests);
-  asks = stands.asks;
-  sets = ended_sets since now before (groups_of g.requests.list.items) (groups_of requests.list.items) place was e g.sets.sets.items later worked stands.sets;
-}
-
--- what happens is the same, where only requests changed before
-send_same : (g : Gate) (requests : WaitingRequests WaitingMessage Work) (now : ℕ) (before : List Happening) (salt : List ℕ) (what : Sent) (new : Gate) → SendHappens (record g { requests = requests }) now before salt what new → SendHappens g now before salt what new
-send_same g requests now before salt (out.ToClient n to w) new h = (h.0, h.1, record { lawful = h.2.lawful; tried = h.2.tried; stands = h.2.stands })
-send_same g requests now before salt (out.ToDevice n to w) new h = (h.0, h.1, record { lawful = h.2.lawful; tried = h.2.tried; stands = h.2.stands })
-send_same g requests now before salt (out.Unanswered n why) new h = (h.0, record { lawful = h.1.lawful; tried = h.1.tried; stands = h.1.stands })
-send_same g requests now before salt (out.GivenUp n to) new h = record { lawful = h.lawful; tried = h.tried; stands = h.stands }
-send_same g requests now before salt out.Nothing new h = h
-
 pub returns-in_default-clause-happens : goal.returns-in_default-clause-happens
-returns-in_default-clause-happens c =
-    let g = c.args.self.now in
-    on_ok c.answer_at.result _ _ (λ sent happens since before later stands. send_same g c.work.new.self c.args.now before c.args.salt sent c.answer_at.new.self (happens c.args.now before (omega arith)
-    (too_long_stands g c.work.new.self c.args.place c.work.result _ (too_long g.agent.tables) c.work.ensures.next c.work.ensures.worked since c.args.now before later stands))) c.answer_at.ensures.happens
-
-pub returns-in_default-clause-err : goal.returns-in_default-clause-err
-returns-in_default-clause-err c =
-    let g = c.args.self.now in
-    let mid : Gate = record g { requests = c.work.new.self } in
-    if_err c.answer_at.result (IsAsBefore c.args.now mid c.answer_at.new.self) (IsAsBefore c.args.now g c.answer_at.new.self)
-    (λ is. record {
-      agent = is.agent;
-      devices = is.devices;
-      limits = is.limits;
-      asks = is.asks;
-      messages = is.messages ∙ worked_messages (groups_of g.requests.list.items) (groups_of c.work.new.self.list.items) c.args.place c.work.result _ c.work.ensures.worked;
-      next = is.next ∙ c.work.ensures.next;
-      sets = is.sets;
-      stands = λ since before later stands. is.stands c.args.now before (omega arith)
-          (too_long_stands g c.work.new.self c.args.place c.work.result _ (too_long g.agent.tables) c.work.ensures.next c.work.ensures.worked since c.args.now before later stands);
-    }) c.answer_at.ensures.err
-
-pub returns-in_default-clause-stays : goal.returns-in_default-clause-stays
-returns-in_default-clause-stays c =
-    let g = c.args.self.now in
-    let mid : Gate = record g { requests = c.work.new.self } in
-    stays_on g mid c.answer_at.new.self
-    (stays_requests g mid (agent_same g.agent g.agent refl) refl refl refl (bounded_worked g.limits g.requests c.work.new.self c.work.ensures.most c.work.ensures.most_messages c.args.place c.work.result _ c.work.ensures.worked tt))
-    c.answer_at.ensures.stays
+returns-in_default-clause-happens c = c.answer_too_long.ensures.happens
 
 pub returns-clause-stays : goal.returns-clause-stays
 returns-clause-stays c =
