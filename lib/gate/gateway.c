@@ -215,7 +215,7 @@ static void say_listeners(snmpsec_gate *old, snmpsec_gate *new) {
     if (!same) fprintf(stderr, "snmpsec-gate: listen: other addresses are only taken at a start\n");
 }
 
-/* Puts the new machine and its sockets in the place of the old ones. */
+/* Puts the new machine and its sockets instead of the old ones. */
 static void replace_gate(struct gateway *gateway, snmpsec_gate *gate, uint32_t boots, struct device *devices, size_t len) {
     for (size_t i = 0; i < len; i++) take_counts(gateway, &devices[i], i);
     close_devices(gateway->devices, &gateway->devices_len);

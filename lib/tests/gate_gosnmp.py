@@ -88,7 +88,7 @@ def main():
                     found, count = scraped(name, GATE, split), count + 1
                     if found != own:
                         differ += 1
-                        print(f"differs: {name}: {found} in the place of {own}")
+                        print(f"differs: {name}: {found} instead of {own}")
             finally:
                 exporter.kill()
     print(f"{count} scrapes compared, {differ} differ")

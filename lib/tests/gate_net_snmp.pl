@@ -39,7 +39,7 @@ sub judge {
     $count++;
     return if $found eq $expected;
     $differ++;
-    print "differs: $name: $found in the place of $expected\n";
+    print "differs: $name: $found instead of $expected\n";
 }
 
 for my $who (['plain', '', 1], ['md', 'md5', 2], ['md', 'md5', 3], ['sha', 'sha', 2], ['sha', 'sha', 3]) {

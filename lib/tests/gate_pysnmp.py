@@ -67,7 +67,7 @@ def main():
             count += 1
             if found != device[what]:
                 differ += 1
-                print(f"differs: {name} {what}: {found} in the place of {device[what]}")
+                print(f"differs: {name} {what}: {found} instead of {device[what]}")
         if name != "plain 1":
             count += 1
             told = side.set(f"{SYSTEM}.4.0", name)
