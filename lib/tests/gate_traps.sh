@@ -94,6 +94,17 @@ notifies() { # FROM COMMUNITY WORDS..: a device's Trap
     SNMP_PERSISTENT_DIR=$traps/sender snmptrap -v2c --clientaddr="$from" -c "$community" "127.0.0.1:$traps_at" "$@" > /dev/null 2>&1
 }
 
+# until_got PATTERN WORDS..: a device's Trap, again until snmptrapd gets it, at most 5 seconds: `bound` sees the gateway's own socket to it too
+until_got() {
+    local tries pattern=$1
+    shift
+    for tries in {1..50}; do
+        notifies "$@"
+        sleep 0.1
+        grep -q -- "$pattern" "$traps/got" && return
+    done
+}
+
 # in_file NAME FILE PATTERN: it is there within 10 seconds
 in_file() {
     local tries
@@ -181,7 +192,7 @@ test_receiver_away() {
     for _ in 1 2 3; do notifies 127.0.0.2 other 1 $link_down; done
     in_file "a receiver is away" "$traps/err" "sent to user sha256-priv"
     begin_snmptrapd
-    notifies 127.0.0.2 other 77 $link_down
+    until_got "Timeticks: (77) " 127.0.0.2 other 77 $link_down
     in_file "it is back" "$traps/got" "Timeticks: (77) "
     kill "$gate"
     wait "$gate"

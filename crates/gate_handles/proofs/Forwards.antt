@@ -1,5 +1,5 @@
 -- Nothing waits at a new forwarder; and a datagram that is taken.
-use Rattle.std.proofs.Common.{◌≡◌, ◌<◌, ℕ, List, [], ◌∷◌, None, Result, inl, length, refl, arith}
+use Rattle.std.proofs.Common.{◌≡◌, ℕ, List, [], ◌∷◌, None, Result, inl, refl, arith}
 use Rattle.std.specs.Prelude.{All}
 use Rattle.vacm_core.specs.Tables.{Tables}
 use Rattle.snmp_gate.specs.declared.devices.Device.{Device}

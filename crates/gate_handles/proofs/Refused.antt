@@ -1,5 +1,5 @@
 -- The two lines of a refusal that the buffer has no room for.
-use Rattle.std.proofs.Common.{ℕ, List, Some, Err, Result}
+use Rattle.std.proofs.Common.{ℕ, List, Some, Err}
 use Rattle.std.specs.Prelude.{⊤}
 use Rattle.snmpsec_gate_config.specs.Refusals.{RefusesText}
 use Rattle.snmpsec_gate_config.specs.declared.fault.GateFault.{GateFault}

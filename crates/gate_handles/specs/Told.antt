@@ -2,8 +2,8 @@
 -- refused, and the user of a datagram.
 --
 -- `ReadsSetting`, `IsSetting`: a text that the configuration says. `MayNotify`: whether a receiver may be notified of a
--- variable. `numbers_of`: whom the last call was about. `CountsOf`: a counter of the agent. `TellsGate`: why a text is refused as a configuration. `CopiesUser`: the user
--- that a datagram names.
+-- variable. `numbers_of`: whom the last call was about. `CountsOf`: a counter of the agent. `TellsGate`: why a text is
+-- refused as a configuration. `CopiesUser`: the user that a datagram names.
 use Rattle.std.specs.Prelude.{◌≡◌, ◌<◌, ◌≤◌, ◌⊎◌, ⊤, ℕ, List, []}
 use Rattle.std.specs.Prelude.{◌∷◌, ◌++◌, length, drop, codes, string_bytes, slice_get, if◌then◌else◌, ◌==◌}
 use Rattle.std.specs.Prelude.{Option, Some, None, option_map, MatchOption, Result, Ok, Err}
@@ -32,8 +32,8 @@ use Rattle.vacm_core.specs.declared.access.Access.{Access}
 use Rattle.vacm_core.specs.declared.access.ViewType.TheVariants.{Notify}
 use Rattle.snmp_handles.specs.Parts.{Copies, CopiesMessage, CopiesNothing}
 use Rattle.snmp_handles.specs.declared.fault.CallFault.{CallFault}
-use Rattle.snmp_handles.specs.declared.fault.CallFault.TheVariants.{Refused, BadArgument, BadConfiguration, NothingTaken}
-use Rattle.snmp_handles.specs.declared.fault.CallFault.TheVariants.{ShortBuffer}
+use Rattle.snmp_handles.specs.declared.fault.CallFault.TheVariants.{Refused, BadArgument, BadConfiguration}
+use Rattle.snmp_handles.specs.declared.fault.CallFault.TheVariants.{NothingTaken, ShortBuffer}
 use Rattle.gate_handles.specs.Gates.{GateHeld}
 use Rattle.gate_handles.specs.declared.setting.GateText.{GateText}
 use Rattle.gate_handles.specs.declared.setting.GateText.TheVariants as setting

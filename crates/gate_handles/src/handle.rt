@@ -219,8 +219,8 @@ impl GateHandle {
         })
     }
 
-    /// Gives back the memory of all that is held: users, tables, devices, receivers, and what waits. The error is out of memory,
-    /// and changes nothing.
+    /// Gives back the memory of all that is held: users, tables, devices, receivers, and what waits. The error is out
+    /// of memory, and changes nothing.
     pub fn clear(&mut self) -> Result<(), CallFault>
         ensures { Empties self.old result self.new }
     {

@@ -2,8 +2,8 @@
 --
 -- `MakesGateway`: the answer of `_new`. `TakesFromClient`, `TakesFromDevice`, `SendsDue`: the answer is the number of
 -- what becomes of a datagram and of what goes out (`Eventful`). `TellsDue`, `TellsDatagram`, `TellsClientOf`,
--- `TellsSetting`, `TellsMayNotify`, `TellsNumbersOf`, `GateCounter`, `GateCount`, `ClearsGate`: what each export answers and leaves.
--- `TellsGateConfiguration`, `TellsUser`: those without a handle.
+-- `TellsSetting`, `TellsMayNotify`, `TellsNumbersOf`, `GateCounter`, `GateCount`, `ClearsGate`: what each export
+-- answers and leaves. `TellsGateConfiguration`, `TellsUser`: those without a handle.
 use Rattle.std.specs.Prelude.{◌≡◌, ◌≤◌, ◌<◌, ◌⊎◌, ℕ, ℤ, pos, List, ◌++◌, length, drop, MatchOption, Result}
 use Rattle.std.specs.Int.{to_be_bytes, w64}
 use Rattle.snmp_agent.specs.Counts.{count_at}

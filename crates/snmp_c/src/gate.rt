@@ -185,8 +185,8 @@ pub unsafe extern "C" fn proved_gate_client(at: *mut u8, out: &mut [u8], written
 /// Copies what the configuration says, in the same way: 0 the path of the boots file; 1 the address at which it
 /// listens at this position, counted from 0; 2 the contextName of the device at this position, 3 its address, and 4
 /// what about it is probably a mistake; 5 the address at which it takes Traps; 6 the address of the receiver at this
-/// position, 7 the name of its user, and 8 the word for its level. It answers -1 where nothing has the number, -2 where nothing is said at the
-/// position, and 14 if memory runs out.
+/// position, 7 the name of its user, and 8 the word for its level. It answers -1 where nothing has the number, -2
+/// where nothing is said at the position, and 14 if memory runs out.
 #[unsafe(no_mangle)]
 pub unsafe extern "C" fn proved_gate_setting(
     at: *mut u8,

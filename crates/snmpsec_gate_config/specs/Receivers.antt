@@ -2,7 +2,7 @@
 --
 -- `TellsReceiver`: why none can be sent to a receiver. `AreReceivers`: they can be sent to each, and to none twice.
 -- `IsFirstUnfit`: the first receiver to which they can't.
-use Rattle.std.specs.Prelude.{◌≡◌, ◌≢◌, ⊤, ℕ, ◌<◌, List, take, slice_get, All, Any, Option, Some, None}
+use Rattle.std.specs.Prelude.{◌≡◌, ◌≢◌, ⊤, ℕ, ◌<◌, List, take, slice_get, All, Any, Some, None}
 use Rattle.snmp_ber.specs.declared.level.Level.{Level}
 use Rattle.snmp_ber.specs.declared.level.Level.TheVariants.{NoAuthNoPriv, AuthNoPriv, AuthPriv}
 use Rattle.usm_users.specs.declared.load.UserRow.{UserRow}
