@@ -79,9 +79,30 @@ static void say_note(snmpsec_gate *gate, size_t device) {
     free(note);
 }
 
+/* Says which devices have the address of an earlier one: then communities alone tell whose Trap it is. */
+static void say_one_host(snmpsec_gate *gate) {
+    static struct sockaddr_storage addresses[MOST_DEVICES];
+    char words[CONTEXT_WORDS], earlier[CONTEXT_WORDS];
+    size_t len;
+    socklen_t address_len;
+    for (size_t i = 0, n = count_of(gate, SNMPSEC_GATE_ADDRESS); i < n && i < MOST_DEVICES; i++) {
+        char *address = setting_of(gate, SNMPSEC_GATE_ADDRESS, i, &len);
+        bool is_read = address && !address_of(address, &addresses[i], &address_len);
+        size_t j = 0;
+        free(address);
+        if (!is_read) return;
+        while (j < i && !are_of_one_host(&addresses[j], &addresses[i])) j++;
+        if (j == i) continue;
+        context_words(gate, i, words);
+        context_words(gate, j, earlier);
+        fprintf(stderr, "snmpsec-gate: device %s: device %s has its address, so their Traps are told apart by their communities\n", words, earlier);
+    }
+}
+
 static void say_notes(snmpsec_gate *gate) {
     bool takes = count_of(gate, SNMPSEC_GATE_TRAPS), sends = count_of(gate, SNMPSEC_GATE_RECEIVER);
     for (size_t i = 0, n = count_of(gate, SNMPSEC_GATE_ADDRESS); i < n; i++) say_note(gate, i);
+    if (sends && takes) say_one_host(gate);
     if (sends && !takes) fprintf(stderr, "snmpsec-gate: receivers: no Traps are taken, since [gate] has no traps\n");
     if (takes && !sends) fprintf(stderr, "snmpsec-gate: traps: no Traps are taken, since there is no receiver\n");
 }

@@ -11,8 +11,8 @@
  * Secrets: what the library frees is wiped first, and so is the stack that its calls used. The caller wipes the configuration that it handed in.
  * Keys lie in memory as long as their handle does.
  *
- * Stack: the calls that read a configuration and those on a gateway need 52 KB of it, the two that free another handle 24 KB, and any other 16 KB. So
- * a thread with 64 KB can make each of them.
+ * Stack: the calls that read a configuration and those on a gateway or a forwarder need 52 KB of it, the two that free another handle 24 KB, and any
+ * other 16 KB. So a thread with 64 KB can make each of them.
  *
  * Work: a datagram makes a call look at its own octets, and at a few rows. _take reads a datagram once, and hashes and opens it once if its user has
  * the keys; it finds the user by halving the table. _part and _message copy. _respond and _respond_front read the list, write, hash and seal it once.

@@ -71,7 +71,8 @@ static void traps(void) {
     check("new", 0, made(text, &forward));
     check("nothing is due", SNMPSEC_NOTHING_TAKEN, snmpsec_forward_due(forward, &at));
     check("and nothing is written", 7, (long long)at);
-    for (size_t i = 0; i < datagrams_len; i++) becomes("of SNMPv3", forward, 0, fenced(datagrams[i], lengths[i]), lengths[i], SNMPSEC_FORWARD_UNREADABLE);
+    for (size_t i = 0; i < datagrams_len; i++)
+        becomes("of SNMPv3", forward, 0, fenced(datagrams[i], lengths[i]), lengths[i], SNMPSEC_FORWARD_UNREADABLE);
     becomes("no octets", forward, 0, NULL, 0, SNMPSEC_FORWARD_UNREADABLE);
     memcpy(other, trap, sizeof trap);
     other[13] = 0xa0;

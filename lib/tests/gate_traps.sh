@@ -124,6 +124,8 @@ test_traps_checked() {
     check "--check: each receiver" 7 "$(grep -c notified <<< "$out")"
     sed 's/^notify = .*/notify = "none"/' "$traps/gate.toml" > "$traps/none.toml"
     has "--check: a view that there isn't" "noAuthNoPriv: notified of no device" "$("$programs/snmpsec-gate" --check "$traps/none.toml" 2>&1)"
+    sed 's/127.0.0.2:161/127.0.0.1:1161/' "$traps/gate.toml" > "$traps/none.toml"
+    has "--check: two devices at one address" "device pump: device pdu has its address, so" "$("$programs/snmpsec-gate" --check "$traps/none.toml" 2>&1)"
     grep -v ^traps "$traps/gate.toml" > "$traps/none.toml"
     has "--check: no traps" "no Traps are taken, since [gate] has no traps" "$("$programs/snmpsec-gate" --check "$traps/none.toml" 2>&1)"
 }
