@@ -126,7 +126,7 @@ new_by at (Ends e) is = tt
 never_asked : (next at : ℕ) (datagram : List ℕ) (m : WaitingMessage) (before : List Happening) → All (λ (e : Happening). number_of e < next) before → ¬ WasAsked (accepted next at datagram m ∷ before) next
 never_asked next at datagram m before past was =
     let old = was_before (accepted next at datagram m) before next (λ d id vs w is. let wrong : accepted next at datagram m ≡ asked next d id vs w = is in cc) was in
-    none_happened before next (asked next old.device old.id old.variables old.datagram) past old.there refl
+    none_happened before next (asked next old.device old.id old.request old.datagram) past old.there refl
 
 pub begun_all : (tables : Tables) (devices : List Device) (before : List Happening) (next after : ℕ) (gs new : List Waiting) (m : WaitingMessage) (q : Question) (w : Work) (at : ℕ) (datagram : List ℕ) → question_in m ≡ Some q
     → BeginsWell tables devices q w → IsNew at w → new ≡ gs ++ begun next m w ∷ [] → after ≡ suc next → GroupsStand tables devices before next gs → GroupsStand tables devices (accepted next at datagram m ∷ before) after new

@@ -18,14 +18,18 @@ use Rattle.snmp_walk.specs.BulkColumn.{Ascends, BulkStands, IsGiven, bulk_reques
 use Rattle.snmp_walk.specs.BulkDialogue.{bulk_requests_of}
 use Rattle.snmp_walk.specs.Column.{MayShow}
 use Rattle.snmp_walk.specs.Dialogue.{IsShown, Shows, request, requests_of}
-use Rattle.snmp_walk.specs.Front.{IsShownOf}
+use Rattle.snmp_walk.specs.Front.{IsFront, IsShownOf}
 use Rattle.snmp_walk.specs.declared.bulk_column.BulkColumn.{BulkColumn}
 use Rattle.snmp_walk.specs.declared.bulk_dialogue.BulkDialogue.{BulkDialogue}
 use Rattle.snmp_walk.specs.declared.column.Column.{Column}
 use Rattle.snmp_walk.specs.declared.operation.ReadOperation.{ReadOperation}
 use Rattle.snmp_walk.specs.declared.operation.ReadOperation.TheVariants.{GetNext}
+use Rattle.gateway_laws.specs.Bulk.{IsFrontOfBulk}
 use Rattle.gateway_laws.specs.Device.{AreAnswered, IsDevice}
 use Rattle.gateway_laws.specs.Tracks.{AllTrack}
+use Rattle.gateway_laws.proofs.BulkFronts.{front_of_bulk}
+use Rattle.gateway_laws.proofs.BulkTrueRuns.{column_names}
+use Rattle.gateway_laws.proofs.FrontsTaken.{bulk_take}
 use Rattle.gateway_laws.proofs.Lists.{all_shown}
 use Rattle.snmp_gate.specs.Messages.{question_given, seen_in}
 use Rattle.snmp_gate.specs.Question.{Question}
@@ -93,7 +97,7 @@ zip_shows Seen said o (c ∷ cs) (v ∷ vs) (b ∷ bs) same zip =
 
 pub columns_reply : (a : Answering) (tables : Tables) (q : Question) (said : Said) (g : Given) (o : ReadOperation) (cs : List Column) (bs : List Binding) (r : Reply) → q.tag ≡ pdu_tag (read_type o)
     → map request cs ≡ requests_of o (variables_of q.list) → AllZip (Shows (seen_in tables q) said.variables) cs bs → AllZip IsShown cs bs
-    → ((device : Known) → IsDevice device → AreTrue device o said → AllTrack device (seen_in tables q) cs) → IsSentOr a g (told_with NO_ERROR (pos 0) (map variable_of bs)) r → IsReplyTo a tables q said g r
+    → ((device : Known) → IsDevice device → AreTrue device said → AllTrack device (seen_in tables q) cs) → IsSentOr a g (told_with NO_ERROR (pos 0) (map variable_of bs)) r → IsReplyTo a tables q said g r
 columns_reply a tables q said g o cs bs r tag same zip shown tracks sent =
     sent_reply a tables q said g NO_ERROR (pos 0) (map variable_of bs) r
     (inl (
@@ -147,18 +151,23 @@ tells_bulk Seen said vs n m cs v same stand shown =
     }
 
 pub front_reply : (a : Answering) (tables : Tables) (q : Question) (said : Said) (g : Given) (d : BulkDialogue) (bs : List Binding) (r : Reply) → BulkStandsFor tables q said d
-    → All (IsShownOf (seen_in tables q) said.variables d.columns.items) (map variable_of bs) → IsFrontSentOr a g (map variable_of bs) r → IsReplyTo a tables q said g r
-front_reply a tables q said g d bs (reply.Sends datagram) stands all (inl (n, sent)) =
-    let may = λ (v : Variable) (is : IsShownOf (seen_in tables q) said.variables d.columns.items v). tells_bulk (seen_in tables q) said.variables (variables_of q.list) stands.non_repeaters stands.max_repetitions d.columns.items v stands.requests_are stands.stand is in
+    → All (IsShownOf (seen_in tables q) said.variables d.columns.items) (map variable_of bs) → IsFront d.non_repeaters d.max_repetitions d.columns.items (map variable_of bs) → IsFrontSentOr a g (map variable_of bs) r → IsReplyTo a tables q said g r
+front_reply a tables q said g d bs (reply.Sends datagram) stands all is_front (inl (n, sent)) =
+    let names = column_names d.non_repeaters d.max_repetitions (variables_of q.list) d.columns.items stands.requests_are in
+    let law = λ (device : Known) (plain : IsDevice device) (truly : AreTrue device said).
+    bulk_take device (seen_in tables q) (map (λ (v : Variable). v.name) (variables_of q.list)) d.non_repeaters d.max_repetitions (map variable_of bs) n
+    (subst (λ (all_names : List (List ℕ)). IsFrontOfBulk device (seen_in tables q) all_names d.non_repeaters d.max_repetitions (map variable_of bs)) names
+    (front_of_bulk device (seen_in tables q) plain d.non_repeaters d.max_repetitions d.columns.items (map variable_of bs) (stands.tracks device plain truly) is_front)) in
+    let may = λ (v : Variable) (is : IsShownOf (seen_in tables q) said.variables d.columns.items v). tells_bulk (seen_in tables q) said.variables (variables_of q.list) d.non_repeaters d.max_repetitions d.columns.items v stands.requests_are stands.stand is in
     inl (
       told_with NO_ERROR (pos 0) (take n (map variable_of bs)),
       sent,
-      inl (refl, front stands.tag (All-take (MayTellBulk (seen_in tables q) said.variables (variables_of q.list)) n (map variable_of bs) (All-weaker (IsShownOf (seen_in tables q) said.variables d.columns.items) (MayTellBulk (seen_in tables q) said.variables (variables_of q.list)) may (map variable_of bs) all))),
+      inl (refl, front stands.tag (All-take (MayTellBulk (seen_in tables q) said.variables (variables_of q.list)) n (map variable_of bs) (All-weaker (IsShownOf (seen_in tables q) said.variables d.columns.items) (MayTellBulk (seen_in tables q) said.variables (variables_of q.list)) may (map variable_of bs) all)) d.non_repeaters d.max_repetitions stands.first stands.most law),
     )
-front_reply a tables q said g d bs (reply.Sends datagram) stands all (inr sent) = inl (too_big, sent, may_tell_too_big tables q said)
-front_reply a tables q said g d bs reply.Nothing stands all sent = tt
-front_reply a tables q said g d bs reply.SilentDrop stands all sent = tt
-front_reply a tables q said g d bs (reply.Refused why) stands all sent = tt
+front_reply a tables q said g d bs (reply.Sends datagram) stands all is_front (inr sent) = inl (too_big, sent, may_tell_too_big tables q said)
+front_reply a tables q said g d bs reply.Nothing stands all is_front sent = tt
+front_reply a tables q said g d bs reply.SilentDrop stands all is_front sent = tt
+front_reply a tables q said g d bs (reply.Refused why) stands all is_front sent = tt
 
 pub report_reply : (a : Answering) (tables : Tables) (q : Question) (said : Said) (g : Given) (r : Reply) → IsReportedOr a g r → IsReplyTo a tables q said g r
 report_reply a tables q said g (reply.Sends datagram) is = inr is

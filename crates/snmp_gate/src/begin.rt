@@ -1,9 +1,10 @@
 //! How a request begins.
 
-ghost use Rattle.std.specs.Prelude.{◌≡◌, ◌≢◌, List, [], IfOk};
+ghost use Rattle.std.specs.Prelude.{◌≡◌, ◌≢◌, ◌≤◌, List, [], IfOk, length};
+ghost use Rattle.snmp_ber.specs.declared.number.TheConstants.{MAX_INTEGER32};
 ghost use Rattle.vacm_core.specs.Tables.{Tables};
 ghost use Rattle.snmp_msg.specs.PduTypes.{pdu_tag};
-ghost use Rattle.snmp_msg.specs.Variables.{Variable};
+ghost use Rattle.snmp_msg.specs.Variables.{variables_of};
 ghost use Rattle.snmp_msg.specs.declared.pdu_type.PduType.TheVariants.{GetBulkRequest, GetRequest, GetNextRequest};
 ghost use Rattle.snmp_gate.specs.Question.{Question};
 ghost use Rattle.snmp_gate.specs.Messages.{IsPduOf, IsViewerOf};
@@ -77,6 +78,7 @@ fn begin_bulk(
     pdu: &Pdu<'_>,
     limits: &BulkLimits,
 ) -> Result<Onward, AllocError>
+    requires { length (variables_of pdu.now.list.now) ≤ MAX_INTEGER32 }
     ensures { IfOk result (λ onward. (tables : Tables) (q : Question) (told : Said)
         → IsViewerOf tables q viewer.now → IsPduOf q pdu.now → q.tag ≡ pdu_tag GetBulkRequest
         → OnwardStands tables q told onward) }

@@ -4,11 +4,11 @@ use Rattle.snmp_gate.proofs.onward.read_on.Goals as goal
 pub returns-in-Asks-clause-stands : goal.returns-in-Asks-clause-stands
 returns-in-Asks-clause-stands c tables q told viewer stands =
     read_stands tables q told c.args.viewer.now c.args.operation c.args.dialogue c.go_on.new.self viewer (c.go_on.ensures.stand told.variables)
-    (goes_tracking c.args.viewer.now c.args.operation told c.args.dialogue c.go_on.new.self c.go_on.ensures.go_on) c.go_on.ensures.requests stands
+    (goes_tracking c.args.viewer.now told c.args.dialogue c.go_on.new.self c.go_on.ensures.go_on) c.go_on.ensures.requests stands
 
 pub returns-in-Ends-clause-stands : goal.returns-in-Ends-clause-stands
 returns-in-Ends-clause-stands c tables q told viewer stands = (
   c.args.operation,
   read_stands tables q told c.args.viewer.now c.args.operation c.args.dialogue c.go_on.new.self viewer (c.go_on.ensures.stand told.variables)
-      (goes_tracking c.args.viewer.now c.args.operation told c.args.dialogue c.go_on.new.self c.go_on.ensures.go_on) c.go_on.ensures.requests stands,
+      (goes_tracking c.args.viewer.now told c.args.dialogue c.go_on.new.self c.go_on.ensures.go_on) c.go_on.ensures.requests stands,
 )

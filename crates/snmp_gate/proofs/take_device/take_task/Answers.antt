@@ -1,6 +1,6 @@
 use Rattle.std.proofs.Common.{subst}
 use Rattle.snmp_gate.specs.Ends.{FailsOrGoesOn}
-use Rattle.snmp_gate.specs.Work.{SaysAll, TaskStands, variables_of_task}
+use Rattle.snmp_gate.specs.Work.{SaysAll, TaskStands, request_of_task}
 use Rattle.snmp_gate.specs.declared.task.Task.{Task}
 use Rattle.snmp_gate.proofs.Endings.{fails_end}
 use Rattle.snmp_gate.proofs.Sending.{on_both, on_ok}
@@ -10,7 +10,16 @@ pub returns-in-Read-clause-stands : goal.returns-in-Read-clause-stands
 returns-in-Read-clause-stands c =
     on_ok c.take_read.result _ _ (λ taken both tables q told viewer says stands. (
       both.0 tables q told c.in-Read.field-0 viewer
-          (subst (λ (t : Task). SaysAll (variables_of_task q t) c.args.answer.now told) c.in-Read.is says)
+          (subst (λ (t : Task). SaysAll (request_of_task q t) c.args.answer.now told) c.in-Read.is says)
           (subst (TaskStands tables q told) c.in-Read.is stands),
       fails_end q taken both.1,
     )) (on_both c.take_read.result _ FailsOrGoesOn c.take_read.ensures.stands c.take_read.ensures.fails)
+
+pub returns-in-Bulk-clause-stands : goal.returns-in-Bulk-clause-stands
+returns-in-Bulk-clause-stands c =
+    on_ok c.take_bulk.result _ _ (λ taken both tables q told viewer says stands. (
+      both.0 tables q told c.in-Bulk.field-0 viewer
+          (subst (λ (t : Task). SaysAll (request_of_task q t) c.args.answer.now told) c.in-Bulk.is says)
+          (subst (TaskStands tables q told) c.in-Bulk.is stands),
+      fails_end q taken both.1,
+    )) (on_both c.take_bulk.result _ FailsOrGoesOn c.take_bulk.ensures.stands c.take_bulk.ensures.fails)
