@@ -36,7 +36,7 @@ use Rattle.snmp_gate.specs.declared.work.RequestEnd.TheVariants as ending
 use Rattle.std.proofs.lemmas.Bool.{false≢true}
 use Rattle.snmp_gate.specs.declared.requests.WaitingRequest.{WaitingRequest}
 use Rattle.snmp_gate.proofs.GroupSteps.{group_at, groups_set}
-use Rattle.snmp_gate.specs.History.{AskedBy, Happening, IsAccepted, IsAnswerOf, IsCommunityFor, IsMediated, MayAskFor, OpenAsk, accepted, answered, asked, ends_in, exchange_in, given_up, more_said, number_of, open_ask, said_by, sent, told_in, unanswered, waiting_in}
+use Rattle.snmp_gate.specs.History.{AskedBy, Happening, IsAccepted, IsAnswerOf, IsCommunityFor, IsMediated, MayAskFor, OpenAsk, accepted, answered, asked, asked_more, ends_in, exchange_in, given_up, more_said, number_of, open_ask, said_by, sent, told_in, unanswered, waiting_in}
 use Rattle.snmp_gate.specs.Lawful.{IsInTurn, IsNext, WasAsked}
 use Rattle.snmp_gate.specs.Limits.{asks_since}
 use Rattle.snmp_gate.specs.Question.{Question}
@@ -317,6 +317,15 @@ one_head a b xs ys is = cc
 same_some : {A : Type 0} (a b : A) → Some a ≡ Some b → a ≡ b
 same_some a b is = cc
 
+-- as much is told as before
+asked_has : (n device id : ℕ) (what : RequestPdu) (datagram : List ℕ) (before : List Happening) → HasAll (told_in n before) (told_in n (asked n device id what datagram ∷ before))
+asked_has n device id what datagram before =
+    let told = told_in n before in
+    record {
+      variables = λ v there. subst (λ (b : Bool). Contains (cond b (asked_more what told) told).variables v) (sym (same_number n)) there;
+      exchanges = λ e there. subst (λ (b : Bool). Contains (cond b (asked_more what told) told).exchanges e) (sym (same_number n)) there;
+    }
+
 pub record AsksAll (agent : AgentState) (devices : List Device) (before : List Happening) (next number device id : ℕ) (datagram : List ℕ) (gs : List Waiting) : Type 0 where
   pub request : RequestPdu
   pub mediated : IsMediated agent devices before (asked number device id request datagram)
@@ -365,7 +374,8 @@ asked_all agent devices before next rs new place device number id datagram withi
     let a = sets.asked o work_is in
     let task : request_of_task q a.0.task.task ≡ what = ap (λ (t : NamedTask). request_of_task q t.task) a.2 in
     let a_stands : OpenStands tables devices (now ∷ before) r.number q a.0 = record {
-      task = subst (λ (t : NamedTask). TaskStands tables q (told_in r.number before) t.task) (sym a.2) open_stands.task;
+      task = subst (λ (t : NamedTask). TaskStands tables q (told_in r.number (now ∷ before)) t.task) (sym a.2)
+          (task_more tables q (told_in r.number before) (told_in r.number (now ∷ before)) o.task.task (asked_has r.number device id what datagram.items before) open_stands.task);
       device = subst (IsDeviceOf devices q.context) (sym a.3) open_stands.device;
       asked = λ other is.
           let one = same_some id other (sym a.4 ∙ is) in

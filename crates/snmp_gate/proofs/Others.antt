@@ -4,7 +4,8 @@ use Rattle.std.proofs.Common.{refl, sym, ap, ◌∙◌, inl, inr, arith}
 use Rattle.std.proofs.lemmas.Bool.Decides.{eqb_tells}
 use Rattle.std.proofs.lemmas.List.Elements.{All-contains, All-head, All-tail, Contains-append_cases, Contains-append_right, Contains-push_cases}
 use Rattle.gateway_laws.specs.Requests.{RequestPdu}
-use Rattle.snmp_gate.specs.History.{Happening, accepted, answered, asked, given_up, more_said, number_of, open_ask, sent, told_in, unanswered, waiting_in}
+use Rattle.snmp_gate.specs.Said.{said_nothing}
+use Rattle.snmp_gate.specs.History.{asked_more, Happening, accepted, answered, asked, given_up, more_said, number_of, open_ask, sent, told_in, unanswered, waiting_in}
 use Rattle.snmp_gate.specs.Lawful.{WasAsked}
 use Rattle.snmp_gate.specs.Limits.{asks_since}
 use Rattle.snmp_gate.specs.Messages.{question_in}
@@ -33,7 +34,7 @@ chosen a x y = ap (λ (t : Bool). cond t x y) (same_number a)
 
 pub told_other : (e : Happening) (before : List Happening) (n : ℕ) → n ≢ number_of e → told_in n (e ∷ before) ≡ told_in n before
 told_other (accepted k now w m) before n other = refl
-told_other (asked k d id what w) before n other = refl
+told_other (asked k d id what w) before n other = chosen_not n k (asked_more what (told_in n before)) (told_in n before) other
 told_other (answered k d p w) before n other = chosen_not n k (more_said (open_ask n before) p (told_in n before)) (told_in n before) other
 told_other (sent k m by w) before n other = refl
 told_other (unanswered k m) before n other = refl
@@ -102,3 +103,10 @@ none_asked [] next past = refl
 none_asked (e ∷ before) next past =
     let first : number_of e < next = All-head (λ (x : Happening). number_of x < next) e before past in
     since_other e before next (λ same. omega (arith, first, same)) ∙ none_asked before next (All-tail (λ (x : Happening). number_of x < next) e before past)
+
+-- of a request of which nothing happened nothing was told
+pub none_told : (before : List Happening) (next : ℕ) → All (λ (x : Happening). number_of x < next) before → told_in next before ≡ said_nothing
+none_told [] next past = refl
+none_told (e ∷ before) next past =
+    let first : number_of e < next = All-head (λ (x : Happening). number_of x < next) e before past in
+    told_other e before next (λ same. omega (arith, first, same)) ∙ none_told before next (All-tail (λ (x : Happening). number_of x < next) e before past)

@@ -133,7 +133,7 @@ module _ (tables : Tables) (devices : List Device) (before : List Happening) (ne
 -- ---- a message that begins a request
 
 task_asks : (tables : Tables) (devices : List Device) (q : Question) (w : Work) → BeginsWell tables devices q w → AsksSet w → q.tag ≡ pdu_tag SetRequest
-task_asks tables devices q (Open o) well set = let known : TaskStands tables q said_nothing task.Set = subst (TaskStands tables q said_nothing) set (well.0 said_nothing) in known.tag
+task_asks tables devices q (Open o) well set = let known : TaskStands tables q said_nothing task.Set = subst (TaskStands tables q said_nothing) set (well.0 said_nothing refl) in known.tag
 task_asks tables devices q (Ends e) well set = absurd set
 
 noted_fresh : (now : ℕ) (v d : List ℕ) (w : Work) (digest : Option (List ℕ)) (mid sets : List RememberedSet) (n : Noted) → n ≢ noted.Before → IsNotedFor now digest w mid sets n → AsksSet w → digest ≡ Some (sha256 v) → IsFresh now (sha256 v) mid sets

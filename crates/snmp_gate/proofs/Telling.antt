@@ -35,7 +35,7 @@ use Rattle.snmp_gate.specs.Messages.{question_given, seen_in}
 use Rattle.snmp_gate.specs.Question.{Question}
 use Rattle.snmp_gate.specs.ReadAsks.{read_type}
 use Rattle.snmp_gate.specs.Replies.{Answering, IsFrontSentOr, IsOwnList, IsReportedOr, IsReplyTo, IsSentOr, MayTell, MayTellBulk, columns, front, set, told_with, too_big}
-use Rattle.snmp_gate.specs.Said.{AreTrue, Said}
+use Rattle.snmp_gate.specs.Said.{AreTrue, IsUnasked, Said, SaysDone}
 use Rattle.snmp_gate.specs.Work.{BulkStandsFor, IsOwnStatus}
 use Rattle.snmp_gate.specs.declared.reply.Reply.{Reply}
 use Rattle.snmp_gate.specs.declared.reply.Reply.TheVariants as reply
@@ -57,11 +57,11 @@ signed_tells a b = elim (true_or_false (int_eq a b)) [
 may_tell_too_big : (tables : Tables) (q : Question) (said : Said) → MayTell tables q said too_big
 may_tell_too_big tables q said = inr (inr (refl, refl))
 
-may_tell_own : (tables : Tables) (q : Question) (said : Said) (status index : ℤ) (vs : List Variable) → (status ≡ NO_ERROR → q.tag ≡ pdu_tag SetRequest) → IsOwnList q status vs → MayTell tables q said (told_with status index vs)
+may_tell_own : (tables : Tables) (q : Question) (said : Said) (status index : ℤ) (vs : List Variable) → (status ≡ NO_ERROR → (q.tag ≡ pdu_tag SetRequest) × (IsUnasked said ⊎ SaysDone said)) → IsOwnList q status vs → MayTell tables q said (told_with status index vs)
 may_tell_own tables q said status index vs own (inl (is, none)) = inr (inr (is, none))
 may_tell_own tables q said status index vs own (inr (is, all)) =
     elim (signed_tells status NO_ERROR) [
-      | inl same ↦ inl (same, set (own same) all)
+      | inl same ↦ inl (same, set (own same).0 all (own same).1)
       | inr other ↦ inr (inl (other, all))
     ]
 
@@ -74,7 +74,7 @@ sent_reply a tables q said g status index vs reply.Nothing may sent = tt
 sent_reply a tables q said g status index vs reply.SilentDrop may sent = tt
 sent_reply a tables q said g status index vs (reply.Refused why) may sent = tt
 
-pub own_reply : (a : Answering) (tables : Tables) (q : Question) (said : Said) (g : Given) (says : ResponseStatus) (vs : List Variable) (r : Reply) → IsOwnStatus q says → IsOwnList q says.status vs
+pub own_reply : (a : Answering) (tables : Tables) (q : Question) (said : Said) (g : Given) (says : ResponseStatus) (vs : List Variable) (r : Reply) → IsOwnStatus q said says → IsOwnList q says.status vs
     → IsSentOr a g (told_with says.status says.index vs) r → IsReplyTo a tables q said g r
 own_reply a tables q said g says vs r own list sent = sent_reply a tables q said g says.status says.index vs r (may_tell_own tables q said says.status says.index vs own list) sent
 
@@ -176,8 +176,8 @@ report_reply a tables q said g reply.SilentDrop is = tt
 report_reply a tables q said g (reply.Refused why) is = tt
 
 -- genErr may be told of any request
-pub unwritten : (q : Question) → IsOwnStatus q (record { status = pos 5; index = pos 0 })
-unwritten q is = absurd (false≢true ((Decides-int_eq (pos 5) (pos 0)).1 is))
+pub unwritten : (q : Question) (said : Said) → IsOwnStatus q said (record { status = pos 5; index = pos 0 })
+unwritten q said is = absurd (false≢true ((Decides-int_eq (pos 5) (pos 0)).1 is))
 
 pub of_message : (a : Answering) (tables : Tables) (q : Question) (said : Said) (g kept : Given) (client : List ℕ) (r : Reply) → g ≡ kept → (question_given client g ≡ Some q → IsReplyTo a tables q said g r)
     → question_given client kept ≡ Some q → IsReplyTo a tables q said kept r

@@ -102,13 +102,20 @@ abbrev pub more_said : Option OpenAsk → PduParts → Said → Said
 more_said ask p said = record {
   variables = said_by ask p ++ said.variables;
   exchanges = exchange_in ask p ++ said.exchanges;
+  asked = said.asked;
 }
 
--- what devices told for the request of this number
+-- what was said before, and that the device is asked this
+abbrev pub asked_more : RequestPdu → Said → Said
+asked_more request said =
+    record { variables = said.variables; exchanges = said.exchanges; asked = request ∷ said.asked }
+
+-- what devices told for the request of this number, and were asked
 abbrev pub told_in : ℕ → List Happening → Said
 told_in n [] = said_nothing
 told_in n (accepted number now datagram message ∷ before) = told_in n before
-told_in n (asked number device id request datagram ∷ before) = told_in n before
+told_in n (asked number device id request datagram ∷ before) =
+    cond (nat_eq n number) (asked_more request (told_in n before)) (told_in n before)
 told_in n (answered number device answer datagram ∷ before) =
     cond (nat_eq n number) (more_said (open_ask n before) answer (told_in n before)) (told_in n before)
 told_in n (sent number message by datagram ∷ before) = told_in n before

@@ -1,12 +1,14 @@
 -- What a device said for a request.
 --
--- `Said`: its variables, and each of its answers with what it was asked. `AreTrue`: each of its answers is what RFC
--- 3416 says of a device's variables (sections 4.2.1 to 4.2.3).
-use Rattle.std.specs.Prelude.{List, [], All}
+-- `Said`: its variables, what it was asked, and each of its answers with that. `AreTrue`: each of its answers is what
+-- RFC 3416 says of a device's variables (sections 4.2.1 to 4.2.3). `SaysDone`: it did a Set (section 4.2.5).
+use Rattle.std.specs.Prelude.{◌≡◌, List, [], All, Contains}
 use Rattle.snmp_msg.specs.Pdu.{PduParts}
 use Rattle.snmp_msg.specs.Variables.{Variable}
+use Rattle.snmp_msg.specs.declared.pdu_type.PduType.TheVariants.{SetRequest}
 use Rattle.snmp_responder.specs.Instrumentation.{Known}
 use Rattle.gateway_laws.specs.Requests.{IsTrueResponse, RequestPdu}
+use Rattle.snmp_gate.specs.declared.set_answer.TheConstants.{NO_ERROR}
 
 -- an answer, and what the device was asked
 pub record Exchange : Type 0 where
@@ -17,10 +19,22 @@ pub record Exchange : Type 0 where
 pub record Said : Type 0 where
   pub variables : List Variable
   pub exchanges : List Exchange
+  pub asked : List RequestPdu
 
 -- nothing yet
 abbrev pub said_nothing : Said
-said_nothing = record { variables = []; exchanges = [] }
+said_nothing = record { variables = []; exchanges = []; asked = [] }
+
+-- the device wasn't asked
+abbrev pub IsUnasked : Said → Type 0
+IsUnasked said = said.asked ≡ []
+
+-- it was asked a Set, and answered without an error
+pub record SaysDone (said : Said) : Type 0 where
+  pub exchange : Exchange
+  pub there : Contains said.exchanges exchange
+  pub set : exchange.asked.type ≡ SetRequest
+  pub no_error : exchange.answer.second ≡ NO_ERROR
 
 -- the answer is that of a device with these variables
 abbrev pub IsTrueExchange : Known → Exchange → Type 0

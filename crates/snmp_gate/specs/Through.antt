@@ -1,7 +1,8 @@
 -- What a client sees through a gateway of a device that answers as RFC 3416 says (sections 4.2.1 to 4.2.3).
 --
 -- `ShowsDevice`: the Response has what the device has that is restricted to what the message may see. `TellsDevice`: a
--- datagram to a client is a report, or a Response with an error, or such a one.
+-- datagram to a client is a report, or a Response with an error, or such a one. `TellsSet`: it doesn't say of a Set
+-- that it was done, unless the device said so.
 use Rattle.std.specs.Prelude.{◌≡◌, ◌⊎◌, ℕ, List, map}
 use Rattle.snmp_msg.specs.PduTypes.{pdu_tag}
 use Rattle.snmp_msg.specs.Variables.{Variable, variables_of}
@@ -16,6 +17,7 @@ use Rattle.gateway_laws.specs.Device.{AreAnswered}
 use Rattle.snmp_gate.specs.Question.{Question}
 use Rattle.snmp_gate.specs.ReadAsks.{read_type}
 use Rattle.snmp_gate.specs.Replies.{Answering, IsReported, IsSent, Told}
+use Rattle.snmp_gate.specs.Said.{Said, SaysDone}
 use Rattle.snmp_gate.specs.declared.set_answer.TheConstants.{NO_ERROR}
 
 -- the variables of a Response: to a GetRequest and a GetNextRequest what this device has for each name, to a
@@ -32,3 +34,7 @@ pub data ShowsDevice (device : Known) (Seen : List ℕ → Type 0) (q : Question
 abbrev pub TellsDevice : Known → (List ℕ → Type 0) → Answering → Question → Given → List ℕ → Type 0
 TellsDevice device Seen by q g datagram = IsReported by g datagram
     ⊎ ((told : Told) × IsSent by g told datagram × (told.status ≡ NO_ERROR → ShowsDevice device Seen q told.variables))
+
+abbrev pub TellsSet : Said → Answering → Given → List ℕ → Type 0
+TellsSet said by g datagram = IsReported by g datagram
+    ⊎ ((told : Told) × IsSent by g told datagram × (told.status ≡ NO_ERROR → SaysDone said))

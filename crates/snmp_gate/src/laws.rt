@@ -11,12 +11,14 @@ ghost use Rattle.snmp_gate.specs.Groups.{Group};
 ghost use Rattle.snmp_gate.specs.GroupRuns.{AskOwn, AsksOneThing, GroupStep, HaveOwnNumbers, IsFew, IsGroupRun};
 ghost use Rattle.snmp_gate.specs.GroupRuns.{answered_by, taken_by, times_held};
 ghost use Rattle.snmp_gate.specs.History.{Happening, sent, told_in, waiting_in};
-ghost use Rattle.snmp_gate.specs.Lawful.{AreLawful};
+ghost use Rattle.snmp_gate.specs.Lawful.{AreLawful, WasAsked};
 ghost use Rattle.snmp_gate.specs.Messages.{question_in, seen_in};
 ghost use Rattle.snmp_gate.specs.Question.{Question};
 ghost use Rattle.snmp_gate.specs.Replies.{Answering};
 ghost use Rattle.snmp_gate.specs.Said.{AreTrue};
-ghost use Rattle.snmp_gate.specs.Through.{TellsDevice};
+ghost use Rattle.snmp_gate.specs.Through.{TellsDevice, TellsSet};
+ghost use Rattle.snmp_msg.specs.PduTypes.{pdu_tag};
+ghost use Rattle.snmp_msg.specs.declared.pdu_type.PduType.TheVariants.{SetRequest};
 ghost use Rattle.snmp_gate.specs.Runs.{Event, IsHistoryOf, IsRun, accepted_for, ended_for, goes_out};
 ghost use Rattle.snmp_gate.specs.Time.{AreAsks, IsDue, IsTimed, TimerStep};
 ghost use Rattle.snmp_gate.specs.SetRuns.{AreAsTold, ComesWithin, IsSetRun, SetStep, times_new};
@@ -128,6 +130,18 @@ pub fn a_client_sees_the_device()
         → AreLawful agent devices (sent number message by datagram ∷ before)
         → question_in message ≡ Some q → IsDevice device → AreTrue device (told_in number before)
         → TellsDevice device (seen_in agent.tables q) by q message.kept datagram }
+{}
+
+/// In a lawful history of a gateway whose device was asked a Set: a client isn't told that the Set was done, by a
+/// Response with noError, unless the device answered the Set so (RFC 3416, section 4.2.5). A Set isn't asked if it has
+/// no bindings, or if its datagram came before within 301 seconds; then the Response has what it had
+/// (`a_set_goes_out_once`).
+pub fn a_set_is_done_if_its_device_says_so()
+    ensures { (agent : AgentState) (devices : List Device) (before : List Happening) (number : ℕ)
+        (message : WaitingMessage) (by : Answering) (datagram : List ℕ) (q : Question)
+        → AreLawful agent devices (sent number message by datagram ∷ before)
+        → question_in message ≡ Some q → q.tag ≡ pdu_tag SetRequest → WasAsked before number
+        → TellsSet (told_in number before) by message.kept datagram }
 {}
 
 /// In a lawful history of a gateway the messages of each request end in the order in which they came: those that were

@@ -199,7 +199,7 @@ fn after_task(named: NamedTask, is_front: bool, viewer: &Viewer<'_>, late: bool)
 /// Returns how a request goes on after its device's answer.
 pub(crate) fn after(named: NamedTask, taken: AnswerTaken, viewer: &Viewer<'_>, late: bool) -> Onward
     ensures stands { (tables : Tables) (q : Question) (told : Said) → IsViewerOf tables q viewer.now
-        → IsEndFor q taken
+        → IsEndFor q told taken
         → TaskHas tables q told named.task → OnwardStands tables q told result }
     ensures no_set { AsksNoSet result }
     ensures ends { (says : Says) → taken ≡ AnswerTaken.Ends says → result ≡ Onward.Ends (RequestEnd.Own says) }

@@ -44,7 +44,7 @@ values tables q said vs (columns operation tag each whole) = λ k d lt.
 values tables q said vs (front tag each non_repeaters max_repetitions first most whole) =
     All-weaker (MayTellBulk (seen_in tables q) said.variables (variables_of q.list)) (IsOwnOrSeen (seen_in tables q) (variables_of q.list) said.variables)
     (λ v may. shown (seen_in tables q) (variables_of q.list) said.variables GetNext _ v may.shows) vs each
-values tables q said vs (set tag own) = of_own tables q said.variables vs own
+values tables q said vs (set tag own done) = of_own tables q said.variables vs own
 
 asks : (tables : Tables) (d : DeviceIs) (q : Question) (said : Said) (id : ℕ) (r : RequestPdu) (datagram : List ℕ) → MayAskFor tables d q said id r datagram → AsksSeen tables q said datagram d
 asks tables d q said id r datagram (reads Get tag each same ask) =

@@ -14,7 +14,7 @@ use Rattle.snmp_gate.proofs.reply.reply_bulk.Goals as goal
 
 pub returns-then-not-can_be_written-clause-sent : goal.returns-then-not-can_be_written-clause-sent
 returns-then-not-can_be_written-clause-sent c =
-    on_ok c.reply_own.result _ _ (λ r sent client q said asked stands. sent client q said asked (unwritten q)) c.reply_own.ensures.sent
+    on_ok c.reply_own.result _ _ (λ r sent client q said asked stands. sent client q said asked (unwritten q said)) c.reply_own.ensures.sent
 
 pub returns-clause-sent : goal.returns-clause-sent
 returns-clause-sent c =
