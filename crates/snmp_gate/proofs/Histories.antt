@@ -636,4 +636,4 @@ given_up_ends tables _ is q told = absurd is
 
 -- tooBig may be told of any request
 pub too_long : (tables : Tables) (q : Question) (told : Said) → EndingStands tables q told (ending.Own (record { status = TOO_BIG; index = pos 0 }))
-too_long tables q told is = absurd (false≢true ((Decides-int_eq TOO_BIG NO_ERROR).1 is))
+too_long tables q told = record { no_error = λ is. absurd (false≢true ((Decides-int_eq TOO_BIG NO_ERROR).1 is)); set = λ is_set. inl refl }

@@ -10,7 +10,7 @@ use Rattle.std.specs.Ordering.{int_eq}
 use Rattle.snmp_msg.specs.PduTypes.{pdu_tag}
 use Rattle.snmp_msg.specs.Variables.{Variable, variable_of, variables_of}
 use Rattle.snmp_msg.specs.declared.binding.Binding.{Binding}
-use Rattle.snmp_msg.specs.declared.pdu_type.PduType.TheVariants.{SetRequest}
+use Rattle.snmp_msg.specs.declared.pdu_type.PduType.TheVariants.{GetBulkRequest, GetNextRequest, GetRequest, SetRequest}
 use Rattle.vacm_core.specs.Tables.{Tables}
 use Rattle.snmp_incoming.specs.Outcome.{Given}
 use Rattle.snmp_responder.specs.Instrumentation.{Known}
@@ -23,7 +23,7 @@ use Rattle.snmp_walk.specs.declared.bulk_column.BulkColumn.{BulkColumn}
 use Rattle.snmp_walk.specs.declared.bulk_dialogue.BulkDialogue.{BulkDialogue}
 use Rattle.snmp_walk.specs.declared.column.Column.{Column}
 use Rattle.snmp_walk.specs.declared.operation.ReadOperation.{ReadOperation}
-use Rattle.snmp_walk.specs.declared.operation.ReadOperation.TheVariants.{GetNext}
+use Rattle.snmp_walk.specs.declared.operation.ReadOperation.TheVariants.{Get, GetNext}
 use Rattle.gateway_laws.specs.Bulk.{IsFrontOfBulk}
 use Rattle.gateway_laws.specs.Device.{AreAnswered, IsDevice}
 use Rattle.gateway_laws.specs.Tracks.{AllTrack}
@@ -35,7 +35,7 @@ use Rattle.snmp_gate.specs.Messages.{question_given, seen_in}
 use Rattle.snmp_gate.specs.Question.{Question}
 use Rattle.snmp_gate.specs.ReadAsks.{read_type}
 use Rattle.snmp_gate.specs.Replies.{Answering, IsFrontSentOr, IsOwnList, IsReportedOr, IsReplyTo, IsSentOr, MayTell, MayTellBulk, columns, front, set, told_with, too_big}
-use Rattle.snmp_gate.specs.Said.{AreTrue, IsUnasked, Said, SaysDone}
+use Rattle.snmp_gate.specs.Said.{AreTrue, IsSetStatus, Said}
 use Rattle.snmp_gate.specs.Work.{BulkStandsFor, IsOwnStatus}
 use Rattle.snmp_gate.specs.declared.reply.Reply.{Reply}
 use Rattle.snmp_gate.specs.declared.reply.Reply.TheVariants as reply
@@ -55,15 +55,24 @@ signed_tells a b = elim (true_or_false (int_eq a b)) [
 -- ---- the request's own bindings
 
 may_tell_too_big : (tables : Tables) (q : Question) (said : Said) → MayTell tables q said too_big
-may_tell_too_big tables q said = inr (inr (refl, refl))
+may_tell_too_big tables q said = (λ is_set. inl refl, inr (inr (refl, refl)))
 
-may_tell_own : (tables : Tables) (q : Question) (said : Said) (status index : ℤ) (vs : List Variable) → (status ≡ NO_ERROR → (q.tag ≡ pdu_tag SetRequest) × (IsUnasked said ⊎ SaysDone said)) → IsOwnList q status vs → MayTell tables q said (told_with status index vs)
-may_tell_own tables q said status index vs own (inl (is, none)) = inr (inr (is, none))
-may_tell_own tables q said status index vs own (inr (is, all)) =
+may_tell_own : (tables : Tables) (q : Question) (said : Said) (status index : ℤ) (vs : List Variable) → (status ≡ NO_ERROR → q.tag ≡ pdu_tag SetRequest) → (q.tag ≡ pdu_tag SetRequest → IsSetStatus said status) → IsOwnList q status vs
+    → MayTell tables q said (told_with status index vs)
+may_tell_own tables q said status index vs own of_set (inl (is, none)) = (of_set, inr (inr (is, none)))
+may_tell_own tables q said status index vs own of_set (inr (is, all)) =
     elim (signed_tells status NO_ERROR) [
-      | inl same ↦ inl (same, set (own same).0 all (own same).1)
-      | inr other ↦ inr (inl (other, all))
+      | inl same ↦ (of_set, inl (same, set (own same) all))
+      | inr other ↦ (of_set, inr (inl (other, all)))
     ]
+
+-- a request for values is no Set
+pub no_read : (q : Question) (o : ReadOperation) → q.tag ≡ pdu_tag (read_type o) → q.tag ≡ pdu_tag SetRequest → ⊥
+no_read q Get tag is_set = let is : q.tag ≡ pdu_tag GetRequest = tag in omega (arith, is_set, is)
+no_read q GetNext tag is_set = let is : q.tag ≡ pdu_tag GetNextRequest = tag in omega (arith, is_set, is)
+
+pub no_bulk : (q : Question) → q.tag ≡ pdu_tag GetBulkRequest → q.tag ≡ pdu_tag SetRequest → ⊥
+no_bulk q tag is_set = omega (arith, is_set, tag)
 
 -- what is sent is what may be told, or tooBig
 pub sent_reply : (a : Answering) (tables : Tables) (q : Question) (said : Said) (g : Given) (status index : ℤ) (vs : List Variable) (r : Reply) → MayTell tables q said (told_with status index vs)
@@ -76,7 +85,7 @@ sent_reply a tables q said g status index vs (reply.Refused why) may sent = tt
 
 pub own_reply : (a : Answering) (tables : Tables) (q : Question) (said : Said) (g : Given) (says : ResponseStatus) (vs : List Variable) (r : Reply) → IsOwnStatus q said says → IsOwnList q says.status vs
     → IsSentOr a g (told_with says.status says.index vs) r → IsReplyTo a tables q said g r
-own_reply a tables q said g says vs r own list sent = sent_reply a tables q said g says.status says.index vs r (may_tell_own tables q said says.status says.index vs own list) sent
+own_reply a tables q said g says vs r own list sent = sent_reply a tables q said g says.status says.index vs r (may_tell_own tables q said says.status says.index vs own.no_error own.set list) sent
 
 -- ---- a binding of each column
 
@@ -99,13 +108,15 @@ pub columns_reply : (a : Answering) (tables : Tables) (q : Question) (said : Sai
     → map request cs ≡ requests_of o (variables_of q.list) → AllZip (Shows (seen_in tables q) said.variables) cs bs → AllZip IsShown cs bs
     → ((device : Known) → IsDevice device → AreTrue device said → AllTrack device (seen_in tables q) cs) → IsSentOr a g (told_with NO_ERROR (pos 0) (map variable_of bs)) r → IsReplyTo a tables q said g r
 columns_reply a tables q said g o cs bs r tag same zip shown tracks sent =
-    sent_reply a tables q said g NO_ERROR (pos 0) (map variable_of bs) r
-    (inl (
-      refl,
-      columns o tag (zip_shows (seen_in tables q) said.variables o cs (variables_of q.list) bs same zip)
-          (λ device plain truly. subst (λ (asks : List (ReadOperation × List ℕ)). AreAnswered device (seen_in tables q) asks (map variable_of bs)) same
-          (all_shown device (seen_in tables q) cs bs (tracks device plain truly) shown)),
-    )) sent
+    sent_reply a tables q said g NO_ERROR (pos 0) (map variable_of bs) r (
+      λ is_set. absurd (no_read q o tag is_set),
+      inl (
+        refl,
+        columns o tag (zip_shows (seen_in tables q) said.variables o cs (variables_of q.list) bs same zip)
+            (λ device plain truly. subst (λ (asks : List (ReadOperation × List ℕ)). AreAnswered device (seen_in tables q) asks (map variable_of bs)) same
+            (all_shown device (seen_in tables q) cs bs (tracks device plain truly) shown)),
+      ),
+    ) sent
 
 -- ---- a front
 
@@ -162,7 +173,7 @@ front_reply a tables q said g d bs (reply.Sends datagram) stands all is_front (i
     inl (
       told_with NO_ERROR (pos 0) (take n (map variable_of bs)),
       sent,
-      inl (refl, front stands.tag (All-take (MayTellBulk (seen_in tables q) said.variables (variables_of q.list)) n (map variable_of bs) (All-weaker (IsShownOf (seen_in tables q) said.variables d.columns.items) (MayTellBulk (seen_in tables q) said.variables (variables_of q.list)) may (map variable_of bs) all)) d.non_repeaters d.max_repetitions stands.first stands.most law),
+      (λ is_set. absurd (no_bulk q stands.tag is_set), inl (refl, front stands.tag (All-take (MayTellBulk (seen_in tables q) said.variables (variables_of q.list)) n (map variable_of bs) (All-weaker (IsShownOf (seen_in tables q) said.variables d.columns.items) (MayTellBulk (seen_in tables q) said.variables (variables_of q.list)) may (map variable_of bs) all)) d.non_repeaters d.max_repetitions stands.first stands.most law)),
     )
 front_reply a tables q said g d bs (reply.Sends datagram) stands all is_front (inr sent) = inl (too_big, sent, may_tell_too_big tables q said)
 front_reply a tables q said g d bs reply.Nothing stands all is_front sent = tt
@@ -175,9 +186,9 @@ report_reply a tables q said g reply.Nothing is = tt
 report_reply a tables q said g reply.SilentDrop is = tt
 report_reply a tables q said g (reply.Refused why) is = tt
 
--- genErr may be told of any request
-pub unwritten : (q : Question) (said : Said) → IsOwnStatus q said (record { status = pos 5; index = pos 0 })
-unwritten q said is = absurd (false≢true ((Decides-int_eq (pos 5) (pos 0)).1 is))
+-- genErr may be told of any request for values
+pub unwritten : (q : Question) (said : Said) → (q.tag ≡ pdu_tag SetRequest → ⊥) → IsOwnStatus q said (record { status = pos 5; index = pos 0 })
+unwritten q said read = record { no_error = λ is. absurd (false≢true ((Decides-int_eq (pos 5) (pos 0)).1 is)); set = λ is_set. absurd (read is_set) }
 
 pub of_message : (a : Answering) (tables : Tables) (q : Question) (said : Said) (g kept : Given) (client : List ℕ) (r : Reply) → g ≡ kept → (question_given client g ≡ Some q → IsReplyTo a tables q said g r)
     → question_given client kept ≡ Some q → IsReplyTo a tables q said kept r

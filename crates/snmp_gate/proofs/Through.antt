@@ -4,13 +4,11 @@ use Rattle.std.proofs.Common.{ap, arith, inl, inr, subst, sym, ◌∙◌}
 use Rattle.std.proofs.lemmas.Bool.{false≢true}
 use Rattle.std.proofs.lemmas.Bool.Decides.{Decides-int_eq, eqb_tells}
 use Rattle.snmp_msg.specs.PduTypes.{pdu_tag}
-use Rattle.snmp_msg.specs.declared.pdu_type.PduType.TheVariants.{GetNextRequest, GetRequest, SetRequest}
+use Rattle.snmp_msg.specs.declared.pdu_type.PduType.TheVariants.{SetRequest}
 use Rattle.snmp_msg.specs.Variables.{Variable}
 use Rattle.vacm_core.specs.Tables.{Tables}
 use Rattle.snmp_incoming.specs.Outcome.{Given}
 use Rattle.snmp_responder.specs.Instrumentation.{Known}
-use Rattle.snmp_walk.specs.declared.operation.ReadOperation.{ReadOperation}
-use Rattle.snmp_walk.specs.declared.operation.ReadOperation.TheVariants.{Get, GetNext}
 use Rattle.gateway_laws.specs.Device.{IsDevice}
 use Rattle.gateway_laws.specs.Requests.{RequestPdu}
 use Rattle.snmp_gate.specs.History.{Happening, accepted, answered, asked, asked_more, given_up, more_said, open_ask, sent, told_in, unanswered}
@@ -18,8 +16,7 @@ use Rattle.snmp_gate.specs.Lawful.{WasAsked}
 use Rattle.snmp_gate.specs.Messages.{seen_in}
 use Rattle.snmp_gate.specs.Question.{Question}
 use Rattle.snmp_gate.specs.Replies.{Answering, IsAnswerTo, MayTellValues, columns, front, set}
-use Rattle.snmp_gate.specs.ReadAsks.{read_type}
-use Rattle.snmp_gate.specs.Said.{AreTrue, Said, SaysDone}
+use Rattle.snmp_gate.specs.Said.{AreTrue, Said}
 use Rattle.snmp_gate.specs.Through.{ShowsDevice, TellsDevice, TellsSet, bulk, reads, sets}
 use Rattle.snmp_gate.specs.declared.set_answer.TheConstants.{NO_ERROR, TOO_BIG}
 use Rattle.snmp_gate.proofs.Others.{was_before, was_other}
@@ -28,13 +25,13 @@ module _ (device : Known) (plain : IsDevice device) (tables : Tables) (q : Quest
   shows : (vs : List Variable) → MayTellValues tables q said vs → ShowsDevice device (seen_in tables q) q vs
   shows vs (columns operation tag each whole) = reads operation tag (whole device plain truly)
   shows vs (front tag each non_repeaters max_repetitions first most whole) = bulk tag non_repeaters max_repetitions first most (whole device plain truly)
-  shows vs (set tag own done) = sets tag own
+  shows vs (set tag own) = sets tag own
 
   pub tells_device : (by : Answering) (g : Given) (datagram : List ℕ) → IsAnswerTo by tables q said g datagram → TellsDevice device (seen_in tables q) by q g datagram
   tells_device by g datagram (inr report) = inl report
-  tells_device by g datagram (inl (told, out, inl (none, may))) = inr (told, out, λ is. shows told.variables may)
-  tells_device by g datagram (inl (told, out, inr (inl (error, own)))) = inr (told, out, λ is. absurd (error is))
-  tells_device by g datagram (inl (told, out, inr (inr (big, none)))) = inr (told, out, λ is. absurd (false≢true ((Decides-int_eq TOO_BIG NO_ERROR).1 (sym big ∙ is))))
+  tells_device by g datagram (inl (told, out, (status, inl (none, may)))) = inr (told, out, λ is. shows told.variables may)
+  tells_device by g datagram (inl (told, out, (status, inr (inl (error, own))))) = inr (told, out, λ is. absurd (error is))
+  tells_device by g datagram (inl (told, out, (status, inr (inr (big, none))))) = inr (told, out, λ is. absurd (false≢true ((Decides-int_eq TOO_BIG NO_ERROR).1 (sym big ∙ is))))
 
 -- ---- a Set
 
@@ -59,23 +56,18 @@ some_asked n (sent k m by w ∷ before) was = some_asked n before (was_before (s
 some_asked n (unanswered k m ∷ before) was = some_asked n before (was_before (unanswered k m) before n (λ d id what v same. let wrong : unanswered k m ≡ asked n d id what v = same in cc) was)
 some_asked n (given_up k d ∷ before) was = some_asked n before (was_before (given_up k d) before n (λ e id what v same. let wrong : given_up k d ≡ asked n e id what v = same in cc) was)
 
-no_read : (q : Question) (o : ReadOperation) → q.tag ≡ pdu_tag SetRequest → q.tag ≡ pdu_tag (read_type o) → ⊥
-no_read q Get is_set tag = let is : q.tag ≡ pdu_tag GetRequest = tag in omega (arith, is_set, is)
-no_read q GetNext is_set tag = let is : q.tag ≡ pdu_tag GetNextRequest = tag in omega (arith, is_set, is)
-
-module _ (tables : Tables) (q : Question) (said : Said) (set_is : q.tag ≡ pdu_tag SetRequest) (some : 0 < length said.asked) where
-  done : (vs : List Variable) → MayTellValues tables q said vs → SaysDone said
-  done vs (columns operation tag each whole) = absurd (no_read q operation set_is tag)
-  done vs (front tag each non_repeaters max_repetitions first most whole) = absurd (omega (arith, set_is, tag))
-  done vs (set tag own (inl none)) = absurd (omega (arith, some, ap (λ (rs : List RequestPdu). length rs) none))
-  done vs (set tag own (inr says)) = says
-
-  tells_set : (by : Answering) (g : Given) (datagram : List ℕ) → IsAnswerTo by tables q said g datagram → TellsSet said by g datagram
-  tells_set by g datagram (inr report) = inl report
-  tells_set by g datagram (inl (told, out, inl (none, may))) = inr (told, out, λ is. done told.variables may)
-  tells_set by g datagram (inl (told, out, inr (inl (error, own)))) = inr (told, out, λ is. absurd (error is))
-  tells_set by g datagram (inl (told, out, inr (inr (big, none)))) = inr (told, out, λ is. absurd (false≢true ((Decides-int_eq TOO_BIG NO_ERROR).1 (sym big ∙ is))))
+tells_set : (tables : Tables) (q : Question) (said : Said) (by : Answering) (g : Given) (datagram : List ℕ) → q.tag ≡ pdu_tag SetRequest → 0 < length said.asked → IsAnswerTo by tables q said g datagram → TellsSet said by g datagram
+tells_set tables q said by g datagram set_is some (inr report) = inl report
+tells_set tables q said by g datagram set_is some (inl (told, out, (status, variables))) = inr (
+  told,
+  out,
+  elim (status set_is) [
+    | inl big ↦ inl big
+    | inr (inl none) ↦ absurd (omega (arith, some, ap (λ (rs : List RequestPdu). length rs) none))
+    | inr (inr says) ↦ inr says
+  ],
+)
 
 pub tells_of_set : (tables : Tables) (q : Question) (n : ℕ) (before : List Happening) → q.tag ≡ pdu_tag SetRequest → WasAsked before n → (by : Answering) (g : Given) (datagram : List ℕ)
     → IsAnswerTo by tables q (told_in n before) g datagram → TellsSet (told_in n before) by g datagram
-tells_of_set tables q n before set_is was by g datagram answer = tells_set tables q (told_in n before) set_is (some_asked n before was) by g datagram answer
+tells_of_set tables q n before set_is was by g datagram answer = tells_set tables q (told_in n before) by g datagram set_is (some_asked n before was) answer

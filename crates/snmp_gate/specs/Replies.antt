@@ -29,7 +29,7 @@ use Rattle.gateway_laws.specs.Device.{AreAnswered, IsDevice}
 use Rattle.snmp_gate.specs.Messages.{seen_in}
 use Rattle.snmp_gate.specs.Question.{Question}
 use Rattle.snmp_gate.specs.ReadAsks.{read_type}
-use Rattle.snmp_gate.specs.Said.{AreTrue, IsUnasked, Said, SaysDone}
+use Rattle.snmp_gate.specs.Said.{AreTrue, IsSetStatus, Said}
 use Rattle.snmp_gate.specs.declared.reply.Reply.{Reply}
 use Rattle.snmp_gate.specs.declared.reply.Reply.TheVariants as reply
 use Rattle.snmp_gate.specs.declared.reply.Sealing.{Sealing}
@@ -93,16 +93,15 @@ pub data MayTellValues (tables : Tables) (q : Question) (said : Said) (vs : List
       → IsFrontOfBulk device (seen_in tables q) (map (λ (v : Variable). v.name) (variables_of q.list)) non_repeaters
       max_repetitions vs)
       → MayTellValues tables q said vs
-  -- to a SetRequest: its own, if its device did it, or wasn't asked for it
-  set : q.tag ≡ pdu_tag SetRequest → vs ≡ variables_of q.list → IsUnasked said ⊎ SaysDone said
-      → MayTellValues tables q said vs
+  -- to a SetRequest: its own
+  set : q.tag ≡ pdu_tag SetRequest → vs ≡ variables_of q.list → MayTellValues tables q said vs
 
--- with an error: the request's own bindings, or none with tooBig
+-- of a Set what its device said; and with an error the request's own bindings, or none with tooBig
 abbrev pub MayTell : Tables → Question → Said → Told → Type 0
-MayTell tables q said told =
-    ((told.status ≡ NO_ERROR) × MayTellValues tables q said told.variables)
+MayTell tables q said told = (q.tag ≡ pdu_tag SetRequest → IsSetStatus said told.status)
+    × (((told.status ≡ NO_ERROR) × MayTellValues tables q said told.variables)
     ⊎ (((told.status ≢ NO_ERROR) × (told.variables ≡ variables_of q.list))
-    ⊎ ((told.status ≡ TOO_BIG) × (told.variables ≡ [])))
+    ⊎ ((told.status ≡ TOO_BIG) × (told.variables ≡ []))))
 
 -- the datagram is a Response that may be sent, or a report
 abbrev pub IsAnswerTo : Answering → Tables → Question → Said → Given → List ℕ → Type 0

@@ -1,8 +1,8 @@
 -- What a client sees through a gateway of a device that answers as RFC 3416 says (sections 4.2.1 to 4.2.3).
 --
 -- `ShowsDevice`: the Response has what the device has that is restricted to what the message may see. `TellsDevice`: a
--- datagram to a client is a report, or a Response with an error, or such a one. `TellsSet`: it doesn't say of a Set
--- that it was done, unless the device said so.
+-- datagram to a client is a report, or a Response with an error, or such a one. `TellsSet`: it says of a Set what
+-- its device said, or tooBig.
 use Rattle.std.specs.Prelude.{◌≡◌, ◌⊎◌, ℕ, List, map}
 use Rattle.snmp_msg.specs.PduTypes.{pdu_tag}
 use Rattle.snmp_msg.specs.Variables.{Variable, variables_of}
@@ -17,8 +17,8 @@ use Rattle.gateway_laws.specs.Device.{AreAnswered}
 use Rattle.snmp_gate.specs.Question.{Question}
 use Rattle.snmp_gate.specs.ReadAsks.{read_type}
 use Rattle.snmp_gate.specs.Replies.{Answering, IsReported, IsSent, Told}
-use Rattle.snmp_gate.specs.Said.{Said, SaysDone}
-use Rattle.snmp_gate.specs.declared.set_answer.TheConstants.{NO_ERROR}
+use Rattle.snmp_gate.specs.Said.{Said, SaysOfSet}
+use Rattle.snmp_gate.specs.declared.set_answer.TheConstants.{NO_ERROR, TOO_BIG}
 
 -- the variables of a Response: to a GetRequest and a GetNextRequest what this device has for each name, to a
 -- GetBulkRequest a front of what it has, and to a SetRequest the request's own
@@ -37,4 +37,4 @@ TellsDevice device Seen by q g datagram = IsReported by g datagram
 
 abbrev pub TellsSet : Said → Answering → Given → List ℕ → Type 0
 TellsSet said by g datagram = IsReported by g datagram
-    ⊎ ((told : Told) × IsSent by g told datagram × (told.status ≡ NO_ERROR → SaysDone said))
+    ⊎ ((told : Told) × IsSent by g told datagram × ((told.status ≡ TOO_BIG) ⊎ SaysOfSet said told.status))

@@ -4,7 +4,7 @@
 -- `TaskStands`: what a device is asked for a request, and what is known of it. `TaskHas`: what of it is known when the
 -- device has answered. `request_of_task`: the request. `EndingStands`: how it ends.
 -- `OnwardStands`: how it goes on.
-use Rattle.std.specs.Prelude.{◌≡◌, ◌≢◌, ◌⊎◌, ◌≤◌, ⊤, ℕ, ℤ, Bool, [], All, Contains, length, true}
+use Rattle.std.specs.Prelude.{◌≡◌, ◌≢◌, ◌≤◌, ⊤, ℕ, ℤ, Bool, [], All, Contains, length, true}
 use Rattle.std.specs.Ordering.{int_eq}
 use Rattle.snmp_ber.specs.declared.number.TheConstants.{MAX_INTEGER32}
 use Rattle.snmp_msg.specs.Pdu.{pdu_of}
@@ -28,7 +28,7 @@ use Rattle.gateway_laws.specs.Tracks.{AllTrack}
 use Rattle.snmp_gate.specs.Messages.{seen_in, set_in}
 use Rattle.snmp_gate.specs.Question.{Question}
 use Rattle.snmp_gate.specs.ReadAsks.{bulk_request_by, plain_request, read_request, read_type}
-use Rattle.snmp_gate.specs.Said.{AreTrue, IsUnasked, Said, SaysDone}
+use Rattle.snmp_gate.specs.Said.{AreTrue, IsSetStatus, Said}
 use Rattle.snmp_gate.specs.declared.onward.Onward.{Onward}
 use Rattle.snmp_gate.specs.declared.onward.Onward.TheVariants.{Asks, Ends}
 use Rattle.snmp_gate.specs.declared.set_answer.ResponseStatus.{ResponseStatus}
@@ -111,11 +111,10 @@ request_of_task q (task.Read operation d) = read_request operation d
 request_of_task q (task.Bulk by d) = bulk_request_by by d
 request_of_task q task.Set = plain_request SetRequest (variables_of q.list)
 
--- a Response with the request's own bindings has noError only for a SetRequest, which its device did, or for which it
--- wasn't asked
-abbrev pub IsOwnStatus : Question → Said → ResponseStatus → Type 0
-IsOwnStatus q told says = says.status ≡ NO_ERROR
-    → (q.tag ≡ pdu_tag SetRequest) × (IsUnasked told ⊎ SaysDone told)
+-- a Response with the request's own bindings has noError only for a SetRequest, and for that what its device said
+pub record IsOwnStatus (q : Question) (told : Said) (says : ResponseStatus) : Type 0 where
+  pub no_error : says.status ≡ NO_ERROR → q.tag ≡ pdu_tag SetRequest
+  pub set : q.tag ≡ pdu_tag SetRequest → IsSetStatus told says.status
 
 -- how a request ends
 abbrev pub EndingStands : Tables → Question → Said → RequestEnd → Type 0

@@ -10,7 +10,7 @@ ghost use Rattle.snmp_gate.specs.Question.{Question};
 ghost use Rattle.snmp_gate.specs.Messages.{IsPduOf, IsViewerOf};
 ghost use Rattle.snmp_gate.specs.ReadAsks.{read_type};
 ghost use Rattle.snmp_gate.specs.Work.{EndingStands, OnwardStands};
-ghost use Rattle.snmp_gate.specs.Said.{Said};
+ghost use Rattle.snmp_gate.specs.Said.{IsUnasked, Said};
 
 use crate::limits::GateLimits;
 use crate::onward::{Onward, bulk_on, read_on};
@@ -27,7 +27,8 @@ use vacm_core::ViewType;
 
 /// Returns how a request ends that isn't asked of its device.
 pub(crate) fn ending_of(refusal: AccessRefusal) -> RequestEnd
-    ensures { (tables : Tables) (q : Question) (told : Said) → EndingStands tables q told result }
+    ensures { (tables : Tables) (q : Question) (told : Said) → IsUnasked told
+        → EndingStands tables q told result }
 {
     match refusal {
         AccessRefusal::AuthorizationError => RequestEnd::Own(ResponseStatus {
@@ -97,7 +98,7 @@ pub(crate) fn begin(
     bulk: &BulkLimits,
 ) -> Result<Onward, AllocError>
     ensures { IfOk result (λ onward. (tables : Tables) (q : Question) (told : Said)
-        → IsViewerOf tables q viewer.now → IsPduOf q pdu.now
+        → IsUnasked told → IsViewerOf tables q viewer.now → IsPduOf q pdu.now
         → OnwardStands tables q told onward) }
 {
     let answers = answers_of(alloc, viewer, ViewType::Read, pdu)?;

@@ -132,11 +132,11 @@ pub fn a_client_sees_the_device()
         → TellsDevice device (seen_in agent.tables q) by q message.kept datagram }
 {}
 
-/// In a lawful history of a gateway whose device was asked a Set: a client isn't told that the Set was done, by a
-/// Response with noError, unless the device answered the Set so (RFC 3416, section 4.2.5). A Set isn't asked if it has
-/// no bindings, or if its datagram came before within 301 seconds; then the Response has what it had
-/// (`a_set_goes_out_once`).
-pub fn a_set_is_done_if_its_device_says_so()
+/// In a lawful history of a gateway whose device was asked a Set: the Response to it has the error-status that the
+/// device gave (RFC 3416, section 4.2.5), or tooBig. So a Response says that a Set was done only if the device said so.
+/// A Set isn't asked if it has no bindings, or if its datagram came before within 301 seconds; then the Response has
+/// what it had (`a_set_goes_out_once`).
+pub fn a_set_is_told_as_its_device_answered()
     ensures { (agent : AgentState) (devices : List Device) (before : List Happening) (number : ℕ)
         (message : WaitingMessage) (by : Answering) (datagram : List ℕ) (q : Question)
         → AreLawful agent devices (sent number message by datagram ∷ before)

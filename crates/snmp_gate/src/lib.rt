@@ -295,7 +295,7 @@ pub use gate::{ClientTaken, DeviceTaken, Gate, Sent};
 pub use laws::{
     a_client_sees_the_device, a_gateway_keeps_to_its_limits, a_gateway_mediates,
     a_request_ends_in_time, a_request_is_one_question, a_set_goes_out_once,
-    a_set_is_done_if_its_device_says_so, an_answer_is_of_one_ask, each_message_is_answered_once,
+    a_set_is_told_as_its_device_answered, an_answer_is_of_one_ask, each_message_is_answered_once,
     messages_end_in_turn,
 };
 pub use limits::GateLimits;

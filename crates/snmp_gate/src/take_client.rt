@@ -110,7 +110,7 @@ fn set_access(
     message: &WaitingMessage,
 ) -> Result<SetAccess, AllocError>
     ensures ends { IfOk result (λ access. IfSome access.refused (λ ending. (q : Question) (told : Said)
-        → EndingStands tables.now q told ending)) }
+        → IsUnasked told → EndingStands tables.now q told ending)) }
     ensures may { IfOk result (λ access. (access.refused ≡ None) → (q : Question)
         → question_in message.now ≡ Some q → IsSet q → MaySetAll tables.now q) }
 {
@@ -390,7 +390,7 @@ impl Gate {
     fn begin_read(&self, device: usize, taken: &Taken<'_>) -> Result<Onward, AllocError>
         requires { device < length self.now.devices.list.items }
         ensures { IfOk result (λ onward. (client : List ℕ) (q : Question) (told : Said)
-            → question_given client (given_of taken.now) ≡ Some q
+            → IsUnasked told → question_given client (given_of taken.now) ≡ Some q
             → OnwardStands self.now.agent.tables q told onward) }
     {
         let device = &self.devices.list[device];

@@ -44,7 +44,7 @@ values tables q said vs (columns operation tag each whole) = λ k d lt.
 values tables q said vs (front tag each non_repeaters max_repetitions first most whole) =
     All-weaker (MayTellBulk (seen_in tables q) said.variables (variables_of q.list)) (IsOwnOrSeen (seen_in tables q) (variables_of q.list) said.variables)
     (λ v may. shown (seen_in tables q) (variables_of q.list) said.variables GetNext _ v may.shows) vs each
-values tables q said vs (set tag own done) = of_own tables q said.variables vs own
+values tables q said vs (set tag own) = of_own tables q said.variables vs own
 
 asks : (tables : Tables) (d : DeviceIs) (q : Question) (said : Said) (id : ℕ) (r : RequestPdu) (datagram : List ℕ) → MayAskFor tables d q said id r datagram → AsksSeen tables q said datagram d
 asks tables d q said id r datagram (reads Get tag each same ask) =
@@ -58,9 +58,9 @@ asks tables d q said id r datagram (sets community write tag same each ask) =
 
 answers : (by : Answering) (tables : Tables) (q : Question) (said : Said) (g : Given) (datagram : List ℕ) → IsAnswerTo by tables q said g datagram → IsReported by g datagram ⊎ ((told : Told) × IsSent by g told datagram × All (IsOwnOrSeen (seen_in tables q) (variables_of q.list) said.variables) told.variables)
 answers by tables q said g datagram (inr report) = inl report
-answers by tables q said g datagram (inl (told, sent, inl (none, may))) = inr (told, sent, values tables q said told.variables may)
-answers by tables q said g datagram (inl (told, sent, inr (inl (some, own)))) = inr (told, sent, of_own tables q said.variables told.variables own)
-answers by tables q said g datagram (inl (told, sent, inr (inr (big, none)))) = inr (told, sent, subst (All (IsOwnOrSeen (seen_in tables q) (variables_of q.list) said.variables)) (sym none) (λ k d lt. absurd (omega (arith, lt))))
+answers by tables q said g datagram (inl (told, sent, (status, inl (none, may)))) = inr (told, sent, values tables q said told.variables may)
+answers by tables q said g datagram (inl (told, sent, (status, inr (inl (some, own))))) = inr (told, sent, of_own tables q said.variables told.variables own)
+answers by tables q said g datagram (inl (told, sent, (status, inr (inr (big, none))))) = inr (told, sent, subst (All (IsOwnOrSeen (seen_in tables q) (variables_of q.list) said.variables)) (sym none) (λ k d lt. absurd (omega (arith, lt))))
 
 client_shown : (old new : Gate) (now : ℕ) (before : List Happening) (f : Fresh) (number : ℕ) (to datagram : Vec ℕ) → SendHappens old now before f (out.ToClient number to datagram) new → KeepsHidden old before (Client to datagram)
 client_shown old new now before f number to datagram (m, same, happens) =
