@@ -9,7 +9,6 @@
 -- there was no memory. `Empties`: all is given back.
 use Rattle.std.specs.Prelude.{◌≡◌, ◌<◌, ◌≤◌, ◌⊎◌, ⊤, ℕ, List, [], map, Option, Some, None, option_map, Result, Ok, Err}
 use Rattle.std.specs.Prelude.{replicate, string_bytes}
-use Rattle.std.specs.Global.{Vec}
 use Rattle.engine_clock.specs.Pairs.{pair_max}
 use Rattle.usm_users.specs.User.{User}
 use Rattle.usm_users.specs.declared.load.UserRow.{UserRow}
