@@ -221,6 +221,31 @@ SNMPSEC_CHECK int snmpsec_agent_refuse(snmpsec_agent *agent, uint64_t now, snmps
 /* Counts what is kept in snmpSilentDrops: even its answer without bindings is too long (RFC 3416, section 4.2.1). */
 SNMPSEC_CHECK int snmpsec_agent_silent_drop(snmpsec_agent *agent);
 
+/* A message that was accepted, kept outside of its agent: any number may wait there for their Responses, which are written in any order, at any later
+ * moment. It is freed before or after its agent. Its text lies in memory as it was decrypted until it is freed. */
+typedef struct snmpsec_kept snmpsec_kept;
+
+SNMPSEC_CALL void snmpsec_kept_free(snmpsec_kept *kept);
+/* Takes what is kept out of the agent, into *out: the agent keeps no message then, until the next _take. The message that is to be sent stays.
+ * SNMPSEC_NOTHING_TAKEN, SNMPSEC_OUT_OF_MEMORY: the agent keeps what it kept; *out is then null. */
+SNMPSEC_CHECK int snmpsec_agent_keep(snmpsec_agent *agent, snmpsec_kept **out);
+/* Puts it back, and frees it: the agent keeps it, instead of what it kept, as if it had been accepted last. So _access, _next, _unhandled and _refuse
+ * are asked of a message that waited. */
+SNMPSEC_CHECK int snmpsec_agent_restore(snmpsec_agent *agent, snmpsec_kept *kept);
+/* What it is: as snmpsec_agent_info, _part and _max_size, but that there is always a message. */
+SNMPSEC_CHECK int snmpsec_kept_info(snmpsec_kept *kept, snmpsec_info *out);
+SNMPSEC_CHECK int snmpsec_kept_part(snmpsec_kept *kept, snmpsec_part part, uint8_t *out, size_t out_len, size_t *written);
+SNMPSEC_CHECK int snmpsec_kept_max_size(snmpsec_kept *kept, uint32_t *out);
+/* Writes the Response to it, as the agent's message, just as snmpsec_agent_respond, _respond_within and _respond_front write that to what the agent
+ * keeps, at the moment `now` and with their answers. What the agent keeps stays, and so does this one. The agent may be another one than that which
+ * accepted it, as one that was made of a new configuration: the Response is sealed for the user that the agent has by this name, under its engine ID. */
+SNMPSEC_CHECK int snmpsec_kept_respond(snmpsec_kept *kept, snmpsec_agent *agent, uint64_t now, uint32_t error_status, uint32_t error_index,
+                                       const uint8_t *list, size_t list_len, uint64_t salt);
+SNMPSEC_CHECK int snmpsec_kept_respond_within(snmpsec_kept *kept, snmpsec_agent *agent, uint64_t now, uint32_t error_status, uint32_t error_index,
+                                              const uint8_t *list, size_t list_len, uint64_t salt, uint32_t limit);
+SNMPSEC_CHECK int snmpsec_kept_respond_front(snmpsec_kept *kept, snmpsec_agent *agent, uint64_t now, uint32_t error_status, uint32_t error_index,
+                                             const uint8_t *list, size_t list_len, uint64_t salt, uint32_t limit, size_t *count);
+
 /* What becomes of a variable (RFC 3413, section 3.2): it is answered; the error-status 6 or 16; its value is noSuchObject; a walk goes on behind
  * it; or the message is refused for SNMPSEC_UNKNOWN_CONTEXTS. */
 typedef enum snmpsec_status {
