@@ -25,7 +25,7 @@ static CALLS: Calls = Calls {
 
 /// An agent, which one thread uses at a time.
 pub struct Agent {
-    held: Held,
+    pub(crate) held: Held,
 }
 
 /// An SNMPv2-Trap that is to be written.
