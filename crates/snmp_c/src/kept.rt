@@ -173,7 +173,8 @@ pub unsafe extern "C" fn proved_kept_respond_front(
     ensures* { ∃ₛ (λ (new : AgentHeld × Option Given).
         sem 𝓛 (lies_at agents.the_row full_share agent new.0)
         ∗ sem 𝓛 (lies_at kepts.the_row full_share kept new.1)
-        ∗ ⌜ AnswersKeptFront now status index list.now salt limit count.old count.new held.0 held.1 new.0 new.1 result ⌝) }
+        ∗ ⌜ AnswersKeptFront now status index list.now salt limit count.old count.new
+        held.0 held.1 new.0 new.1 result ⌝) }
 {
     respond_front(
         &mut *(agent as *mut AgentHandle),
@@ -200,13 +201,14 @@ pub unsafe extern "C" fn proved_kept_part(
     ghost held: { Option Given }
     requires* { sem 𝓛 (lies_at kepts.the_row full_share at held) }
     ensures* { ∃ₛ (λ (new : Option Given). sem 𝓛
-        (lies_at kepts.the_row full_share at new) ∗ ⌜ TellsKeptPart number out.old out.new written.old written.new held new result ⌝) }
+        (lies_at kepts.the_row full_share at new) ∗ ⌜ TellsKeptPart number out.old out.new
+        written.old written.new held new result ⌝) }
 {
     part(&mut *(at as *mut KeptHandle), number, out, written)
 }
 
-/// Writes the six numbers of the message that is kept, as `proved_agent_numbers` does. It answers -2 where no message is
-/// kept, and -5 where there is no room for six.
+/// Writes the six numbers of the message that is kept, as `proved_agent_numbers` does. It answers -2 where no message
+/// is kept, and -5 where there is no room for six.
 #[unsafe(no_mangle)]
 pub unsafe extern "C" fn proved_kept_numbers(at: *mut u8, out: &mut [i32]) -> i32
     ghost held: { Option Given }

@@ -21,7 +21,8 @@ KeepsLast old kept (Err NothingTaken) new kept_new = (old.last ≡ None) × (kep
 KeepsLast old kept (Err _) new kept_new = ⊥
 
 -- What is kept is what the agent accepted last, and is kept no longer. Where nothing is kept, nothing changes.
-abbrev pub RestoresLast : {V : Type 0} → AgentHeld → Option Given → Result V CallFault → AgentHeld → Option Given → Type 0
+abbrev pub RestoresLast : {V : Type 0} → AgentHeld → Option Given → Result V CallFault → AgentHeld → Option Given
+    → Type 0
 RestoresLast old kept (Ok done) new kept_new =
     (g : Given) × (kept ≡ Some g) × (kept_new ≡ None) × (new ≡ holding kept old)
 RestoresLast old kept (Err NothingTaken) new kept_new = (kept ≡ None) × (kept_new ≡ None) × (new ≡ old)

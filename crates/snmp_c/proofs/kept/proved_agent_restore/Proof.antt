@@ -1,4 +1,4 @@
--- What lies behind the pointer is lent to `restore`, and comes back. (Written by tools/walk.)
+-- What lies behind the pointers is lent to `restore`, and comes back. (Written by tools/walk.)
 use Rattle.std.proofs.Common.{ℕ, ℤ, List, Option, [], ◌∷◌, ◌++◌, refl, w32}
 use Rattle.std.proofs.raw_atomic.Walks.{proved}
 use base.Fraction.{full_share}
