@@ -163,6 +163,11 @@ SNMPSEC_CALL void snmpsec_agent_free(snmpsec_agent *agent);
 SNMPSEC_CHECK int snmpsec_agent_new(const uint8_t *config, size_t config_len, const uint8_t *engine, size_t engine_len, uint32_t boots,
                                     uint64_t started, snmpsec_agent **out);
 
+/* Users and tables become those of a changed configuration. The engine ID, the boots, the moment of the start, all counters, what is kept and the message
+ * stay: so there is no restart, and managers need not learn the engine anew. SNMPSEC_BAD_CONFIGURATION (snmpsec_config_fault says where),
+ * SNMPSEC_OUT_OF_MEMORY: nothing changes. */
+SNMPSEC_CHECK int snmpsec_agent_reconfigure(snmpsec_agent *agent, const uint8_t *config, size_t config_len);
+
 /* Takes a datagram. SNMPSEC_OK: it is accepted, and kept for the calls below. A refusal: its report, if there is one, is the message. */
 SNMPSEC_CHECK int snmpsec_agent_take(snmpsec_agent *agent, uint64_t now, const uint8_t *datagram, size_t datagram_len);
 /* SNMPSEC_NOTHING_TAKEN: no message is kept. */
@@ -222,7 +227,8 @@ SNMPSEC_CHECK int snmpsec_agent_refuse(snmpsec_agent *agent, uint64_t now, snmps
 SNMPSEC_CHECK int snmpsec_agent_silent_drop(snmpsec_agent *agent);
 
 /* A message that was accepted, kept outside of its agent: any number may wait there for their Responses, which are written in any order, at any later
- * moment. It is freed before or after its agent. Its text lies in memory as it was decrypted until it is freed. */
+ * moment. It takes some 350 octets of memory besides its text, and is freed before or after its agent. The text lies in memory as it was decrypted
+ * until then. */
 typedef struct snmpsec_kept snmpsec_kept;
 
 SNMPSEC_CALL void snmpsec_kept_free(snmpsec_kept *kept);

@@ -45,6 +45,12 @@ void snmpsec_agent_free(snmpsec_agent *agent) {
     if (agent) snmpsec_inside_free_handle(agent, proved_agent_clear);
 }
 
+int snmpsec_agent_reconfigure(snmpsec_agent *agent, const uint8_t *config, size_t config_len) {
+    if (!agent) return SNMPSEC_BAD_ARGUMENT;
+    if (snmpsec_inside_is_deep(config, config_len)) return SNMPSEC_BAD_CONFIGURATION;
+    return done_deep(proved_agent_reconfigure(agent, in(config, config_len), config_len));
+}
+
 int snmpsec_agent_take(snmpsec_agent *agent, uint64_t now, const uint8_t *datagram, size_t datagram_len) {
     return agent ? done(proved_agent_take(agent, now, in(datagram, datagram_len), datagram_len)) : SNMPSEC_BAD_ARGUMENT;
 }

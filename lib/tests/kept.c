@@ -1,4 +1,4 @@
-/* Requests that wait outside of their agent for their Responses: kept CONFIG CAPTURED-LOG. Not proved. */
+/* Requests that wait outside of their agent for their Responses, and an agent with another configuration: kept CONFIG CAPTURED-LOG. Not proved. */
 #include "checks.h"
 #include <string.h>
 
@@ -233,6 +233,52 @@ static void refused(void) {
     end();
 }
 
+/* An agent with other users answers for those that it has, and counts on. */
+static void another_configuration(void) {
+    static const char only_bob[] = "[[user]]\nname = 'bob'\n";
+    snmpsec_counters before, after;
+    begin();
+    struct text datagram = asked(SNMPSEC_AUTH_PRIV, 7000);
+    check("the agent accepts it", 0, takes(agent, &datagram));
+    snmpsec_kept *kept = kept_of(agent);
+    check("and again", 0, takes(agent, &datagram));
+    check("the message", 0, snmpsec_agent_respond(agent, NOW, 0, 0, answer_list, answer_list_len, SALT));
+    struct text message = written(agent);
+    check("counters", 0, snmpsec_agent_counters(agent, &before));
+    check("one was outside of the window", 1, before.not_in_windows);
+    check("no configuration", SNMPSEC_BAD_CONFIGURATION, snmpsec_agent_reconfigure(agent, (const uint8_t *)"no", 2));
+    check("no agent", SNMPSEC_BAD_ARGUMENT, snmpsec_agent_reconfigure(NULL, config, config_len));
+    check("as before", 0, snmpsec_kept_respond(kept, agent, NOW, 0, 0, answer_list, answer_list_len, SALT));
+    struct text same = written(agent);
+    check("the same Response", 1, is_same(&message, &same));
+    check("other users", 0, snmpsec_agent_reconfigure(agent, (const uint8_t *)only_bob, sizeof only_bob - 1));
+    same = written(agent);
+    check("the message stays", 1, is_same(&message, &same));
+    snmpsec_info info;
+    check("what is kept stays", 0, snmpsec_agent_info(agent, &info));
+    check("counters", 0, snmpsec_agent_counters(agent, &after));
+    check("they stay", 0, memcmp(&before, &after, sizeof before));
+    check("she is unknown", SNMPSEC_UNKNOWN_USER, snmpsec_kept_respond(kept, agent, NOW, 0, 0, answer_list, answer_list_len, SALT));
+    check("to the agent too", SNMPSEC_UNKNOWN_USER, takes(agent, &datagram));
+    check("counters", 0, snmpsec_agent_counters(agent, &after));
+    check("they go on", (long long)before.unknown_users + 1, after.unknown_users);
+    int answer = SNMPSEC_OUT_OF_MEMORY;
+    long granted = 0;
+    for (; answer == SNMPSEC_OUT_OF_MEMORY && granted < 1000; granted++) {
+        check("she is unknown", SNMPSEC_UNKNOWN_USER, snmpsec_kept_respond(kept, agent, NOW, 0, 0, answer_list, answer_list_len, SALT));
+        left = granted;
+        answer = snmpsec_agent_reconfigure(agent, config, config_len);
+        left = -1;
+    }
+    check("at last", 0, answer);
+    check("some growths were refused", 1, granted > 1);
+    check("she is back", 0, snmpsec_kept_respond(kept, agent, NOW, 0, 0, answer_list, answer_list_len, SALT));
+    same = written(agent);
+    check("with the same engine, boots and time", 1, is_same(&message, &same));
+    snmpsec_kept_free(kept);
+    end();
+}
+
 /* A growth that is refused leaves all as it was. */
 static void without_memory(void) {
     snmpsec_kept *kept = NULL;
@@ -284,6 +330,7 @@ int main(int argc, char **argv) {
     another_agent();
     within();
     refused();
+    another_configuration();
     without_memory();
     return checks_told();
 }

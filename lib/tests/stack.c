@@ -75,6 +75,7 @@ static uint32_t id;
 static snmpsec_level level = SNMPSEC_AUTH_PRIV;
 static const char *user = "bob";
 static void agent_new(void) { answer = snmpsec_agent_new(config, config_len, engine, sizeof engine, 5, NOW - 100, &agent); }
+static void reconfigure(void) { answer = snmpsec_agent_reconfigure(agent, config, config_len); }
 static void manager_new(void) { answer = snmpsec_manager_new(config, config_len, (const uint8_t *)SNMPSEC_NO_CLOCKS, strlen(SNMPSEC_NO_CLOCKS), NOW, &manager); }
 static uint64_t token;
 static snmpsec_request asked(void) {
@@ -189,6 +190,7 @@ int main(int argc, char **argv) {
     fclose(file);
     nested_configurations();
     measure("agent_new", agent_new, SNMPSEC_DEEP_STACK);
+    measure("agent_reconfigure", reconfigure, SNMPSEC_DEEP_STACK);
     measure("manager_new", manager_new, SNMPSEC_DEEP_STACK);
     for (uint32_t i = 0; i < 1500; i++) {
         uint32_t arcs[] = {1, 3, 6, 1, 2, 1, 1, 1, i};

@@ -86,6 +86,21 @@ class KeptOutside(unittest.TestCase):
             self.assertIsNone(self.manager.take(self.LATER, self.agent.message()))
             self.assertRaises(ValueError, kept.info)
 
+    def test_another_configuration_counts_on(self):
+        request, kept = self.kept(100)
+        before = self.agent.counters()
+        with self.assertRaises(snmpsec.BadConfiguration) as refused:
+            self.agent.reconfigure(b"[[user]]\nname = 'ann'\nauht = 'md5'\n")
+        self.assertEqual(snmpsec.ConfigReason.UNLISTED_KEY, refused.exception.fault.reason)
+        self.agent.reconfigure(b"")
+        self.assertEqual(before, self.agent.counters())
+        self.assertRaises(snmpsec.Refused, kept.respond, self.agent, self.LATER, HELLO, 1)
+        self.assertEqual(Refusal.UNKNOWN_USER, self.agent.take(NOW, request))
+        self.assertEqual(before.unknown_users + 1, self.agent.counters().unknown_users)
+        self.agent.reconfigure(CONFIG)
+        kept.respond(self.agent, self.LATER, HELLO, 1)
+        self.assertIsNone(self.manager.take(self.LATER, self.agent.message()))
+
     def test_what_is_kept_goes_back(self):
         _, first = self.kept(100)
         _, second = self.kept(200)

@@ -186,6 +186,11 @@ extern "C" {
         out: *mut *mut Opaque,
     ) -> i32;
     pub fn snmpsec_agent_free(agent: *mut Opaque);
+    pub fn snmpsec_agent_reconfigure(
+        agent: *mut Opaque,
+        config: *const u8,
+        config_len: usize,
+    ) -> i32;
     pub fn snmpsec_agent_take(agent: *mut Opaque, now: u64, datagram: *const u8, len: usize)
         -> i32;
     pub fn snmpsec_agent_info(agent: *mut Opaque, out: *mut Info) -> i32;

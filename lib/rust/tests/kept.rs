@@ -93,6 +93,27 @@ fn many_are_answered_out_of_order() {
 }
 
 #[test]
+fn another_configuration_counts_on() {
+    let (mut agent, mut manager) = both();
+    let (_, request) = ask(&mut manager, 10, Level::AuthPriv);
+    agent.take(NOW, &request).unwrap();
+    let mut kept = agent.keep().unwrap();
+    let before = agent.counters().unwrap();
+    assert_eq!(agent.reconfigure(b"no"), Err(Error::BadConfiguration));
+    agent.reconfigure(b"").unwrap();
+    assert_eq!(agent.counters(), Ok(before));
+    let unknown = Err(Error::Refused(Refusal::UnknownUser));
+    assert_eq!(kept.respond(&mut agent, LATER, &saying(b""), 1), unknown);
+    assert_eq!(agent.take(NOW, &request), unknown);
+    assert_eq!(
+        agent.counters().unwrap().unknown_users,
+        before.unknown_users + 1
+    );
+    agent.reconfigure(file("config.toml").as_bytes()).unwrap();
+    assert_eq!(kept.respond(&mut agent, LATER, &saying(b""), 1), Ok(()));
+}
+
+#[test]
 fn what_is_kept_goes_back() {
     let (mut agent, mut manager) = both();
     let (_, first) = ask(&mut manager, 10, Level::AuthPriv);

@@ -651,6 +651,14 @@ class Agent(_Held, _Counting):
     def from_file(cls, path: Path, engine: Buffer, boots: int, started: int) -> "Agent":
         return wiped(path, lambda config: cls(config, engine, boots, started))
 
+    def reconfigure(self, config: Buffer) -> None:
+        """Users and tables become those of a changed configuration. The engine ID, the boots, the moment of the start, all counters, what is kept and
+        the message stay. On an error, as BadConfiguration, nothing changes."""
+        try:
+            _done(self._call("reconfigure", *_octets(config)))
+        except BadConfiguration as refused:
+            raise self._refused(config, str(refused)) from None
+
     def access(self, view: View, name: Sequence[int]) -> Access:
         """Whether the sender of what is kept may see the variable, or why not."""
         out = _library.Enumeration()

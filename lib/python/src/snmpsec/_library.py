@@ -108,6 +108,7 @@ SIGNATURES = {
     "error_name": (c_char_p, [c_int]),
     "config_fault": (c_int, _slice + [POINTER(ConfigPlace)] + _out),
     "agent_new": (c_int, _slice * 2 + [c_uint32, c_uint64, POINTER(c_void_p)]),
+    "agent_reconfigure": (c_int, [c_void_p] + _slice),
     "agent_access": (c_int, [c_void_p, c_uint] + _arcs + [POINTER(Enumeration)]),
     "agent_next": (c_int, [c_void_p, c_uint] + _arcs + [POINTER(Written), c_size_t, POINTER(c_size_t)]),
     "agent_user_access": (c_int, [c_void_p, Octets, c_uint, Octets, c_uint] + _arcs + [POINTER(Enumeration)]),
