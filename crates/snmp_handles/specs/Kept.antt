@@ -1,8 +1,9 @@
--- What an agent accepted, kept outside of its handle until it is answered.
+-- What an agent accepted, kept outside of its handle until it is answered: the request, and what is cached of it under
+-- its stateReference (RFC 3412, sections 7.1 and 7.2).
 --
 -- `KeepsLast`: what was accepted last is moved out of the agent's handle. `RestoresLast`: it is moved back.
 -- `holding`: the agent as if what is kept had been accepted last; `WithKept`: what a call does to the agent for a
--- message that is kept (RFC 3413, section 3.2: a Response may be sent at any later moment).
+-- message that is kept.
 use Rattle.std.specs.Prelude.{◌≡◌, Option, Some, None, Result, Ok, Err}
 use Rattle.snmp_incoming.specs.Outcome.{Given}
 use Rattle.snmp_handles.specs.Agents.{AgentHeld}

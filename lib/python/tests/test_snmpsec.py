@@ -97,7 +97,7 @@ class KeptOutside(unittest.TestCase):
         self.assertRaises(snmpsec.Refused, kept.respond, self.agent, self.LATER, HELLO, 1)
         self.assertEqual(Refusal.UNKNOWN_USER, self.agent.take(NOW, request))
         self.assertEqual(before.unknown_users + 1, self.agent.counters().unknown_users)
-        self.agent.reconfigure(CONFIG)
+        self.agent.reconfigure_from_file(FOLDER / "config.toml")
         kept.respond(self.agent, self.LATER, HELLO, 1)
         self.assertIsNone(self.manager.take(self.LATER, self.agent.message()))
 

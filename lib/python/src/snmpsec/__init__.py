@@ -659,6 +659,9 @@ class Agent(_Held, _Counting):
         except BadConfiguration as refused:
             raise self._refused(config, str(refused)) from None
 
+    def reconfigure_from_file(self, path: Path) -> None:
+        wiped(path, self.reconfigure)
+
     def access(self, view: View, name: Sequence[int]) -> Access:
         """Whether the sender of what is kept may see the variable, or why not."""
         out = _library.Enumeration()
