@@ -16,6 +16,8 @@ pub mod dispatch;
 mod dispatch_calls;
 pub mod gate;
 mod gate_calls;
+pub mod kept;
+mod kept_calls;
 pub mod keys;
 pub mod manager;
 mod manager_calls;
